@@ -1,0 +1,11 @@
+pub mod Commands
+pub mod Estimates
+pub mod Facts
+pub mod Groups
+pub mod Names
+pub mod Nodes
+pub mod Promises
+pub mod Refusal
+pub mod Registry
+pub mod Short
+pub mod Standings

@@ -1,0 +1,25 @@
+//! The vocabulary of a replicated name registry: nodes, rounds and instances, names and values,
+//! commands and replies, facts, promises and messages, and the refusals of every call.
+//!
+//! Each type keeps its range: whoever holds a `Round` holds a number from 1 to 2,147,483,647. Contracts
+//! see numbers as numbers, names and values as lists of bytes, and the rest as the record or the variant.
+#![tactic(auto)]
+
+mod command;
+mod fact;
+mod message;
+mod name;
+mod node;
+mod promise;
+mod refusal;
+mod round;
+mod short;
+
+pub use command::{Command, Op, Reply, RequestNo};
+pub use fact::{Estimate, Fact, GROUP, Group};
+pub use message::{Body, Message};
+pub use name::{MAX_NAME, MAX_VALUE, Name, Value, is_name_byte, is_value_byte};
+pub use node::{MAX_NODES, NodeId, NodeSet, Nodes, coordinator, majority};
+pub use promise::{Entry, OpenStanding, Promise, Standing};
+pub use refusal::Refusal;
+pub use round::{INSTANCES, Instance, MAX_ROUND, Round, WINDOW};
