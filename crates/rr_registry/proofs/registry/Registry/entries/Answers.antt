@@ -1,0 +1,6 @@
+use Rattle.std.proofs.Common.{ap, ◌∙◌}
+use Rattle.rr_registry.proofs.KeptLemmas.{bindings-kept_of}
+use Rattle.rr_registry.proofs.registry.Registry.entries.Goals as goal
+
+pub returns-clause-of_list : goal.returns-clause-of_list
+returns-clause-of_list c L h = c.entries.ensures ∙ ap (λ k. k.bindings) (c.self.view_is ∙ h) ∙ bindings-kept_of L

@@ -1,0 +1,10 @@
+use Rattle.std.proofs.lemmas.Map.Lookups.{exact_bytes}
+use Rattle.rr_registry.proofs.TableLemmas.{lookup-name}
+use Rattle.rr_registry.specs.Tables.{bindings_in}
+use Rattle.rr_registry.proofs.tables.Tables.bind.Goals as goal
+
+pub put-requires-clause-exact : goal.put-requires-clause-exact
+put-requires-clause-exact c = exact_bytes
+
+pub returns-clause-count : goal.returns-clause-count
+returns-clause-count c = rw (← lookup-name c.args.name.now (bindings_in c.args.self.now)) c.put.ensures.count

@@ -1,0 +1,17 @@
+//! The replicated registry of names, with the replies to its commands: each request is applied once,
+//! and whoever repeats it gets the reply that was kept.
+#![tactic(auto)]
+
+mod entries;
+mod holding;
+mod places;
+mod registry;
+mod tables;
+
+pub use entries::Entries;
+pub use holding::Holding;
+pub use registry::Registry;
+pub use tables::MAX_BOUND;
+
+#[cfg(test)]
+mod tests;
