@@ -1,0 +1,16 @@
+pub mod Places
+pub mod Quorums
+pub mod Histories
+pub mod Kept
+pub mod Locking
+pub mod Growth
+pub mod Prefixes
+pub mod Replies
+pub mod Truths
+pub mod Listed
+pub mod Invariants
+pub mod Soundness
+pub mod Laws
+pub mod SmallRuns
+pub mod SameCommands
+pub mod Promised

@@ -1,0 +1,95 @@
+use Rattle.std.proofs.Common.{◌≡◌, ℕ, ◌+◌, ◌≤◌, ◌⊎◌, inl, inr, zero, suc, Bool, true, false, ◌==◌, if◌then◌else◌, List, [], ◌∷◌, ◌++◌, length, Contains, Option, None, Some, slice_get, refl, sym, ◌∙◌, subst, arith, append-nil, eqb-true, le_of_suc-le-suc, add-zero, length-append}
+use Rattle.std.proofs.lemmas.Bool.{false≢true}
+use Rattle.std.proofs.lemmas.Option.{none-some, same_Some}
+use Rattle.rr_types.specs.declared.command.Command.{Command}
+use Rattle.rr_types.specs.declared.fact.Fact.{Fact}
+use Rattle.rr_types.specs.declared.fact.Fact.TheVariants.{Enter, Propose, Adopt, Decide}
+use Rattle.rr_types.specs.declared.promise.Standing.{Standing}
+use Rattle.rr_types.specs.declared.promise.Standing.TheVariants.{Decided, Open}
+use Rattle.rr_types.specs.Facts.{instance_of, standing_of, standing_from, after_fact, decision_of}
+use Rattle.rr_model.specs.Heard.{Heard}
+use Rattle.rr_model.specs.Lawful.{IsLawfulAt}
+use Rattle.rr_model.specs.World.{while_decided, decided_from, decided_prefix}
+use Rattle.rr_model.proofs.Histories.{History, from_then_on}
+
+-- a list is a beginning of another
+pub record Begins (xs ys : List Command) : Type 0 where
+  pub rest : List Command
+  pub is : xs ++ rest ≡ ys
+
+pub begins_itself : (xs : List Command) → Begins xs xs
+begins_itself xs = record { rest = []; is = append-nil xs }
+
+decided_for_good : (n p : ℕ) (h : Heard) (i : ℕ) (v : Command) (s : Option Standing) (f : Fact) → instance_of f ≡ i → IsLawfulAt n p s h f → decision_of s ≡ Some v → decision_of (after_fact s f) ≡ Some v
+decided_for_good n p h i v None f is l e = absurd (none-some v e)
+decided_for_good n p h i v (Some (Open o)) f is l e = absurd (none-some v e)
+decided_for_good n p h i v (Some (Decided w)) (Enter j x) is l e = absurd (false≢true l.0)
+decided_for_good n p h i v (Some (Decided w)) (Propose j r x) is l e = absurd l.0
+decided_for_good n p h i v (Some (Decided w)) (Adopt j r x) is l e = absurd l.0
+decided_for_good n p h i v (Some (Decided w)) (Decide j x) is l e = absurd (false≢true l.0)
+
+-- what lawful facts have decided stays decided
+pub stays_decided : (n p : ℕ) (h : Heard) (a b : List Fact) → History n p h (a ++ b) → (i : ℕ) (v : Command) → decision_of (standing_of i a) ≡ Some v → decision_of (standing_of i (a ++ b)) ≡ Some v
+stays_decided n p h a b H i v e = from_then_on n p h i (λ s. decision_of s ≡ Some v) (decided_for_good n p h i v) a b H e
+
+grow_one : (o q : Option Command) (xs ys : List Command) → ((v : Command) → o ≡ Some v → q ≡ Some v) → Begins xs ys → Begins (while_decided o xs) (while_decided q ys)
+grow_one None q xs ys f b = record { rest = while_decided q ys; is = refl }
+grow_one (Some v) None xs ys f b = absurd (none-some v (f v refl))
+grow_one (Some v) (Some w) xs ys f b = record { rest = b.rest; is = (let e : w ≡ v = same_Some w v (f v refl) in let t : xs ++ b.rest ≡ ys = b.is in cc) }
+
+pub decided_from_grows : (n p : ℕ) (h : Heard) (a b : List Fact) → History n p h (a ++ b) → (k l i : ℕ) → k ≤ l → Begins (decided_from k i a) (decided_from l i (a ++ b))
+decided_from_grows n p h a b H zero l i x = record { rest = decided_from l i (a ++ b); is = refl }
+decided_from_grows n p h a b H (suc k) zero i x = absurd (omega arith)
+decided_from_grows n p h a b H (suc k) (suc l) i x =
+    grow_one (decision_of (standing_of i a)) (decision_of (standing_of i (a ++ b))) (decided_from k (i + 1) a) (decided_from l (i + 1) (a ++ b))
+    (stays_decided n p h a b H i)
+    (decided_from_grows n p h a b H k l (i + 1) (le_of_suc-le-suc x))
+
+-- the decided prefix only grows
+pub prefix_grows : (n p : ℕ) (h : Heard) (a b : List Fact) → History n p h (a ++ b) → Begins (decided_prefix a) (decided_prefix (a ++ b))
+prefix_grows n p h a b H = decided_from_grows n p h a b H (length a) (length (a ++ b)) 0 (omega (arith, length-append a b))
+
+place_decided_at : (facts : List Fact) (i k : ℕ) (v : Command) (xs : List Command) (o : Option Command) → decision_of (standing_of i facts) ≡ o → ((j : ℕ) → slice_get xs j ≡ Some v → decision_of (standing_of ((i + 1) + j) facts) ≡ Some v) → slice_get (while_decided o xs) k ≡ Some v → decision_of (standing_of (i + k) facts) ≡ Some v
+place_decided_at facts i k v xs None e ih g = absurd (none-some v g)
+place_decided_at facts i zero v xs (Some w) e ih g = subst (λ j. decision_of (standing_of j facts) ≡ Some v) (sym (add-zero i)) (e ∙ g)
+place_decided_at facts i (suc k) v xs (Some w) e ih g = let s : (i + 1) + k ≡ i + suc k = omega arith in subst (λ j. decision_of (standing_of j facts) ≡ Some v) s (ih k g)
+
+-- each place of the prefix is decided
+pub place_decided : (facts : List Fact) (most i k : ℕ) (v : Command) → slice_get (decided_from most i facts) k ≡ Some v → decision_of (standing_of (i + k) facts) ≡ Some v
+place_decided facts zero i k v g = absurd (none-some v g)
+place_decided facts (suc most) i k v g = place_decided_at facts i k v (decided_from most (i + 1) facts) (decision_of (standing_of i facts)) refl (λ j. place_decided facts most (i + 1) j v) g
+
+Contains-tail : {A : Type 0} → (y : A) (xs : List A) (x : A) → Contains xs x → Contains (y ∷ xs) x
+Contains-tail y xs x c = (suc c.0, omega arith, c.2)
+
+decided_step : (s : Option Standing) (i : ℕ) (v : Command) (f : Fact) → instance_of f ≡ i → decision_of (after_fact s f) ≡ Some v → (decision_of s ≡ Some v) ⊎ (f ≡ Decide i v)
+decided_step s i v (Enter j e) is d = absurd (none-some v d)
+decided_step None i v (Propose j r w) is d = inl d
+decided_step (Some (Decided u)) i v (Propose j r w) is d = inl d
+decided_step (Some (Open o)) i v (Propose j r w) is d = absurd (none-some v d)
+decided_step None i v (Adopt j r w) is d = inl d
+decided_step (Some (Decided u)) i v (Adopt j r w) is d = inl d
+decided_step (Some (Open o)) i v (Adopt j r w) is d = absurd (none-some v d)
+decided_step s i v (Decide j w) is d = inr (let e : w ≡ v = same_Some w v d in cc)
+
+decided_one : (s : Option Standing) (i : ℕ) (v : Command) (f : Fact) (b : Bool) → (instance_of f == i) ≡ b → decision_of (if b then after_fact s f else s) ≡ Some v → (decision_of s ≡ Some v) ⊎ (f ≡ Decide i v)
+decided_one s i v f true e d = decided_step s i v f (eqb-true _ _ e) d
+decided_one s i v f false e d = inl d
+
+-- what is decided was decided by a fact
+pub decided_by : (s : Option Standing) (i : ℕ) (v : Command) (facts : List Fact) → decision_of (standing_from s i facts) ≡ Some v → (decision_of s ≡ Some v) ⊎ Contains facts (Decide i v)
+decided_by s i v [] d = inl d
+decided_by s i v (f ∷ facts) d = elim (decided_by (if instance_of f == i then after_fact s f else s) i v facts d) [
+  | inl e ↦ elim (decided_one s i v f (instance_of f == i) refl e) [
+    | inl z ↦ inl z
+    | inr z ↦ inr (0, omega arith, z)
+  ]
+  | inr c ↦ inr (Contains-tail f facts (Decide i v) c)
+]
+
+-- each place of the prefix was decided by a fact
+pub prefix_decides : (facts : List Fact) (k : ℕ) (v : Command) → slice_get (decided_prefix facts) k ≡ Some v → Contains facts (Decide k v)
+prefix_decides facts k v g = elim (decided_by None k v facts (let z : 0 + k ≡ k = omega arith in subst (λ j. decision_of (standing_of j facts) ≡ Some v) z (place_decided facts (length facts) 0 k v g))) [
+  | inl e ↦ absurd (none-some v e)
+  | inr c ↦ c
+]

@@ -1,0 +1,53 @@
+use Rattle.std.specs.Prelude.{◌≡◌, ℕ, ◌<◌, ◌≤◌, IsTrue, List, [], ◌∷◌, ◌++◌, length, take}
+use Rattle.std.specs.List.{Contains}
+use Rattle.rr_types.specs.declared.command.Command.{Command}
+use Rattle.rr_types.specs.declared.fact.Fact.{Fact}
+use Rattle.rr_types.specs.declared.fact.Fact.TheVariants.{Enter}
+use Rattle.rr_types.specs.declared.message.Body.TheVariants.{Estimate, Proposal, Ack}
+use Rattle.rr_types.specs.Estimates.{Estimated}
+use Rattle.rr_types.specs.Facts.{instance_of, standing_of, standing_in, promise_of, fits, all_fit}
+use Rattle.rr_model.specs.Heard.{Heard, Says, HasMajority}
+use Rattle.rr_model.specs.Lawful.{IsLawful}
+use Rattle.rr_model.specs.World.{Step, settled}
+use Rattle.rr_model.specs.Runs.{IsRun, end_of}
+use Rattle.rr_model.specs.Sound.{IsChosen, IsDecidedList}
+
+-- each beginning of the run is a run
+abbrev pub AreBeginningsRuns : ℕ → List Step → Type 0
+AreBeginningsRuns n run = (before after : List Step) → run ≡ before ++ after → IsRun n before
+
+-- what is chosen at a moment stays chosen
+abbrev pub StaysChosen : ℕ → List Step → Type 0
+StaysChosen n run = (before after : List Step) → run ≡ before ++ after → (i : ℕ) (v : Command) → IsChosen n (end_of before).wire i v → IsChosen n (end_of run).wire i v
+
+-- the decided list of a moment is a beginning of the last one
+abbrev pub DoesListGrow : ℕ → List Step → Type 0
+DoesListGrow n run = (before after : List Step) → run ≡ before ++ after → (list last : List Command) → IsDecidedList n (end_of before).wire list → IsDecidedList n (end_of run).wire last → (length list ≤ length last) × (take (length list) last ≡ list)
+
+-- what a node keeps at a moment is a beginning of what it keeps at the end
+abbrev pub AreKeptFactsNeverLost : List Step → Type 0
+AreKeptFactsNeverLost run = (before after : List Step) → run ≡ before ++ after → (p : ℕ) → (rest : List Fact) × ((end_of run).kept p ≡ (end_of before).kept p ++ rest)
+
+-- a node's rounds of an instance rise, over restarts too
+abbrev pub DoRoundsRise : List Step → Type 0
+DoRoundsRise run = (p i : ℕ) (a b : List Fact) (e f : Estimated) → (end_of run).kept p ≡ a ++ Enter i e ∷ b → Contains b (Enter i f) → e.round < f.round
+
+-- an acknowledgement binds its sender's estimates of later rounds: their stamps are at least its round
+abbrev pub DoAcksBind : List Step → Type 0
+DoAcksBind run = (q i r : ℕ) (e : Estimated) → Says (end_of run).wire q (Ack i r) → Says (end_of run).wire q (Estimate i e) → r < e.round → r ≤ e.stamp
+
+-- where a majority acknowledged a round, each later round proposes the same command
+abbrev pub AreProposalsLocked : ℕ → List Step → Type 0
+AreProposalsLocked n run = (i r : ℕ) (v : Command) (p : ℕ) → Says (end_of run).wire p (Proposal i r v) → HasMajority n (λ q. Says (end_of run).wire q (Ack i r)) → (k : ℕ) (w : Command) (c : ℕ) → r ≤ k → Says (end_of run).wire c (Proposal i k w) → w ≡ v
+
+-- whatever a crash leaves of a node's facts fits, fact by fact
+abbrev pub DoesWhatIsLeftFit : ℕ → List Step → Type 0
+DoesWhatIsLeftFit n run = (p count : ℕ) → IsTrue (all_fit n p [] (settled (end_of run) p count))
+
+-- a promise says of each instance where it stands by the facts
+abbrev pub DoesPromiseStand : List Fact → Type 0
+DoesPromiseStand facts = (i : ℕ) → standing_in (promise_of facts) i ≡ standing_of i facts
+
+-- a lawful fact fits
+abbrev pub DoLawfulFactsFit : ℕ → ℕ → List Fact → Type 0
+DoLawfulFactsFit n p facts = (h : Heard) (f : Fact) → IsLawful n p facts h f → IsTrue (fits n p (standing_of (instance_of f) facts) f)

@@ -1,0 +1,12 @@
+pub mod Heard
+pub mod Lawful
+pub mod NodeState
+pub mod NodeDetector
+pub mod NodeParts
+pub mod NodeDue
+pub mod NodeStep
+pub mod Runs
+pub mod Sound
+pub mod World
+pub mod Examples
+pub mod Laws
