@@ -14,3 +14,17 @@ pub mod Laws
 pub mod SmallRuns
 pub mod SameCommands
 pub mod Promised
+pub mod NodeRows
+pub mod NodeTallies
+pub mod NodeBits
+pub mod NodeBacks
+pub mod NodeKnows
+pub mod NodeEnters
+pub mod NodeSettles
+pub mod NodeHears
+pub mod NodePrefixes
+pub mod NodeStages
+pub mod NodeFollows
+pub mod NodeRuns
+pub mod NodeWeights
+pub mod NodeEnds

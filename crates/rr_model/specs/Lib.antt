@@ -5,8 +5,11 @@ pub mod NodeDetector
 pub mod NodeParts
 pub mod NodeDue
 pub mod NodeStep
+pub mod NodeLaws
+pub mod NodeWorld
 pub mod Runs
 pub mod Sound
 pub mod World
 pub mod Examples
+pub mod NodeExamples
 pub mod Laws

@@ -114,13 +114,14 @@ restate i s = standing (standing_at s i)
     proposing : ℕ → Option Command → NodeState → NodeState
     proposing r None t = t
     proposing r (Some v) t = owe (say.Proposal i r v) (Some (backing_at (λ b. b.proposed) s i)) (everyone s) t
+
     standing : Option Standing → NodeState
     standing None = s
     standing (Some (Decided v)) = s
     standing (Some (Open o)) =
         (if nat_lt o.stamp o.round
-         then owe (say.Estimate i (record { round = o.round; stamp = o.stamp; command = o.estimate })) (Some (backing_at (λ b. b.entered) s i)) (coordinator_of o.round s.nodes ∷ []) s
-         else owe (say.Ack i o.round) (Some (backing_at (λ b. b.adopted) s i)) (coordinator_of o.round s.nodes ∷ []) s)
+        then owe (say.Estimate i (record { round = o.round; stamp = o.stamp; command = o.estimate })) (Some (backing_at (λ b. b.entered) s i)) (coordinator_of o.round s.nodes ∷ []) s
+        else owe (say.Ack i o.round) (Some (backing_at (λ b. b.adopted) s i)) (coordinator_of o.round s.nodes ∷ []) s)
         ▷ proposing o.round o.proposal
 
 -- the restatement of these instances, in order

@@ -237,12 +237,18 @@ promised_row next e = record { instance = e.instance; standing = e.standing; bac
 -- a node that knows its facts and nothing else
 abbrev pub restored : ℕ → ℕ → List Entry → ℕ → NodeState
 restored n p promise next = record {
-  nodes = n; node = p;
+  nodes = n;
+  node = p;
   rows = map (promised_row next) promise;
-  marked = promise; marked_end = next;
-  running = None; staged = []; pool = [];
-  suspects = 0; watches = replicate n new_watch;
-  waiting = []; owed = []
+  marked = promise;
+  marked_end = next;
+  running = None;
+  staged = [];
+  pool = [];
+  suspects = 0;
+  watches = replicate n new_watch;
+  waiting = [];
+  owed = [];
 }
 
 -- a node after its opening: it owes the restatement of its open instances

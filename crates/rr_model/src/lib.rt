@@ -2,14 +2,22 @@
 //! and reordered, and what stays true through every run of it.
 #![tactic(auto)]
 
-ghost use Rattle.std.specs.Prelude.{◌≡◌, ℕ, List, [], ◌∷◌, ◌++◌, ◌↔◌, IsTrue};
+ghost use Rattle.std.specs.Prelude.{◌≡◌, ℕ, List, [], ◌∷◌, ◌++◌, ◌↔◌, Option, None, Some, IsTrue};
 ghost use Rattle.rr_types.specs.declared.command.Command.{Command};
 ghost use Rattle.rr_types.specs.declared.fact.Fact.{Fact};
 ghost use Rattle.rr_types.specs.Commands.{is_same_command};
-ghost use Rattle.rr_types.specs.declared.fact.Fact.TheVariants.{Enter};
+ghost use Rattle.rr_types.specs.Facts.{all_fit};
+ghost use Rattle.rr_types.specs.declared.fact.Fact.TheVariants.{Enter, Propose, Adopt, Decide};
+ghost use Rattle.rr_types.specs.declared.message.Body.TheVariants.{Estimate};
 ghost use Rattle.rr_model.specs.World.{Step};
+ghost use Rattle.rr_model.specs.NodeState.{NodeState};
+ghost use Rattle.rr_model.specs.NodeDue.{Due, due, carry_out, settle};
+ghost use Rattle.rr_model.specs.NodeStep.{next_leaving, next_acknowledged};
+ghost use Rattle.rr_model.specs.NodeExamples.{told_alone, decided_alone, marked_alone};
+ghost use Rattle.rr_model.specs.NodeLaws.{IsLawfulNode, IsTruthfulNode};
+ghost use Rattle.rr_model.specs.NodeWorld.{IsWorldlyNode};
 ghost use Rattle.rr_model.specs.Runs.{IsNodeCount, IsRun, end_of, trace_of};
-ghost use Rattle.rr_model.specs.Examples.{first_estimate, decides_and_acknowledges, told_by_it, stages_and_crashes, goes_on, IsProposeOfAnotherUnlawful, IsAdoptBelowTheStampUnlawful, IsDecideWithoutMajorityUnlawful, IsEnterWithMadeUpCommandUnlawful};
+ghost use Rattle.rr_model.specs.Examples.{first_request, claim_a_x, to_itself, first_estimate, decides_and_acknowledges, told_by_it, stages_and_crashes, goes_on, IsProposeOfAnotherUnlawful, IsAdoptBelowTheStampUnlawful, IsDecideWithoutMajorityUnlawful, IsEnterWithMadeUpCommandUnlawful};
 ghost use Rattle.rr_model.specs.Sound.{IsOneChosen, AreDecidesChosen, AreDecisionsChosen, HasDecidedList, IsOneDecidedList, IsListSubmitted, AreReportsOfTheList, DoReportsHoldAcknowledged, AreRepliesOfTheList, IsSound};
 ghost use Rattle.rr_model.specs.Laws.{AreBeginningsRuns, StaysChosen, DoesListGrow, AreKeptFactsNeverLost, DoRoundsRise, DoAcksBind, AreProposalsLocked, DoesWhatIsLeftFit, DoesPromiseStand, DoLawfulFactsFit};
 
@@ -48,6 +56,18 @@ pub fn laws_of_facts()
     ensures same_commands_are_equal { (c d : Command) → IsTrue (is_same_command c d) ↔ (c ≡ d) }
 {}
 
+/// Laws of a node. Opened over any facts, it stages only facts that are lawful, whatever it is told. It does
+/// what is due, one thing after another, until nothing is due. Opened over facts that fit, it sends only what
+/// its marked facts back, and each of its events is a run of the world's steps.
+pub fn laws_of_nodes()
+    ensures only_lawful_facts_are_staged { (n p : ℕ) (facts : List Fact) → IsLawfulNode n p facts }
+    ensures nothing_is_due_at_the_end { (s : NodeState) → due (settle s) ≡ None }
+    ensures what_is_due_is_done_first { (s : NodeState) (d : Due) → due s ≡ Some d → settle s ≡ settle (carry_out d s) }
+    ensures where_nothing_is_due_nothing_happens { (s : NodeState) → due s ≡ None → settle s ≡ s }
+    ensures messages_are_backed { (n p : ℕ) (facts : List Fact) → IsTrue (all_fit n p [] facts) → IsTruthfulNode n p facts }
+    ensures events_are_steps_of_the_world { (n p : ℕ) (facts : List Fact) → IsTrue (all_fit n p [] facts) → IsWorldlyNode n p facts }
+{}
+
 /// The definitions mean what they say: a run in which a node decides, acknowledges and restarts, one that
 /// loses a staged fact in a crash and goes on, and for each kind of fact one that isn't lawful.
 pub fn examples()
@@ -59,4 +79,14 @@ pub fn examples()
     ensures no_adoption_below_the_stamp { IsAdoptBelowTheStampUnlawful }
     ensures no_decision_without_a_majority { IsDecideWithoutMajorityUnlawful }
     ensures no_estimate_made_up { IsEnterWithMadeUpCommandUnlawful }
+{}
+
+/// The node's definitions mean what they say: a node alone takes a command through the four phases, its
+/// estimate waits until its Enter is marked, and then it acknowledges the request.
+pub fn examples_of_nodes()
+    ensures it_enters_the_first_round { told_alone.staged ≡ Enter 0 first_estimate ∷ [] }
+    ensures its_estimate_waits { next_leaving told_alone ≡ None }
+    ensures it_goes_through_the_phases { decided_alone.staged ≡ Enter 0 first_estimate ∷ Propose 0 1 claim_a_x ∷ Adopt 0 1 claim_a_x ∷ Decide 0 claim_a_x ∷ [] }
+    ensures its_estimate_leaves_once_marked { next_leaving marked_alone ≡ Some (to_itself (Estimate 0 first_estimate)) }
+    ensures it_acknowledges_once_marked { next_acknowledged marked_alone ≡ Some first_request }
 {}

@@ -1,0 +1,62 @@
+-- How a run of the program ends: its exit status, and what standard output has got.
+use Rattle.std.specs.Prelude.{◌≡◌, ◌≢◌, ◌⊎◌, ℕ, List, [], ◌++◌, Option, Some, None, ⊤}
+use Rattle.std.specs.Io.KnownBytes.{Appends, Keeps}
+use Rattle.clap.specs.Kinds.{Kinds, IsAmong}
+use Rattle.clap.specs.Words.{Text}
+use Rattle.clap.specs.declared.error.kind.ErrorKind.{ErrorKind}
+use Rattle.clap.specs.declared.error.kind.ErrorKind.TheVariants.{DisplayHelp, DisplayVersion}
+use Rattle.rr_types.specs.declared.refusal.Refusal.{Refusal}
+use Rattle.rr_text.specs.Scheduled.{Scheduled, IsSchedule}
+use Rattle.rr_text.specs.Reported.{Reported}
+use Rattle.rr_text.specs.ScheduleTexts.{schedule_text}
+use Rattle.rr_text.specs.ReportTexts.{report_text}
+use Rattle.rr_cli.specs.Refusals.{status_of}
+
+-- the bytes are the text of a schedule, and the other text is that of a report
+pub record IsReportOn (bytes text : List ℕ) : Type 0 where
+  pub schedule : Scheduled
+  pub report : Reported
+  pub lawful : IsSchedule schedule
+  pub read : bytes ≡ schedule_text schedule
+  pub told : text ≡ report_text report
+
+-- a stream has got the front of a text, and no more of it
+abbrev pub AppendsFront : Option (List ℕ) → Option (List ℕ) → List ℕ → Type 0
+AppendsFront old new text = (front : List ℕ) × (rest : List ℕ) × (text ≡ front ++ rest) × Appends old new front
+
+-- the status of a stream that failed, by a device or by memory
+abbrev pub IsStreamStatus : ℕ → Type 0
+IsStreamStatus status = (status ≡ 5) ⊎ (status ≡ 6)
+
+-- a run on these bytes: standard output has got the report, or failed in it, or a refusal came and it has got nothing
+pub data EndsOn (bytes : List ℕ) (status : ℕ) (old new : Option (List ℕ)) : Type 0 where
+  reported : (text : List ℕ) → IsReportOn bytes text → status ≡ 0 → Appends old new text → EndsOn bytes status old new
+  unwritten : (text : List ℕ) → IsReportOn bytes text → IsStreamStatus status → AppendsFront old new text → EndsOn bytes status old new
+  refused : (refusal : Refusal) → status ≡ status_of refusal → Keeps old new → EndsOn bytes status old new
+
+-- the bytes are all that a reader had, where that is known
+abbrev pub AreAllOf : Option (List ℕ) → List ℕ → Type 0
+AreAllOf None bytes = ⊤
+AreAllOf (Some all) bytes = bytes ≡ all
+
+-- a run on an input: on all its bytes, or the input failed and standard output has got nothing
+pub data EndsOnInput (input : Option (List ℕ)) (status : ℕ) (old new : Option (List ℕ)) : Type 0 where
+  read : (bytes : List ℕ) → AreAllOf input bytes → EndsOn bytes status old new → EndsOnInput input status old new
+  unread : IsStreamStatus status → Keeps old new → EndsOnInput input status old new
+
+-- words that ask for help or the version
+abbrev pub IsRequest : ErrorKind → Type 0
+IsRequest kind = (kind ≡ DisplayHelp) ⊎ (kind ≡ DisplayVersion)
+
+-- words that are wrong
+abbrev pub IsMistake : ErrorKind → Type 0
+IsMistake kind = (kind ≢ DisplayHelp) × (kind ≢ DisplayVersion)
+
+-- a run by words: what they ask for, what is wrong with them, or no memory even to read them
+pub data EndsBy (faults : Kinds) (file : Option Text) (input : Option (List ℕ)) (status : ℕ) (old new : Option (List ℕ)) : Type 0 where
+  mistaken : (kind : ErrorKind) → IsAmong kind faults → IsMistake kind → status ≡ 2 → Keeps old new → EndsBy faults file input status old new
+  shown : (kind : ErrorKind) → IsAmong kind faults → IsRequest kind → status ≡ 0 → EndsBy faults file input status old new
+  unshown : (kind : ErrorKind) → IsAmong kind faults → IsRequest kind → IsStreamStatus status → EndsBy faults file input status old new
+  out_of_memory : status ≡ 6 → Keeps old new → EndsBy faults file input status old new
+  by_standard_input : faults ≡ [] → file ≡ None → EndsOnInput input status old new → EndsBy faults file input status old new
+  by_file : (path : Text) → faults ≡ [] → file ≡ Some path → EndsOnInput None status old new → EndsBy faults file input status old new

@@ -1,0 +1,15 @@
+//! The program `rr`, from its words and standard input to its exit status.
+#![tactic(auto)]
+
+mod program;
+mod refusals;
+mod streams;
+mod words;
+
+pub use program::{execute, report_on};
+pub use refusals::{print_refusal, status};
+pub use streams::end_without_words;
+pub use words::file_named;
+
+#[cfg(test)]
+mod tests;

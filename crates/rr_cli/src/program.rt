@@ -1,0 +1,81 @@
+//! The program: what it reads, what it prints and how it ends.
+
+ghost use Rattle.std.specs.Prelude.{◌≡◌, IfOk, IsSome, map};
+ghost use Rattle.std.specs.Io.KnownBytes.{Keeps};
+ghost use Rattle.rr_cli.specs.Lines.{faults_of, file_of};
+ghost use Rattle.rr_cli.specs.Ends.{IsReportOn, EndsOnInput, EndsBy};
+
+use crate::refusals::end_by_refusal;
+use crate::streams::{end_by_stream, print_all, read_all};
+use crate::words::{end_by_words, file_named};
+use rr_sim::{Schedule, simulate};
+use rr_types::Refusal;
+use std::alloc::Global;
+use std::convert::AsStr;
+use std::fs;
+use std::io::{Read, Write};
+use std::rt::Files;
+
+/// The text of the report on the schedule that the bytes are.
+///
+/// # Errors
+/// `BadNodes` and `BadEvent` for bytes that are no schedule, and what ends the run.
+pub fn report_on(alloc: Global, bytes: &[u8]) -> Result<Vec<u8>, Refusal>
+    ensures { IfOk result (λ text. IsReportOn bytes.now text.items) }
+{
+    let schedule = Schedule::parse(alloc, bytes)?;
+    let report = simulate(alloc, schedule.nodes().count(), &schedule)?;
+    report.text(alloc)
+}
+
+// Runs the schedule that the input of this name holds, and prints the report.
+fn simulate_input<I: Read, O: Write, E: Write>(
+    alloc: Global,
+    name: &str,
+    input: &mut I,
+    out: &mut O,
+    err: &mut E,
+) -> u8
+    ensures ends { EndsOnInput (I.remaining input.old) result (O.contents out.old) (O.contents out.new) }
+    ensures quiet { result ≡ 0 → Keeps (E.contents err.old) (E.contents err.new) }
+{
+    let bytes = match read_all(alloc, input) {
+        Ok(bytes) => bytes,
+        Err(failure) => return end_by_stream(err, name, &failure),
+    };
+    let text = match report_on(alloc, bytes.as_slice()) {
+        Ok(text) => text,
+        Err(refusal) => return end_by_refusal(err, &refusal),
+    };
+    match print_all(out, text.as_slice()) {
+        Ok(()) => 0,
+        Err(failure) => end_by_stream(err, "standard output", &failure),
+    }
+}
+
+/// Runs the program `rr` by these words, of which the first is its name, and gives its exit status.
+///
+/// `rr sim [FILE]` reads a schedule from FILE, or else from `input`, and prints its report on `out`. What goes
+/// wrong is told on `err`. The statuses: 0 done, 2 wrong words, 3 no schedule, 4 a damaged area, 5 a device, a
+/// file or a stream, 6 memory, 7 an audit.
+pub fn execute<R: Files + AllocGlobal, S: AsStr, I: Read, O: Write, E: Write>(
+    rt: &R,
+    words: &[S],
+    input: &mut I,
+    out: &mut O,
+    err: &mut E,
+) -> u8
+    ensures ends { EndsBy (faults_of (map S.text words.now)) (file_of (map S.text words.now))
+        (I.remaining input.old) result (O.contents out.old) (O.contents out.new) }
+    ensures quiet { result ≡ 0 → Keeps (E.contents err.old) (E.contents err.new) }
+    ensures untouched { IsSome (file_of (map S.text words.now)) → I.remaining input.new ≡ I.remaining input.old }
+{
+    match file_named(rt.alloc(), words) {
+        Ok(None) => simulate_input(rt.alloc(), "standard input", input, out, err),
+        Ok(Some(path)) => match fs::open(rt, path) {
+            Ok(mut file) => simulate_input(rt.alloc(), path, &mut file, out, err),
+            Err(failure) => end_by_stream(err, path, &failure),
+        },
+        Err(error) => end_by_words(out, err, &error),
+    }
+}

@@ -1,0 +1,76 @@
+//! How a refusal ends the program.
+
+ghost use Rattle.std.specs.Prelude.{◌≡◌, OnOk};
+ghost use Rattle.std.specs.Io.KnownBytes.{Appends};
+ghost use Rattle.rr_text.specs.ReportTexts.{refusal_name};
+ghost use Rattle.rr_cli.specs.Refusals.{status_of, refusal_line};
+
+use rr_types::Refusal;
+use std::io;
+use std::io::Write;
+
+/// The exit status of a refusal: 3 for a schedule, 4 for a damaged area, 5 for a device, 6 for memory and 7
+/// for an audit.
+pub fn status(refusal: &Refusal) -> u8
+    ensures { result ≡ status_of refusal.now }
+{
+    match refusal {
+        Refusal::BadNodes | Refusal::BadEvent(_) => 3,
+        Refusal::Damaged { .. } => 4,
+        Refusal::OutOfMemory => 6,
+        Refusal::AuditNo(_) => 7,
+        _ => 5,
+    }
+}
+
+// The name alone, without the numbers behind it.
+fn name(refusal: &Refusal) -> &'static str
+    ensures { result.now ≡ refusal_name refusal.now }
+{
+    match refusal {
+        Refusal::OutOfMemory => "OutOfMemory",
+        Refusal::Device => "Device",
+        Refusal::Damaged { .. } => "Damaged",
+        Refusal::Failed => "Failed",
+        Refusal::Down => "Down",
+        Refusal::BadNodes => "BadNodes",
+        Refusal::BadName => "BadName",
+        Refusal::BadValue => "BadValue",
+        Refusal::ListFull => "ListFull",
+        Refusal::RoundsOut => "RoundsOut",
+        Refusal::Malformed(_) => "Malformed",
+        Refusal::StrangeMark => "StrangeMark",
+        Refusal::Busy => "Busy",
+        Refusal::BadEvent(_) => "BadEvent",
+        Refusal::SeatsTaken => "SeatsTaken",
+        Refusal::TooLarge => "TooLarge",
+        Refusal::AuditNo(_) => "AuditNo",
+        Refusal::NoGuard => "NoGuard",
+    }
+}
+
+/// Prints the line of a refusal, as `rr: 14 BadEvent 7`.
+///
+/// # Errors
+/// Those of the writer.
+pub fn print_refusal<W: Write>(err: &mut W, refusal: &Refusal) -> io::Result<()>
+    ensures { OnOk result (Appends (W.contents err.old) (W.contents err.new) (refusal_line refusal.now)) }
+{
+    let number = refusal.number();
+    let name = name(refusal);
+    match refusal {
+        Refusal::Damaged { area, offset } => writeln!(err, "rr: {number} {name} {area} {offset}"),
+        Refusal::Malformed(at) | Refusal::BadEvent(at) | Refusal::AuditNo(at) => {
+            writeln!(err, "rr: {number} {name} {at}")
+        }
+        _ => writeln!(err, "rr: {number} {name}"),
+    }
+}
+
+// Ends by a refusal. Where its line can't be printed the status still tells.
+pub(crate) fn end_by_refusal<E: Write>(err: &mut E, refusal: &Refusal) -> u8
+    ensures { result ≡ status_of refusal.now }
+{
+    let _ = print_refusal(err, refusal);
+    status(refusal)
+}

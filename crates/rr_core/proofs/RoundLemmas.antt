@@ -1,0 +1,47 @@
+-- The parts of a round, put together.
+use Rattle.std.proofs.Common.{◌≡◌, ℕ, Bool, true, false, ltb, List, None, Some, Option, refl, sym, ap, ◌∙◌}
+use Rattle.std.specs.List.{range_with_len}
+use Rattle.rr_types.specs.declared.command.Command.{Command}
+use Rattle.rr_types.specs.declared.fact.Fact.TheVariants.{Decide, Propose}
+use Rattle.rr_types.specs.declared.message.Body.TheVariants as say
+use Rattle.rr_types.specs.declared.promise.Standing.TheVariants.{Open}
+use Rattle.rr_types.specs.Standings.{OpenAt}
+use Rattle.rr_model.specs.NodeState.{NodeState, Row, everyone, others, next_number, standing_at, open_instances}
+use Rattle.rr_model.specs.NodeParts.{owe, stage, conclude, propose, restate, backing_at, free_command}
+use Rattle.rr_core.specs.Places.{first_free, is_estimate_beside, is_estimate_of, owe_coordinator}
+
+pub first_free_is : (s : NodeState) (i : ℕ) → first_free s.rows (open_instances s) i s.pool ≡ free_command s i
+unfolding first_free is_estimate_beside is_estimate_of free_command
+first_free_is s i = refl
+
+pub first_free_from : (s : NodeState) (i : ℕ) (rows : List Row) (instances : List ℕ) (pool : List Command) (x : Option Command) → rows ≡ s.rows → instances ≡ open_instances s → pool ≡ s.pool → x ≡ first_free rows instances i pool → x ≡ free_command s i
+first_free_from s i rows instances pool x e f g h = let k = first_free_is s i in cc
+
+pub conclude_from : (i : ℕ) (v : Command) (s t u : NodeState) (k : ℕ) → k ≡ next_number s → t ≡ stage (Decide i v) s → u ≡ owe (say.Decision i v) (Some k) (others t) t → u ≡ conclude i v s
+unfolding conclude stage
+conclude_from i v s t u k n e f = f ∙ rw (e, n) refl
+
+pub propose_from : (i r : ℕ) (v : Command) (s t u : NodeState) (k : ℕ) → k ≡ next_number s → t ≡ stage (Propose i r v) s → u ≡ owe (say.Proposal i r v) (Some k) (everyone t) t → u ≡ propose i r v s
+unfolding propose stage
+propose_from i r v s t u k n e f = f ∙ rw (e, n) refl
+
+coordinator_nodes_by : (i : ℕ) (o : OpenAt) (s : NodeState) (b : Bool) → ltb o.stamp o.round ≡ b → (owe_coordinator i o s).nodes ≡ s.nodes
+unfolding owe_coordinator owe
+coordinator_nodes_by i o s true h = rw h
+coordinator_nodes_by i o s false h = rw h
+
+pub coordinator_nodes : (i : ℕ) (o : OpenAt) (s : NodeState) → (owe_coordinator i o s).nodes ≡ s.nodes
+coordinator_nodes i o s = coordinator_nodes_by i o s (ltb o.stamp o.round) refl
+
+-- an open instance without a proposal
+pub restate_silent : (i : ℕ) (o : OpenAt) (s : NodeState) → standing_at s i ≡ Some (Open o) → o.proposal ≡ None → restate i s ≡ owe_coordinator i o s
+unfolding restate owe_coordinator
+restate_silent i o s h n = rw (h, n) refl
+
+restate_is : (i : ℕ) (o : OpenAt) (v : Command) (s : NodeState) → standing_at s i ≡ Some (Open o) → o.proposal ≡ Some v → restate i s ≡ owe (say.Proposal i o.round v) (Some (backing_at (λ b. b.proposed) s i)) (everyone s) (owe_coordinator i o s)
+unfolding restate owe_coordinator
+restate_is i o v s h n = rw (h, n) refl
+
+-- and one with a proposal
+pub restate_proposing : (i : ℕ) (o : OpenAt) (v : Command) (s t u : NodeState) (r k : ℕ) → standing_at s i ≡ Some (Open o) → Some v ≡ o.proposal → r ≡ o.round → k ≡ backing_at (λ b. b.proposed) s i → t ≡ owe_coordinator i o s → u ≡ owe (say.Proposal i r v) (Some k) (everyone t) t → u ≡ restate i s
+restate_proposing i o v s t u r k h n a b e f = f ∙ rw (e, b, a) (ap (λ m. owe (say.Proposal i o.round v) (Some (backing_at (λ b. b.proposed) s i)) (range_with_len 0 m) (owe_coordinator i o s)) (coordinator_nodes i o s) ∙ sym (restate_is i o v s h (sym n)))

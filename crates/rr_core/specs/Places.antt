@@ -1,0 +1,47 @@
+use Rattle.std.specs.Prelude.{ℕ, if◌then◌else◌, Some, [], ◌∷◌, Bool, false, not, ◌&&◌, ◌==◌, nat_lt, List, filter, find, Option, option_map}
+use Rattle.std.specs.Option.{option_map_or}
+use Rattle.std.specs.List.{list_any, prefix_len, slice_get, range_with_len}
+use Rattle.rr_types.specs.declared.command.Command.{Command}
+use Rattle.rr_types.specs.declared.message.Body.{Body}
+use Rattle.rr_types.specs.declared.message.Body.TheVariants as say
+use Rattle.rr_types.specs.Standings.{OpenAt}
+use Rattle.rr_types.specs.Nodes.{coordinator_of}
+use Rattle.rr_types.specs.Commands.{is_same_command}
+use Rattle.rr_types.specs.Facts.{estimate_of}
+use Rattle.rr_model.specs.NodeState.{NodeState, Row, Owed, row_of}
+use Rattle.rr_model.specs.NodeParts.{owe, backing_at}
+
+-- how many rows at the front lie below instance i
+unfoldable pub rows_below : ℕ → List Row → ℕ
+rows_below i rows = prefix_len (λ r. nat_lt r.instance i) rows
+
+-- whether the row at place n is the one of instance i
+unfoldable pub is_row_of : ℕ → List Row → ℕ → Bool
+is_row_of i rows n = option_map_or (λ (r : Row). r.instance == i) (slice_get rows n) false
+
+-- a body that one node owes another
+abbrev pub message_to : ℕ → ℕ → Body → Option ℕ → Owed
+message_to from to body backing = record { message = record { from = from; to = to; body = body }; backing = backing }
+
+-- the nodes below n but one, ascending
+unfoldable pub nodes_beside : ℕ → ℕ → List ℕ
+nodes_beside node n = filter (λ q. not (q == node)) (range_with_len 0 n)
+
+-- whether a command is the estimate of instance i
+unfoldable pub is_estimate_of : List Row → ℕ → Command → Bool
+is_estimate_of rows i c = option_map_or (λ v. is_same_command v c) (estimate_of (option_map (λ r. r.standing) (row_of rows i))) false
+
+-- whether a command is the estimate of one of these instances but i
+unfoldable pub is_estimate_beside : List Row → List ℕ → ℕ → Command → Bool
+is_estimate_beside rows instances i c = list_any (λ j. not (j == i) && is_estimate_of rows j c) instances
+
+-- the first command that is no estimate of one of these instances but i
+unfoldable pub first_free : List Row → List ℕ → ℕ → List Command → Option Command
+first_free rows instances i pool = find (λ c. not (is_estimate_beside rows instances i c)) pool
+
+-- what an open instance owes the coordinator of its round: its estimate, or its acknowledgement where it has adopted
+unfoldable pub owe_coordinator : ℕ → OpenAt → NodeState → NodeState
+owe_coordinator i o s =
+    if nat_lt o.stamp o.round
+    then owe (say.Estimate i (record { round = o.round; stamp = o.stamp; command = o.estimate })) (Some (backing_at (λ b. b.entered) s i)) (coordinator_of o.round s.nodes ∷ []) s
+    else owe (say.Ack i o.round) (Some (backing_at (λ b. b.adopted) s i)) (coordinator_of o.round s.nodes ∷ []) s

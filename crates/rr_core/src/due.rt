@@ -1,0 +1,244 @@
+//! What a node does of its own accord, one thing after another until nothing is due.
+
+ghost use Rattle.std.specs.Prelude.{◌≡◌, ◌<◌, length, filter, IfOk, IfErr, IfSome, OnOk, option_map, Some};
+ghost use Rattle.std.specs.List.{range_with_len};
+ghost use Rattle.rr_types.specs.Nodes.{has_member};
+ghost use Rattle.rr_types.specs.Facts.{round_of};
+ghost use Rattle.rr_model.specs.NodeState.{standing_at};
+ghost use Rattle.rr_model.specs.NodeDue.{better, best_vote, pick, is_majority, due_of_coordinator, due_of_participant, due_of_row, due_at, first_due, due, carry_out, settle};
+ghost use Rattle.rr_core.specs.Dues.{meaning_of, MovesBelowLast, CanBeCarriedOut};
+
+use crate::detector::joined;
+use crate::rows::find_row;
+use crate::state::{State, Tally, Vote};
+use rr_types::{
+    Command, Instance, NodeSet, Nodes, Refusal, Round, Standing, coordinator, majority,
+};
+use std::alloc::Global;
+
+/// The most turns until nothing is due.
+const TURNS: u64 = 1 << 54;
+
+/// What a node does of its own accord for an instance.
+#[derive(Clone, Copy, Debug)]
+pub enum Due {
+    /// It enters round 1 with a command of the pool.
+    Begin(Instance),
+    /// It proposes this command in the present round.
+    Offer(Instance, Round, Command),
+    /// It decides on this command.
+    Conclude(Instance, Command),
+    /// It enters the next round.
+    MoveOn(Instance),
+}
+
+/// The better of two votes: the larger stamp, and of equal stamps the one that stands first.
+fn better(vote: Vote, other: Option<Vote>) -> Vote
+    ensures { result ≡ better vote other }
+{
+    match other {
+        Some(other) if vote.stamp < other.stamp => other,
+        _ => vote,
+    }
+}
+
+/// The vote of largest stamp, of those the first.
+#[tactic(auto, using(crate::proofs::DueLemmas::best_more))]
+fn best_vote(votes: &[Vote]) -> Option<Vote>
+    ensures { result ≡ best_vote votes.now }
+{
+    let mut best = None;
+    let mut left = votes.len();
+    while left > 0 {
+        left -= 1;
+        best = Some(better(votes[left], best));
+    }
+    best
+}
+
+/// Where estimates of a majority are kept, the command of largest stamp, of those the lowest node's.
+pub fn pick(nodes: Nodes, tally: &Tally) -> Option<Command>
+    ensures { result ≡ pick nodes tally.now }
+{
+    if usize::from(majority(nodes)) <= tally.estimates.len() {
+        match best_vote(&tally.estimates) {
+            Some(vote) => Some(vote.command),
+            None => None,
+        }
+    } else {
+        None
+    }
+}
+
+/// How many of the nodes a set has.
+#[tactic(auto, using(crate::proofs::DueLemmas::count_more))]
+fn count_members(nodes: Nodes, set: NodeSet) -> u8
+    ensures { result ≡ length (filter (λ q. has_member set q) (range_with_len 0 nodes)) }
+{
+    let mut count = 0;
+    for index in 0..nodes.count() {
+        if has(set, index) {
+            count += 1;
+        }
+    }
+    count
+}
+
+fn has(set: NodeSet, index: u8) -> bool
+    requires { index < 7 }
+    ensures { result ≡ has_member set index }
+{
+    match rr_types::NodeId::at(index) {
+        Some(node) => set.contains(node),
+        None => unreachable!(),
+    }
+}
+
+impl State {
+    /// Whether the set has a majority of the nodes.
+    pub fn is_majority(&self, set: NodeSet) -> bool
+        ensures { result ≡ is_majority self.now set }
+    {
+        majority(self.nodes) <= count_members(self.nodes, set)
+    }
+
+    fn due_of_coordinator(
+        &self,
+        instance: Instance,
+        tally: &Tally,
+        round: Round,
+        proposal: Option<Command>,
+    ) -> Option<Due>
+        ensures value { option_map meaning_of result ≡ due_of_coordinator self.now instance tally.now round proposal }
+        ensures moves { IfSome result (MovesBelowLast round) }
+    {
+        match proposal {
+            None => match pick(self.nodes, tally) {
+                Some(command) => Some(Due::Offer(instance, round, command)),
+                None => None,
+            },
+            Some(command) => {
+                if self.is_majority(tally.acks) {
+                    return Some(Due::Conclude(instance, command));
+                }
+                let answered = joined(tally.acks, tally.nacks);
+                if self.is_majority(answered) && round.number() < rr_types::MAX_ROUND {
+                    Some(Due::MoveOn(instance))
+                } else {
+                    None
+                }
+            }
+        }
+    }
+
+    fn due_of_participant(&self, instance: Instance, round: Round) -> Option<Due>
+        ensures value { option_map meaning_of result ≡ due_of_participant self.now instance round }
+        ensures moves { IfSome result (MovesBelowLast round) }
+    {
+        let is_suspected = self.suspects.contains(coordinator(round, self.nodes));
+        if is_suspected && round.number() < rr_types::MAX_ROUND {
+            Some(Due::MoveOn(instance))
+        } else {
+            None
+        }
+    }
+
+    fn due_of_row(&self, instance: Instance, tally: &Tally, standing: Standing) -> Option<Due>
+        ensures value { option_map meaning_of result ≡ due_of_row self.now instance tally.now standing }
+        ensures moves { IfSome result (MovesBelowLast (round_of (Some standing))) }
+    {
+        match standing {
+            Standing::Decided(_) => None,
+            Standing::Open(open) => {
+                let round = open.round();
+                if coordinator(round, self.nodes).index() == self.node.index() {
+                    self.due_of_coordinator(instance, tally, round, open.proposal())
+                } else {
+                    self.due_of_participant(instance, round)
+                }
+            }
+        }
+    }
+
+    /// What is due for an instance.
+    fn due_at(&self, alloc: Global, instance: Instance) -> Result<Option<Due>, Refusal>
+        ensures value { IfOk result (λ found. option_map meaning_of found ≡ due_at self.now instance) }
+        ensures ready { IfOk result (λ found. IfSome found (CanBeCarriedOut self.now)) }
+        ensures err { IfErr result (λ e. e ≡ Refusal.OutOfMemory) }
+    {
+        match find_row(&self.rows, instance) {
+            Some(row) => Ok(self.due_of_row(instance, &row.tally, row.standing)),
+            None => match self.free_command(alloc, instance) {
+                Ok(Some(_)) => Ok(Some(Due::Begin(instance))),
+                Ok(None) => Ok(None),
+                Err(refusal) => Err(refusal),
+            },
+        }
+    }
+
+    #[tactic(auto, using(crate::proofs::DueLemmas::first_due_more, crate::proofs::DueLemmas::first_due_here))]
+    fn first_due(&self, alloc: Global, instances: &[Instance]) -> Result<Option<Due>, Refusal>
+        ensures value { IfOk result (λ found. option_map meaning_of found ≡ first_due self.now instances.now) }
+        ensures ready { IfOk result (λ found. IfSome found (CanBeCarriedOut self.now)) }
+        ensures err { IfErr result (λ e. e ≡ Refusal.OutOfMemory) }
+    {
+        for instance in instances {
+            match self.due_at(alloc, *instance) {
+                Ok(Some(due)) => return Ok(Some(due)),
+                Ok(None) => (),
+                Err(refusal) => return Err(refusal),
+            }
+        }
+        Ok(None)
+    }
+
+    /// What is due: the lowest open instance to which anything applies. What is found can be carried out.
+    #[tactic(auto, unfolding(rr_model::specs::NodeDue::due))]
+    pub fn due(&self, alloc: Global) -> Result<Option<Due>, Refusal>
+        ensures value { IfOk result (λ found. option_map meaning_of found ≡ due self.now) }
+        ensures ready { IfOk result (λ found. IfSome found (CanBeCarriedOut self.now)) }
+        ensures err { IfErr result (λ e. e ≡ Refusal.OutOfMemory) }
+    {
+        match self.open_instances(alloc) {
+            Ok(instances) => self.first_due(alloc, &instances),
+            Err(refusal) => Err(refusal),
+        }
+    }
+
+    /// The node does what is due.
+    #[tactic(auto, unfolding(rr_model::specs::NodeDue::carry_out))]
+    pub fn carry_out(&mut self, alloc: Global, due: Due) -> Result<(), Refusal>
+        requires { CanBeCarriedOut self.old due }
+        ensures ok { OnOk result (self.new ≡ carry_out (meaning_of due) self.old) }
+        ensures err { IfErr result (λ e. e ≡ Refusal.OutOfMemory) }
+    {
+        match due {
+            Due::Begin(instance) => self.enter(alloc, instance, Round::at(1), None),
+            Due::Offer(instance, round, command) => self.propose(instance, round, command),
+            Due::Conclude(instance, command) => self.conclude(instance, command),
+            Due::MoveOn(instance) => {
+                let round = self.round(instance);
+                self.enter(alloc, instance, Round::at(round + 1), None)
+            }
+        }
+    }
+
+    /// The node does what is due until nothing is.
+    #[tactic(auto, using(crate::proofs::DueLemmas::settled, crate::proofs::DueLemmas::settle_more, crate::proofs::DueLemmas::settle_none), unfolding(rr_model::specs::NodeDue::settle))]
+    pub fn settle(&mut self, alloc: Global) -> Result<(), Refusal>
+        ensures ok { OnOk result (self.new ≡ settle self.old) }
+        ensures err { IfErr result (λ e. e ≡ Refusal.OutOfMemory) }
+    {
+        for turn in 0..TURNS {
+            match self.due(alloc) {
+                Ok(Some(due)) => match self.carry_out(alloc, due) {
+                    Ok(()) => (),
+                    Err(refusal) => return Err(refusal),
+                },
+                Ok(None) => return Ok(()),
+                Err(refusal) => return Err(refusal),
+            }
+        }
+        Ok(())
+    }
+}

@@ -1,0 +1,32 @@
+//! The pure core of a node: a state machine without input and output. It is told what happens, stages facts,
+//! and owes messages; whoever runs it flushes the facts and carries the messages.
+#![tactic(auto)]
+
+mod cleared;
+mod copies;
+#[cfg(test)]
+mod core_tests;
+mod detector;
+mod due;
+mod estimates;
+mod group;
+mod input;
+mod leaving;
+mod lookup;
+mod node_core;
+mod owing;
+#[cfg(test)]
+mod part_tests;
+mod parts;
+mod prefix;
+mod promise;
+mod rounds;
+mod rows;
+mod same;
+mod staging;
+mod state;
+mod tally;
+mod unmarked;
+
+pub use cleared::{Cleared, Draft, Mark};
+pub use node_core::Core;

@@ -1,0 +1,196 @@
+//! The rows of the instances that the facts name.
+
+ghost use Rattle.std.specs.Prelude.{◌≡◌, ◌<◌, ◌≤◌, ◌==◌, IsTrue, false, length, None, Some, MatchOption, option_map, IfOk, IfErr, OnOk};
+ghost use Rattle.std.specs.Option.{option_map_or};
+ghost use Rattle.std.specs.List.{list_any};
+ghost use Rattle.rr_types.specs.Commands.{is_same_request};
+ghost use Rattle.rr_model.specs.NodeState.{row_of, put_row, is_decided, undecided_from, lowest_undecided, decided_command};
+ghost use Rattle.rr_core.specs.Places.{rows_below, is_row_of};
+
+use crate::state::{Backing, Row, Tally};
+use rr_types::{Command, Instance, Refusal, RequestNo, Standing};
+use std::alloc::Global;
+
+/// The row of an instance.
+pub fn find_row(rows: &[Row], instance: Instance) -> Option<&Row>
+    ensures { MatchOption result (row_of rows.now instance ≡ None) (λ r. row_of rows.now instance ≡ Some r.now) }
+{
+    for row in rows {
+        if row.instance == instance {
+            return Some(row);
+        }
+    }
+    None
+}
+
+/// Where an instance stands.
+pub fn standing_in_rows(rows: &[Row], instance: Instance) -> Option<Standing>
+    ensures { result ≡ option_map (λ r. r.standing) (row_of rows.now instance) }
+{
+    match find_row(rows, instance) {
+        Some(row) => Some(row.standing),
+        None => None,
+    }
+}
+
+/// What backs the messages of an instance.
+pub fn backing_in_rows(rows: &[Row], instance: Instance) -> Option<Backing>
+    ensures { result ≡ option_map (λ r. r.backing) (row_of rows.now instance) }
+{
+    match find_row(rows, instance) {
+        Some(row) => Some(row.backing),
+        None => None,
+    }
+}
+
+/// Whether the instance of a row has decided.
+pub fn is_decided(row: &Row) -> bool
+    ensures { result ≡ is_decided row.now }
+{
+    matches!(row.standing, Standing::Decided(_))
+}
+
+/// The command that the instance of a row has decided.
+pub fn decided_command(row: &Row) -> Option<Command>
+    ensures { result ≡ decided_command row.now }
+{
+    match row.standing {
+        Standing::Decided(command) => Some(command),
+        Standing::Open(_) => None,
+    }
+}
+
+/// The lowest undecided instance from `from` on.
+pub fn undecided_from(rows: &[Row], from: u32) -> u32
+    requires { from ≤ 1048576 }
+    ensures value { result ≡ undecided_from from rows.now }
+    ensures range { result ≤ 1048576 }
+    ensures above { from ≤ result }
+{
+    let mut lowest = from;
+    for row in rows {
+        let number = row.instance.number();
+        if number == lowest && is_decided(row) {
+            lowest += 1;
+        } else if number >= lowest {
+            break;
+        }
+    }
+    lowest
+}
+
+/// The `count` lowest undecided instances, ascending.
+#[tactic(auto, using(crate::proofs::RowLemmas::lowest_next, crate::proofs::RowLemmas::lowest_done, crate::proofs::RowLemmas::push_next))]
+pub fn lowest_undecided(alloc: Global, rows: &[Row], count: usize) -> Result<Vec<Instance>, Refusal>
+    ensures value { IfOk result (λ found. found.items ≡ lowest_undecided count 0 rows.now) }
+    ensures err { IfErr result (λ e. e ≡ Refusal.OutOfMemory) }
+{
+    let mut found = Vec::new(alloc);
+    let mut from = 0;
+    for _turn in 0..count {
+        match Instance::new(undecided_from(rows, from)) {
+            None => return Ok(found),
+            Some(instance) => {
+                found.push(instance)?;
+                from = instance.number() + 1;
+            }
+        }
+    }
+    Ok(found)
+}
+
+/// Whether an instance is one of the `count` lowest undecided ones.
+#[tactic(auto, using(crate::proofs::RowLemmas::lowest_next, crate::proofs::RowLemmas::lowest_end))]
+pub fn is_lowest_undecided(rows: &[Row], count: usize, instance: Instance) -> bool
+    ensures { result ≡ list_any (λ j. j == instance) (lowest_undecided count 0 rows.now) }
+{
+    let mut from = 0;
+    for _turn in 0..count {
+        match Instance::new(undecided_from(rows, from)) {
+            None => return false,
+            Some(lowest) => {
+                if lowest == instance {
+                    return true;
+                }
+                from = lowest.number() + 1;
+            }
+        }
+    }
+    false
+}
+
+/// Whether the instance of some row has decided a command with this request number.
+pub fn has_decided_request(rows: &[Row], request: RequestNo) -> bool
+    ensures { result ≡ list_any (λ r. option_map_or (λ v. is_same_request v.request request) (decided_command r) false) rows.now }
+{
+    for row in rows {
+        if let Some(command) = decided_command(row) {
+            if command.request.is_same(request) {
+                return true;
+            }
+        }
+    }
+    false
+}
+
+/// A copy of a row.
+pub fn clone_row(alloc: Global, row: &Row) -> Result<Row, Refusal>
+    ensures ok { IfOk result (λ r. r ≡ row.now) }
+    ensures err { IfErr result (λ e. e ≡ Refusal.OutOfMemory) }
+{
+    let estimates = Vec::from_slice(alloc, row.tally.estimates.as_slice())?;
+    Ok(Row {
+        instance: row.instance,
+        standing: row.standing,
+        backing: row.backing,
+        tally: Tally {
+            estimates,
+            acks: row.tally.acks,
+            nacks: row.tally.nacks,
+        },
+    })
+}
+
+/// How many rows at the front lie below an instance.
+#[tactic(auto, unfolding(crate::specs::Places::rows_below))]
+pub fn count_below(rows: &[Row], instance: Instance) -> usize
+    ensures value { result ≡ rows_below instance rows.now }
+    ensures range { result ≤ length rows.now }
+{
+    let mut count = 0;
+    for row in rows {
+        if row.instance >= instance {
+            break;
+        }
+        count += 1;
+    }
+    count
+}
+
+/// Whether the row at this place is the one of an instance.
+#[tactic(auto, unfolding(crate::specs::Places::is_row_of))]
+fn is_row_of(rows: &[Row], at: usize, instance: Instance) -> bool
+    ensures value { result ≡ is_row_of instance rows.now at }
+    ensures within { IsTrue result → at < length rows.now }
+{
+    match rows.get(at) {
+        Some(row) => row.instance == instance,
+        None => false,
+    }
+}
+
+/// The rows with this one for its instance, in its place.
+#[tactic(auto, using(crate::proofs::RowLemmas::put_over, crate::proofs::RowLemmas::put_between))]
+pub fn put_row(rows: &mut Vec<Row>, row: Row) -> Result<(), Refusal>
+    ensures ok { OnOk result (rows.new.items ≡ put_row row rows.old.items) }
+    ensures err { IfErr result (λ e. e ≡ Refusal.OutOfMemory) }
+{
+    let instance = row.instance;
+    let at = count_below(rows, instance);
+    if is_row_of(rows, at, instance) {
+        rows[at] = row;
+        return Ok(());
+    }
+    rows.insert(at, row)?;
+    Ok(())
+}

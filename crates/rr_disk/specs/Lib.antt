@@ -1,0 +1,6 @@
+pub mod Areas
+pub mod Counts
+pub mod Crash
+pub mod Failing
+pub mod Memory
+pub mod Strips

@@ -1,0 +1,24 @@
+//! Disks of two areas: what their device calls do, how often they were made and how often they failed, and
+//! what a crash may leave. A disk in memory, and a disk whose calls fail on demand.
+//!
+//! After a write its range is loose: until the next sync, a crash may leave any bytes there. A sync makes
+//! nothing loose and the present lengths safe. A crash leaves of each area a length between the safe and the
+//! present one, and below it each byte that isn't loose.
+#![tactic(auto)]
+
+mod area;
+mod cell;
+mod cells;
+mod disk;
+mod failing;
+mod memory;
+mod strip;
+
+pub use area::Area;
+pub use cell::Cell;
+pub use disk::Disk;
+pub use failing::FailingDisk;
+pub use memory::MemDisk;
+
+#[cfg(test)]
+mod tests;

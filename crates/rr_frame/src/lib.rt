@@ -1,0 +1,24 @@
+//! The bytes on a disk: commands, facts, groups and snapshots, each with one spelling.
+//!
+//! Numbers are big-endian. A decoder answers with a value exactly where the bytes are its spelling, and
+//! otherwise with the offset of the first field that is cut short or holds no lawful value.
+#![tactic(auto)]
+
+mod command;
+mod fact;
+mod group;
+mod number;
+mod reader;
+mod snapshot;
+mod stop;
+
+pub use command::{put_command, read_command};
+pub use fact::{decode_fact, encode_fact, put_estimate, put_fact, read_estimate, read_fact};
+pub use group::{decode_group, encode_group, read_group};
+pub use number::{put_u8, put_u16, put_u32, put_u64};
+pub use reader::Reader;
+pub use snapshot::{Snapshot, decode_snapshot, encode_snapshot, read_snapshot};
+pub use stop::{Fault, Stop};
+
+#[cfg(test)]
+mod tests;

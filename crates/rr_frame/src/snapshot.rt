@@ -1,0 +1,463 @@
+//! Snapshots: what an area's first frame holds, and their bytes.
+
+ghost use Rattle.std.specs.Prelude.{◌≡◌, ℕ, ◌==◌, ◌++◌, ◌<◌, ◌≤◌, ◌^◌, ◌↔◌, ◌⊎◌, length, OnOk, IfOk, IfErr, IsOk, IfSome, IsTrue, Ok, Err};
+ghost use Rattle.std.specs.List.{flat_map, list_all, AllByRecursion};
+ghost use Rattle.rr_types.specs.declared.promise.Entry.{Entry};
+ghost use Rattle.rr_types.specs.Nodes.{coordinator_of};
+ghost use Rattle.rr_frame.specs.Snapshots.{Snapped, IsSnapshot, IsContents, proposes_lawfully};
+ghost use Rattle.rr_frame.specs.CommandFormat.{IsLawfulCommand};
+ghost use Rattle.rr_frame.specs.Reading.{Gives, Reads, Decodes};
+ghost use Rattle.rr_frame.specs.SnapshotFormat.{proposal_bytes, open_bytes, standing_bytes, entry_bytes, contents_bytes, snapshot_bytes, IsLawfulOpen, IsSpellable, IsLawfulSnapshot, proposal_at, open_at, standing_at, entry_at, entries_at, owner_at, contents_at, snapshot_at, snapshot_in};
+
+use crate::command::{put_command, read_command};
+use crate::number::{put_u8, put_u32, put_u64};
+use crate::reader::Reader;
+use crate::stop::{Fault, Stop};
+use rr_types::{
+    Command, Entry, Instance, NodeId, Nodes, Op, OpenStanding, Promise, Refusal, Standing,
+    coordinator,
+};
+use std::alloc::{AllocError, Global};
+use std::marker::Model;
+
+/// The version of a snapshot's bytes.
+const VERSION: u8 = 2;
+
+/// A snapshot: the promise of a node's facts so far, the number of its next fact, and the epoch, from 1,
+/// of the area that begins with it. A node has a proposal only in a round that it coordinates, and before
+/// its first fact it has promised nothing.
+#[derive(Debug, Drop)]
+pub struct Snapshot {
+    nodes: Nodes,
+    node: NodeId,
+    epoch: u64,
+    next: u64,
+    promise: Promise,
+}
+
+impl Model for Snapshot {
+    ghost use Rattle.rr_frame.specs.Snapshots.{Snapped, IsSnapshot};
+
+    ghost Value = { Snapped };
+
+    ghost view = { λ s. record { node = s.node; nodes = s.nodes; epoch = s.epoch; next = s.next; entries = s.promise } };
+
+    ghost invariant = { λ s. IsSnapshot (record { node = s.node; nodes = s.nodes; epoch = s.epoch; next = s.next; entries = s.promise }) };
+}
+
+fn coordinates(nodes: Nodes, node: NodeId, standing: &OpenStanding) -> bool
+    ensures { result ≡ (coordinator_of standing.now.round nodes == node) }
+{
+    coordinator(standing.round(), nodes).index() == node.index()
+}
+
+fn proposes_lawfully(nodes: Nodes, node: NodeId, entry: &Entry) -> bool
+    ensures { result ≡ proposes_lawfully nodes node entry.now.standing }
+{
+    match &entry.standing {
+        Standing::Decided(_) => true,
+        Standing::Open(open) => match open.proposal() {
+            None => true,
+            Some(_) => coordinates(nodes, node, open),
+        },
+    }
+}
+
+fn all_propose_lawfully(nodes: Nodes, node: NodeId, entries: &[Entry]) -> bool
+    ensures { result ≡ list_all (λ (e : Entry). proposes_lawfully nodes node e.standing) entries.now }
+{
+    entries
+        .iter()
+        .all(|entry| proposes_lawfully(nodes, node, entry))
+}
+
+impl Snapshot {
+    /// The snapshot of these parts, where they make one: the node is one of the nodes, the epoch is at
+    /// least 1, before the first fact there is no entry, and a proposal stands only in a round that the
+    /// node coordinates. Otherwise the promise is handed back.
+    pub fn new(
+        nodes: Nodes,
+        node: NodeId,
+        epoch: u64,
+        next: u64,
+        promise: Promise,
+    ) -> Result<Snapshot, Promise>
+        ensures valid { IsOk result ↔ IsSnapshot (record { node = node; nodes = nodes; epoch = epoch; next = next; entries = promise }) }
+        ensures ok { IfOk result (λ s. s ≡ record { node = node; nodes = nodes; epoch = epoch; next = next; entries = promise }) }
+        ensures err { IfErr result (λ back. back ≡ promise) }
+    {
+        let entries = promise.entries();
+        let lawful = node.index() < nodes.count()
+            && epoch > 0
+            && (next > 0 || entries.is_empty())
+            && all_propose_lawfully(nodes, node, entries);
+        if lawful {
+            Ok(Snapshot {
+                nodes,
+                node,
+                epoch,
+                next,
+                promise,
+            })
+        } else {
+            Err(promise)
+        }
+    }
+
+    /// How many nodes there are.
+    pub fn nodes(&self) -> Nodes
+        ensures { result ≡ self.now.nodes }
+    {
+        self.nodes
+    }
+
+    /// The node whose snapshot it is.
+    pub fn node(&self) -> NodeId
+        ensures value { result ≡ self.now.node }
+        ensures exists { result < self.now.nodes }
+    {
+        self.node
+    }
+
+    /// The epoch of the area that begins with it.
+    pub fn epoch(&self) -> u64
+        ensures value { result ≡ self.now.epoch }
+        ensures from_one { 1 ≤ result }
+    {
+        self.epoch
+    }
+
+    /// The number of the node's next fact.
+    pub fn next(&self) -> u64
+        ensures { result ≡ self.now.next }
+    {
+        self.next
+    }
+
+    /// What the node's facts before promise.
+    pub fn promise(&self) -> &Promise
+        ensures { result.now ≡ self.now.entries }
+    {
+        &self.promise
+    }
+
+    /// What the node's facts before promise, as the promise that the snapshot was made of.
+    pub fn into_promise(self) -> Promise
+        ensures { result ≡ self.entries }
+    {
+        let Snapshot {
+            nodes: _,
+            node: _,
+            epoch: _,
+            next: _,
+            promise,
+        } = self;
+        promise
+    }
+}
+
+#[tactic(auto, unfolding(crate::specs::SnapshotFormat::proposal_at))]
+fn read_proposal(may_stand: bool, reader: &mut Reader<'_>) -> Result<Option<Command>, Fault>
+    ensures { Gives result reader.new (proposal_at may_stand reader.old) }
+{
+    let _parts: Option<Op> = None;
+    let here = reader.fault();
+    let flag = reader.u8()?;
+    if flag == 0 {
+        return Ok(None);
+    }
+    if flag > 1 || !may_stand {
+        return Err(here);
+    }
+    let command = read_command(reader)?;
+    Ok(Some(command))
+}
+
+#[tactic(auto, unfolding(crate::specs::SnapshotFormat::open_at))]
+fn read_open(nodes: Nodes, node: NodeId, reader: &mut Reader<'_>) -> Result<OpenStanding, Fault>
+    ensures { Gives result reader.new (open_at nodes node reader.old) }
+{
+    let _parts: Option<Op> = None;
+    let round = reader.round()?;
+    let here = reader.fault();
+    let stamp = reader.u32()?;
+    if stamp > round.number() {
+        return Err(here);
+    }
+    let estimate = read_command(reader)?;
+    let coordinates = coordinator(round, nodes).index() == node.index();
+    let proposal = read_proposal(coordinates, reader)?;
+    match OpenStanding::new(round, stamp, estimate, proposal) {
+        Some(open) => Ok(open),
+        None => Err(here),
+    }
+}
+
+#[tactic(auto, unfolding(crate::specs::SnapshotFormat::standing_at))]
+fn read_standing(nodes: Nodes, node: NodeId, reader: &mut Reader<'_>) -> Result<Standing, Fault>
+    ensures { Gives result reader.new (standing_at nodes node reader.old) }
+{
+    let _parts: Option<(Command, Op)> = None;
+    let here = reader.fault();
+    let kind = reader.u8()?;
+    match kind {
+        1 => {
+            let command = read_command(reader)?;
+            Ok(Standing::Decided(command))
+        }
+        2 => {
+            let open = read_open(nodes, node, reader)?;
+            Ok(Standing::Open(open))
+        }
+        _ => Err(here),
+    }
+}
+
+#[tactic(auto, unfolding(crate::specs::SnapshotFormat::entry_at))]
+fn read_entry(nodes: Nodes, node: NodeId, low: u32, reader: &mut Reader<'_>) -> Result<Entry, Fault>
+    ensures { Gives result reader.new (entry_at nodes node low reader.old) }
+{
+    let _parts: Option<(Command, Op)> = None;
+    let here = reader.fault();
+    let number = reader.u32()?;
+    if number < low {
+        return Err(here);
+    }
+    match Instance::new(number) {
+        Some(instance) => {
+            let standing = read_standing(nodes, node, reader)?;
+            Ok(Entry { instance, standing })
+        }
+        None => Err(here),
+    }
+}
+
+fn read_entries(
+    alloc: Global,
+    nodes: Nodes,
+    node: NodeId,
+    count: u32,
+    reader: &mut Reader<'_>,
+) -> Result<Vec<Entry>, Stop>
+    ensures { Reads (λ v. v.items) result reader.new (entries_at nodes node 0 count reader.old) }
+{
+    let _parts: Option<(Command, Op, Standing)> = None;
+    let mut entries = Vec::new(alloc);
+    let mut low = 0;
+    for _ in 0..count {
+        let entry = read_entry(nodes, node, low, reader)?;
+        low = entry.instance.number() + 1;
+        entries.push(entry)?;
+    }
+    Ok(entries)
+}
+
+#[tactic(auto, unfolding(crate::specs::SnapshotFormat::owner_at))]
+fn read_owner(reader: &mut Reader<'_>) -> Result<(NodeId, Nodes), Fault>
+    ensures read { Gives result reader.new (owner_at reader.old) }
+    ensures exists { IfOk result (λ x. x.0 < x.1) }
+{
+    let here = reader.fault();
+    let version = reader.u8()?;
+    if version != VERSION {
+        return Err(here);
+    }
+    let here = reader.fault();
+    let index = reader.u8()?;
+    let Some(node) = NodeId::at(index) else {
+        return Err(here);
+    };
+    let here = reader.fault();
+    let count = reader.u8()?;
+    if count <= index {
+        return Err(here);
+    }
+    match Nodes::new(count) {
+        Ok(nodes) => Ok((node, nodes)),
+        Err(_) => Err(here),
+    }
+}
+
+/// The next fact number and the entries.
+fn read_contents(
+    alloc: Global,
+    nodes: Nodes,
+    node: NodeId,
+    reader: &mut Reader<'_>,
+) -> Result<(u64, Vec<Entry>), Stop>
+    ensures read { Reads (λ x. (x.0, x.1.items)) result reader.new (contents_at nodes node reader.old) }
+    ensures lawful { IfOk result (λ x. IsContents nodes node x.0 x.1.items) }
+{
+    read_next_and_entries(alloc, nodes, node, reader)
+}
+
+#[tactic(auto, unfolding(crate::specs::SnapshotFormat::contents_at))]
+fn read_next_and_entries(
+    alloc: Global,
+    nodes: Nodes,
+    node: NodeId,
+    reader: &mut Reader<'_>,
+) -> Result<(u64, Vec<Entry>), Stop>
+    ensures { Reads (λ x. (x.0, x.1.items)) result reader.new (contents_at nodes node reader.old) }
+{
+    let next = reader.u64()?;
+    let here = reader.fault();
+    let count = reader.u32()?;
+    if count > 0 && next == 0 {
+        return Err(Stop::Malformed(here));
+    }
+    match read_entries(alloc, nodes, node, count, reader) {
+        Ok(entries) => Ok((next, entries)),
+        Err(stop) => Err(stop),
+    }
+}
+
+/// Reads a snapshot. A fault is the first field that is cut short or holds no lawful value.
+#[tactic(auto, unfolding(crate::specs::SnapshotFormat::snapshot_at))]
+pub fn read_snapshot(alloc: Global, reader: &mut Reader<'_>) -> Result<Snapshot, Stop>
+    ensures { Reads (λ s. s) result reader.new (snapshot_at reader.old) }
+{
+    let (node, nodes) = read_owner(reader)?;
+    let here = reader.fault();
+    let epoch = reader.u64()?;
+    if epoch == 0 {
+        return Err(Stop::Malformed(here));
+    }
+    match read_contents(alloc, nodes, node, reader) {
+        Ok((next, entries)) => Ok(Snapshot {
+            nodes,
+            node,
+            epoch,
+            next,
+            promise: Promise::new(entries),
+        }),
+        Err(stop) => Err(stop),
+    }
+}
+
+fn put_proposal(out: &mut Vec<u8>, proposal: &Option<Command>) -> Result<(), AllocError>
+    ensures ok { OnOk result (out.new.items ≡ out.old.items ++ proposal_bytes proposal.now) }
+    ensures lawful { OnOk result (IfSome proposal.now IsLawfulCommand) }
+{
+    match proposal {
+        None => {
+            put_u8(out, 0)?;
+            Ok(())
+        }
+        Some(command) => {
+            put_u8(out, 1)?;
+            put_command(out, command)?;
+            Ok(())
+        }
+    }
+}
+
+#[tactic(auto, unfolding(crate::specs::SnapshotFormat::open_bytes))]
+fn put_open(out: &mut Vec<u8>, standing: &OpenStanding) -> Result<(), AllocError>
+    ensures ok { OnOk result (out.new.items ≡ out.old.items ++ open_bytes standing.now) }
+    ensures lawful { OnOk result ((n p : ℕ) → IsTrue (proposes_lawfully n p (Standing.Open standing.now)) → IsLawfulOpen n p standing.now) }
+{
+    put_u32(out, standing.round().number())?;
+    put_u32(out, standing.stamp())?;
+    put_command(out, &standing.estimate())?;
+    put_proposal(out, &standing.proposal())?;
+    Ok(())
+}
+
+#[tactic(auto, unfolding(crate::specs::SnapshotFormat::standing_bytes, crate::specs::SnapshotFormat::entry_bytes))]
+fn put_entry(out: &mut Vec<u8>, entry: &Entry) -> Result<(), AllocError>
+    ensures ok { OnOk result (out.new.items ≡ out.old.items ++ entry_bytes entry.now) }
+    ensures lawful { OnOk result (IsSpellable entry.now) }
+{
+    put_u32(out, entry.instance.number())?;
+    match &entry.standing {
+        Standing::Decided(command) => {
+            put_u8(out, 1)?;
+            put_command(out, command)?;
+            Ok(())
+        }
+        Standing::Open(open) => {
+            put_u8(out, 2)?;
+            put_open(out, open)?;
+            Ok(())
+        }
+    }
+}
+
+fn put_entries(out: &mut Vec<u8>, entries: &[Entry]) -> Result<(), AllocError>
+    ensures ok { OnOk result (out.new.items ≡ out.old.items ++ flat_map entry_bytes entries.now) }
+    ensures lawful { OnOk result (AllByRecursion IsSpellable entries.now) }
+{
+    for entry in entries {
+        put_entry(out, entry)?;
+    }
+    Ok(())
+}
+
+#[tactic(auto, unfolding(crate::specs::SnapshotFormat::contents_bytes))]
+fn put_contents(out: &mut Vec<u8>, next: u64, entries: &[Entry]) -> Result<(), AllocError>
+    requires { length entries.now < 2 ^ 32 }
+    ensures ok { OnOk result (out.new.items ≡ out.old.items ++ contents_bytes next entries.now) }
+    ensures lawful { OnOk result (AllByRecursion IsSpellable entries.now) }
+{
+    put_u64(out, next)?;
+    put_u32(out, entries.len() as u32)?;
+    put_entries(out, entries)?;
+    Ok(())
+}
+
+#[tactic(auto, unfolding(crate::specs::SnapshotFormat::owner_bytes, crate::specs::SnapshotFormat::snapshot_bytes))]
+fn put_snapshot(out: &mut Vec<u8>, snapshot: &Snapshot) -> Result<(), AllocError>
+    requires { length snapshot.now.entries < 2 ^ 32 }
+    ensures ok { OnOk result (out.new.items ≡ out.old.items ++ snapshot_bytes snapshot.now) }
+    ensures lawful { OnOk result (IsLawfulSnapshot snapshot.now) }
+{
+    let entries = snapshot.promise.entries();
+    put_u8(out, VERSION)?;
+    put_u8(out, snapshot.node.index())?;
+    put_u8(out, snapshot.nodes.count())?;
+    put_u64(out, snapshot.epoch)?;
+    put_contents(out, snapshot.next, entries)?;
+    Ok(())
+}
+
+/// The one spelling of a snapshot. It is `TooLarge` where the number of its entries has no four bytes.
+pub fn encode_snapshot(alloc: Global, snapshot: &Snapshot) -> Result<Vec<u8>, Refusal>
+    ensures ok { IfOk result (λ v. v.items ≡ snapshot_bytes snapshot.now) }
+    ensures lawful { OnOk result (IsLawfulSnapshot snapshot.now) }
+    ensures err { IfErr result (λ e. (e ≡ Refusal.OutOfMemory) ⊎ ((e ≡ Refusal.TooLarge) × (2 ^ 32 ≤ length snapshot.now.entries))) }
+{
+    if snapshot.promise().entries().len() > u32::MAX as usize {
+        return Err(Refusal::TooLarge);
+    }
+    let mut out = Vec::new(alloc);
+    match put_snapshot(&mut out, snapshot) {
+        Ok(()) => Ok(out),
+        Err(_) => Err(Refusal::OutOfMemory),
+    }
+}
+
+#[tactic(auto, unfolding(crate::specs::SnapshotFormat::snapshot_in))]
+fn read_whole(alloc: Global, bytes: &[u8]) -> Result<Snapshot, Refusal>
+    ensures { Decodes result (snapshot_in bytes.now) }
+{
+    let mut reader = Reader::new(bytes);
+    match read_snapshot(alloc, &mut reader) {
+        Err(stop) => Err(stop.refusal(bytes.len())),
+        Ok(_) if reader.left() > 0 => Err(reader.fault().refusal(bytes.len())),
+        Ok(snapshot) => Ok(snapshot),
+    }
+}
+
+/// The snapshot that all these bytes spell. Other bytes are `Malformed` at the first byte of the first
+/// field that is cut short or holds no lawful value, or at the first byte behind the snapshot.
+pub fn decode_snapshot(alloc: Global, bytes: &[u8]) -> Result<Snapshot, Refusal>
+    // What is read is spelled so.
+    ensures found { IfOk result (λ s. IsLawfulSnapshot s × (bytes.now ≡ snapshot_bytes s)) }
+    // What is spelled so is read, unless memory runs out.
+    ensures only { (s : Snapped) → IsLawfulSnapshot s → bytes.now ≡ snapshot_bytes s → Decodes result (Ok s) }
+    // Which answer it is, unless memory runs out.
+    ensures exact { Decodes result (snapshot_in bytes.now) }
+{
+    read_whole(alloc, bytes)
+}

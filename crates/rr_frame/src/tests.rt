@@ -1,0 +1,180 @@
+//! Spelled examples, faults and their offsets, and each byte of an example at each value.
+
+use super::*;
+use rr_types::{
+    Command, Estimate, Fact, Group, Instance, Name, NodeId, Nodes, Op, Promise, Refusal, RequestNo,
+    Round, Value,
+};
+use std::test::Fail;
+
+/// A group of one fact with number 3: instance 0 decides `7.1 claim a x`.
+const DECIDED: [u8; 32] = [
+    0, 0, 0, 0, 0, 0, 0, 3, 0, 1, 4, 0, 0, 0, 0, 0, 0, 0, 7, 0, 0, 0, 0, 0, 0, 0, 1, 1, 1, 0x61, 1,
+    0x78,
+];
+
+/// The empty snapshot of epoch 1 of node 0 of 1.
+const EMPTY: [u8; 23] = [
+    2, 0, 1, 0, 0, 0, 0, 0, 0, 0, 1, 0, 0, 0, 0, 0, 0, 0, 0, 0, 0, 0, 0,
+];
+
+/// The snapshot of node 0 of 1 with epoch 2 behind two facts: it proposed `7.1 claim a x` in round 1.
+const PROPOSED: [u8; 71] = [
+    2, 0, 1, 0, 0, 0, 0, 0, 0, 0, 2, 0, 0, 0, 0, 0, 0, 0, 2, 0, 0, 0, 1, 0, 0, 0, 0, 2, 0, 0, 0, 1,
+    0, 0, 0, 0, 0, 0, 0, 7, 0, 0, 0, 0, 0, 0, 0, 1, 1, 1, 0x61, 1, 0x78, 1, 0, 0, 0, 7, 0, 0, 0, 0,
+    0, 0, 0, 1, 1, 1, 0x61, 1, 0x78,
+];
+
+#[test]
+fn a_transfer_is_spelled_in_19_bytes(rt: HostRuntime) -> Result<(), Fail> {
+    let command = Command {
+        request: RequestNo { client: 7, seq: 2 },
+        op: Op::Transfer(Name::new(b"a")?, 9),
+    };
+    let mut bytes = Vec::new(rt.alloc());
+    put_command(&mut bytes, &command)?;
+    assert_eq!(rt;
+        bytes.as_slice(),
+        [0, 0, 0, 7, 0, 0, 0, 0, 0, 0, 0, 2, 4, 1, 0x61, 0, 0, 0, 9].as_slice()
+    );
+    let mut reader = Reader::new(&bytes);
+    let read = read_command(&mut reader).ok().ok_or("a command")?;
+    assert!(rt; read.is_same(&command));
+    assert_eq!(rt; reader.left(), 0);
+    Ok(())
+}
+
+#[test]
+fn a_fact_is_read_as_it_was_written(rt: HostRuntime) -> Result<(), Fail> {
+    let command = Command {
+        request: RequestNo { client: 7, seq: 1 },
+        op: Op::Claim(Name::new(b"a")?, Value::new(b"x")?),
+    };
+    let instance = Instance::new(0).ok_or("an instance")?;
+    let estimate = Estimate::new(Round::new(1).ok_or("a round")?, 0, command).ok_or("an estimate")?;
+    let bytes = encode_fact(rt.alloc(), &Fact::Enter(instance, estimate))?;
+    assert_eq!(rt;
+        bytes.as_slice(),
+        [
+            1, 0, 0, 0, 0, 0, 0, 0, 1, 0, 0, 0, 0, 0, 0, 0, 7, 0, 0, 0, 0, 0, 0, 0, 1, 1, 1, 0x61,
+            1, 0x78
+        ]
+        .as_slice()
+    );
+    assert!(rt; matches!(decode_fact(&bytes), Ok(Fact::Enter(_, _))));
+    // A stamp that is not below its round.
+    let mut bent = bytes;
+    assert_eq!(rt; bent.len(), 30);
+    bent[12] = 1;
+    assert!(rt; matches!(decode_fact(&bent), Err(Refusal::Malformed(9))));
+    Ok(())
+}
+
+#[test]
+fn each_byte_of_a_group_at_each_value(rt: HostRuntime) -> Result<(), Fail> {
+    let mut bytes = DECIDED;
+    for place in 0..32 {
+        let kept = bytes[place];
+        for value in 0..=255u8 {
+            bytes[place] = value;
+            match decode_group(rt.alloc(), &bytes) {
+                Ok(group) => {
+                    assert_eq!(rt;
+                        encode_group(rt.alloc(), &group)?.as_slice(),
+                        bytes.as_slice()
+                    );
+                }
+                Err(e) => assert!(rt; matches!(e, Refusal::Malformed(_))),
+            }
+        }
+        bytes[place] = kept;
+        assert!(rt;
+            matches!(
+                decode_group(rt.alloc(), &bytes[..place]),
+                Err(Refusal::Malformed(_))
+            )
+        );
+    }
+    Ok(())
+}
+
+#[test]
+fn faults_of_a_group(rt: HostRuntime) -> Result<(), Fail> {
+    let faults: [(usize, u8, u64); 9] = [
+        (9, 0, 8),
+        (9, 65, 8),
+        (10, 5, 10),
+        (11, 255, 11),
+        (27, 5, 27),
+        (28, 0, 28),
+        (29, 0x41, 29),
+        (30, 65, 30),
+        (30, 2, 31),
+    ];
+    for (place, value, offset) in faults {
+        let mut bytes = DECIDED;
+        assert!(rt; place < 32);
+        bytes[place] = value;
+        match decode_group(rt.alloc(), &bytes) {
+            Err(Refusal::Malformed(found)) => assert_eq!(rt; found, offset),
+            _ => assert!(rt; false),
+        }
+    }
+    let longer = [DECIDED.as_slice(), [0].as_slice()].concat(rt.alloc())?;
+    assert!(rt;
+        matches!(
+            decode_group(rt.alloc(), &longer),
+            Err(Refusal::Malformed(32))
+        )
+    );
+    assert!(rt; matches!(decode_group(rt.alloc(), &[]), Err(Refusal::Malformed(0))));
+    Ok(())
+}
+
+#[test]
+fn snapshots(rt: HostRuntime) -> Result<(), Fail> {
+    let node = NodeId::at(0).ok_or("a node")?;
+    let made = Snapshot::new(
+        Nodes::new(1)?,
+        node,
+        1,
+        0,
+        Promise::new(Vec::new(rt.alloc())),
+    )
+    .ok()
+    .ok_or("a snapshot")?;
+    assert_eq!(rt;
+        encode_snapshot(rt.alloc(), &made)?.as_slice(),
+        EMPTY.as_slice()
+    );
+    let read = decode_snapshot(rt.alloc(), &PROPOSED)?;
+    assert_eq!(rt; read.epoch(), 2);
+    assert_eq!(rt; read.next(), 2);
+    assert_eq!(rt; read.promise().entries().len(), 1);
+    assert_eq!(rt;
+        encode_snapshot(rt.alloc(), &read)?.as_slice(),
+        PROPOSED.as_slice()
+    );
+    // Version, node and count, epoch 0, entries before the first fact, kind, round 0, stamp above the round, flag.
+    let faults: [(usize, u8, u64); 9] = [
+        (0, 1, 0),
+        (1, 1, 2),
+        (2, 8, 2),
+        (10, 0, 3),
+        (18, 0, 19),
+        (27, 3, 27),
+        (31, 0, 28),
+        (35, 2, 32),
+        (53, 2, 53),
+    ];
+    for (place, value, offset) in faults {
+        let mut bytes = PROPOSED;
+        assert!(rt; place < 71);
+        bytes[place] = value;
+        match decode_snapshot(rt.alloc(), &bytes) {
+            Err(Refusal::Malformed(found)) => assert_eq!(rt; found, offset),
+            _ => assert!(rt; false),
+        }
+    }
+    Ok(())
+}

@@ -1,0 +1,17 @@
+-- The size of an empty snapshot.
+use Rattle.std.proofs.Common.{◌≡◌, ℕ, ◌<◌, List, [], length, arith, ap, length-append}
+use Rattle.std.specs.List.{flat_map}
+use Rattle.rr_types.specs.declared.promise.Entry.{Entry}
+use Rattle.rr_frame.specs.Snapshots.{Snapped}
+use Rattle.rr_frame.specs.SnapshotFormat.{snapshot_bytes, entry_bytes, owner_bytes, contents_bytes}
+use Rattle.rr_frame.proofs.FieldLaws.{length-number_bytes}
+
+pub length-snapshot_bytes : (s : Snapped) → s.entries ≡ [] → length (snapshot_bytes s) ≡ 23
+unfolding snapshot_bytes owner_bytes contents_bytes
+length-snapshot_bytes s e =
+    let nothing : length (flat_map entry_bytes s.entries) ≡ 0 = ap (λ (es : List Entry). length (flat_map entry_bytes es)) e in
+    simp (length-append, length-number_bytes) (omega (arith, nothing))
+
+-- so it fits the length of a frame
+pub snapshot_fits : (s : Snapped) (bytes : List ℕ) → bytes ≡ snapshot_bytes s → s.entries ≡ [] → length bytes < 4294967296
+snapshot_fits s bytes b e = let size = length-snapshot_bytes s e in let same = ap length b in omega arith

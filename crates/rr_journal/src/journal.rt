@@ -1,0 +1,177 @@
+//! A journal over an open disk: groups of facts are appended behind the last gate of the active area.
+
+ghost use Rattle.std.specs.Prelude.{◌≡◌, ◌⊎◌, ◌+◌, ◌^◌, ◌<◌, ◌≤◌, true, false, nat_lt, length, IfOk, IfErr};
+ghost use Rattle.rr_types.specs.declared.refusal.Refusal.TheVariants.{OutOfMemory, Failed, Busy, TooLarge};
+ghost use Rattle.rr_frame.specs.GroupFormat.{group_bytes};
+ghost use Rattle.rr_journal.specs.Calls.{frame_bytes};
+
+use rr_disk::{Area, Disk};
+use rr_frame::{encode_group, put_u32};
+use rr_gate::{Body, Host, Job};
+use rr_types::{Group, NodeId, Nodes, Refusal};
+use std::alloc::Global;
+
+/// The journal of a node. It lends its disk to one flush at a time.
+#[derive(Drop)]
+pub struct Journal<D: Disk> {
+    disk: D,
+    nodes: Nodes,
+    node: NodeId,
+    area: Area,
+    epoch: u64,
+    gate: u64,
+    next: u64,
+    failed: bool,
+    busy: bool,
+}
+
+impl<D: Disk> Journal<D> {
+    // Of an opening that has ended: the active area, its last gate, and the number of the next fact.
+    pub(crate) fn new(
+        disk: D,
+        nodes: Nodes,
+        node: NodeId,
+        area: Area,
+        epoch: u64,
+        gate: u64,
+        next: u64,
+    ) -> Journal<D>
+        ensures { result ≡ record { disk = disk; nodes = nodes; node = node; area = area; epoch = epoch; gate = gate; next = next; failed = false; busy = false } }
+    {
+        Journal {
+            disk,
+            nodes,
+            node,
+            area,
+            epoch,
+            gate,
+            next,
+            failed: false,
+            busy: false,
+        }
+    }
+
+    /// The number of the next fact behind the synced groups.
+    pub fn facts(&self) -> u64
+        ensures { result ≡ self.now.next }
+    {
+        self.next
+    }
+
+    /// The disk, which then has to be opened again.
+    pub fn into_disk(self) -> D
+        ensures { result ≡ self.disk }
+    {
+        let Journal {
+            disk,
+            nodes: _,
+            node: _,
+            area: _,
+            epoch: _,
+            gate: _,
+            next: _,
+            failed: _,
+            busy: _,
+        } = self;
+        disk
+    }
+
+    /// Begins to flush a group: the job will append its frame behind the last gate. A refused group is handed
+    /// back, and the journal is unchanged.
+    /// Errors: `Failed` after a device failure, `Busy` while a job runs, `TooLarge` where the frame would pass
+    /// byte 4,294,967,295 of the area, `OutOfMemory`.
+    pub fn begin(&mut self, alloc: Global, group: Group) -> Result<Job<Body>, (Refusal, Group)>
+        ensures ok { IfOk result (λ job. (self.old.failed ≡ false) × (self.old.busy ≡ false)
+            × (self.old.gate + 6 + length (group_bytes group) < 2 ^ 32) × (self.new ≡ record self.old { busy = true })
+            × (job ≡ record { nodes = self.old.nodes; node = self.old.node; area = self.old.area; gate = self.old.gate; body = frame_bytes (group_bytes group); group = group })) }
+        ensures refused { IfErr result (λ r. (r.1 ≡ group) × (self.new ≡ self.old)) }
+        ensures cause { IfErr result (λ r. (r.0 ≡ OutOfMemory) ⊎ ((r.0 ≡ Failed) × (self.old.failed ≡ true)) ⊎ ((r.0 ≡ Busy) × (self.old.busy ≡ true))
+            ⊎ ((r.0 ≡ TooLarge) × (2 ^ 32 ≤ self.old.gate + 6 + length (group_bytes group)))) }
+    {
+        if self.failed {
+            return Err((Refusal::Failed, group));
+        }
+        if self.busy {
+            return Err((Refusal::Busy, group));
+        }
+        let payload = match encode_group(alloc, &group) {
+            Ok(payload) => payload,
+            Err(_) => return Err((Refusal::OutOfMemory, group)),
+        };
+        if !fits(self.gate, payload.len()) {
+            return Err((Refusal::TooLarge, group));
+        }
+        match frame(alloc, payload) {
+            Ok(body) => {
+                self.busy = true;
+                Ok(Job::new(self.nodes, self.node, self.area, self.gate, body, group))
+            }
+            Err(refusal) => Err((refusal, group)),
+        }
+    }
+}
+
+/// Whether a frame with a payload of so many bytes ends below byte 4,294,967,296 of an area.
+fn fits(gate: u64, payload: usize) -> bool
+    ensures { result ≡ nat_lt (gate + 6 + payload) (2 ^ 32) }
+{
+    gate <= 0xFFFF_FFFF && payload as u64 <= 0xFFFF_FFFF && gate + 6 + payload as u64 <= 0xFFFF_FFFF
+}
+
+/// What stands behind a frame's gate: length, payload, a closed next gate.
+pub(crate) fn frame(alloc: Global, payload: Vec<u8>) -> Result<Vec<u8>, Refusal>
+    requires { length payload.items < 2 ^ 32 }
+    ensures ok { IfOk result (λ body. body.items ≡ frame_bytes payload.items) }
+    ensures err { IfErr result (λ e. e ≡ OutOfMemory) }
+{
+    let mut body = Vec::new(alloc);
+    put_u32(&mut body, payload.len() as u32)?;
+    body.extend_from_slice(&payload)?;
+    body.push(0)?;
+    Ok(body)
+}
+
+impl<D: Disk> Host for Journal<D> {
+    ghost use Rattle.std.specs.Prelude.{true, refl};
+    ghost use Rattle.rr_journal.specs.Journals.{Holds};
+
+    type Disk = D;
+
+    ghost disk = { λ j. j.disk };
+
+    ghost with_disk = { λ j d. record j { disk = d } };
+
+    ghost failed = { λ j. j.failed };
+
+    ghost once_failed = { λ j. record j { failed = true } };
+
+    ghost once_ended = { λ j gate next. record j { gate = gate; next = next; busy = false } };
+
+    ghost holds = { Holds };
+
+    ghost has_given = { λ j d. refl };
+
+    ghost fails_not = { λ j d. refl };
+
+    ghost failure_noted = { λ j. (refl, refl) };
+
+    ghost end_noted = { λ j gate next. (refl, refl) };
+
+    fn lend(&mut self) -> &mut D {
+        &mut self.disk
+    }
+
+    fn has_failed(&self) -> bool {
+        self.failed
+    }
+
+    fn note_failure(&mut self) {
+        self.failed = true;
+    }
+
+    fn note_end(&mut self, gate: u64, next: u64) {
+        self.gate = gate;
+        self.next = next;
+        self.busy = false;
+    }
+}

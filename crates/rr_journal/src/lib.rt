@@ -1,0 +1,17 @@
+//! The journal of a node: its facts on a disk, in groups behind a snapshot. An opening reads what a crash left, or
+//! formats a fresh disk; a flush appends a group.
+#![tactic(auto)]
+
+mod content;
+mod image;
+mod journal;
+mod opening;
+mod promised;
+
+pub use content::Content;
+pub use image::{Image, read_image};
+pub use journal::Journal;
+pub use opening::{Opening, Progress};
+
+#[cfg(test)]
+mod tests;

@@ -1,0 +1,226 @@
+//! The opening of a journal, one device call a step.
+
+ghost use Rattle.std.specs.Prelude.{◌≡◌, [], Ok, Err, OnOk, IfOk, IfErr};
+ghost use Rattle.rr_types.specs.declared.refusal.Refusal.TheVariants.{OutOfMemory};
+ghost use Rattle.rr_frame.specs.SnapshotFormat.{snapshot_bytes};
+ghost use Rattle.rr_journal.specs.Calls.{must_close, frame_bytes};
+ghost use Rattle.rr_journal.specs.Image.{found};
+ghost use Rattle.rr_journal.specs.Openings.{Done, Refused, due_call, after_found, after_opening_call};
+ghost use Rattle.rr_journal.specs.Phases.{phase_of, Follows};
+ghost use Rattle.rr_journal.specs.OpeningSteps.{Steps};
+
+use crate::image::{Image, read_image};
+use crate::journal::{Journal, frame};
+use rr_disk::{Area, Disk};
+use rr_frame::{Snapshot, encode_snapshot};
+use rr_types::{NodeId, Nodes, Promise, Refusal};
+use std::alloc::Global;
+
+/// The place of the last gate of a freshly formatted area: behind a snapshot of 23 bytes.
+const FIRST_GATE: u64 = 28;
+
+/// An open gate.
+const OPEN_GATE: u8 = 0xA5;
+
+/// How far an opening has come: the device call that is due.
+#[derive(Debug, Drop)]
+enum Phase {
+    Settling,
+    ReadingFirst,
+    ReadingSecond(Vec<u8>),
+    /// No area is formatted; the first gate is closed before anything stands behind it.
+    Closing(Vec<u8>),
+    SettlingClosed(Vec<u8>),
+    WritingBody(Vec<u8>),
+    SettlingBody,
+    OpeningGate,
+    SettlingGate,
+}
+
+/// An opening of a node's disk: it syncs, reads both areas, and formats the first where neither is formatted.
+#[derive(Drop)]
+pub struct Opening<D: Disk> {
+    disk: D,
+    nodes: Nodes,
+    node: NodeId,
+    phase: Phase,
+}
+
+/// What a step of an opening gives.
+pub enum Progress<D: Disk> {
+    /// More device calls are due.
+    More(Opening<D>),
+    /// The journal, the promise of the facts that it holds, and the number of the next fact.
+    Done(Journal<D>, Promise, u64),
+}
+
+impl<D: Disk> Opening<D> {
+    /// Begins an opening. No device call is made yet.
+    pub fn start(nodes: Nodes, node: NodeId, disk: D) -> Opening<D>
+        ensures { result.disk ≡ disk }
+    {
+        Opening {
+            disk,
+            nodes,
+            node,
+            phase: Phase::Settling,
+        }
+    }
+
+    /// Gives the opening up, and the disk back.
+    pub fn into_disk(self) -> D
+        ensures { result ≡ self.disk }
+    {
+        let Opening {
+            disk,
+            nodes: _,
+            node: _,
+            phase: _,
+        } = self;
+        disk
+    }
+
+    /// Makes the next device call. A refused opening hands its disk back.
+    /// Errors: `OutOfMemory`, `Device`, `Damaged`.
+    pub fn step(self, alloc: Global) -> Result<Progress<D>, (Refusal, D)> {
+        let Opening {
+            mut disk,
+            nodes,
+            node,
+            phase,
+        } = self;
+        let called = call(alloc, &mut disk, &phase);
+        match called {
+            Err(refusal) => Err((refusal, disk)),
+            Ok(read) => match go_on(alloc, nodes, node, phase, read) {
+                Err(refusal) => Err((refusal, disk)),
+                Ok(Next::Phase(phase)) => Ok(Progress::More(Opening {
+                    disk,
+                    nodes,
+                    node,
+                    phase,
+                })),
+                Ok(Next::Open(area, epoch, gate, promise, next)) => Ok(Progress::Done(
+                    Journal::new(disk, nodes, node, area, epoch, gate, next),
+                    promise,
+                    next,
+                )),
+            },
+        }
+    }
+}
+
+/// What comes behind a device call.
+#[derive(Debug, Drop)]
+enum Next {
+    Phase(Phase),
+    Open(Area, u64, u64, Promise, u64),
+}
+
+/// Makes the device call that is due; a read gives its bytes.
+fn call<D: Disk>(alloc: Global, disk: &mut D, phase: &Phase) -> Result<Vec<u8>, Refusal>
+    ensures done { IfOk result (λ v. Done D.read_gives D.write_gives D.sync_gives (due_call (phase_of phase.now)) disk.old v disk.new) }
+    ensures refused { IfErr result (λ e. Refused D.read_gives D.write_gives D.sync_gives (due_call (phase_of phase.now)) disk.old e disk.new) }
+{
+    match phase {
+        Phase::ReadingFirst => disk.read(alloc, Area::First, 0, u64::MAX),
+        Phase::ReadingSecond(_) => disk.read(alloc, Area::Second, 0, u64::MAX),
+        Phase::Closing(_) => done(alloc, disk.write_at(Area::First, 0, &[0])),
+        Phase::WritingBody(body) => done(alloc, disk.write_at(Area::First, 1, body)),
+        Phase::OpeningGate => done(alloc, disk.write_at(Area::First, 0, &[OPEN_GATE])),
+        Phase::Settling | Phase::SettlingClosed(_) | Phase::SettlingBody | Phase::SettlingGate =>
+            done(alloc, disk.sync()),
+    }
+}
+
+fn done(alloc: Global, called: Result<(), Refusal>) -> Result<Vec<u8>, Refusal>
+    ensures ok { OnOk result (called ≡ Ok tt) }
+    ensures err { IfErr result (λ e. called ≡ Err e) }
+{
+    match called {
+        Ok(()) => Ok(Vec::new(alloc)),
+        Err(refusal) => Err(refusal),
+    }
+}
+
+/// What comes behind a device call that succeeded.
+fn go_on(
+    alloc: Global,
+    nodes: Nodes,
+    node: NodeId,
+    phase: Phase,
+    read: Vec<u8>,
+) -> Result<Next, Refusal>
+    ensures { Follows result (after_opening_call nodes node read.items (phase_of phase)) }
+{
+    match phase {
+        Phase::Settling => Ok(Next::Phase(Phase::ReadingFirst)),
+        Phase::ReadingFirst => Ok(Next::Phase(Phase::ReadingSecond(read))),
+        Phase::ReadingSecond(first) => with_areas(alloc, nodes, node, &first, &read),
+        Phase::Closing(body) => Ok(Next::Phase(Phase::SettlingClosed(body))),
+        Phase::SettlingClosed(body) => Ok(Next::Phase(Phase::WritingBody(body))),
+        Phase::WritingBody(_) => Ok(Next::Phase(Phase::SettlingBody)),
+        Phase::SettlingBody => Ok(Next::Phase(Phase::OpeningGate)),
+        Phase::OpeningGate => Ok(Next::Phase(Phase::SettlingGate)),
+        Phase::SettlingGate => Ok(Next::Open(
+            Area::First,
+            1,
+            FIRST_GATE,
+            Promise::new(Vec::new(alloc)),
+            0,
+        )),
+    }
+}
+
+/// Both areas are read: the disk is open, or it has to be formatted.
+fn with_areas(
+    alloc: Global,
+    nodes: Nodes,
+    node: NodeId,
+    first: &[u8],
+    second: &[u8],
+) -> Result<Next, Refusal>
+    ensures { Follows result (after_found nodes node first.now (found nodes node first.now second.now)) }
+{
+    match read_image(alloc, nodes, node, first, second) {
+        Err(refusal) => Err(refusal),
+        Ok(Image::Active(area, content)) => {
+            let epoch = content.epoch();
+            let gate = content.gate();
+            let number = content.next();
+            Ok(Next::Open(area, epoch, gate, content.into_promise(), number))
+        }
+        Ok(Image::Unformatted) => {
+            let body = first_body(alloc, nodes, node)?;
+            if must_close(first) {
+                Ok(Next::Phase(Phase::Closing(body)))
+            } else {
+                Ok(Next::Phase(Phase::WritingBody(body)))
+            }
+        }
+    }
+}
+
+/// An area that is empty or looks formatted is closed first.
+fn must_close(area: &[u8]) -> bool
+    ensures { result ≡ must_close area.now }
+{
+    match area {
+        [] => true,
+        [gate, ..] => *gate == OPEN_GATE,
+    }
+}
+
+/// The frame of an empty snapshot of epoch 1, behind its gate.
+fn first_body(alloc: Global, nodes: Nodes, node: NodeId) -> Result<Vec<u8>, Refusal>
+    ensures ok { IfOk result (λ body. body.items ≡ frame_bytes (snapshot_bytes (record { node = node; nodes = nodes; epoch = 1; next = 0; entries = [] }))) }
+    ensures err { IfErr result (λ e. e ≡ OutOfMemory) }
+{
+    match Snapshot::new(nodes, node, 1, 0, Promise::new(Vec::new(alloc))) {
+        Ok(snapshot) => {
+            let payload = encode_snapshot(alloc, &snapshot)?;
+            frame(alloc, payload)
+        }
+        Err(_) => Err(Refusal::OutOfMemory),
+    }
+}

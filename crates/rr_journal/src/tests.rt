@@ -1,0 +1,105 @@
+//! Openings of one area, with each answer by hand.
+
+use super::*;
+use rr_disk::Area;
+use rr_types::{NodeId, Nodes, Refusal};
+use std::alloc::Global;
+
+/// Area 0 of node 0 of 1 behind four facts: it entered round 1 of instance 0 with `7.1 claim a x`, proposed
+/// it, adopted it and decided. The gates stand at 0, 28, 73, 114, 155 and 192.
+const AREA: [u8; 193] = [
+    0xA5, 0, 0, 0, 0x17, 2, 0, 1, 0, 0, 0, 0, 0, 0, 0, 1, 0, 0, 0, 0, 0, 0, 0, 0, 0, 0, 0, 0, 0xA5,
+    0, 0, 0, 0x28, 0, 0, 0, 0, 0, 0, 0, 0, 0, 1, 1, 0, 0, 0, 0, 0, 0, 0, 1, 0, 0, 0, 0, 0, 0, 0, 7,
+    0, 0, 0, 0, 0, 0, 0, 1, 1, 1, 0x61, 1, 0x78, 0xA5, 0, 0, 0, 0x24, 0, 0, 0, 0, 0, 0, 0, 1, 0, 1,
+    2, 0, 0, 0, 0, 0, 0, 0, 1, 0, 0, 0, 7, 0, 0, 0, 0, 0, 0, 0, 1, 1, 1, 0x61, 1, 0x78, 0xA5, 0, 0,
+    0, 0x24, 0, 0, 0, 0, 0, 0, 0, 2, 0, 1, 3, 0, 0, 0, 0, 0, 0, 0, 1, 0, 0, 0, 7, 0, 0, 0, 0, 0, 0,
+    0, 1, 1, 1, 0x61, 1, 0x78, 0xA5, 0, 0, 0, 0x20, 0, 0, 0, 0, 0, 0, 0, 3, 0, 1, 4, 0, 0, 0, 0, 0,
+    0, 0, 7, 0, 0, 0, 0, 0, 0, 0, 1, 1, 1, 0x61, 1, 0x78, 0,
+];
+
+fn opened(alloc: Global, first: &[u8], second: &[u8]) -> Result<Image, Refusal> {
+    let nodes = Nodes::new(1)?;
+    let node = NodeId::new(nodes, 0).ok_or(Refusal::BadNodes)?;
+    read_image(alloc, nodes, node, first, second)
+}
+
+/// The number of facts and the place of the last gate of area 0, where it is active.
+fn facts(alloc: Global, first: &[u8]) -> Option<(u64, u64)> {
+    match opened(alloc, first, &[]) {
+        Ok(Image::Active(Area::First, content)) => Some((content.next(), content.gate())),
+        _ => None,
+    }
+}
+
+fn is_damaged(alloc: Global, first: &[u8], offset: u64) -> bool {
+    match opened(alloc, first, &[]) {
+        Err(
+            Refusal::Damaged {
+                area,
+                offset: found,
+            },
+        ) => area == 0 && found == offset,
+        _ => false,
+    }
+}
+
+#[test]
+fn areas_cut_short(rt: HostRuntime) {
+    assert_eq!(rt; facts(rt.alloc(), &AREA), Some((4, 192)));
+    assert!(rt; is_damaged(rt.alloc(), &AREA[..155], 114));
+    for length in 156..193 {
+        assert!(rt; is_damaged(rt.alloc(), &AREA[..length], 155));
+    }
+}
+
+#[test]
+fn areas_with_one_byte_changed(rt: HostRuntime) {
+    let damaged: [(usize, u8, u64); 4] = [(159, 33, 155), (167, 4, 155), (170, 5, 155), (6, 2, 0)];
+    for (place, value, offset) in damaged {
+        let mut area = AREA;
+        assert!(rt; place < 193);
+        area[place] = value;
+        assert!(rt; is_damaged(rt.alloc(), &area, offset));
+    }
+    let mut area = AREA;
+    area[28] = 0xA4;
+    assert_eq!(rt; facts(rt.alloc(), &area), Some((0, 28)));
+    let mut area = AREA;
+    area[0] = 0;
+    assert!(rt; matches!(opened(rt.alloc(), &area, &[]), Ok(Image::Unformatted)));
+    let mut area = AREA;
+    area[155] = 0;
+    for length in 156..194 {
+        assert_eq!(rt; facts(rt.alloc(), &area[..length]), Some((3, 155)));
+    }
+}
+
+#[test]
+fn two_areas(rt: HostRuntime) {
+    // Two formatted areas of one epoch; an area of a later epoch, of which the other's first frame alone counts.
+    assert!(rt;
+        matches!(
+            opened(rt.alloc(), &AREA, &AREA),
+            Err(Refusal::Damaged { area: 1, offset: 0 })
+        )
+    );
+    let mut later = AREA;
+    later[15] = 2;
+    match opened(rt.alloc(), &AREA[..100], &later) {
+        Ok(Image::Active(Area::Second, content)) => assert_eq!(rt; content.epoch(), 2),
+        _ => assert!(rt; false),
+    }
+    later[6] = 1;
+    assert!(rt;
+        matches!(
+            opened(rt.alloc(), &AREA, &later),
+            Err(Refusal::Damaged { area: 1, offset: 0 })
+        )
+    );
+    assert!(rt;
+        matches!(
+            opened(rt.alloc(), &later, &later),
+            Err(Refusal::Damaged { area: 0, offset: 0 })
+        )
+    );
+}

@@ -1,0 +1,17 @@
+use Rattle.rr_model.proofs.NodeRuns.{enters_alone, waits_alone, decides_alone, leaves_alone, acknowledges_alone}
+use Rattle.rr_model.proofs.examples_of_nodes.Goals as goal
+
+pub returns-clause-it_enters_the_first_round : goal.returns-clause-it_enters_the_first_round
+returns-clause-it_enters_the_first_round c = enters_alone
+
+pub returns-clause-its_estimate_waits : goal.returns-clause-its_estimate_waits
+returns-clause-its_estimate_waits c = waits_alone
+
+pub returns-clause-it_goes_through_the_phases : goal.returns-clause-it_goes_through_the_phases
+returns-clause-it_goes_through_the_phases c = decides_alone
+
+pub returns-clause-its_estimate_leaves_once_marked : goal.returns-clause-its_estimate_leaves_once_marked
+returns-clause-its_estimate_leaves_once_marked c = leaves_alone
+
+pub returns-clause-it_acknowledges_once_marked : goal.returns-clause-it_acknowledges_once_marked
+returns-clause-it_acknowledges_once_marked c = acknowledges_alone

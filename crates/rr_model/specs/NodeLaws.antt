@@ -1,0 +1,160 @@
+use Rattle.std.specs.Prelude.{◌≡◌, ℕ, ◌+◌, ◌<◌, ◌==◌, if◌then◌else◌, List, [], ◌∷◌, ◌++◌, length, take, drop, Some, is_none}
+use Rattle.std.specs.Option.{option_map_or}
+use Rattle.std.specs.List.{Contains}
+use Rattle.rr_types.specs.declared.command.RequestNo.{RequestNo}
+use Rattle.rr_types.specs.declared.command.Reply.{Reply}
+use Rattle.rr_types.specs.declared.fact.Fact.{Fact}
+use Rattle.rr_types.specs.declared.message.Body.{Body}
+use Rattle.rr_types.specs.declared.message.Body.TheVariants.{Estimate, Proposal, Ack, Decision, Request, Nack, Beat, Suspects, Ask}
+use Rattle.rr_types.specs.declared.message.Message.{Message}
+use Rattle.rr_types.specs.Registry.{reply_of}
+use Rattle.rr_types.specs.Facts.{promise_of}
+use Rattle.rr_model.specs.Heard.{Heard}
+use Rattle.rr_model.specs.Lawful.{IsLawful, IsBacked}
+use Rattle.rr_model.specs.World as world
+use Rattle.rr_model.specs.World.{nothing_heard, hear_message, hear_command, IsOfSubmitted}
+use Rattle.rr_model.specs.NodeState.{NodeState, Owed, decided_prefix}
+use Rattle.rr_model.specs.NodeStep.{Input, Submit, Suspect, Tick, Advance, Hear, node_step, group_taken, group_put_back, marked_running, message_left, next_leaving, next_acknowledged, acknowledged, started}
+
+-- the facts are lawful for node p of n one after another, behind those before them, after what it heard
+abbrev pub AreLawful : ℕ → ℕ → List Fact → Heard → List Fact → Type 0
+AreLawful n p before h [] = Unit {0}
+AreLawful n p before h (f ∷ fs) = IsLawful n p before h f × AreLawful n p (before ++ f ∷ []) h fs
+
+-- what happens at a node that is up
+pub data NodeEvent : Type 0 where
+  -- an input comes in
+  Told : Input → NodeEvent
+  -- its oldest staged facts become the running group, where none runs
+  Grouped : NodeEvent
+  -- the running group is staged again
+  PutBack : NodeEvent
+  -- the running group is marked
+  Marked : NodeEvent
+  -- an owed message leaves
+  Left : NodeEvent
+  -- a request is acknowledged
+  Answered : NodeEvent
+
+-- the node after an event
+abbrev pub after_event : NodeState → NodeEvent → NodeState
+after_event s (Told input) = node_step input s
+after_event s Grouped = if is_none s.running then group_taken s else s
+after_event s PutBack = group_put_back s
+after_event s Marked = marked_running s
+after_event s Left = message_left s
+after_event s Answered = acknowledged s
+
+-- what node p has heard, this input included: messages for it, and commands submitted to it
+abbrev pub heard_input : ℕ → Heard → Input → Heard
+heard_input p h (Submit c) = hear_command h c
+heard_input p h (Suspect set) = h
+heard_input p h Tick = h
+heard_input p h Advance = h
+heard_input p h (Hear m) = if m.to == p then hear_message h m else h
+
+-- what node p has heard once this event has happened
+abbrev pub heard_after : ℕ → Heard → NodeEvent → Heard
+heard_after p h (Told input) = heard_input p h input
+heard_after p h Grouped = h
+heard_after p h PutBack = h
+heard_after p h Marked = h
+heard_after p h Left = h
+heard_after p h Answered = h
+
+-- a message that is heard is from one of the n nodes
+abbrev pub IsInputOfNodes : ℕ → Input → Type 0
+IsInputOfNodes n (Submit c) = Unit {0}
+IsInputOfNodes n (Suspect set) = Unit {0}
+IsInputOfNodes n Tick = Unit {0}
+IsInputOfNodes n Advance = Unit {0}
+IsInputOfNodes n (Hear m) = m.from < n
+
+-- the same of an event
+abbrev pub IsEventOfNodes : ℕ → NodeEvent → Type 0
+IsEventOfNodes n (Told input) = IsInputOfNodes n input
+IsEventOfNodes n Grouped = Unit {0}
+IsEventOfNodes n PutBack = Unit {0}
+IsEventOfNodes n Marked = Unit {0}
+IsEventOfNodes n Left = Unit {0}
+IsEventOfNodes n Answered = Unit {0}
+
+-- the same of all events of a list
+abbrev pub AreEventsOfNodes : ℕ → List NodeEvent → Type 0
+AreEventsOfNodes n [] = Unit {0}
+AreEventsOfNodes n (e ∷ es) = IsEventOfNodes n e × AreEventsOfNodes n es
+
+-- the facts that an input stages: those behind what was staged
+abbrev pub facts_of_input : NodeState → Input → List Fact
+facts_of_input s input = drop (length s.staged) (node_step input s).staged
+
+-- the facts that an event stages; only inputs stage any
+abbrev pub facts_of_event : NodeState → NodeEvent → List Fact
+facts_of_event s (Told input) = facts_of_input s input
+facts_of_event s Grouped = []
+facts_of_event s PutBack = []
+facts_of_event s Marked = []
+facts_of_event s Left = []
+facts_of_event s Answered = []
+
+-- an input stages its facts behind those staged before it
+abbrev pub StagesBehind : NodeState → NodeEvent → Type 0
+StagesBehind s (Told input) = (node_step input s).staged ≡ s.staged ++ facts_of_input s input
+StagesBehind s Grouped = Unit {0}
+StagesBehind s PutBack = Unit {0}
+StagesBehind s Marked = Unit {0}
+StagesBehind s Left = Unit {0}
+StagesBehind s Answered = Unit {0}
+
+-- node p of n, which has these facts and heard this, stages only lawful facts in these events: each is lawful behind
+-- the facts before it, after what was heard up to its event
+abbrev pub StagesOnlyLawful : ℕ → ℕ → List Fact → Heard → NodeState → List NodeEvent → Type 0
+StagesOnlyLawful n p facts h s [] = Unit {0}
+StagesOnlyLawful n p facts h s (e ∷ es) =
+    StagesBehind s e
+    × AreLawful n p facts (heard_after p h e) (facts_of_event s e)
+    × StagesOnlyLawful n p (facts ++ facts_of_event s e) (heard_after p h e) (after_event s e) es
+
+-- node p of n, opened over these facts, stages only lawful facts, whatever happens at it
+abbrev pub IsLawfulNode : ℕ → ℕ → List Fact → Type 0
+IsLawfulNode n p facts = (es : List NodeEvent) → AreEventsOfNodes n es → StagesOnlyLawful n p facts nothing_heard (started n p (promise_of facts) (length facts)) es
+
+-- an acknowledgement is of a round above 0, as all rounds of messages are
+abbrev pub HasRound : Body → Type 0
+HasRound (Estimate i e) = Unit {0}
+HasRound (Proposal i r v) = Unit {0}
+HasRound (Ack i r) = 0 < r
+HasRound (Decision i v) = Unit {0}
+HasRound (Request c) = Unit {0}
+HasRound (Nack i r) = Unit {0}
+HasRound Beat = Unit {0}
+HasRound (Suspects set) = Unit {0}
+HasRound (Ask i) = Unit {0}
+
+-- the facts of a node that are marked: as many as their number says
+abbrev pub marked_facts : List Fact → NodeState → List Fact
+marked_facts facts s = take s.marked_end facts
+
+-- what holds of node p at a moment, with these facts and after what it heard
+pub record IsTruthful (p : ℕ) (facts : List Fact) (h : Heard) (s : NodeState) : Type 0 where
+  -- its facts are the marked ones, those of the running group and those staged behind it
+  pub together : facts ≡ marked_facts facts s ++ (option_map_or (λ group. group) s.running [] ++ s.staged)
+  -- it knows the promise of the marked ones
+  pub promise : s.marked ≡ promise_of (marked_facts facts s)
+  -- an owed message that waits for fact number k is backed by the facts up to that one
+  pub owed : (o : Owed) (k : ℕ) → Contains s.owed o → o.backing ≡ Some k → HasRound o.message.body → IsBacked o.message.body (take (k + 1) facts)
+  -- a message that leaves is its own, backed by marked facts, and a request in it was submitted here
+  pub leaving : (m : Message) → next_leaving s ≡ Some m → HasRound m.body → (m.from ≡ p) × IsBacked m.body (marked_facts facts s) × IsOfSubmitted m.body h.commands
+  -- its decided prefix is that of the marked facts
+  pub prefix : decided_prefix s ≡ world.decided_prefix (marked_facts facts s)
+  -- a request that it acknowledges has a reply by that prefix
+  pub answering : (q : RequestNo) → next_acknowledged s ≡ Some q → (reply : Reply) × (reply_of (world.decided_prefix (marked_facts facts s)) q ≡ Some reply)
+
+-- that holds at each moment of these events
+abbrev pub StaysTruthful : ℕ → List Fact → Heard → NodeState → List NodeEvent → Type 0
+StaysTruthful p facts h s [] = IsTruthful p facts h s
+StaysTruthful p facts h s (e ∷ es) = IsTruthful p facts h s × StaysTruthful p (facts ++ facts_of_event s e) (heard_after p h e) (after_event s e) es
+
+-- node p of n, opened over these facts, says only what its facts back, whatever happens at it
+abbrev pub IsTruthfulNode : ℕ → ℕ → List Fact → Type 0
+IsTruthfulNode n p facts = (es : List NodeEvent) → AreEventsOfNodes n es → StaysTruthful p facts nothing_heard (started n p (promise_of facts) (length facts)) es

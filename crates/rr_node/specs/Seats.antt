@@ -1,0 +1,239 @@
+-- A node with its disk, from its first restart on: what each event does to it.
+use Rattle.std.specs.Prelude.{◌≡◌, ◌⊎◌, ℕ, ◌+◌, ◌-◌, ◌^◌, Bool, true, false, ◌&&◌, not, ◌==◌, nat_lt, nat_le, if◌then◌else◌, List, [], ◌∷◌, length, Option, None, Some, is_none, Result, Ok, Err}
+use Rattle.std.specs.Option.{option_map_or}
+use Rattle.rr_types.specs.declared.command.Command.{Command}
+use Rattle.rr_types.specs.declared.command.RequestNo.{RequestNo}
+use Rattle.rr_types.specs.declared.command.Reply.{Reply}
+use Rattle.rr_types.specs.declared.fact.Fact.{Fact}
+use Rattle.rr_types.specs.declared.message.Message.{Message}
+use Rattle.rr_types.specs.declared.promise.Entry.{Entry}
+use Rattle.rr_types.specs.declared.refusal.Refusal.{Refusal}
+use Rattle.rr_types.specs.declared.refusal.Refusal.TheVariants as because
+use Rattle.rr_types.specs.Groups.{Grouped}
+use Rattle.rr_types.specs.Registry.{Bindings, registry_of, reply_of}
+use Rattle.rr_model.specs.NodeState.{NodeState, decided_prefix, decided_from}
+use Rattle.rr_model.specs.NodeStep.{Input, Submit, Hear, Suspect, Tick, Advance, node_step, refusal_of, group_taken, group_put_back, marked_running, running_group, next_leaving, message_left, next_acknowledged, acknowledged, started}
+use Rattle.rr_disk.specs.declared.area.Area.{Area}
+use Rattle.rr_disk.specs.Areas.{Areas, extent_of, read_of, at_rest}
+use Rattle.rr_disk.specs.Crash.{crash_images, restarted}
+use Rattle.rr_frame.specs.GroupFormat.{group_bytes}
+use Rattle.rr_journal.specs.Image.{Content}
+use Rattle.rr_node.specs.declared.event.NodeEvent.{NodeEvent}
+use Rattle.rr_node.specs.declared.event.NodeEvent.TheVariants as at
+use Rattle.rr_node.specs.declared.event.Outcome.{Outcome}
+use Rattle.rr_node.specs.declared.event.Outcome.TheVariants.{Quiet, Left, Replied, Opened}
+use Rattle.rr_journal.specs.Calls.{Call, Read, Write, Sync, after_call, after_starved, append_calls}
+use Rattle.rr_journal.specs.Openings.{Phase, Settling, After, Goes, Opens, Stops, due_call, after_opening_call}
+
+-- a flush: none, the device calls that are left of it, or a synced group that isn't marked yet
+pub data Flush : Type 0 where
+  Resting : Flush
+  Writing : List Call → Flush
+  Flushed : Flush
+
+-- where the journal of an open disk appends: the active area, its last gate
+pub record Journaled : Type 0 where
+  pub area : Area
+  pub gate : ℕ
+
+-- what a node does
+pub data Doing : Type 0 where
+  Stopped : Doing
+  Faulted : Doing
+  Opening : Phase → Doing
+  Serving : NodeState → Journaled → Flush → Doing
+
+-- a node and its disk: how many nodes there are, which it is, what it does, and what its areas hold
+pub record Seat : Type 0 where
+  pub nodes : ℕ
+  pub node : ℕ
+  pub doing : Doing
+  pub areas : Areas
+
+-- node p of n, which was never started, over an empty disk
+abbrev pub new_seat : ℕ → ℕ → Seat
+new_seat n p = record { nodes = n; node = p; doing = Stopped; areas = record { first = at_rest []; second = at_rest [] } }
+
+-- what an event answers, and the node after it
+abbrev pub Answer : Type 0
+Answer = Result Outcome Refusal × Seat
+
+-- nothing changes
+abbrev pub refuse : Refusal → Seat → Answer
+refuse e seat = (Err e, seat)
+
+-- the node goes on doing this
+abbrev pub goes_on : Outcome → Doing → Seat → Answer
+goes_on outcome doing seat = (Ok outcome, record seat { doing = doing })
+
+-- the opening ends: the node serves with the promise and the number of the content of the active area
+abbrev pub serves : Area → Content → Seat → Answer
+serves area c seat =
+    let s = started seat.nodes seat.node c.promise c.next in
+    goes_on (Opened c.next (length (decided_prefix s)) (registry_of (decided_prefix s))) (Serving s (record { area = area; gate = c.gate }) Resting) seat
+
+-- the bytes that a device call reads
+abbrev pub read_by : Call → Areas → List ℕ
+read_by (Read area) both = read_of 0 (2 ^ 64 - 1) (extent_of both area)
+read_by (Write area at bytes) both = []
+read_by Sync both = []
+
+-- the opening goes on, ends, or stops
+abbrev pub opens_on : Seat → After → Answer
+opens_on seat (Goes phase) = goes_on Quiet (Opening phase) seat
+opens_on seat (Opens area c) = serves area c seat
+opens_on seat (Stops e) = (Err e, record seat { doing = Stopped })
+
+-- the next device call of an opening
+abbrev pub open_on : Seat → Phase → Answer
+open_on seat phase =
+    opens_on (record seat { areas = after_call (due_call phase) seat.areas }) (after_opening_call seat.nodes seat.node (read_by (due_call phase) seat.areas) phase)
+
+-- where the journal appends once the running group is on the disk
+abbrev pub journal_behind : NodeState → Journaled → Journaled
+journal_behind s journal = record journal { gate = journal.gate + 5 + option_map_or (λ g. length (group_bytes g)) (running_group s) 0 }
+
+-- the next device call of a flush
+abbrev pub flush_on : NodeState → Journaled → Seat → Flush → Answer
+flush_on s journal seat Resting = (Ok Quiet, seat)
+flush_on s journal seat Flushed = (Ok Quiet, seat)
+flush_on s journal seat (Writing []) = (Ok Quiet, seat)
+flush_on s journal seat (Writing (call ∷ [])) = goes_on Quiet (Serving s (journal_behind s journal) Flushed) (record seat { areas = after_call call seat.areas })
+flush_on s journal seat (Writing (call ∷ next ∷ calls)) = goes_on Quiet (Serving s journal (Writing (next ∷ calls))) (record seat { areas = after_call call seat.areas })
+
+-- an input to a serving node
+abbrev pub told : Input → NodeState → Journaled → Flush → Seat → Answer
+told input s journal flush seat = option_map_or (λ e. refuse e seat) (refusal_of input s) (goes_on Quiet (Serving (node_step input s) journal flush) seat)
+
+-- the group that a flush would write
+abbrev pub payload_of : NodeState → List ℕ
+payload_of s = option_map_or group_bytes (running_group (group_taken s)) []
+
+-- a flush begins, unless one runs or the area would pass 4,294,967,295 bytes; without staged facts nothing happens
+abbrev pub take_up : NodeState → Journaled → Flush → Seat → Answer
+take_up s journal Resting seat =
+    if is_empty s.staged then (Ok Quiet, seat)
+    else (if nat_lt (journal.gate + 6 + length (payload_of s)) (2 ^ 32)
+    then goes_on Quiet (Serving (group_taken s) journal (Writing (append_calls journal.area journal.gate (payload_of s)))) seat
+    else refuse because.TooLarge seat)
+  where
+    is_empty : List Fact → Bool
+    is_empty [] = true
+    is_empty (f ∷ fs) = false
+take_up s journal (Writing calls) seat = refuse because.Busy seat
+take_up s journal Flushed seat = refuse because.Busy seat
+
+-- the synced group is marked
+abbrev pub mark_up : NodeState → Journaled → Flush → Seat → Answer
+mark_up s journal Resting seat = (Ok Quiet, seat)
+mark_up s journal (Writing calls) seat = (Ok Quiet, seat)
+mark_up s journal Flushed seat = goes_on Quiet (Serving (marked_running s) journal Resting) seat
+
+-- the oldest message that may leave goes
+abbrev pub send_off : NodeState → Journaled → Flush → Seat → Answer
+send_off s journal flush seat = option_map_or (λ m. goes_on (Left m) (Serving (message_left s) journal flush) seat) (next_leaving s) (Ok Quiet, seat)
+
+-- the oldest decided request that waits is acknowledged
+abbrev pub reply_off : NodeState → Journaled → Flush → Seat → Answer
+reply_off s journal flush seat = option_map_or (λ q. option_map_or (λ reply. goes_on (Replied q reply) (Serving (acknowledged s) journal flush) seat) (reply_of (decided_prefix s) q) (Ok Quiet, seat)) (next_acknowledged s) (Ok Quiet, seat)
+
+-- an event at a serving node
+abbrev pub serve : NodeState → Journaled → Flush → Seat → NodeEvent → Answer
+serve s journal flush seat (at.Submit c) = told (Submit c) s journal flush seat
+serve s journal flush seat (at.Hear m) = told (Hear m) s journal flush seat
+serve s journal flush seat (at.Suspect set) = told (Suspect set) s journal flush seat
+serve s journal flush seat at.Tick = told Tick s journal flush seat
+serve s journal flush seat at.Advance = told Advance s journal flush seat
+serve s journal flush seat at.Take = take_up s journal flush seat
+serve s journal flush seat at.Device = flush_on s journal seat flush
+serve s journal flush seat at.Mark = mark_up s journal flush seat
+serve s journal flush seat at.Send = send_off s journal flush seat
+serve s journal flush seat at.Acknowledge = reply_off s journal flush seat
+serve s journal flush seat at.Restart = refuse because.Busy seat
+
+-- an event at a node that is down, opening or failed
+abbrev pub wait : NodeEvent → Seat → Refusal → Answer
+wait at.Restart seat e = goes_on Quiet (Opening Settling) seat
+wait (at.Submit c) seat e = refuse e seat
+wait (at.Hear m) seat e = refuse e seat
+wait (at.Suspect set) seat e = refuse e seat
+wait at.Tick seat e = refuse e seat
+wait at.Advance seat e = refuse e seat
+wait at.Take seat e = refuse e seat
+wait at.Device seat e = refuse e seat
+wait at.Mark seat e = refuse e seat
+wait at.Send seat e = refuse e seat
+wait at.Acknowledge seat e = refuse e seat
+
+-- a node that opens makes its device calls and refuses the rest
+abbrev pub await_opening : Phase → Seat → NodeEvent → Answer
+await_opening phase seat at.Device = open_on seat phase
+await_opening phase seat at.Restart = refuse because.Busy seat
+await_opening phase seat (at.Submit c) = refuse because.Down seat
+await_opening phase seat (at.Hear m) = refuse because.Down seat
+await_opening phase seat (at.Suspect set) = refuse because.Down seat
+await_opening phase seat at.Tick = refuse because.Down seat
+await_opening phase seat at.Advance = refuse because.Down seat
+await_opening phase seat at.Take = refuse because.Down seat
+await_opening phase seat at.Mark = refuse because.Down seat
+await_opening phase seat at.Send = refuse because.Down seat
+await_opening phase seat at.Acknowledge = refuse because.Down seat
+
+-- an event at a node, by what the node does
+abbrev pub by_doing : NodeEvent → Seat → Doing → Answer
+by_doing event seat Stopped = wait event seat because.Down
+by_doing event seat Faulted = wait event seat because.Failed
+by_doing event seat (Opening phase) = await_opening phase seat event
+by_doing event seat (Serving s journal flush) = serve s journal flush seat event
+
+-- after a crash the areas hold what the cuts and the fill leave, and the node is down
+abbrev pub crashed : ℕ → ℕ → List ℕ → Seat → Seat
+crashed cut_first cut_second fill seat = record seat { doing = Stopped; areas = restarted (crash_images cut_first cut_second fill seat.areas) }
+
+-- what an event answers, and the node after it, where memory is there
+abbrev pub seat_step : NodeEvent → Seat → Answer
+seat_step event seat = by_doing event seat seat.doing
+
+-- a device call of an opening for which memory was wanting, or what comes behind it: a write fails, and else the opening ends
+abbrev pub starve_opening : Call → Seat → Answer
+starve_opening (Read area) seat = (Err because.OutOfMemory, record seat { doing = Stopped })
+starve_opening (Write area at bytes) seat = (Err because.Device, record seat { doing = Faulted; areas = after_starved (Write area at bytes) seat.areas })
+starve_opening Sync seat = (Err because.OutOfMemory, record seat { doing = Stopped; areas = after_call Sync seat.areas })
+
+-- a device call of a flush for which memory was wanting: a write fails
+abbrev pub starve_call : Call → Seat → Answer
+starve_call (Read area) seat = refuse because.OutOfMemory seat
+starve_call (Write area at bytes) seat = (Err because.Device, record seat { doing = Faulted; areas = after_starved (Write area at bytes) seat.areas })
+starve_call Sync seat = refuse because.OutOfMemory seat
+
+-- a flush for which memory was wanting
+abbrev pub starve_flush : Flush → Seat → Answer
+starve_flush Resting seat = refuse because.OutOfMemory seat
+starve_flush Flushed seat = refuse because.OutOfMemory seat
+starve_flush (Writing []) seat = refuse because.OutOfMemory seat
+starve_flush (Writing (call ∷ calls)) seat = starve_call call seat
+
+-- the next device call of a node, where memory is wanting for it
+abbrev pub starve_device : Doing → Seat → Answer
+starve_device Stopped seat = refuse because.OutOfMemory seat
+starve_device Faulted seat = refuse because.OutOfMemory seat
+starve_device (Opening phase) seat = starve_opening (due_call phase) seat
+starve_device (Serving s journal flush) seat = starve_flush flush seat
+
+-- an event where memory is wanting for it: a device call fails or ends an opening, any other call changes nothing
+abbrev pub starve : NodeEvent → Seat → Answer
+starve (at.Submit c) seat = refuse because.OutOfMemory seat
+starve (at.Hear m) seat = refuse because.OutOfMemory seat
+starve (at.Suspect set) seat = refuse because.OutOfMemory seat
+starve at.Tick seat = refuse because.OutOfMemory seat
+starve at.Advance seat = refuse because.OutOfMemory seat
+starve at.Take seat = refuse because.OutOfMemory seat
+starve at.Device seat = starve_device seat.doing seat
+starve at.Mark seat = refuse because.OutOfMemory seat
+starve at.Send seat = refuse because.OutOfMemory seat
+starve at.Acknowledge seat = refuse because.OutOfMemory seat
+starve at.Restart seat = refuse because.OutOfMemory seat
+
+-- what a node may answer to an event, and be after it: what it answers where memory is there, or where it is wanting
+abbrev pub Gives : NodeEvent → Seat → Result Outcome Refusal → Seat → Type 0
+Gives event seat result next = ((result, next) ≡ seat_step event seat) ⊎ ((result, next) ≡ starve event seat)

@@ -1,0 +1,115 @@
+//! What a node does: nothing, an opening, or its service.
+
+use crate::event::{BoundNames, NodeEvent, Outcome};
+use crate::serving::Serving;
+use rr_core::Core;
+use rr_disk::MemDisk;
+use rr_journal::{Journal, Opening, Progress};
+use rr_types::{NodeId, Nodes, Promise, Refusal};
+use std::alloc::Global;
+
+/// What a node does. Each way has the disk.
+pub enum Doing {
+    /// It is down.
+    Stopped(MemDisk),
+    /// A device call of it has failed.
+    Faulted(MemDisk),
+    /// It opens its disk.
+    Opening(Opening<MemDisk>),
+    /// It is up.
+    Serving(Serving),
+}
+
+impl Doing {
+    /// The disk; whatever ran over it is given up.
+    pub fn into_disk(self) -> MemDisk {
+        match self {
+            Doing::Stopped(disk) => disk,
+            Doing::Faulted(disk) => disk,
+            Doing::Opening(opening) => opening.into_disk(),
+            Doing::Serving(serving) => serving.into_disk(),
+        }
+    }
+}
+
+/// An event at a node, and what it does afterwards.
+pub fn go_on(
+    alloc: Global,
+    nodes: Nodes,
+    node: NodeId,
+    doing: Doing,
+    event: NodeEvent,
+) -> (Doing, Result<Outcome, Refusal>) {
+    match doing {
+        Doing::Stopped(disk) => match event {
+            NodeEvent::Restart => (
+                Doing::Opening(Opening::start(nodes, node, disk)),
+                Ok(Outcome::Quiet),
+            ),
+            _ => (Doing::Stopped(disk), Err(Refusal::Down)),
+        },
+        Doing::Faulted(disk) => match event {
+            NodeEvent::Restart => (
+                Doing::Opening(Opening::start(nodes, node, disk)),
+                Ok(Outcome::Quiet),
+            ),
+            _ => (Doing::Faulted(disk), Err(Refusal::Failed)),
+        },
+        Doing::Opening(opening) => match event {
+            NodeEvent::Device => open_on(alloc, nodes, node, opening),
+            NodeEvent::Restart => (Doing::Opening(opening), Err(Refusal::Busy)),
+            _ => (Doing::Opening(opening), Err(Refusal::Down)),
+        },
+        Doing::Serving(serving) => serving.go_on(alloc, event),
+    }
+}
+
+/// The next device call of an opening.
+fn open_on(
+    alloc: Global,
+    nodes: Nodes,
+    node: NodeId,
+    opening: Opening<MemDisk>,
+) -> (Doing, Result<Outcome, Refusal>) {
+    match opening.step(alloc) {
+        Ok(Progress::More(opening)) => (Doing::Opening(opening), Ok(Outcome::Quiet)),
+        Ok(Progress::Done(journal, promise, number)) => serve(
+            alloc, nodes, node, journal, promise, number,
+        ),
+        Err((Refusal::Device, disk)) => (Doing::Faulted(disk), Err(Refusal::Device)),
+        Err((refusal, disk)) => (Doing::Stopped(disk), Err(refusal)),
+    }
+}
+
+/// The node starts to serve.
+fn serve(
+    alloc: Global,
+    nodes: Nodes,
+    node: NodeId,
+    journal: Journal<MemDisk>,
+    promise: Promise,
+    number: u64,
+) -> (Doing, Result<Outcome, Refusal>) {
+    match Core::start_at(alloc, nodes, node, promise, number) {
+        Ok(core) => match bound_names(alloc, &core) {
+            Ok(names) => {
+                let decided = core.decided_count() as u64;
+                (
+                    Doing::Serving(Serving::new(core, journal)),
+                    Ok(Outcome::Opened(number, decided, names)),
+                )
+            }
+            Err(refusal) => (Doing::Stopped(journal.into_disk()), Err(refusal)),
+        },
+        Err(refusal) => (Doing::Stopped(journal.into_disk()), Err(refusal)),
+    }
+}
+
+/// The registry of the node's decided prefix.
+fn bound_names(alloc: Global, core: &Core) -> Result<BoundNames, Refusal> {
+    let mut entries = Vec::new(alloc);
+    for entry in core.bindings() {
+        entries.push(entry)?;
+    }
+    Ok(BoundNames::new(entries))
+}

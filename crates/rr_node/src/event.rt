@@ -1,0 +1,78 @@
+//! What happens at a node, and what comes of it.
+
+ghost use Rattle.std.specs.Prelude.{◌≡◌};
+
+use rr_registry::Holding;
+use rr_types::{Command, Message, Name, NodeSet, Reply, RequestNo};
+use std::marker::Model;
+
+/// What happens at a node, but for crashes.
+#[derive(Clone, Copy, Debug)]
+pub enum NodeEvent {
+    /// A client asks for a command.
+    Submit(Command),
+    /// A message arrives.
+    Hear(Message),
+    /// The node's suspects become these.
+    Suspect(NodeSet),
+    /// The heartbeat detector ticks.
+    Tick,
+    /// The lowest open instance that has a round enters the next one.
+    Advance,
+    /// A flush of the staged facts begins.
+    Take,
+    /// The next device call of the opening or the flush is made.
+    Device,
+    /// The synced group is marked.
+    Mark,
+    /// The oldest message that may leave leaves.
+    Send,
+    /// The oldest decided request that waits is acknowledged.
+    Acknowledge,
+    /// The node is started again.
+    Restart,
+}
+
+/// The bound names in byte order, with their holdings.
+#[derive(Debug, Drop)]
+pub struct BoundNames {
+    entries: Vec<(Name, Holding)>,
+}
+
+impl Model for BoundNames {
+    ghost use Rattle.rr_types.specs.Registry.{Bindings};
+
+    ghost Value = { Bindings };
+
+    ghost view = { λ b. b.entries.items };
+}
+
+impl BoundNames {
+    /// These entries. It keeps the vector.
+    pub fn new(entries: Vec<(Name, Holding)>) -> BoundNames
+        ensures { result ≡ entries.items }
+    {
+        BoundNames { entries }
+    }
+
+    /// The names in byte order, with their holdings.
+    pub fn entries(&self) -> &[(Name, Holding)]
+        ensures { result.now ≡ self.now }
+    {
+        let entries = &self.entries;
+        entries
+    }
+}
+
+/// What comes of an event.
+#[derive(Debug, Drop)]
+pub enum Outcome {
+    /// Nothing that a report tells of.
+    Quiet,
+    /// A message left for the wire.
+    Left(Message),
+    /// A request was acknowledged with this reply.
+    Replied(RequestNo, Reply),
+    /// An opening ended: the number of the next fact, the length of the decided prefix, and its registry.
+    Opened(u64, u64, BoundNames),
+}

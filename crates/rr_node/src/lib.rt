@@ -1,0 +1,10 @@
+//! A node over its disk, one event at a time: at most one device call an event.
+#![tactic(auto)]
+
+mod doing;
+mod event;
+mod node;
+mod serving;
+
+pub use event::{BoundNames, NodeEvent, Outcome};
+pub use node::Node;

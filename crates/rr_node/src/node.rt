@@ -1,0 +1,57 @@
+//! A node over its disk.
+
+use crate::doing::{Doing, go_on};
+use crate::event::{NodeEvent, Outcome};
+use rr_disk::MemDisk;
+use rr_types::{NodeId, Nodes, Refusal};
+use std::alloc::Global;
+use std::mem;
+
+/// A node of so many, over a disk in memory. At first it is down.
+pub struct Node {
+    nodes: Nodes,
+    node: NodeId,
+    doing: Doing,
+}
+
+impl Drop for Node {
+    // Whatever runs is given up.
+    fn drop(self) {
+        let Node {
+            nodes: _,
+            node: _,
+            doing,
+        } = self;
+        drop(doing.into_disk());
+    }
+}
+
+impl Node {
+    /// A node that was never started, over an empty disk.
+    pub fn new(alloc: Global, nodes: Nodes, node: NodeId) -> Node {
+        Node {
+            nodes,
+            node,
+            doing: Doing::Stopped(MemDisk::new(alloc)),
+        }
+    }
+
+    /// An event at the node, with at most one device call. A refused event leaves the node as it was, but for a
+    /// device call: an opening that is refused ends, and a node whose flush fails has failed.
+    /// Errors: `OutOfMemory`, `Device`, `Damaged`, `Failed`, `Down`, `ListFull`, `RoundsOut`, `Busy`, `TooLarge`.
+    pub fn step(&mut self, alloc: Global, event: NodeEvent) -> Result<Outcome, Refusal> {
+        let doing = mem::replace(&mut self.doing, Doing::Stopped(MemDisk::new(alloc)));
+        let (doing, answer) = go_on(alloc, self.nodes, self.node, doing, event);
+        drop(mem::replace(&mut self.doing, doing).into_disk());
+        answer
+    }
+
+    /// The node crashes: each area keeps a length from its safe to its present one, the cut where that lies between,
+    /// and loose bytes take those of the fill in turn.
+    pub fn crash(&mut self, alloc: Global, cut_first: u32, cut_second: u32, fill: &[u8]) {
+        let doing = mem::replace(&mut self.doing, Doing::Stopped(MemDisk::new(alloc)));
+        let mut disk = doing.into_disk();
+        disk.crash(u64::from(cut_first), u64::from(cut_second), fill);
+        drop(mem::replace(&mut self.doing, Doing::Stopped(disk)).into_disk());
+    }
+}

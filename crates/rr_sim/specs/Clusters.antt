@@ -1,0 +1,129 @@
+-- A cluster of nodes with their disks, and what each event of a schedule does to it.
+use Rattle.std.specs.Prelude.{◌≡◌, ◌⊎◌, ℕ, ◌+◌, Bool, true, false, ◌&&◌, ◌==◌, nat_lt, if◌then◌else◌, List, [], ◌∷◌, ◌++◌, length, map, slice_get, slice_set, Option, None, Some, Result, Ok, Err}
+use Rattle.std.specs.Option.{option_map_or}
+use Rattle.std.specs.List.{range_with_len}
+use Rattle.rr_types.specs.declared.message.Message.{Message}
+use Rattle.rr_types.specs.declared.refusal.Refusal.{Refusal}
+use Rattle.rr_types.specs.Registry.{Bindings}
+use Rattle.rr_model.specs.Sound.{IsDecidedList}
+use Rattle.rr_node.specs.declared.event.NodeEvent.{NodeEvent}
+use Rattle.rr_node.specs.declared.event.NodeEvent.TheVariants as node
+use Rattle.rr_node.specs.declared.event.Outcome.{Outcome}
+use Rattle.rr_node.specs.declared.event.Outcome.TheVariants.{Quiet, Left, Replied, Opened}
+use Rattle.rr_node.specs.Seats.{Seat, new_seat, Answer, seat_step, starve, crashed}
+use Rattle.rr_text.specs.declared.event.Event.{Event}
+use Rattle.rr_text.specs.declared.event.Event.TheVariants.{Submit, Hear, Suspect, Tick, Advance, Take, Device, Fail, Mark, Send, Ack, Snap, Crash, Restart}
+use Rattle.rr_text.specs.declared.report.Binding.{Binding}
+use Rattle.rr_text.specs.declared.report.ReportLine.{ReportLine}
+use Rattle.rr_text.specs.declared.report.ReportLine.TheVariants as line
+use Rattle.rr_text.specs.Reported.{Reported}
+use Rattle.rr_text.specs.Scheduled.{node_of}
+
+-- the nodes with their disks, by their numbers; all messages ever sent; the report so far
+pub record Cluster : Type 0 where
+  pub seats : List Seat
+  pub wire : List Message
+  pub lines : List ReportLine
+
+-- n nodes, all down, over empty disks
+abbrev pub new_cluster : ℕ → Cluster
+new_cluster n = record { seats = map (new_seat n) (range_with_len 0 n); wire = []; lines = [] }
+
+-- the bound names of a registry, as a report shows them
+abbrev pub shown : Bindings → List Binding
+shown bindings = map (λ b. record { name = b.0; owner = b.1.owner; value = b.1.value }) bindings
+
+-- what a report says of an answer of node p to the event of a line, where so many messages were sent before
+abbrev pub note_of : ℕ → ℕ → ℕ → Result Outcome Refusal → List ReportLine
+note_of p at sent (Ok Quiet) = []
+note_of p at sent (Ok (Left m)) = line.Send sent m ∷ []
+note_of p at sent (Ok (Replied q reply)) = line.Ack p q reply ∷ []
+note_of p at sent (Ok (Opened facts decided bindings)) = line.Restart p facts decided (shown bindings) ∷ []
+note_of p at sent (Err e) = line.Refuse at e ∷ []
+
+-- the messages that an answer puts on the wire
+abbrev pub sent_by : Result Outcome Refusal → List Message
+sent_by (Ok Quiet) = []
+sent_by (Ok (Left m)) = m ∷ []
+sent_by (Ok (Replied q reply)) = []
+sent_by (Ok (Opened facts decided bindings)) = []
+sent_by (Err e) = []
+
+-- the cluster after an answer of node p to the event of a line
+abbrev pub with_answer : ℕ → ℕ → Cluster → Answer → Cluster
+with_answer p at c answer = record {
+  seats = slice_set c.seats p answer.1;
+  wire = c.wire ++ sent_by answer.0;
+  lines = c.lines ++ note_of p at (length c.wire) answer.0;
+}
+
+-- an event at node p; starved says that memory was wanting for it
+abbrev pub at_node : ℕ → ℕ → Bool → NodeEvent → Cluster → Cluster
+at_node p at starved event c = option_map_or (λ seat. with_answer p at c (if starved then starve event seat else seat_step event seat)) (slice_get c.seats p) c
+
+-- hearing a message of the wire; one that isn't there or is for another node does nothing
+abbrev pub hear_at : ℕ → ℕ → Bool → ℕ → Cluster → Cluster
+hear_at p at starved k c = option_map_or (λ m. if m.to == p then at_node p at starved (node.Hear m) c else c) (slice_get c.wire k) c
+
+-- a crash of node p
+abbrev pub crash_at : ℕ → ℕ → ℕ → List ℕ → Cluster → Cluster
+crash_at p cut_first cut_second fill c = option_map_or (λ seat. record c { seats = slice_set c.seats p (crashed cut_first cut_second fill seat) }) (slice_get c.seats p) c
+
+-- whether the simulator serves an event yet
+abbrev pub is_served : Event → Bool
+is_served (Submit p c) = true
+is_served (Hear p k) = true
+is_served (Suspect p set) = true
+is_served (Tick p) = true
+is_served (Advance p) = true
+is_served (Take p) = true
+is_served (Device p) = true
+is_served (Fail p fill) = false
+is_served (Mark p) = true
+is_served (Send p) = true
+is_served (Ack p) = true
+is_served (Snap p) = false
+is_served (Crash p a b fill) = true
+is_served (Restart p) = true
+
+-- what the event of a line does to a cluster
+abbrev pub event_step : ℕ → Bool → Event → Cluster → Cluster
+event_step at starved (Submit p v) c = at_node p at starved (node.Submit v) c
+event_step at starved (Hear p k) c = hear_at p at starved k c
+event_step at starved (Suspect p set) c = at_node p at starved (node.Suspect set) c
+event_step at starved (Tick p) c = at_node p at starved node.Tick c
+event_step at starved (Advance p) c = at_node p at starved node.Advance c
+event_step at starved (Take p) c = at_node p at starved node.Take c
+event_step at starved (Device p) c = at_node p at starved node.Device c
+event_step at starved (Fail p fill) c = c
+event_step at starved (Mark p) c = at_node p at starved node.Mark c
+event_step at starved (Send p) c = at_node p at starved node.Send c
+event_step at starved (Ack p) c = at_node p at starved node.Acknowledge c
+event_step at starved (Snap p) c = c
+event_step at starved (Crash p a b fill) c = crash_at p a b fill c
+event_step at starved (Restart p) c = at_node p at starved node.Restart c
+
+-- the fact holds where memory was there, or where it was wanting
+abbrev pub IsEither : (Bool → Type 0) → Type 0
+IsEither Holds = Holds false ⊎ Holds true
+
+-- the cluster after an event of a line: what the event does, or what it does where memory was wanting for it
+abbrev pub Steps : ℕ → Event → Cluster → Cluster → Type 0
+Steps at event old new = IsEither (λ starved. new ≡ event_step at starved event old)
+
+-- the events, of which the first stands on this line, lead from one cluster to another
+abbrev pub Leads : ℕ → List Event → Cluster → Cluster → Type 0
+Leads at [] old new = new ≡ old
+Leads at (e ∷ es) old new = (next : Cluster) × Steps at e old next × Leads (at + 1) es next new
+
+-- the report of a schedule run of n nodes: the events lead to its lines, and it ends with the decided list of the wire
+pub record IsReportOf (n : ℕ) (events : List Event) (report : Reported) : Type 0 where
+  pub at_the_end : Cluster
+  pub leads : Leads 2 events (new_cluster n) at_the_end
+  pub lines : report.lines ≡ at_the_end.lines
+  pub decided : IsDecidedList n at_the_end.wire report.decided
+
+-- the line of the first of these events that can't be run among n nodes: it isn't served, or its node isn't there
+abbrev pub first_fault : ℕ → ℕ → List Event → Option ℕ
+first_fault n at [] = None
+first_fault n at (e ∷ es) = if is_served e && nat_lt (node_of e) n then first_fault n (at + 1) es else Some at

@@ -1,0 +1,241 @@
+//! A cluster of nodes with their disks: what each event of a schedule does to it.
+
+ghost use Rattle.std.specs.Prelude.{◌≡◌, ◌++◌, option_to_list, Ok, OnOk, IfOk, IfErr};
+ghost use Rattle.rr_sim.specs.Clusters.{shown, note_of, sent_by};
+
+use rr_node::{Node, NodeEvent, Outcome};
+use rr_registry::Holding;
+use rr_text::{Binding, BoundNames, Event, ReportLine};
+use rr_types::{Message, Name, NodeId, Nodes, Refusal};
+use std::alloc::Global;
+
+/// The nodes by their numbers, all messages ever sent, and the lines of the report so far.
+#[derive(Drop)]
+pub struct Cluster {
+    seats: Vec<Node>,
+    wire: Vec<Message>,
+    lines: Vec<ReportLine>,
+}
+
+fn binding(entry: &(Name, Holding)) -> Binding
+    ensures { result ≡ record { name = entry.now.0; owner = entry.now.1.owner; value = entry.now.1.value } }
+{
+    Binding {
+        name: entry.0,
+        owner: entry.1.owner(),
+        value: entry.1.value(),
+    }
+}
+
+/// The bound names as a report shows them.
+fn shown(alloc: Global, names: &rr_node::BoundNames) -> Result<BoundNames, Refusal>
+    ensures ok { IfOk result (λ b. b ≡ shown names.now) }
+    ensures err { IfErr result (λ e. e ≡ Refusal.OutOfMemory) }
+{
+    let entries = names.entries();
+    let mut bindings = Vec::new(alloc);
+    for entry in entries {
+        bindings.push(binding(entry))?;
+    }
+    Ok(BoundNames::new(bindings))
+}
+
+/// The message that an answer puts on the wire.
+fn message_of(answer: &Result<Outcome, Refusal>) -> Option<Message>
+    ensures { option_to_list result ≡ sent_by answer.now }
+{
+    match answer {
+        Ok(Outcome::Left(message)) => Some(*message),
+        _ => None,
+    }
+}
+
+/// What a report says of an outcome.
+fn line_of(
+    alloc: Global,
+    node: NodeId,
+    line: u64,
+    sent: u64,
+    outcome: Outcome,
+) -> Result<Option<ReportLine>, Refusal>
+    ensures ok { IfOk result (λ noted. option_to_list noted ≡ note_of node line sent (Ok outcome)) }
+    ensures err { IfErr result (λ e. e ≡ Refusal.OutOfMemory) }
+{
+    match outcome {
+        Outcome::Quiet => Ok(None),
+        Outcome::Left(message) => Ok(Some(ReportLine::Send {
+            number: sent,
+            message,
+        })),
+        Outcome::Replied(request, reply) => Ok(Some(ReportLine::Ack {
+            node,
+            request,
+            reply,
+        })),
+        Outcome::Opened(facts, decided, names) => {
+            let bindings = shown(alloc, &names)?;
+            Ok(Some(ReportLine::Restart {
+                node,
+                facts,
+                decided,
+                bindings,
+            }))
+        }
+    }
+}
+
+/// What a report says of an answer.
+fn noted(
+    alloc: Global,
+    node: NodeId,
+    line: u64,
+    sent: u64,
+    answer: Result<Outcome, Refusal>,
+) -> Result<Option<ReportLine>, Refusal>
+    ensures ok { IfOk result (λ noted. option_to_list noted ≡ note_of node line sent answer) }
+    ensures err { IfErr result (λ e. e ≡ Refusal.OutOfMemory) }
+{
+    match answer {
+        Ok(outcome) => line_of(alloc, node, line, sent, outcome),
+        Err(refusal) => Ok(Some(ReportLine::Refuse { line, refusal })),
+    }
+}
+
+fn push_some<T: Drop>(list: &mut Vec<T>, item: Option<T>) -> Result<(), Refusal>
+    ensures ok { OnOk result (list.new.items ≡ list.old.items ++ option_to_list item) }
+    ensures err { IfErr result (λ e. e ≡ Refusal.OutOfMemory) }
+{
+    if let Some(item) = item {
+        list.push(item)?;
+    }
+    Ok(())
+}
+
+impl Cluster {
+    /// Nodes that are all down, over empty disks.
+    pub fn new(alloc: Global, nodes: Nodes) -> Result<Cluster, Refusal>
+        ensures err { IfErr result (λ e. e ≡ Refusal.OutOfMemory) }
+    {
+        let mut seats = Vec::new(alloc);
+        for index in 0..nodes.count() {
+            let node = NodeId::new(nodes, index).unwrap();
+            seats.push(Node::new(alloc, nodes, node))?;
+        }
+        Ok(Cluster {
+            seats,
+            wire: Vec::new(alloc),
+            lines: Vec::new(alloc),
+        })
+    }
+
+    /// All messages ever sent.
+    pub fn wire(&self) -> &[Message] {
+        let wire = &self.wire;
+        wire
+    }
+
+    /// The lines of the report so far.
+    pub fn into_lines(self) -> Vec<ReportLine> {
+        let Cluster {
+            seats: _,
+            wire: _,
+            lines,
+        } = self;
+        lines
+    }
+
+    fn at_node(
+        &mut self,
+        alloc: Global,
+        node: NodeId,
+        line: u64,
+        event: NodeEvent,
+    ) -> Result<(), Refusal>
+        ensures err { IfErr result (λ e. e ≡ Refusal.OutOfMemory) }
+    {
+        let at = usize::from(node.index());
+        if at >= self.seats.len() {
+            return Ok(());
+        }
+        let seat = &mut self.seats[at];
+        let answer = seat.step(alloc, event);
+        let message = message_of(&answer);
+        let sent = self.wire.len() as u64;
+        let noted = noted(alloc, node, line, sent, answer)?;
+        push_some(&mut self.lines, noted)?;
+        push_some(&mut self.wire, message)
+    }
+
+    fn hear_at(
+        &mut self,
+        alloc: Global,
+        node: NodeId,
+        line: u64,
+        number: u32,
+    ) -> Result<(), Refusal>
+        ensures err { IfErr result (λ e. e ≡ Refusal.OutOfMemory) }
+    {
+        let Some(message) = self.wire.get(number as usize).copied() else {
+            return Ok(());
+        };
+        if message.to == node {
+            self.at_node(alloc, node, line, NodeEvent::Hear(message))
+        } else {
+            Ok(())
+        }
+    }
+
+    fn crash_at(
+        &mut self,
+        alloc: Global,
+        node: NodeId,
+        cut_first: u32,
+        cut_second: u32,
+        fill: &[u8],
+    ) {
+        let at = usize::from(node.index());
+        if at < self.seats.len() {
+            let seat = &mut self.seats[at];
+            seat.crash(alloc, cut_first, cut_second, fill);
+        }
+    }
+
+    /// What the event of a line does, memory aside; `OutOfMemory` where the wire or the report can't grow.
+    pub fn step(&mut self, alloc: Global, line: u64, event: &Event) -> Result<(), Refusal>
+        ensures err { IfErr result (λ e. e ≡ Refusal.OutOfMemory) }
+    {
+        match event {
+            Event::Submit { node, command } => self.at_node(
+                alloc,
+                *node,
+                line,
+                NodeEvent::Submit(*command),
+            ),
+            Event::Hear { node, message } => self.hear_at(alloc, *node, line, *message),
+            Event::Suspect { node, set } => self.at_node(
+                alloc,
+                *node,
+                line,
+                NodeEvent::Suspect(*set),
+            ),
+            Event::Tick { node } => self.at_node(alloc, *node, line, NodeEvent::Tick),
+            Event::Advance { node } => self.at_node(alloc, *node, line, NodeEvent::Advance),
+            Event::Take { node } => self.at_node(alloc, *node, line, NodeEvent::Take),
+            Event::Device { node } => self.at_node(alloc, *node, line, NodeEvent::Device),
+            Event::Mark { node } => self.at_node(alloc, *node, line, NodeEvent::Mark),
+            Event::Send { node } => self.at_node(alloc, *node, line, NodeEvent::Send),
+            Event::Ack { node } => self.at_node(alloc, *node, line, NodeEvent::Acknowledge),
+            Event::Restart { node } => self.at_node(alloc, *node, line, NodeEvent::Restart),
+            Event::Crash {
+                node,
+                cut_0,
+                cut_1,
+                fill,
+            } => {
+                self.crash_at(alloc, *node, *cut_0, *cut_1, fill.as_bytes());
+                Ok(())
+            }
+            Event::Fail { .. } | Event::Snap { .. } => Ok(()),
+        }
+    }
+}

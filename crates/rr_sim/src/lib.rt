@@ -1,0 +1,11 @@
+//! The simulator: a schedule of what happens to a cluster goes in, the report of its run comes out.
+#![tactic(auto)]
+
+mod chosen;
+mod cluster;
+mod simulator;
+
+pub use chosen::decided_list;
+pub use cluster::Cluster;
+pub use rr_text::{Binding, BoundNames, Event, Fill, MAX_EVENTS, Report, ReportLine, Schedule};
+pub use simulator::simulate;

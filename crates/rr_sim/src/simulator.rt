@@ -1,0 +1,96 @@
+//! The simulator: a schedule in, the report of its run out.
+
+ghost use Rattle.std.specs.Prelude.{◌≡◌, ◌↔◌, ◌<◌, ◌≤◌, ◌⊎◌, ℕ, length, Some, IfErr, IsErrOf};
+ghost use Rattle.rr_sim.specs.Clusters.{first_fault, is_served};
+ghost use Rattle.rr_text.specs.Scheduled.{node_of};
+
+use crate::chosen::decided_list;
+use crate::cluster::Cluster;
+use rr_text::{Event, Report, Schedule};
+use rr_types::{NodeId, Nodes, Refusal};
+use std::alloc::Global;
+
+/// Runs a schedule on `nodes` nodes that are all down at first, over empty disks, and reports what comes of it.
+/// Errors: `BadNodes` outside 1 to 7; `BadEvent` of the line of the first event that isn't served yet or whose
+/// node isn't there; `OutOfMemory` where the wire or the report can't grow.
+pub fn simulate(alloc: Global, nodes: u8, schedule: &Schedule) -> Result<Report, Refusal>
+    ensures bad_nodes { IsErrOf result Refusal.BadNodes ↔ ((nodes < 1) ⊎ (7 < nodes)) }
+    ensures bad_event { (line : ℕ) → IsErrOf result (Refusal.BadEvent line)
+        ↔ ((1 ≤ nodes) × (nodes ≤ 7) × (first_fault nodes 2 schedule.now.events ≡ Some line)) }
+    ensures else_memory { IfErr result (λ e. (e ≡ Refusal.OutOfMemory) ⊎ (e ≡ Refusal.BadNodes) ⊎ ((line : ℕ) × (e ≡ Refusal.BadEvent line))) }
+{
+    let events = schedule.events();
+    match Nodes::new(nodes) {
+        Err(refusal) => Err(refusal),
+        Ok(count) => match first_fault(count, events) {
+            Some(line) => Err(Refusal::BadEvent(line)),
+            None => run(alloc, count, events),
+        },
+    }
+}
+
+/// The line of the first event that isn't served or whose node isn't there.
+fn first_fault(nodes: Nodes, events: &[Event]) -> Option<u64>
+    requires { length events.now ≤ 1000000 }
+    ensures { result ≡ first_fault nodes 2 events.now }
+{
+    let mut line = 2u64;
+    for event in events {
+        if !(is_served(event) && node_of(event).index() < nodes.count()) {
+            return Some(line);
+        }
+        line += 1;
+    }
+    None
+}
+
+fn node_of(event: &Event) -> NodeId
+    ensures { result ≡ node_of event.now }
+{
+    match event {
+        Event::Submit { node, .. }
+        | Event::Hear { node, .. }
+        | Event::Suspect { node, .. }
+        | Event::Tick { node }
+        | Event::Advance { node }
+        | Event::Take { node }
+        | Event::Device { node }
+        | Event::Fail { node, .. }
+        | Event::Mark { node }
+        | Event::Send { node }
+        | Event::Ack { node }
+        | Event::Snap { node }
+        | Event::Crash { node, .. }
+        | Event::Restart { node } => *node,
+    }
+}
+
+fn is_served(event: &Event) -> bool
+    ensures { result ≡ is_served event.now }
+{
+    !matches!(event, Event::Fail { .. } | Event::Snap { .. })
+}
+
+/// Runs events that can all be run, and reports.
+fn run(alloc: Global, nodes: Nodes, events: &[Event]) -> Result<Report, Refusal>
+    requires { length events.now ≤ 1000000 }
+    ensures err { IfErr result (λ e. e ≡ Refusal.OutOfMemory) }
+{
+    let mut cluster = Cluster::new(alloc, nodes)?;
+    run_events(alloc, &mut cluster, events)?;
+    let decided = decided_list(alloc, nodes, cluster.wire())?;
+    Ok(Report::new(cluster.into_lines(), decided))
+}
+
+/// Runs the events in order.
+fn run_events(alloc: Global, cluster: &mut Cluster, events: &[Event]) -> Result<(), Refusal>
+    requires { length events.now ≤ 1000000 }
+    ensures err { IfErr result (λ e. e ≡ Refusal.OutOfMemory) }
+{
+    let mut line = 2u64;
+    for event in events {
+        cluster.step(alloc, line, event)?;
+        line += 1;
+    }
+    Ok(())
+}

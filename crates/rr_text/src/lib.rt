@@ -1,0 +1,21 @@
+//! The texts of schedules and reports.
+#![tactic(auto)]
+
+mod event;
+mod keyword;
+mod report;
+mod schedule;
+mod text_law;
+mod text_parse;
+mod text_read;
+mod text_report;
+mod text_schedule;
+mod text_word;
+
+pub use event::{Event, Fill};
+pub use report::{Binding, BoundNames, Report, ReportLine};
+pub use schedule::{MAX_EVENTS, Schedule};
+pub use text_law::one_fault;
+
+#[cfg(test)]
+mod tests;

@@ -1,0 +1,298 @@
+//! Reading schedules.
+
+ghost use Rattle.std.specs.Prelude.{◌≡◌, ◌+◌, ◌<◌, ◌≤◌, ◌++◌, ◌∷◌, None, Some, MatchOption, MatchResult, IfOk, IfErr, length};
+ghost use Rattle.std.specs.List.{flat_map, AllByRecursion};
+ghost use Rattle.rr_text.specs.Scheduled.{Scheduled, IsEvent, IsSchedule};
+ghost use Rattle.rr_text.specs.ScheduleTexts.{event_line, nodes_line, schedule_text, ArePrinted, IsStop, HasNoEvent, StopsAt, HasNoNodes, HasOtherNodes, IsFault};
+ghost use Rattle.rr_text.specs.Reading.{pairs_at, fill_at, first_node_at, cuts_at, fields_at, event_at, nodes_at, count_at};
+
+use crate::event::{Event, Fill};
+use crate::keyword::Keyword;
+use crate::schedule::{MAX_EVENTS, Schedule};
+use crate::text_read::{cut, hex_byte, is_number, keyword, node, set, small_number, submitted};
+use rr_types::{NodeId, Nodes, Refusal};
+use std::alloc::Global;
+
+fn pairs(alloc: Global, word: &[u8]) -> Result<Option<Vec<u8>>, Refusal>
+    ensures ok { IfOk result (λ r. MatchOption r (pairs_at word.now ≡ None) (λ v. pairs_at word.now ≡ Some v.items)) }
+    ensures err { IfErr result (λ e. e ≡ Refusal.OutOfMemory) }
+{
+    let mut bytes = Vec::with_capacity(alloc, word.len() / 2)?;
+    let mut rest = word;
+    while let [high, low, tail @ ..] = rest {
+        match hex_byte(*high, *low) {
+            Some(byte) => bytes.push(byte)?,
+            None => return Ok(None),
+        }
+        rest = tail;
+    }
+    if rest.is_empty() {
+        Ok(Some(bytes))
+    } else {
+        Ok(None)
+    }
+}
+
+fn fill(alloc: Global, word: &[u8]) -> Result<Option<Fill>, Refusal>
+    ensures ok { IfOk result (λ f. f ≡ fill_at word.now) }
+    ensures err { IfErr result (λ e. e ≡ Refusal.OutOfMemory) }
+{
+    if word.is_empty() {
+        return Ok(None);
+    }
+    if word == b"-".as_slice() {
+        return Ok(Some(Fill::new(Vec::new(alloc))));
+    }
+    match pairs(alloc, word)? {
+        Some(bytes) => Ok(Some(Fill::new(bytes))),
+        None => Ok(None),
+    }
+}
+
+fn first_node(nodes: Nodes, text: &[u8]) -> Option<(NodeId, &[u8])>
+    ensures { MatchOption result (first_node_at nodes text.now ≡ None) (λ x. first_node_at nodes text.now ≡ Some (x.0, x.1.now)) }
+{
+    match cut(text, b' ') {
+        Some((word, rest)) => match node(nodes, word) {
+            Some(node) => Some((node, rest)),
+            None => None,
+        },
+        None => None,
+    }
+}
+
+fn submit(nodes: Nodes, text: &[u8]) -> Option<Event>
+    ensures { result ≡ fields_at nodes Keyword.Submit text.now }
+{
+    let Some((node, rest)) = first_node(nodes, text) else {
+        return None;
+    };
+    let Some(command) = submitted(rest) else {
+        return None;
+    };
+    Some(Event::Submit { node, command })
+}
+
+fn hear(nodes: Nodes, text: &[u8]) -> Option<Event>
+    ensures { result ≡ fields_at nodes Keyword.Hear text.now }
+{
+    let Some((node, rest)) = first_node(nodes, text) else {
+        return None;
+    };
+    let Some(message) = small_number(rest) else {
+        return None;
+    };
+    Some(Event::Hear { node, message })
+}
+
+fn suspect(nodes: Nodes, text: &[u8]) -> Option<Event>
+    ensures { result ≡ fields_at nodes Keyword.Suspect text.now }
+{
+    let Some((node, rest)) = first_node(nodes, text) else {
+        return None;
+    };
+    let Some(set) = set(nodes, rest) else {
+        return None;
+    };
+    Some(Event::Suspect { node, set })
+}
+
+fn fail(alloc: Global, nodes: Nodes, text: &[u8]) -> Result<Option<Event>, Refusal>
+    ensures ok { IfOk result (λ e. e ≡ fields_at nodes Keyword.Fail text.now) }
+    ensures err { IfErr result (λ e. e ≡ Refusal.OutOfMemory) }
+{
+    let Some((node, rest)) = first_node(nodes, text) else {
+        return Ok(None);
+    };
+    match fill(alloc, rest)? {
+        Some(fill) => Ok(Some(Event::Fail { node, fill })),
+        None => Ok(None),
+    }
+}
+
+fn cuts(alloc: Global, text: &[u8]) -> Result<Option<(u32, u32, Fill)>, Refusal>
+    ensures ok { IfOk result (λ c. c ≡ cuts_at text.now) }
+    ensures err { IfErr result (λ e. e ≡ Refusal.OutOfMemory) }
+{
+    let Some((word, rest)) = cut(text, b' ') else {
+        return Ok(None);
+    };
+    let Some(cut_0) = small_number(word) else {
+        return Ok(None);
+    };
+    let Some((word, rest)) = cut(rest, b' ') else {
+        return Ok(None);
+    };
+    let Some(cut_1) = small_number(word) else {
+        return Ok(None);
+    };
+    match fill(alloc, rest)? {
+        Some(fill) => Ok(Some((cut_0, cut_1, fill))),
+        None => Ok(None),
+    }
+}
+
+fn crash(alloc: Global, nodes: Nodes, text: &[u8]) -> Result<Option<Event>, Refusal>
+    ensures ok { IfOk result (λ e. e ≡ fields_at nodes Keyword.Crash text.now) }
+    ensures err { IfErr result (λ e. e ≡ Refusal.OutOfMemory) }
+{
+    let Some((node, rest)) = first_node(nodes, text) else {
+        return Ok(None);
+    };
+    match cuts(alloc, rest)? {
+        Some((cut_0, cut_1, fill)) => Ok(Some(Event::Crash {
+            node,
+            cut_0,
+            cut_1,
+            fill,
+        })),
+        None => Ok(None),
+    }
+}
+
+fn fields(
+    alloc: Global,
+    nodes: Nodes,
+    keyword: Keyword,
+    text: &[u8],
+) -> Result<Option<Event>, Refusal>
+    ensures ok { IfOk result (λ e. e ≡ fields_at nodes keyword text.now) }
+    ensures err { IfErr result (λ e. e ≡ Refusal.OutOfMemory) }
+{
+    match keyword {
+        Keyword::Submit => Ok(submit(nodes, text)),
+        Keyword::Hear => Ok(hear(nodes, text)),
+        Keyword::Suspect => Ok(suspect(nodes, text)),
+        Keyword::Tick => Ok(node(nodes, text).map(|node| Event::Tick { node })),
+        Keyword::Advance => Ok(node(nodes, text).map(|node| Event::Advance { node })),
+        Keyword::Take => Ok(node(nodes, text).map(|node| Event::Take { node })),
+        Keyword::Device => Ok(node(nodes, text).map(|node| Event::Device { node })),
+        Keyword::Fail => fail(alloc, nodes, text),
+        Keyword::Mark => Ok(node(nodes, text).map(|node| Event::Mark { node })),
+        Keyword::Send => Ok(node(nodes, text).map(|node| Event::Send { node })),
+        Keyword::Ack => Ok(node(nodes, text).map(|node| Event::Ack { node })),
+        Keyword::Snap => Ok(node(nodes, text).map(|node| Event::Snap { node })),
+        Keyword::Crash => crash(alloc, nodes, text),
+        Keyword::Restart => Ok(node(nodes, text).map(|node| Event::Restart { node })),
+    }
+}
+
+fn event(alloc: Global, nodes: Nodes, text: &[u8]) -> Result<Option<Event>, Refusal>
+    ensures ok { IfOk result (λ e. e ≡ event_at nodes text.now) }
+    ensures err { IfErr result (λ e. e ≡ Refusal.OutOfMemory) }
+{
+    let Some((word, rest)) = cut(text, b' ') else {
+        return Ok(None);
+    };
+    match keyword(word) {
+        Some(keyword) => fields(alloc, nodes, keyword, rest),
+        None => Ok(None),
+    }
+}
+
+fn count_of_nodes(line: &[u8]) -> Option<&[u8]>
+    ensures { MatchOption result (count_at line.now ≡ None) (λ x. count_at line.now ≡ Some x.now) }
+{
+    match cut(line, b' ') {
+        Some((word, rest)) => {
+            if word == b"nodes".as_slice() {
+                Some(rest)
+            } else {
+                None
+            }
+        }
+        None => None,
+    }
+}
+
+fn nodes_of(word: &[u8]) -> Option<Nodes>
+    ensures { result ≡ nodes_at word.now }
+{
+    match word {
+        [digit] if *digit >= b'1' && *digit <= b'7' => Nodes::new(*digit - b'0').ok(),
+        _ => None,
+    }
+}
+
+#[tactic(auto, using(crate::proofs::FirstLine::first_ok, crate::proofs::FirstLine::first_uncut, crate::proofs::FirstLine::first_uncounted, crate::proofs::FirstLine::first_unnumbered, crate::proofs::FirstLine::first_other))]
+fn first_line(bytes: &[u8]) -> Result<(Nodes, &[u8]), Refusal>
+    ensures ok { IfOk result (λ x. bytes.now ≡ nodes_line x.0 ++ x.1.now) }
+    ensures err { IfErr result (λ e. IsFault bytes.now e) }
+{
+    let Some((line, rest)) = cut(bytes, b'\n') else {
+        return Err(Refusal::BadEvent(1));
+    };
+    let Some(word) = count_of_nodes(line) else {
+        return Err(Refusal::BadEvent(1));
+    };
+    match nodes_of(word) {
+        Some(nodes) => Ok((nodes, rest)),
+        None => {
+            if is_number(word) {
+                Err(Refusal::BadNodes)
+            } else {
+                Err(Refusal::BadEvent(1))
+            }
+        }
+    }
+}
+
+fn events(alloc: Global, nodes: Nodes, bytes: &[u8]) -> Result<Vec<Event>, Refusal>
+    ensures ok { IfOk result (λ v. ArePrinted nodes v.items bytes.now) }
+    ensures err { IfErr result (λ e. IsStop nodes bytes.now e) }
+{
+    let _count = nodes.count();
+    let mut events = Vec::new(alloc);
+    let mut rest = bytes;
+    while !rest.is_empty() {
+        let number = events.len() as u64 + 2;
+        if events.len() == MAX_EVENTS {
+            return Err(Refusal::BadEvent(number));
+        }
+        match cut(rest, b'\n') {
+            None => return Err(Refusal::BadEvent(number)),
+            Some((text, after)) => match event(alloc, nodes, text)? {
+                None => return Err(Refusal::BadEvent(number)),
+                Some(event) => {
+                    events.push(event)?;
+                    rest = after;
+                }
+            },
+        }
+    }
+    Ok(events)
+}
+
+fn schedule(alloc: Global, bytes: &[u8]) -> Result<Schedule, Refusal>
+    ensures found { IfOk result (λ s. IsSchedule s × (bytes.now ≡ schedule_text s)) }
+    ensures fault { IfErr result (λ e. IsFault bytes.now e) }
+{
+    match first_line(bytes) {
+        Err(refusal) => Err(refusal),
+        Ok((nodes, rest)) => {
+            let _count = nodes.count();
+            match events(alloc, nodes, rest) {
+                Err(refusal) => Err(refusal),
+                Ok(events) => Ok(Schedule::of_parts(nodes, events)),
+            }
+        }
+    }
+}
+
+impl Schedule {
+    /// The schedule that the bytes are the text of. Bytes that are none are `BadNodes` where their first line
+    /// names a number of nodes that isn't 1 to 7, and else `BadEvent` of the first line that has no place.
+    ///
+    /// # Errors
+    /// `OutOfMemory`, `BadNodes`, `BadEvent`.
+    pub fn parse(alloc: Global, bytes: &[u8]) -> Result<Schedule, Refusal>
+        // What is read is printed so.
+        ensures found { IfOk result (λ s. IsSchedule s × (bytes.now ≡ schedule_text s)) }
+        // What is printed so is read, unless memory runs out.
+        ensures only { (s : Scheduled) → IsSchedule s → bytes.now ≡ schedule_text s → MatchResult result (λ t. t ≡ s) (λ e. e ≡ Refusal.OutOfMemory) }
+        // Which line is at fault.
+        ensures fault { IfErr result (λ e. IsFault bytes.now e) }
+    {
+        schedule(alloc, bytes)
+    }
+}

@@ -1,0 +1,292 @@
+//! Reading the words of a schedule.
+
+ghost use Rattle.std.specs.Prelude.{true, [], unwrap_or, IfSome, ◌≡◌, ◌+◌, ◌-◌, ◌*◌, ◌<◌, ◌≤◌, ◌^◌, ◌==◌, SomeIff, nat_lt, if◌then◌else◌, IsTrue, None, Some, MatchOption, IfOk, IfErr};
+ghost use Rattle.std.specs.List.{list_all, position};
+ghost use Rattle.std.specs.Str.Parse.{digits_value};
+ghost use Rattle.rr_text.specs.Numbers.{is_digit, is_number};
+ghost use Rattle.rr_text.specs.Reading.{cut_at, number_at, small_at, node_at, name_at, filled_value_at, members_at, set_at, hex_value, hex_byte, pairs_at, fill_at, submitted_at, first_node_at, cuts_at, fields_at, event_at, target_at, keyword_at, verb_at, name_and_value, named_at, transferred_at, op_at};
+
+use crate::keyword::{Keyword, Verb};
+use rr_types::{Command, Name, NodeId, NodeSet, Nodes, Op, Refusal, RequestNo, Value};
+
+fn place_of(text: &[u8], at: u8) -> Option<usize>
+    ensures { result ≡ position (λ b. b == at) text.now }
+{
+    text.iter().position(|byte| *byte == at)
+}
+
+/// What stands before the first such byte, and behind it.
+pub fn cut(text: &[u8], at: u8) -> Option<(&[u8], &[u8])>
+    ensures { MatchOption result (cut_at at text.now ≡ None) (λ x. cut_at at text.now ≡ Some (x.0.now, x.1.now)) }
+{
+    match place_of(text, at) {
+        Some(i) => Some((&text[..i], &text[i + 1..])),
+        None => None,
+    }
+}
+
+/// Whether a word is a number in decimal, of any length, without a leading zero.
+pub fn is_number(word: &[u8]) -> bool
+    ensures { result ≡ is_number word.now }
+{
+    match word {
+        [] => false,
+        [_] => has_only_digits(word),
+        [first, _, ..] => *first != b'0' && has_only_digits(word),
+    }
+}
+
+fn has_only_digits(word: &[u8]) -> bool
+    ensures { result ≡ list_all is_digit word.now }
+{
+    word.iter().all(|byte| matches!(byte, b'0'..=b'9'))
+}
+
+fn with_digit(value: u64, digit: u8) -> Option<u64>
+    requires { 48 ≤ digit }
+    ensures { SomeIff result (value * 10 + (digit - 48) < 2 ^ 64) (value * 10 + (digit - 48)) }
+{
+    match value.checked_mul(10) {
+        Some(tens) => tens.checked_add(u64::from(digit - b'0')),
+        None => None,
+    }
+}
+
+#[tactic(auto, using(crate::proofs::NumberLemmas::digits_on, crate::proofs::NumberLemmas::digits_over, crate::proofs::NumberLemmas::digits_end))]
+fn digits_value(digits: &[u8]) -> Option<u64>
+    requires { list_all is_digit digits.now ≡ true }
+    ensures { result ≡ (if nat_lt (digits_value 10 digits.now) (2 ^ 64) then Some (digits_value 10 digits.now) else None) }
+{
+    let mut value = 0u64;
+    for digit in digits {
+        match with_digit(value, *digit) {
+            Some(more) => value = more,
+            None => return None,
+        }
+    }
+    Some(value)
+}
+
+/// The number below 2 to the 64 that a word is.
+pub fn number(word: &[u8]) -> Option<u64>
+    ensures { result ≡ number_at word.now }
+{
+    if is_number(word) {
+        digits_value(word)
+    } else {
+        None
+    }
+}
+
+/// The number below 2 to the 32 that a word is.
+pub fn small_number(word: &[u8]) -> Option<u32>
+    ensures { result ≡ small_at word.now }
+{
+    let value = number(word)?;
+    u32::try_from(value).ok()
+}
+
+/// The node that a word is.
+pub fn node(nodes: Nodes, word: &[u8]) -> Option<NodeId>
+    ensures { result ≡ node_at nodes word.now }
+{
+    match word {
+        [digit] if *digit >= b'0' => NodeId::new(nodes, *digit - b'0'),
+        _ => None,
+    }
+}
+
+fn name(word: &[u8]) -> Option<Name>
+    ensures { result ≡ name_at word.now }
+{
+    Name::new(word).ok()
+}
+
+fn filled_value(word: &[u8]) -> Option<Value>
+    ensures { result ≡ filled_value_at word.now }
+{
+    match word {
+        [] => None,
+        [_, ..] => Value::new(word).ok(),
+    }
+}
+
+fn members(first: u8, word: &[u8]) -> Option<u8>
+    requires { first ≤ 7 }
+    ensures value { result ≡ members_at first (7 - first) word.now }
+    ensures range { IfSome result (λ s. s < 2 ^ (7 - first)) }
+{
+    if first == 7 {
+        return match word {
+            [] => Some(0),
+            [_, ..] => None,
+        };
+    }
+    match word {
+        [digit, rest @ ..] if *digit == b'0' + first => match members(first + 1, rest) {
+            Some(set) => Some(2 * set + 1),
+            None => None,
+        },
+        _ => match members(first + 1, word) {
+            Some(set) => Some(2 * set),
+            None => None,
+        },
+    }
+}
+
+/// The set of nodes that a word is.
+pub fn set(nodes: Nodes, word: &[u8]) -> Option<NodeSet>
+    ensures { result ≡ set_at nodes word.now }
+{
+    if word == b"-".as_slice() {
+        return Some(NodeSet::empty());
+    }
+    match members(0, word) {
+        Some(bits) if bits > 0 => NodeSet::from_bits(nodes, bits),
+        _ => None,
+    }
+}
+
+fn hex_value(digit: u8) -> Option<u8>
+    ensures value { result ≡ hex_value digit }
+    ensures range { IfSome result (λ v. v < 16) }
+{
+    match digit {
+        b'0'..=b'9' => Some(digit - b'0'),
+        b'A'..=b'F' => Some(digit - b'A' + 10),
+        _ => None,
+    }
+}
+
+pub fn hex_byte(high: u8, low: u8) -> Option<u8>
+    ensures { result ≡ hex_byte high low }
+{
+    match (hex_value(high), hex_value(low)) {
+        (Some(high), Some(low)) => Some(16 * high + low),
+        _ => None,
+    }
+}
+
+fn verb(word: &[u8]) -> Option<Verb>
+    ensures { result ≡ verb_at word.now }
+{
+    if word == b"claim".as_slice() {
+        Some(Verb::Claim)
+    } else if word == b"update".as_slice() {
+        Some(Verb::Update)
+    } else if word == b"release".as_slice() {
+        Some(Verb::Release)
+    } else if word == b"transfer".as_slice() {
+        Some(Verb::Transfer)
+    } else {
+        None
+    }
+}
+
+fn empty_value() -> Option<Value>
+    ensures { result ≡ Some [] }
+{
+    Value::new(&[]).ok()
+}
+
+fn with_value(name: Option<Name>, value: Option<Value>) -> Option<(Name, Value)>
+    ensures { result ≡ name_and_value name value }
+{
+    match (name, value) {
+        (Some(name), Some(value)) => Some((name, value)),
+        _ => None,
+    }
+}
+
+fn named(text: &[u8]) -> Option<(Name, Value)>
+    ensures { result ≡ named_at text.now }
+{
+    match cut(text, b' ') {
+        None => with_value(name(text), empty_value()),
+        Some((word, rest)) => with_value(name(word), filled_value(rest)),
+    }
+}
+
+fn transferred(text: &[u8]) -> Option<Op>
+    ensures { result ≡ transferred_at text.now }
+{
+    let (word, rest) = cut(text, b' ')?;
+    let name = name(word)?;
+    let owner = small_number(rest)?;
+    Some(Op::Transfer(name, owner))
+}
+
+fn target(verb: Verb, text: &[u8]) -> Option<Op>
+    ensures { result ≡ target_at verb text.now }
+{
+    match verb {
+        Verb::Claim => {
+            let (name, value) = named(text)?;
+            Some(Op::Claim(name, value))
+        }
+        Verb::Update => {
+            let (name, value) = named(text)?;
+            Some(Op::Update(name, value))
+        }
+        Verb::Release => Some(Op::Release(name(text)?)),
+        Verb::Transfer => transferred(text),
+    }
+}
+
+fn op(text: &[u8]) -> Option<Op>
+    ensures { result ≡ op_at text.now }
+{
+    let (word, rest) = cut(text, b' ')?;
+    target(verb(word)?, rest)
+}
+
+pub fn submitted(text: &[u8]) -> Option<Command>
+    ensures { result ≡ submitted_at text.now }
+{
+    let (word, rest) = cut(text, b' ')?;
+    let client = small_number(word)?;
+    let (word, rest) = cut(rest, b' ')?;
+    let seq = number(word)?;
+    let op = op(rest)?;
+    Some(Command {
+        request: RequestNo { client, seq },
+        op,
+    })
+}
+
+/// The event that a word stands for.
+pub fn keyword(word: &[u8]) -> Option<Keyword>
+    ensures { result ≡ keyword_at word.now }
+{
+    if word == b"submit".as_slice() {
+        Some(Keyword::Submit)
+    } else if word == b"hear".as_slice() {
+        Some(Keyword::Hear)
+    } else if word == b"suspect".as_slice() {
+        Some(Keyword::Suspect)
+    } else if word == b"tick".as_slice() {
+        Some(Keyword::Tick)
+    } else if word == b"advance".as_slice() {
+        Some(Keyword::Advance)
+    } else if word == b"take".as_slice() {
+        Some(Keyword::Take)
+    } else if word == b"dev".as_slice() {
+        Some(Keyword::Device)
+    } else if word == b"fail".as_slice() {
+        Some(Keyword::Fail)
+    } else if word == b"mark".as_slice() {
+        Some(Keyword::Mark)
+    } else if word == b"send".as_slice() {
+        Some(Keyword::Send)
+    } else if word == b"ack".as_slice() {
+        Some(Keyword::Ack)
+    } else if word == b"snap".as_slice() {
+        Some(Keyword::Snap)
+    } else if word == b"crash".as_slice() {
+        Some(Keyword::Crash)
+    } else if word == b"restart".as_slice() {
+        Some(Keyword::Restart)
+    } else {
+        None
+    }
+}

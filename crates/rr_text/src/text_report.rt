@@ -1,0 +1,272 @@
+//! Printing reports.
+
+ghost use Rattle.std.specs.Prelude.{◌≡◌, ◌+◌, ◌<◌, ◌^◌, [], ◌∷◌, ◌++◌, map, length, OnOk, IfOk, IfErr, decimal};
+ghost use Rattle.std.specs.List.{flat_map};
+ghost use Rattle.rr_types.specs.Refusal.{number_of};
+ghost use Rattle.rr_text.specs.Words.{spaced, op_words};
+ghost use Rattle.rr_text.specs.ReportTexts.{request_text, command_words, body_words, message_words, reply_words, binding_text, refusal_name, report_words, line, decided_lines, report_text};
+
+use crate::report::{Binding, Report, ReportLine};
+use crate::text_word::{
+    push_byte, push_bytes, push_number, push_number_word, push_op, push_set, push_word,
+};
+use rr_types::{Body, Command, Instance, Message, NodeId, Refusal, Reply, RequestNo, Round};
+use std::alloc::Global;
+
+fn push_request(out: &mut Vec<u8>, request: RequestNo) -> Result<(), Refusal>
+    ensures ok { OnOk result (out.new.items ≡ out.old.items ++ 32 ∷ request_text request) }
+    ensures err { IfErr result (λ e. e ≡ Refusal.OutOfMemory) }
+{
+    push_number_word(out, u64::from(request.client))?;
+    push_byte(out, b'.')?;
+    push_number(out, request.seq)
+}
+
+fn push_command(out: &mut Vec<u8>, command: &Command) -> Result<(), Refusal>
+    ensures ok { OnOk result (out.new.items ≡ out.old.items ++ 32 ∷ spaced (command_words command.now)) }
+    ensures err { IfErr result (λ e. e ≡ Refusal.OutOfMemory) }
+{
+    push_request(out, command.request)?;
+    push_op(out, &command.op)
+}
+
+fn push_instance(out: &mut Vec<u8>, kind: &[u8], instance: Instance) -> Result<(), Refusal>
+    ensures ok { OnOk result (out.new.items ≡ out.old.items ++ 32 ∷ spaced (kind.now ∷ decimal instance ∷ [])) }
+    ensures err { IfErr result (λ e. e ≡ Refusal.OutOfMemory) }
+{
+    push_word(out, kind)?;
+    push_number_word(out, u64::from(instance.number()))
+}
+
+fn push_round(
+    out: &mut Vec<u8>,
+    kind: &[u8],
+    instance: Instance,
+    round: Round,
+) -> Result<(), Refusal>
+    ensures ok { OnOk result (out.new.items ≡ out.old.items ++ 32 ∷ spaced (kind.now ∷ decimal instance ∷ decimal round ∷ [])) }
+    ensures err { IfErr result (λ e. e ≡ Refusal.OutOfMemory) }
+{
+    push_instance(out, kind, instance)?;
+    push_number_word(out, u64::from(round.number()))
+}
+
+fn push_body(out: &mut Vec<u8>, body: &Body) -> Result<(), Refusal>
+    ensures ok { OnOk result (out.new.items ≡ out.old.items ++ 32 ∷ spaced (body_words body.now)) }
+    ensures err { IfErr result (λ e. e ≡ Refusal.OutOfMemory) }
+{
+    match body {
+        Body::Estimate(instance, estimate) => {
+            push_round(out, b"estimate", *instance, estimate.round())?;
+            push_number_word(out, u64::from(estimate.stamp()))?;
+            push_command(out, &estimate.command())
+        }
+        Body::Proposal(instance, round, command) => {
+            push_round(out, b"proposal", *instance, *round)?;
+            push_command(out, command)
+        }
+        Body::Ack(instance, round) => push_round(out, b"ack", *instance, *round),
+        Body::Decision(instance, command) => {
+            push_instance(out, b"decision", *instance)?;
+            push_command(out, command)
+        }
+        Body::Request(command) => {
+            push_word(out, b"request")?;
+            push_command(out, command)
+        }
+        Body::Nack(instance, round) => push_round(out, b"nack", *instance, *round),
+        Body::Beat => push_word(out, b"beat"),
+        Body::Suspects(set) => {
+            push_word(out, b"suspects")?;
+            push_set(out, *set)
+        }
+        Body::Ask(instance) => push_instance(out, b"ask", *instance),
+    }
+}
+
+fn push_node(out: &mut Vec<u8>, node: NodeId) -> Result<(), Refusal>
+    ensures ok { OnOk result (out.new.items ≡ out.old.items ++ 32 ∷ decimal node) }
+    ensures err { IfErr result (λ e. e ≡ Refusal.OutOfMemory) }
+{
+    push_number_word(out, u64::from(node.index()))
+}
+
+fn push_message(out: &mut Vec<u8>, message: &Message) -> Result<(), Refusal>
+    ensures ok { OnOk result (out.new.items ≡ out.old.items ++ 32 ∷ spaced (message_words message.now)) }
+    ensures err { IfErr result (λ e. e ≡ Refusal.OutOfMemory) }
+{
+    push_node(out, message.from)?;
+    push_node(out, message.to)?;
+    push_body(out, &message.body)
+}
+
+fn push_reply(out: &mut Vec<u8>, reply: Reply) -> Result<(), Refusal>
+    ensures ok { OnOk result (out.new.items ≡ out.old.items ++ 32 ∷ spaced (reply_words reply)) }
+    ensures err { IfErr result (λ e. e ≡ Refusal.OutOfMemory) }
+{
+    match reply {
+        Reply::Claimed => push_word(out, b"claimed"),
+        Reply::Updated => push_word(out, b"updated"),
+        Reply::Released => push_word(out, b"released"),
+        Reply::Transferred => push_word(out, b"transferred"),
+        Reply::Taken(owner) => {
+            push_word(out, b"taken")?;
+            push_number_word(out, u64::from(owner))
+        }
+        Reply::Unknown => push_word(out, b"unknown"),
+        Reply::NotOwner => push_word(out, b"notowner"),
+        Reply::Full => push_word(out, b"full"),
+    }
+}
+
+fn push_binding(out: &mut Vec<u8>, binding: &Binding) -> Result<(), Refusal>
+    ensures ok { OnOk result (out.new.items ≡ out.old.items ++ 32 ∷ binding_text binding.now) }
+    ensures err { IfErr result (λ e. e ≡ Refusal.OutOfMemory) }
+{
+    push_word(out, binding.name.as_bytes())?;
+    push_byte(out, b'=')?;
+    push_number(out, u64::from(binding.owner))?;
+    push_byte(out, b':')?;
+    push_bytes(out, binding.value.as_bytes())
+}
+
+fn push_bindings(out: &mut Vec<u8>, bindings: &[Binding]) -> Result<(), Refusal>
+    ensures ok { OnOk result (out.new.items ≡ out.old.items ++ flat_map (λ b. 32 ∷ binding_text b) bindings.now) }
+    ensures err { IfErr result (λ e. e ≡ Refusal.OutOfMemory) }
+{
+    for binding in bindings {
+        push_binding(out, binding)?;
+    }
+    Ok(())
+}
+
+#[tactic(auto, using(crate::proofs::WordLemmas::registry_words))]
+fn push_registry(out: &mut Vec<u8>, decided: u64, bindings: &[Binding]) -> Result<(), Refusal>
+    ensures ok { OnOk result (out.new.items ≡ out.old.items ++ 32 ∷ spaced (decimal decided ∷ map binding_text bindings.now)) }
+    ensures err { IfErr result (λ e. e ≡ Refusal.OutOfMemory) }
+{
+    push_number_word(out, decided)?;
+    push_bindings(out, bindings)
+}
+
+/// The name of a refusal, without what it says beside.
+fn refusal_name(refusal: &Refusal) -> &'static [u8]
+    ensures { result.now ≡ refusal_name refusal.now }
+{
+    match refusal {
+        Refusal::OutOfMemory => b"OutOfMemory",
+        Refusal::Device => b"Device",
+        Refusal::Damaged { .. } => b"Damaged",
+        Refusal::Failed => b"Failed",
+        Refusal::Down => b"Down",
+        Refusal::BadNodes => b"BadNodes",
+        Refusal::BadName => b"BadName",
+        Refusal::BadValue => b"BadValue",
+        Refusal::ListFull => b"ListFull",
+        Refusal::RoundsOut => b"RoundsOut",
+        Refusal::Malformed(_) => b"Malformed",
+        Refusal::StrangeMark => b"StrangeMark",
+        Refusal::Busy => b"Busy",
+        Refusal::BadEvent(_) => b"BadEvent",
+        Refusal::SeatsTaken => b"SeatsTaken",
+        Refusal::TooLarge => b"TooLarge",
+        Refusal::AuditNo(_) => b"AuditNo",
+        Refusal::NoGuard => b"NoGuard",
+    }
+}
+
+fn push_report_words(out: &mut Vec<u8>, report_line: &ReportLine) -> Result<(), Refusal>
+    ensures ok { OnOk result (out.new.items ≡ out.old.items ++ spaced (report_words report_line.now)) }
+    ensures err { IfErr result (λ e. e ≡ Refusal.OutOfMemory) }
+{
+    match report_line {
+        ReportLine::Send { number, message } => {
+            push_bytes(out, b"send")?;
+            push_number_word(out, *number)?;
+            push_message(out, message)
+        }
+        ReportLine::Ack {
+            node,
+            request,
+            reply,
+        } => {
+            push_bytes(out, b"ack")?;
+            push_node(out, *node)?;
+            push_request(out, *request)?;
+            push_reply(out, *reply)
+        }
+        ReportLine::Restart {
+            node,
+            facts,
+            decided,
+            bindings,
+        } => {
+            push_bytes(out, b"restart")?;
+            push_node(out, *node)?;
+            push_number_word(out, *facts)?;
+            push_registry(out, *decided, bindings.as_slice())
+        }
+        ReportLine::Refuse { line, refusal } => {
+            push_bytes(out, b"refuse")?;
+            push_number_word(out, *line)?;
+            push_number_word(out, u64::from(refusal.number()))?;
+            push_word(out, refusal_name(refusal))
+        }
+    }
+}
+
+fn push_report_line(out: &mut Vec<u8>, report_line: &ReportLine) -> Result<(), Refusal>
+    ensures ok { OnOk result (out.new.items ≡ out.old.items ++ line (report_words report_line.now)) }
+    ensures err { IfErr result (λ e. e ≡ Refusal.OutOfMemory) }
+{
+    push_report_words(out, report_line)?;
+    push_byte(out, b'\n')
+}
+
+fn push_report_lines(out: &mut Vec<u8>, lines: &[ReportLine]) -> Result<(), Refusal>
+    ensures ok { OnOk result (out.new.items ≡ out.old.items ++ flat_map (λ l. line (report_words l)) lines.now) }
+    ensures err { IfErr result (λ e. e ≡ Refusal.OutOfMemory) }
+{
+    for report_line in lines {
+        push_report_line(out, report_line)?;
+    }
+    Ok(())
+}
+
+fn push_decided_line(out: &mut Vec<u8>, instance: u64, command: &Command) -> Result<(), Refusal>
+    ensures ok { OnOk result (out.new.items ≡ out.old.items ++ line (decimal instance ∷ command_words command.now)) }
+    ensures err { IfErr result (λ e. e ≡ Refusal.OutOfMemory) }
+{
+    push_number(out, instance)?;
+    push_command(out, command)?;
+    push_byte(out, b'\n')
+}
+
+fn push_decided(out: &mut Vec<u8>, commands: &[Command]) -> Result<(), Refusal>
+    ensures ok { OnOk result (out.new.items ≡ out.old.items ++ decided_lines 0 commands.now) }
+    ensures err { IfErr result (λ e. e ≡ Refusal.OutOfMemory) }
+{
+    for (i, command) in commands.iter().enumerate() {
+        push_decided_line(out, i as u64, command)?;
+    }
+    Ok(())
+}
+
+impl Report {
+    /// The text of the report.
+    ///
+    /// # Errors
+    /// `OutOfMemory`.
+    pub fn text(&self, alloc: Global) -> Result<Vec<u8>, Refusal>
+        ensures ok { IfOk result (λ v. v.items ≡ report_text self.now) }
+        ensures err { IfErr result (λ e. e ≡ Refusal.OutOfMemory) }
+    {
+        let mut out = Vec::new(alloc);
+        push_report_lines(&mut out, self.lines())?;
+        push_bytes(&mut out, b"decided")?;
+        push_number_word(&mut out, self.decided().len() as u64)?;
+        push_byte(&mut out, b'\n')?;
+        push_decided(&mut out, self.decided())?;
+        Ok(out)
+    }
+}

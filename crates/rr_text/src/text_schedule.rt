@@ -1,0 +1,118 @@
+//! Printing schedules.
+
+ghost use Rattle.std.specs.Prelude.{◌≡◌, ◌∷◌, ◌++◌, [], OnOk, IfOk, IfErr, codes, decimal};
+ghost use Rattle.std.specs.List.{flat_map};
+ghost use Rattle.rr_text.specs.Words.{spaced, op_words};
+ghost use Rattle.rr_text.specs.ScheduleTexts.{event_words, event_text, event_line, nodes_line, schedule_text};
+
+use crate::event::Event;
+use crate::schedule::Schedule;
+use crate::text_word::{
+    push_byte, push_bytes, push_fill, push_number, push_number_word, push_op, push_set,
+};
+use rr_types::{Command, NodeId, Nodes, Refusal};
+use std::alloc::Global;
+
+fn push_at_node(out: &mut Vec<u8>, verb: &[u8], node: NodeId) -> Result<(), Refusal>
+    ensures ok { OnOk result (out.new.items ≡ out.old.items ++ spaced (verb.now ∷ decimal node ∷ [])) }
+    ensures err { IfErr result (λ e. e ≡ Refusal.OutOfMemory) }
+{
+    push_bytes(out, verb)?;
+    push_number_word(out, u64::from(node.index()))
+}
+
+fn push_submitted(out: &mut Vec<u8>, command: &Command) -> Result<(), Refusal>
+    ensures ok { OnOk result (out.new.items ≡ out.old.items ++ 32 ∷ spaced (decimal command.now.request.client ∷ decimal command.now.request.seq ∷ op_words command.now.op)) }
+    ensures err { IfErr result (λ e. e ≡ Refusal.OutOfMemory) }
+{
+    push_number_word(out, u64::from(command.request.client))?;
+    push_number_word(out, command.request.seq)?;
+    push_op(out, &command.op)
+}
+
+fn push_event(out: &mut Vec<u8>, event: &Event) -> Result<(), Refusal>
+    ensures ok { OnOk result (out.new.items ≡ out.old.items ++ event_text event.now) }
+    ensures err { IfErr result (λ e. e ≡ Refusal.OutOfMemory) }
+{
+    match event {
+        Event::Submit { node, command } => {
+            push_at_node(out, b"submit", *node)?;
+            push_submitted(out, command)
+        }
+        Event::Hear { node, message } => {
+            push_at_node(out, b"hear", *node)?;
+            push_number_word(out, u64::from(*message))
+        }
+        Event::Suspect { node, set } => {
+            push_at_node(out, b"suspect", *node)?;
+            push_set(out, *set)
+        }
+        Event::Tick { node } => push_at_node(out, b"tick", *node),
+        Event::Advance { node } => push_at_node(out, b"advance", *node),
+        Event::Take { node } => push_at_node(out, b"take", *node),
+        Event::Device { node } => push_at_node(out, b"dev", *node),
+        Event::Fail { node, fill } => {
+            push_at_node(out, b"fail", *node)?;
+            push_fill(out, fill.as_bytes())
+        }
+        Event::Mark { node } => push_at_node(out, b"mark", *node),
+        Event::Send { node } => push_at_node(out, b"send", *node),
+        Event::Ack { node } => push_at_node(out, b"ack", *node),
+        Event::Snap { node } => push_at_node(out, b"snap", *node),
+        Event::Crash {
+            node,
+            cut_0,
+            cut_1,
+            fill,
+        } => {
+            push_at_node(out, b"crash", *node)?;
+            push_number_word(out, u64::from(*cut_0))?;
+            push_number_word(out, u64::from(*cut_1))?;
+            push_fill(out, fill.as_bytes())
+        }
+        Event::Restart { node } => push_at_node(out, b"restart", *node),
+    }
+}
+
+fn push_event_line(out: &mut Vec<u8>, event: &Event) -> Result<(), Refusal>
+    ensures ok { OnOk result (out.new.items ≡ out.old.items ++ event_line event.now) }
+    ensures err { IfErr result (λ e. e ≡ Refusal.OutOfMemory) }
+{
+    push_event(out, event)?;
+    push_byte(out, b'\n')
+}
+
+fn push_event_lines(out: &mut Vec<u8>, events: &[Event]) -> Result<(), Refusal>
+    ensures ok { OnOk result (out.new.items ≡ out.old.items ++ flat_map event_line events.now) }
+    ensures err { IfErr result (λ e. e ≡ Refusal.OutOfMemory) }
+{
+    for event in events {
+        push_event_line(out, event)?;
+    }
+    Ok(())
+}
+
+fn push_nodes_line(out: &mut Vec<u8>, nodes: Nodes) -> Result<(), Refusal>
+    ensures ok { OnOk result (out.new.items ≡ out.old.items ++ nodes_line nodes) }
+    ensures err { IfErr result (λ e. e ≡ Refusal.OutOfMemory) }
+{
+    push_bytes(out, b"nodes ")?;
+    push_number(out, u64::from(nodes.count()))?;
+    push_byte(out, b'\n')
+}
+
+impl Schedule {
+    /// The text of the schedule.
+    ///
+    /// # Errors
+    /// `OutOfMemory`.
+    pub fn text(&self, alloc: Global) -> Result<Vec<u8>, Refusal>
+        ensures ok { IfOk result (λ v. v.items ≡ schedule_text self.now) }
+        ensures err { IfErr result (λ e. e ≡ Refusal.OutOfMemory) }
+    {
+        let mut out = Vec::new(alloc);
+        push_nodes_line(&mut out, self.nodes())?;
+        push_event_lines(&mut out, self.events())?;
+        Ok(out)
+    }
+}

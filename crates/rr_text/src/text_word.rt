@@ -1,0 +1,158 @@
+//! Printing the words that schedules and reports have in common.
+
+ghost use Rattle.std.specs.Prelude.{◌≡◌, ◌∷◌, ◌++◌, OnOk, IfErr, decimal};
+ghost use Rattle.std.specs.List.{flat_map};
+ghost use Rattle.std.specs.Prelude.{[], ◌-◌, ◌≤◌, ◌<◌};
+ghost use Rattle.rr_text.specs.Words.{spaced, op_words, set_text, fill_text, hex_pair, hex_digit, member_digits, value_words};
+
+use itoa::Buffer;
+use rr_types::{Name, NodeSet, Op, Refusal, Value};
+
+/// Appends bytes.
+pub fn push_bytes(out: &mut Vec<u8>, bytes: &[u8]) -> Result<(), Refusal>
+    ensures ok { OnOk result (out.new.items ≡ out.old.items ++ bytes.now) }
+    ensures err { IfErr result (λ e. e ≡ Refusal.OutOfMemory) }
+{
+    out.extend_from_slice(bytes)?;
+    Ok(())
+}
+
+/// Appends one byte.
+pub fn push_byte(out: &mut Vec<u8>, byte: u8) -> Result<(), Refusal>
+    ensures ok { OnOk result (out.new.items ≡ out.old.items ++ byte ∷ []) }
+    ensures err { IfErr result (λ e. e ≡ Refusal.OutOfMemory) }
+{
+    out.push(byte)?;
+    Ok(())
+}
+
+/// Appends a number in decimal.
+pub fn push_number(out: &mut Vec<u8>, number: u64) -> Result<(), Refusal>
+    ensures ok { OnOk result (out.new.items ≡ out.old.items ++ decimal number) }
+    ensures err { IfErr result (λ e. e ≡ Refusal.OutOfMemory) }
+{
+    let mut buffer = Buffer::new();
+    push_bytes(out, buffer.format(number).as_bytes())
+}
+
+/// Appends a space and a word.
+pub fn push_word(out: &mut Vec<u8>, word: &[u8]) -> Result<(), Refusal>
+    ensures ok { OnOk result (out.new.items ≡ out.old.items ++ 32 ∷ word.now) }
+    ensures err { IfErr result (λ e. e ≡ Refusal.OutOfMemory) }
+{
+    push_byte(out, b' ')?;
+    push_bytes(out, word)
+}
+
+/// Appends a space and a number in decimal.
+pub fn push_number_word(out: &mut Vec<u8>, number: u64) -> Result<(), Refusal>
+    ensures ok { OnOk result (out.new.items ≡ out.old.items ++ 32 ∷ decimal number) }
+    ensures err { IfErr result (λ e. e ≡ Refusal.OutOfMemory) }
+{
+    push_byte(out, b' ')?;
+    push_number(out, number)
+}
+
+fn push_binding_op(
+    out: &mut Vec<u8>,
+    verb: &[u8],
+    name: &Name,
+    value: &Value,
+) -> Result<(), Refusal>
+    ensures ok { OnOk result (out.new.items ≡ out.old.items ++ 32 ∷ spaced (verb.now ∷ name.now ∷ value_words value.now)) }
+    ensures err { IfErr result (λ e. e ≡ Refusal.OutOfMemory) }
+{
+    push_word(out, verb)?;
+    push_word(out, name.as_bytes())?;
+    let value = value.as_bytes();
+    match value {
+        [] => Ok(()),
+        [_, ..] => push_word(out, value),
+    }
+}
+
+/// Appends a space and an operation.
+pub fn push_op(out: &mut Vec<u8>, op: &Op) -> Result<(), Refusal>
+    ensures ok { OnOk result (out.new.items ≡ out.old.items ++ 32 ∷ spaced (op_words op.now)) }
+    ensures err { IfErr result (λ e. e ≡ Refusal.OutOfMemory) }
+{
+    match op {
+        Op::Claim(name, value) => push_binding_op(out, b"claim", name, value),
+        Op::Update(name, value) => push_binding_op(out, b"update", name, value),
+        Op::Release(name) => {
+            push_word(out, b"release")?;
+            push_word(out, name.as_bytes())
+        }
+        Op::Transfer(name, owner) => {
+            push_word(out, b"transfer")?;
+            push_word(out, name.as_bytes())?;
+            push_number_word(out, u64::from(*owner))
+        }
+    }
+}
+
+#[tactic(auto, using(crate::proofs::WordLemmas::member_digits_step, crate::proofs::WordLemmas::member_digits_end, crate::proofs::WordLemmas::members_one))]
+fn push_members(out: &mut Vec<u8>, node: u8, bits: u8) -> Result<(), Refusal>
+    requires { node ≤ 7 }
+    ensures ok { OnOk result (out.new.items ≡ out.old.items ++ member_digits node (7 - node) bits) }
+    ensures err { IfErr result (λ e. e ≡ Refusal.OutOfMemory) }
+{
+    if node == 7 {
+        return Ok(());
+    }
+    if bits % 2 == 1 {
+        push_byte(out, b'0' + node)?;
+        push_members(out, node + 1, bits / 2)
+    } else {
+        push_members(out, node + 1, bits / 2)
+    }
+}
+
+/// Appends a space and a set of nodes.
+pub fn push_set(out: &mut Vec<u8>, set: NodeSet) -> Result<(), Refusal>
+    ensures ok { OnOk result (out.new.items ≡ out.old.items ++ 32 ∷ set_text set) }
+    ensures err { IfErr result (λ e. e ≡ Refusal.OutOfMemory) }
+{
+    let bits = set.bits();
+    if bits == 0 {
+        push_word(out, b"-")
+    } else {
+        push_byte(out, b' ')?;
+        push_members(out, 0, bits)
+    }
+}
+
+fn hex_digit(digit: u8) -> u8
+    requires { digit < 16 }
+    ensures { result ≡ hex_digit digit }
+{
+    if digit < 10 {
+        b'0' + digit
+    } else {
+        b'A' + (digit - 10)
+    }
+}
+
+/// Appends a space and the bytes of a fill.
+pub fn push_fill(out: &mut Vec<u8>, fill: &[u8]) -> Result<(), Refusal>
+    ensures ok { OnOk result (out.new.items ≡ out.old.items ++ 32 ∷ fill_text fill.now) }
+    ensures err { IfErr result (λ e. e ≡ Refusal.OutOfMemory) }
+{
+    if fill.is_empty() {
+        return push_word(out, b"-");
+    }
+    push_byte(out, b' ')?;
+    push_pairs(out, fill)
+}
+
+#[tactic(auto, using(crate::proofs::WordLemmas::pairs_more))]
+fn push_pairs(out: &mut Vec<u8>, bytes: &[u8]) -> Result<(), Refusal>
+    ensures ok { OnOk result (out.new.items ≡ out.old.items ++ flat_map hex_pair bytes.now) }
+    ensures err { IfErr result (λ e. e ≡ Refusal.OutOfMemory) }
+{
+    for byte in bytes {
+        push_byte(out, hex_digit(*byte / 16))?;
+        push_byte(out, hex_digit(*byte % 16))?;
+    }
+    Ok(())
+}

@@ -1,0 +1,118 @@
+//! Messages from their bytes.
+
+ghost use Rattle.std.specs.Prelude.{◌≡◌, IfOk};
+ghost use Rattle.rr_types.specs.declared.message.Message.{Message as Messaged};
+ghost use Rattle.rr_frame.specs.Reading.{Gives};
+ghost use Rattle.rr_frame.specs.Refused.{answer_of};
+ghost use Rattle.rr_wire.specs.MessageFormat.{message_bytes, IsLawfulMessage, node_at, set_at, backed_at, free_at, body_at, message_at, message_in};
+
+use crate::encoding::VERSION;
+use rr_frame::{Fault, Reader, read_command, read_estimate};
+use rr_types::{Body, Message, NodeId, NodeSet, Nodes, Refusal};
+
+#[tactic(auto, unfolding(crate::specs::MessageFormat::node_at))]
+fn read_node(nodes: Nodes, reader: &mut Reader<'_>) -> Result<NodeId, Fault>
+    ensures { Gives result reader.new (node_at nodes reader.old) }
+{
+    let here = reader.fault();
+    let index = reader.u8()?;
+    NodeId::new(nodes, index).ok_or(here)
+}
+
+#[tactic(auto, unfolding(crate::specs::MessageFormat::set_at))]
+fn read_set(nodes: Nodes, reader: &mut Reader<'_>) -> Result<NodeSet, Fault>
+    ensures { Gives result reader.new (set_at nodes reader.old) }
+{
+    let here = reader.fault();
+    let bits = reader.u8()?;
+    NodeSet::from_bits(nodes, bits).ok_or(here)
+}
+
+#[tactic(auto, unfolding(crate::specs::MessageFormat::backed_at))]
+fn read_backed(kind: u8, reader: &mut Reader<'_>) -> Result<Body, Fault>
+    ensures { Gives result reader.new (backed_at kind reader.old) }
+{
+    let instance = reader.instance()?;
+    match kind {
+        1 => Ok(Body::Estimate(instance, read_estimate(reader)?)),
+        2 => {
+            let round = reader.round()?;
+            let command = read_command(reader)?;
+            Ok(Body::Proposal(instance, round, command))
+        }
+        3 => Ok(Body::Ack(instance, reader.round()?)),
+        _ => Ok(Body::Decision(instance, read_command(reader)?)),
+    }
+}
+
+#[tactic(auto, unfolding(crate::specs::MessageFormat::free_at))]
+fn read_free(nodes: Nodes, kind: u8, reader: &mut Reader<'_>) -> Result<Body, Fault>
+    ensures { Gives result reader.new (free_at nodes kind reader.old) }
+{
+    match kind {
+        5 => Ok(Body::Request(read_command(reader)?)),
+        6 => {
+            let instance = reader.instance()?;
+            let round = reader.round()?;
+            Ok(Body::Nack(instance, round))
+        }
+        7 => Ok(Body::Beat),
+        8 => Ok(Body::Suspects(read_set(nodes, reader)?)),
+        _ => Ok(Body::Ask(reader.instance()?)),
+    }
+}
+
+#[tactic(auto, unfolding(crate::specs::MessageFormat::body_at))]
+fn read_body(nodes: Nodes, reader: &mut Reader<'_>) -> Result<Body, Fault>
+    ensures { Gives result reader.new (body_at nodes reader.old) }
+{
+    let here = reader.fault();
+    let kind = reader.u8()?;
+    match kind {
+        1..=4 => read_backed(kind, reader),
+        5..=9 => read_free(nodes, kind, reader),
+        _ => Err(here),
+    }
+}
+
+#[tactic(auto, unfolding(crate::specs::MessageFormat::message_at))]
+fn read_message(nodes: Nodes, reader: &mut Reader<'_>) -> Result<Message, Fault>
+    ensures { Gives result reader.new (message_at nodes reader.old) }
+{
+    let here = reader.fault();
+    let version = reader.u8()?;
+    if version != VERSION {
+        return Err(here);
+    }
+    let from = read_node(nodes, reader)?;
+    let to = read_node(nodes, reader)?;
+    let body = read_body(nodes, reader)?;
+    Ok(Message { from, to, body })
+}
+
+#[tactic(auto, unfolding(crate::specs::MessageFormat::message_in))]
+fn read_whole(nodes: Nodes, bytes: &[u8]) -> Result<Message, Refusal>
+    ensures { result ≡ answer_of (message_in nodes bytes.now) }
+{
+    let mut reader = Reader::new(bytes);
+    match read_message(nodes, &mut reader) {
+        Err(fault) => Err(fault.refusal(bytes.len())),
+        Ok(_) if reader.left() > 0 => Err(reader.fault().refusal(bytes.len())),
+        Ok(message) => Ok(message),
+    }
+}
+
+/// The message among these nodes that all these bytes spell. Other bytes are `Malformed` at the first byte
+/// of the first field that is cut short or holds no lawful value, or at the first byte behind the message.
+pub fn decode(nodes: Nodes, bytes: &[u8]) -> Result<Message, Refusal>
+    // What is read is spelled so.
+    ensures found { IfOk result (λ m. IsLawfulMessage nodes m × (bytes.now ≡ message_bytes m)) }
+    // What is spelled so is read.
+    ensures only { (m : Messaged) → IsLawfulMessage nodes m → bytes.now ≡ message_bytes m → result ≡ Ok m }
+    // Which answer it is.
+    ensures exact { result ≡ answer_of (message_in nodes bytes.now) }
+{
+    // So that it is known to be at most 7.
+    let _count = nodes.count();
+    read_whole(nodes, bytes)
+}

@@ -1,0 +1,89 @@
+//! Messages as bytes.
+
+ghost use Rattle.std.specs.Prelude.{◌≡◌, ◌<◌, ◌++◌, IfOk, IfErr, OnOk};
+ghost use Rattle.rr_frame.specs.Numbers.{number_bytes};
+ghost use Rattle.rr_wire.specs.MessageFormat.{body_bytes, message_bytes, IsLawfulBody, IsLawfulMessage};
+
+use bytes::Bytes;
+use rr_frame::{put_command, put_estimate, put_u8, put_u32};
+use rr_types::{Body, Instance, Message, Refusal};
+use std::alloc::{AllocError, Global};
+
+/// The version of the spelling.
+pub(crate) const VERSION: u8 = 2;
+
+/// What the most messages take: the fields before a command and a command with short name and value.
+const USUAL_LENGTH: usize = 64;
+
+/// Puts the kind of a message, and the instance that it is about.
+fn put_about(out: &mut Vec<u8>, kind: u8, instance: Instance) -> Result<(), AllocError>
+    ensures ok { OnOk result (out.new.items ≡ out.old.items ++ (number_bytes 1 kind ++ number_bytes 4 instance)) }
+    ensures lawful { OnOk result (instance < 1048576) }
+{
+    put_u8(out, kind)?;
+    put_u32(out, instance.number())?;
+    Ok(())
+}
+
+#[tactic(auto, unfolding(crate::specs::MessageFormat::body_bytes))]
+fn put_body(out: &mut Vec<u8>, body: &Body) -> Result<(), AllocError>
+    ensures ok { OnOk result (out.new.items ≡ out.old.items ++ body_bytes body.now) }
+    ensures lawful { OnOk result (IsLawfulBody 7 body.now) }
+{
+    match body {
+        Body::Estimate(instance, estimate) => {
+            put_about(out, 1, *instance)?;
+            put_estimate(out, estimate)
+        }
+        Body::Proposal(instance, round, command) => {
+            put_about(out, 2, *instance)?;
+            put_u32(out, round.number())?;
+            put_command(out, command)
+        }
+        Body::Ack(instance, round) => {
+            put_about(out, 3, *instance)?;
+            put_u32(out, round.number())
+        }
+        Body::Decision(instance, command) => {
+            put_about(out, 4, *instance)?;
+            put_command(out, command)
+        }
+        Body::Request(command) => {
+            put_u8(out, 5)?;
+            put_command(out, command)
+        }
+        Body::Nack(instance, round) => {
+            put_about(out, 6, *instance)?;
+            put_u32(out, round.number())
+        }
+        Body::Beat => put_u8(out, 7),
+        Body::Suspects(set) => {
+            put_u8(out, 8)?;
+            put_u8(out, set.bits())
+        }
+        Body::Ask(instance) => put_about(out, 9, *instance),
+    }
+}
+
+#[tactic(auto, unfolding(crate::specs::MessageFormat::message_bytes))]
+fn put_message(out: &mut Vec<u8>, message: &Message) -> Result<(), AllocError>
+    ensures ok { OnOk result (out.new.items ≡ out.old.items ++ message_bytes message.now) }
+    ensures lawful { OnOk result (IsLawfulMessage 7 message.now) }
+{
+    put_u8(out, VERSION)?;
+    put_u8(out, message.from.index())?;
+    put_u8(out, message.to.index())?;
+    put_body(out, &message.body)
+}
+
+/// The one spelling of a message, in a buffer that can be shared without a copy. Where memory runs out it is
+/// `OutOfMemory`.
+pub fn encode(alloc: Global, message: &Message) -> Result<Bytes, Refusal>
+    ensures ok { IfOk result (λ b. b ≡ message_bytes message.now) }
+    ensures lawful { OnOk result (IsLawfulMessage 7 message.now) }
+    ensures err { IfErr result (λ e. e ≡ Refusal.OutOfMemory) }
+{
+    let mut out = Vec::with_capacity(alloc, USUAL_LENGTH)?;
+    put_message(&mut out, message)?;
+    Ok(Bytes::from_vec(out)?)
+}
