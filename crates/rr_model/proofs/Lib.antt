@@ -28,3 +28,4 @@ pub mod NodeFollows
 pub mod NodeRuns
 pub mod NodeWeights
 pub mod NodeEnds
+pub mod NodeSteady

@@ -13,3 +13,4 @@ pub mod World
 pub mod Examples
 pub mod NodeExamples
 pub mod Laws
+pub mod NodeStays

@@ -1,6 +1,7 @@
 use Rattle.rr_model.proofs.NodeStages.{lawful_node, truthful_node}
 use Rattle.rr_model.proofs.NodeFollows.{worldly_node}
 use Rattle.rr_model.proofs.NodeEnds.{nothing_due, settled_stays, settles_on}
+use Rattle.rr_model.proofs.NodeSteady.{input_stays}
 use Rattle.rr_model.proofs.laws_of_nodes.Goals as goal
 
 pub returns-clause-only_lawful_facts_are_staged : goal.returns-clause-only_lawful_facts_are_staged
@@ -20,3 +21,6 @@ returns-clause-what_is_due_is_done_first c = λ s d e. settles_on s d e
 
 pub returns-clause-where_nothing_is_due_nothing_happens : goal.returns-clause-where_nothing_is_due_nothing_happens
 returns-clause-where_nothing_is_due_nothing_happens c = λ s e. settled_stays s e
+
+pub returns-clause-inputs_mark_nothing : goal.returns-clause-inputs_mark_nothing
+returns-clause-inputs_mark_nothing c = λ input s. input_stays input s
