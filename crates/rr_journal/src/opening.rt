@@ -5,7 +5,7 @@ ghost use Rattle.rr_types.specs.declared.refusal.Refusal.TheVariants.{OutOfMemor
 ghost use Rattle.rr_frame.specs.SnapshotFormat.{snapshot_bytes};
 ghost use Rattle.rr_journal.specs.Calls.{must_close, frame_bytes};
 ghost use Rattle.rr_journal.specs.Image.{found};
-ghost use Rattle.rr_journal.specs.Openings.{Done, Refused, due_call, after_found, after_opening_call};
+ghost use Rattle.rr_journal.specs.Openings.{Settling, Done, Refused, due_call, after_found, after_opening_call};
 ghost use Rattle.rr_journal.specs.Phases.{phase_of, Follows};
 ghost use Rattle.rr_journal.specs.OpeningSteps.{Steps};
 
@@ -57,7 +57,9 @@ pub enum Progress<D: Disk> {
 impl<D: Disk> Opening<D> {
     /// Begins an opening. No device call is made yet.
     pub fn start(nodes: Nodes, node: NodeId, disk: D) -> Opening<D>
-        ensures { result.disk ≡ disk }
+        ensures whose { (result.nodes ≡ nodes) × (result.node ≡ node) }
+        ensures disk { result.disk ≡ disk }
+        ensures phase { phase_of result.phase ≡ Settling }
     {
         Opening {
             disk,
@@ -82,7 +84,9 @@ impl<D: Disk> Opening<D> {
 
     /// Makes the next device call. A refused opening hands its disk back.
     /// Errors: `OutOfMemory`, `Device`, `Damaged`.
-    pub fn step(self, alloc: Global) -> Result<Progress<D>, (Refusal, D)> {
+    pub fn step(self, alloc: Global) -> Result<Progress<D>, (Refusal, D)>
+        ensures { Steps D.read_gives D.write_gives D.sync_gives self result }
+    {
         let Opening {
             mut disk,
             nodes,
