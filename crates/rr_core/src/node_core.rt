@@ -211,6 +211,7 @@ impl Core {
     pub fn take_group(&mut self) -> Result<Option<Group>, Refusal>
         ensures none { IfOk result (λ g. g ≡ None → (self.new ≡ self.old) × (self.old.staged ≡ [])) }
         ensures some { IfOk result (λ g. IsSome g → (self.new ≡ group_taken self.old) × (g ≡ running_group self.new)) }
+        ensures there { IfOk result (λ g. IsSome g → self.old.staged ≢ []) }
         ensures free { OnOk result (self.old.running ≡ None) }
         ensures err { OnErr result (self.new ≡ self.old) }
         ensures refused { IfErr result (λ e. (e ≡ Refusal.OutOfMemory) ⊎ ((e ≡ Refusal.Busy) × IsSome self.old.running)) }
@@ -235,7 +236,7 @@ impl Core {
 
     /// The running group is marked: its facts are promised for good. Another group is `StrangeMark`.
     #[tactic(auto, using(crate::proofs::MarkLemmas::in_round, crate::proofs::MarkLemmas::runs))]
-    pub fn mark_group(&mut self, group: &Group) -> Result<(), Refusal>
+    pub(crate) fn mark_group(&mut self, group: &Group) -> Result<(), Refusal>
         ensures ok { OnOk result (self.new ≡ marked_running self.old) }
         ensures own { OnOk result (running_group self.old ≡ Some group.now) }
         ensures refused { IfErr result (λ e. (e ≡ Refusal.OutOfMemory) ⊎ ((e ≡ Refusal.StrangeMark) × (running_group self.old ≢ Some group.now))) }

@@ -112,14 +112,10 @@ payload_of s = option_map_or group_bytes (running_group (group_taken s)) []
 -- a flush begins, unless one runs or the area would pass 4,294,967,295 bytes; without staged facts nothing happens
 abbrev pub take_up : NodeState → Journaled → Flush → Seat → Answer
 take_up s journal Resting seat =
-    if is_empty s.staged then (Ok Quiet, seat)
+    if length s.staged == 0 then (Ok Quiet, seat)
     else (if nat_lt (journal.gate + 6 + length (payload_of s)) (2 ^ 32)
     then goes_on Quiet (Serving (group_taken s) journal (Writing (append_calls journal.area journal.gate (payload_of s)))) seat
     else refuse because.TooLarge seat)
-  where
-    is_empty : List Fact → Bool
-    is_empty [] = true
-    is_empty (f ∷ fs) = false
 take_up s journal (Writing calls) seat = refuse because.Busy seat
 take_up s journal Flushed seat = refuse because.Busy seat
 

@@ -1,5 +1,11 @@
 //! What a node does: nothing, an opening, or its service.
 
+ghost use Rattle.std.specs.Prelude.{◌≡◌, IfOk, IfErr};
+ghost use Rattle.rr_types.specs.Registry.{registry_of};
+ghost use Rattle.rr_model.specs.NodeState.{decided_prefix};
+ghost use Rattle.rr_types.specs.declared.refusal.Refusal.TheVariants.{OutOfMemory};
+ghost use Rattle.rr_node.specs.Views.{Carries, Serves, areas_of};
+
 use crate::event::{BoundNames, NodeEvent, Outcome};
 use crate::serving::Serving;
 use rr_core::Core;
@@ -22,7 +28,9 @@ pub enum Doing {
 
 impl Doing {
     /// The disk; whatever ran over it is given up.
-    pub fn into_disk(self) -> MemDisk {
+    pub fn into_disk(self) -> MemDisk
+        ensures { result.areas ≡ areas_of self }
+    {
         match self {
             Doing::Stopped(disk) => disk,
             Doing::Faulted(disk) => disk,
@@ -39,7 +47,9 @@ pub fn go_on(
     node: NodeId,
     doing: Doing,
     event: NodeEvent,
-) -> (Doing, Result<Outcome, Refusal>) {
+) -> (Doing, Result<Outcome, Refusal>)
+    ensures { Carries nodes node event doing result.1 result.0 }
+{
     match doing {
         Doing::Stopped(disk) => match event {
             NodeEvent::Restart => (
@@ -70,7 +80,9 @@ fn open_on(
     nodes: Nodes,
     node: NodeId,
     opening: Opening<MemDisk>,
-) -> (Doing, Result<Outcome, Refusal>) {
+) -> (Doing, Result<Outcome, Refusal>)
+    ensures { Carries nodes node NodeEvent.Device (Doing.Opening opening) result.1 result.0 }
+{
     match opening.step(alloc) {
         Ok(Progress::More(opening)) => (Doing::Opening(opening), Ok(Outcome::Quiet)),
         Ok(Progress::Done(journal, promise, number)) => serve(
@@ -89,7 +101,9 @@ fn serve(
     journal: Journal<MemDisk>,
     promise: Promise,
     number: u64,
-) -> (Doing, Result<Outcome, Refusal>) {
+) -> (Doing, Result<Outcome, Refusal>)
+    ensures { Serves nodes node journal promise number result.1 result.0 }
+{
     match Core::start_at(alloc, nodes, node, promise, number) {
         Ok(core) => match bound_names(alloc, &core) {
             Ok(names) => {
@@ -106,7 +120,10 @@ fn serve(
 }
 
 /// The registry of the node's decided prefix.
-fn bound_names(alloc: Global, core: &Core) -> Result<BoundNames, Refusal> {
+fn bound_names(alloc: Global, core: &Core) -> Result<BoundNames, Refusal>
+    ensures ok { IfOk result (λ names. names ≡ registry_of (decided_prefix core.now)) }
+    ensures err { IfErr result (λ e. e ≡ OutOfMemory) }
+{
     let mut entries = Vec::new(alloc);
     for entry in core.bindings() {
         entries.push(entry)?;

@@ -1,10 +1,14 @@
 //! A node over its disk.
 
+ghost use Rattle.std.specs.Prelude.{◌≡◌};
+ghost use Rattle.rr_node.specs.Seats.{Gives, new_seat, crashed};
+
 use crate::doing::{Doing, go_on};
 use crate::event::{NodeEvent, Outcome};
 use rr_disk::MemDisk;
 use rr_types::{NodeId, Nodes, Refusal};
 use std::alloc::Global;
+use std::marker::Model;
 use std::mem;
 
 /// A node of so many, over a disk in memory. At first it is down.
@@ -12,6 +16,17 @@ pub struct Node {
     nodes: Nodes,
     node: NodeId,
     doing: Doing,
+}
+
+impl Model for Node {
+    ghost use Rattle.rr_node.specs.Seats.{Seat};
+    ghost use Rattle.rr_node.specs.Views.{seat_of, IsSteady};
+
+    ghost Value = { Seat };
+
+    ghost view = { λ n. seat_of n.nodes n.node n.doing };
+
+    ghost invariant = { λ n. IsSteady n.nodes n.node n.doing };
 }
 
 impl Drop for Node {
@@ -28,7 +43,9 @@ impl Drop for Node {
 
 impl Node {
     /// A node that was never started, over an empty disk.
-    pub fn new(alloc: Global, nodes: Nodes, node: NodeId) -> Node {
+    pub fn new(alloc: Global, nodes: Nodes, node: NodeId) -> Node
+        ensures { result ≡ new_seat nodes node }
+    {
         Node {
             nodes,
             node,
@@ -39,7 +56,9 @@ impl Node {
     /// An event at the node, with at most one device call. A refused event leaves the node as it was, but for a
     /// device call: an opening that is refused ends, and a node whose flush fails has failed.
     /// Errors: `OutOfMemory`, `Device`, `Damaged`, `Failed`, `Down`, `ListFull`, `RoundsOut`, `Busy`, `TooLarge`.
-    pub fn step(&mut self, alloc: Global, event: NodeEvent) -> Result<Outcome, Refusal> {
+    pub fn step(&mut self, alloc: Global, event: NodeEvent) -> Result<Outcome, Refusal>
+        ensures { Gives event self.old result self.new }
+    {
         let doing = mem::replace(&mut self.doing, Doing::Stopped(MemDisk::new(alloc)));
         let (doing, answer) = go_on(alloc, self.nodes, self.node, doing, event);
         drop(mem::replace(&mut self.doing, doing).into_disk());
@@ -48,7 +67,9 @@ impl Node {
 
     /// The node crashes: each area keeps a length from its safe to its present one, the cut where that lies between,
     /// and loose bytes take those of the fill in turn.
-    pub fn crash(&mut self, alloc: Global, cut_first: u32, cut_second: u32, fill: &[u8]) {
+    pub fn crash(&mut self, alloc: Global, cut_first: u32, cut_second: u32, fill: &[u8])
+        ensures { self.new ≡ crashed cut_first cut_second fill.now self.old }
+    {
         let doing = mem::replace(&mut self.doing, Doing::Stopped(MemDisk::new(alloc)));
         let mut disk = doing.into_disk();
         disk.crash(u64::from(cut_first), u64::from(cut_second), fill);

@@ -1,5 +1,9 @@
 //! A node that is up: its core over its journal, and the flush that runs.
 
+ghost use Rattle.std.specs.Prelude.{◌≡◌, Ok, Err, Some};
+ghost use Rattle.rr_model.specs.NodeStep.{running_group, group_put_back};
+ghost use Rattle.rr_node.specs.Views.{CarriesOn, quiet};
+
 use crate::doing::Doing;
 use crate::event::{NodeEvent, Outcome};
 use rr_core::Core;
@@ -41,7 +45,10 @@ pub struct Serving {
 }
 
 impl Serving {
-    pub fn new(core: Core, journal: Journal<MemDisk>) -> Serving {
+    /// A node that has just come up.
+    pub fn new(core: Core, journal: Journal<MemDisk>) -> Serving
+        ensures { result ≡ record { core = core; journal = journal; flush = Flush.Resting } }
+    {
         Serving {
             core,
             journal,
@@ -50,7 +57,9 @@ impl Serving {
     }
 
     /// The disk; a flush that runs is given up.
-    pub fn into_disk(self) -> MemDisk {
+    pub fn into_disk(self) -> MemDisk
+        ensures { result ≡ self.journal.disk }
+    {
         let Serving {
             core: _,
             journal,
@@ -61,152 +70,54 @@ impl Serving {
     }
 
     /// An event at a node that is up, and what it does afterwards.
-    pub fn go_on(self, alloc: Global, event: NodeEvent) -> (Doing, Result<Outcome, Refusal>) {
+    pub fn go_on(self, alloc: Global, event: NodeEvent) -> (Doing, Result<Outcome, Refusal>)
+        ensures { CarriesOn event self result.1 result.0 }
+    {
         let Serving {
             mut core,
             journal,
             flush,
         } = self;
         match event {
-            NodeEvent::Device => flush_on(core, journal, flush),
+            NodeEvent::Submit(command) => {
+                let told = core.submit(command);
+                up(core, journal, flush, quiet(told))
+            }
+            NodeEvent::Hear(message) => {
+                let told = core.hear(&message);
+                up(core, journal, flush, quiet(told))
+            }
+            NodeEvent::Suspect(set) => {
+                let told = core.suspect(set);
+                up(core, journal, flush, quiet(told))
+            }
+            NodeEvent::Tick => {
+                let told = core.tick();
+                up(core, journal, flush, quiet(told))
+            }
+            NodeEvent::Advance => {
+                let told = core.advance();
+                up(core, journal, flush, quiet(told))
+            }
             NodeEvent::Take => take(alloc, core, journal, flush),
+            NodeEvent::Device => flush_on(core, journal, flush),
             NodeEvent::Mark => mark(core, journal, flush),
-            other => {
-                let answer = tell(&mut core, other);
-                (
-                    Doing::Serving(Serving {
-                        core,
-                        journal,
-                        flush,
-                    }),
-                    answer,
-                )
-            }
+            NodeEvent::Send => send(core, journal, flush),
+            NodeEvent::Acknowledge => reply(core, journal, flush),
+            NodeEvent::Restart => up(core, journal, flush, Err(Refusal::Busy)),
         }
     }
 }
 
-fn quiet(told: Result<(), Refusal>) -> Result<Outcome, Refusal> {
-    match told {
-        Ok(()) => Ok(Outcome::Quiet),
-        Err(refusal) => Err(refusal),
-    }
-}
-
-/// An event that concerns the core alone.
-fn tell(core: &mut Core, event: NodeEvent) -> Result<Outcome, Refusal> {
-    match event {
-        NodeEvent::Submit(command) => quiet(core.submit(command)),
-        NodeEvent::Hear(message) => quiet(core.hear(&message)),
-        NodeEvent::Suspect(set) => quiet(core.suspect(set)),
-        NodeEvent::Tick => quiet(core.tick()),
-        NodeEvent::Advance => quiet(core.advance()),
-        NodeEvent::Send => match core.next_message() {
-            Some(cleared) => Ok(Outcome::Left(cleared.message())),
-            None => Ok(Outcome::Quiet),
-        },
-        NodeEvent::Acknowledge => match core.next_ack() {
-            Some((request, reply)) => Ok(Outcome::Replied(request, reply)),
-            None => Ok(Outcome::Quiet),
-        },
-        NodeEvent::Restart => Err(Refusal::Busy),
-        NodeEvent::Take | NodeEvent::Device | NodeEvent::Mark => Ok(Outcome::Quiet),
-    }
-}
-
-/// The next device call of a flush.
-fn flush_on(
+/// The node is up, and has answered so.
+fn up(
     core: Core,
-    mut journal: Journal<MemDisk>,
-    flush: Flush,
-) -> (Doing, Result<Outcome, Refusal>) {
-    let stepped = match flush {
-        Flush::Resting => Ok(Flush::Resting),
-        Flush::Flushed(synced) => Ok(Flush::Flushed(synced)),
-        Flush::Body(job) => job.step(&mut journal).map(Flush::BodyOut),
-        Flush::BodyOut(job) => job.step(&mut journal).map(Flush::BodySafe),
-        Flush::BodySafe(job) => job.step(&mut journal).map(Flush::GateSet),
-        Flush::GateSet(job) => job.step(&mut journal).map(Flush::Flushed),
-    };
-    match stepped {
-        Ok(flush) => (
-            Doing::Serving(Serving {
-                core,
-                journal,
-                flush,
-            }),
-            Ok(Outcome::Quiet),
-        ),
-        Err(refusal) => (Doing::Faulted(journal.into_disk()), Err(refusal)),
-    }
-}
-
-/// A flush of the staged facts begins.
-fn take(
-    alloc: Global,
-    mut core: Core,
-    mut journal: Journal<MemDisk>,
-    flush: Flush,
-) -> (Doing, Result<Outcome, Refusal>) {
-    match flush {
-        Flush::Resting => {
-            let (flush, answer) = begin(alloc, &mut core, &mut journal);
-            (
-                Doing::Serving(Serving {
-                    core,
-                    journal,
-                    flush,
-                }),
-                answer,
-            )
-        }
-        running => (
-            Doing::Serving(Serving {
-                core,
-                journal,
-                flush: running,
-            }),
-            Err(Refusal::Busy),
-        ),
-    }
-}
-
-fn begin(
-    alloc: Global,
-    core: &mut Core,
-    journal: &mut Journal<MemDisk>,
-) -> (Flush, Result<Outcome, Refusal>) {
-    match core.take_group() {
-        Err(refusal) => (Flush::Resting, Err(refusal)),
-        Ok(None) => (Flush::Resting, Ok(Outcome::Quiet)),
-        Ok(Some(group)) => match journal.begin(alloc, group) {
-            Ok(job) => (Flush::Body(job), Ok(Outcome::Quiet)),
-            Err((refusal, group)) => {
-                put_back(core, group);
-                (Flush::Resting, Err(refusal))
-            }
-        },
-    }
-}
-
-/// The group that the core has just given goes back to it.
-fn put_back(core: &mut Core, group: Group) {
-    let _own = core.put_back(group);
-}
-
-/// The synced group is marked.
-fn mark(
-    mut core: Core,
     journal: Journal<MemDisk>,
     flush: Flush,
-) -> (Doing, Result<Outcome, Refusal>) {
-    let (flush, answer) = match flush {
-        Flush::Flushed(synced) => match core.mark(synced) {
-            Ok(()) => (Flush::Resting, Ok(Outcome::Quiet)),
-            Err((refusal, synced)) => (Flush::Flushed(synced), Err(refusal)),
-        },
-        other => (other, Ok(Outcome::Quiet)),
-    };
+    answer: Result<Outcome, Refusal>,
+) -> (Doing, Result<Outcome, Refusal>)
+    ensures { result ≡ (Doing.Serving (record { core = core; journal = journal; flush = flush }), answer) }
+{
     (
         Doing::Serving(Serving {
             core,
@@ -215,4 +126,141 @@ fn mark(
         }),
         answer,
     )
+}
+
+/// A report tells nothing of an input that was taken.
+fn quiet(told: Result<(), Refusal>) -> Result<Outcome, Refusal>
+    ensures { result ≡ quiet told }
+{
+    match told {
+        Ok(()) => Ok(Outcome::Quiet),
+        Err(refusal) => Err(refusal),
+    }
+}
+
+/// The oldest message that may leave goes.
+fn send(
+    mut core: Core,
+    journal: Journal<MemDisk>,
+    flush: Flush,
+) -> (Doing, Result<Outcome, Refusal>)
+    ensures { CarriesOn NodeEvent.Send (record { core = core; journal = journal; flush = flush }) result.1 result.0 }
+{
+    let outcome = match core.next_message() {
+        Some(cleared) => Outcome::Left(cleared.message()),
+        None => Outcome::Quiet,
+    };
+    up(core, journal, flush, Ok(outcome))
+}
+
+/// The oldest decided request that waits is acknowledged.
+fn reply(
+    mut core: Core,
+    journal: Journal<MemDisk>,
+    flush: Flush,
+) -> (Doing, Result<Outcome, Refusal>)
+    ensures { CarriesOn NodeEvent.Acknowledge (record { core = core; journal = journal; flush = flush }) result.1 result.0 }
+{
+    let outcome = match core.next_ack() {
+        Some((request, reply)) => Outcome::Replied(request, reply),
+        None => Outcome::Quiet,
+    };
+    up(core, journal, flush, Ok(outcome))
+}
+
+/// The next device call of a flush.
+fn flush_on(
+    core: Core,
+    mut journal: Journal<MemDisk>,
+    flush: Flush,
+) -> (Doing, Result<Outcome, Refusal>)
+    ensures { CarriesOn NodeEvent.Device (record { core = core; journal = journal; flush = flush }) result.1 result.0 }
+{
+    match flush {
+        Flush::Resting => up(core, journal, Flush::Resting, Ok(Outcome::Quiet)),
+        Flush::Flushed(synced) => up(core, journal, Flush::Flushed(synced), Ok(Outcome::Quiet)),
+        Flush::Body(job) => match job.step(&mut journal) {
+            Ok(job) => up(core, journal, Flush::BodyOut(job), Ok(Outcome::Quiet)),
+            Err(refusal) => fallen(journal, refusal),
+        },
+        Flush::BodyOut(job) => match job.step(&mut journal) {
+            Ok(job) => up(core, journal, Flush::BodySafe(job), Ok(Outcome::Quiet)),
+            Err(refusal) => fallen(journal, refusal),
+        },
+        Flush::BodySafe(job) => match job.step(&mut journal) {
+            Ok(job) => up(core, journal, Flush::GateSet(job), Ok(Outcome::Quiet)),
+            Err(refusal) => fallen(journal, refusal),
+        },
+        Flush::GateSet(job) => match job.step(&mut journal) {
+            Ok(synced) => up(core, journal, Flush::Flushed(synced), Ok(Outcome::Quiet)),
+            Err(refusal) => fallen(journal, refusal),
+        },
+    }
+}
+
+/// A device call has failed: the node has failed too.
+fn fallen(journal: Journal<MemDisk>, refusal: Refusal) -> (Doing, Result<Outcome, Refusal>)
+    ensures { result ≡ (Doing.Faulted journal.disk, Err refusal) }
+{
+    (Doing::Faulted(journal.into_disk()), Err(refusal))
+}
+
+/// A flush of the staged facts begins.
+fn take(
+    alloc: Global,
+    core: Core,
+    journal: Journal<MemDisk>,
+    flush: Flush,
+) -> (Doing, Result<Outcome, Refusal>)
+    ensures { CarriesOn NodeEvent.Take (record { core = core; journal = journal; flush = flush }) result.1 result.0 }
+{
+    match flush {
+        Flush::Resting => begin(alloc, core, journal),
+        running => up(core, journal, running, Err(Refusal::Busy)),
+    }
+}
+
+/// A flush of the staged facts begins where none runs.
+fn begin(
+    alloc: Global,
+    mut core: Core,
+    mut journal: Journal<MemDisk>,
+) -> (Doing, Result<Outcome, Refusal>)
+    ensures { CarriesOn NodeEvent.Take (record { core = core; journal = journal; flush = Flush.Resting }) result.1 result.0 }
+{
+    match core.take_group() {
+        Err(refusal) => up(core, journal, Flush::Resting, Err(refusal)),
+        Ok(None) => up(core, journal, Flush::Resting, Ok(Outcome::Quiet)),
+        Ok(Some(group)) => match journal.begin(alloc, group) {
+            Ok(job) => up(core, journal, Flush::Body(job), Ok(Outcome::Quiet)),
+            Err((refusal, group)) => {
+                put_back(&mut core, group);
+                up(core, journal, Flush::Resting, Err(refusal))
+            }
+        },
+    }
+}
+
+/// The group that the core has just given goes back to it.
+fn put_back(core: &mut Core, group: Group)
+    ensures { running_group core.old ≡ Some group → core.new ≡ group_put_back core.old }
+{
+    let _own = core.put_back(group);
+}
+
+/// The synced group is marked.
+fn mark(
+    mut core: Core,
+    journal: Journal<MemDisk>,
+    flush: Flush,
+) -> (Doing, Result<Outcome, Refusal>)
+    ensures { CarriesOn NodeEvent.Mark (record { core = core; journal = journal; flush = flush }) result.1 result.0 }
+{
+    match flush {
+        Flush::Flushed(synced) => match core.mark(synced) {
+            Ok(()) => up(core, journal, Flush::Resting, Ok(Outcome::Quiet)),
+            Err((refusal, synced)) => up(core, journal, Flush::Flushed(synced), Err(refusal)),
+        },
+        other => up(core, journal, other, Ok(Outcome::Quiet)),
+    }
 }

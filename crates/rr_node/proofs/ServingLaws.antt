@@ -1,0 +1,215 @@
+-- Each event at a node that is up does what the definitions say, and keeps its parts together.
+use Rattle.std.proofs.Common.{◌≡◌, ◌≢◌, ◌⊎◌, inl, inr, ℕ, zero, suc, ◌+◌, ◌^◌, ◌<◌, ◌≤◌, Bool, true, false, cond, ltb, eqb, List, [], ◌∷◌, ◌++◌, length, take, drop, Option, None, Some, option_map, Result, Ok, Err, refl, sym, ap, subst, ◌∙◌, arith, if◌then◌else◌, nat_lt}
+use Rattle.std.specs.Result.{OnOk, OnErr, IfErr}
+use Rattle.std.specs.Option.{option_map_or}
+use Rattle.std.proofs.lemmas.Bool.{false≢true, ne_eqb, lt-ltb, le-ltb}
+use Rattle.std.proofs.lemmas.List.{take-append-drop, length-append}
+use Rattle.rr_types.specs.declared.fact.Fact.{Fact}
+use Rattle.rr_types.specs.declared.refusal.Refusal.{Refusal}
+use Rattle.rr_types.specs.declared.refusal.Refusal.TheVariants as because
+use Rattle.rr_types.specs.Groups.{Grouped}
+use Rattle.rr_model.specs.NodeState.{NodeState}
+use Rattle.rr_model.specs.NodeStep.{Input, node_step, refusal_of, group_taken, group_put_back, marked_running, running_group}
+use Rattle.rr_model.specs.NodeStays.{StaysMarked}
+use Rattle.rr_model.proofs.NodeSteady.{input_stays}
+use Rattle.rr_disk.specs.Areas.{Areas, synced}
+use Rattle.rr_disk.specs.Memory.{MemoryState, MemorySync}
+use Rattle.rr_frame.specs.Numbers.{number_bytes}
+use Rattle.rr_frame.specs.GroupFormat.{group_bytes}
+use Rattle.rr_frame.proofs.FieldLaws.{length-number_bytes}
+use Rattle.rr_gate.specs.Flushes as gate
+use Rattle.rr_journal.specs.declared.journal.Journal.{Journal}
+use Rattle.rr_journal.specs.Calls.{frame_bytes, append_calls}
+use Rattle.rr_node.specs.declared.doing.Doing.TheVariants as does
+use Rattle.rr_node.specs.declared.serving.Flush.{Flush}
+use Rattle.rr_node.specs.declared.serving.Flush.TheVariants as flush
+use Rattle.rr_node.specs.declared.event.NodeEvent.TheVariants as at
+use Rattle.rr_node.specs.declared.event.Outcome.{Outcome}
+use Rattle.rr_node.specs.declared.event.Outcome.TheVariants.{Quiet}
+use Rattle.rr_node.specs.Seats as seats
+use Rattle.rr_node.specs.Seats.{Seat, Answer, Journaled, goes_on, refuse, told, take_up, payload_of, journal_behind}
+use Rattle.rr_node.specs.Views.{journaled_of, flush_of, seat_of, IsJobOf, IsFlushOf, IsServing, CarriesOn, quiet}
+
+-- where the same group runs, a flush stays of it
+flush_stays : (s t : NodeState) (j : Journal MemoryState) (f : Flush) → StaysMarked s t → IsFlushOf s j f → IsFlushOf t j f
+flush_stays s t j f same h = by f h
+  where
+    group : running_group t ≡ running_group s
+    group = ap (λ (o : Option (List Fact)). option_map (λ facts. record { serial = t.marked_end; facts = facts }) o) same.running ∙ ap (λ (n : ℕ). option_map (λ (facts : List Fact). record { serial = n; facts = facts }) s.running) same.marked_end
+
+    job_stays : (job : gate.Flush) → IsJobOf s j job → IsJobOf t j job
+    job_stays job h = record { node = h.node ∙ sym same.node; area = h.area; gate = h.gate; body = h.body; group = group ∙ h.group }
+
+    by : (f : Flush) → IsFlushOf s j f → IsFlushOf t j f
+    by flush.Resting h = (same.running ∙ h.0, h.1)
+    by (flush.Body job) h = job_stays job h
+    by (flush.BodyOut job) h = job_stays job h
+    by (flush.BodySafe job) h = job_stays job h
+    by (flush.GateSet job) h = job_stays job h
+    by (flush.Flushed kept) h = (h.0 ∙ sym same.node, group ∙ h.1, h.2)
+
+serving_stays : (n p : ℕ) (s t : NodeState) (j : Journal MemoryState) (f : Flush) → StaysMarked s t → IsServing n p (record { core = s; journal = j; flush = f }) → IsServing n p (record { core = t; journal = j; flush = f })
+serving_stays n p s t j f same h = record {
+  nodes = same.nodes ∙ h.nodes;
+  node = same.node ∙ h.node;
+  journal_nodes = h.journal_nodes;
+  journal_node = h.journal_node;
+  sound = h.sound;
+  flush = flush_stays s t j f same h.flush;
+}
+
+-- what an input to the core answered, and the core after it
+pub record IsTold (input : Input) (s t : NodeState) (r : Result (Unit {0}) Refusal) : Type 0 where
+  pub ok : OnOk r (t ≡ node_step input s)
+  pub allowed : OnOk r (refusal_of input s ≡ None)
+  pub refused : IfErr r (λ e. (e ≡ because.OutOfMemory) ⊎ (refusal_of input s ≡ Some e))
+  pub err : OnErr r (t ≡ s)
+
+-- the same, of a seat
+abbrev Tells : Input → NodeState → Journal MemoryState → Flush → Seat → Answer → Type 0
+Tells input s j f seat given = (given ≡ told input s (journaled_of j) (flush_of f) seat) ⊎ (given ≡ refuse because.OutOfMemory seat)
+
+pub told_on : (input : Input) (s t : NodeState) (j : Journal MemoryState) (f : Flush) (r : Result (Unit {0}) Refusal) (n p : ℕ) → IsTold input s t r → IsServing n p (record { core = s; journal = j; flush = f })
+    → Tells input s j f (seat_of n p (does.Serving (record { core = s; journal = j; flush = f }))) (quiet r, seat_of n p (does.Serving (record { core = t; journal = j; flush = f })))
+    × IsServing n p (record { core = t; journal = j; flush = f })
+told_on input s t j f (Ok x) n p h steady =
+    rw (h.ok, h.allowed) (inl refl, serving_stays n p s (node_step input s) j f (input_stays input s) steady)
+told_on input s t j f (Err e) n p h steady = rw h.err (by h.refused, steady)
+  where
+    by : (e ≡ because.OutOfMemory) ⊎ (refusal_of input s ≡ Some e) → Tells input s j f (seat_of n p (does.Serving (record { core = s; journal = j; flush = f }))) (Err e, seat_of n p (does.Serving (record { core = s; journal = j; flush = f })))
+    by (inl memory) = inr (rw memory refl)
+    by (inr why) = inl (rw why refl)
+
+-- the marked group leaves none running
+marked_rests : (s : NodeState) (g : Grouped) → running_group s ≡ Some g → ((marked_running s).running ≡ None) × ((marked_running s).nodes ≡ s.nodes) × ((marked_running s).node ≡ s.node)
+unfolding marked_running
+marked_rests s g e = by s.running refl
+  where
+    by : (o : Option (List Fact)) → s.running ≡ o → ((marked_running s).running ≡ None) × ((marked_running s).nodes ≡ s.nodes) × ((marked_running s).node ≡ s.node)
+    by None h = absurd (none (rw h at e))
+      where
+        none : (option_map (λ (facts : List Fact). record { serial = s.marked_end; facts = facts }) None ≡ Some g) → ⊥
+        none x = cc
+    by (Some facts) h = rw h (refl, refl, refl)
+
+pub mark_done : (s t : NodeState) (j : Journal MemoryState) (kept : gate.Kept) → t ≡ marked_running s → CarriesOn at.Mark (record { core = s; journal = j; flush = flush.Flushed kept }) (Ok Quiet) (does.Serving (record { core = t; journal = j; flush = flush.Resting }))
+mark_done s t j kept e n p h =
+    let rests = marked_rests s kept.group h.flush.1 in
+    rw e (
+      inl refl,
+      record { nodes = rests.1 ∙ h.nodes; node = rests.2 ∙ h.node; journal_nodes = h.journal_nodes; journal_node = h.journal_node; sound = h.sound; flush = (rests.0, h.flush.2) },
+    )
+
+frame_long : (payload : List ℕ) → length (frame_bytes payload) ≡ 5 + length payload
+unfolding number_bytes
+frame_long payload = length-append (number_bytes 4 (length payload)) (payload ++ 0 ∷ []) ∙ omega (arith, length-number_bytes 4 (length payload), length-append payload (0 ∷ []))
+
+-- where the journal appends once the job's frame is on the disk
+behind : (s : NodeState) (j : Journal MemoryState) (job : gate.Flush) → IsJobOf s j job → job.gate + length job.body ≡ (journal_behind s (journaled_of j)).gate
+behind s j job h =
+    let payload : List ℕ = group_bytes job.group in
+    let size : option_map_or (λ (g : Grouped). length (group_bytes g)) (running_group s) 0 ≡ length (group_bytes job.group) = ap (λ (o : Option Grouped). option_map_or (λ (g : Grouped). length (group_bytes g)) o 0) h.group in
+    let body : length job.body ≡ 5 + length (group_bytes job.group) = ap (λ (bytes : List ℕ). length bytes) h.body ∙ frame_long (group_bytes job.group) in
+    omega (arith, size, body, h.gate)
+
+pub gate_done : (s : NodeState) (j k : Journal MemoryState) (job : gate.Flush) (kept : gate.Kept) (next : ℕ) → kept ≡ record { node = job.node; group = job.group }
+    → k ≡ record { disk = k.disk; nodes = j.nodes; node = j.node; area = j.area; epoch = j.epoch; gate = job.gate + length job.body; next = next; failed = j.failed; busy = false }
+    → k.disk.areas ≡ synced j.disk.areas
+    → CarriesOn at.Device (record { core = s; journal = j; flush = flush.GateSet job }) (Ok Quiet) (does.Serving (record { core = s; journal = k; flush = flush.Flushed kept }))
+gate_done s j k job kept next is ended areas n p h =
+    let own : Path Seat (seat_of n p (does.Serving (record { core = s; journal = k; flush = flush.Flushed kept }))) (record { nodes = n; node = p; doing = seats.Serving s (journal_behind s (journaled_of j)) seats.Flushed; areas = synced j.disk.areas }) =
+    rw (areas, ap (λ (x : Journal MemoryState). x.area) ended, ap (λ (x : Journal MemoryState). x.gate) ended, behind s j job h.flush) refl in
+    (
+      inl (ap (λ (x : Seat). pair x) own),
+      record {
+        nodes = h.nodes;
+        node = h.node;
+        journal_nodes = ap (λ (x : Journal MemoryState). x.nodes) ended ∙ h.journal_nodes;
+        journal_node = ap (λ (x : Journal MemoryState). x.node) ended ∙ h.journal_node;
+        sound = ap (λ (x : Journal MemoryState). x.failed) ended ∙ h.sound;
+        flush = (ap (λ (x : gate.Kept). x.node) is ∙ h.flush.node, h.flush.group ∙ ap (λ (x : gate.Kept). Some x.group) (sym is), ap (λ (x : Journal MemoryState). x.busy) ended);
+      },
+    )
+  where
+    pair : Seat → Answer
+    pair x = (Ok Quiet, x)
+
+-- a group that is taken and put back leaves all as it was
+back_again : (s : NodeState) → s.running ≡ None → group_put_back (group_taken s) ≡ s
+unfolding group_put_back group_taken
+back_again s rests = rw (take-append-drop 64 s.staged, sym rests) refl
+
+taken_stays : (s : NodeState) → ((group_taken s).nodes ≡ s.nodes) × ((group_taken s).node ≡ s.node)
+unfolding group_taken
+taken_stays s = (refl, refl)
+
+staged_some : (xs : List Fact) → xs ≢ [] → eqb (length xs) 0 ≡ false
+staged_some [] some = absurd (some refl)
+staged_some (x ∷ rest) some = ne_eqb (suc (length rest)) 0 (λ e. omega (arith, e))
+
+-- what a take answers, by whether nothing is staged, by whether the frame fits, and by the group's bytes
+abbrev taken_with : NodeState → Journaled → Seat → Bool → Bool → List ℕ → Answer
+taken_with s j seat empty fits payload =
+    if empty then (Ok Quiet, seat)
+    else (if fits then goes_on Quiet (seats.Serving (group_taken s) j (seats.Writing (append_calls j.area j.gate payload))) seat else refuse because.TooLarge seat)
+
+take_is : (s : NodeState) (j : Journaled) (seat : Seat) (group : Grouped) (fits : Bool) → s.staged ≢ [] → running_group (group_taken s) ≡ Some group → nat_lt (j.gate + 6 + length (group_bytes group)) (2 ^ 32) ≡ fits
+    → take_up s j seats.Resting seat ≡ taken_with s j seat false fits (group_bytes group)
+take_is s j seat group fits some is fit =
+    let payload : payload_of s ≡ group_bytes group = ap (λ (o : Option Grouped). option_map_or group_bytes o []) is in
+    ap (λ (b : Bool). taken_with s j seat b (nat_lt (j.gate + 6 + length (payload_of s)) (2 ^ 32)) (payload_of s)) (staged_some s.staged some)
+    ∙ ap (λ (bytes : List ℕ). taken_with s j seat false (nat_lt (j.gate + 6 + length bytes) (2 ^ 32)) bytes) payload
+    ∙ ap (λ (b : Bool). taken_with s j seat false b (group_bytes group)) fit
+
+pub begin_done : (s t : NodeState) (j k : Journal MemoryState) (group : Grouped) (job : gate.Flush) → s.staged ≢ [] → t ≡ group_taken s → Some group ≡ running_group t → s.running ≡ None
+    → j.gate + 6 + length (group_bytes group) < 2 ^ 32 → k ≡ record j { busy = true }
+    → job ≡ record { nodes = j.nodes; node = j.node; area = j.area; gate = j.gate; body = frame_bytes (group_bytes group); group = group }
+    → CarriesOn at.Take (record { core = s; journal = j; flush = flush.Resting }) (Ok Quiet) (does.Serving (record { core = t; journal = k; flush = flush.Body job }))
+begin_done s t j k group job some taken runs rests small busy is n p h =
+    rw (taken, busy, is) (
+      inl (sym step),
+      record {
+        nodes = nodes_stay.0 ∙ h.nodes;
+        node = nodes_stay.1 ∙ h.node;
+        journal_nodes = h.journal_nodes;
+        journal_node = h.journal_node;
+        sound = h.sound;
+        flush = record { node = h.journal_node ∙ sym (nodes_stay.1 ∙ h.node); area = refl; gate = refl; body = refl; group = group_is };
+      },
+    )
+  where
+    group_is : running_group (group_taken s) ≡ Some group
+    group_is = ap running_group (sym taken) ∙ sym runs
+
+    nodes_stay : ((group_taken s).nodes ≡ s.nodes) × ((group_taken s).node ≡ s.node)
+    nodes_stay = taken_stays s
+
+    seat : Seat
+    seat = seat_of n p (does.Serving (record { core = s; journal = j; flush = flush.Resting }))
+
+    step : take_up s (journaled_of j) seats.Resting seat ≡ taken_with s (journaled_of j) seat false true (group_bytes group)
+    step = take_is s (journaled_of j) seat group true some group_is (lt-ltb _ _ small)
+
+pub begin_refused : (s t u : NodeState) (j k : Journal MemoryState) (group : Grouped) (e : Refusal) → s.staged ≢ [] → t ≡ group_taken s → Some group ≡ running_group t → s.running ≡ None → u ≡ group_put_back t → k ≡ j
+    → (e ≡ because.OutOfMemory) ⊎ ((e ≡ because.Failed) × (j.failed ≡ true)) ⊎ ((e ≡ because.Busy) × (j.busy ≡ true)) ⊎ ((e ≡ because.TooLarge) × (2 ^ 32 ≤ j.gate + 6 + length (group_bytes group)))
+    → CarriesOn at.Take (record { core = s; journal = j; flush = flush.Resting }) (Err e) (does.Serving (record { core = u; journal = k; flush = flush.Resting }))
+begin_refused s t u j k group e some taken runs rests back same why n p h = rw (again, same) (by why, h)
+  where
+    group_is : running_group (group_taken s) ≡ Some group
+    group_is = ap running_group (sym taken) ∙ sym runs
+
+    again : u ≡ s
+    again = back ∙ ap group_put_back taken ∙ back_again s rests
+
+    seat : Seat
+    seat = seat_of n p (does.Serving (record { core = s; journal = j; flush = flush.Resting }))
+
+    step : 2 ^ 32 ≤ j.gate + 6 + length (group_bytes group) → take_up s (journaled_of j) seats.Resting seat ≡ taken_with s (journaled_of j) seat false false (group_bytes group)
+    step large = take_is s (journaled_of j) seat group false some group_is (le-ltb _ _ large)
+
+    by : (e ≡ because.OutOfMemory) ⊎ ((e ≡ because.Failed) × (j.failed ≡ true)) ⊎ ((e ≡ because.Busy) × (j.busy ≡ true)) ⊎ ((e ≡ because.TooLarge) × (2 ^ 32 ≤ j.gate + 6 + length (group_bytes group)))
+        → seats.Gives at.Take seat (Err e) seat
+    by (inl memory) = inr (rw memory refl)
+    by (inr (inl failed)) = absurd (false≢true (sym h.sound ∙ failed.1))
+    by (inr (inr (inl busy))) = absurd (false≢true (sym h.flush.1 ∙ busy.1))
+    by (inr (inr (inr large))) = inl (rw large.0 (sym (step large.1)))

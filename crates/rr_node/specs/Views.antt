@@ -1,0 +1,117 @@
+-- How the code's node stands for a seat, and what keeps its parts together.
+use Rattle.std.specs.Prelude.{◌≡◌, ◌⊎◌, ℕ, ◌+◌, false, List, [], ◌∷◌, Option, None, Some, Result, Ok, Err}
+use Rattle.rr_types.specs.declared.promise.Entry.{Entry}
+use Rattle.rr_types.specs.declared.refusal.Refusal.{Refusal}
+use Rattle.rr_types.specs.declared.refusal.Refusal.TheVariants.{OutOfMemory}
+use Rattle.rr_model.specs.NodeState.{NodeState}
+use Rattle.rr_model.specs.NodeStep.{running_group}
+use Rattle.rr_disk.specs.Areas.{Areas}
+use Rattle.rr_disk.specs.Memory.{MemoryState}
+use Rattle.rr_frame.specs.GroupFormat.{group_bytes}
+use Rattle.rr_gate.specs.Flushes as gate
+use Rattle.rr_journal.specs.declared.journal.Journal.{Journal}
+use Rattle.rr_journal.specs.Calls.{Write, Sync, frame_bytes}
+use Rattle.rr_journal.specs.Phases.{phase_of}
+use Rattle.rr_node.specs.declared.doing.Doing as code
+use Rattle.rr_node.specs.declared.doing.Doing.TheVariants as does
+use Rattle.rr_node.specs.declared.serving.Serving.{Serving}
+use Rattle.rr_node.specs.declared.serving.Flush as code_2
+use Rattle.rr_node.specs.declared.serving.Flush.TheVariants as flush
+use Rattle.rr_node.specs.declared.event.NodeEvent.{NodeEvent}
+use Rattle.rr_node.specs.declared.event.Outcome.{Outcome}
+use Rattle.rr_node.specs.declared.event.Outcome.TheVariants.{Quiet}
+use Rattle.rr_node.specs.Seats as seats
+use Rattle.rr_node.specs.Seats.{Seat, Journaled, Answer, Gives, serves}
+
+-- where a journal appends
+abbrev pub journaled_of : Journal MemoryState → Journaled
+journaled_of j = record { area = j.area; gate = j.gate }
+
+-- a flush, by the device calls that are left of it
+abbrev pub flush_of : code_2.Flush → seats.Flush
+flush_of flush.Resting = seats.Resting
+flush_of (flush.Body job) = seats.Writing (Write job.area (job.gate + 1) job.body ∷ Sync ∷ Write job.area job.gate (165 ∷ []) ∷ Sync ∷ [])
+flush_of (flush.BodyOut job) = seats.Writing (Sync ∷ Write job.area job.gate (165 ∷ []) ∷ Sync ∷ [])
+flush_of (flush.BodySafe job) = seats.Writing (Write job.area job.gate (165 ∷ []) ∷ Sync ∷ [])
+flush_of (flush.GateSet job) = seats.Writing (Sync ∷ [])
+flush_of (flush.Flushed synced) = seats.Flushed
+
+-- what a node does
+abbrev pub doing_of : code.Doing → seats.Doing
+doing_of (does.Stopped disk) = seats.Stopped
+doing_of (does.Faulted disk) = seats.Faulted
+doing_of (does.Opening opening) = seats.Opening (phase_of opening.phase)
+doing_of (does.Serving s) = seats.Serving s.core (journaled_of s.journal) (flush_of s.flush)
+
+-- what its areas hold
+abbrev pub areas_of : code.Doing → Areas
+areas_of (does.Stopped disk) = disk.areas
+areas_of (does.Faulted disk) = disk.areas
+areas_of (does.Opening opening) = opening.disk.areas
+areas_of (does.Serving s) = s.journal.disk.areas
+
+-- a node of so many that does this
+abbrev pub seat_of : ℕ → ℕ → code.Doing → Seat
+seat_of n p doing = record { nodes = n; node = p; doing = doing_of doing; areas = areas_of doing }
+
+-- a job is of the core's running group, and writes its frame where the journal appends
+pub record IsJobOf (s : NodeState) (j : Journal MemoryState) (job : gate.Flush) : Type 0 where
+  pub node : job.node ≡ s.node
+  pub area : job.area ≡ j.area
+  pub gate : job.gate ≡ j.gate
+  pub body : job.body ≡ frame_bytes (group_bytes job.group)
+  pub group : running_group s ≡ Some job.group
+
+-- a flush is of the core's running group; where none runs the journal isn't busy
+abbrev pub IsFlushOf : NodeState → Journal MemoryState → code_2.Flush → Type 0
+IsFlushOf s j flush.Resting = (s.running ≡ None) × (j.busy ≡ false)
+IsFlushOf s j (flush.Body job) = IsJobOf s j job
+IsFlushOf s j (flush.BodyOut job) = IsJobOf s j job
+IsFlushOf s j (flush.BodySafe job) = IsJobOf s j job
+IsFlushOf s j (flush.GateSet job) = IsJobOf s j job
+IsFlushOf s j (flush.Flushed synced) = (synced.node ≡ s.node) × (running_group s ≡ Some synced.group) × (j.busy ≡ false)
+
+-- a node that is up is node p of n over its own journal, which hasn't failed
+pub record IsServing (n p : ℕ) (s : Serving) : Type 0 where
+  pub nodes : s.core.nodes ≡ n
+  pub node : s.core.node ≡ p
+  pub journal_nodes : s.journal.nodes ≡ n
+  pub journal_node : s.journal.node ≡ p
+  pub sound : s.journal.failed ≡ false
+  pub flush : IsFlushOf s.core s.journal s.flush
+
+-- what holds of node p of n between events
+abbrev pub IsSteady : ℕ → ℕ → code.Doing → Type 0
+IsSteady n p (does.Stopped disk) = Unit {0}
+IsSteady n p (does.Faulted disk) = Unit {0}
+IsSteady n p (does.Opening opening) = (opening.nodes ≡ n) × (opening.node ≡ p)
+IsSteady n p (does.Serving s) = IsServing n p s
+
+-- from one steady doing an event leads, with this answer, to another as the definitions say
+abbrev pub Carries : ℕ → ℕ → NodeEvent → code.Doing → Result Outcome Refusal → code.Doing → Type 0
+Carries n p event old answer new = IsSteady n p old → Gives event (seat_of n p old) answer (seat_of n p new) × IsSteady n p new
+
+-- the same of a node that is up, whichever node it is
+abbrev pub CarriesOn : NodeEvent → Serving → Result Outcome Refusal → code.Doing → Type 0
+CarriesOn event s answer new = (n p : ℕ) → Carries n p event (does.Serving s) answer new
+
+-- a journal is node p's of n, rests and hasn't failed
+pub record IsOpened (n p : ℕ) (j : Journal MemoryState) : Type 0 where
+  pub nodes : j.nodes ≡ n
+  pub node : j.node ≡ p
+  pub sound : j.failed ≡ false
+  pub rests : j.busy ≡ false
+
+-- an opening of node p of n ended with this journal, promise and number: the node serves, or memory was wanting and it is down
+abbrev pub Serves : ℕ → ℕ → Journal MemoryState → List Entry → ℕ → Result Outcome Refusal → code.Doing → Type 0
+Serves n p j promise number answer new =
+    IsOpened n p j
+    → (let given : Answer = (answer, seat_of n p new) in
+    (given ≡ serves j.area (record { epoch = j.epoch; promise = promise; next = number; gate = j.gate }) (seat_of n p (does.Stopped j.disk)))
+    ⊎ (given ≡ (Err OutOfMemory, seat_of n p (does.Stopped j.disk))))
+    × IsSteady n p new
+
+-- a report tells nothing of an input that was taken
+abbrev pub quiet : Result (Unit {0}) Refusal → Result Outcome Refusal
+quiet (Ok x) = Ok Quiet
+quiet (Err e) = Err e
