@@ -8,7 +8,7 @@ use Rattle.rr_journal.specs.declared.opening.Opening as code
 use Rattle.rr_journal.specs.declared.opening.Progress as code_2
 use Rattle.rr_journal.specs.declared.opening.Progress.TheVariants as progress
 use Rattle.rr_journal.specs.Openings.{Done, Refused, due_call, after_opening_call, Goes, Opens, Stops}
-use Rattle.rr_journal.specs.Phases.{phase_of}
+use Rattle.rr_journal.specs.Phases.{phase_of, TakesMemory}
 
 module _ {D : Type 0} (of_read : D → Area → ℕ → ℕ → Result (Vec ℕ Global) Refusal → D → Type 0) (of_write : D → Area → ℕ → List ℕ → Result (Unit {0}) Refusal → D → Type 0) (of_sync : D → Result (Unit {0}) Refusal → D → Type 0) where
   -- a step makes the device call that is due, and answers what comes behind it: more calls, or an open disk; or it is
@@ -21,4 +21,4 @@ module _ {D : Type 0} (of_read : D → Area → ℕ → ℕ → Result (Vec ℕ 
       × (journal ≡ record { disk = journal.disk; nodes = o.nodes; node = o.node; area = journal.area; epoch = journal.epoch; gate = journal.gate; next = number; failed = false; busy = false })
   Steps o (Err (e, disk)) = Refused of_read of_write of_sync (due_call (phase_of o.phase)) o.disk e disk
       ⊎ ((v : Vec ℕ Global) × Done of_read of_write of_sync (due_call (phase_of o.phase)) o.disk v disk
-      × ((e ≡ OutOfMemory) ⊎ (after_opening_call o.nodes o.node v.items (phase_of o.phase) ≡ Stops e)))
+      × (((e ≡ OutOfMemory) × TakesMemory (phase_of o.phase)) ⊎ (after_opening_call o.nodes o.node v.items (phase_of o.phase) ≡ Stops e)))

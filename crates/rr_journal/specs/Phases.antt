@@ -26,8 +26,15 @@ phase_of at.SettlingBody = Formatting behind_body
 phase_of at.OpeningGate = Formatting (Write First 0 (165 ∷ []) ∷ Sync ∷ [])
 phase_of at.SettlingGate = Formatting (Sync ∷ [])
 
+-- what is found by the reads takes memory; nothing else behind a device call does
+abbrev pub TakesMemory : Phase → Type 0
+TakesMemory Settling = ⊥
+TakesMemory ReadingFirst = ⊥
+TakesMemory (ReadingSecond first) = Unit {0}
+TakesMemory (Formatting calls) = ⊥
+
 -- the code goes on as it must behind a device call, unless memory is wanting
-abbrev pub Follows : Result next.Next Refusal → After → Type 0
-Follows (Ok (next_is.Phase phase)) after = after ≡ Goes (phase_of phase)
-Follows (Ok (next_is.Open area epoch gate promise number)) after = after ≡ Opens area (record { epoch = epoch; promise = promise; next = number; gate = gate })
-Follows (Err e) after = (e ≡ OutOfMemory) ⊎ (after ≡ Stops e)
+abbrev pub Follows : Result next.Next Refusal → Phase → After → Type 0
+Follows (Ok (next_is.Phase phase)) old after = after ≡ Goes (phase_of phase)
+Follows (Ok (next_is.Open area epoch gate promise number)) old after = after ≡ Opens area (record { epoch = epoch; promise = promise; next = number; gate = gate })
+Follows (Err e) old after = ((e ≡ OutOfMemory) × TakesMemory old) ⊎ (after ≡ Stops e)

@@ -5,7 +5,7 @@ ghost use Rattle.rr_types.specs.declared.refusal.Refusal.TheVariants.{OutOfMemor
 ghost use Rattle.rr_frame.specs.SnapshotFormat.{snapshot_bytes};
 ghost use Rattle.rr_journal.specs.Calls.{must_close, frame_bytes};
 ghost use Rattle.rr_journal.specs.Image.{found};
-ghost use Rattle.rr_journal.specs.Openings.{Settling, Done, Refused, due_call, after_found, after_opening_call};
+ghost use Rattle.rr_journal.specs.Openings.{Settling, ReadingSecond, Done, Refused, due_call, after_found, after_opening_call};
 ghost use Rattle.rr_journal.specs.Phases.{phase_of, Follows};
 ghost use Rattle.rr_journal.specs.OpeningSteps.{Steps};
 
@@ -155,7 +155,7 @@ fn go_on(
     phase: Phase,
     read: Vec<u8>,
 ) -> Result<Next, Refusal>
-    ensures { Follows result (after_opening_call nodes node read.items (phase_of phase)) }
+    ensures { Follows result (phase_of phase) (after_opening_call nodes node read.items (phase_of phase)) }
 {
     match phase {
         Phase::Settling => Ok(Next::Phase(Phase::ReadingFirst)),
@@ -184,7 +184,7 @@ fn with_areas(
     first: &[u8],
     second: &[u8],
 ) -> Result<Next, Refusal>
-    ensures { Follows result (after_found nodes node first.now (found nodes node first.now second.now)) }
+    ensures { Follows result (ReadingSecond first.now) (after_found nodes node first.now (found nodes node first.now second.now)) }
 {
     match read_image(alloc, nodes, node, first, second) {
         Err(refusal) => Err(refusal),

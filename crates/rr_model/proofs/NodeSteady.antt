@@ -11,6 +11,7 @@ use Rattle.rr_types.specs.declared.message.Body.TheVariants as say
 use Rattle.rr_types.specs.declared.message.Body.TheVariants.{Estimate, Proposal, Ack, Decision, Request, Nack, Beat, Suspects, Ask}
 use Rattle.rr_types.specs.declared.promise.Standing.{Standing}
 use Rattle.rr_types.specs.declared.promise.Standing.TheVariants.{Decided, Open}
+use Rattle.rr_types.specs.declared.promise.Entry.{Entry}
 use Rattle.rr_types.specs.Commands.{has_request}
 use Rattle.rr_types.specs.Estimates.{Estimated}
 use Rattle.rr_types.specs.Nodes.{coordinator_of, with_member}
@@ -19,7 +20,7 @@ use Rattle.rr_model.specs.NodeState.{NodeState, Row, Tally, ◌▷◌, next_numb
 use Rattle.rr_model.specs.NodeDetector.{all_ticked, late_nodes}
 use Rattle.rr_model.specs.NodeParts.{owe, pool_add, stage, backing_at, leave_round, enter_with, entering_estimate, enter, restate, restate_all, conclude, propose}
 use Rattle.rr_model.specs.NodeDue.{Due, Begin, Offer, Conclude, MoveOn, due, carry_out, settle_within, settle}
-use Rattle.rr_model.specs.NodeStep.{Input, Submit, Suspect, Tick, Advance, Hear, is_waiting, wait_for, submitted, is_list_full, is_behind, ask, ticked_on, lowest_in_round, advanced, with_vote, change_tally, count_estimate, count_ack, count_nack, catch_up, acknowledge, take_proposal, take_estimate, has_proposed, answer, if_open, heard_body, heard, taken_in, node_step}
+use Rattle.rr_model.specs.NodeStep.{Input, Submit, Suspect, Tick, Advance, Hear, is_waiting, wait_for, submitted, is_list_full, is_behind, ask, ticked_on, lowest_in_round, advanced, with_vote, change_tally, count_estimate, count_ack, count_nack, catch_up, acknowledge, take_proposal, take_estimate, has_proposed, answer, if_open, heard_body, heard, taken_in, node_step, restored, started}
 use Rattle.rr_model.specs.NodeStays.{StaysMarked}
 
 itself : (s : NodeState) → StaysMarked s s
@@ -202,3 +203,8 @@ taken_stays (Hear m) s = either s _ s (m.to == s.node) (body_stays m.from m.body
 pub input_stays : (input : Input) (s : NodeState) → StaysMarked s (node_step input s)
 unfolding node_step
 input_stays input s = further s (taken_in input s) _ (taken_stays input s) (settle_stays (taken_in input s))
+
+-- a node after its opening is who it is, with what it was opened with marked and no group running
+pub started_stays : (n p : ℕ) (promise : List Entry) (next : ℕ) → StaysMarked (restored n p promise next) (started n p promise next)
+unfolding started
+started_stays n p promise next = restate_all_stays (open_instances (restored n p promise next)) (restored n p promise next)

@@ -1,1 +1,2 @@
+mod OpeningLaws
 mod ServingLaws

@@ -8,10 +8,12 @@ use Rattle.rr_types.specs.declared.fact.Fact.{Fact}
 use Rattle.rr_types.specs.declared.refusal.Refusal.{Refusal}
 use Rattle.rr_types.specs.declared.refusal.Refusal.TheVariants as because
 use Rattle.rr_types.specs.Groups.{Grouped}
-use Rattle.rr_model.specs.NodeState.{NodeState}
-use Rattle.rr_model.specs.NodeStep.{Input, node_step, refusal_of, group_taken, group_put_back, marked_running, running_group}
+use Rattle.rr_types.specs.declared.promise.Entry.{Entry}
+use Rattle.rr_types.specs.Registry.{Bindings, registry_of}
+use Rattle.rr_model.specs.NodeState.{NodeState, decided_prefix}
+use Rattle.rr_model.specs.NodeStep.{Input, node_step, refusal_of, group_taken, group_put_back, marked_running, running_group, restored, started}
 use Rattle.rr_model.specs.NodeStays.{StaysMarked}
-use Rattle.rr_model.proofs.NodeSteady.{input_stays}
+use Rattle.rr_model.proofs.NodeSteady.{input_stays, started_stays}
 use Rattle.rr_disk.specs.Areas.{Areas, synced}
 use Rattle.rr_disk.specs.Memory.{MemoryState, MemorySync}
 use Rattle.rr_frame.specs.Numbers.{number_bytes}
@@ -21,14 +23,15 @@ use Rattle.rr_gate.specs.Flushes as gate
 use Rattle.rr_journal.specs.declared.journal.Journal.{Journal}
 use Rattle.rr_journal.specs.Calls.{frame_bytes, append_calls}
 use Rattle.rr_node.specs.declared.doing.Doing.TheVariants as does
+use Rattle.rr_node.specs.declared.serving.Serving.{Serving}
 use Rattle.rr_node.specs.declared.serving.Flush.{Flush}
 use Rattle.rr_node.specs.declared.serving.Flush.TheVariants as flush
 use Rattle.rr_node.specs.declared.event.NodeEvent.TheVariants as at
 use Rattle.rr_node.specs.declared.event.Outcome.{Outcome}
-use Rattle.rr_node.specs.declared.event.Outcome.TheVariants.{Quiet}
+use Rattle.rr_node.specs.declared.event.Outcome.TheVariants.{Quiet, Opened}
 use Rattle.rr_node.specs.Seats as seats
 use Rattle.rr_node.specs.Seats.{Seat, Answer, Journaled, goes_on, refuse, told, take_up, payload_of, journal_behind}
-use Rattle.rr_node.specs.Views.{journaled_of, flush_of, seat_of, IsJobOf, IsFlushOf, IsServing, CarriesOn, quiet}
+use Rattle.rr_node.specs.Views.{journaled_of, flush_of, seat_of, IsJobOf, IsFlushOf, IsServing, CarriesOn, Serves, quiet}
 
 -- where the same group runs, a flush stays of it
 flush_stays : (s t : NodeState) (j : Journal MemoryState) (f : Flush) → StaysMarked s t → IsFlushOf s j f → IsFlushOf t j f
@@ -118,8 +121,7 @@ pub gate_done : (s : NodeState) (j k : Journal MemoryState) (job : gate.Flush) (
     → CarriesOn at.Device (record { core = s; journal = j; flush = flush.GateSet job }) (Ok Quiet) (does.Serving (record { core = s; journal = k; flush = flush.Flushed kept }))
 gate_done s j k job kept next is ended areas n p h =
     let own : Path Seat (seat_of n p (does.Serving (record { core = s; journal = k; flush = flush.Flushed kept }))) (record { nodes = n; node = p; doing = seats.Serving s (journal_behind s (journaled_of j)) seats.Flushed; areas = synced j.disk.areas }) =
-    rw (areas, ap (λ (x : Journal MemoryState). x.area) ended, ap (λ (x : Journal MemoryState). x.gate) ended, behind s j job h.flush) refl in
-    (
+    rw (areas, ap (λ (x : Journal MemoryState). x.area) ended, ap (λ (x : Journal MemoryState). x.gate) ended, behind s j job h.flush) refl in (
       inl (ap (λ (x : Seat). pair x) own),
       record {
         nodes = h.nodes;
@@ -213,3 +215,13 @@ begin_refused s t u j k group e some taken runs rests back same why n p h = rw (
     by (inr (inl failed)) = absurd (false≢true (sym h.sound ∙ failed.1))
     by (inr (inr (inl busy))) = absurd (false≢true (sym h.flush.1 ∙ busy.1))
     by (inr (inr (inr large))) = inl (rw large.0 (sym (step large.1)))
+
+-- an opening ended, and the node serves
+pub serve_done : (n p : ℕ) (j : Journal MemoryState) (promise : List Entry) (number decided : ℕ) (core : NodeState) (names : Bindings) (s : Serving) → core ≡ started n p promise number
+    → decided ≡ length (decided_prefix core) → names ≡ registry_of (decided_prefix core) → s ≡ record { core = core; journal = j; flush = flush.Resting } → Serves n p j promise number (Ok (Opened number decided names)) (does.Serving s)
+serve_done n p j promise number decided core names s is count bound own h =
+    let same : StaysMarked (restored n p promise number) (started n p promise number) = started_stays n p promise number in
+    rw (own, bound, count, is) (
+      inl refl,
+      record { nodes = same.nodes; node = same.node; journal_nodes = h.nodes; journal_node = h.node; sound = h.sound; flush = (same.running, h.rests) },
+    )

@@ -1,9 +1,9 @@
 //! What a node does: nothing, an opening, or its service.
 
-ghost use Rattle.std.specs.Prelude.{◌≡◌, IfOk, IfErr};
+ghost use Rattle.std.specs.Prelude.{◌≡◌, ◌↔◌, IsTrue, IfOk, IfErr};
 ghost use Rattle.rr_types.specs.Registry.{registry_of};
 ghost use Rattle.rr_model.specs.NodeState.{decided_prefix};
-ghost use Rattle.rr_types.specs.declared.refusal.Refusal.TheVariants.{OutOfMemory};
+ghost use Rattle.rr_types.specs.declared.refusal.Refusal.TheVariants.{OutOfMemory, Device};
 ghost use Rattle.rr_node.specs.Views.{Carries, Serves, areas_of};
 
 use crate::event::{BoundNames, NodeEvent, Outcome};
@@ -88,9 +88,21 @@ fn open_on(
         Ok(Progress::Done(journal, promise, number)) => serve(
             alloc, nodes, node, journal, promise, number,
         ),
-        Err((Refusal::Device, disk)) => (Doing::Faulted(disk), Err(Refusal::Device)),
-        Err((refusal, disk)) => (Doing::Stopped(disk), Err(refusal)),
+        Err((refusal, disk)) => {
+            if is_device(refusal) {
+                (Doing::Faulted(disk), Err(refusal))
+            } else {
+                (Doing::Stopped(disk), Err(refusal))
+            }
+        }
     }
+}
+
+/// Whether a refusal is a device's.
+fn is_device(refusal: Refusal) -> bool
+    ensures { IsTrue result ↔ (refusal ≡ Device) }
+{
+    matches!(refusal, Refusal::Device)
 }
 
 /// The node starts to serve.
