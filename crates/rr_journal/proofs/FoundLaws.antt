@@ -1,5 +1,5 @@
 -- What both areas stand for, whatever stands behind the last gate of the active one.
-use Rattle.std.proofs.Common.{◌≡◌, ◌≢◌, ℕ, zero, suc, ◌+◌, ◌-◌, ◌<◌, ◌≤◌, Bool, true, false, cond, eqb, leb, ltb, ◌&&◌, List, [], ◌∷◌, length, take, drop, get_or, Option, None, Some, Result, Ok, Err, refl, sym, ap, subst, ◌∙◌, arith}
+use Rattle.std.proofs.Common.{◌≡◌, ◌≢◌, ℕ, suc, ◌+◌, ◌-◌, ◌<◌, ◌≤◌, Bool, true, false, cond, eqb, leb, ltb, ◌&&◌, List, [], ◌∷◌, length, take, drop, get_or, Option, None, Some, Result, Ok, Err, refl, sym, ap, subst, ◌∙◌, arith}
 use Rattle.std.proofs.lemmas.Bool.{and_parts, eqb-true}
 use Rattle.std.proofs.lemmas.List.{length-drop, drop-drop, get_or-drop}
 use Rattle.rr_disk.specs.declared.area.Area.{Area}
@@ -8,9 +8,9 @@ use Rattle.rr_disk.specs.Crash.{Images}
 use Rattle.rr_frame.specs.Snapshots.{Snapped}
 use Rattle.rr_frame.specs.SnapshotFormat.{snapshot_in}
 use Rattle.rr_gate.specs.Moments.{image_of, with_image}
-use Rattle.rr_journal.specs.Image.{Content, Found, Unformatted, Broken, Active, Front, Blank, Faulty, Begins, frame_behind, content_from, of_node, front_behind, front_of, content_behind, active, found_by, found}
+use Rattle.rr_journal.specs.Image.{Content, Broken, Active, Front, Blank, Faulty, Begins, frame_behind, content_from, of_node, front_behind, front_of, content_behind, active, found_by, found}
 use Rattle.rr_journal.proofs.ContentLemmas.{front_begins}
-use Rattle.rr_journal.proofs.ReadingLaws.{IsFrame, frame_parts, frame_same, same_front, same_part, Reaches, reaches}
+use Rattle.rr_journal.proofs.ReadingLaws.{frame_parts, frame_same, same_front, same_part, reaches}
 
 -- an area's first frame, and so it is of all bytes that begin so, up to the next gate
 pub record Fronts (n p : ℕ) (c : Content) (bytes rest : List ℕ) : Type 0 where
@@ -85,11 +85,10 @@ area_read n p c d bytes rest front content =
       again = λ other there same m le.
           let fronts_same : take (c.gate + on.size) other ≡ take (c.gate + on.size) bytes = subst (λ (k : ℕ). take k other ≡ take k bytes) on.gate same in
           let left : length (drop c.gate other) ≡ length other - c.gate = length-drop c.gate other in
-          let tail_same : take on.size (drop c.gate other) ≡ take on.size rest = same_part c.gate on.size other bytes fronts_same ∙ ap (take on.size) (sym begins.rest_is) in
-          (
+          let tail_same : take on.size (drop c.gate other) ≡ take on.size rest = same_part c.gate on.size other bytes fronts_same ∙ ap (take on.size) (sym begins.rest_is) in (
             begins.again other (omega (arith, on.gate, there)) (same_front c.gate (c.gate + on.size) other bytes (omega arith) fronts_same),
             on.again (drop c.gate other) (omega (arith, on.gate, there, left)) tail_same (length (drop c.gate other)) m (omega arith) (omega (arith, left, le))
-            ∙ ap (content_from m n p d) (drop-drop on.size c.gate other ∙ ap (λ (k : ℕ). drop k other) (sym on.gate)),
+                ∙ ap (content_from m n p d) (drop-drop on.size c.gate other ∙ ap (λ (k : ℕ). drop k other) (sym on.gate)),
           );
     }
 

@@ -1,4 +1,5 @@
 pub mod ContentLemmas
+pub mod FlushLaws
 pub mod FoundLaws
 pub mod FrameLaws
 pub mod ImageLaws
