@@ -49,7 +49,7 @@ record IsAppended (gate : ℕ) (front payload image : List ℕ) : Type 0 where
   behind : List ℕ
   frame : drop gate image ≡ 165 ∷ (number_bytes 4 (length payload) ++ (payload ++ (0 ∷ behind)))
 
-frame_split : (payload junk : List ℕ) → frame_bytes payload ++ junk ≡ number_bytes 4 (length payload) ++ (payload ++ (0 ∷ junk))
+pub frame_split : (payload junk : List ℕ) → frame_bytes payload ++ junk ≡ number_bytes 4 (length payload) ++ (payload ++ (0 ∷ junk))
 frame_split payload junk =
     append_assoc (number_bytes 4 (length payload) ++ payload) (0 ∷ []) junk ∙ append_assoc (number_bytes 4 (length payload)) payload (0 ∷ junk)
 
@@ -107,7 +107,7 @@ module _ (n p : ℕ) (start : Images) (facts : List Fact) (d : Content) (flush :
       )
 
 -- an area once the body stands in it and the gate is open
-opened : (flush : Flush) (bytes : List ℕ) → flush.gate < length bytes → take (flush.gate + 1 + length flush.body) (gate_opened flush (body_written flush bytes)) ≡ take flush.gate bytes ++ 165 ∷ flush.body
+pub opened : (flush : Flush) (bytes : List ℕ) → flush.gate < length bytes → take (flush.gate + 1 + length flush.body) (gate_opened flush (body_written flush bytes)) ≡ take flush.gate bytes ++ 165 ∷ flush.body
 opened flush bytes there =
     let bodied = body_written flush bytes in
     let rest = drop (flush.gate + 1 + length flush.body) bytes in
