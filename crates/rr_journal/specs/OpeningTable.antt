@@ -14,7 +14,7 @@ use Rattle.rr_journal.specs.declared.opening.Phase as code
 use Rattle.rr_journal.specs.declared.opening.Phase.TheVariants as at
 use Rattle.rr_journal.specs.declared.opening.Next as code_2
 use Rattle.rr_journal.specs.declared.opening.Next.TheVariants as next
-use Rattle.rr_journal.specs.declared.opening.Progress as code_4
+use Rattle.rr_journal.specs.declared.opening.Progress as code_3
 use Rattle.rr_journal.specs.declared.opening.Progress.TheVariants as progress
 use Rattle.rr_journal.specs.Calls.{Call, Read, Write, Sync, after_call, frame_bytes, must_close}
 use Rattle.rr_journal.specs.Image.{Unformatted, Active, found}
@@ -94,13 +94,13 @@ GoesOnWith n p facts (next.Open area epoch gate promise number) both =
     (start : Images) × (both ≡ restarted start) × Holds n p start facts × (found n p start.of_first start.of_second ≡ Active area (record { epoch = epoch; promise = promise; next = number; gate = gate }))
 
 -- a step of such an opening gives one, or a journal over these facts, their promise and how many they are
-abbrev pub ComesTo : {D : Type 0} → (D → Areas) → List Fact → code_4.Progress D → Type 0
+abbrev pub ComesTo : {D : Type 0} → (D → Areas) → List Fact → code_3.Progress D → Type 0
 ComesTo areas facts (progress.More opening) = OpensWith opening.nodes opening.node facts opening.phase (areas opening.disk)
 ComesTo areas facts (progress.Done journal promise number) =
     ((start : Images) × (areas journal.disk ≡ restarted start) × IsOver journal start facts) × (promise ≡ promise_of facts) × (number ≡ length facts)
 
 -- the disk behind a step, whatever it answered
-abbrev pub disk_after : {D : Type 0} → Result (code_4.Progress D) (Refusal × D) → D
+abbrev pub disk_after : {D : Type 0} → Result (code_3.Progress D) (Refusal × D) → D
 disk_after (Ok (progress.More opening)) = opening.disk
 disk_after (Ok (progress.Done journal promise number)) = journal.disk
 disk_after (Err (e, disk)) = disk

@@ -1,8 +1,8 @@
 //! The opening of a journal, one device call a step.
 
-ghost use Rattle.std.specs.Prelude.{◌≡◌, ◌<◌, ◌^◌, [], List, length, Ok, Err, OnOk, OnErr, IfOk, IfErr};
+ghost use Rattle.std.specs.Prelude.{◌≡◌, ◌⊎◌, ◌<◌, ◌^◌, [], List, length, Ok, Err, OnOk, OnErr, IfOk, IfErr};
 ghost use Rattle.rr_types.specs.declared.fact.Fact.{Fact};
-ghost use Rattle.rr_types.specs.declared.refusal.Refusal.TheVariants.{OutOfMemory};
+ghost use Rattle.rr_types.specs.declared.refusal.Refusal.TheVariants.{OutOfMemory, Device};
 ghost use Rattle.rr_disk.specs.Areas.{Areas};
 ghost use Rattle.rr_frame.specs.SnapshotFormat.{snapshot_bytes, IsLawfulSnapshot};
 ghost use Rattle.rr_gate.specs.Moments.{EachHolds};
@@ -94,6 +94,8 @@ impl<D: Disk> Opening<D> {
         ensures tells { D.tells self.disk → D.tells (disk_after result) }
         ensures table { D.tells self.disk → (facts : List Fact) → OpensWith self.nodes self.node facts self.phase (D.areas self.disk)
             → IfOk result (λ progress. ComesTo D.areas facts progress) }
+        ensures undamaged { D.tells self.disk → (facts : List Fact) → OpensWith self.nodes self.node facts self.phase (D.areas self.disk)
+            → IfErr result (λ r. (r.0 ≡ OutOfMemory) ⊎ (r.0 ≡ Device)) }
         ensures kept { D.tells self.disk → (facts : List Fact) → OpensWith self.nodes self.node facts self.phase (D.areas self.disk)
             → EachHolds (Holds self.nodes self.node) (D.areas self.disk) facts
             → EachHolds (Holds self.nodes self.node) (D.areas (disk_after result)) facts }
@@ -136,6 +138,7 @@ enum Next {
 fn call<D: Disk>(alloc: Global, disk: &mut D, phase: &Phase) -> Result<Vec<u8>, Refusal>
     ensures done { IfOk result (λ v. Done D.read_gives D.write_gives D.sync_gives (due_call (phase_of phase.now)) disk.old v disk.new) }
     ensures refused { IfErr result (λ e. Refused D.read_gives D.write_gives D.sync_gives (due_call (phase_of phase.now)) disk.old e disk.new) }
+    ensures cause { IfErr result (λ e. (e ≡ OutOfMemory) ⊎ (e ≡ Device)) }
     ensures tells { D.tells disk.old → D.tells disk.new }
     ensures areas { D.tells disk.old → OnOk result (D.areas disk.new ≡ after_call (due_call (phase_of phase.now)) (D.areas disk.old)) }
     ensures read { D.tells disk.old → IfOk result (λ v. IsReadBy (due_call (phase_of phase.now)) (D.areas disk.old) v.items) }
@@ -173,6 +176,8 @@ fn go_on(
     ensures exact { Follows result (after_opening_call nodes node read.items (phase_of phase)) }
     ensures table { (facts : List Fact) (old new : Areas) → OpensWith nodes node facts phase old → IsReadBy (due_call (phase_of phase)) old read.items
         → new ≡ after_call (due_call (phase_of phase)) old → IfOk result (λ next. GoesOnWith nodes node facts next new) }
+    ensures undamaged { (facts : List Fact) (old : Areas) → OpensWith nodes node facts phase old → IsReadBy (due_call (phase_of phase)) old read.items
+        → IfErr result (λ e. e ≡ OutOfMemory) }
 {
     match phase {
         Phase::Settling => Ok(Next::Phase(Phase::ReadingFirst)),
@@ -204,6 +209,8 @@ fn with_areas(
     ensures exact { Follows result (after_found nodes node first.now (found nodes node first.now second.now)) }
     ensures table { (facts : List Fact) (both : Areas) (rests : Rests nodes node facts both) → first.now ≡ rests.start.of_first → second.now ≡ rests.start.of_second
         → IfOk result (λ next. GoesOnWith nodes node facts next both) }
+    ensures undamaged { (facts : List Fact) (both : Areas) (rests : Rests nodes node facts both) → first.now ≡ rests.start.of_first → second.now ≡ rests.start.of_second
+        → IfErr result (λ e. e ≡ OutOfMemory) }
 {
     match read_image(alloc, nodes, node, first, second) {
         Err(refusal) => Err(refusal),

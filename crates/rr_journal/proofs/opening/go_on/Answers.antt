@@ -1,4 +1,10 @@
 use Rattle.std.proofs.Common.{◌≡◌, List, [], sym, subst, ◌∙◌, ap}
+use Rattle.std.specs.Prelude.{IfErr}
+use Rattle.rr_types.specs.declared.refusal.Refusal.TheVariants.{OutOfMemory}
+use Rattle.rr_journal.specs.declared.opening.Phase.{Phase}
+use Rattle.rr_journal.specs.Openings.{due_call}
+use Rattle.rr_journal.specs.Phases.{phase_of}
+use Rattle.rr_journal.specs.OpeningTable.{IsReadBy, OpensWith}
 use Rattle.rr_types.specs.declared.promise.Entry.{Entry}
 use Rattle.rr_disk.specs.declared.area.Area.TheVariants.{First}
 use Rattle.rr_journal.specs.Image.{Active}
@@ -16,6 +22,15 @@ returns-in-ReadingSecond-clause-table c facts old new =
     c.with_areas.ensures.table facts new (still_rests c.args.nodes c.args.node facts old new c.args.read.items opens.0 after)
     (c.deref.ensures.value ∙ opens.1)
     (c.deref-in-ReadingSecond.ensures.value ∙ second_read c.args.nodes c.args.node facts old new c.args.read.items opens.0 read))
+
+pub returns-in-ReadingSecond-clause-undamaged : goal.returns-in-ReadingSecond-clause-undamaged
+returns-in-ReadingSecond-clause-undamaged c facts old =
+    subst
+    (λ (q : Phase). OpensWith c.args.nodes c.args.node facts q old → IsReadBy (due_call (phase_of q)) old c.args.read.items → IfErr c.with_areas.result (λ e. e ≡ OutOfMemory))
+    (sym c.in-ReadingSecond.is)
+    (λ opens read.
+        c.with_areas.ensures.undamaged facts old opens.0 (c.deref.ensures.value ∙ opens.1)
+        (c.deref-in-ReadingSecond.ensures.value ∙ second_read c.args.nodes c.args.node facts old old c.args.read.items opens.0 read))
 
 pub returns-in-SettlingClosed-clause-table : goal.returns-in-SettlingClosed-clause-table
 returns-in-SettlingClosed-clause-table c facts old new =
