@@ -1,14 +1,14 @@
 -- A frame that was written is read again, and what a formatted area stands for.
-use Rattle.std.proofs.Common.{◌≡◌, ◌≢◌, ℕ, zero, suc, ◌+◌, ◌^◌, ◌<◌, ◌≤◌, Bool, true, false, cond, eqb, leb, ltb, ◌&&◌, List, [], ◌∷◌, ◌++◌, length, take, drop, get_or, Option, None, Some, Result, Ok, Err, refl, sym, ap, ◌∙◌, arith}
-use Rattle.std.proofs.lemmas.Bool.{and_from, lt-ltb, le-leb, le-ltb}
+use Rattle.std.proofs.Common.{◌≡◌, ℕ, suc, ◌+◌, ◌^◌, ◌<◌, true, false, leb, ltb, List, ◌∷◌, ◌++◌, length, drop, Some, Ok, refl, sym, ap, ◌∙◌, arith}
+use Rattle.std.proofs.lemmas.Bool.{lt-ltb, le-leb, le-ltb}
 use Rattle.std.proofs.lemmas.List.{take_at, drop_at, length-append}
 use Rattle.rr_frame.specs.Numbers.{number_bytes, number_in}
-use Rattle.rr_frame.specs.Reading.{Reading, number_at}
+use Rattle.rr_frame.specs.Reading.{number_at}
 use Rattle.rr_frame.specs.Snapshots.{Snapped}
-use Rattle.rr_frame.specs.SnapshotFormat.{snapshot_bytes, IsLawfulSnapshot, snapshot_in}
+use Rattle.rr_frame.specs.SnapshotFormat.{snapshot_bytes, IsLawfulSnapshot}
 use Rattle.rr_frame.proofs.FieldLaws.{length-number_bytes, number_again, ok_is}
 use Rattle.rr_frame.proofs.SnapshotLaws.{snapshot_spelt}
-use Rattle.rr_journal.specs.Image.{Content, Found, Front, Blank, Begins, Active, frame_behind, content_from, content_behind, front_of, found}
+use Rattle.rr_journal.specs.Image.{Content, Begins, frame_behind, front_of}
 use Rattle.rr_journal.proofs.ContentLemmas.{frame_rest, front_begins}
 
 number_there : (k : ℕ) (rest : List ℕ) → k < 2 ^ 32 → number_in 4 (number_bytes 4 k ++ rest) ≡ k

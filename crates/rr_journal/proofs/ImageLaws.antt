@@ -1,10 +1,10 @@
 -- What a crash leaves of a disk at rest, and how many facts an image holds.
-use Rattle.std.proofs.Common.{◌≡◌, ℕ, zero, suc, ◌+◌, ◌≤◌, List, [], ◌∷◌, length, map, take, drop, refl, sym, ap, subst, ◌∙◌, arith}
-use Rattle.std.proofs.lemmas.List.{take_all, length-map}
+use Rattle.std.proofs.Common.{◌≡◌, ℕ, ◌≤◌, List, [], ◌∷◌, length, map, refl, sym, ap, subst, ◌∙◌, arith}
+use Rattle.std.proofs.lemmas.List.{take_all}
 use Rattle.rr_types.specs.declared.fact.Fact.{Fact}
 use Rattle.rr_disk.specs.declared.area.Area.{Area}
 use Rattle.rr_disk.specs.declared.cell.Cell.{Cell}
-use Rattle.rr_disk.specs.Areas.{Extent, Areas, firm_cell, at_rest, read_of, bytes_of}
+use Rattle.rr_disk.specs.Areas.{Extent, firm_cell, at_rest, read_of, bytes_of}
 use Rattle.rr_disk.specs.Crash.{Agrees, MayLeave, Images, IsCrashImage, restarted}
 use Rattle.rr_journal.specs.Image.{Content, Found, Active, Unformatted, found}
 use Rattle.rr_journal.specs.Journals.{StandsFor, Holds}

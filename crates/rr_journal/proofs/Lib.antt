@@ -1,6 +1,11 @@
 pub mod ContentLemmas
+pub mod FlushLaws
+pub mod FormatLaws
+pub mod FoundLaws
 pub mod FrameLaws
 pub mod ImageLaws
+pub mod OpeningLaws
 pub mod PlaceLemmas
+pub mod ReadingLaws
 pub mod SnapshotSize
 pub mod TakeLemmas

@@ -4,5 +4,6 @@ pub mod Image
 pub mod Journals
 pub mod Openings
 pub mod OpeningSteps
+pub mod OpeningTable
 pub mod Phases
 pub mod Places

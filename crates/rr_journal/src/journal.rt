@@ -1,9 +1,14 @@
 //! A journal over an open disk: groups of facts are appended behind the last gate of the active area.
 
-ghost use Rattle.std.specs.Prelude.{◌≡◌, ◌⊎◌, ◌+◌, ◌^◌, ◌<◌, ◌≤◌, true, false, nat_lt, length, IfOk, IfErr};
+ghost use Rattle.std.specs.Prelude.{◌≡◌, ◌⊎◌, ◌+◌, ◌^◌, ◌<◌, ◌≤◌, [], ◌++◌, List, true, false, nat_lt, length, IfOk, IfErr};
+ghost use Rattle.rr_types.specs.declared.fact.Fact.{Fact};
 ghost use Rattle.rr_types.specs.declared.refusal.Refusal.TheVariants.{OutOfMemory, Failed, Busy, TooLarge};
+ghost use Rattle.rr_types.specs.Facts.{all_fit};
+ghost use Rattle.rr_disk.specs.Crash.{Images, restarted};
 ghost use Rattle.rr_frame.specs.GroupFormat.{group_bytes};
+ghost use Rattle.rr_gate.specs.Moments.{IsAt, body_due, with_group};
 ghost use Rattle.rr_journal.specs.Calls.{frame_bytes};
+ghost use Rattle.rr_journal.specs.Journals.{Holds, IsOver, once_flushed};
 
 use rr_disk::{Area, Disk};
 use rr_frame::{encode_group, put_u32};
@@ -87,6 +92,10 @@ impl<D: Disk> Journal<D> {
         ensures refused { IfErr result (λ r. (r.1 ≡ group) × (self.new ≡ self.old)) }
         ensures cause { IfErr result (λ r. (r.0 ≡ OutOfMemory) ⊎ ((r.0 ≡ Failed) × (self.old.failed ≡ true)) ⊎ ((r.0 ≡ Busy) × (self.old.busy ≡ true))
             ⊎ ((r.0 ≡ TooLarge) × (2 ^ 32 ≤ self.old.gate + 6 + length (group_bytes group)))) }
+        ensures table { (start : Images) (facts : List Fact) → D.areas self.old.disk ≡ restarted start → IsOver self.old start facts
+            → all_fit self.old.nodes self.old.node [] (facts ++ group.facts) ≡ true → group.serial ≡ length facts
+            → IfOk result (λ job. IsAt body_due (Holds self.old.nodes self.old.node) job start facts (D.areas self.new.disk)
+            × IsOver (once_flushed job self.new) (with_group job start) (facts ++ group.facts)) }
     {
         if self.failed {
             return Err((Refusal::Failed, group));

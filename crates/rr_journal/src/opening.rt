@@ -1,13 +1,18 @@
 //! The opening of a journal, one device call a step.
 
-ghost use Rattle.std.specs.Prelude.{◌≡◌, [], Ok, Err, OnOk, IfOk, IfErr};
-ghost use Rattle.rr_types.specs.declared.refusal.Refusal.TheVariants.{OutOfMemory};
-ghost use Rattle.rr_frame.specs.SnapshotFormat.{snapshot_bytes};
-ghost use Rattle.rr_journal.specs.Calls.{must_close, frame_bytes};
+ghost use Rattle.std.specs.Prelude.{◌≡◌, ◌⊎◌, ◌<◌, ◌^◌, [], List, length, Ok, Err, OnOk, OnErr, IfOk, IfErr};
+ghost use Rattle.rr_types.specs.declared.fact.Fact.{Fact};
+ghost use Rattle.rr_types.specs.declared.refusal.Refusal.TheVariants.{OutOfMemory, Device};
+ghost use Rattle.rr_disk.specs.Areas.{Areas};
+ghost use Rattle.rr_frame.specs.SnapshotFormat.{snapshot_bytes, IsLawfulSnapshot};
+ghost use Rattle.rr_gate.specs.Moments.{EachHolds};
+ghost use Rattle.rr_journal.specs.Calls.{must_close, frame_bytes, after_call};
 ghost use Rattle.rr_journal.specs.Image.{found};
 ghost use Rattle.rr_journal.specs.Openings.{Settling, ReadingSecond, Done, Refused, due_call, after_found, after_opening_call};
 ghost use Rattle.rr_journal.specs.Phases.{phase_of, Follows};
 ghost use Rattle.rr_journal.specs.OpeningSteps.{Steps};
+ghost use Rattle.rr_journal.specs.OpeningTable.{IsReadBy, IsLeftBy, Rests, contents, OpensWith, GoesOnWith, ComesTo, disk_after};
+ghost use Rattle.rr_journal.specs.Journals.{Holds};
 
 use crate::image::{Image, read_image};
 use crate::journal::{Journal, frame};
@@ -60,6 +65,8 @@ impl<D: Disk> Opening<D> {
         ensures whose { (result.nodes ≡ nodes) × (result.node ≡ node) }
         ensures disk { result.disk ≡ disk }
         ensures phase { phase_of result.phase ≡ Settling }
+        ensures table { (facts : List Fact) → length (D.areas disk).first.cells < 2 ^ 64 → length (D.areas disk).second.cells < 2 ^ 64
+            → Holds nodes node (contents (D.areas disk)) facts → OpensWith nodes node facts result.phase (D.areas disk) }
     {
         Opening {
             disk,
@@ -85,7 +92,15 @@ impl<D: Disk> Opening<D> {
     /// Makes the next device call. A refused opening hands its disk back.
     /// Errors: `OutOfMemory`, `Device`, `Damaged`.
     pub fn step(self, alloc: Global) -> Result<Progress<D>, (Refusal, D)>
-        ensures { Steps D.read_gives D.write_gives D.sync_gives self result }
+        ensures exact { Steps D.read_gives D.write_gives D.sync_gives self result }
+        ensures tells { D.tells self.disk → D.tells (disk_after result) }
+        ensures table { D.tells self.disk → (facts : List Fact) → OpensWith self.nodes self.node facts self.phase (D.areas self.disk)
+            → IfOk result (λ progress. ComesTo D.areas facts progress) }
+        ensures undamaged { D.tells self.disk → (facts : List Fact) → OpensWith self.nodes self.node facts self.phase (D.areas self.disk)
+            → IfErr result (λ r. (r.0 ≡ OutOfMemory) ⊎ (r.0 ≡ Device)) }
+        ensures kept { D.tells self.disk → (facts : List Fact) → OpensWith self.nodes self.node facts self.phase (D.areas self.disk)
+            → EachHolds (Holds self.nodes self.node) (D.areas self.disk) facts
+            → EachHolds (Holds self.nodes self.node) (D.areas (disk_after result)) facts }
     {
         let Opening {
             mut disk,
@@ -125,6 +140,11 @@ enum Next {
 fn call<D: Disk>(alloc: Global, disk: &mut D, phase: &Phase) -> Result<Vec<u8>, Refusal>
     ensures done { IfOk result (λ v. Done D.read_gives D.write_gives D.sync_gives (due_call (phase_of phase.now)) disk.old v disk.new) }
     ensures refused { IfErr result (λ e. Refused D.read_gives D.write_gives D.sync_gives (due_call (phase_of phase.now)) disk.old e disk.new) }
+    ensures cause { IfErr result (λ e. (e ≡ OutOfMemory) ⊎ (e ≡ Device)) }
+    ensures tells { D.tells disk.old → D.tells disk.new }
+    ensures areas { D.tells disk.old → OnOk result (D.areas disk.new ≡ after_call (due_call (phase_of phase.now)) (D.areas disk.old)) }
+    ensures read { D.tells disk.old → IfOk result (λ v. IsReadBy (due_call (phase_of phase.now)) (D.areas disk.old) v.items) }
+    ensures left { D.tells disk.old → OnErr result (IsLeftBy (due_call (phase_of phase.now)) (D.areas disk.old) (D.areas disk.new)) }
 {
     match phase {
         Phase::ReadingFirst => disk.read(alloc, Area::First, 0, u64::MAX),
@@ -155,7 +175,11 @@ fn go_on(
     phase: Phase,
     read: Vec<u8>,
 ) -> Result<Next, Refusal>
-    ensures { Follows result (phase_of phase) (after_opening_call nodes node read.items (phase_of phase)) }
+    ensures exact { Follows result (phase_of phase) (after_opening_call nodes node read.items (phase_of phase)) }
+    ensures table { (facts : List Fact) (old new : Areas) → OpensWith nodes node facts phase old → IsReadBy (due_call (phase_of phase)) old read.items
+        → new ≡ after_call (due_call (phase_of phase)) old → IfOk result (λ next. GoesOnWith nodes node facts next new) }
+    ensures undamaged { (facts : List Fact) (old : Areas) → OpensWith nodes node facts phase old → IsReadBy (due_call (phase_of phase)) old read.items
+        → IfErr result (λ e. e ≡ OutOfMemory) }
 {
     match phase {
         Phase::Settling => Ok(Next::Phase(Phase::ReadingFirst)),
@@ -184,7 +208,11 @@ fn with_areas(
     first: &[u8],
     second: &[u8],
 ) -> Result<Next, Refusal>
-    ensures { Follows result (ReadingSecond first.now) (after_found nodes node first.now (found nodes node first.now second.now)) }
+    ensures exact { Follows result (ReadingSecond first.now) (after_found nodes node first.now (found nodes node first.now second.now)) }
+    ensures table { (facts : List Fact) (both : Areas) (rests : Rests nodes node facts both) → first.now ≡ rests.start.of_first → second.now ≡ rests.start.of_second
+        → IfOk result (λ next. GoesOnWith nodes node facts next both) }
+    ensures undamaged { (facts : List Fact) (both : Areas) (rests : Rests nodes node facts both) → first.now ≡ rests.start.of_first → second.now ≡ rests.start.of_second
+        → IfErr result (λ e. e ≡ OutOfMemory) }
 {
     match read_image(alloc, nodes, node, first, second) {
         Err(refusal) => Err(refusal),
@@ -218,6 +246,7 @@ fn must_close(area: &[u8]) -> bool
 /// The frame of an empty snapshot of epoch 1, behind its gate.
 fn first_body(alloc: Global, nodes: Nodes, node: NodeId) -> Result<Vec<u8>, Refusal>
     ensures ok { IfOk result (λ body. body.items ≡ frame_bytes (snapshot_bytes (record { node = node; nodes = nodes; epoch = 1; next = 0; entries = [] }))) }
+    ensures lawful { OnOk result (IsLawfulSnapshot (record { node = node; nodes = nodes; epoch = 1; next = 0; entries = [] })) }
     ensures err { IfErr result (λ e. e ≡ OutOfMemory) }
 {
     match Snapshot::new(nodes, node, 1, 0, Promise::new(Vec::new(alloc))) {

@@ -1,11 +1,72 @@
-use Rattle.std.proofs.Common.{◌≡◌, refl, inr}
+use Rattle.std.proofs.Common.{◌≡◌, inr, refl, sym, subst, Ok, ℕ, length, false, Vec, Global}
+use Rattle.rr_types.specs.Facts.{promise_of}
+use Rattle.rr_disk.specs.Crash.{Images, restarted}
+use Rattle.rr_gate.specs.Moments.{EachHolds}
+use Rattle.rr_journal.specs.declared.journal.Journal.{Journal}
+use Rattle.rr_journal.specs.declared.opening.Next.{Next}
+use Rattle.rr_journal.specs.OpeningTable.{GoesOnWith}
+use Rattle.rr_journal.specs.Openings.{Done, Opens, due_call, after_opening_call}
+use Rattle.rr_journal.specs.Journals.{Holds, IsOver}
+use Rattle.rr_journal.specs.Phases.{Follows, phase_of}
+use Rattle.rr_journal.proofs.OpeningLaws.{kept, kept_failed, opened_over}
 use Rattle.rr_journal.proofs.opening.Opening.step.Goals as goal
 
-pub returns-in-Err-go_on : goal.returns-in-Err-go_on
-returns-in-Err-go_on g c = inr (c.in-Ok.read, c.in-Ok.ensures.done, c.in-Err-go_on.ensures)
+pub returns-in-Err-clause-kept : goal.returns-in-Err-clause-kept
+returns-in-Err-clause-kept g c tells facts opens held = kept_failed c.args.self.nodes c.args.self.node facts _ _ held c.args.self.phase opens (c.in-Err.ensures.left tells)
 
-pub returns-in-Ok-Phase : goal.returns-in-Ok-Phase
-returns-in-Ok-Phase g c = (c.in-Ok.read, c.in-Ok.ensures.done, (rw c.in-Ok-Phase.field-0-is at c.in-Ok-Phase.ensures), refl, refl)
+pub returns-in-Err-go_on-clause-exact : goal.returns-in-Err-go_on-clause-exact
+returns-in-Err-go_on-clause-exact g c = inr (c.in-Ok.read, c.in-Ok.ensures.done, c.in-Err-go_on.ensures.exact)
 
-pub returns-in-Ok-Open : goal.returns-in-Ok-Open
-returns-in-Ok-Open g c = rw c.new.ensures (c.in-Ok.read, c.in-Ok.ensures.done, (rw c.in-Ok-Open.field-0-is at c.in-Ok-Open.ensures), refl)
+pub returns-in-Err-go_on-clause-kept : goal.returns-in-Err-go_on-clause-kept
+returns-in-Err-go_on-clause-kept g c tells facts opens held = kept c.args.self.nodes c.args.self.node facts _ _ held c.args.self.phase opens (c.in-Ok.ensures.areas tells)
+
+pub returns-in-Ok-Phase-clause-exact : goal.returns-in-Ok-Phase-clause-exact
+returns-in-Ok-Phase-clause-exact g c =
+    let follows = subst (λ (x : Next). Follows (Ok x) (phase_of c.args.self.phase) (after_opening_call c.args.self.nodes c.args.self.node c.in-Ok.read.items (phase_of c.args.self.phase))) c.in-Ok-Phase.field-0-is c.in-Ok-Phase.ensures.exact in
+    (c.in-Ok.read, c.in-Ok.ensures.done, follows, refl, refl)
+
+pub returns-in-Ok-Phase-clause-table : goal.returns-in-Ok-Phase-clause-table
+returns-in-Ok-Phase-clause-table g c tells facts opens =
+    let on = c.in-Ok-Phase.ensures.table facts (g.D.Disk.areas c.args.self.disk) (g.D.Disk.areas c.call-called.new.disk) opens (c.in-Ok.ensures.read tells) (c.in-Ok.ensures.areas tells) in
+    subst (λ (x : Next). GoesOnWith c.args.self.nodes c.args.self.node facts x (g.D.Disk.areas c.call-called.new.disk)) c.in-Ok-Phase.field-0-is on
+
+pub returns-in-Ok-Phase-clause-kept : goal.returns-in-Ok-Phase-clause-kept
+returns-in-Ok-Phase-clause-kept g c tells facts opens held = kept c.args.self.nodes c.args.self.node facts _ _ held c.args.self.phase opens (c.in-Ok.ensures.areas tells)
+
+pub returns-in-Ok-Open-clause-exact : goal.returns-in-Ok-Open-clause-exact
+returns-in-Ok-Open-clause-exact g c =
+    let follows = subst (λ (x : Next). Follows (Ok x) (phase_of c.args.self.phase) (after_opening_call c.args.self.nodes c.args.self.node c.in-Ok.read.items (phase_of c.args.self.phase))) c.in-Ok-Open.field-0-is c.in-Ok-Open.ensures.exact in
+    subst
+    (λ (j : Journal g.row.D.Denot). (v : Vec ℕ Global) × Done g.D.Disk.read_gives g.D.Disk.write_gives g.D.Disk.sync_gives (due_call (phase_of c.args.self.phase)) c.args.self.disk v j.disk
+    × (after_opening_call c.args.self.nodes c.args.self.node v.items (phase_of c.args.self.phase) ≡ Opens j.area (record { epoch = j.epoch; promise = c.in-Ok-Open.promise; next = c.in-Ok-Open.next; gate = j.gate }))
+    × (j ≡ record { disk = j.disk; nodes = c.args.self.nodes; node = c.args.self.node; area = j.area; epoch = j.epoch; gate = j.gate; next = c.in-Ok-Open.next; failed = false; busy = false }))
+    (sym c.new.ensures)
+    (c.in-Ok.read, c.in-Ok.ensures.done, follows, refl)
+
+pub returns-in-Ok-Open-clause-table : goal.returns-in-Ok-Open-clause-table
+returns-in-Ok-Open-clause-table g c tells facts opens =
+    let on = c.in-Ok-Open.ensures.table facts (g.D.Disk.areas c.args.self.disk) (g.D.Disk.areas c.call-called.new.disk) opens (c.in-Ok.ensures.read tells) (c.in-Ok.ensures.areas tells) in
+    let is = subst (λ (x : Next). GoesOnWith c.args.self.nodes c.args.self.node facts x (g.D.Disk.areas c.call-called.new.disk)) c.in-Ok-Open.field-0-is on in
+    let journal : Journal g.row.D.Denot = record {
+      disk = c.call-called.new.disk;
+      nodes = c.args.self.nodes;
+      node = c.args.self.node;
+      area = c.in-Ok-Open.area;
+      epoch = c.in-Ok-Open.epoch;
+      gate = c.in-Ok-Open.gate;
+      next = c.in-Ok-Open.next;
+      failed = false;
+      busy = false;
+    } in
+    let over = opened_over {D = g.row.D.Denot} journal is.0 facts c.in-Ok-Open.promise is.2 is.3 in
+    subst
+    (λ (j : Journal g.row.D.Denot). ((start : Images) × (g.D.Disk.areas j.disk ≡ restarted start) × IsOver {D = g.row.D.Denot} j start facts) × (c.in-Ok-Open.promise ≡ promise_of facts) × (c.in-Ok-Open.next ≡ length facts))
+    (sym c.new.ensures)
+    ((is.0, is.1, over.0), over.1, over.2)
+
+pub returns-in-Ok-Open-clause-kept : goal.returns-in-Ok-Open-clause-kept
+returns-in-Ok-Open-clause-kept g c tells facts opens held =
+    subst
+    (λ (j : Journal g.row.D.Denot). EachHolds (Holds c.args.self.nodes c.args.self.node) (g.D.Disk.areas j.disk) facts)
+    (sym c.new.ensures)
+    (kept c.args.self.nodes c.args.self.node facts _ _ held c.args.self.phase opens (c.in-Ok.ensures.areas tells))
