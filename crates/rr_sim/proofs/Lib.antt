@@ -1,1 +1,2 @@
 pub mod ChosenLemmas
+pub mod RunLemmas

@@ -1,13 +1,14 @@
 //! A cluster of nodes with their disks: what each event of a schedule does to it.
 
-ghost use Rattle.std.specs.Prelude.{◌≡◌, ◌++◌, option_to_list, Ok, OnOk, IfOk, IfErr};
-ghost use Rattle.rr_sim.specs.Clusters.{shown, note_of, sent_by};
+ghost use Rattle.std.specs.Prelude.{◌≡◌, ◌++◌, option_to_list, Ok, OnOk, IfOk, IfErr, IsTrue};
+ghost use Rattle.rr_sim.specs.Clusters.{shown, note_of, sent_by, new_cluster, at_node, hear_at, crash_at, is_served, IsEither, Steps};
 
 use rr_node::{Node, NodeEvent, Outcome};
 use rr_registry::Holding;
 use rr_text::{Binding, BoundNames, Event, ReportLine};
 use rr_types::{Message, Name, NodeId, Nodes, Refusal};
 use std::alloc::Global;
+use std::marker::Model;
 
 /// The nodes by their numbers, all messages ever sent, and the lines of the report so far.
 #[derive(Drop)]
@@ -15,6 +16,15 @@ pub struct Cluster {
     seats: Vec<Node>,
     wire: Vec<Message>,
     lines: Vec<ReportLine>,
+}
+
+impl Model for Cluster {
+    ghost use Rattle.rr_sim.specs.Clusters as cluster;
+
+    ghost Value = { cluster.Cluster };
+
+    ghost view = { λ c.
+        record { seats = c.seats.items; wire = c.wire.items; lines = c.lines.items } };
 }
 
 fn binding(entry: &(Name, Holding)) -> Binding
@@ -114,6 +124,7 @@ fn push_some<T: Drop>(list: &mut Vec<T>, item: Option<T>) -> Result<(), Refusal>
 impl Cluster {
     /// Nodes that are all down, over empty disks.
     pub fn new(alloc: Global, nodes: Nodes) -> Result<Cluster, Refusal>
+        ensures ok { IfOk result (λ c. c ≡ new_cluster nodes) }
         ensures err { IfErr result (λ e. e ≡ Refusal.OutOfMemory) }
     {
         let mut seats = Vec::new(alloc);
@@ -129,13 +140,17 @@ impl Cluster {
     }
 
     /// All messages ever sent.
-    pub fn wire(&self) -> &[Message] {
+    pub fn wire(&self) -> &[Message]
+        ensures { result.now ≡ self.now.wire }
+    {
         let wire = &self.wire;
         wire
     }
 
     /// The lines of the report so far.
-    pub fn into_lines(self) -> Vec<ReportLine> {
+    pub fn into_lines(self) -> Vec<ReportLine>
+        ensures { result.items ≡ self.lines }
+    {
         let Cluster {
             seats: _,
             wire: _,
@@ -151,6 +166,8 @@ impl Cluster {
         line: u64,
         event: NodeEvent,
     ) -> Result<(), Refusal>
+        ensures ok { OnOk result
+            (IsEither (λ starved. self.new ≡ at_node node line starved event self.old)) }
         ensures err { IfErr result (λ e. e ≡ Refusal.OutOfMemory) }
     {
         let at = usize::from(node.index());
@@ -173,6 +190,8 @@ impl Cluster {
         line: u64,
         number: u32,
     ) -> Result<(), Refusal>
+        ensures ok { OnOk result
+            (IsEither (λ starved. self.new ≡ hear_at node line starved number self.old)) }
         ensures err { IfErr result (λ e. e ≡ Refusal.OutOfMemory) }
     {
         let Some(message) = self.wire.get(number as usize).copied() else {
@@ -192,7 +211,9 @@ impl Cluster {
         cut_first: u32,
         cut_second: u32,
         fill: &[u8],
-    ) {
+    )
+        ensures { self.new ≡ crash_at node cut_first cut_second fill.now self.old }
+    {
         let at = usize::from(node.index());
         if at < self.seats.len() {
             let seat = &mut self.seats[at];
@@ -202,6 +223,8 @@ impl Cluster {
 
     /// What the event of a line does, memory aside; `OutOfMemory` where the wire or the report can't grow.
     pub fn step(&mut self, alloc: Global, line: u64, event: &Event) -> Result<(), Refusal>
+        requires { IsTrue (is_served event.now) }
+        ensures ok { OnOk result (Steps line event.now self.old self.new) }
         ensures err { IfErr result (λ e. e ≡ Refusal.OutOfMemory) }
     {
         match event {

@@ -1,7 +1,7 @@
 //! The simulator: a schedule in, the report of its run out.
 
-ghost use Rattle.std.specs.Prelude.{◌≡◌, ◌↔◌, ◌<◌, ◌≤◌, ◌⊎◌, ℕ, length, Some, IfErr, IsErrOf};
-ghost use Rattle.rr_sim.specs.Clusters.{first_fault, is_served};
+ghost use Rattle.std.specs.Prelude.{◌≡◌, ◌↔◌, ◌<◌, ◌≤◌, ◌⊎◌, ℕ, length, Some, OnOk, IfOk, IfErr, IsErrOf, IsTrue, All};
+ghost use Rattle.rr_sim.specs.Clusters.{first_fault, is_served, Leads, IsReportOf};
 ghost use Rattle.rr_text.specs.Scheduled.{node_of};
 
 use crate::chosen::decided_list;
@@ -17,6 +17,7 @@ pub fn simulate(alloc: Global, nodes: u8, schedule: &Schedule) -> Result<Report,
     ensures bad_nodes { IsErrOf result Refusal.BadNodes ↔ ((nodes < 1) ⊎ (7 < nodes)) }
     ensures bad_event { (line : ℕ) → IsErrOf result (Refusal.BadEvent line)
         ↔ ((1 ≤ nodes) × (nodes ≤ 7) × (first_fault nodes 2 schedule.now.events ≡ Some line)) }
+    ensures report { IfOk result (λ report. IsReportOf nodes schedule.now.events report) }
     ensures else_memory { IfErr result (λ e. (e ≡ Refusal.OutOfMemory) ⊎ (e ≡ Refusal.BadNodes) ⊎ ((line : ℕ) × (e ≡ Refusal.BadEvent line))) }
 {
     let events = schedule.events();
@@ -73,7 +74,9 @@ fn is_served(event: &Event) -> bool
 
 /// Runs events that can all be run, and reports.
 fn run(alloc: Global, nodes: Nodes, events: &[Event]) -> Result<Report, Refusal>
-    requires { length events.now ≤ 1000000 }
+    requires short { length events.now ≤ 1000000 }
+    requires served { All (λ e. IsTrue (is_served e)) events.now }
+    ensures report { IfOk result (λ report. IsReportOf nodes events.now report) }
     ensures err { IfErr result (λ e. e ≡ Refusal.OutOfMemory) }
 {
     let mut cluster = Cluster::new(alloc, nodes)?;
@@ -84,7 +87,9 @@ fn run(alloc: Global, nodes: Nodes, events: &[Event]) -> Result<Report, Refusal>
 
 /// Runs the events in order.
 fn run_events(alloc: Global, cluster: &mut Cluster, events: &[Event]) -> Result<(), Refusal>
-    requires { length events.now ≤ 1000000 }
+    requires short { length events.now ≤ 1000000 }
+    requires served { All (λ e. IsTrue (is_served e)) events.now }
+    ensures ok { OnOk result (Leads 2 events.now cluster.old cluster.new) }
     ensures err { IfErr result (λ e. e ≡ Refusal.OutOfMemory) }
 {
     let mut line = 2u64;

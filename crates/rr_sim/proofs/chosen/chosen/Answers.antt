@@ -1,5 +1,4 @@
-use Rattle.std.proofs.Common.{◌≡◌, ◌+◌, ℕ, ◌<◌, length, arith, sym, ◌∙◌}
-use Rattle.std.specs.Prelude.{Some, slice_get}
+use Rattle.std.proofs.Common.{arith, sym, ◌∙◌}
 use Rattle.rr_sim.proofs.ChosenLemmas.{chosen_by_says, none_so_far, none_chosen}
 use Rattle.rr_sim.proofs.chosen.chosen.Goals as goal
 

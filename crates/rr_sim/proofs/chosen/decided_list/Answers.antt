@@ -1,7 +1,5 @@
-use Rattle.std.proofs.Common.{◌≡◌, ◌+◌, ◌<◌, ◌++◌, ◌∷◌, [], ℕ, length, vec_len, subst, sym, ◌∙◌}
-use Rattle.std.specs.Prelude.{Some, slice_get}
-use Rattle.rr_types.specs.declared.command.Command.{Command}
-use Rattle.rr_model.specs.Sound.{IsChosen, IsChosenList}
+use Rattle.std.proofs.Common.{◌<◌, ℕ, length, vec_len, subst, sym, ◌∙◌}
+use Rattle.rr_model.specs.Sound.{IsChosen}
 use Rattle.rr_sim.proofs.ChosenLemmas.{proposals_from, fewer_left, chosen_push, is_longest}
 use Rattle.rr_sim.proofs.chosen.decided_list.Goals as goal
 

@@ -1,4 +1,4 @@
-use Rattle.std.proofs.Common.{◌≡◌, ℕ, ◌<◌, List, length, vec_len}
+use Rattle.std.proofs.Common.{vec_len}
 use Rattle.rr_model.specs.Sound.{IsChosenList}
 use Rattle.rr_sim.proofs.ChosenLemmas.{proposals_from}
 use Rattle.rr_sim.proofs.chosen.decided_list.Given as goal
