@@ -10,14 +10,16 @@ use Rattle.rr_text.specs.Scheduled.{Scheduled, IsSchedule}
 use Rattle.rr_text.specs.Reported.{Reported}
 use Rattle.rr_text.specs.ScheduleTexts.{schedule_text}
 use Rattle.rr_text.specs.ReportTexts.{report_text}
+use Rattle.rr_sim.specs.Clusters.{IsReportOf}
 use Rattle.rr_cli.specs.Refusals.{status_of}
 
--- the bytes are the text of a schedule, and the other text is that of a report
+-- the bytes are the text of a schedule, and the other text is that of the report of its run
 pub record IsReportOn (bytes text : List ℕ) : Type 0 where
   pub schedule : Scheduled
   pub report : Reported
   pub lawful : IsSchedule schedule
   pub read : bytes ≡ schedule_text schedule
+  pub run : IsReportOf schedule.nodes schedule.events report
   pub told : text ≡ report_text report
 
 -- a stream has got the front of a text, and no more of it
