@@ -7,7 +7,7 @@ use Rattle.rr_disk.specs.declared.area.Area.{Area}
 use Rattle.rr_disk.specs.declared.area.Area.TheVariants.{First, Second}
 use Rattle.rr_disk.specs.Areas.{Extent, Areas, extent_of, replaced, written, loosened, loose_cell}
 use Rattle.rr_disk.specs.Memory.{MemoryState, MemoryWrite}
-use Rattle.rr_disk.specs.Failing.{OneByOne, overwrites, repeated}
+use Rattle.rr_disk.specs.Failing.{OneByOne, overwrites, repeated, failing_bytes}
 use Rattle.rr_disk.proofs.OneByOne.{extent_replaced}
 use Rattle.rr_disk.proofs.Strips.{same_extent}
 
@@ -88,11 +88,6 @@ one_write area at (b ∷ bytes) old new le (mid, Err e, gave, rest) = absurd (om
 pub length-repeated : (fill : List ℕ) (k n : ℕ) → length (repeated fill k n) ≡ n
 length-repeated fill k zero = refl
 length-repeated fill k (suc n) = ap suc (length-repeated fill (k + 1) n)
-
--- the bytes that a failing write leaves
-abbrev pub failing_bytes : List ℕ → List ℕ → List ℕ
-failing_bytes [] bytes = bytes
-failing_bytes (b ∷ fill) bytes = repeated (b ∷ fill) 0 (length bytes)
 
 -- a failing write leaves its fill, or its bytes where that is empty; where it starts past the end or memory is refused, the rest of the range is loose
 pub failing_in_memory : (area : Area) (at : ℕ) (bytes fill : List ℕ) (old mid new : MemoryState) (r : Result (Unit {0}) Refusal) → MemoryWrite old area at bytes r mid

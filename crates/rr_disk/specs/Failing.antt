@@ -24,6 +24,11 @@ abbrev pub overwrites : List ℕ → ℕ → List ℕ
 overwrites [] n = []
 overwrites (b ∷ fill) n = repeated (b ∷ fill) 0 n
 
+-- the bytes that a failing write of these leaves in its range: its fill, repeated, or they themselves where it is empty
+abbrev pub failing_bytes : List ℕ → List ℕ → List ℕ
+failing_bytes [] bytes = bytes
+failing_bytes (b ∷ fill) bytes = repeated (b ∷ fill) 0 (length bytes)
+
 -- bytes that are written one at a time, from an offset on, up to the first write that is refused
 abbrev pub OneByOne : {D : Type 0} → (D → Area → ℕ → List ℕ → Result (Unit {0}) Refusal → D → Type 0) → Area → ℕ → List ℕ → D → D → Type 0
 OneByOne {D} gives area at [] old new = new ≡ old

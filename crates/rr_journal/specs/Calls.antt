@@ -3,6 +3,7 @@ use Rattle.std.specs.Prelude.{ℕ, ◌+◌, Bool, true, ◌==◌, if◌then◌el
 use Rattle.rr_disk.specs.declared.area.Area.{Area}
 use Rattle.rr_disk.specs.declared.area.Area.TheVariants.{First}
 use Rattle.rr_disk.specs.Areas.{Areas, extent_of, replaced, written, loosened, synced}
+use Rattle.rr_disk.specs.Failing.{failing_bytes}
 use Rattle.rr_frame.specs.Numbers.{number_bytes}
 use Rattle.rr_frame.specs.SnapshotFormat.{snapshot_bytes}
 
@@ -23,6 +24,12 @@ abbrev pub after_starved : Call → Areas → Areas
 after_starved (Read area) both = both
 after_starved (Write area at bytes) both = replaced both area (loosened at (length bytes) (extent_of both area))
 after_starved Sync both = both
+
+-- both areas after a failing call: a write leaves its fill, or its bytes where that is empty
+abbrev pub after_failing : List ℕ → Call → Areas → Areas
+after_failing fill (Read area) both = both
+after_failing fill (Write area at bytes) both = replaced both area (written at (failing_bytes fill bytes) (extent_of both area))
+after_failing fill Sync both = both
 
 -- a frame's bytes behind its gate: length, payload, the closed next gate
 abbrev pub frame_bytes : List ℕ → List ℕ

@@ -1,6 +1,6 @@
 //! A journal over an open disk: groups of facts are appended behind the last gate of the active area.
 
-ghost use Rattle.std.specs.Prelude.{◌≡◌, ◌⊎◌, ◌+◌, ◌^◌, ◌<◌, ◌≤◌, [], ◌++◌, List, true, false, nat_lt, length, IfOk, IfErr};
+ghost use Rattle.std.specs.Prelude.{◌≡◌, ◌⊎◌, ◌+◌, ◌^◌, ◌<◌, ◌≤◌, [], ◌++◌, List, true, false, nat_lt, length, IfOk, IfErr, Some};
 ghost use Rattle.rr_types.specs.declared.fact.Fact.{Fact};
 ghost use Rattle.rr_types.specs.declared.refusal.Refusal.TheVariants.{OutOfMemory, Failed, Busy, TooLarge};
 ghost use Rattle.rr_types.specs.Facts.{all_fit};
@@ -10,7 +10,7 @@ ghost use Rattle.rr_gate.specs.Moments.{IsAt, body_due, with_group};
 ghost use Rattle.rr_journal.specs.Calls.{frame_bytes};
 ghost use Rattle.rr_journal.specs.Journals.{Holds, IsOver, once_flushed};
 
-use rr_disk::{Area, Disk};
+use rr_disk::{Area, Disk, FailingDisk};
 use rr_frame::{encode_group, put_u32};
 use rr_gate::{Body, Host, Job};
 use rr_types::{Group, NodeId, Nodes, Refusal};
@@ -138,6 +138,15 @@ pub(crate) fn frame(alloc: Global, payload: Vec<u8>) -> Result<Vec<u8>, Refusal>
     body.extend_from_slice(&payload)?;
     body.push(0)?;
     Ok(body)
+}
+
+impl<D: Disk> Journal<FailingDisk<D>> {
+    /// Makes the next device call of the flush fail, as `FailingDisk::fail_next` says.
+    pub fn fail_next(&mut self, fill: Vec<u8>)
+        ensures { self.new ≡ record self.old { disk = record self.old.disk { due = Some fill.items } } }
+    {
+        self.disk.fail_next(fill);
+    }
 }
 
 impl<D: Disk> Host for Journal<D> {

@@ -1,9 +1,10 @@
 //! The opening of a journal, one device call a step.
 
-ghost use Rattle.std.specs.Prelude.{◌≡◌, ◌⊎◌, ◌<◌, ◌^◌, [], List, length, Ok, Err, OnOk, OnErr, IfOk, IfErr};
+ghost use Rattle.std.specs.Prelude.{◌≡◌, ◌⊎◌, ◌<◌, ◌^◌, [], List, length, Some, Ok, Err, OnOk, OnErr, IfOk, IfErr};
 ghost use Rattle.rr_types.specs.declared.fact.Fact.{Fact};
 ghost use Rattle.rr_types.specs.declared.refusal.Refusal.TheVariants.{OutOfMemory, Device};
 ghost use Rattle.rr_disk.specs.Areas.{Areas};
+ghost use Rattle.rr_disk.specs.Failing.{FailingRead, FailingWrite, FailingSync};
 ghost use Rattle.rr_frame.specs.SnapshotFormat.{snapshot_bytes, IsLawfulSnapshot};
 ghost use Rattle.rr_gate.specs.Moments.{EachHolds};
 ghost use Rattle.rr_journal.specs.Calls.{must_close, frame_bytes, after_call};
@@ -16,7 +17,7 @@ ghost use Rattle.rr_journal.specs.Journals.{Holds};
 
 use crate::image::{Image, read_image};
 use crate::journal::{Journal, frame};
-use rr_disk::{Area, Disk};
+use rr_disk::{Area, Disk, FailingDisk};
 use rr_frame::{Snapshot, encode_snapshot};
 use rr_types::{NodeId, Nodes, Promise, Refusal};
 use std::alloc::Global;
@@ -126,6 +127,24 @@ impl<D: Disk> Opening<D> {
                 )),
             },
         }
+    }
+}
+
+impl<D: Disk> Opening<FailingDisk<D>> {
+    /// Makes the next device call fail, as `FailingDisk::fail_next` says, and hands the disk back.
+    pub fn fail(self, alloc: Global, fill: Vec<u8>) -> FailingDisk<D>
+        ensures { Refused (FailingRead D.read_gives) (FailingWrite D.write_gives) (FailingSync D.sync_gives)
+            (due_call (phase_of self.phase)) (record self.disk { due = Some fill.items }) Device result }
+    {
+        let Opening {
+            mut disk,
+            nodes: _,
+            node: _,
+            phase,
+        } = self;
+        disk.fail_next(fill);
+        let _refused = call(alloc, &mut disk, &phase);
+        disk
     }
 }
 

@@ -1,2 +1,3 @@
+mod DiskLaws
 mod OpeningLaws
 mod ServingLaws

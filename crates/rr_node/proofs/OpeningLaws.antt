@@ -1,5 +1,5 @@
 -- Each device call of an opening does what the definitions say.
-use Rattle.std.proofs.Common.{◌≡◌, ◌≢◌, ◌⊎◌, inl, inr, ℕ, Bool, true, false, List, [], ◌∷◌, Result, Ok, Err, Vec, refl, sym, ap, subst, ◌∙◌}
+use Rattle.std.proofs.Common.{◌≡◌, ◌≢◌, ◌⊎◌, inl, inr, ℕ, Bool, true, false, List, [], ◌∷◌, Option, None, Some, Result, Ok, Err, Vec, refl, sym, ap, subst, ◌∙◌}
 use Rattle.std.specs.Global.{Global}
 use Rattle.std.proofs.lemmas.Bool.{false≢true}
 use Rattle.rr_types.specs.declared.promise.Entry.{Entry}
@@ -7,13 +7,15 @@ use Rattle.rr_types.specs.declared.refusal.Refusal.{Refusal}
 use Rattle.rr_types.specs.declared.refusal.Refusal.TheVariants as because
 use Rattle.rr_disk.specs.declared.area.Area.{Area}
 use Rattle.rr_disk.specs.Areas.{Areas}
+use Rattle.rr_disk.specs.Failing.{FailingRead, FailingWrite, FailingSync, passed, fell}
 use Rattle.rr_disk.specs.Memory.{MemoryState, MemoryRead, MemoryWrite, MemorySync}
 use Rattle.rr_journal.specs.declared.journal.Journal.{Journal}
 use Rattle.rr_journal.specs.declared.opening.Opening.{Opening}
 use Rattle.rr_journal.specs.declared.opening.Phase as code
 use Rattle.rr_journal.specs.declared.opening.Phase.TheVariants as step
+use Rattle.rr_journal.specs.declared.opening.Progress as progress_of
 use Rattle.rr_journal.specs.declared.opening.Progress.TheVariants as progress
-use Rattle.rr_journal.specs.Calls.{Call, Read, Write, Sync, after_call}
+use Rattle.rr_journal.specs.Calls.{Call, Read, Write, Sync, after_call, after_failing, after_starved}
 use Rattle.rr_journal.specs.Image.{Content, Found, Unformatted, Broken, Active, found}
 use Rattle.rr_journal.specs.Openings as opening
 use Rattle.rr_journal.specs.Openings.{Phase, Settling, ReadingFirst, ReadingSecond, Formatting, After, Goes, Opens, Stops, Done, Refused, due_call, after_found, after_opening_call}
@@ -25,8 +27,34 @@ use Rattle.rr_node.specs.declared.event.NodeEvent.TheVariants as at
 use Rattle.rr_node.specs.declared.event.Outcome.{Outcome}
 use Rattle.rr_node.specs.declared.event.Outcome.TheVariants.{Quiet}
 use Rattle.rr_node.specs.Seats as seats
-use Rattle.rr_node.specs.Seats.{Seat, Answer, Gives, read_by, opens_on, seat_step, starve_opening}
-use Rattle.rr_node.specs.Views.{seat_of, IsOpened, IsSteady, Serves, Carries}
+use Rattle.rr_node.specs.Seats.{Seat, Answer, Gives, Fails, read_by, opens_on, seat_step, starve_opening}
+use Rattle.rr_node.specs.Views.{NodeDisk, seat_of, IsOpened, IsSteady, Serves, Carries, CarriesFailing}
+use Rattle.rr_node.proofs.DiskLaws.{passed_on, call_fails}
+
+-- device calls of a node's disk, that succeeded and that were refused, and a step of an opening over it
+abbrev Made : Call → NodeDisk → Vec ℕ Global → NodeDisk → Type 0
+Made call old v new = Done (FailingRead MemoryRead) (FailingWrite MemoryWrite) (FailingSync MemorySync) call old v new
+
+abbrev pub Unmade : Call → NodeDisk → Refusal → NodeDisk → Type 0
+Unmade call old e new = Refused (FailingRead MemoryRead) (FailingWrite MemoryWrite) (FailingSync MemorySync) call old e new
+
+abbrev pub Stepped : Opening NodeDisk → Result (progress_of.Progress NodeDisk) (Refusal × NodeDisk) → Type 0
+Stepped o r = Steps (FailingRead MemoryRead) (FailingWrite MemoryWrite) (FailingSync MemorySync) o r
+
+-- where no failure is due, a device call is the one of the disk below
+made_below : (call : Call) (old new : NodeDisk) (v : Vec ℕ Global) → old.due ≡ None → Made call old v new → Done MemoryRead MemoryWrite MemorySync call old.below v new.below × (new.due ≡ None)
+made_below (Read area) old new v calm h = let x = passed_on old.due _ _ calm h in (x.0, ap (λ (d : NodeDisk). d.due) x.1)
+made_below (Write area from bytes) old new v calm h = let x = passed_on old.due _ _ calm h in (x.0, ap (λ (d : NodeDisk). d.due) x.1)
+made_below Sync old new v calm h = let x = passed_on old.due _ _ calm h in (x.0, ap (λ (d : NodeDisk). d.due) x.1)
+
+unmade_below : (call : Call) (old new : NodeDisk) (e : Refusal) → old.due ≡ None → Unmade call old e new → Refused MemoryRead MemoryWrite MemorySync call old.below e new.below × (new.due ≡ None)
+unmade_below (Read area) old new e calm h = let x = passed_on old.due _ _ calm h in (x.0, by x.1)
+  where
+    by : ((e ≡ because.OutOfMemory) × (new ≡ passed new.below old)) ⊎ ((e ≡ because.Device) × (new ≡ fell new.below old)) → new.due ≡ None
+    by (inl y) = ap (λ (d : NodeDisk). d.due) y.1
+    by (inr y) = ap (λ (d : NodeDisk). d.due) y.1
+unmade_below (Write area from bytes) old new e calm h = let x = passed_on old.due _ _ calm h in (x.0, ap (λ (d : NodeDisk). d.due) x.1)
+unmade_below Sync old new e calm h = let x = passed_on old.due _ _ calm h in (x.0, ap (λ (d : NodeDisk). d.due) x.1)
 
 -- what a device call that succeeded leaves
 done_areas : (call : Call) (old new : MemoryState) (v : Vec ℕ Global) → Done MemoryRead MemoryWrite MemorySync call old v new → new.areas ≡ after_call call old.areas
@@ -56,11 +84,12 @@ stepped n p phase old new v after h is =
     ∙ ap (λ (areas : Areas). opens_on (seat_in n p phase areas) (after_opening_call n p (read_by (due_call phase) old.areas) phase)) (done_areas (due_call phase) old new v h)
 
 -- an opening that goes on
-pub opens_more : (n p : ℕ) (o next : Opening MemoryState) → Steps MemoryRead MemoryWrite MemorySync o (Ok (progress.More next)) → Carries n p at.Device (does.Opening o) (Ok Quiet) (does.Opening next)
-opens_more n p o next (v, done, goes, nodes, node) h =
+pub opens_more : (n p : ℕ) (o next : Opening NodeDisk) → Stepped o (Ok (progress.More next)) → Carries n p at.Device (does.Opening o) (Ok Quiet) (does.Opening next)
+opens_more n p o next (v, made, goes, nodes, node) h =
+    let done = made_below (due_call (phase_of o.phase)) o.disk next.disk v h.2 made in
     let goes_here : after_opening_call n p v.items (phase_of o.phase) ≡ Goes (phase_of next.phase) =
     ap (λ (k : ℕ). after_opening_call k p v.items (phase_of o.phase)) (sym h.0) ∙ ap (λ (k : ℕ). after_opening_call o.nodes k v.items (phase_of o.phase)) (sym h.1) ∙ goes in
-    (inl (stepped n p (phase_of o.phase) o.disk next.disk v (Goes (phase_of next.phase)) done goes_here), (nodes ∙ h.0, node ∙ h.1))
+    (inl (stepped n p (phase_of o.phase) o.disk.below next.disk.below v (Goes (phase_of next.phase)) done.0 goes_here), (nodes ∙ h.0, node ∙ h.1, done.1))
 
 -- only a read or a sync ends an opening
 abbrev StopsBy : Phase → Type 0
@@ -79,12 +108,15 @@ ends_by n p bytes step.OpeningGate area c e = absurd (cc)
 ends_by n p bytes step.SettlingGate area c e = λ before after m q is. rw is refl
 
 -- an opening that ends
-pub opens_done : (n p : ℕ) (o : Opening MemoryState) (j : Journal MemoryState) (promise : List Entry) (number : ℕ) (answer : Result Outcome Refusal) (new : doing.Doing)
-    → Steps MemoryRead MemoryWrite MemorySync o (Ok (progress.Done j promise number)) → Serves n p j promise number answer new → Carries n p at.Device (does.Opening o) answer new
-opens_done n p o j promise number answer new (v, done, opens, is) serves h = by (serves opened)
+pub opens_done : (n p : ℕ) (o : Opening NodeDisk) (j : Journal NodeDisk) (promise : List Entry) (number : ℕ) (answer : Result Outcome Refusal) (new : doing.Doing)
+    → Stepped o (Ok (progress.Done j promise number)) → Serves n p j promise number answer new → Carries n p at.Device (does.Opening o) answer new
+opens_done n p o j promise number answer new (v, made, opens, is) serves h = by (serves opened)
   where
+    done : Done MemoryRead MemoryWrite MemorySync (due_call (phase_of o.phase)) o.disk.below v j.disk.below × (j.disk.due ≡ None)
+    done = made_below (due_call (phase_of o.phase)) o.disk j.disk v h.2 made
+
     opened : IsOpened n p j
-    opened = record { nodes = ap (λ (x : Journal MemoryState). x.nodes) is ∙ h.0; node = ap (λ (x : Journal MemoryState). x.node) is ∙ h.1; sound = ap (λ (x : Journal MemoryState). x.failed) is; rests = ap (λ (x : Journal MemoryState). x.busy) is }
+    opened = record { nodes = ap (λ (x : Journal NodeDisk). x.nodes) is ∙ h.0; node = ap (λ (x : Journal NodeDisk). x.node) is ∙ h.1; sound = ap (λ (x : Journal NodeDisk). x.failed) is; rests = ap (λ (x : Journal NodeDisk). x.busy) is; calm = done.1 }
 
     content : Content
     content = record { epoch = j.epoch; promise = promise; next = number; gate = j.gate }
@@ -92,11 +124,11 @@ opens_done n p o j promise number answer new (v, done, opens, is) serves h = by 
     here : after_opening_call n p v.items (phase_of o.phase) ≡ Opens j.area content
     here = ap (λ (k : ℕ). after_opening_call k p v.items (phase_of o.phase)) (sym h.0) ∙ ap (λ (k : ℕ). after_opening_call o.nodes k v.items (phase_of o.phase)) (sym h.1) ∙ opens
 
-    own : opens_on (seat_in n p (phase_of o.phase) j.disk.areas) (Opens j.area content) ≡ seat_step at.Device (seat_of n p (does.Opening o))
-    own = stepped n p (phase_of o.phase) o.disk j.disk v (Opens j.area content) done here
+    own : opens_on (seat_in n p (phase_of o.phase) j.disk.below.areas) (Opens j.area content) ≡ seat_step at.Device (seat_of n p (does.Opening o))
+    own = stepped n p (phase_of o.phase) o.disk.below j.disk.below v (Opens j.area content) done.0 here
 
-    starved : seats.starve_opening (due_call (phase_of o.phase)) (seat_in n p (phase_of o.phase) o.disk.areas) ≡ (let down : Answer = (Err because.OutOfMemory, seat_of n p (does.Stopped j.disk)) in down)
-    starved = ends_by n p v.items o.phase j.area content here o.disk.areas j.disk.areas n p (done_areas (due_call (phase_of o.phase)) o.disk j.disk v done)
+    starved : seats.starve_opening (due_call (phase_of o.phase)) (seat_in n p (phase_of o.phase) o.disk.below.areas) ≡ (let down : Answer = (Err because.OutOfMemory, seat_of n p (does.Stopped j.disk)) in down)
+    starved = ends_by n p v.items o.phase j.area content here o.disk.below.areas j.disk.below.areas n p (done_areas (due_call (phase_of o.phase)) o.disk.below j.disk.below v done.0)
 
     given : Answer
     given = (answer, seat_of n p new)
@@ -125,8 +157,8 @@ stops_by n p bytes step.SettlingGate e h = absurd (cc)
 -- a device call that was refused fails the node where it is a write, and else ends the opening
 abbrev Falls : ℕ → ℕ → Phase → Areas → Refusal → MemoryState → Type 0
 Falls n p phase areas e new =
-    (let fallen : Answer = (Err e, seat_of n p (does.Faulted new)) in e ≡ because.Device → (fallen ≡ seat_step at.Device (seat_in n p phase areas)) ⊎ (fallen ≡ starve_opening (due_call phase) (seat_in n p phase areas)))
-    × (let down : Answer = (Err e, seat_of n p (does.Stopped new)) in e ≢ because.Device → (down ≡ seat_step at.Device (seat_in n p phase areas)) ⊎ (down ≡ starve_opening (due_call phase) (seat_in n p phase areas)))
+    (let fallen : Answer = (Err e, record { nodes = n; node = p; doing = seats.Faulted; areas = new.areas }) in e ≡ because.Device → (fallen ≡ seat_step at.Device (seat_in n p phase areas)) ⊎ (fallen ≡ starve_opening (due_call phase) (seat_in n p phase areas)))
+    × (let down : Answer = (Err e, record { nodes = n; node = p; doing = seats.Stopped; areas = new.areas }) in e ≢ because.Device → (down ≡ seat_step at.Device (seat_in n p phase areas)) ⊎ (down ≡ starve_opening (due_call phase) (seat_in n p phase areas)))
 
 refused_call : (n p : ℕ) (phase : Phase) (call : Call) (old new : MemoryState) (e : Refusal) → due_call phase ≡ call → Refused MemoryRead MemoryWrite MemorySync call old e new → Falls n p phase old.areas e new
 refused_call n p phase (Read area) old new e is h =
@@ -142,28 +174,45 @@ refused_call n p phase (Write area from bytes) old new e is h =
     ((λ device. inr (rw (h.0, torn) (sym own))), (λ other. absurd (other h.0)))
 refused_call n p phase Sync old new e is h = absurd (false≢true h.0)
 
-stopped : (n p : ℕ) (o : Opening MemoryState) (e : Refusal) (new : MemoryState) → o.nodes ≡ n → o.node ≡ p → Steps MemoryRead MemoryWrite MemorySync o (Err (e, new)) → Falls n p (phase_of o.phase) o.disk.areas e new
-stopped n p o e new nodes node (inl refused) = refused_call n p (phase_of o.phase) (due_call (phase_of o.phase)) o.disk new e refl refused
-stopped n p o e new nodes node (inr (v, done, inl memory)) = wanting (phase_of o.phase) memory.1 done
+stopped : (n p : ℕ) (o : Opening NodeDisk) (e : Refusal) (new : NodeDisk) → o.nodes ≡ n → o.node ≡ p → o.disk.due ≡ None → Stepped o (Err (e, new)) → Falls n p (phase_of o.phase) o.disk.below.areas e new.below × (new.due ≡ None)
+stopped n p o e new nodes node calm (inl refused) =
+    let below = unmade_below (due_call (phase_of o.phase)) o.disk new e calm refused in
+    (refused_call n p (phase_of o.phase) (due_call (phase_of o.phase)) o.disk.below new.below e refl below.0, below.1)
+stopped n p o e new nodes node calm (inr (v, made, inl memory)) =
+    let done = made_below (due_call (phase_of o.phase)) o.disk new v calm made in
+    (wanting (phase_of o.phase) memory.1 done.0, done.1)
   where
-    wanting : (phase : Phase) → TakesMemory phase → Done MemoryRead MemoryWrite MemorySync (due_call phase) o.disk v new → Falls n p phase o.disk.areas e new
+    memory_device : because.OutOfMemory ≢ because.Device
+    memory_device x = cc
+
+    wanting : (phase : Phase) → TakesMemory phase → Done MemoryRead MemoryWrite MemorySync (due_call phase) o.disk.below v new.below → Falls n p phase o.disk.below.areas e new.below
     wanting Settling takes done = absurd takes
     wanting ReadingFirst takes done = absurd takes
     wanting (ReadingSecond first) takes done =
-        let same : new.areas ≡ o.disk.areas = ap (λ (m : MemoryState). m.areas) done.1 in
+        let same : new.below.areas ≡ o.disk.below.areas = ap (λ (m : MemoryState). m.areas) done.1 in
         ((λ device. absurd (memory_device (sym memory.0 ∙ device))), (λ other. inr (rw (memory.0, same) refl)))
-      where
-        memory_device : because.OutOfMemory ≢ because.Device
-        memory_device x = cc
     wanting (Formatting calls) takes done = absurd takes
-stopped n p o e new nodes node (inr (v, done, inr stops)) =
+stopped n p o e new nodes node calm (inr (v, made, inr stops)) =
+    let done = made_below (due_call (phase_of o.phase)) o.disk new v calm made in
     let here : after_opening_call n p v.items (phase_of o.phase) ≡ Stops e = ap (λ (k : ℕ). after_opening_call k p v.items (phase_of o.phase)) (sym nodes) ∙ ap (λ (k : ℕ). after_opening_call o.nodes k v.items (phase_of o.phase)) (sym node) ∙ stops in
-    ((λ device. absurd (stops_by n p v.items o.phase e here device)), (λ other. inl (stepped n p (phase_of o.phase) o.disk new v (Stops e) done here)))
+    (((λ device. absurd (stops_by n p v.items o.phase e here device)), (λ other. inl (stepped n p (phase_of o.phase) o.disk.below new.below v (Stops e) done.0 here))), done.1)
 
 -- an opening that is refused by its device
-pub opens_fallen : (n p : ℕ) (o : Opening MemoryState) (e : Refusal) (new : MemoryState) → Steps MemoryRead MemoryWrite MemorySync o (Err (e, new)) → e ≡ because.Device → Carries n p at.Device (does.Opening o) (Err e) (does.Faulted new)
-opens_fallen n p o e new steps device h = ((stopped n p o e new h.0 h.1 steps).0 device, tt)
+pub opens_fallen : (n p : ℕ) (o : Opening NodeDisk) (e : Refusal) (new : NodeDisk) → Stepped o (Err (e, new)) → e ≡ because.Device → Carries n p at.Device (does.Opening o) (Err e) (does.Faulted new)
+opens_fallen n p o e new steps device h = let x = stopped n p o e new h.0 h.1 h.2 steps in (x.0.0 device, x.1)
 
 -- an opening that is refused by memory or for what was found
-pub opens_stopped : (n p : ℕ) (o : Opening MemoryState) (e : Refusal) (new : MemoryState) → Steps MemoryRead MemoryWrite MemorySync o (Err (e, new)) → e ≢ because.Device → Carries n p at.Device (does.Opening o) (Err e) (does.Stopped new)
-opens_stopped n p o e new steps other h = ((stopped n p o e new h.0 h.1 steps).1 other, tt)
+pub opens_stopped : (n p : ℕ) (o : Opening NodeDisk) (e : Refusal) (new : NodeDisk) → Stepped o (Err (e, new)) → e ≢ because.Device → Carries n p at.Device (does.Opening o) (Err e) (does.Stopped new)
+opens_stopped n p o e new steps other h = let x = stopped n p o e new h.0 h.1 h.2 steps in (x.0.1 other, x.1)
+
+-- the device call that is due in an opening fails
+pub opens_failing : (n p : ℕ) (fill : List ℕ) (o : Opening NodeDisk) (new : NodeDisk) → Unmade (due_call (phase_of o.phase)) (record o.disk { due = Some fill }) because.Device new
+    → CarriesFailing n p fill (does.Opening o) (Err because.Device) (does.Faulted new)
+opens_failing n p fill o new refused h =
+    let left = call_fails fill (due_call (phase_of o.phase)) o.disk new refused in
+    (by left.1, left.0)
+  where
+    by : (new.below.areas ≡ after_failing fill (due_call (phase_of o.phase)) o.disk.below.areas) ⊎ (new.below.areas ≡ after_starved (due_call (phase_of o.phase)) o.disk.below.areas)
+        → Fails fill (seat_of n p (does.Opening o)) (Err because.Device) (seat_of n p (does.Faulted new))
+    by (inl is) = inl (rw is refl)
+    by (inr is) = inr (rw is refl)

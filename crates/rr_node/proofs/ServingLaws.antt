@@ -14,14 +14,18 @@ use Rattle.rr_model.specs.NodeState.{NodeState, decided_prefix}
 use Rattle.rr_model.specs.NodeStep.{Input, node_step, refusal_of, group_taken, group_put_back, marked_running, running_group, restored, started}
 use Rattle.rr_model.specs.NodeStays.{StaysMarked}
 use Rattle.rr_model.proofs.NodeSteady.{input_stays, started_stays}
+use Rattle.rr_disk.specs.declared.area.Area.{Area}
 use Rattle.rr_disk.specs.Areas.{Areas, synced}
-use Rattle.rr_disk.specs.Memory.{MemoryState, MemorySync}
+use Rattle.rr_disk.specs.Counts.{Grew}
+use Rattle.rr_disk.specs.Failing.{FailingWrite, FailingSync}
+use Rattle.rr_disk.specs.Memory.{MemoryState, MemoryWrite, MemorySync}
 use Rattle.rr_frame.specs.Numbers.{number_bytes}
 use Rattle.rr_frame.specs.GroupFormat.{group_bytes}
 use Rattle.rr_frame.proofs.FieldLaws.{length-number_bytes}
 use Rattle.rr_gate.specs.Flushes as gate
 use Rattle.rr_journal.specs.declared.journal.Journal.{Journal}
-use Rattle.rr_journal.specs.Calls.{frame_bytes, append_calls}
+use Rattle.rr_journal.specs.Calls.{Call, Write, frame_bytes, append_calls, after_call, after_starved, after_failing}
+use Rattle.rr_node.proofs.DiskLaws.{passed_on, synced_by, written_by, starved_by, write_fails}
 use Rattle.rr_node.specs.declared.doing.Doing.TheVariants as does
 use Rattle.rr_node.specs.declared.serving.Serving.{Serving}
 use Rattle.rr_node.specs.declared.serving.Flush.{Flush}
@@ -30,11 +34,11 @@ use Rattle.rr_node.specs.declared.event.NodeEvent.TheVariants as at
 use Rattle.rr_node.specs.declared.event.Outcome.{Outcome}
 use Rattle.rr_node.specs.declared.event.Outcome.TheVariants.{Quiet, Opened}
 use Rattle.rr_node.specs.Seats as seats
-use Rattle.rr_node.specs.Seats.{Seat, Answer, Journaled, goes_on, refuse, told, take_up, payload_of, journal_behind}
-use Rattle.rr_node.specs.Views.{journaled_of, flush_of, seat_of, IsJobOf, IsFlushOf, IsServing, CarriesOn, Serves, quiet}
+use Rattle.rr_node.specs.Seats.{Seat, Answer, Journaled, Fails, goes_on, refuse, told, take_up, payload_of, journal_behind}
+use Rattle.rr_node.specs.Views.{NodeDisk, journaled_of, flush_of, seat_of, IsJobOf, IsFlushOf, IsServing, CarriesOn, CarriesFailing, Serves, quiet}
 
 -- where the same group runs, a flush stays of it
-flush_stays : (s t : NodeState) (j : Journal MemoryState) (f : Flush) → StaysMarked s t → IsFlushOf s j f → IsFlushOf t j f
+flush_stays : (s t : NodeState) (j : Journal NodeDisk) (f : Flush) → StaysMarked s t → IsFlushOf s j f → IsFlushOf t j f
 flush_stays s t j f same h = by f h
   where
     group : running_group t ≡ running_group s
@@ -51,13 +55,14 @@ flush_stays s t j f same h = by f h
     by (flush.GateSet job) h = job_stays job h
     by (flush.Flushed kept) h = (h.0 ∙ sym same.node, group ∙ h.1, h.2)
 
-serving_stays : (n p : ℕ) (s t : NodeState) (j : Journal MemoryState) (f : Flush) → StaysMarked s t → IsServing n p (record { core = s; journal = j; flush = f }) → IsServing n p (record { core = t; journal = j; flush = f })
+serving_stays : (n p : ℕ) (s t : NodeState) (j : Journal NodeDisk) (f : Flush) → StaysMarked s t → IsServing n p (record { core = s; journal = j; flush = f }) → IsServing n p (record { core = t; journal = j; flush = f })
 serving_stays n p s t j f same h = record {
   nodes = same.nodes ∙ h.nodes;
   node = same.node ∙ h.node;
   journal_nodes = h.journal_nodes;
   journal_node = h.journal_node;
   sound = h.sound;
+  calm = h.calm;
   flush = flush_stays s t j f same h.flush;
 }
 
@@ -69,10 +74,10 @@ pub record IsTold (input : Input) (s t : NodeState) (r : Result (Unit {0}) Refus
   pub err : OnErr r (t ≡ s)
 
 -- the same, of a seat
-abbrev Tells : Input → NodeState → Journal MemoryState → Flush → Seat → Answer → Type 0
+abbrev Tells : Input → NodeState → Journal NodeDisk → Flush → Seat → Answer → Type 0
 Tells input s j f seat given = (given ≡ told input s (journaled_of j) (flush_of f) seat) ⊎ (given ≡ refuse because.OutOfMemory seat)
 
-pub told_on : (input : Input) (s t : NodeState) (j : Journal MemoryState) (f : Flush) (r : Result (Unit {0}) Refusal) (n p : ℕ) → IsTold input s t r → IsServing n p (record { core = s; journal = j; flush = f })
+pub told_on : (input : Input) (s t : NodeState) (j : Journal NodeDisk) (f : Flush) (r : Result (Unit {0}) Refusal) (n p : ℕ) → IsTold input s t r → IsServing n p (record { core = s; journal = j; flush = f })
     → Tells input s j f (seat_of n p (does.Serving (record { core = s; journal = j; flush = f }))) (quiet r, seat_of n p (does.Serving (record { core = t; journal = j; flush = f })))
     × IsServing n p (record { core = t; journal = j; flush = f })
 told_on input s t j f (Ok x) n p h steady =
@@ -95,12 +100,12 @@ marked_rests s g e = by s.running refl
         none x = cc
     by (Some facts) h = rw h (refl, refl, refl)
 
-pub mark_done : (s t : NodeState) (j : Journal MemoryState) (kept : gate.Kept) → t ≡ marked_running s → CarriesOn at.Mark (record { core = s; journal = j; flush = flush.Flushed kept }) (Ok Quiet) (does.Serving (record { core = t; journal = j; flush = flush.Resting }))
+pub mark_done : (s t : NodeState) (j : Journal NodeDisk) (kept : gate.Kept) → t ≡ marked_running s → CarriesOn at.Mark (record { core = s; journal = j; flush = flush.Flushed kept }) (Ok Quiet) (does.Serving (record { core = t; journal = j; flush = flush.Resting }))
 mark_done s t j kept e n p h =
     let rests = marked_rests s kept.group h.flush.1 in
     rw e (
       inl refl,
-      record { nodes = rests.1 ∙ h.nodes; node = rests.2 ∙ h.node; journal_nodes = h.journal_nodes; journal_node = h.journal_node; sound = h.sound; flush = (rests.0, h.flush.2) },
+      record { nodes = rests.1 ∙ h.nodes; node = rests.2 ∙ h.node; journal_nodes = h.journal_nodes; journal_node = h.journal_node; sound = h.sound; calm = h.calm; flush = (rests.0, h.flush.2) },
     )
 
 frame_long : (payload : List ℕ) → length (frame_bytes payload) ≡ 5 + length payload
@@ -108,28 +113,30 @@ unfolding number_bytes
 frame_long payload = length-append (number_bytes 4 (length payload)) (payload ++ 0 ∷ []) ∙ omega (arith, length-number_bytes 4 (length payload), length-append payload (0 ∷ []))
 
 -- where the journal appends once the job's frame is on the disk
-behind : (s : NodeState) (j : Journal MemoryState) (job : gate.Flush) → IsJobOf s j job → job.gate + length job.body ≡ (journal_behind s (journaled_of j)).gate
+behind : (s : NodeState) (j : Journal NodeDisk) (job : gate.Flush) → IsJobOf s j job → job.gate + length job.body ≡ (journal_behind s (journaled_of j)).gate
 behind s j job h =
     let payload : List ℕ = group_bytes job.group in
     let size : option_map_or (λ (g : Grouped). length (group_bytes g)) (running_group s) 0 ≡ length (group_bytes job.group) = ap (λ (o : Option Grouped). option_map_or (λ (g : Grouped). length (group_bytes g)) o 0) h.group in
     let body : length job.body ≡ 5 + length (group_bytes job.group) = ap (λ (bytes : List ℕ). length bytes) h.body ∙ frame_long (group_bytes job.group) in
     omega (arith, size, body, h.gate)
 
-pub gate_done : (s : NodeState) (j k : Journal MemoryState) (job : gate.Flush) (kept : gate.Kept) (next : ℕ) → kept ≡ record { node = job.node; group = job.group }
+pub gate_done : (s : NodeState) (j k : Journal NodeDisk) (job : gate.Flush) (kept : gate.Kept) (next : ℕ) → kept ≡ record { node = job.node; group = job.group }
     → k ≡ record { disk = k.disk; nodes = j.nodes; node = j.node; area = j.area; epoch = j.epoch; gate = job.gate + length job.body; next = next; failed = j.failed; busy = false }
-    → k.disk.areas ≡ synced j.disk.areas
+    → FailingSync MemorySync j.disk (Ok tt) k.disk
     → CarriesOn at.Device (record { core = s; journal = j; flush = flush.GateSet job }) (Ok Quiet) (does.Serving (record { core = s; journal = k; flush = flush.Flushed kept }))
-gate_done s j k job kept next is ended areas n p h =
-    let own : Path Seat (seat_of n p (does.Serving (record { core = s; journal = k; flush = flush.Flushed kept }))) (record { nodes = n; node = p; doing = seats.Serving s (journal_behind s (journaled_of j)) seats.Flushed; areas = synced j.disk.areas }) =
-    rw (areas, ap (λ (x : Journal MemoryState). x.area) ended, ap (λ (x : Journal MemoryState). x.gate) ended, behind s j job h.flush) refl in (
+gate_done s j k job kept next is ended gave n p h =
+    let left = synced_by j.disk k.disk h.calm gave in
+    let own : Path Seat (seat_of n p (does.Serving (record { core = s; journal = k; flush = flush.Flushed kept }))) (record { nodes = n; node = p; doing = seats.Serving s (journal_behind s (journaled_of j)) seats.Flushed; areas = synced j.disk.below.areas }) =
+    rw (left.1, ap (λ (x : Journal NodeDisk). x.area) ended, ap (λ (x : Journal NodeDisk). x.gate) ended, behind s j job h.flush) refl in (
       inl (ap (λ (x : Seat). pair x) own),
       record {
         nodes = h.nodes;
         node = h.node;
-        journal_nodes = ap (λ (x : Journal MemoryState). x.nodes) ended ∙ h.journal_nodes;
-        journal_node = ap (λ (x : Journal MemoryState). x.node) ended ∙ h.journal_node;
-        sound = ap (λ (x : Journal MemoryState). x.failed) ended ∙ h.sound;
-        flush = (ap (λ (x : gate.Kept). x.node) is ∙ h.flush.node, h.flush.group ∙ ap (λ (x : gate.Kept). Some x.group) (sym is), ap (λ (x : Journal MemoryState). x.busy) ended);
+        journal_nodes = ap (λ (x : Journal NodeDisk). x.nodes) ended ∙ h.journal_nodes;
+        journal_node = ap (λ (x : Journal NodeDisk). x.node) ended ∙ h.journal_node;
+        sound = ap (λ (x : Journal NodeDisk). x.failed) ended ∙ h.sound;
+        calm = left.0;
+        flush = (ap (λ (x : gate.Kept). x.node) is ∙ h.flush.node, h.flush.group ∙ ap (λ (x : gate.Kept). Some x.group) (sym is), ap (λ (x : Journal NodeDisk). x.busy) ended);
       },
     )
   where
@@ -163,7 +170,7 @@ take_is s j seat group fits some is fit =
     ∙ ap (λ (bytes : List ℕ). taken_with s j seat false (nat_lt (j.gate + 6 + length bytes) (2 ^ 32)) bytes) payload
     ∙ ap (λ (b : Bool). taken_with s j seat false b (group_bytes group)) fit
 
-pub begin_done : (s t : NodeState) (j k : Journal MemoryState) (group : Grouped) (job : gate.Flush) → s.staged ≢ [] → t ≡ group_taken s → Some group ≡ running_group t → s.running ≡ None
+pub begin_done : (s t : NodeState) (j k : Journal NodeDisk) (group : Grouped) (job : gate.Flush) → s.staged ≢ [] → t ≡ group_taken s → Some group ≡ running_group t → s.running ≡ None
     → j.gate + 6 + length (group_bytes group) < 2 ^ 32 → k ≡ record j { busy = true }
     → job ≡ record { nodes = j.nodes; node = j.node; area = j.area; gate = j.gate; body = frame_bytes (group_bytes group); group = group }
     → CarriesOn at.Take (record { core = s; journal = j; flush = flush.Resting }) (Ok Quiet) (does.Serving (record { core = t; journal = k; flush = flush.Body job }))
@@ -176,6 +183,7 @@ begin_done s t j k group job some taken runs rests small busy is n p h =
         journal_nodes = h.journal_nodes;
         journal_node = h.journal_node;
         sound = h.sound;
+        calm = h.calm;
         flush = record { node = h.journal_node ∙ sym (nodes_stay.1 ∙ h.node); area = refl; gate = refl; body = refl; group = group_is };
       },
     )
@@ -192,7 +200,7 @@ begin_done s t j k group job some taken runs rests small busy is n p h =
     step : take_up s (journaled_of j) seats.Resting seat ≡ taken_with s (journaled_of j) seat false true (group_bytes group)
     step = take_is s (journaled_of j) seat group true some group_is (lt-ltb _ _ small)
 
-pub begin_refused : (s t u : NodeState) (j k : Journal MemoryState) (group : Grouped) (e : Refusal) → s.staged ≢ [] → t ≡ group_taken s → Some group ≡ running_group t → s.running ≡ None → u ≡ group_put_back t → k ≡ j
+pub begin_refused : (s t u : NodeState) (j k : Journal NodeDisk) (group : Grouped) (e : Refusal) → s.staged ≢ [] → t ≡ group_taken s → Some group ≡ running_group t → s.running ≡ None → u ≡ group_put_back t → k ≡ j
     → (e ≡ because.OutOfMemory) ⊎ ((e ≡ because.Failed) × (j.failed ≡ true)) ⊎ ((e ≡ because.Busy) × (j.busy ≡ true)) ⊎ ((e ≡ because.TooLarge) × (2 ^ 32 ≤ j.gate + 6 + length (group_bytes group)))
     → CarriesOn at.Take (record { core = s; journal = j; flush = flush.Resting }) (Err e) (does.Serving (record { core = u; journal = k; flush = flush.Resting }))
 begin_refused s t u j k group e some taken runs rests back same why n p h = rw (again, same) (by why, h)
@@ -217,11 +225,74 @@ begin_refused s t u j k group e some taken runs rests back same why n p h = rw (
     by (inr (inr (inr large))) = inl (rw large.0 (sym (step large.1)))
 
 -- an opening ended, and the node serves
-pub serve_done : (n p : ℕ) (j : Journal MemoryState) (promise : List Entry) (number decided : ℕ) (core : NodeState) (names : Bindings) (s : Serving) → core ≡ started n p promise number
+pub serve_done : (n p : ℕ) (j : Journal NodeDisk) (promise : List Entry) (number decided : ℕ) (core : NodeState) (names : Bindings) (s : Serving) → core ≡ started n p promise number
     → decided ≡ length (decided_prefix core) → names ≡ registry_of (decided_prefix core) → s ≡ record { core = core; journal = j; flush = flush.Resting } → Serves n p j promise number (Ok (Opened number decided names)) (does.Serving s)
 serve_done n p j promise number decided core names s is count bound own h =
     let same : StaysMarked (restored n p promise number) (started n p promise number) = started_stays n p promise number in
     rw (own, bound, count, is) (
       inl refl,
-      record { nodes = same.nodes; node = same.node; journal_nodes = h.nodes; journal_node = h.node; sound = h.sound; flush = (same.running, h.rests) },
+      record { nodes = same.nodes; node = same.node; journal_nodes = h.nodes; journal_node = h.node; sound = h.sound; calm = h.calm; flush = (same.running, h.rests) },
     )
+
+-- a flush goes on behind a device call
+pub flush_goes : (s : NodeState) (j k : Journal NodeDisk) (f g : Flush) (call next : Call) (calls : List Call) → flush_of f ≡ seats.Writing (call ∷ next ∷ calls) → flush_of g ≡ seats.Writing (next ∷ calls)
+    → k ≡ record j { disk = k.disk } → (j.disk.due ≡ None → (k.disk.due ≡ None) × (k.disk.below.areas ≡ after_call call j.disk.below.areas)) → (IsFlushOf s j f → IsFlushOf s k g)
+    → CarriesOn at.Device (record { core = s; journal = j; flush = f }) (Ok Quiet) (does.Serving (record { core = s; journal = k; flush = g }))
+flush_goes s j k f g call next calls is behind same gave keeps n p h =
+    let left = gave h.calm in
+    let old : Seat = seat_of n p (does.Serving (record { core = s; journal = j; flush = f })) in
+    let here : seats.flush_on s (journaled_of j) old (flush_of f) ≡ seats.flush_on s (journaled_of j) old (seats.Writing (call ∷ next ∷ calls)) = ap (seats.flush_on s (journaled_of j) old) is in
+    let own : Path Answer (Ok Quiet, seat_of n p (does.Serving (record { core = s; journal = k; flush = g }))) (seats.flush_on s (journaled_of j) old (seats.Writing (call ∷ next ∷ calls))) =
+    rw (behind, left.1, ap (λ (x : Journal NodeDisk). x.area) same, ap (λ (x : Journal NodeDisk). x.gate) same) refl in (
+      inl (own ∙ sym here),
+      record {
+        nodes = h.nodes;
+        node = h.node;
+        journal_nodes = ap (λ (x : Journal NodeDisk). x.nodes) same ∙ h.journal_nodes;
+        journal_node = ap (λ (x : Journal NodeDisk). x.node) same ∙ h.journal_node;
+        sound = ap (λ (x : Journal NodeDisk). x.failed) same ∙ h.sound;
+        calm = left.0;
+        flush = keeps h.flush;
+      },
+    )
+
+-- a job stays of the running group over another disk
+pub job_goes : (s : NodeState) (j k : Journal NodeDisk) (job next : gate.Flush) → k ≡ record j { disk = k.disk } → next ≡ job → IsJobOf s j job → IsJobOf s k next
+job_goes s j k job next same is h =
+    rw is (record { node = h.node; area = h.area ∙ sym (ap (λ (x : Journal NodeDisk). x.area) same); gate = h.gate ∙ sym (ap (λ (x : Journal NodeDisk). x.gate) same); body = h.body; group = h.group })
+
+-- a job's step was refused: by a journal that has failed, and nothing has changed, or by a device call that gave this
+abbrev pub IsRefused : (NodeDisk → Result (Unit {0}) Refusal → NodeDisk → Type 0) → Journal NodeDisk → Journal NodeDisk → Refusal → Type 0
+IsRefused gives j k e =
+    ((e ≡ because.Failed) × (j.failed ≡ true) × (k ≡ j))
+    ⊎ ((e ≡ because.Device) × (j.failed ≡ false) × (k ≡ record j { disk = k.disk; failed = true }) × gives j.disk (Err because.Device) k.disk × Grew j.disk.faults k.disk.faults)
+
+pub write_refused : (s : NodeState) (j k : Journal NodeDisk) (f : Flush) (e : Refusal) (area : Area) (from : ℕ) (bytes : List ℕ) (calls : List Call) → flush_of f ≡ seats.Writing (Write area from bytes ∷ calls)
+    → IsRefused (λ old r new. FailingWrite MemoryWrite old area from bytes r new) j k e → CarriesOn at.Device (record { core = s; journal = j; flush = f }) (Err e) (does.Faulted k.disk)
+write_refused s j k f e area from bytes calls is (inl failed) n p h = absurd (false≢true (sym h.sound ∙ failed.1))
+write_refused s j k f e area from bytes calls is (inr gave) n p h =
+    let left = starved_by j.disk k.disk area from bytes h.calm gave.3 in
+    let old : Seat = seat_of n p (does.Serving (record { core = s; journal = j; flush = f })) in
+    let here : seats.starve_flush (flush_of f) old ≡ seats.starve_flush (seats.Writing (Write area from bytes ∷ calls)) old = ap (λ (x : seats.Flush). seats.starve_flush x old) is in
+    let own : Path Answer (Err e, seat_of n p (does.Faulted k.disk)) (seats.starve_flush (seats.Writing (Write area from bytes ∷ calls)) old) = rw (gave.0, left.1) refl in
+    (inr (own ∙ sym here), left.0)
+
+pub sync_refused : (s : NodeState) (j k : Journal NodeDisk) (f : Flush) (e : Refusal) → IsRefused (λ old r new. FailingSync MemorySync old r new) j k e → CarriesOn at.Device (record { core = s; journal = j; flush = f }) (Err e) (does.Faulted k.disk)
+sync_refused s j k f e (inl failed) n p h = absurd (false≢true (sym h.sound ∙ failed.1))
+sync_refused s j k f e (inr gave) n p h = absurd (false≢true (passed_on j.disk.due _ _ h.calm gave.3).0.0)
+
+-- the write that is due in a flush fails
+pub write_failing : (n p : ℕ) (fill : List ℕ) (s : NodeState) (j armed k : Journal NodeDisk) (f : Flush) (e : Refusal) (area : Area) (from : ℕ) (bytes : List ℕ) (calls : List Call) → flush_of f ≡ seats.Writing (Write area from bytes ∷ calls)
+    → armed ≡ record j { disk = record j.disk { due = Some fill } } → IsRefused (λ old r new. FailingWrite MemoryWrite old area from bytes r new) armed k e
+    → CarriesFailing n p fill (does.Serving (record { core = s; journal = j; flush = f })) (Err because.Device) (does.Faulted k.disk)
+write_failing n p fill s j armed k f e area from bytes calls is arms refused h = by (subst (λ (x : Journal NodeDisk). IsRefused (λ old r new. FailingWrite MemoryWrite old area from bytes r new) x k e) arms refused)
+  where
+    ends : (x : seats.Flush) → flush_of f ≡ x → (left : (k.disk.below.areas ≡ after_failing fill (Write area from bytes) j.disk.below.areas) ⊎ (k.disk.below.areas ≡ after_starved (Write area from bytes) j.disk.below.areas)) → x ≡ seats.Writing (Write area from bytes ∷ calls)
+        → Fails fill (seat_of n p (does.Serving (record { core = s; journal = j; flush = f }))) (Err because.Device) (seat_of n p (does.Faulted k.disk))
+    ends x g (inl left) e = inl (rw left (sym (ap (λ (y : seats.Flush). seats.fail_flush (after_failing fill) y (seat_of n p (does.Serving (record { core = s; journal = j; flush = f })))) (g ∙ e))))
+    ends x g (inr left) e = inr (rw left (sym (ap (λ (y : seats.Flush). seats.fail_flush after_starved y (seat_of n p (does.Serving (record { core = s; journal = j; flush = f })))) (g ∙ e))))
+
+    by : IsRefused (λ old r new. FailingWrite MemoryWrite old area from bytes r new) (record j { disk = record j.disk { due = Some fill } }) k e
+        → Fails fill (seat_of n p (does.Serving (record { core = s; journal = j; flush = f }))) (Err because.Device) (seat_of n p (does.Faulted k.disk)) × (k.disk.due ≡ None)
+    by (inl failed) = absurd (false≢true (sym h.sound ∙ failed.1))
+    by (inr gave) = let left = write_fails fill area from bytes j.disk k.disk (Err because.Device) gave.3 in (ends (flush_of f) refl left.1 is, left.0)

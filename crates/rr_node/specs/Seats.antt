@@ -22,7 +22,7 @@ use Rattle.rr_node.specs.declared.event.NodeEvent.{NodeEvent}
 use Rattle.rr_node.specs.declared.event.NodeEvent.TheVariants as at
 use Rattle.rr_node.specs.declared.event.Outcome.{Outcome}
 use Rattle.rr_node.specs.declared.event.Outcome.TheVariants.{Quiet, Left, Replied, Opened}
-use Rattle.rr_journal.specs.Calls.{Call, Read, Write, Sync, after_call, after_starved, append_calls}
+use Rattle.rr_journal.specs.Calls.{Call, Read, Write, Sync, after_call, after_starved, after_failing, append_calls}
 use Rattle.rr_journal.specs.Openings.{Phase, Settling, After, Goes, Opens, Stops, due_call, after_opening_call}
 
 -- a flush: none, the device calls that are left of it, or a synced group that isn't marked yet
@@ -233,3 +233,33 @@ starve at.Restart seat = refuse because.OutOfMemory seat
 -- what a node may answer to an event, and be after it: what it answers where memory is there, or where it is wanting
 abbrev pub Gives : NodeEvent → Seat → Result Outcome Refusal → Seat → Type 0
 Gives event seat result next = ((result, next) ≡ seat_step event seat) ⊎ ((result, next) ≡ starve event seat)
+
+-- a device call that fails and leaves the areas so: the node has failed
+abbrev pub fall : (Call → Areas → Areas) → Call → Seat → Answer
+fall leaves call seat = (Err because.Device, record seat { doing = Faulted; areas = leaves call seat.areas })
+
+-- the next device call of a flush fails; where none is due nothing happens
+abbrev pub fail_flush : (Call → Areas → Areas) → Flush → Seat → Answer
+fail_flush leaves Resting seat = (Ok Quiet, seat)
+fail_flush leaves Flushed seat = (Ok Quiet, seat)
+fail_flush leaves (Writing []) seat = (Ok Quiet, seat)
+fail_flush leaves (Writing (call ∷ calls)) seat = fall leaves call seat
+
+-- the next device call of a node fails
+abbrev pub fail_doing : (Call → Areas → Areas) → Doing → Seat → Answer
+fail_doing leaves Stopped seat = refuse because.Down seat
+fail_doing leaves Faulted seat = refuse because.Failed seat
+fail_doing leaves (Opening phase) seat = fall leaves (due_call phase) seat
+fail_doing leaves (Serving s journal flush) seat = fail_flush leaves flush seat
+
+-- what a failing device call answers, and the node after it, where memory is there: a write leaves the fill
+abbrev pub seat_fails : List ℕ → Seat → Answer
+seat_fails fill seat = fail_doing (after_failing fill) seat.doing seat
+
+-- the same where memory is wanting for a write
+abbrev pub starve_fails : Seat → Answer
+starve_fails seat = fail_doing after_starved seat.doing seat
+
+-- what a node may answer where its next device call fails with this fill, and be after it
+abbrev pub Fails : List ℕ → Seat → Result Outcome Refusal → Seat → Type 0
+Fails fill seat result next = ((result, next) ≡ seat_fails fill seat) ⊎ ((result, next) ≡ starve_fails seat)

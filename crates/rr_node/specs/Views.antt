@@ -6,6 +6,7 @@ use Rattle.rr_types.specs.declared.refusal.Refusal.TheVariants.{OutOfMemory}
 use Rattle.rr_model.specs.NodeState.{NodeState}
 use Rattle.rr_model.specs.NodeStep.{running_group}
 use Rattle.rr_disk.specs.Areas.{Areas}
+use Rattle.rr_disk.specs.Failing.{FailingState}
 use Rattle.rr_disk.specs.Memory.{MemoryState}
 use Rattle.rr_frame.specs.GroupFormat.{group_bytes}
 use Rattle.rr_gate.specs.Flushes as gate
@@ -21,10 +22,14 @@ use Rattle.rr_node.specs.declared.event.NodeEvent.{NodeEvent}
 use Rattle.rr_node.specs.declared.event.Outcome.{Outcome}
 use Rattle.rr_node.specs.declared.event.Outcome.TheVariants.{Quiet}
 use Rattle.rr_node.specs.Seats as seats
-use Rattle.rr_node.specs.Seats.{Seat, Journaled, Answer, Gives, serves}
+use Rattle.rr_node.specs.Seats.{Seat, Journaled, Answer, Gives, Fails, serves}
+
+-- a node's disk: in memory, with calls that fail on demand
+abbrev pub NodeDisk : Type 0
+NodeDisk = FailingState MemoryState
 
 -- where a journal appends
-abbrev pub journaled_of : Journal MemoryState → Journaled
+abbrev pub journaled_of : Journal NodeDisk → Journaled
 journaled_of j = record { area = j.area; gate = j.gate }
 
 -- a flush, by the device calls that are left of it
@@ -45,17 +50,24 @@ doing_of (does.Serving s) = seats.Serving s.core (journaled_of s.journal) (flush
 
 -- what its areas hold
 abbrev pub areas_of : code.Doing → Areas
-areas_of (does.Stopped disk) = disk.areas
-areas_of (does.Faulted disk) = disk.areas
-areas_of (does.Opening opening) = opening.disk.areas
-areas_of (does.Serving s) = s.journal.disk.areas
+areas_of (does.Stopped disk) = disk.below.areas
+areas_of (does.Faulted disk) = disk.below.areas
+areas_of (does.Opening opening) = opening.disk.below.areas
+areas_of (does.Serving s) = s.journal.disk.below.areas
+
+-- the failure that is due at its disk
+abbrev pub due_of : code.Doing → Option (List ℕ)
+due_of (does.Stopped disk) = disk.due
+due_of (does.Faulted disk) = disk.due
+due_of (does.Opening opening) = opening.disk.due
+due_of (does.Serving s) = s.journal.disk.due
 
 -- a node of so many that does this
 abbrev pub seat_of : ℕ → ℕ → code.Doing → Seat
 seat_of n p doing = record { nodes = n; node = p; doing = doing_of doing; areas = areas_of doing }
 
 -- a job is of the core's running group, and writes its frame where the journal appends
-pub record IsJobOf (s : NodeState) (j : Journal MemoryState) (job : gate.Flush) : Type 0 where
+pub record IsJobOf (s : NodeState) (j : Journal NodeDisk) (job : gate.Flush) : Type 0 where
   pub node : job.node ≡ s.node
   pub area : job.area ≡ j.area
   pub gate : job.gate ≡ j.gate
@@ -63,7 +75,7 @@ pub record IsJobOf (s : NodeState) (j : Journal MemoryState) (job : gate.Flush) 
   pub group : running_group s ≡ Some job.group
 
 -- a flush is of the core's running group; where none runs the journal isn't busy
-abbrev pub IsFlushOf : NodeState → Journal MemoryState → code_2.Flush → Type 0
+abbrev pub IsFlushOf : NodeState → Journal NodeDisk → code_2.Flush → Type 0
 IsFlushOf s j flush.Resting = (s.running ≡ None) × (j.busy ≡ false)
 IsFlushOf s j (flush.Body job) = IsJobOf s j job
 IsFlushOf s j (flush.BodyOut job) = IsJobOf s j job
@@ -71,20 +83,21 @@ IsFlushOf s j (flush.BodySafe job) = IsJobOf s j job
 IsFlushOf s j (flush.GateSet job) = IsJobOf s j job
 IsFlushOf s j (flush.Flushed synced) = (synced.node ≡ s.node) × (running_group s ≡ Some synced.group) × (j.busy ≡ false)
 
--- a node that is up is node p of n over its own journal, which hasn't failed
+-- a node that is up is node p of n over its own journal, which hasn't failed, and no failure is due
 pub record IsServing (n p : ℕ) (s : Serving) : Type 0 where
   pub nodes : s.core.nodes ≡ n
   pub node : s.core.node ≡ p
   pub journal_nodes : s.journal.nodes ≡ n
   pub journal_node : s.journal.node ≡ p
   pub sound : s.journal.failed ≡ false
+  pub calm : s.journal.disk.due ≡ None
   pub flush : IsFlushOf s.core s.journal s.flush
 
--- what holds of node p of n between events
+-- what holds of node p of n between events: no failure is due
 abbrev pub IsSteady : ℕ → ℕ → code.Doing → Type 0
-IsSteady n p (does.Stopped disk) = Unit {0}
-IsSteady n p (does.Faulted disk) = Unit {0}
-IsSteady n p (does.Opening opening) = (opening.nodes ≡ n) × (opening.node ≡ p)
+IsSteady n p (does.Stopped disk) = disk.due ≡ None
+IsSteady n p (does.Faulted disk) = disk.due ≡ None
+IsSteady n p (does.Opening opening) = (opening.nodes ≡ n) × (opening.node ≡ p) × (opening.disk.due ≡ None)
 IsSteady n p (does.Serving s) = IsServing n p s
 
 -- from one steady doing an event leads, with this answer, to another as the definitions say
@@ -96,14 +109,19 @@ abbrev pub CarriesOn : NodeEvent → Serving → Result Outcome Refusal → code
 CarriesOn event s answer new = (n p : ℕ) → Carries n p event (does.Serving s) answer new
 
 -- a journal is node p's of n, rests and hasn't failed
-pub record IsOpened (n p : ℕ) (j : Journal MemoryState) : Type 0 where
+pub record IsOpened (n p : ℕ) (j : Journal NodeDisk) : Type 0 where
   pub nodes : j.nodes ≡ n
   pub node : j.node ≡ p
   pub sound : j.failed ≡ false
   pub rests : j.busy ≡ false
+  pub calm : j.disk.due ≡ None
+
+-- from one steady doing a failing device call leads, with this answer, to another as the definitions say
+abbrev pub CarriesFailing : ℕ → ℕ → List ℕ → code.Doing → Result Outcome Refusal → code.Doing → Type 0
+CarriesFailing n p fill old answer new = IsSteady n p old → Fails fill (seat_of n p old) answer (seat_of n p new) × IsSteady n p new
 
 -- an opening of node p of n ended with this journal, promise and number: the node serves, or memory was wanting and it is down
-abbrev pub Serves : ℕ → ℕ → Journal MemoryState → List Entry → ℕ → Result Outcome Refusal → code.Doing → Type 0
+abbrev pub Serves : ℕ → ℕ → Journal NodeDisk → List Entry → ℕ → Result Outcome Refusal → code.Doing → Type 0
 Serves n p j promise number answer new =
     IsOpened n p j
     → (let given : Answer = (answer, seat_of n p new) in

@@ -4,32 +4,36 @@ ghost use Rattle.std.specs.Prelude.{◌≡◌, ◌↔◌, IsTrue, IfOk, IfErr};
 ghost use Rattle.rr_types.specs.Registry.{registry_of};
 ghost use Rattle.rr_model.specs.NodeState.{decided_prefix};
 ghost use Rattle.rr_types.specs.declared.refusal.Refusal.TheVariants.{OutOfMemory, Device};
-ghost use Rattle.rr_node.specs.Views.{Carries, Serves, areas_of};
+ghost use Rattle.rr_node.specs.Views.{Carries, CarriesFailing, Serves, areas_of, due_of};
 
 use crate::event::{BoundNames, NodeEvent, Outcome};
 use crate::serving::Serving;
 use rr_core::Core;
-use rr_disk::MemDisk;
+use rr_disk::{FailingDisk, MemDisk};
 use rr_journal::{Journal, Opening, Progress};
 use rr_types::{NodeId, Nodes, Promise, Refusal};
 use std::alloc::Global;
 
+/// A node's disk: in memory, with calls that fail on demand.
+pub type NodeDisk = FailingDisk<MemDisk>;
+
 /// What a node does. Each way has the disk.
 pub enum Doing {
     /// It is down.
-    Stopped(MemDisk),
+    Stopped(NodeDisk),
     /// A device call of it has failed.
-    Faulted(MemDisk),
+    Faulted(NodeDisk),
     /// It opens its disk.
-    Opening(Opening<MemDisk>),
+    Opening(Opening<NodeDisk>),
     /// It is up.
     Serving(Serving),
 }
 
 impl Doing {
     /// The disk; whatever ran over it is given up.
-    pub fn into_disk(self) -> MemDisk
-        ensures { result.areas ≡ areas_of self }
+    pub fn into_disk(self) -> NodeDisk
+        ensures areas { result.below.areas ≡ areas_of self }
+        ensures due { result.due ≡ due_of self }
     {
         match self {
             Doing::Stopped(disk) => disk,
@@ -74,12 +78,34 @@ pub fn go_on(
     }
 }
 
+/// The next device call of a node fails with this fill. A node that is down or has failed refuses it, and where
+/// no call is due nothing happens.
+pub fn fail(
+    alloc: Global,
+    nodes: Nodes,
+    node: NodeId,
+    doing: Doing,
+    fill: Vec<u8>,
+) -> (Doing, Result<Outcome, Refusal>)
+    ensures { CarriesFailing nodes node fill.items doing result.1 result.0 }
+{
+    match doing {
+        Doing::Stopped(disk) => (Doing::Stopped(disk), Err(Refusal::Down)),
+        Doing::Faulted(disk) => (Doing::Faulted(disk), Err(Refusal::Failed)),
+        Doing::Opening(opening) => (
+            Doing::Faulted(opening.fail(alloc, fill)),
+            Err(Refusal::Device),
+        ),
+        Doing::Serving(serving) => serving.fail(fill),
+    }
+}
+
 /// The next device call of an opening.
 fn open_on(
     alloc: Global,
     nodes: Nodes,
     node: NodeId,
-    opening: Opening<MemDisk>,
+    opening: Opening<NodeDisk>,
 ) -> (Doing, Result<Outcome, Refusal>)
     ensures { Carries nodes node NodeEvent.Device (Doing.Opening opening) result.1 result.0 }
 {
@@ -110,7 +136,7 @@ fn serve(
     alloc: Global,
     nodes: Nodes,
     node: NodeId,
-    journal: Journal<MemDisk>,
+    journal: Journal<NodeDisk>,
     promise: Promise,
     number: u64,
 ) -> (Doing, Result<Outcome, Refusal>)

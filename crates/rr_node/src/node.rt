@@ -1,11 +1,11 @@
 //! A node over its disk.
 
 ghost use Rattle.std.specs.Prelude.{◌≡◌};
-ghost use Rattle.rr_node.specs.Seats.{Gives, new_seat, crashed};
+ghost use Rattle.rr_node.specs.Seats.{Gives, Fails, new_seat, crashed};
 
-use crate::doing::{Doing, go_on};
+use crate::doing::{Doing, fail, go_on};
 use crate::event::{NodeEvent, Outcome};
-use rr_disk::MemDisk;
+use rr_disk::{FailingDisk, MemDisk};
 use rr_types::{NodeId, Nodes, Refusal};
 use std::alloc::Global;
 use std::marker::Model;
@@ -49,7 +49,7 @@ impl Node {
         Node {
             nodes,
             node,
-            doing: Doing::Stopped(MemDisk::new(alloc)),
+            doing: Doing::Stopped(FailingDisk::new(MemDisk::new(alloc))),
         }
     }
 
@@ -59,8 +59,26 @@ impl Node {
     pub fn step(&mut self, alloc: Global, event: NodeEvent) -> Result<Outcome, Refusal>
         ensures { Gives event self.old result self.new }
     {
-        let doing = mem::replace(&mut self.doing, Doing::Stopped(MemDisk::new(alloc)));
+        let doing = mem::replace(
+            &mut self.doing,
+            Doing::Stopped(FailingDisk::new(MemDisk::new(alloc))),
+        );
         let (doing, answer) = go_on(alloc, self.nodes, self.node, doing, event);
+        drop(mem::replace(&mut self.doing, doing).into_disk());
+        answer
+    }
+
+    /// The next device call of the node fails with `Device`, as `FailingDisk::fail_next` says, and the node has
+    /// failed. A node that is down refuses it with `Down` and one that has failed with `Failed`; where no
+    /// device call is due nothing happens.
+    pub fn fail(&mut self, alloc: Global, fill: Vec<u8>) -> Result<Outcome, Refusal>
+        ensures { Fails fill.items self.old result self.new }
+    {
+        let doing = mem::replace(
+            &mut self.doing,
+            Doing::Stopped(FailingDisk::new(MemDisk::new(alloc))),
+        );
+        let (doing, answer) = fail(alloc, self.nodes, self.node, doing, fill);
         drop(mem::replace(&mut self.doing, doing).into_disk());
         answer
     }
@@ -70,7 +88,10 @@ impl Node {
     pub fn crash(&mut self, alloc: Global, cut_first: u32, cut_second: u32, fill: &[u8])
         ensures { self.new ≡ crashed cut_first cut_second fill.now self.old }
     {
-        let doing = mem::replace(&mut self.doing, Doing::Stopped(MemDisk::new(alloc)));
+        let doing = mem::replace(
+            &mut self.doing,
+            Doing::Stopped(FailingDisk::new(MemDisk::new(alloc))),
+        );
         let mut disk = doing.into_disk();
         disk.crash(u64::from(cut_first), u64::from(cut_second), fill);
         drop(mem::replace(&mut self.doing, Doing::Stopped(disk)).into_disk());

@@ -1,13 +1,13 @@
 //! A node that is up: its core over its journal, and the flush that runs.
 
-ghost use Rattle.std.specs.Prelude.{◌≡◌, Ok, Err, Some};
+ghost use Rattle.std.specs.Prelude.{◌≡◌, ℕ, Ok, Err, Some};
+ghost use Rattle.rr_model.specs.NodeState.{NodeState};
 ghost use Rattle.rr_model.specs.NodeStep.{running_group, group_put_back};
-ghost use Rattle.rr_node.specs.Views.{CarriesOn, quiet};
+ghost use Rattle.rr_node.specs.Views.{CarriesOn, CarriesFailing, quiet};
 
-use crate::doing::Doing;
+use crate::doing::{Doing, NodeDisk};
 use crate::event::{NodeEvent, Outcome};
 use rr_core::Core;
-use rr_disk::MemDisk;
 use rr_gate::{Body, BodyOut, BodySafe, GateSet, Job, Synced};
 use rr_journal::Journal;
 use rr_types::{Group, Refusal};
@@ -40,13 +40,13 @@ impl Flush {
 /// A node that is up. It can't be let go: its flush is spent or given up.
 pub struct Serving {
     core: Core,
-    journal: Journal<MemDisk>,
+    journal: Journal<NodeDisk>,
     flush: Flush,
 }
 
 impl Serving {
     /// A node that has just come up.
-    pub fn new(core: Core, journal: Journal<MemDisk>) -> Serving
+    pub fn new(core: Core, journal: Journal<NodeDisk>) -> Serving
         ensures { result ≡ record { core = core; journal = journal; flush = Flush.Resting } }
     {
         Serving {
@@ -57,7 +57,7 @@ impl Serving {
     }
 
     /// The disk; a flush that runs is given up.
-    pub fn into_disk(self) -> MemDisk
+    pub fn into_disk(self) -> NodeDisk
         ensures { result ≡ self.journal.disk }
     {
         let Serving {
@@ -109,10 +109,31 @@ impl Serving {
     }
 }
 
+impl Serving {
+    /// The next device call of the flush fails with this fill; where none is due nothing happens.
+    pub fn fail(self, fill: Vec<u8>) -> (Doing, Result<Outcome, Refusal>)
+        ensures { (n p : ℕ) → CarriesFailing n p fill.items (Doing.Serving self) result.1 result.0 }
+    {
+        let Serving {
+            core,
+            journal,
+            flush,
+        } = self;
+        match flush {
+            Flush::Resting => up(core, journal, Flush::Resting, Ok(Outcome::Quiet)),
+            Flush::Flushed(synced) => up(core, journal, Flush::Flushed(synced), Ok(Outcome::Quiet)),
+            Flush::Body(job) => fail_body(journal, job, fill),
+            Flush::BodyOut(job) => fail_body_sync(journal, job, fill),
+            Flush::BodySafe(job) => fail_gate(journal, job, fill),
+            Flush::GateSet(job) => fail_gate_sync(journal, job, fill),
+        }
+    }
+}
+
 /// The node is up, and has answered so.
 fn up(
     core: Core,
-    journal: Journal<MemDisk>,
+    journal: Journal<NodeDisk>,
     flush: Flush,
     answer: Result<Outcome, Refusal>,
 ) -> (Doing, Result<Outcome, Refusal>)
@@ -141,7 +162,7 @@ fn quiet(told: Result<(), Refusal>) -> Result<Outcome, Refusal>
 /// The oldest message that may leave goes.
 fn send(
     mut core: Core,
-    journal: Journal<MemDisk>,
+    journal: Journal<NodeDisk>,
     flush: Flush,
 ) -> (Doing, Result<Outcome, Refusal>)
     ensures { CarriesOn NodeEvent.Send (record { core = core; journal = journal; flush = flush }) result.1 result.0 }
@@ -156,7 +177,7 @@ fn send(
 /// The oldest decided request that waits is acknowledged.
 fn reply(
     mut core: Core,
-    journal: Journal<MemDisk>,
+    journal: Journal<NodeDisk>,
     flush: Flush,
 ) -> (Doing, Result<Outcome, Refusal>)
     ensures { CarriesOn NodeEvent.Acknowledge (record { core = core; journal = journal; flush = flush }) result.1 result.0 }
@@ -171,7 +192,7 @@ fn reply(
 /// The next device call of a flush.
 fn flush_on(
     core: Core,
-    mut journal: Journal<MemDisk>,
+    mut journal: Journal<NodeDisk>,
     flush: Flush,
 ) -> (Doing, Result<Outcome, Refusal>)
     ensures { CarriesOn NodeEvent.Device (record { core = core; journal = journal; flush = flush }) result.1 result.0 }
@@ -199,17 +220,89 @@ fn flush_on(
 }
 
 /// A device call has failed: the node has failed too.
-fn fallen(journal: Journal<MemDisk>, refusal: Refusal) -> (Doing, Result<Outcome, Refusal>)
+fn fallen(journal: Journal<NodeDisk>, refusal: Refusal) -> (Doing, Result<Outcome, Refusal>)
     ensures { result ≡ (Doing.Faulted journal.disk, Err refusal) }
 {
     (Doing::Faulted(journal.into_disk()), Err(refusal))
+}
+
+/// The write of the body fails.
+fn fail_body(
+    mut journal: Journal<NodeDisk>,
+    job: Job<Body>,
+    fill: Vec<u8>,
+) -> (Doing, Result<Outcome, Refusal>)
+    ensures { (core : NodeState) (n p : ℕ) → CarriesFailing n p fill.items (Doing.Serving (record { core = core; journal = journal; flush = Flush.Body job })) result.1 result.0 }
+{
+    journal.fail_next(fill);
+    match job.step(&mut journal) {
+        Ok(left) => {
+            left.abandon();
+            fallen(journal, Refusal::Device)
+        }
+        Err(_) => fallen(journal, Refusal::Device),
+    }
+}
+
+/// The sync of the body fails.
+fn fail_body_sync(
+    mut journal: Journal<NodeDisk>,
+    job: Job<BodyOut>,
+    fill: Vec<u8>,
+) -> (Doing, Result<Outcome, Refusal>)
+    ensures { (core : NodeState) (n p : ℕ) → CarriesFailing n p fill.items (Doing.Serving (record { core = core; journal = journal; flush = Flush.BodyOut job })) result.1 result.0 }
+{
+    journal.fail_next(fill);
+    match job.step(&mut journal) {
+        Ok(left) => {
+            left.abandon();
+            fallen(journal, Refusal::Device)
+        }
+        Err(_) => fallen(journal, Refusal::Device),
+    }
+}
+
+/// The opening of the gate fails.
+fn fail_gate(
+    mut journal: Journal<NodeDisk>,
+    job: Job<BodySafe>,
+    fill: Vec<u8>,
+) -> (Doing, Result<Outcome, Refusal>)
+    ensures { (core : NodeState) (n p : ℕ) → CarriesFailing n p fill.items (Doing.Serving (record { core = core; journal = journal; flush = Flush.BodySafe job })) result.1 result.0 }
+{
+    journal.fail_next(fill);
+    match job.step(&mut journal) {
+        Ok(left) => {
+            left.abandon();
+            fallen(journal, Refusal::Device)
+        }
+        Err(_) => fallen(journal, Refusal::Device),
+    }
+}
+
+/// The sync of the open gate fails.
+fn fail_gate_sync(
+    mut journal: Journal<NodeDisk>,
+    job: Job<GateSet>,
+    fill: Vec<u8>,
+) -> (Doing, Result<Outcome, Refusal>)
+    ensures { (core : NodeState) (n p : ℕ) → CarriesFailing n p fill.items (Doing.Serving (record { core = core; journal = journal; flush = Flush.GateSet job })) result.1 result.0 }
+{
+    journal.fail_next(fill);
+    match job.step(&mut journal) {
+        Ok(left) => {
+            drop(left.into_group());
+            fallen(journal, Refusal::Device)
+        }
+        Err(_) => fallen(journal, Refusal::Device),
+    }
 }
 
 /// A flush of the staged facts begins.
 fn take(
     alloc: Global,
     core: Core,
-    journal: Journal<MemDisk>,
+    journal: Journal<NodeDisk>,
     flush: Flush,
 ) -> (Doing, Result<Outcome, Refusal>)
     ensures { CarriesOn NodeEvent.Take (record { core = core; journal = journal; flush = flush }) result.1 result.0 }
@@ -224,7 +317,7 @@ fn take(
 fn begin(
     alloc: Global,
     mut core: Core,
-    mut journal: Journal<MemDisk>,
+    mut journal: Journal<NodeDisk>,
 ) -> (Doing, Result<Outcome, Refusal>)
     ensures { CarriesOn NodeEvent.Take (record { core = core; journal = journal; flush = Flush.Resting }) result.1 result.0 }
 {
@@ -251,7 +344,7 @@ fn put_back(core: &mut Core, group: Group)
 /// The synced group is marked.
 fn mark(
     mut core: Core,
-    journal: Journal<MemDisk>,
+    journal: Journal<NodeDisk>,
     flush: Flush,
 ) -> (Doing, Result<Outcome, Refusal>)
     ensures { CarriesOn NodeEvent.Mark (record { core = core; journal = journal; flush = flush }) result.1 result.0 }
