@@ -10,7 +10,7 @@ use Rattle.rr_node.specs.declared.event.NodeEvent.{NodeEvent}
 use Rattle.rr_node.specs.declared.event.NodeEvent.TheVariants as node
 use Rattle.rr_node.specs.declared.event.Outcome.{Outcome}
 use Rattle.rr_node.specs.declared.event.Outcome.TheVariants.{Quiet, Left, Replied, Opened}
-use Rattle.rr_node.specs.Seats.{Seat, new_seat, Answer, seat_step, starve, crashed}
+use Rattle.rr_node.specs.Seats.{Seat, new_seat, Answer, seat_step, starve, seat_fails, starve_fails, crashed}
 use Rattle.rr_text.specs.declared.event.Event.{Event}
 use Rattle.rr_text.specs.declared.event.Event.TheVariants.{Submit, Hear, Suspect, Tick, Advance, Take, Device, Fail, Mark, Send, Ack, Snap, Crash, Restart}
 use Rattle.rr_text.specs.declared.report.Binding.{Binding}
@@ -61,6 +61,10 @@ with_answer p at c answer = record {
 abbrev pub at_node : ℕ → ℕ → Bool → NodeEvent → Cluster → Cluster
 at_node p at starved event c = option_map_or (λ seat. with_answer p at c (if starved then starve event seat else seat_step event seat)) (slice_get c.seats p) c
 
+-- the next device call of node p, failing
+abbrev pub fail_at : ℕ → ℕ → Bool → List ℕ → Cluster → Cluster
+fail_at p at starved fill c = option_map_or (λ seat. with_answer p at c (if starved then starve_fails seat else seat_fails fill seat)) (slice_get c.seats p) c
+
 -- hearing a message of the wire; one that isn't there or is for another node does nothing
 abbrev pub hear_at : ℕ → ℕ → Bool → ℕ → Cluster → Cluster
 hear_at p at starved k c = option_map_or (λ m. if m.to == p then at_node p at starved (node.Hear m) c else c) (slice_get c.wire k) c
@@ -78,7 +82,7 @@ is_served (Tick p) = true
 is_served (Advance p) = true
 is_served (Take p) = true
 is_served (Device p) = true
-is_served (Fail p fill) = false
+is_served (Fail p fill) = true
 is_served (Mark p) = true
 is_served (Send p) = true
 is_served (Ack p) = true
@@ -95,7 +99,7 @@ event_step at starved (Tick p) c = at_node p at starved node.Tick c
 event_step at starved (Advance p) c = at_node p at starved node.Advance c
 event_step at starved (Take p) c = at_node p at starved node.Take c
 event_step at starved (Device p) c = at_node p at starved node.Device c
-event_step at starved (Fail p fill) c = c
+event_step at starved (Fail p fill) c = fail_at p at starved fill c
 event_step at starved (Mark p) c = at_node p at starved node.Mark c
 event_step at starved (Send p) c = at_node p at starved node.Send c
 event_step at starved (Ack p) c = at_node p at starved node.Acknowledge c

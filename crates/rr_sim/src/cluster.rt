@@ -1,7 +1,7 @@
 //! A cluster of nodes with their disks: what each event of a schedule does to it.
 
-ghost use Rattle.std.specs.Prelude.{◌≡◌, ◌++◌, option_to_list, Ok, OnOk, IfOk, IfErr, IsTrue};
-ghost use Rattle.rr_sim.specs.Clusters.{shown, note_of, sent_by, new_cluster, at_node, hear_at, crash_at, is_served, IsEither, Steps};
+ghost use Rattle.std.specs.Prelude.{◌≡◌, ◌++◌, length, option_to_list, Ok, OnOk, IfOk, IfErr, IsTrue};
+ghost use Rattle.rr_sim.specs.Clusters.{shown, note_of, sent_by, new_cluster, at_node, fail_at, hear_at, crash_at, is_served, IsEither, Steps};
 
 use rr_node::{Node, NodeEvent, Outcome};
 use rr_registry::Holding;
@@ -176,6 +176,45 @@ impl Cluster {
         }
         let seat = &mut self.seats[at];
         let answer = seat.step(alloc, event);
+        self.take_down(alloc, node, line, answer)
+    }
+
+    /// The next device call of a node fails with this fill.
+    fn fail_at(
+        &mut self,
+        alloc: Global,
+        node: NodeId,
+        line: u64,
+        fill: &[u8],
+    ) -> Result<(), Refusal>
+        ensures ok { OnOk result
+            (IsEither (λ starved. self.new ≡ fail_at node line starved fill.now self.old)) }
+        ensures err { IfErr result (λ e. e ≡ Refusal.OutOfMemory) }
+    {
+        let at = usize::from(node.index());
+        if at >= self.seats.len() {
+            return Ok(());
+        }
+        let fill = Vec::from_slice(alloc, fill)?;
+        let seat = &mut self.seats[at];
+        let answer = seat.fail(alloc, fill);
+        self.take_down(alloc, node, line, answer)
+    }
+
+    /// What an answer of a node puts on the wire and into the report.
+    fn take_down(
+        &mut self,
+        alloc: Global,
+        node: NodeId,
+        line: u64,
+        answer: Result<Outcome, Refusal>,
+    ) -> Result<(), Refusal>
+        ensures ok { OnOk result (self.new ≡ record self.old {
+          wire = self.old.wire ++ sent_by answer;
+          lines = self.old.lines ++ note_of node line (length self.old.wire) answer;
+        }) }
+        ensures err { IfErr result (λ e. e ≡ Refusal.OutOfMemory) }
+    {
         let message = message_of(&answer);
         let sent = self.wire.len() as u64;
         let noted = noted(alloc, node, line, sent, answer)?;
@@ -258,7 +297,8 @@ impl Cluster {
                 self.crash_at(alloc, *node, *cut_0, *cut_1, fill.as_bytes());
                 Ok(())
             }
-            Event::Fail { .. } | Event::Snap { .. } => Ok(()),
+            Event::Fail { node, fill } => self.fail_at(alloc, *node, line, fill.as_bytes()),
+            Event::Snap { .. } => Ok(()),
         }
     }
 }

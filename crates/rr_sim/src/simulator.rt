@@ -69,7 +69,7 @@ fn node_of(event: &Event) -> NodeId
 fn is_served(event: &Event) -> bool
     ensures { result ≡ is_served event.now }
 {
-    !matches!(event, Event::Fail { .. } | Event::Snap { .. })
+    !matches!(event, Event::Snap { .. })
 }
 
 /// Runs events that can all be run, and reports.
