@@ -14,8 +14,7 @@ use Rattle.std.specs.Prelude.{replicate}
 use Rattle.std.proofs.Common.{List, [], ◌∷◌, length, map, option_map, eqb}
 use Rattle.std.proofs.lemmas.List.{length-replicate}
 use Rattle.rr_types.specs.declared.promise.Entry.{Entry}
-use Rattle.rr_types.specs.Promises.{IsAscending}
-use Rattle.rr_types.specs.Facts.{standing_in}
+use Rattle.rr_types.specs.Promises.{IsAscending, standing_in}
 use Rattle.rr_model.specs.NodeState.{Row, row_of}
 use Rattle.rr_model.specs.NodeDetector.{new_watch}
 use Rattle.rr_model.specs.NodeParts.{restate_all}

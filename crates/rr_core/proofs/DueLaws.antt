@@ -4,9 +4,9 @@ use Rattle.std.proofs.lemmas.Bool.{false≢true, eqb-true}
 use Rattle.rr_types.specs.declared.command.Command.{Command}
 use Rattle.rr_types.specs.declared.promise.Standing.{Standing}
 use Rattle.rr_types.specs.declared.promise.Standing.TheVariants.{Decided, Open}
-use Rattle.rr_types.specs.Standings.{OpenAt}
-use Rattle.rr_types.specs.Nodes.{coordinator_of, has_member}
-use Rattle.rr_types.specs.Facts.{is_undecided, round_of, proposal_of}
+use Rattle.rr_types.specs.Rounds.{OpenAt, coordinator_of}
+use Rattle.rr_types.specs.Nodes.{has_member}
+use Rattle.rr_types.specs.Standings.{is_undecided, round_of, proposal_of}
 use Rattle.rr_model.specs.NodeState.{NodeState, Row, Tally, row_of, standing_at, open_instances}
 use Rattle.rr_model.specs.NodeDetector.{joined}
 use Rattle.rr_model.specs.NodeParts.{free_command}

@@ -1,13 +1,13 @@
 use Rattle.std.proofs.Common.{◌≡◌, ◌≢◌, ◌+◌, ◌<◌, ◌≤◌, ℕ, arith, Bool, true, false, ltb, eqb, ◌&&◌, ◌||◌, ◌++◌, if◌then◌else◌, not, cond, List, [], ◌∷◌, refl, sym, ap, ◌∙◌, Option, Some, None, option_map}
 use Rattle.std.proofs.lemmas.Bool.{ltb-true, ltb-false, lt-ltb, le-ltb, ne_eqb, eq-eqb, eqb-true, eqb-false, false≢true}
 use Rattle.rr_types.specs.declared.message.Body.{Body}
-use Rattle.rr_types.specs.Facts.{is_undecided}
+use Rattle.rr_types.specs.Standings.{is_undecided}
 use Rattle.rr_model.specs.NodeState.{NodeState, Row, everyone, others, is_decided_request, row_of, is_decided, undecided_from, first_undecided, standing_at}
 use Rattle.rr_model.specs.NodeParts.{owe, pool_add}
 use Rattle.rr_model.specs.NodeStep.{wait_for, is_waiting}
 use Rattle.rr_types.specs.declared.command.Command.{Command}
 use Rattle.rr_types.specs.declared.command.RequestNo.{RequestNo}
-use Rattle.rr_types.specs.Commands.{has_request}
+use Rattle.rr_types.specs.Registry.{has_request}
 
 -- what is owed doesn't change who there is
 pub everyone_after_owe : (body : Body) (backing : Option ℕ) (to : List ℕ) (s : NodeState) → everyone (owe body backing to s) ≡ everyone s

@@ -4,7 +4,7 @@ use Rattle.std.specs.List.{remove}
 use Rattle.std.proofs.lemmas.List.{drop_all, drop_more, take_more}
 use Rattle.rr_types.specs.declared.command.Command.{Command}
 use Rattle.rr_types.specs.declared.command.RequestNo.{RequestNo}
-use Rattle.rr_types.specs.Commands.{has_request}
+use Rattle.rr_types.specs.Registry.{has_request}
 use Rattle.rr_model.specs.NodeState.{Owed}
 use Rattle.rr_model.specs.NodeStep.{may_leave, without_first_leaving, without_first_held}
 use Rattle.rr_core.specs.Firsts.{without_first}

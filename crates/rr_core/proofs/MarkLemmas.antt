@@ -11,11 +11,11 @@ use Rattle.rr_types.specs.declared.fact.Fact.TheVariants.{Enter, Propose, Adopt,
 use Rattle.rr_types.specs.declared.promise.Standing.{Standing}
 use Rattle.rr_types.specs.declared.promise.Entry.{Entry}
 use Rattle.rr_types.specs.declared.refusal.Refusal.{Refusal}
-use Rattle.rr_types.specs.Commands.{has_request, is_same_request}
-use Rattle.rr_types.specs.Registry.{Bindings, apply, firsts, firsts_beside, reply_after, registry_of, reply_of}
+use Rattle.rr_types.specs.Registry.{has_request, is_same_request, Bindings, apply, firsts, firsts_beside, reply_after, registry_of, reply_of}
 use Rattle.rr_types.specs.Groups.{Grouped}
-use Rattle.rr_types.specs.Promises.{IsAscending, AscendsFrom}
-use Rattle.rr_types.specs.Facts.{instance_of, after_fact, standing_in, set_entry, set_standing, take_on, take_on_all, fits, all_fit, is_undecided, round_of, stamp_of}
+use Rattle.rr_types.specs.Facts.{instance_of, after_fact}
+use Rattle.rr_types.specs.Promises.{IsAscending, AscendsFrom, standing_in, set_entry, set_standing, take_on, take_on_all, all_fit}
+use Rattle.rr_types.specs.Standings.{fits, is_undecided, round_of, stamp_of}
 use Rattle.rr_registry.specs.Kept.{Kept, kept_of, kept_reply}
 use Rattle.rr_registry.proofs.KeptLemmas.{reply-kept_of, bindings-kept_of}
 use Rattle.rr_model.specs.NodeState.{NodeState, next_number, decided_prefix, decided_from, standing_at}

@@ -9,9 +9,8 @@ use Rattle.rr_types.specs.declared.fact.Fact.TheVariants.{Enter, Propose, Adopt,
 use Rattle.rr_types.specs.declared.promise.Standing.{Standing}
 use Rattle.rr_types.specs.declared.promise.Standing.TheVariants.{Decided, Open}
 use Rattle.rr_types.specs.Commands.{is_same_command}
-use Rattle.rr_types.specs.Estimates.{Estimated}
-use Rattle.rr_types.specs.Nodes.{coordinator_of}
-use Rattle.rr_types.specs.Facts.{fits, is_undecided, round_of, stamp_of, estimate_of, proposal_of, carries_on}
+use Rattle.rr_types.specs.Rounds.{Estimated, coordinator_of}
+use Rattle.rr_types.specs.Standings.{fits, is_undecided, round_of, stamp_of, estimate_of, proposal_of, carries_on}
 use Rattle.rr_model.specs.NodeState.{NodeState, Row, row_of, standing_at, next_number, everyone, others}
 use Rattle.rr_model.specs.NodeParts.{owe, backing_at, stage, enter, enter_with, entering_estimate, leave_round, free_command, restate, restate_all, conclude, propose}
 use Rattle.rr_core.specs.Lawful.{IsLawful}

@@ -4,7 +4,8 @@ use Rattle.std.proofs.lemmas.List.{drop_all, drop_more, take-append-drop, take_m
 use Rattle.std.proofs.lemmas.Bool.{ltb-true, ltb-false, lt-ltb, le-ltb, ne_eqb, eq-eqb}
 use Rattle.rr_types.specs.declared.promise.Entry.{Entry}
 use Rattle.rr_types.specs.declared.fact.Fact.{Fact}
-use Rattle.rr_types.specs.Facts.{set_entry, instance_of, standing_in, take_on, take_on_all}
+use Rattle.rr_types.specs.Promises.{set_entry, standing_in, take_on, take_on_all}
+use Rattle.rr_types.specs.Facts.{instance_of}
 use Rattle.rr_core.specs.Rounds.{IsInRound, AllInRound}
 
 -- the front of the entries lies below this one

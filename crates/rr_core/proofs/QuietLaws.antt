@@ -9,9 +9,10 @@ use Rattle.rr_types.specs.declared.fact.Fact.TheVariants.{Enter, Propose, Adopt,
 use Rattle.rr_types.specs.declared.promise.Standing.{Standing}
 use Rattle.rr_types.specs.declared.promise.Standing.TheVariants.{Decided, Open}
 use Rattle.rr_types.specs.declared.promise.Entry.{Entry}
-use Rattle.rr_types.specs.Commands.{has_request}
-use Rattle.rr_types.specs.Promises.{IsAscending}
-use Rattle.rr_types.specs.Facts.{instance_of, after_fact, standing_in, set_entry, set_standing, take_on, take_on_all, fits, all_fit}
+use Rattle.rr_types.specs.Registry.{has_request}
+use Rattle.rr_types.specs.Facts.{instance_of, after_fact}
+use Rattle.rr_types.specs.Promises.{IsAscending, standing_in, set_entry, set_standing, take_on, take_on_all, all_fit}
+use Rattle.rr_types.specs.Standings.{fits}
 use Rattle.rr_model.specs.NodeState.{NodeState, Row, row_of, put_row, standing_at, is_decided_request, next_number}
 use Rattle.rr_model.specs.NodeParts.{owe, pool_add, stage, rows_after, row_after, fresh_row}
 use Rattle.rr_model.specs.NodeStep.{wait_for, is_waiting}

@@ -5,7 +5,7 @@ use Rattle.rr_types.specs.declared.command.Command.{Command}
 use Rattle.rr_types.specs.declared.fact.Fact.TheVariants.{Decide, Propose}
 use Rattle.rr_types.specs.declared.message.Body.TheVariants as say
 use Rattle.rr_types.specs.declared.promise.Standing.TheVariants.{Open}
-use Rattle.rr_types.specs.Standings.{OpenAt}
+use Rattle.rr_types.specs.Rounds.{OpenAt}
 use Rattle.rr_model.specs.NodeState.{NodeState, Row, everyone, others, next_number, standing_at, open_instances}
 use Rattle.rr_model.specs.NodeParts.{owe, stage, conclude, propose, restate, backing_at, free_command}
 use Rattle.rr_core.specs.Places.{first_free, is_estimate_beside, is_estimate_of, owe_coordinator}

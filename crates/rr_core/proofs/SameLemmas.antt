@@ -10,8 +10,9 @@ use Rattle.rr_types.specs.declared.command.Op.TheVariants.{Claim, Update, Releas
 use Rattle.rr_types.specs.declared.command.Command.{Command}
 use Rattle.rr_types.specs.declared.fact.Fact.{Fact}
 use Rattle.rr_types.specs.declared.fact.Fact.TheVariants.{Enter, Propose, Adopt, Decide}
-use Rattle.rr_types.specs.Commands.{is_same_request, is_same_op, is_same_command}
-use Rattle.rr_types.specs.Estimates.{Estimated}
+use Rattle.rr_types.specs.Registry.{is_same_request}
+use Rattle.rr_types.specs.Commands.{is_same_op, is_same_command}
+use Rattle.rr_types.specs.Rounds.{Estimated}
 use Rattle.rr_core.specs.Same.{is_same_estimate, is_same_fact, are_same_facts}
 
 -- both of two tests pass

@@ -1,5 +1,5 @@
 use Rattle.std.specs.Prelude.{◌≡◌, ℕ, ◌<◌}
-use Rattle.rr_types.specs.Facts.{round_of}
+use Rattle.rr_types.specs.Standings.{round_of}
 use Rattle.rr_model.specs.NodeState.{NodeState, standing_at}
 use Rattle.rr_model.specs.NodeDue as model
 use Rattle.rr_core.specs.declared.due.Due.{Due}

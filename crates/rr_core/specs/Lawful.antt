@@ -1,8 +1,7 @@
 use Rattle.std.specs.Prelude.{◌≡◌, ℕ, ◌≤◌, ◌++◌, [], List, length, Option, IfSome, true}
 use Rattle.std.specs.Option.{option_map_or}
 use Rattle.rr_types.specs.declared.fact.Fact.{Fact}
-use Rattle.rr_types.specs.Facts.{standing_in, take_on_all, all_fit}
-use Rattle.rr_types.specs.Promises.{IsAscending}
+use Rattle.rr_types.specs.Promises.{standing_in, take_on_all, all_fit, IsAscending}
 use Rattle.rr_model.specs.NodeState.{NodeState, standing_at}
 
 -- the facts that aren't marked yet, oldest first

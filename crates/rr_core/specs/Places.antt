@@ -4,10 +4,9 @@ use Rattle.std.specs.List.{list_any, prefix_len, slice_get, range_with_len}
 use Rattle.rr_types.specs.declared.command.Command.{Command}
 use Rattle.rr_types.specs.declared.message.Body.{Body}
 use Rattle.rr_types.specs.declared.message.Body.TheVariants as say
-use Rattle.rr_types.specs.Standings.{OpenAt}
-use Rattle.rr_types.specs.Nodes.{coordinator_of}
+use Rattle.rr_types.specs.Rounds.{OpenAt, coordinator_of}
 use Rattle.rr_types.specs.Commands.{is_same_command}
-use Rattle.rr_types.specs.Facts.{estimate_of}
+use Rattle.rr_types.specs.Standings.{estimate_of}
 use Rattle.rr_model.specs.NodeState.{NodeState, Row, Owed, row_of}
 use Rattle.rr_model.specs.NodeParts.{owe, backing_at}
 

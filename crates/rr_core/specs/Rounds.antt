@@ -3,7 +3,9 @@ use Rattle.rr_types.specs.declared.fact.Fact.{Fact}
 use Rattle.rr_types.specs.declared.fact.Fact.TheVariants.{Enter, Propose, Adopt, Decide}
 use Rattle.rr_types.specs.declared.promise.Standing.{Standing}
 use Rattle.rr_types.specs.declared.promise.Entry.{Entry}
-use Rattle.rr_types.specs.Facts.{round_of, instance_of, standing_in, take_on}
+use Rattle.rr_types.specs.Standings.{round_of}
+use Rattle.rr_types.specs.Facts.{instance_of}
+use Rattle.rr_types.specs.Promises.{standing_in, take_on}
 
 -- an Adopt is of the present round
 abbrev pub IsInRound : Option Standing → Fact → Type 0

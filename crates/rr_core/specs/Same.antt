@@ -2,7 +2,7 @@ use Rattle.std.specs.Prelude.{◌≡◌, Bool, true, false, ◌&&◌, ◌==◌, 
 use Rattle.rr_types.specs.declared.fact.Fact.{Fact}
 use Rattle.rr_types.specs.declared.fact.Fact.TheVariants.{Enter, Propose, Adopt, Decide}
 use Rattle.rr_types.specs.Commands.{is_same_command}
-use Rattle.rr_types.specs.Estimates.{Estimated}
+use Rattle.rr_types.specs.Rounds.{Estimated}
 
 -- whether two estimates are one
 abbrev pub is_same_estimate : Estimated → Estimated → Bool

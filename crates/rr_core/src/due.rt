@@ -3,7 +3,7 @@
 ghost use Rattle.std.specs.Prelude.{◌≡◌, ◌<◌, length, filter, IfOk, IfErr, IfSome, OnOk, option_map, Some};
 ghost use Rattle.std.specs.List.{range_with_len};
 ghost use Rattle.rr_types.specs.Nodes.{has_member};
-ghost use Rattle.rr_types.specs.Facts.{round_of};
+ghost use Rattle.rr_types.specs.Standings.{round_of};
 ghost use Rattle.rr_model.specs.NodeState.{standing_at};
 ghost use Rattle.rr_model.specs.NodeDue.{better, best_vote, pick, is_majority, due_of_coordinator, due_of_participant, due_of_row, due_at, first_due, due, carry_out, settle};
 ghost use Rattle.rr_core.specs.Dues.{meaning_of, MovesBelowLast, CanBeCarriedOut};

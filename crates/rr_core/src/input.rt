@@ -3,7 +3,8 @@
 ghost use Rattle.std.specs.Prelude.{◌≡◌, ◌≤◌, ◌<◌, ◌&&◌, not, [], ◌∷◌, length, None, Some, IfErr, OnOk, if◌then◌else◌, ◌⊎◌};
 ghost use Rattle.std.specs.Option.{option_map_or};
 ghost use Rattle.rr_types.specs.declared.message.Body.TheVariants as say;
-ghost use Rattle.rr_types.specs.Facts.{round_of, stamp_of, proposal_of, decision_of, is_undecided};
+ghost use Rattle.rr_types.specs.Standings.{round_of, stamp_of, proposal_of, is_undecided};
+ghost use Rattle.rr_types.specs.Facts.{decision_of};
 ghost use Rattle.rr_model.specs.NodeState.{standing_at, first_undecided, others, is_open};
 ghost use Rattle.rr_model.specs.NodeParts.{backing_at};
 ghost use Rattle.rr_model.specs.NodeStep.{wait_for, submitted, submit_refusal, is_list_full, is_behind, ask, ticked_on, advanced, advance_refusal, catch_up, acknowledge, take_proposal, take_estimate, answer, heard_body, heard};

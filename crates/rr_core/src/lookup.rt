@@ -2,8 +2,9 @@
 
 ghost use Rattle.std.specs.Prelude.{◌≡◌, ◌≤◌, ◌<◌, ◌&&◌, nat_lt, IfOk, IfErr, IfSome, Some, find};
 ghost use Rattle.std.specs.List.{list_any};
-ghost use Rattle.rr_types.specs.Commands.{has_request};
-ghost use Rattle.rr_types.specs.Facts.{round_of, stamp_of, proposal_of, decision_of, is_undecided};
+ghost use Rattle.rr_types.specs.Registry.{has_request};
+ghost use Rattle.rr_types.specs.Standings.{round_of, stamp_of, proposal_of, is_undecided};
+ghost use Rattle.rr_types.specs.Facts.{decision_of};
 ghost use Rattle.rr_model.specs.NodeState.{standing_at, is_decided, first_undecided, decided_from, decided_prefix};
 ghost use Rattle.rr_model.specs.NodeStep.{is_waiting, is_list_full, lowest_in_round, has_proposed};
 

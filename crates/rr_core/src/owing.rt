@@ -2,7 +2,7 @@
 
 ghost use Rattle.std.specs.Prelude.{◌≡◌, ◌++◌, [], ◌∷◌, not, filter, IfErr, OnOk};
 ghost use Rattle.std.specs.List.{range_with_len};
-ghost use Rattle.rr_types.specs.Commands.{is_same_request, has_request};
+ghost use Rattle.rr_types.specs.Registry.{is_same_request, has_request};
 ghost use Rattle.rr_model.specs.NodeParts.{messages_to};
 ghost use Rattle.rr_core.specs.Places.{message_to, nodes_beside};
 

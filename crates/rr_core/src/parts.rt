@@ -3,7 +3,8 @@
 
 ghost use Rattle.std.specs.Prelude.{◌≡◌, ◌<◌, ◌^◌, IfOk, IfErr, OnOk, option_map, [], ◌∷◌};
 ghost use Rattle.rr_types.specs.declared.fact.Fact.TheVariants as staged;
-ghost use Rattle.rr_types.specs.Facts.{instance_of, after_fact, round_of};
+ghost use Rattle.rr_types.specs.Facts.{instance_of, after_fact};
+ghost use Rattle.rr_types.specs.Standings.{round_of};
 ghost use Rattle.rr_model.specs.NodeState.{next_number, standing_at, row_of, first_undecided, open_instances, is_open, is_decided_request, everyone, others};
 ghost use Rattle.rr_model.specs.NodeParts.{owe, pool_add, stage, free_command, enter, restate, restate_all, conclude, propose};
 

@@ -2,7 +2,9 @@
 
 ghost use Rattle.std.specs.Prelude.{◌≡◌, ◌≤◌, ◌<◌, length, slice_set, MatchResult, IfErr, OnOk};
 ghost use Rattle.std.specs.List.{insert};
-ghost use Rattle.rr_types.specs.Facts.{round_of, instance_of, after_fact, standing_in, set_entry, take_on, take_on_all};
+ghost use Rattle.rr_types.specs.Standings.{round_of};
+ghost use Rattle.rr_types.specs.Facts.{instance_of, after_fact};
+ghost use Rattle.rr_types.specs.Promises.{standing_in, set_entry, take_on, take_on_all};
 ghost use Rattle.rr_core.specs.Rounds.{IsInRound, AllInRound};
 
 use crate::staging::{entered, instance_of, with_adopted, with_proposal};

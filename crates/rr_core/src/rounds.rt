@@ -2,7 +2,7 @@
 
 ghost use Rattle.std.specs.Prelude.{◌≡◌, ◌<◌, Some, IfOk, IfErr, OnOk};
 ghost use Rattle.rr_types.specs.declared.promise.Standing.TheVariants as stands;
-ghost use Rattle.rr_types.specs.Facts.{round_of};
+ghost use Rattle.rr_types.specs.Standings.{round_of};
 ghost use Rattle.rr_model.specs.NodeState.{standing_at};
 ghost use Rattle.rr_model.specs.NodeParts.{backing_at, leave_round, enter_with, entering_estimate, restate};
 ghost use Rattle.rr_core.specs.Places.{owe_coordinator};

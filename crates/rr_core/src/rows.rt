@@ -3,7 +3,7 @@
 ghost use Rattle.std.specs.Prelude.{◌≡◌, ◌<◌, ◌≤◌, ◌==◌, IsTrue, false, length, None, Some, MatchOption, option_map, IfOk, IfErr, OnOk};
 ghost use Rattle.std.specs.Option.{option_map_or};
 ghost use Rattle.std.specs.List.{list_any};
-ghost use Rattle.rr_types.specs.Commands.{is_same_request};
+ghost use Rattle.rr_types.specs.Registry.{is_same_request};
 ghost use Rattle.rr_model.specs.NodeState.{row_of, put_row, is_decided, undecided_from, lowest_undecided, decided_command};
 ghost use Rattle.rr_core.specs.Places.{rows_below, is_row_of};
 

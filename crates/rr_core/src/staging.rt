@@ -3,7 +3,8 @@
 ghost use Rattle.std.specs.Prelude.{◌≡◌, Some, option_map, IfOk, IfErr, OnOk};
 ghost use Rattle.std.specs.Option.{option_map_or};
 ghost use Rattle.rr_types.specs.declared.promise.Standing.TheVariants as stands;
-ghost use Rattle.rr_types.specs.Facts.{instance_of, after_fact, with_proposal, with_adopted, round_of};
+ghost use Rattle.rr_types.specs.Facts.{instance_of, after_fact};
+ghost use Rattle.rr_types.specs.Standings.{with_proposal, with_adopted, round_of};
 ghost use Rattle.rr_model.specs.NodeState.{row_of};
 ghost use Rattle.rr_model.specs.NodeParts.{backing_after, tally_after, row_after, rows_after, pool_after, fresh_row};
 

@@ -8,7 +8,7 @@ use Rattle.rr_frame.specs.Refused.{answer_of}
 use Rattle.rr_types.specs.declared.command.Command.{Command}
 use Rattle.rr_types.specs.declared.fact.Fact.{Fact}
 use Rattle.rr_types.specs.declared.fact.Fact.TheVariants.{Enter, Propose, Adopt, Decide}
-use Rattle.rr_types.specs.Estimates.{Estimated}
+use Rattle.rr_types.specs.Rounds.{Estimated}
 use Rattle.rr_frame.specs.Numbers.{number_bytes}
 use Rattle.rr_frame.specs.Reading.{Reading, ◌>>=◌, at_end}
 use Rattle.rr_frame.specs.CommandFormat.{command_bytes, IsLawfulCommand, command_at}

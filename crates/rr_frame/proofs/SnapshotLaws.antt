@@ -10,9 +10,8 @@ use Rattle.rr_types.specs.declared.promise.Standing.{Standing}
 use Rattle.rr_types.specs.declared.promise.Standing.TheVariants.{Decided, Open}
 use Rattle.rr_types.specs.declared.promise.Entry.{Entry}
 use Rattle.rr_types.specs.declared.refusal.Refusal.{Refusal}
-use Rattle.rr_types.specs.Standings.{OpenAt}
 use Rattle.rr_types.specs.Promises.{AscendsFrom}
-use Rattle.rr_types.specs.Nodes.{coordinator_of}
+use Rattle.rr_types.specs.Rounds.{OpenAt, coordinator_of}
 use Rattle.rr_frame.specs.declared.stop.Stop.{Stop}
 use Rattle.rr_frame.specs.declared.stop.Stop.TheVariants as stops
 use Rattle.rr_frame.specs.Numbers.{number_bytes}

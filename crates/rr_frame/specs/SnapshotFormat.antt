@@ -5,9 +5,8 @@ use Rattle.rr_types.specs.declared.command.Command.{Command}
 use Rattle.rr_types.specs.declared.promise.Standing.{Standing}
 use Rattle.rr_types.specs.declared.promise.Standing.TheVariants.{Decided, Open}
 use Rattle.rr_types.specs.declared.promise.Entry.{Entry}
-use Rattle.rr_types.specs.Standings.{OpenAt}
 use Rattle.rr_types.specs.Promises.{AscendsFrom}
-use Rattle.rr_types.specs.Nodes.{coordinator_of}
+use Rattle.rr_types.specs.Rounds.{OpenAt, coordinator_of}
 use Rattle.rr_frame.specs.Numbers.{number_bytes}
 use Rattle.rr_frame.specs.Reading.{Reading, ◌>>=◌, if_lawful, number_at, at_end}
 use Rattle.rr_frame.specs.CommandFormat.{command_bytes, IsLawfulCommand, command_at}

@@ -6,7 +6,7 @@ use Rattle.rr_types.specs.declared.promise.Standing.{Standing}
 use Rattle.rr_types.specs.declared.promise.Standing.TheVariants.{Decided, Open}
 use Rattle.rr_types.specs.declared.promise.Entry.{Entry}
 use Rattle.rr_types.specs.Promises.{IsAscending}
-use Rattle.rr_types.specs.Nodes.{coordinator_of}
+use Rattle.rr_types.specs.Rounds.{coordinator_of}
 
 -- a snapshot: whose it is, of how many nodes, its epoch, the next fact number, and the promise of the facts before
 pub record Snapped : Type 0 where

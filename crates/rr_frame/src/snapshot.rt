@@ -3,7 +3,7 @@
 ghost use Rattle.std.specs.Prelude.{◌≡◌, ℕ, ◌==◌, ◌++◌, ◌<◌, ◌≤◌, ◌^◌, ◌↔◌, ◌⊎◌, length, OnOk, IfOk, IfErr, IsOk, IfSome, IsTrue, Ok, Err};
 ghost use Rattle.std.specs.List.{flat_map, list_all, AllByRecursion};
 ghost use Rattle.rr_types.specs.declared.promise.Entry.{Entry};
-ghost use Rattle.rr_types.specs.Nodes.{coordinator_of};
+ghost use Rattle.rr_types.specs.Rounds.{coordinator_of};
 ghost use Rattle.rr_frame.specs.Snapshots.{Snapped, IsSnapshot, IsContents, proposes_lawfully};
 ghost use Rattle.rr_frame.specs.CommandFormat.{IsLawfulCommand};
 ghost use Rattle.rr_frame.specs.Reading.{Gives, Reads, Decodes};

@@ -4,8 +4,7 @@ use Rattle.std.specs.Prelude.{slice_set}
 use Rattle.std.proofs.lemmas.Bool.{cases_lt, cases_eq, ne_eqb, eq-eqb, eqb-true, eqb-false, lt-ltb, le-ltb}
 use Rattle.rr_types.specs.declared.promise.Entry.{Entry}
 use Rattle.rr_types.specs.declared.promise.Standing.{Standing}
-use Rattle.rr_types.specs.Promises.{AscendsFrom}
-use Rattle.rr_types.specs.Facts.{standing_in, set_entry}
+use Rattle.rr_types.specs.Promises.{AscendsFrom, standing_in, set_entry}
 use Rattle.rr_journal.specs.Places.{IsPlaceOf, is_at}
 
 -- an entry of an ascending list lies at or above the bound

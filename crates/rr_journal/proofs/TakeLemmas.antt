@@ -2,7 +2,9 @@
 use Rattle.std.proofs.Common.{◌≡◌, ℕ, zero, suc, ◌+◌, ◌<◌, true, false, List, [], ◌∷◌, length, get_or, drop, refl, arith}
 use Rattle.rr_types.specs.declared.fact.Fact.{Fact}
 use Rattle.rr_types.specs.declared.promise.Entry.{Entry}
-use Rattle.rr_types.specs.Facts.{fits, standing_in, instance_of, take_on, take_on_all, all_fit}
+use Rattle.rr_types.specs.Standings.{fits}
+use Rattle.rr_types.specs.Promises.{standing_in, take_on, take_on_all, all_fit}
+use Rattle.rr_types.specs.Facts.{instance_of}
 
 pub fit_on : (n p i : ℕ) (es : List Entry) (fs : List Fact) (d : Fact) → i < length fs → fits n p (standing_in es (instance_of (get_or fs i d))) (get_or fs i d) ≡ true → all_fit n p es (drop i fs) ≡ all_fit n p (take_on es (get_or fs i d)) (drop (i + 1) fs)
 fit_on n p i es [] d lt h = absurd (omega arith)

@@ -1,7 +1,7 @@
 -- A journal over an open disk.
 use Rattle.std.specs.Prelude.{◌≡◌, ℕ, ◌+◌, true, false, List, [], length}
 use Rattle.rr_types.specs.declared.fact.Fact.{Fact}
-use Rattle.rr_types.specs.Facts.{promise_of, all_fit}
+use Rattle.rr_types.specs.Promises.{promise_of, all_fit}
 use Rattle.rr_disk.specs.Crash.{Images}
 use Rattle.rr_gate.specs.Flushes.{Flush}
 use Rattle.rr_journal.specs.declared.journal.Journal.{Journal}

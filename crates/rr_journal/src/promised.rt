@@ -1,9 +1,10 @@
 //! A promise while facts are read: the entries by ascending instances, changed in place.
 
 ghost use Rattle.std.specs.Prelude.{◌≡◌, ◌&&◌, ◌==◌, is_some, nat_lt, IsTrue, ◌<◌, ◌≤◌, ◌⊎◌, true, false, length, Some, None, MatchOption, OnOk, IfOk, IfSome};
-ghost use Rattle.rr_types.specs.Promises.{IsAscending};
-ghost use Rattle.rr_types.specs.Facts.{after_fact, fits, is_undecided, round_of, stamp_of, proposal_of, carries_on, with_proposal, with_adopted, standing_in, set_entry, take_on, take_on_all, all_fit, instance_of};
-ghost use Rattle.rr_types.specs.Nodes.{coordinator_of};
+ghost use Rattle.rr_types.specs.Facts.{after_fact, instance_of};
+ghost use Rattle.rr_types.specs.Standings.{fits, is_undecided, round_of, stamp_of, proposal_of, carries_on, with_proposal, with_adopted};
+ghost use Rattle.rr_types.specs.Promises.{IsAscending, standing_in, set_entry, take_on, take_on_all, all_fit};
+ghost use Rattle.rr_types.specs.Rounds.{coordinator_of};
 ghost use Rattle.rr_journal.specs.Places.{IsPlaceOf, is_at};
 
 use rr_types::{

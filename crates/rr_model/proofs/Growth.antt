@@ -7,10 +7,11 @@ use Rattle.rr_types.specs.declared.promise.Standing.{Standing}
 use Rattle.rr_types.specs.declared.message.Body.{Body}
 use Rattle.rr_types.specs.declared.message.Body.TheVariants.{Estimate, Proposal, Ack, Decision, Request, Nack, Beat, Suspects, Ask}
 use Rattle.rr_types.specs.declared.message.Message.{Message}
-use Rattle.rr_types.specs.Estimates.{Estimated}
-use Rattle.rr_types.specs.Facts.{instance_of, standing_of, stamp_of, estimate_of, round_of}
-use Rattle.rr_model.specs.Heard.{Heard, Says, Occurs, HasEstimate, IsOfLargestStamp}
-use Rattle.rr_model.specs.Lawful.{EntersWith, MayDecide, IsLawfulAt, IsLawful, IsBacked}
+use Rattle.rr_types.specs.Rounds.{Estimated}
+use Rattle.rr_types.specs.Facts.{instance_of, standing_of}
+use Rattle.rr_types.specs.Standings.{stamp_of, estimate_of, round_of}
+use Rattle.rr_model.specs.Lawful.{Heard, Says, HasEstimate, IsOfLargestStamp, IsBacked}
+use Rattle.rr_model.proofs.Permitted.{IsNamed, EntersWith, MayDecide, IsPermittedAt, IsPermitted}
 use Rattle.rr_model.specs.World.{with_at}
 use Rattle.rr_model.specs.Sound.{IsChosen}
 use Rattle.rr_model.proofs.Places.{place_push}
@@ -35,7 +36,7 @@ largest_grows h g W n i r v b = record {
   member = b.member;
 }
 
-occurs_grows : (h g : Heard) → Within h g → (v : Command) → Occurs h v → Occurs g v
+occurs_grows : (h g : Heard) → Within h g → (v : Command) → IsNamed h v → IsNamed g v
 occurs_grows h g W v (inl m) = inl (m.0, W.messages m.0 m.1, m.2)
 occurs_grows h g W v (inr c) = inr (W.commands v c)
 
@@ -48,7 +49,7 @@ decide_grows h g W n s i v (inl d) = inl (d.0, ((d.1).0, W.messages _ (d.1).1))
 decide_grows h g W n s i v (inr d) = inr (d.0, majority_of_weaker n (λ q. Says h.messages q (Ack i (round_of s))) (λ q. Says g.messages q (Ack i (round_of s))) (λ q x. (x.0, W.messages _ x.1)) d.1)
 
 -- what is lawful stays lawful where more was heard
-pub lawful_grows : (h g : Heard) → Within h g → (n p : ℕ) (s : Option Standing) (f : Fact) → IsLawfulAt n p s h f → IsLawfulAt n p s g f
+pub lawful_grows : (h g : Heard) → Within h g → (n p : ℕ) (s : Option Standing) (f : Fact) → IsPermittedAt n p s h f → IsPermittedAt n p s g f
 lawful_grows h g W n p s (Enter i e) l = (l.0, l.1, enters_grows h g W (estimate_of s) (stamp_of s) e l.2)
 lawful_grows h g W n p s (Propose i r v) l = (l.0, l.1, l.2, largest_grows h g W n i r v l.3)
 lawful_grows h g W n p s (Adopt i r v) l = (l.0, l.1, ((l.2).0, W.messages _ (l.2).1))
@@ -57,12 +58,12 @@ lawful_grows h g W n p s (Decide i v) l = (l.0, decide_grows h g W n s i v l.1)
 pub history_grows : (h g : Heard) → Within h g → (n p : ℕ) (facts : List Fact) → History n p h facts → History n p g facts
 history_grows h g W n p facts H = record { lawful = λ a f b e. lawful_grows h g W n p (standing_of (instance_of f) a) f (H.lawful a f b e) }
 
-pub history_push_at : (n p : ℕ) (h : Heard) (facts : List Fact) (f : Fact) → History n p h facts → IsLawful n p facts h f → (a b : List Fact) (g : Fact) → ((a ≡ facts) × (g ≡ f)) ⊎ ((rest : List Fact) × (facts ≡ a ++ g ∷ rest)) → IsLawful n p a h g
-history_push_at n p h facts f H l a b g (inl s) = subst (λ z. IsLawful n p z h g) (sym s.0) (subst (λ z. IsLawful n p facts h z) (sym s.1) l)
+pub history_push_at : (n p : ℕ) (h : Heard) (facts : List Fact) (f : Fact) → History n p h facts → IsPermitted n p facts h f → (a b : List Fact) (g : Fact) → ((a ≡ facts) × (g ≡ f)) ⊎ ((rest : List Fact) × (facts ≡ a ++ g ∷ rest)) → IsPermitted n p a h g
+history_push_at n p h facts f H l a b g (inl s) = subst (λ z. IsPermitted n p z h g) (sym s.0) (subst (λ z. IsPermitted n p facts h z) (sym s.1) l)
 history_push_at n p h facts f H l a b g (inr r) = H.lawful a g r.0 r.1
 
 -- a lawful fact behind a history
-pub history_push : (n p : ℕ) (h : Heard) (facts : List Fact) (f : Fact) → History n p h facts → IsLawful n p facts h f → History n p h (facts ++ f ∷ [])
+pub history_push : (n p : ℕ) (h : Heard) (facts : List Fact) (f : Fact) → History n p h facts → IsPermitted n p facts h f → History n p h (facts ++ f ∷ [])
 history_push n p h facts f H l = record { lawful = λ a g b e. history_push_at n p h facts f H l a b g (place_push a b facts g f e) }
 
 -- what is chosen stays chosen where more is on the wire

@@ -12,14 +12,15 @@ use Rattle.rr_types.specs.declared.promise.Standing.TheVariants.{Decided, Open}
 use Rattle.rr_types.specs.declared.message.Body.{Body}
 use Rattle.rr_types.specs.declared.message.Body.TheVariants.{Estimate, Proposal, Ack, Decision, Request, Nack, Beat, Suspects, Ask}
 use Rattle.rr_types.specs.declared.message.Message.{Message}
-use Rattle.rr_types.specs.Estimates.{Estimated}
-use Rattle.rr_types.specs.Nodes.{coordinator_of}
-use Rattle.rr_types.specs.Facts.{instance_of, standing_of, is_undecided, estimate_of, stamp_of, proposal_of, round_of}
+use Rattle.rr_types.specs.Rounds.{Estimated, coordinator_of}
+use Rattle.rr_types.specs.Facts.{instance_of, standing_of}
+use Rattle.rr_types.specs.Standings.{is_undecided, estimate_of, stamp_of, proposal_of, round_of}
 use Rattle.rr_types.specs.Registry.{reply_of, registry_of}
-use Rattle.rr_model.specs.Heard.{Heard, Says, HasMajority, command_in}
-use Rattle.rr_model.specs.Lawful.{EntersWith, MayDecide, IsLawful, IsBacked}
-use Rattle.rr_model.specs.World.{World, Acknowledged, Reported, Step, Submit, Hear, Stage, Settle, Send, Acknowledge, GoDown, Restart, IsOfSubmitted, MayHappen, after_step, empty_world, nothing_heard, hear_message, hear_command, settled, with_at, decided_prefix}
-use Rattle.rr_model.specs.Runs.{IsRunFrom, after_steps}
+use Rattle.rr_model.specs.Lawful.{Heard, Says, HasMajority, IsBacked}
+use Rattle.rr_model.proofs.Permitted.{command_in, EntersWith, MayDecide, IsPermitted, lawful_permitted}
+use Rattle.rr_model.specs.World.{World, Acknowledged, Reported, Step, Submit, Hear, Stage, Settle, Send, Acknowledge, GoDown, Restart, MayHappen, after_step, empty_world, nothing_heard, with_at, decided_prefix, IsRunFrom}
+use Rattle.rr_model.specs.NodeLaws.{hear_message, hear_command}
+use Rattle.rr_model.specs.Laws.{settled, after_steps}
 use Rattle.rr_model.specs.Sound.{IsChosen}
 use Rattle.rr_model.proofs.Quorums.{majorities_meet}
 use Rattle.rr_model.proofs.Histories.{History, OnOpen, history_front}
@@ -146,13 +147,13 @@ decide_is_chosen n w p i v I (inr d) = acknowledged_is_chosen n w p i v (standin
     heard_acks : HasMajority n (λ q. Says (w.heard p).messages q (Ack i (round_of (standing_of i (w.kept p ++ w.staged p))))) → HasMajority n (λ q. Says w.wire q (Ack i (round_of (standing_of i (w.kept p ++ w.staged p)))))
     heard_acks h = record { members = h.members; enough = h.enough; each = λ q l m. let s : Says (w.heard p).messages q (Ack i (round_of (standing_of i (w.kept p ++ w.staged p)))) = h.each q l m in (s.0, (I.heard p).messages _ s.1) }
 
-staged_is_chosen : (n : ℕ) (w : World) (p : ℕ) (f : Fact) → Invariant n w → IsLawful n p (w.kept p ++ w.staged p) (w.heard p) f → (i : ℕ) (v : Command) → f ≡ Decide i v → IsChosen n w.wire i v
+staged_is_chosen : (n : ℕ) (w : World) (p : ℕ) (f : Fact) → Invariant n w → IsPermitted n p (w.kept p ++ w.staged p) (w.heard p) f → (i : ℕ) (v : Command) → f ≡ Decide i v → IsChosen n w.wire i v
 staged_is_chosen n w p f I l i v e =
-    let d : IsLawful n p (w.kept p ++ w.staged p) (w.heard p) (Decide i v) = subst (IsLawful n p (w.kept p ++ w.staged p) (w.heard p)) e l in
+    let d : IsPermitted n p (w.kept p ++ w.staged p) (w.heard p) (Decide i v) = subst (IsPermitted n p (w.kept p ++ w.staged p) (w.heard p)) e l in
     decide_is_chosen n w p i v I d.1
 
 -- a fact staged
-pub after_stage : (n : ℕ) (w : World) (p : ℕ) (f : Fact) → IsLawful n p (w.kept p ++ w.staged p) (w.heard p) f → Invariant n w → Invariant n (after_step w (Stage p f))
+pub after_stage : (n : ℕ) (w : World) (p : ℕ) (f : Fact) → IsPermitted n p (w.kept p ++ w.staged p) (w.heard p) f → Invariant n w → Invariant n (after_step w (Stage p f))
 after_stage n w p f l I = record {
   heard = I.heard;
   history = at_each (λ q s. History n q (all_said w) (w.kept q ++ s)) w.staged p (w.staged p ++ f ∷ [])
@@ -215,7 +216,7 @@ decided_command Ok n h (Some (Decided u)) i v N q (inr d) = absurd (none-some v 
 decided_command Ok n h (Some (Open o)) i v N q (inr d) = q.proposal v d.0
 
 -- the command that a backed message names was submitted
-backed_command : (n : ℕ) (w : World) (p : ℕ) (b : Body) (v : Command) → Invariant n w → IsBacked b (w.kept p) → IsOfSubmitted b w.submitted → command_in b ≡ Some v → Contains w.submitted v
+backed_command : (n : ℕ) (w : World) (p : ℕ) (b : Body) (v : Command) → Invariant n w → IsBacked b (w.kept p) → ((c : Command) → b ≡ Request c → Contains w.submitted c) → command_in b ≡ Some v → Contains w.submitted v
 backed_command n w p (Estimate i e) v I c s eq =
     let G : Grounded n (all_said w) w.kept = grounded n w I in
     let x : AtPlace n p (all_said w) (w.kept p) (Enter i e) = at_place n p (all_said w) (w.kept p) (Enter i e) (G.history p) c in
@@ -231,14 +232,14 @@ backed_command n w p (Decision i u) v I c s eq =
     let x : AtPlace n p (all_said w) (w.kept p) (Decide i u) = at_place n p (all_said w) (w.kept p) (Decide i u) (G.history p) c in
     let ok : Contains w.submitted u = decided_command (Contains w.submitted) n (all_said w) (standing_of i x.before) i u I.names (behind n p (all_said w) i (AreOk (Contains w.submitted)) (commands_ok (Contains w.submitted) n p (all_said w) i I.names) x.before x.history) x.lawful.1 in
     subst (Contains w.submitted) (same_Some u v eq) ok
-backed_command n w p (Request u) v I c s eq = subst (Contains w.submitted) (same_Some u v eq) s
+backed_command n w p (Request u) v I c s eq = subst (Contains w.submitted) (same_Some u v eq) (s u refl)
 backed_command n w p (Nack i r) v I c s eq = absurd (none-some v eq)
 backed_command n w p Beat v I c s eq = absurd (none-some v eq)
 backed_command n w p (Suspects set) v I c s eq = absurd (none-some v eq)
 backed_command n w p (Ask i) v I c s eq = absurd (none-some v eq)
 
 -- a message sent
-pub after_send : (n : ℕ) (w : World) (p : ℕ) (m : Message) → m.from ≡ p → IsBacked m.body (w.kept p) → IsOfSubmitted m.body w.submitted → Invariant n w → Invariant n (after_step w (Send p m))
+pub after_send : (n : ℕ) (w : World) (p : ℕ) (m : Message) → m.from ≡ p → IsBacked m.body (w.kept p) → ((c : Command) → m.body ≡ Request c → Contains w.submitted c) → Invariant n w → Invariant n (after_step w (Send p m))
 after_send n w p m from back sub I =
     let more : Within (all_said w) (all_said (after_step w (Send p m))) = record { messages = λ k x. Contains-append_left w.wire (m ∷ []) k x; commands = λ d x. x } in
     record {
@@ -309,7 +310,7 @@ after_restart n w p count I = record {
 pub after_each : (n : ℕ) (w : World) (s : Step) → MayHappen n w s → Invariant n w → Invariant n (after_step w s)
 after_each n w (Submit p c) h I = after_submit n w p c I
 after_each n w (Hear p m) h I = after_hear n w p m h.1 I
-after_each n w (Stage p f) h I = after_stage n w p f h.1 I
+after_each n w (Stage p f) h I = after_stage n w p f (lawful_permitted n p (standing_of (instance_of f) (w.kept p ++ w.staged p)) (w.heard p) f h.1) I
 after_each n w (Settle p count) h I = after_settle n w p count I
 after_each n w (Send p m) h I = after_send n w p m h.1 h.2 h.3 I
 after_each n w (Acknowledge p q reply) h I = after_acknowledge n w p q reply h.1 I

@@ -4,11 +4,10 @@ use Rattle.rr_types.specs.declared.command.Command.{Command}
 use Rattle.rr_types.specs.declared.fact.Fact.{Fact}
 use Rattle.rr_types.specs.declared.message.Body.TheVariants.{Proposal}
 use Rattle.rr_types.specs.declared.message.Message.{Message}
-use Rattle.rr_types.specs.Estimates.{Estimated}
-use Rattle.rr_types.specs.Standings.{OpenAt}
-use Rattle.rr_types.specs.Nodes.{coordinator_of}
+use Rattle.rr_types.specs.Rounds.{Estimated, OpenAt, coordinator_of}
 use Rattle.rr_types.specs.Facts.{instance_of, standing_of, after_fact}
-use Rattle.rr_model.specs.Heard.{Heard, Says, Occurs, command_in}
+use Rattle.rr_model.specs.Lawful.{Heard, Says}
+use Rattle.rr_model.proofs.Permitted.{IsNamed, command_in}
 use Rattle.rr_model.proofs.Histories.{History, Keeps, OnOpen, entered, kept_by_facts, from_then_on, always, standing_push}
 
 -- rounds do not fall
@@ -86,7 +85,7 @@ pub record AreOk (Ok : Command → Type 0) (o : OpenAt) : Type 0 where
   pub estimate : Ok o.estimate
   pub proposal : (v : Command) → o.proposal ≡ Some v → Ok v
 
-pub occurs_ok : (Ok : Command → Type 0) (h : Heard) (v : Command) → Names Ok h → Occurs h v → Ok v
+pub occurs_ok : (Ok : Command → Type 0) (h : Heard) (v : Command) → Names Ok h → IsNamed h v → Ok v
 occurs_ok Ok h v N (inl m) = N.messages m.0 v m.1 m.2
 occurs_ok Ok h v N (inr c) = N.commands v c
 

@@ -8,12 +8,12 @@ use Rattle.rr_types.specs.declared.fact.Fact.TheVariants.{Enter, Adopt}
 use Rattle.rr_types.specs.declared.promise.Standing.{Standing}
 use Rattle.rr_types.specs.declared.promise.Standing.TheVariants.{Decided, Open}
 use Rattle.rr_types.specs.declared.message.Message.{Message}
-use Rattle.rr_types.specs.Facts.{standing_of, is_undecided, round_of}
-use Rattle.rr_model.specs.Lawful.{IsLawful}
-use Rattle.rr_model.specs.World.{World, Step, Submit, Hear, Stage, Settle, Send, Acknowledge, GoDown, Restart, after_step, empty_world, settled}
-use Rattle.rr_model.specs.Runs.{IsRun, after_steps, end_of}
+use Rattle.rr_types.specs.Facts.{standing_of}
+use Rattle.rr_types.specs.Standings.{is_undecided, round_of}
+use Rattle.rr_model.proofs.Permitted.{IsPermitted}
+use Rattle.rr_model.specs.World.{World, Step, Submit, Hear, Stage, Settle, Send, Acknowledge, GoDown, Restart, after_step, empty_world, IsRun, end_of}
 use Rattle.rr_model.specs.Sound.{IsChosen, IsChosenList}
-use Rattle.rr_model.specs.Laws.{AreBeginningsRuns, StaysChosen, DoesListGrow, AreKeptFactsNeverLost, DoRoundsRise, DoAcksBind, AreProposalsLocked}
+use Rattle.rr_model.specs.Laws.{settled, after_steps, AreBeginningsRuns, StaysChosen, DoesListGrow, AreKeptFactsNeverLost, DoRoundsRise, DoAcksBind, AreProposalsLocked}
 use Rattle.rr_model.proofs.Places.{Place, place_of}
 use Rattle.rr_model.proofs.Histories.{History, OnOpen, history_front}
 use Rattle.rr_model.proofs.Kept.{rounds_rise, later}
@@ -95,7 +95,7 @@ rounds_rise_over_restarts n run r p i a b e f is c =
     let G : Grounded n (all_said (end_of run)) (end_of run).kept = grounded n (end_of run) (invariant_of n run r) in
     let x : Place b (Enter i f) = place_of b (Enter i f) c in
     let split : (end_of run).kept p ≡ (a ++ Enter i e ∷ x.before) ++ Enter i f ∷ x.after = is ∙ ap (λ z. a ++ Enter i e ∷ z) x.is ∙ sym (append_assoc a (Enter i e ∷ x.before) (Enter i f ∷ x.after)) in
-    let here : IsLawful n p (a ++ Enter i e ∷ x.before) (all_said (end_of run)) (Enter i f) = (G.history p).lawful (a ++ Enter i e ∷ x.before) (Enter i f) x.after split in
+    let here : IsPermitted n p (a ++ Enter i e ∷ x.before) (all_said (end_of run)) (Enter i f) = (G.history p).lawful (a ++ Enter i e ∷ x.before) (Enter i f) x.after split in
     let H : History n p (all_said (end_of run)) (a ++ Enter i e ∷ x.before) = history_front n p (all_said (end_of run)) (a ++ Enter i e ∷ x.before) (Enter i f ∷ x.after) (subst (History n p (all_said (end_of run))) split (G.history p)) in
     round_above e.round f.round (standing_of i (a ++ Enter i e ∷ x.before))
     (later n p (all_said (end_of run)) i (λ o. e.round ≤ o.round) (rounds_rise n p (all_said (end_of run)) i e.round) a (Enter i e) x.before (a ++ Enter i e ∷ x.before) H refl refl (le_refl e.round))

@@ -1,3 +1,5 @@
+pub mod Permitted
+pub mod Parts
 pub mod Places
 pub mod Quorums
 pub mod Histories

@@ -8,12 +8,11 @@ use Rattle.rr_types.specs.declared.promise.Standing.{Standing}
 use Rattle.rr_types.specs.declared.promise.Standing.TheVariants.{Decided, Open}
 use Rattle.rr_types.specs.declared.message.Body.TheVariants.{Proposal, Ack}
 use Rattle.rr_types.specs.declared.message.Message.{Message}
-use Rattle.rr_types.specs.Estimates.{Estimated}
-use Rattle.rr_types.specs.Standings.{OpenAt}
-use Rattle.rr_types.specs.Nodes.{coordinator_of}
-use Rattle.rr_types.specs.Facts.{standing_of, after_fact, is_undecided, round_of, stamp_of, estimate_of, proposal_of}
-use Rattle.rr_model.specs.Heard.{Heard, Says, HasMajority, HasEstimate, IsOfLargestStamp}
-use Rattle.rr_model.specs.Lawful.{IsInRound, EntersWith, IsLawful, IsBacked}
+use Rattle.rr_types.specs.Rounds.{Estimated, OpenAt, coordinator_of}
+use Rattle.rr_types.specs.Facts.{standing_of, after_fact}
+use Rattle.rr_types.specs.Standings.{is_undecided, round_of, stamp_of, estimate_of, proposal_of}
+use Rattle.rr_model.specs.Lawful.{Heard, Says, HasMajority, HasEstimate, IsOfLargestStamp, IsBacked}
+use Rattle.rr_model.proofs.Permitted.{IsInRound, EntersWith, IsPermitted}
 use Rattle.rr_model.specs.Sound.{IsChosen}
 use Rattle.rr_model.proofs.Places.{Place, place_of, order}
 use Rattle.rr_model.proofs.Quorums.{majorities_meet}
@@ -25,7 +24,7 @@ pub record AtPlace (n p : ℕ) (h : Heard) (facts : List Fact) (f : Fact) : Type
   pub before : List Fact
   pub after : List Fact
   pub is : facts ≡ before ++ f ∷ after
-  pub lawful : IsLawful n p before h f
+  pub lawful : IsPermitted n p before h f
   pub history : History n p h before
 
 pub at_place : (n p : ℕ) (h : Heard) (facts : List Fact) (f : Fact) → History n p h facts → Contains facts f → AtPlace n p h facts f
@@ -63,7 +62,7 @@ not_again r v (Some (Decided w)) l z q = l
 not_again r v (Some (Open o)) l z (inl q) = none-some v (sym z ∙ q.1)
 not_again r v (Some (Open o)) l z (inr q) = omega arith
 
-again : (n p : ℕ) (h : Heard) (i r : ℕ) (v w : Command) (a mid c : List Fact) → History n p h c → c ≡ a ++ Propose i r v ∷ mid → IsLawful n p a h (Propose i r v) → IsLawful n p c h (Propose i r w) → ⊥
+again : (n p : ℕ) (h : Heard) (i r : ℕ) (v w : Command) (a mid c : List Fact) → History n p h c → c ≡ a ++ Propose i r v ∷ mid → IsPermitted n p a h (Propose i r v) → IsPermitted n p c h (Propose i r w) → ⊥
 again n p h i r v w a mid c H e la lc =
     not_again r v (standing_of i c) lc.0 lc.2
     (later n p h i (IsProposedOrOver r v) (proposals_stand n p h i r v) a (Propose i r v) mid c H e refl (after_propose (IsProposedOrOver r v) (standing_of i a) i r v la.0 (λ o l. inl (l, refl))))

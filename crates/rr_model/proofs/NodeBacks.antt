@@ -10,13 +10,12 @@ use Rattle.rr_types.specs.declared.promise.Standing.TheVariants.{Decided, Open}
 use Rattle.rr_types.specs.declared.message.Body.{Body}
 use Rattle.rr_types.specs.declared.message.Body.TheVariants.{Estimate, Proposal, Ack, Decision, Request, Nack, Beat, Suspects, Ask}
 use Rattle.rr_types.specs.Commands.{is_same_command}
-use Rattle.rr_types.specs.Nodes.{coordinator_of}
-use Rattle.rr_types.specs.Estimates.{Estimated}
-use Rattle.rr_types.specs.Standings.{OpenAt}
-use Rattle.rr_types.specs.Facts.{instance_of, standing_of, standing_in, after_fact, fits, all_fit, take_on}
-use Rattle.rr_model.specs.Heard.{Heard}
-use Rattle.rr_model.specs.Lawful.{IsBacked}
-use Rattle.rr_model.specs.World.{IsOfSubmitted}
+use Rattle.rr_types.specs.Rounds.{coordinator_of, Estimated, OpenAt}
+use Rattle.rr_types.specs.Facts.{instance_of, standing_of, after_fact}
+use Rattle.rr_types.specs.Promises.{standing_in, all_fit, take_on}
+use Rattle.rr_types.specs.Standings.{fits}
+use Rattle.rr_model.specs.Lawful.{Heard, IsBacked}
+use Rattle.rr_model.specs.NodeLaws.{IsOfSubmitted}
 use Rattle.rr_model.specs.NodeState.{Owed, Backing}
 use Rattle.rr_model.specs.NodeParts.{backing_after}
 use Rattle.rr_model.proofs.Histories.{standing_push}

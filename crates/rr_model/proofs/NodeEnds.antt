@@ -8,10 +8,10 @@ use Rattle.rr_types.specs.declared.fact.Fact.TheVariants.{Enter, Propose, Decide
 use Rattle.rr_types.specs.declared.promise.Standing.{Standing}
 use Rattle.rr_types.specs.declared.promise.Standing.TheVariants.{Decided, Open}
 use Rattle.rr_types.specs.declared.message.Body.{Body}
-use Rattle.rr_types.specs.Estimates.{Estimated}
-use Rattle.rr_types.specs.Standings.{OpenAt}
-use Rattle.rr_types.specs.Nodes.{coordinator_of, has_member}
-use Rattle.rr_types.specs.Facts.{instance_of, after_fact, round_of, stamp_of, estimate_of}
+use Rattle.rr_types.specs.Rounds.{Estimated, OpenAt, coordinator_of}
+use Rattle.rr_types.specs.Nodes.{has_member}
+use Rattle.rr_types.specs.Facts.{instance_of, after_fact}
+use Rattle.rr_types.specs.Standings.{round_of, stamp_of, estimate_of}
 use Rattle.rr_model.specs.NodeState.{NodeState, Row, row_of, standing_at, undecided_from, lowest_undecided, open_instances}
 use Rattle.rr_model.specs.NodeDetector.{joined}
 use Rattle.rr_model.specs.NodeParts.{owe, stage, free_command, leave_round, enter_with, entering_estimate, enter, conclude, propose}

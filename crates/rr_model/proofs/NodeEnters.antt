@@ -8,12 +8,10 @@ use Rattle.rr_types.specs.declared.fact.Fact.TheVariants.{Enter, Propose, Decide
 use Rattle.rr_types.specs.declared.promise.Standing.{Standing}
 use Rattle.rr_types.specs.declared.promise.Standing.TheVariants.{Decided, Open}
 use Rattle.rr_types.specs.declared.message.Body.TheVariants as say
-use Rattle.rr_types.specs.Estimates.{Estimated}
-use Rattle.rr_types.specs.Nodes.{coordinator_of}
-use Rattle.rr_types.specs.Standings.{OpenAt}
-use Rattle.rr_types.specs.Facts.{is_undecided, round_of, stamp_of, estimate_of}
-use Rattle.rr_model.specs.Heard.{Heard, Occurs}
-use Rattle.rr_model.specs.Lawful.{EntersWith, IsLawfulAt}
+use Rattle.rr_types.specs.Rounds.{Estimated, coordinator_of, OpenAt}
+use Rattle.rr_types.specs.Standings.{is_undecided, round_of, stamp_of, estimate_of}
+use Rattle.rr_model.specs.Lawful.{Heard}
+use Rattle.rr_model.proofs.Permitted.{IsNamed, EntersWith, IsPermittedAt}
 use Rattle.rr_model.specs.NodeState.{NodeState, everyone, standing_at, ◌▷◌}
 use Rattle.rr_model.specs.NodeParts.{owe, free_command, backing_at, leave_round, enter_with, entering_estimate, enter, restate, restate_all, conclude, propose}
 use Rattle.rr_model.proofs.NodeBacks.{IsBackedOpen, up_to_last}
@@ -36,7 +34,7 @@ free_in_pool s i v e = found_in _ s.pool v e
 abbrev Enters : ℕ → Option Command → ℕ → Heard → Estimated → Type 0
 Enters r o stamp h e = (e.round ≡ r) × EntersWith o stamp h e
 
-entering : (i r : ℕ) (heard : Option Command) (s : NodeState) (h : Heard) (e : Estimated) → ((v : Command) → Contains s.pool v → Occurs h v) → ((v : Command) → heard ≡ Some v → Occurs h v) → (own pooled given : Option Command) → estimate_of (standing_at s i) ≡ own → free_command s i ≡ pooled → heard ≡ given → entering_estimate i r heard s ≡ Some e → Enters r own (stamp_of (standing_at s i)) h e
+entering : (i r : ℕ) (heard : Option Command) (s : NodeState) (h : Heard) (e : Estimated) → ((v : Command) → Contains s.pool v → IsNamed h v) → ((v : Command) → heard ≡ Some v → IsNamed h v) → (own pooled given : Option Command) → estimate_of (standing_at s i) ≡ own → free_command s i ≡ pooled → heard ≡ given → entering_estimate i r heard s ≡ Some e → Enters r own (stamp_of (standing_at s i)) h e
 entering i r heard s h e P H (Some v) pooled given a b c x =
     let y : Some (record { round = r; stamp = stamp_of (standing_at s i); command = v }) ≡ Some e = rw a at x in
     subst (Enters r (Some v) (stamp_of (standing_at s i)) h) (same_Some _ e y) (refl, (refl, refl))
@@ -60,11 +58,11 @@ pub goes_from_alike : (X : Type 0) (n p : ℕ) (facts : List Fact) (h : Heard) (
 goes_from_alike X n p facts h s t u a K f = goes_on X n p facts h s t u (goes_alike X n p facts h s t a K) f
 
 -- an undecided instance enters a later round
-pub enter_goes : (X : Type 0) (n p : ℕ) (facts : List Fact) (h : Heard) (s : NodeState) (i r : ℕ) (heard : Option Command) → Knows X n p facts h s → IsTrue (is_undecided (standing_at s i)) → round_of (standing_at s i) < r → ((v : Command) → heard ≡ Some v → Occurs h v) → Goes X n p facts h s (enter i r heard s)
+pub enter_goes : (X : Type 0) (n p : ℕ) (facts : List Fact) (h : Heard) (s : NodeState) (i r : ℕ) (heard : Option Command) → Knows X n p facts h s → IsTrue (is_undecided (standing_at s i)) → round_of (standing_at s i) < r → ((v : Command) → heard ≡ Some v → IsNamed h v) → Goes X n p facts h s (enter i r heard s)
 unfolding enter
 enter_goes X n p facts h s i r heard K u l H = at (entering_estimate i r heard s) refl
   where
-    lawful : (e : Estimated) → entering_estimate i r heard s ≡ Some e → IsLawfulAt n p (standing_at s i) h (Enter i e)
+    lawful : (e : Estimated) → entering_estimate i r heard s ≡ Some e → IsPermittedAt n p (standing_at s i) h (Enter i e)
     lawful e x =
         let y : Enters r (estimate_of (standing_at s i)) (stamp_of (standing_at s i)) h e = entering i r heard s h e K.pooled H (estimate_of (standing_at s i)) (free_command s i) heard refl refl refl x in
         (u, subst (λ z. round_of (standing_at s i) < z) (sym y.0) l, y.1)
@@ -72,15 +70,15 @@ enter_goes X n p facts h s i r heard K u l H = at (entering_estimate i r heard s
     at : (o : Option Estimated) → entering_estimate i r heard s ≡ o → Goes X n p facts h s (option_map_or (λ e. leave_round i s ▷ enter_with i e) o s)
     at None x = goes_nowhere X n p facts h s K
     at (Some e) x = goes_from_alike X n p facts h s (leave_round i s) (enter_with i e (leave_round i s)) (leave_alike X p facts h i s K.node) K
-        (λ all A. stage_owe_goes X n p all h (leave_round i s) (Enter i e) (say.Estimate i e) _ A (subst (λ z. IsLawfulAt n p z h (Enter i e)) (sym (alike_standing X p facts h s (leave_round i s) (leave_alike X p facts h i s K.node) i)) (lawful e x)) (up_to_last all (Enter i e)) tt)
+        (λ all A. stage_owe_goes X n p all h (leave_round i s) (Enter i e) (say.Estimate i e) _ A (subst (λ z. IsPermittedAt n p z h (Enter i e)) (sym (alike_standing X p facts h s (leave_round i s) (leave_alike X p facts h i s K.node) i)) (lawful e x)) (up_to_last all (Enter i e)) tt)
 
 -- a lawful proposal
-pub propose_goes : (X : Type 0) (n p : ℕ) (facts : List Fact) (h : Heard) (s : NodeState) (i r : ℕ) (v : Command) → Knows X n p facts h s → IsLawfulAt n p (standing_at s i) h (Propose i r v) → Goes X n p facts h s (propose i r v s)
+pub propose_goes : (X : Type 0) (n p : ℕ) (facts : List Fact) (h : Heard) (s : NodeState) (i r : ℕ) (v : Command) → Knows X n p facts h s → IsPermittedAt n p (standing_at s i) h (Propose i r v) → Goes X n p facts h s (propose i r v s)
 unfolding propose
 propose_goes X n p facts h s i r v K l = stage_owe_goes X n p facts h s (Propose i r v) (say.Proposal i r v) _ K l (up_to_last facts (Propose i r v)) tt
 
 -- a lawful decision
-pub conclude_goes : (X : Type 0) (n p : ℕ) (facts : List Fact) (h : Heard) (s : NodeState) (i : ℕ) (v : Command) → Knows X n p facts h s → IsLawfulAt n p (standing_at s i) h (Decide i v) → Goes X n p facts h s (conclude i v s)
+pub conclude_goes : (X : Type 0) (n p : ℕ) (facts : List Fact) (h : Heard) (s : NodeState) (i : ℕ) (v : Command) → Knows X n p facts h s → IsPermittedAt n p (standing_at s i) h (Decide i v) → Goes X n p facts h s (conclude i v s)
 unfolding conclude
 conclude_goes X n p facts h s i v K l = stage_owe_goes X n p facts h s (Decide i v) (say.Decision i v) _ K l (up_to_last facts (Decide i v)) tt
 

@@ -7,19 +7,17 @@ use Rattle.rr_types.specs.declared.command.RequestNo.{RequestNo}
 use Rattle.rr_types.specs.declared.command.Reply.{Reply}
 use Rattle.rr_types.specs.declared.fact.Fact.{Fact}
 use Rattle.rr_types.specs.declared.message.Message.{Message}
-use Rattle.rr_types.specs.Facts.{promise_of, all_fit, take_on_all}
+use Rattle.rr_types.specs.Promises.{promise_of, all_fit, take_on_all}
 use Rattle.rr_types.specs.Registry.{reply_of}
-use Rattle.rr_model.specs.Heard.{Heard}
-use Rattle.rr_model.specs.Lawful.{IsLawful, IsBacked}
-use Rattle.rr_model.specs.World.{World, Step, Stage, Settle, Send, Acknowledge, IsUp, IsOfSubmitted, MayHappen, after_step, with_at, hear_message, hear_command, nothing_heard}
+use Rattle.rr_model.specs.Lawful.{Heard, IsLawful, IsBacked}
 use Rattle.rr_model.specs.World as world
-use Rattle.rr_model.specs.Runs.{IsRunFrom, after_steps}
+use Rattle.rr_model.specs.World.{World, Step, Stage, Settle, Send, Acknowledge, IsUp, MayHappen, after_step, with_at, nothing_heard, IsRunFrom}
+use Rattle.rr_model.specs.Laws.{after_steps}
 use Rattle.rr_model.specs.NodeState.{NodeState}
 use Rattle.rr_model.specs.NodeStep.{Input, Submit, Suspect, Tick, Advance, Hear, node_step, group_taken, group_put_back, marked_running, message_left, acknowledged, next_leaving, next_acknowledged, started}
-use Rattle.rr_model.specs.NodeLaws.{AreLawful, NodeEvent, Told, Grouped, PutBack, Marked, Left, Answered, after_event, heard_input, heard_after, IsEventOfNodes, AreEventsOfNodes, facts_of_input, facts_of_event, marked_facts, IsTruthful}
+use Rattle.rr_model.specs.NodeLaws.{IsOfSubmitted, hear_message, hear_command, AreLawful, NodeEvent, Told, Grouped, PutBack, Marked, Left, Answered, after_event, heard_input, heard_after, IsEventOfNodes, AreEventsOfNodes, facts_of_input, facts_of_event, marked_facts, IsTruthful}
 use Rattle.rr_model.specs.NodeWorld.{step_of_input, told_reply, IsAtNode, IsInputOfWorld, IsRunOfSteps, FollowsTheWorld, IsWorldlyNode}
 use Rattle.rr_model.proofs.Laws.{after_steps-append}
-use Rattle.rr_model.proofs.NodeBacks.{of_more}
 use Rattle.rr_model.proofs.NodeKnows.{in_flight, Knows}
 use Rattle.rr_model.proofs.NodeStages.{Fitting, Steps, drop_front, steps, step_goes, event_knows, moment, started_knows}
 
@@ -182,7 +180,7 @@ module _ (X : Type 0) (known : X) (n p : ℕ) (facts : List Fact) (h : Heard) (s
       at None e = (tt, no_more n p facts h _ w (record { exists = A.exists; up = A.up; kept = A.kept; staged = A.staged; heard = A.heard; submitted = A.submitted }))
       at (Some m) e =
           let l : (m.from ≡ p) × IsBacked m.body (marked_facts facts s) × IsOfSubmitted m.body h.commands = truth.leaving m e (y m e) in
-          ((((A.exists, A.up), l.0, subst (IsBacked m.body) (sym A.kept) l.1, of_more m.body h.commands w.submitted A.submitted l.2), tt), no_more n p facts h _ _ (record { exists = A.exists; up = A.up; kept = A.kept; staged = A.staged; heard = A.heard; submitted = A.submitted }))
+          ((((A.exists, A.up), l.0, subst (IsBacked m.body) (sym A.kept) l.1, λ c x. A.submitted c (subst (λ z. IsOfSubmitted z h.commands) x l.2)), tt), no_more n p facts h _ _ (record { exists = A.exists; up = A.up; kept = A.kept; staged = A.staged; heard = A.heard; submitted = A.submitted }))
 
   answered_run : IsRunOfSteps n p facts h s Answered
   answered_run w A y = at (next_acknowledged s)

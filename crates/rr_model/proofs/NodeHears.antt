@@ -12,18 +12,18 @@ use Rattle.rr_types.specs.declared.promise.Standing.TheVariants.{Decided, Open}
 use Rattle.rr_types.specs.declared.message.Body.{Body}
 use Rattle.rr_types.specs.declared.message.Body.TheVariants.{Estimate, Proposal, Ack, Decision, Request, Nack, Beat, Suspects, Ask}
 use Rattle.rr_types.specs.declared.message.Message.{Message}
-use Rattle.rr_types.specs.Commands.{has_request}
-use Rattle.rr_types.specs.Estimates.{Estimated}
-use Rattle.rr_types.specs.Nodes.{coordinator_of, with_member}
-use Rattle.rr_types.specs.Facts.{is_undecided, round_of, stamp_of, decision_of, after_fact}
-use Rattle.rr_model.specs.Heard.{Heard, Says, Occurs}
-use Rattle.rr_model.specs.Lawful.{IsInRound, IsBacked}
-use Rattle.rr_model.specs.World.{hear_message, IsOfSubmitted}
+use Rattle.rr_types.specs.Registry.{has_request}
+use Rattle.rr_types.specs.Rounds.{Estimated, coordinator_of}
+use Rattle.rr_types.specs.Nodes.{with_member}
+use Rattle.rr_types.specs.Standings.{is_undecided, round_of, stamp_of}
+use Rattle.rr_types.specs.Facts.{decision_of, after_fact}
+use Rattle.rr_model.specs.Lawful.{Heard, Says, IsBacked}
+use Rattle.rr_model.proofs.Permitted.{IsNamed, IsInRound}
 use Rattle.rr_model.specs.NodeState.{NodeState, Row, Tally, row_of, standing_at, open_instances, is_open, first_undecided, decided_prefix, everyone, others, ◌▷◌}
 use Rattle.rr_model.specs.NodeDetector.{all_ticked, late_nodes}
 use Rattle.rr_model.specs.NodeParts.{owe, restate_all, stage, pool_add, backing_at, enter, conclude}
 use Rattle.rr_model.specs.NodeStep.{Input, Submit, Suspect, Tick, Advance, Hear, is_waiting, wait_for, submitted, is_list_full, is_behind, ask, acknowledge, ticked_on, lowest_in_round, advanced, count_estimate, count_ack, count_nack, catch_up, take_proposal, take_estimate, answer, heard_body, taken_in}
-use Rattle.rr_model.specs.NodeLaws.{heard_input, IsInputOfNodes}
+use Rattle.rr_model.specs.NodeLaws.{hear_message, IsOfSubmitted, heard_input, IsInputOfNodes}
 use Rattle.rr_model.proofs.Growth.{Within}
 use Rattle.rr_model.proofs.NodeRows.{stands}
 use Rattle.rr_model.proofs.NodeTallies.{IsHeardTally, votes_more}
@@ -55,9 +55,9 @@ after_adopt (Some (Open o)) i r v e l = record { round = e; stamp = le_refl r }
 
 module _ (X : Type 0) (n p : ℕ) (h : Heard) where
   -- where the round heard is later, the instance enters it
-  catch_up_goes : (facts : List Fact) (s : NodeState) (i r : ℕ) (v : Command) → Occurs h v → Knows X n p facts h s → IsTrue (is_undecided (standing_at s i)) → Goes X n p facts h s (catch_up i r v s)
+  catch_up_goes : (facts : List Fact) (s : NodeState) (i r : ℕ) (v : Command) → IsNamed h v → Knows X n p facts h s → IsTrue (is_undecided (standing_at s i)) → Goes X n p facts h s (catch_up i r v s)
   catch_up_goes facts s i r v o K u = goes_if X n p facts h s (enter i r (Some v) s) s (nat_lt (round_of (standing_at s i)) r)
-      (λ l. enter_goes X n p facts h s i r (Some v) K u (ltb-true _ _ l) (λ w e. subst (Occurs h) (same_Some v w e) o))
+      (λ l. enter_goes X n p facts h s i r (Some v) K u (ltb-true _ _ l) (λ w e. subst (IsNamed h) (same_Some v w e) o))
       (λ l. goes_nowhere X n p facts h s K)
 
   adopt_goes : (facts : List Fact) (s : NodeState) (i r q : ℕ) (v : Command) → Says h.messages (coordinator_of r n) (Proposal i r v) → Knows X n p facts h s → round_of (standing_at s i) ≡ r → Goes X n p facts h s (if nat_lt (stamp_of (standing_at s i)) r then stage (Adopt i r v) s else s)
@@ -142,13 +142,13 @@ module _ (X : Type 0) (n p : ℕ) (h : Heard) where
   still_undecided : (s : NodeState) (i : ℕ) (v : Command) → IsTrue (is_undecided (standing_at s i)) → IsTrue (is_undecided (standing_at (pool_add v s) i))
   still_undecided s i v u = subst (λ z. IsTrue (is_undecided z)) (sym (pool_add_standing v s i)) u
 
-  estimate_goes : (facts : List Fact) (s : NodeState) (i q : ℕ) (e : Estimated) → q < n → Says h.messages q (Estimate i e) → Occurs h e.command → Knows X n p facts h s → IsTrue (is_undecided (standing_at s i)) → Goes X n p facts h s (s ▷ pool_add e.command ▷ catch_up i e.round e.command ▷ take_estimate i q e)
+  estimate_goes : (facts : List Fact) (s : NodeState) (i q : ℕ) (e : Estimated) → q < n → Says h.messages q (Estimate i e) → IsNamed h e.command → Knows X n p facts h s → IsTrue (is_undecided (standing_at s i)) → Goes X n p facts h s (s ▷ pool_add e.command ▷ catch_up i e.round e.command ▷ take_estimate i q e)
   estimate_goes facts s i q e l said o K u =
       goes_on X n p facts h s (pool_add e.command s) _ (pool_add_goes X n p facts h s e.command o K) (λ all A.
       goes_on X n p all h (pool_add e.command s) (catch_up i e.round e.command (pool_add e.command s)) _ (catch_up_goes all (pool_add e.command s) i e.round e.command o A (still_undecided s i e.command u)) (λ more B.
       take_estimate_goes more (catch_up i e.round e.command (pool_add e.command s)) i q e l said B))
 
-  proposal_goes : (facts : List Fact) (s : NodeState) (i r q : ℕ) (v : Command) → Says h.messages (coordinator_of r n) (Proposal i r v) → Occurs h v → Knows X n p facts h s → IsTrue (is_undecided (standing_at s i)) → Goes X n p facts h s (s ▷ pool_add v ▷ catch_up i r v ▷ take_proposal i r v q)
+  proposal_goes : (facts : List Fact) (s : NodeState) (i r q : ℕ) (v : Command) → Says h.messages (coordinator_of r n) (Proposal i r v) → IsNamed h v → Knows X n p facts h s → IsTrue (is_undecided (standing_at s i)) → Goes X n p facts h s (s ▷ pool_add v ▷ catch_up i r v ▷ take_proposal i r v q)
   proposal_goes facts s i r q v said o K u =
       goes_on X n p facts h s (pool_add v s) _ (pool_add_goes X n p facts h s v o K) (λ all A.
       goes_on X n p all h (pool_add v s) (catch_up i r v (pool_add v s)) _ (catch_up_goes all (pool_add v s) i r v o A (still_undecided s i v u)) (λ more B.

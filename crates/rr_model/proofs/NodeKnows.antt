@@ -9,14 +9,15 @@ use Rattle.rr_types.specs.declared.promise.Standing.{Standing}
 use Rattle.rr_types.specs.declared.promise.Standing.TheVariants.{Decided, Open}
 use Rattle.rr_types.specs.declared.message.Body.{Body}
 use Rattle.rr_types.specs.declared.message.Message.{Message}
-use Rattle.rr_types.specs.Facts.{instance_of, standing_of, after_fact, round_of, fits, promise_of}
-use Rattle.rr_model.specs.Heard.{Heard, Occurs}
-use Rattle.rr_model.specs.Lawful.{IsLawfulAt}
+use Rattle.rr_types.specs.Facts.{instance_of, standing_of, after_fact}
+use Rattle.rr_types.specs.Standings.{round_of, fits}
+use Rattle.rr_types.specs.Promises.{promise_of}
+use Rattle.rr_model.specs.Lawful.{Heard}
+use Rattle.rr_model.proofs.Permitted.{IsNamed, IsPermittedAt, permitted_lawful}
 use Rattle.rr_model.specs.NodeState.{NodeState, Row, Owed, Backing, Vote, Tally, no_votes, next_number, row_of, put_row, standing_at}
-use Rattle.rr_model.specs.World.{IsOfSubmitted}
 use Rattle.rr_model.specs.NodeParts.{messages_to, backing_after, backing_at, tally_after, pool_after, owe, pool_add, stage}
 use Rattle.rr_model.specs.NodeStep.{change_tally}
-use Rattle.rr_model.specs.NodeLaws.{AreLawful}
+use Rattle.rr_model.specs.NodeLaws.{IsOfSubmitted, AreLawful}
 use Rattle.rr_model.proofs.Histories.{standing_push}
 use Rattle.rr_model.proofs.Growth.{Within}
 use Rattle.rr_model.proofs.NodeRows.{stands, row_then, row_of-put_row, row_of_instance, row_of-rows_after, stands-row_then}
@@ -34,7 +35,7 @@ pub record Knows (X : Type 0) (n p : ℕ) (facts : List Fact) (h : Heard) (s : N
   pub nodes : s.nodes ≡ n
   pub node : s.node ≡ p
   pub standings : (i : ℕ) → standing_at s i ≡ standing_of i facts
-  pub pooled : (c : Command) → Contains s.pool c → Occurs h c
+  pub pooled : (c : Command) → Contains s.pool c → IsNamed h c
   pub tallied : (i : ℕ) (row : Row) → row_of s.rows i ≡ Some row → IsHeardTally n h.messages i (round_of (Some row.standing)) row.tally
   pub kept : List Fact
   pub whole : facts ≡ kept ++ (in_flight s.running ++ s.staged)
@@ -231,7 +232,7 @@ stage_backed : (n p : ℕ) (facts : List Fact) (k : ℕ) (f : Fact) (rows : List
 stage_backed n p facts k f rows i row num fit at true e x = subst (λ z. IsBackedRow (facts ++ f ∷ []) z row.backing row.standing) (eqb-true _ _ e) (backed_then n p facts k f (row_of rows (instance_of f)) (after_fact (stands (row_of rows (instance_of f))) f) row num refl fit (at (instance_of f)) x)
 stage_backed n p facts k f rows i row num fit at false e x = row_more facts (f ∷ []) i row.backing row.standing (at i row x)
 
-pub stage_knows : (X : Type 0) (n p : ℕ) (facts : List Fact) (h : Heard) (s : NodeState) (f : Fact) → IsLawfulAt n p (standing_at s (instance_of f)) h f → Knows X n p facts h s → Knows X n p (facts ++ f ∷ []) h (stage f s)
+pub stage_knows : (X : Type 0) (n p : ℕ) (facts : List Fact) (h : Heard) (s : NodeState) (f : Fact) → IsPermittedAt n p (standing_at s (instance_of f)) h f → Knows X n p facts h s → Knows X n p (facts ++ f ∷ []) h (stage f s)
 unfolding stage
 stage_knows X n p facts h s f l K = record {
   nodes = K.nodes;
@@ -269,18 +270,18 @@ unfolding stage
 stage_end f s = refl
 
 -- a lawful fact staged
-pub stage_goes : (X : Type 0) (n p : ℕ) (facts : List Fact) (h : Heard) (s : NodeState) (f : Fact) → Knows X n p facts h s → IsLawfulAt n p (standing_at s (instance_of f)) h f → Goes X n p facts h s (stage f s)
+pub stage_goes : (X : Type 0) (n p : ℕ) (facts : List Fact) (h : Heard) (s : NodeState) (f : Fact) → Knows X n p facts h s → IsPermittedAt n p (standing_at s (instance_of f)) h f → Goes X n p facts h s (stage f s)
 stage_goes X n p facts h s f K l = record {
   more = f ∷ [];
   staged = stage_staged f s;
   running = stage_running f s;
   marked_end = stage_end f s;
-  lawful = (subst (λ z. IsLawfulAt n p z h f) (K.standings (instance_of f)) l, tt);
+  lawful = (permitted_lawful n p (standing_of (instance_of f) facts) h f (subst (λ z. IsPermittedAt n p z h f) (K.standings (instance_of f)) l), tt);
   knows = stage_knows X n p facts h s f l K;
 }
 
 -- and a message owed for it
-pub stage_owe_goes : (X : Type 0) (n p : ℕ) (facts : List Fact) (h : Heard) (s : NodeState) (f : Fact) (b : Body) (to : List ℕ) → Knows X n p facts h s → IsLawfulAt n p (standing_at s (instance_of f)) h f → IsBackedUpTo (facts ++ f ∷ []) (length facts) b → IsOfSubmitted b h.commands → Goes X n p facts h s (owe b (Some (next_number s)) to (stage f s))
+pub stage_owe_goes : (X : Type 0) (n p : ℕ) (facts : List Fact) (h : Heard) (s : NodeState) (f : Fact) (b : Body) (to : List ℕ) → Knows X n p facts h s → IsPermittedAt n p (standing_at s (instance_of f)) h f → IsBackedUpTo (facts ++ f ∷ []) (length facts) b → IsOfSubmitted b h.commands → Goes X n p facts h s (owe b (Some (next_number s)) to (stage f s))
 stage_owe_goes X n p facts h s f b to K l x y =
     let A : Knows X n p (facts ++ f ∷ []) h (stage f s) = stage_knows X n p facts h s f l K in
     let own : Alike X p (facts ++ f ∷ []) h (stage f s) (owe b (Some (next_number s)) to (stage f s)) = owe_alike X p (facts ++ f ∷ []) h b (Some (next_number s)) to (stage f s) A.node (λ z. subst (λ k. IsBackedUpTo (facts ++ f ∷ []) k b) (sym (number X n p facts h s K)) x) y in
@@ -289,18 +290,18 @@ stage_owe_goes X n p facts h s f b to K l x y =
       staged = own.staged ∙ stage_staged f s;
       running = own.running ∙ stage_running f s;
       marked_end = own.marked_end ∙ stage_end f s;
-      lawful = (subst (λ z. IsLawfulAt n p z h f) (K.standings (instance_of f)) l, tt);
+      lawful = (permitted_lawful n p (standing_of (instance_of f) facts) h f (subst (λ z. IsPermittedAt n p z h f) (K.standings (instance_of f)) l), tt);
       knows = knows_alike X n p (facts ++ f ∷ []) h (stage f s) (owe b (Some (next_number s)) to (stage f s)) own A;
     }
 
-pooled_knows : (X : Type 0) (n p : ℕ) (facts : List Fact) (h : Heard) (s : NodeState) (c : Command) → Occurs h c → Knows X n p facts h s → Knows X n p facts h (record s { pool = s.pool ++ c ∷ [] })
+pooled_knows : (X : Type 0) (n p : ℕ) (facts : List Fact) (h : Heard) (s : NodeState) (c : Command) → IsNamed h c → Knows X n p facts h s → Knows X n p facts h (record s { pool = s.pool ++ c ∷ [] })
 pooled_knows X n p facts h s c o K = record {
   nodes = K.nodes;
   node = K.node;
   standings = K.standings;
   pooled = λ d x. elim (Contains-push_cases s.pool c d x) [
     | inl y ↦ K.pooled d y
-    | inr e ↦ subst (Occurs h) e o
+    | inr e ↦ subst (IsNamed h) e o
   ];
   tallied = K.tallied;
   kept = K.kept;
@@ -312,7 +313,7 @@ pooled_knows X n p facts h s c o K = record {
 }
 
 -- a command that was heard goes into the pool
-pub pool_add_goes : (X : Type 0) (n p : ℕ) (facts : List Fact) (h : Heard) (s : NodeState) (c : Command) → Occurs h c → Knows X n p facts h s → Goes X n p facts h s (pool_add c s)
+pub pool_add_goes : (X : Type 0) (n p : ℕ) (facts : List Fact) (h : Heard) (s : NodeState) (c : Command) → IsNamed h c → Knows X n p facts h s → Goes X n p facts h s (pool_add c s)
 unfolding pool_add
 pool_add_goes X n p facts h s c o K = goes_if X n p facts h s s (record s { pool = s.pool ++ c ∷ [] }) _ (λ e. goes_nowhere X n p facts h s K) (λ e. goes_still X n p facts h s (record s { pool = s.pool ++ c ∷ [] }) refl refl refl (pooled_knows X n p facts h s c o K))
 
@@ -367,7 +368,7 @@ votes_grow : (n : ℕ) (ms ks : List Message) → ((m : Message) → Contains ms
 votes_grow n ms ks W i r low [] a = tt
 votes_grow n ms ks W i r low (v ∷ vs) a = (a.0, a.1, (a.2.0, W _ a.2.1), votes_grow n ms ks W i r _ vs a.3)
 
-occurs_more : (h g : Heard) → Within h g → (c : Command) → Occurs h c → Occurs g c
+occurs_more : (h g : Heard) → Within h g → (c : Command) → IsNamed h c → IsNamed g c
 occurs_more h g W c (inl m) = inl (m.0, W.messages m.0 m.1, m.2)
 occurs_more h g W c (inr x) = inr (W.commands c x)
 

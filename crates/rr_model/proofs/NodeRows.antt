@@ -6,7 +6,8 @@ use Rattle.rr_types.specs.declared.fact.Fact.TheVariants.{Enter, Propose, Adopt,
 use Rattle.rr_types.specs.declared.promise.Entry.{Entry}
 use Rattle.rr_types.specs.declared.promise.Standing.{Standing}
 use Rattle.rr_types.specs.declared.promise.Standing.TheVariants.{Decided, Open}
-use Rattle.rr_types.specs.Facts.{instance_of, after_fact, standing_in}
+use Rattle.rr_types.specs.Facts.{instance_of, after_fact}
+use Rattle.rr_types.specs.Promises.{standing_in}
 use Rattle.rr_model.specs.NodeState.{Row, row_of, put_row}
 use Rattle.rr_model.specs.NodeParts.{fresh_row, row_after, rows_after}
 use Rattle.rr_model.specs.NodeStep.{promised_row}

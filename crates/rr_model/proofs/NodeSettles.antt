@@ -9,11 +9,11 @@ use Rattle.rr_types.specs.declared.fact.Fact.TheVariants.{Propose, Decide}
 use Rattle.rr_types.specs.declared.promise.Standing.{Standing}
 use Rattle.rr_types.specs.declared.promise.Standing.TheVariants.{Decided, Open}
 use Rattle.rr_types.specs.declared.message.Body.TheVariants as say
-use Rattle.rr_types.specs.Standings.{OpenAt}
-use Rattle.rr_types.specs.Nodes.{coordinator_of, majority_of, has_member}
-use Rattle.rr_types.specs.Facts.{is_undecided, round_of}
-use Rattle.rr_model.specs.Heard.{Heard, Says, HasMajority, IsOfLargestStamp}
-use Rattle.rr_model.specs.Lawful.{IsLawfulAt}
+use Rattle.rr_types.specs.Rounds.{OpenAt, coordinator_of, majority_of}
+use Rattle.rr_types.specs.Nodes.{has_member}
+use Rattle.rr_types.specs.Standings.{is_undecided, round_of}
+use Rattle.rr_model.specs.Lawful.{Heard, Says, HasMajority, IsOfLargestStamp}
+use Rattle.rr_model.proofs.Permitted.{IsPermittedAt}
 use Rattle.rr_model.specs.NodeState.{NodeState, Row, row_of, standing_at, open_instances}
 use Rattle.rr_model.specs.NodeDetector.{joined}
 use Rattle.rr_model.specs.NodeParts.{free_command}
@@ -39,7 +39,7 @@ module _ (X : Type 0) (n p : ℕ) (facts : List Fact) (h : Heard) (s : NodeState
       let H : IsHeardTally n h.messages i o.round row.tally = subst (λ z. IsHeardTally n h.messages i (round_of (Some z)) row.tally) x (K.tallied i row e) in
       let me : p ≡ coordinator_of o.round n = sym K.node ∙ sym c ∙ ap (coordinator_of o.round) K.nodes in
       let best : IsOfLargestStamp n i o.round h.messages v = pick_largest n h.messages i o.round row.tally v H (ap (λ z. pick z row.tally) (sym K.nodes) ∙ k) in
-      propose_goes X n p facts h s i o.round v K (subst (λ z. IsLawfulAt n p z h (Propose i o.round v)) (sym at) (refl, me, none, best))
+      propose_goes X n p facts h s i o.round v K (subst (λ z. IsPermittedAt n p z h (Propose i o.round v)) (sym at) (refl, me, none, best))
 
   decide_goes : (i : ℕ) (row : Row) (o : OpenAt) (v : Command) → row_of s.rows i ≡ Some row → row.standing ≡ Open o → o.proposal ≡ Some v → is_majority s row.tally.acks ≡ true → Goes X n p facts h s (carry_out (Conclude i v) s)
   unfolding carry_out
@@ -48,7 +48,7 @@ module _ (X : Type 0) (n p : ℕ) (facts : List Fact) (h : Heard) (s : NodeState
       let H : IsHeardTally n h.messages i o.round row.tally = subst (λ z. IsHeardTally n h.messages i (round_of (Some z)) row.tally) x (K.tallied i row e) in
       let l : majority_of s.nodes ≤ length (filter (λ q. has_member row.tally.acks q) (range_with_len 0 s.nodes)) = leb-true _ _ m in
       let acks : HasMajority n (λ q. Says h.messages q (say.Ack i o.round)) = acks_majority n h.messages i o.round row.tally H (subst (λ z. majority_of z ≤ length (filter (has_member row.tally.acks) (range_with_len 0 z))) K.nodes l) in
-      conclude_goes X n p facts h s i v K (subst (λ z. IsLawfulAt n p z h (Decide i v)) (sym at) (refl, inr (some, acks)))
+      conclude_goes X n p facts h s i v K (subst (λ z. IsPermittedAt n p z h (Decide i v)) (sym at) (refl, inr (some, acks)))
 
   -- of a round that it coordinates
   coordinator_goes : (i : ℕ) (row : Row) (o : OpenAt) (d : Due) → row_of s.rows i ≡ Some row → row.standing ≡ Open o → coordinator_of o.round s.nodes ≡ s.node → (v : Option Command) → o.proposal ≡ v → due_of_coordinator s i row.tally o.round v ≡ Some d → Goes X n p facts h s (carry_out d s)

@@ -7,18 +7,17 @@ use Rattle.rr_types.specs.declared.fact.Fact.{Fact}
 use Rattle.rr_types.specs.declared.promise.Entry.{Entry}
 use Rattle.rr_types.specs.declared.message.Body.{Body}
 use Rattle.rr_types.specs.declared.message.Message.{Message}
-use Rattle.rr_types.specs.Facts.{promise_of, round_of, take_on, take_on_all, all_fit}
-use Rattle.rr_types.specs.Commands.{has_request}
-use Rattle.rr_types.specs.Registry.{reply_of}
+use Rattle.rr_types.specs.Promises.{promise_of, take_on, take_on_all, all_fit}
+use Rattle.rr_types.specs.Standings.{round_of}
+use Rattle.rr_types.specs.Registry.{has_request, reply_of}
 use Rattle.rr_model.specs.World as world
 use Rattle.rr_model.specs.NodeState as node
-use Rattle.rr_model.specs.Heard.{Heard}
-use Rattle.rr_model.specs.Lawful.{IsBacked}
-use Rattle.rr_model.specs.World.{nothing_heard, IsOfSubmitted}
+use Rattle.rr_model.specs.Lawful.{Heard, IsBacked}
+use Rattle.rr_model.specs.World.{nothing_heard}
 use Rattle.rr_model.specs.NodeState.{NodeState, Row, Owed, row_of, open_instances}
 use Rattle.rr_model.specs.NodeStep.{Input, node_step, taken_in, group_taken, group_put_back, marked_running, may_leave, without_first_leaving, message_left, acknowledged, promised_row, restored, started}
 use Rattle.rr_model.specs.NodeDue.{settle}
-use Rattle.rr_model.specs.NodeLaws.{AreLawful, NodeEvent, Told, Grouped, PutBack, Marked, Left, Answered, after_event, heard_input, heard_after, IsInputOfNodes, IsEventOfNodes, AreEventsOfNodes, facts_of_input, facts_of_event, StagesOnlyLawful, IsLawfulNode, HasRound, IsTruthful, StaysTruthful, IsTruthfulNode}
+use Rattle.rr_model.specs.NodeLaws.{IsOfSubmitted, AreLawful, NodeEvent, Told, Grouped, PutBack, Marked, Left, Answered, after_event, heard_input, heard_after, IsInputOfNodes, IsEventOfNodes, AreEventsOfNodes, facts_of_input, facts_of_event, StagesOnlyLawful, IsLawfulNode, HasRound, IsTruthful, StaysTruthful, IsTruthfulNode}
 use Rattle.rr_model.proofs.Promised.{standing_in-promise_of}
 use Rattle.rr_model.proofs.NodeRows.{stands, stands-promised}
 use Rattle.rr_model.proofs.NodeTallies.{IsHeardTally, nothing_tallied}

@@ -5,8 +5,9 @@ use Rattle.std.proofs.lemmas.Option.{none-some, same_Some}
 use Rattle.rr_types.specs.declared.command.Command.{Command}
 use Rattle.rr_types.specs.declared.message.Body.TheVariants.{Estimate, Ack}
 use Rattle.rr_types.specs.declared.message.Message.{Message}
-use Rattle.rr_types.specs.Nodes.{majority_of, has_member}
-use Rattle.rr_model.specs.Heard.{Says, count_below, HasMajority, HasEstimate, IsOfLargestStamp}
+use Rattle.rr_types.specs.Rounds.{majority_of}
+use Rattle.rr_types.specs.Nodes.{has_member}
+use Rattle.rr_model.specs.Lawful.{Says, count_below, HasMajority, HasEstimate, IsOfLargestStamp}
 use Rattle.rr_model.specs.NodeState.{Vote, Tally, no_votes}
 use Rattle.rr_model.specs.NodeDue.{better, best_vote, pick}
 use Rattle.rr_model.specs.NodeStep.{with_vote}

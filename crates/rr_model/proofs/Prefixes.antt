@@ -1,4 +1,7 @@
-use Rattle.std.proofs.Common.{◌≡◌, ℕ, ◌+◌, ◌≤◌, ◌⊎◌, inl, inr, zero, suc, Bool, true, false, ◌==◌, if◌then◌else◌, List, [], ◌∷◌, ◌++◌, length, Contains, Option, None, Some, slice_get, refl, sym, ◌∙◌, subst, arith, append-nil, eqb-true, le_of_suc-le-suc, add-zero, length-append}
+use Rattle.std.proofs.Common.{◌≡◌, ℕ, ◌+◌, ◌≤◌, ◌⊎◌, inl, inr, zero, suc, Bool, true, false, ◌==◌, if◌then◌else◌, List, [], ◌∷◌, ◌++◌, length, Contains, Option, None, Some, slice_get, refl, ap, sym, ◌∙◌, subst, arith, append-nil, eqb-true, le_of_suc-le-suc, add-zero, length-append}
+use Rattle.std.specs.Prelude.{map}
+use Rattle.std.specs.Option.{some_prefix}
+use Rattle.std.specs.List.{range_with_len}
 use Rattle.std.proofs.lemmas.Bool.{false≢true}
 use Rattle.std.proofs.lemmas.Option.{none-some, same_Some}
 use Rattle.rr_types.specs.declared.command.Command.{Command}
@@ -6,11 +9,36 @@ use Rattle.rr_types.specs.declared.fact.Fact.{Fact}
 use Rattle.rr_types.specs.declared.fact.Fact.TheVariants.{Enter, Propose, Adopt, Decide}
 use Rattle.rr_types.specs.declared.promise.Standing.{Standing}
 use Rattle.rr_types.specs.declared.promise.Standing.TheVariants.{Decided, Open}
-use Rattle.rr_types.specs.Facts.{instance_of, standing_of, standing_from, after_fact, decision_of}
-use Rattle.rr_model.specs.Heard.{Heard}
-use Rattle.rr_model.specs.Lawful.{IsLawfulAt}
-use Rattle.rr_model.specs.World.{while_decided, decided_from, decided_prefix}
+use Rattle.rr_types.specs.Facts.{instance_of, standing_of, after_fact, decision_of}
+use Rattle.rr_types.specs.Standings.{standing_from}
+use Rattle.rr_model.specs.Lawful.{Heard}
+use Rattle.rr_model.proofs.Permitted.{IsPermittedAt}
+use Rattle.rr_model.specs.World.{decided_prefix}
 use Rattle.rr_model.proofs.Histories.{History, from_then_on}
+
+-- a command, where there is one, and those behind it; else the list ends
+abbrev pub while_decided : Option Command → List Command → List Command
+while_decided None rest = []
+while_decided (Some v) rest = v ∷ rest
+
+-- the commands decided by the facts for instance i and on, up to the first undecided one, at most so many
+abbrev pub decided_from : ℕ → ℕ → List Fact → List Command
+decided_from zero i facts = []
+decided_from (suc most) i facts = while_decided (decision_of (standing_of i facts)) (decided_from most (i + 1) facts)
+
+while_some : (o : Option Command) (os : List (Option Command)) → some_prefix (o ∷ os) ≡ while_decided o (some_prefix os)
+while_some None os = refl
+while_some (Some v) os = refl
+
+from_place : (facts : List Fact) (most i : ℕ) → some_prefix (map (λ k. decision_of (standing_of k facts)) (range_with_len i most)) ≡ decided_from most i facts
+from_place facts zero i = refl
+from_place facts (suc most) i =
+    while_some (decision_of (standing_of i facts)) (map (λ k. decision_of (standing_of k facts)) (range_with_len (i + 1) most))
+    ∙ ap (while_decided (decision_of (standing_of i facts))) (from_place facts most (i + 1))
+
+-- the decided prefix, instance by instance
+pub prefix_is : (facts : List Fact) → decided_prefix facts ≡ decided_from (length facts) 0 facts
+prefix_is facts = from_place facts (length facts) 0
 
 -- a list is a beginning of another
 pub record Begins (xs ys : List Command) : Type 0 where
@@ -20,7 +48,7 @@ pub record Begins (xs ys : List Command) : Type 0 where
 pub begins_itself : (xs : List Command) → Begins xs xs
 begins_itself xs = record { rest = []; is = append-nil xs }
 
-decided_for_good : (n p : ℕ) (h : Heard) (i : ℕ) (v : Command) (s : Option Standing) (f : Fact) → instance_of f ≡ i → IsLawfulAt n p s h f → decision_of s ≡ Some v → decision_of (after_fact s f) ≡ Some v
+decided_for_good : (n p : ℕ) (h : Heard) (i : ℕ) (v : Command) (s : Option Standing) (f : Fact) → instance_of f ≡ i → IsPermittedAt n p s h f → decision_of s ≡ Some v → decision_of (after_fact s f) ≡ Some v
 decided_for_good n p h i v None f is l e = absurd (none-some v e)
 decided_for_good n p h i v (Some (Open o)) f is l e = absurd (none-some v e)
 decided_for_good n p h i v (Some (Decided w)) (Enter j x) is l e = absurd (false≢true l.0)
@@ -47,7 +75,9 @@ decided_from_grows n p h a b H (suc k) (suc l) i x =
 
 -- the decided prefix only grows
 pub prefix_grows : (n p : ℕ) (h : Heard) (a b : List Fact) → History n p h (a ++ b) → Begins (decided_prefix a) (decided_prefix (a ++ b))
-prefix_grows n p h a b H = decided_from_grows n p h a b H (length a) (length (a ++ b)) 0 (omega (arith, length-append a b))
+prefix_grows n p h a b H =
+    let B : Begins (decided_from (length a) 0 a) (decided_from (length (a ++ b)) 0 (a ++ b)) = decided_from_grows n p h a b H (length a) (length (a ++ b)) 0 (omega (arith, length-append a b)) in
+    record { rest = B.rest; is = ap (λ z. z ++ B.rest) (prefix_is a) ∙ B.is ∙ sym (prefix_is (a ++ b)) }
 
 place_decided_at : (facts : List Fact) (i k : ℕ) (v : Command) (xs : List Command) (o : Option Command) → decision_of (standing_of i facts) ≡ o → ((j : ℕ) → slice_get xs j ≡ Some v → decision_of (standing_of ((i + 1) + j) facts) ≡ Some v) → slice_get (while_decided o xs) k ≡ Some v → decision_of (standing_of (i + k) facts) ≡ Some v
 place_decided_at facts i k v xs None e ih g = absurd (none-some v g)
@@ -89,7 +119,7 @@ decided_by s i v (f ∷ facts) d = elim (decided_by (if instance_of f == i then 
 
 -- each place of the prefix was decided by a fact
 pub prefix_decides : (facts : List Fact) (k : ℕ) (v : Command) → slice_get (decided_prefix facts) k ≡ Some v → Contains facts (Decide k v)
-prefix_decides facts k v g = elim (decided_by None k v facts (let z : 0 + k ≡ k = omega arith in subst (λ j. decision_of (standing_of j facts) ≡ Some v) z (place_decided facts (length facts) 0 k v g))) [
+prefix_decides facts k v g = elim (decided_by None k v facts (let z : 0 + k ≡ k = omega arith in subst (λ j. decision_of (standing_of j facts) ≡ Some v) z (place_decided facts (length facts) 0 k v (subst (λ z. slice_get z k ≡ Some v) (prefix_is facts) g)))) [
   | inl e ↦ absurd (none-some v e)
   | inr c ↦ c
 ]

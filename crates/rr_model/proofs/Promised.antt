@@ -6,10 +6,12 @@ use Rattle.rr_types.specs.declared.promise.Entry.{Entry}
 use Rattle.rr_types.specs.declared.promise.Standing.{Standing}
 use Rattle.rr_types.specs.declared.promise.Standing.TheVariants.{Decided, Open}
 use Rattle.rr_types.specs.Commands.{is_same_command}
-use Rattle.rr_types.specs.Nodes.{coordinator_of}
-use Rattle.rr_types.specs.Facts.{instance_of, standing_of, standing_from, after_fact, standing_in, set_entry, set_standing, take_on, take_on_all, promise_of, fits, all_fit}
-use Rattle.rr_model.specs.Heard.{Heard}
-use Rattle.rr_model.specs.Lawful.{IsLawfulAt}
+use Rattle.rr_types.specs.Rounds.{coordinator_of}
+use Rattle.rr_types.specs.Facts.{instance_of, standing_of, after_fact}
+use Rattle.rr_types.specs.Standings.{standing_from, fits}
+use Rattle.rr_types.specs.Promises.{standing_in, set_entry, set_standing, take_on, take_on_all, promise_of, all_fit}
+use Rattle.rr_model.specs.Lawful.{Heard}
+use Rattle.rr_model.proofs.Permitted.{IsPermittedAt}
 use Rattle.rr_model.proofs.Histories.{History, standing_push}
 use Rattle.rr_model.proofs.SameCommands.{command_same}
 
@@ -71,7 +73,7 @@ pub standing_in-promise_of : (facts : List Fact) (i : ℕ) → standing_in (prom
 standing_in-promise_of facts i = standing_in-take_on_all [] facts i
 
 -- a lawful fact fits
-pub lawful_fits : (n p : ℕ) (s : Option Standing) (h : Heard) (f : Fact) → IsLawfulAt n p s h f → fits n p s f ≡ true
+pub lawful_fits : (n p : ℕ) (s : Option Standing) (h : Heard) (f : Fact) → IsPermittedAt n p s h f → fits n p s f ≡ true
 lawful_fits n p None h (Enter i e) l = and_from _ _ (and_from _ _ refl (lt-ltb 0 e.round l.1)) (eq-eqb e.stamp 0 l.2.0)
 lawful_fits n p (Some (Decided v)) h (Enter i e) l = absurd (false≢true l.0)
 lawful_fits n p (Some (Open o)) h (Enter i e) l =

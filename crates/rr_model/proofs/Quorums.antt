@@ -1,5 +1,5 @@
 use Rattle.std.proofs.Common.{◌≡◌, ℕ, ◌+◌, ◌<◌, zero, suc, Bool, true, false, if◌then◌else◌, refl, arith}
-use Rattle.rr_model.specs.Heard.{count_below, HasMajority}
+use Rattle.rr_model.specs.Lawful.{count_below, HasMajority}
 
 -- a node below n that is in both sets
 pub record InBoth (a b : ℕ → Bool) (n : ℕ) : Type 0 where

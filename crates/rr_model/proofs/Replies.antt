@@ -3,8 +3,7 @@ use Rattle.std.proofs.lemmas.Option.{none-some}
 use Rattle.rr_types.specs.declared.command.Command.{Command}
 use Rattle.rr_types.specs.declared.command.RequestNo.{RequestNo}
 use Rattle.rr_types.specs.declared.command.Reply.{Reply}
-use Rattle.rr_types.specs.Commands.{is_same_request, has_request}
-use Rattle.rr_types.specs.Registry.{Bindings, apply, firsts_beside, firsts, reply_after, reply_of}
+use Rattle.rr_types.specs.Registry.{is_same_request, has_request, Bindings, apply, firsts_beside, firsts, reply_after, reply_of}
 
 pub record Firsts (seen xs ys : List Command) : Type 0 where
   pub rest : List Command

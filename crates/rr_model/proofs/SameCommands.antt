@@ -5,7 +5,8 @@ use Rattle.rr_types.specs.declared.command.RequestNo.{RequestNo}
 use Rattle.rr_types.specs.declared.command.Op.{Op}
 use Rattle.rr_types.specs.declared.command.Op.TheVariants.{Claim, Update, Release, Transfer}
 use Rattle.rr_types.specs.declared.command.Command.{Command}
-use Rattle.rr_types.specs.Commands.{is_same_request, is_same_op, is_same_command}
+use Rattle.rr_types.specs.Registry.{is_same_request}
+use Rattle.rr_types.specs.Commands.{is_same_op, is_same_command}
 
 same_text : (m n : List ℕ) → bytes_eq m n ≡ true → m ≡ n
 same_text m n t = (bytes_eq-Decides m n).0 t

@@ -3,10 +3,11 @@ use Rattle.rr_types.specs.declared.command.Command.{Command}
 use Rattle.rr_types.specs.declared.message.Body.{Body}
 use Rattle.rr_types.specs.declared.message.Body.TheVariants.{Estimate, Proposal, Ack, Decision}
 use Rattle.rr_types.specs.declared.message.Message.{Message}
-use Rattle.rr_model.specs.Heard.{Says, HasMajority, HasEstimate, IsOfLargestStamp, count_below, Occurs}
-use Rattle.rr_model.specs.Lawful.{MayDecide}
-use Rattle.rr_model.specs.World.{nothing_heard}
-use Rattle.rr_model.specs.Runs.{IsRun}
+use Rattle.rr_model.specs.Lawful.{Says, HasMajority, HasEstimate, IsOfLargestStamp, count_below}
+use Rattle.rr_types.specs.declared.fact.Fact.TheVariants.{Propose, Adopt}
+use Rattle.rr_model.specs.Lawful.{Submitted}
+use Rattle.rr_model.proofs.Permitted.{IsNamed, MayDecide, occurs_named, lawful_permitted}
+use Rattle.rr_model.specs.World.{nothing_heard, IsRun}
 use Rattle.rr_model.proofs.Listed.{counts_no_fewer}
 use Rattle.rr_model.specs.Examples.{claim_a_x, first_estimate, to_itself, decides_and_acknowledges, stages_and_crashes, goes_on, IsProposeOfAnotherUnlawful, IsAdoptBelowTheStampUnlawful, one_ack_twice, has_proposed, IsDecideWithoutMajorityUnlawful, IsEnterWithMadeUpCommandUnlawful}
 
@@ -41,11 +42,11 @@ it_runs = (
   (
     (omega arith, refl),
     (
-      ((omega arith, refl), (refl, omega arith, (refl, inr (0, omega arith, refl)))),
+      ((omega arith, refl), (omega arith, refl, Submitted (0, omega arith, refl))),
       (
         ((omega arith, refl), omega arith),
         (
-          ((omega arith, refl), refl, (0, omega arith, refl), tt),
+          ((omega arith, refl), refl, (0, omega arith, refl), λ c e. absurd (cc)),
           (
             ((omega arith, refl), (0, omega arith, refl), refl),
             (
@@ -53,7 +54,7 @@ it_runs = (
               (
                 ((omega arith, refl), omega arith),
                 (
-                  ((omega arith, refl), refl, (1, omega arith, refl), tt),
+                  ((omega arith, refl), refl, (1, omega arith, refl), λ c e. absurd (cc)),
                   (
                     ((omega arith, refl), (1, omega arith, refl), refl),
                     (
@@ -61,11 +62,11 @@ it_runs = (
                       (
                         ((omega arith, refl), omega arith),
                         (
-                          ((omega arith, refl), refl, (claim_a_x, (2, omega arith, refl)), tt),
+                          ((omega arith, refl), refl, (claim_a_x, (2, omega arith, refl)), λ c e. absurd (cc)),
                           (
                             ((omega arith, refl), (2, omega arith, refl), refl),
                             (
-                              ((omega arith, refl), (refl, inr (refl, alone (λ q. Says three_heard q (Ack 0 1)) (0, (2, omega arith, refl))))),
+                              ((omega arith, refl), inr (refl, alone (λ q. Says three_heard q (Ack 0 1)) (0, (2, omega arith, refl)))),
                               (
                                 ((omega arith, refl), omega arith),
                                 (
@@ -98,7 +99,7 @@ it_goes_on = (
   (
     (omega arith, refl),
     (
-      ((omega arith, refl), (refl, omega arith, (refl, inr (0, omega arith, refl)))),
+      ((omega arith, refl), (omega arith, refl, Submitted (0, omega arith, refl))),
       (
         (omega arith, refl),
         (
@@ -106,7 +107,7 @@ it_goes_on = (
           (
             (omega arith, refl),
             (
-              ((omega arith, refl), (refl, omega arith, (refl, inr (0, omega arith, refl)))),
+              ((omega arith, refl), (omega arith, refl, Submitted (0, omega arith, refl))),
               (((omega arith, refl), omega arith), tt),
             ),
           ),
@@ -117,17 +118,17 @@ it_goes_on = (
 )
 
 pub another_may_not_propose : IsProposeOfAnotherUnlawful
-another_may_not_propose n p i r v s h other l = other l.1
+another_may_not_propose n p i r v s h other l = other (lawful_permitted n p s h (Propose i r v) l).1
 
 pub stamps_do_not_fall : IsAdoptBelowTheStampUnlawful
-stamps_do_not_fall n p i r v s h low l = omega (arith, l.1)
+stamps_do_not_fall n p i r v s h low l = omega (arith, low, (lawful_permitted n p s h (Adopt i r v) l).1)
 
-heard_nothing : (v : Command) → Occurs nothing_heard v → ⊥
+heard_nothing : (v : Command) → IsNamed nothing_heard v → ⊥
 heard_nothing v (inl m) = let l : (m.1).0 < 0 = (m.1).1 in omega arith
 heard_nothing v (inr c) = let l : c.0 < 0 = c.1 in omega arith
 
 pub made_up_may_not_enter : IsEnterWithMadeUpCommandUnlawful
-made_up_may_not_enter n p i e l = heard_nothing e.command (l.2).1
+made_up_may_not_enter n p i e l = heard_nothing e.command (occurs_named nothing_heard e.command l.2)
 
 said_by_node_0 : (q : ℕ) (b : Body) → Says one_ack_twice.messages q b → (0 ≡ q) × (Ack 0 1 ≡ b)
 said_by_node_0 q b s = at_index (s.1).0 (s.1).1 (s.1).2
@@ -151,4 +152,4 @@ may_not_decide (inl d) = let e : Ack 0 1 ≡ Decision 0 claim_a_x = (said_by_nod
 may_not_decide (inr d) = few d.1
 
 pub no_majority : IsDecideWithoutMajorityUnlawful
-no_majority l = may_not_decide l.1
+no_majority l = may_not_decide l

@@ -4,9 +4,9 @@ use Rattle.std.proofs.lemmas.List.Elements.{Contains-append_left}
 use Rattle.std.proofs.lemmas.Option.{slice_get-get_or}
 use Rattle.rr_types.specs.declared.command.Command.{Command}
 use Rattle.rr_types.specs.declared.fact.Fact.TheVariants.{Decide}
-use Rattle.rr_model.specs.World.{World, Step, after_step, empty_world, decided_prefix}
-use Rattle.rr_model.specs.Runs.{IsRunFrom, IsRun, end_of, trace_of}
-use Rattle.rr_model.specs.Sound.{IsChosen, IsChosenList, IsDecidedList, IsOneChosen, AreDecidesChosen, AreDecisionsChosen, HasDecidedList, IsOneDecidedList, IsListSubmitted, AreReportsOfTheList, DoReportsHoldAcknowledged, AreRepliesOfTheList}
+use Rattle.rr_model.specs.World.{World, Step, after_step, empty_world, decided_prefix, IsRunFrom, IsRun, end_of}
+use Rattle.rr_model.specs.Sound.{IsChosen, IsChosenList, IsDecidedList, IsSound}
+use Rattle.rr_model.proofs.Parts.{IsOneChosen, AreDecidesChosen, AreDecisionsChosen, HasDecidedList, IsOneDecidedList, IsListSubmitted, AreReportsOfTheList, DoReportsHoldAcknowledged, AreRepliesOfTheList}
 use Rattle.rr_model.proofs.Locking.{one_chosen}
 use Rattle.rr_model.proofs.Prefixes.{Begins, prefix_decides}
 use Rattle.rr_model.proofs.Truths.{Truthful, truthful_grows}
@@ -69,10 +69,10 @@ prefix_begins n run r list d p =
     chosen_begins n run r (decided_prefix ((end_of run).kept p)) list c d.chosen (d.longest (decided_prefix ((end_of run).kept p)) c)
 
 -- all that was told is true by the decided list
-pub told_by_list : (n : ℕ) (run : List Step) → IsRun n run → (list : List Command) → IsDecidedList n (end_of run).wire list → Truthful (trace_of run) (λ p. list)
+pub told_by_list : (n : ℕ) (run : List Step) → IsRun n run → (list : List Command) → IsDecidedList n (end_of run).wire list → Truthful (end_of run).trace (λ p. list)
 told_by_list n run r list d =
     let I : Invariant n (end_of run) = invariant_of n run r in
-    truthful_grows (trace_of run) (λ p. decided_prefix ((end_of run).kept p)) (λ p. list) (prefix_begins n run r list d) I.told
+    truthful_grows (end_of run).trace (λ p. decided_prefix ((end_of run).kept p)) (λ p. list) (prefix_begins n run r list d) I.told
 
 pub sound_reports : (n : ℕ) (run : List Step) → IsRun n run → AreReportsOfTheList n run
 sound_reports n run r list d p count entries c = (told_by_list n run r list d).reported p count entries c
@@ -82,3 +82,17 @@ sound_held n run r list d a b p count entries e q reply c = (told_by_list n run 
 
 pub sound_replies : (n : ℕ) (run : List Step) → IsRun n run → AreRepliesOfTheList n run
 sound_replies n run r list d p q reply c = (told_by_list n run r list d).acknowledged p q reply c
+
+-- every run is sound
+pub sound : (n : ℕ) (run : List Step) → IsRun n run → IsSound n run
+sound n run r = record {
+  one_command_is_chosen = sound_one_chosen n run r;
+  what_nodes_decide_is_chosen = sound_decides n run r;
+  what_decisions_say_is_chosen = sound_decisions n run r;
+  a_decided_list_exists = sound_list n run;
+  the_decided_list_is_one = sound_one_list n run r;
+  its_commands_were_submitted = sound_submitted n run r;
+  restarts_report_beginnings_of_it = sound_reports n run r;
+  restarts_hold_what_was_acknowledged = sound_held n run r;
+  acknowledged_replies_are_its_own = sound_replies n run r;
+}

@@ -5,8 +5,7 @@ use Rattle.rr_types.specs.declared.command.Command.{Command}
 use Rattle.rr_types.specs.declared.command.RequestNo.{RequestNo}
 use Rattle.rr_types.specs.declared.command.Reply.{Reply}
 use Rattle.rr_types.specs.declared.message.Message.{Message}
-use Rattle.rr_types.specs.Commands.{has_request}
-use Rattle.rr_types.specs.Registry.{Bindings, registry_of, reply_of}
+use Rattle.rr_types.specs.Registry.{has_request, Bindings, registry_of, reply_of}
 use Rattle.rr_model.specs.World.{Told, Sent, Acknowledged, Reported}
 use Rattle.rr_model.proofs.Places.{place_push}
 use Rattle.rr_model.proofs.Prefixes.{Begins}

@@ -9,11 +9,9 @@ use Rattle.rr_types.specs.declared.promise.Standing.TheVariants.{Open}
 use Rattle.rr_types.specs.declared.message.Body.{Body}
 use Rattle.rr_types.specs.declared.message.Body.TheVariants.{Estimate, Proposal, Ack}
 use Rattle.rr_types.specs.declared.message.Message.{Message}
-use Rattle.rr_types.specs.Estimates.{Estimated}
-use Rattle.rr_types.specs.Facts.{stamp_of}
-use Rattle.rr_types.specs.Nodes.{coordinator_of}
-use Rattle.rr_model.specs.Heard.{Heard}
-use Rattle.rr_model.specs.Lawful.{IsLawfulAt}
+use Rattle.rr_types.specs.Standings.{stamp_of}
+use Rattle.rr_types.specs.Rounds.{Estimated, coordinator_of}
+use Rattle.rr_model.specs.Lawful.{Heard, IsLawfulAt}
 use Rattle.rr_model.specs.World.{Told, Sent, Acknowledged, Reported, Step, Submit, Hear, Stage, Settle, Send, Acknowledge, GoDown, Restart, nothing_heard}
 
 -- the first request of client 1

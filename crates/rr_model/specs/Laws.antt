@@ -1,16 +1,24 @@
 use Rattle.std.specs.Prelude.{◌≡◌, ℕ, ◌<◌, ◌≤◌, IsTrue, List, [], ◌∷◌, ◌++◌, length, take}
-use Rattle.std.specs.List.{Contains}
+use Rattle.std.specs.List.{Contains, fold}
 use Rattle.rr_types.specs.declared.command.Command.{Command}
 use Rattle.rr_types.specs.declared.fact.Fact.{Fact}
 use Rattle.rr_types.specs.declared.fact.Fact.TheVariants.{Enter}
 use Rattle.rr_types.specs.declared.message.Body.TheVariants.{Estimate, Proposal, Ack}
-use Rattle.rr_types.specs.Estimates.{Estimated}
-use Rattle.rr_types.specs.Facts.{instance_of, standing_of, standing_in, promise_of, fits, all_fit}
-use Rattle.rr_model.specs.Heard.{Heard, Says, HasMajority}
-use Rattle.rr_model.specs.Lawful.{IsLawful}
-use Rattle.rr_model.specs.World.{Step, settled}
-use Rattle.rr_model.specs.Runs.{IsRun, end_of}
+use Rattle.rr_types.specs.Rounds.{Estimated}
+use Rattle.rr_types.specs.Facts.{instance_of, standing_of}
+use Rattle.rr_types.specs.Promises.{standing_in, promise_of, all_fit}
+use Rattle.rr_types.specs.Standings.{fits}
+use Rattle.rr_model.specs.Lawful.{Heard, Says, HasMajority, IsLawful}
+use Rattle.rr_model.specs.World.{World, Step, after_step, IsRun, end_of}
 use Rattle.rr_model.specs.Sound.{IsChosen, IsDecidedList}
+
+-- the world after these steps
+abbrev pub after_steps : World → List Step → World
+after_steps w steps = fold after_step w steps
+
+-- the kept facts once the first so many staged facts are kept too
+abbrev pub settled : World → ℕ → ℕ → List Fact
+settled w p count = w.kept p ++ take count (w.staged p)
 
 -- each beginning of the run is a run
 abbrev pub AreBeginningsRuns : ℕ → List Step → Type 0

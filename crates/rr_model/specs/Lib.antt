@@ -1,4 +1,3 @@
-pub mod Heard
 pub mod Lawful
 pub mod NodeState
 pub mod NodeDetector
@@ -7,7 +6,6 @@ pub mod NodeDue
 pub mod NodeStep
 pub mod NodeLaws
 pub mod NodeWorld
-pub mod Runs
 pub mod Sound
 pub mod World
 pub mod Examples

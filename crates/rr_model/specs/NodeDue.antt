@@ -1,11 +1,11 @@
-use Rattle.std.specs.Prelude.{ℕ, zero, suc, ◌+◌, ◌^◌, Bool, ◌&&◌, not, ◌==◌, nat_lt, nat_le, if◌then◌else◌, List, [], ◌∷◌, length, Option, None, Some, is_some, option_map}
+use Rattle.std.specs.Prelude.{ℕ, zero, suc, ◌+◌, ◌^◌, Bool, ◌&&◌, ◌==◌, nat_lt, nat_le, if◌then◌else◌, List, [], ◌∷◌, length, Option, None, Some, is_some, option_map}
 use Rattle.std.specs.Option.{option_map_or}
 use Rattle.rr_types.specs.declared.command.Command.{Command}
 use Rattle.rr_types.specs.declared.promise.Standing.{Standing}
 use Rattle.rr_types.specs.declared.promise.Standing.TheVariants.{Decided, Open}
-use Rattle.rr_types.specs.Facts.{round_of}
-use Rattle.rr_types.specs.Standings.{OpenAt}
-use Rattle.rr_types.specs.Nodes.{coordinator_of, majority_of, has_member}
+use Rattle.rr_types.specs.Standings.{round_of}
+use Rattle.rr_types.specs.Rounds.{coordinator_of, majority_of}
+use Rattle.rr_types.specs.Nodes.{has_member}
 use Rattle.rr_model.specs.NodeState.{NodeState, Row, Vote, Tally, row_of, standing_at, open_instances, size_of}
 use Rattle.rr_model.specs.NodeDetector.{joined}
 use Rattle.rr_model.specs.NodeParts.{free_command, enter, propose, conclude}

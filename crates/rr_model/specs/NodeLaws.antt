@@ -1,6 +1,7 @@
 use Rattle.std.specs.Prelude.{◌≡◌, ℕ, ◌+◌, ◌<◌, ◌==◌, if◌then◌else◌, List, [], ◌∷◌, ◌++◌, length, take, drop, Some, is_none}
 use Rattle.std.specs.Option.{option_map_or}
 use Rattle.std.specs.List.{Contains}
+use Rattle.rr_types.specs.declared.command.Command.{Command}
 use Rattle.rr_types.specs.declared.command.RequestNo.{RequestNo}
 use Rattle.rr_types.specs.declared.command.Reply.{Reply}
 use Rattle.rr_types.specs.declared.fact.Fact.{Fact}
@@ -8,11 +9,10 @@ use Rattle.rr_types.specs.declared.message.Body.{Body}
 use Rattle.rr_types.specs.declared.message.Body.TheVariants.{Estimate, Proposal, Ack, Decision, Request, Nack, Beat, Suspects, Ask}
 use Rattle.rr_types.specs.declared.message.Message.{Message}
 use Rattle.rr_types.specs.Registry.{reply_of}
-use Rattle.rr_types.specs.Facts.{promise_of}
-use Rattle.rr_model.specs.Heard.{Heard}
-use Rattle.rr_model.specs.Lawful.{IsLawful, IsBacked}
+use Rattle.rr_types.specs.Promises.{promise_of}
+use Rattle.rr_model.specs.Lawful.{Heard, IsLawful, IsBacked}
 use Rattle.rr_model.specs.World as world
-use Rattle.rr_model.specs.World.{nothing_heard, hear_message, hear_command, IsOfSubmitted}
+use Rattle.rr_model.specs.World.{nothing_heard}
 use Rattle.rr_model.specs.NodeState.{NodeState, Owed, decided_prefix}
 use Rattle.rr_model.specs.NodeStep.{Input, Submit, Suspect, Tick, Advance, Hear, node_step, group_taken, group_put_back, marked_running, message_left, next_leaving, next_acknowledged, acknowledged, started}
 
@@ -44,6 +44,14 @@ after_event s PutBack = group_put_back s
 after_event s Marked = marked_running s
 after_event s Left = message_left s
 after_event s Answered = acknowledged s
+
+-- what was heard, and this message
+abbrev pub hear_message : Heard → Message → Heard
+hear_message h m = record { messages = h.messages ++ m ∷ []; commands = h.commands }
+
+-- what was heard, and this command
+abbrev pub hear_command : Heard → Command → Heard
+hear_command h c = record { messages = h.messages; commands = h.commands ++ c ∷ [] }
 
 -- what node p has heard, this input included: messages for it, and commands submitted to it
 abbrev pub heard_input : ℕ → Heard → Input → Heard
@@ -130,6 +138,18 @@ HasRound (Nack i r) = Unit {0}
 HasRound Beat = Unit {0}
 HasRound (Suspects set) = Unit {0}
 HasRound (Ask i) = Unit {0}
+
+-- a request that a node sends on is for a command that some client submitted
+abbrev pub IsOfSubmitted : Body → List Command → Type 0
+IsOfSubmitted (Estimate i e) submitted = Unit {0}
+IsOfSubmitted (Proposal i r v) submitted = Unit {0}
+IsOfSubmitted (Ack i r) submitted = Unit {0}
+IsOfSubmitted (Decision i v) submitted = Unit {0}
+IsOfSubmitted (Request c) submitted = Contains submitted c
+IsOfSubmitted (Nack i r) submitted = Unit {0}
+IsOfSubmitted Beat submitted = Unit {0}
+IsOfSubmitted (Suspects set) submitted = Unit {0}
+IsOfSubmitted (Ask i) submitted = Unit {0}
 
 -- the facts of a node that are marked: as many as their number says
 abbrev pub marked_facts : List Fact → NodeState → List Fact

@@ -1,20 +1,19 @@
-use Rattle.std.specs.Prelude.{ℕ, ◌+◌, ◌-◌, Bool, true, false, ◌&&◌, ◌||◌, not, ◌==◌, nat_lt, if◌then◌else◌, List, [], ◌∷◌, ◌++◌, length, filter, map, Option, None, Some, is_some, option_map, find}
+use Rattle.std.specs.Prelude.{ℕ, Bool, false, ◌&&◌, ◌||◌, not, ◌==◌, nat_lt, if◌then◌else◌, List, [], ◌∷◌, ◌++◌, filter, map, Option, None, Some, option_map, find}
 use Rattle.std.specs.Option.{option_map_or}
 use Rattle.std.specs.List.{list_any}
 use Rattle.rr_types.specs.declared.command.Command.{Command}
 use Rattle.rr_types.specs.declared.fact.Fact.{Fact}
 use Rattle.rr_types.specs.declared.fact.Fact.TheVariants.{Enter, Propose, Adopt, Decide}
-use Rattle.rr_types.specs.declared.message.Message.{Message}
 use Rattle.rr_types.specs.declared.message.Body.{Body}
 use Rattle.rr_types.specs.declared.message.Body.TheVariants as say
 use Rattle.rr_types.specs.declared.promise.Standing.{Standing}
 use Rattle.rr_types.specs.declared.promise.Standing.TheVariants.{Decided, Open}
-use Rattle.rr_types.specs.Commands.{is_same_command, is_same_request, has_request}
-use Rattle.rr_types.specs.Estimates.{Estimated}
-use Rattle.rr_types.specs.Standings.{OpenAt}
-use Rattle.rr_types.specs.Facts.{after_fact, round_of, stamp_of, estimate_of, proposal_of, decision_of, instance_of}
-use Rattle.rr_types.specs.Nodes.{coordinator_of}
-use Rattle.rr_model.specs.NodeState.{NodeState, Row, Tally, Backing, Owed, no_votes, ◌▷◌, next_number, everyone, others, row_of, put_row, standing_at, open_instances, first_undecided, is_decided_request}
+use Rattle.rr_types.specs.Commands.{is_same_command}
+use Rattle.rr_types.specs.Registry.{is_same_request, has_request}
+use Rattle.rr_types.specs.Facts.{after_fact, instance_of}
+use Rattle.rr_types.specs.Standings.{round_of, stamp_of, estimate_of}
+use Rattle.rr_types.specs.Rounds.{Estimated, coordinator_of}
+use Rattle.rr_model.specs.NodeState.{NodeState, Row, Tally, Backing, Owed, no_votes, ◌▷◌, next_number, everyone, others, row_of, put_row, standing_at, open_instances, is_decided_request}
 
 -- the messages with this body to these nodes, backed by this fact or free
 abbrev pub messages_to : ℕ → Body → Option ℕ → List ℕ → List Owed

@@ -1,4 +1,4 @@
-use Rattle.std.specs.Prelude.{ℕ, zero, suc, ◌+◌, Bool, true, false, ◌&&◌, not, ◌==◌, nat_lt, if◌then◌else◌, List, [], ◌∷◌, length, filter, Option, None, Some, option_map}
+use Rattle.std.specs.Prelude.{ℕ, zero, suc, ◌+◌, Bool, false, ◌&&◌, not, ◌==◌, nat_lt, if◌then◌else◌, List, [], ◌∷◌, length, filter, Option, None, Some, option_map}
 use Rattle.std.specs.Option.{option_map_or}
 use Rattle.std.specs.List.{list_any, range_with_len}
 use Rattle.rr_types.specs.declared.command.RequestNo.{RequestNo}
@@ -6,10 +6,10 @@ use Rattle.rr_types.specs.declared.command.Command.{Command}
 use Rattle.rr_types.specs.declared.fact.Fact.{Fact}
 use Rattle.rr_types.specs.declared.message.Message.{Message}
 use Rattle.rr_types.specs.declared.promise.Standing.{Standing}
-use Rattle.rr_types.specs.declared.promise.Standing.TheVariants.{Decided, Open}
 use Rattle.rr_types.specs.declared.promise.Entry.{Entry}
-use Rattle.rr_types.specs.Commands.{is_same_request}
-use Rattle.rr_types.specs.Facts.{is_undecided, decision_of}
+use Rattle.rr_types.specs.Registry.{is_same_request}
+use Rattle.rr_types.specs.Standings.{is_undecided}
+use Rattle.rr_types.specs.Facts.{decision_of}
 use Rattle.rr_types.specs.Nodes.{has_member}
 
 -- an estimate that the coordinator of a round has heard: from whom, with its stamp

@@ -1,25 +1,23 @@
-use Rattle.std.specs.Prelude.{ℕ, ◌+◌, ◌-◌, ◌^◌, Bool, true, false, ◌&&◌, ◌||◌, not, ◌==◌, nat_lt, nat_le, if◌then◌else◌, List, [], ◌∷◌, ◌++◌, length, map, take, drop, find, replicate, Option, None, Some, is_some, is_none, option_map}
+use Rattle.std.specs.Prelude.{ℕ, ◌+◌, ◌-◌, ◌^◌, Bool, true, ◌&&◌, ◌||◌, not, ◌==◌, nat_lt, nat_le, if◌then◌else◌, List, [], ◌∷◌, ◌++◌, length, map, take, drop, find, replicate, Option, None, Some, is_some, option_map}
 use Rattle.std.specs.Option.{option_map_or}
 use Rattle.std.specs.List.{list_any}
 use Rattle.rr_types.specs.declared.command.RequestNo.{RequestNo}
 use Rattle.rr_types.specs.declared.command.Command.{Command}
-use Rattle.rr_types.specs.declared.command.Reply.{Reply}
-use Rattle.rr_types.specs.declared.fact.Fact.{Fact}
 use Rattle.rr_types.specs.declared.fact.Fact.TheVariants.{Adopt}
 use Rattle.rr_types.specs.declared.message.Message.{Message}
 use Rattle.rr_types.specs.declared.message.Body.{Body}
-use Rattle.rr_types.specs.declared.message.Body.TheVariants as say
 use Rattle.rr_types.specs.declared.message.Body.TheVariants.{Estimate, Proposal, Ack, Decision, Request, Nack, Beat, Suspects, Ask}
 use Rattle.rr_types.specs.declared.promise.Entry.{Entry}
 use Rattle.rr_types.specs.declared.refusal.Refusal.{Refusal}
-use Rattle.rr_types.specs.declared.refusal.Refusal.TheVariants.{ListFull, RoundsOut, TooLarge, Busy}
-use Rattle.rr_types.specs.Commands.{is_same_request, has_request}
-use Rattle.rr_types.specs.Estimates.{Estimated}
+use Rattle.rr_types.specs.declared.refusal.Refusal.TheVariants.{ListFull, RoundsOut, TooLarge}
 use Rattle.rr_types.specs.Groups.{Grouped}
-use Rattle.rr_types.specs.Facts.{is_undecided, decision_of, round_of, stamp_of, proposal_of, take_on_all}
-use Rattle.rr_types.specs.Nodes.{coordinator_of, with_member}
-use Rattle.rr_types.specs.Registry.{reply_of}
-use Rattle.rr_model.specs.NodeState.{NodeState, Row, Vote, Tally, Backing, Owed, no_votes, ◌▷◌, next_number, everyone, others, row_of, put_row, standing_at, is_decided, open_instances, is_open, first_undecided, is_decided_request, decided_prefix}
+use Rattle.rr_types.specs.Standings.{is_undecided, round_of, stamp_of, proposal_of}
+use Rattle.rr_types.specs.Facts.{decision_of}
+use Rattle.rr_types.specs.Promises.{take_on_all}
+use Rattle.rr_types.specs.Rounds.{Estimated, coordinator_of}
+use Rattle.rr_types.specs.Nodes.{with_member}
+use Rattle.rr_types.specs.Registry.{is_same_request, has_request}
+use Rattle.rr_model.specs.NodeState.{NodeState, Row, Vote, Tally, Owed, no_votes, ◌▷◌, next_number, everyone, others, row_of, put_row, standing_at, is_decided, open_instances, is_open, first_undecided, is_decided_request, decided_prefix}
 use Rattle.rr_model.specs.NodeDetector.{new_watch, all_ticked, heard_beat, late_nodes, reduced}
 use Rattle.rr_model.specs.NodeParts.{owe, pool_add, stage, backing_at, enter, restate_all, conclude}
 use Rattle.rr_model.specs.NodeDue.{settle}

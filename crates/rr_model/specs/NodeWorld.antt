@@ -6,12 +6,12 @@ use Rattle.rr_types.specs.declared.command.RequestNo.{RequestNo}
 use Rattle.rr_types.specs.declared.command.Reply.{Reply}
 use Rattle.rr_types.specs.declared.fact.Fact.{Fact}
 use Rattle.rr_types.specs.declared.message.Message.{Message}
-use Rattle.rr_types.specs.Facts.{promise_of}
+use Rattle.rr_types.specs.Promises.{promise_of}
 use Rattle.rr_types.specs.Registry.{reply_of}
-use Rattle.rr_model.specs.Heard.{Heard}
-use Rattle.rr_model.specs.World.{World, Step, Stage, Settle, Send, Acknowledge, nothing_heard}
+use Rattle.rr_model.specs.Lawful.{Heard}
 use Rattle.rr_model.specs.World as world
-use Rattle.rr_model.specs.Runs.{IsRunFrom, after_steps}
+use Rattle.rr_model.specs.World.{World, Step, Stage, Settle, Send, Acknowledge, nothing_heard, IsRunFrom}
+use Rattle.rr_model.specs.Laws.{after_steps}
 use Rattle.rr_model.specs.NodeState.{NodeState, decided_prefix}
 use Rattle.rr_model.specs.NodeStep.{Input, Submit, Suspect, Tick, Advance, Hear, next_leaving, next_acknowledged, started}
 use Rattle.rr_model.specs.NodeLaws.{NodeEvent, Told, Grouped, PutBack, Marked, Left, Answered, after_event, heard_after, AreEventsOfNodes, facts_of_input, facts_of_event, HasRound, marked_facts}

@@ -1,16 +1,15 @@
-use Rattle.std.specs.Prelude.{◌≡◌, ℕ, ◌+◌, ◌≤◌, ◌<◌, Bool, true, false, ◌==◌, if◌then◌else◌, zero, suc, List, [], ◌∷◌, ◌++◌, length, take, drop, Option, None, Some}
-use Rattle.std.specs.List.{Contains}
+use Rattle.std.specs.Prelude.{◌≡◌, ℕ, ◌≤◌, ◌<◌, Bool, true, false, ◌==◌, if◌then◌else◌, List, [], ◌∷◌, ◌++◌, length, take, drop, map, Some}
+use Rattle.std.specs.List.{Contains, fold, range_with_len}
+use Rattle.std.specs.Option.{some_prefix}
 use Rattle.rr_types.specs.declared.command.Command.{Command}
 use Rattle.rr_types.specs.declared.command.RequestNo.{RequestNo}
 use Rattle.rr_types.specs.declared.command.Reply.{Reply}
 use Rattle.rr_types.specs.declared.fact.Fact.{Fact}
-use Rattle.rr_types.specs.declared.message.Body.{Body}
-use Rattle.rr_types.specs.declared.message.Body.TheVariants.{Estimate, Proposal, Ack, Decision, Request, Nack, Beat, Suspects, Ask}
+use Rattle.rr_types.specs.declared.message.Body.TheVariants.{Request}
 use Rattle.rr_types.specs.declared.message.Message.{Message}
 use Rattle.rr_types.specs.Facts.{standing_of, decision_of}
 use Rattle.rr_types.specs.Registry.{Bindings, registry_of, reply_of}
-use Rattle.rr_model.specs.Heard.{Heard}
-use Rattle.rr_model.specs.Lawful.{IsLawful, IsBacked}
+use Rattle.rr_model.specs.Lawful.{Heard, IsLawful, IsBacked}
 
 -- what a node lets others know
 pub data Told : Type 0 where
@@ -65,43 +64,22 @@ pub data Step : Type 0 where
   -- the node restarts: the crash kept the first so many of its staged facts, and lost the rest
   Restart : (p : ℕ) → (count : ℕ) → Step
 
--- a command, where there is one, and those behind it; else the list ends
-abbrev pub while_decided : Option Command → List Command → List Command
-while_decided None rest = []
-while_decided (Some v) rest = v ∷ rest
-
--- the commands decided by the facts for instance i and on, up to the first undecided one, at most so many
-abbrev pub decided_from : ℕ → ℕ → List Fact → List Command
-decided_from zero i facts = []
-decided_from (suc most) i facts = while_decided (decision_of (standing_of i facts)) (decided_from most (i + 1) facts)
-
 -- the contiguous decided commands of the facts from instance 0. A fact decides one instance, so there are at most as many
 abbrev pub decided_prefix : List Fact → List Command
-decided_prefix facts = decided_from (length facts) 0 facts
+decided_prefix facts = some_prefix (map (λ i. decision_of (standing_of i facts)) (range_with_len 0 (length facts)))
 
 -- node p of n is up
 abbrev pub IsUp : ℕ → World → ℕ → Type 0
 IsUp n w p = (p < n) × (w.is_up p ≡ true)
 
--- a request that a node sends on is for a command that some client submitted
-abbrev pub IsOfSubmitted : Body → List Command → Type 0
-IsOfSubmitted (Estimate i e) submitted = Unit {0}
-IsOfSubmitted (Proposal i r v) submitted = Unit {0}
-IsOfSubmitted (Ack i r) submitted = Unit {0}
-IsOfSubmitted (Decision i v) submitted = Unit {0}
-IsOfSubmitted (Request c) submitted = Contains submitted c
-IsOfSubmitted (Nack i r) submitted = Unit {0}
-IsOfSubmitted Beat submitted = Unit {0}
-IsOfSubmitted (Suspects set) submitted = Unit {0}
-IsOfSubmitted (Ask i) submitted = Unit {0}
-
--- where a step may happen, among n nodes
+-- where a step may happen, among n nodes. A request that a node sends on is for a command that some client submitted
 abbrev pub MayHappen : ℕ → World → Step → Type 0
 MayHappen n w (Submit p c) = IsUp n w p
 MayHappen n w (Hear p m) = IsUp n w p × Contains w.wire m × (m.to ≡ p)
 MayHappen n w (Stage p f) = IsUp n w p × IsLawful n p (w.kept p ++ w.staged p) (w.heard p) f
 MayHappen n w (Settle p count) = IsUp n w p × (count ≤ length (w.staged p))
-MayHappen n w (Send p m) = IsUp n w p × (m.from ≡ p) × IsBacked m.body (w.kept p) × IsOfSubmitted m.body w.submitted
+MayHappen n w (Send p m) =
+    IsUp n w p × (m.from ≡ p) × IsBacked m.body (w.kept p) × ((c : Command) → m.body ≡ Request c → Contains w.submitted c)
 MayHappen n w (Acknowledge p q reply) = IsUp n w p × (reply_of (decided_prefix (w.kept p)) q ≡ Some reply)
 MayHappen n w (GoDown p) = IsUp n w p
 MayHappen n w (Restart p count) = (p < n) × (w.is_up p ≡ false) × (count ≤ length (w.staged p))
@@ -110,32 +88,40 @@ MayHappen n w (Restart p count) = (p < n) × (w.is_up p ≡ false) × (count ≤
 abbrev pub with_at : {A : Type 0} → (ℕ → A) → ℕ → A → ℕ → A
 with_at f p x q = if q == p then x else f q
 
--- what was heard, and this message
-abbrev pub hear_message : Heard → Message → Heard
-hear_message h m = record { messages = h.messages ++ m ∷ []; commands = h.commands }
-
--- what was heard, and this command
-abbrev pub hear_command : Heard → Command → Heard
-hear_command h c = record { messages = h.messages; commands = h.commands ++ c ∷ [] }
-
--- the kept facts once the first so many staged facts are kept too
-abbrev pub settled : World → ℕ → ℕ → List Fact
-settled w p count = w.kept p ++ take count (w.staged p)
-
 -- the world after a step
 abbrev pub after_step : World → Step → World
-after_step w (Submit p c) = record w { submitted = w.submitted ++ c ∷ []; heard = with_at w.heard p (hear_command (w.heard p) c) }
-after_step w (Hear p m) = record w { heard = with_at w.heard p (hear_message (w.heard p) m) }
+after_step w (Submit p c) =
+    let heard = record (w.heard p) { commands = (w.heard p).commands ++ c ∷ [] } in
+    record w { submitted = w.submitted ++ c ∷ []; heard = with_at w.heard p heard }
+after_step w (Hear p m) =
+    let heard = record (w.heard p) { messages = (w.heard p).messages ++ m ∷ [] } in
+    record w { heard = with_at w.heard p heard }
 after_step w (Stage p f) = record w { staged = with_at w.staged p (w.staged p ++ f ∷ []) }
-after_step w (Settle p count) = record w { kept = with_at w.kept p (settled w p count); staged = with_at w.staged p (drop count (w.staged p)) }
+after_step w (Settle p count) =
+    let kept = w.kept p ++ take count (w.staged p) in
+    record w { kept = with_at w.kept p kept; staged = with_at w.staged p (drop count (w.staged p)) }
 after_step w (Send p m) = record w { wire = w.wire ++ m ∷ []; trace = w.trace ++ Sent m ∷ [] }
 after_step w (Acknowledge p q reply) = record w { trace = w.trace ++ Acknowledged p q reply ∷ [] }
 after_step w (GoDown p) = record w { heard = with_at w.heard p nothing_heard; is_up = with_at w.is_up p false }
 after_step w (Restart p count) =
-    let prefix = decided_prefix (settled w p count) in
+    let kept = w.kept p ++ take count (w.staged p) in
+    let prefix = decided_prefix kept in
     record w {
-      kept = with_at w.kept p (settled w p count);
+      kept = with_at w.kept p kept;
       staged = with_at w.staged p [];
       is_up = with_at w.is_up p true;
       trace = w.trace ++ Reported p (length prefix) (registry_of prefix) ∷ [];
     }
+
+-- each step may happen where it stands, among n nodes, from this world on
+abbrev pub IsRunFrom : ℕ → World → List Step → Type 0
+IsRunFrom n w [] = Unit {0}
+IsRunFrom n w (s ∷ ss) = MayHappen n w s × IsRunFrom n (after_step w s) ss
+
+-- the steps are a run of n nodes from the empty world
+abbrev pub IsRun : ℕ → List Step → Type 0
+IsRun n steps = IsRunFrom n empty_world steps
+
+-- the world at the end of a run. Its trace has the run's sends, acknowledgements and restart reports, in order
+abbrev pub end_of : List Step → World
+end_of steps = fold after_step empty_world steps

@@ -2,14 +2,13 @@
 //! and reordered, and what stays true through every run of it.
 #![tactic(auto)]
 
-ghost use Rattle.std.specs.Prelude.{◌≡◌, ℕ, List, [], ◌∷◌, ◌++◌, ◌↔◌, Option, None, Some, IsTrue};
+ghost use Rattle.std.specs.Prelude.{◌≡◌, ℕ, ◌≤◌, List, [], ◌∷◌, ◌++◌, ◌↔◌, Option, None, Some, IsTrue};
 ghost use Rattle.rr_types.specs.declared.command.Command.{Command};
 ghost use Rattle.rr_types.specs.declared.fact.Fact.{Fact};
 ghost use Rattle.rr_types.specs.Commands.{is_same_command};
-ghost use Rattle.rr_types.specs.Facts.{all_fit};
+ghost use Rattle.rr_types.specs.Promises.{all_fit};
 ghost use Rattle.rr_types.specs.declared.fact.Fact.TheVariants.{Enter, Propose, Adopt, Decide};
 ghost use Rattle.rr_types.specs.declared.message.Body.TheVariants.{Estimate};
-ghost use Rattle.rr_model.specs.World.{Step};
 ghost use Rattle.rr_model.specs.NodeState.{NodeState};
 ghost use Rattle.rr_model.specs.NodeDue.{Due, due, carry_out, settle};
 ghost use Rattle.rr_model.specs.NodeStays.{StaysMarked};
@@ -17,24 +16,15 @@ ghost use Rattle.rr_model.specs.NodeStep.{Input, node_step, next_leaving, next_a
 ghost use Rattle.rr_model.specs.NodeExamples.{told_alone, decided_alone, marked_alone};
 ghost use Rattle.rr_model.specs.NodeLaws.{IsLawfulNode, IsTruthfulNode};
 ghost use Rattle.rr_model.specs.NodeWorld.{IsWorldlyNode};
-ghost use Rattle.rr_model.specs.Runs.{IsNodeCount, IsRun, end_of, trace_of};
+ghost use Rattle.rr_model.specs.World.{Step, IsRun, end_of};
 ghost use Rattle.rr_model.specs.Examples.{first_request, claim_a_x, to_itself, first_estimate, decides_and_acknowledges, told_by_it, stages_and_crashes, goes_on, IsProposeOfAnotherUnlawful, IsAdoptBelowTheStampUnlawful, IsDecideWithoutMajorityUnlawful, IsEnterWithMadeUpCommandUnlawful};
-ghost use Rattle.rr_model.specs.Sound.{IsOneChosen, AreDecidesChosen, AreDecisionsChosen, HasDecidedList, IsOneDecidedList, IsListSubmitted, AreReportsOfTheList, DoReportsHoldAcknowledged, AreRepliesOfTheList, IsSound};
+ghost use Rattle.rr_model.specs.Sound.{IsSound};
 ghost use Rattle.rr_model.specs.Laws.{AreBeginningsRuns, StaysChosen, DoesListGrow, AreKeptFactsNeverLost, DoRoundsRise, DoAcksBind, AreProposalsLocked, DoesWhatIsLeftFit, DoesPromiseStand, DoLawfulFactsFit};
 
 /// Agreement and durability: every run of 1 to 7 nodes is sound, whatever is lost, repeated, reordered,
 /// suspected, crashed and restarted.
 pub fn agreement()
-    ensures one_command_is_chosen { (n : ℕ) (run : List Step) → IsNodeCount n → IsRun n run → IsOneChosen n run }
-    ensures what_nodes_decide_is_chosen { (n : ℕ) (run : List Step) → IsNodeCount n → IsRun n run → AreDecidesChosen n run }
-    ensures what_decisions_say_is_chosen { (n : ℕ) (run : List Step) → IsNodeCount n → IsRun n run → AreDecisionsChosen n run }
-    ensures a_decided_list_exists { (n : ℕ) (run : List Step) → IsNodeCount n → IsRun n run → HasDecidedList n run }
-    ensures the_decided_list_is_one { (n : ℕ) (run : List Step) → IsNodeCount n → IsRun n run → IsOneDecidedList n run }
-    ensures its_commands_were_submitted { (n : ℕ) (run : List Step) → IsNodeCount n → IsRun n run → IsListSubmitted n run }
-    ensures restarts_report_beginnings_of_it { (n : ℕ) (run : List Step) → IsNodeCount n → IsRun n run → AreReportsOfTheList n run }
-    ensures restarts_hold_what_was_acknowledged { (n : ℕ) (run : List Step) → IsNodeCount n → IsRun n run → DoReportsHoldAcknowledged n run }
-    ensures acknowledged_replies_are_its_own { (n : ℕ) (run : List Step) → IsNodeCount n → IsRun n run → AreRepliesOfTheList n run }
-    ensures so_every_run_is_sound { (n : ℕ) (run : List Step) → IsNodeCount n → IsRun n run → IsSound n run }
+    ensures every_run_is_sound { (n : ℕ) (run : List Step) → 1 ≤ n → n ≤ 7 → IsRun n run → IsSound n run }
 {}
 
 /// Laws of runs, of which agreement is made: rounds rise, an acknowledgement binds what its sender says
@@ -74,7 +64,7 @@ pub fn laws_of_nodes()
 /// loses a staged fact in a crash and goes on, and for each kind of fact one that isn't lawful.
 pub fn examples()
     ensures a_node_decides_and_acknowledges { IsRun 1 decides_and_acknowledges }
-    ensures what_it_tells { trace_of decides_and_acknowledges ≡ told_by_it }
+    ensures what_it_tells { (end_of decides_and_acknowledges).trace ≡ told_by_it }
     ensures a_run_goes_on_after_a_crash { IsRun 1 (stages_and_crashes ++ goes_on) }
     ensures a_crash_loses_a_staged_fact { (end_of (stages_and_crashes ++ goes_on)).kept 0 ≡ Enter 0 first_estimate ∷ [] }
     ensures another_node_may_not_propose { IsProposeOfAnotherUnlawful }

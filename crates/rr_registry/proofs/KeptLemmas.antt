@@ -2,6 +2,7 @@ use Rattle.std.proofs.Common.{◌≡◌, ℕ, Bool, true, false, cond, List, [],
 use Rattle.std.specs.declared.cmp.Ordering.TheVariants.{Less, Equal, Greater}
 use Rattle.std.specs.Ordering.{is_eq}
 use Rattle.std.specs.Cmp.{IsTotalOrder}
+use Rattle.std.specs.List.{fold}
 use Rattle.std.specs.BTreeMap.{insert_entry, is_at}
 use Rattle.std.specs.Map.{lookup}
 use Rattle.std.proofs.lemmas.Cmp.{nat_cmp_total, on_total, then_total}
@@ -10,8 +11,7 @@ use Rattle.std.proofs.lemmas.Bool.Decides.{nat_tests}
 use Rattle.rr_types.specs.declared.command.RequestNo.{RequestNo}
 use Rattle.rr_types.specs.declared.command.Command.{Command}
 use Rattle.rr_types.specs.declared.command.Reply.{Reply}
-use Rattle.rr_types.specs.Commands.{is_same_request, has_request}
-use Rattle.rr_types.specs.Registry.{Bindings, apply, firsts_beside, bindings_after, reply_after, registry_of, reply_of}
+use Rattle.rr_types.specs.Registry.{is_same_request, has_request, Bindings, apply, firsts_beside, reply_after, registry_of, reply_of}
 use Rattle.rr_registry.specs.Kept.{Kept, request_cmp, kept_reply, keep, applied, applied_all, kept_of}
 use Rattle.rr_registry.proofs.TableLemmas.{eq-request_cmp, lookup-request, exact_requests}
 
@@ -85,6 +85,10 @@ firsts_known seen cs c h = rw h
 
 firsts_new : (seen cs : List Command) (c : Command) → has_request seen c.request ≡ false → firsts_beside seen (c ∷ cs) ≡ c ∷ firsts_beside (c ∷ seen) cs
 firsts_new seen cs c h = rw h
+
+-- the bindings after these commands
+abbrev bindings_after : Bindings → List Command → Bindings
+bindings_after m cs = fold (λ m c. (apply m c).0) m cs
 
 bindings_first : (k : Kept) (seen cs : List Command) (c : Command) → Knows k seen → ((m : Kept) (known : List Command) → Knows m known → (applied_all m cs).bindings ≡ bindings_after m.bindings (firsts_beside known cs)) → (b : Bool) → has_request seen c.request ≡ b → (applied_all k (c ∷ cs)).bindings ≡ bindings_after k.bindings (firsts_beside seen (c ∷ cs))
 bindings_first k seen cs c h more true b =

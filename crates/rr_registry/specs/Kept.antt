@@ -6,8 +6,7 @@ use Rattle.std.specs.Map.{lookup}
 use Rattle.rr_types.specs.declared.command.RequestNo.{RequestNo}
 use Rattle.rr_types.specs.declared.command.Command.{Command}
 use Rattle.rr_types.specs.declared.command.Reply.{Reply}
-use Rattle.rr_types.specs.Commands.{is_same_request}
-use Rattle.rr_types.specs.Registry.{Bindings, apply}
+use Rattle.rr_types.specs.Registry.{is_same_request, Bindings, apply}
 
 -- requests are ordered by client, and then by number
 abbrev pub request_cmp : RequestNo → RequestNo → Ordering

@@ -1,6 +1,8 @@
 use Rattle.std.specs.Prelude.{◌≡◌, ℕ, Bool, true, ◌&&◌, List, length}
 use Rattle.std.specs.Ordering.{nat_cmp}
 use Rattle.std.specs.Cmp.Lexicographic.{slice_cmp}
+use Rattle.std.specs.Map.{remove_entry}
+use Rattle.std.specs.Str.{bytes_eq}
 use Rattle.rr_types.specs.declared.command.RequestNo.{RequestNo}
 use Rattle.rr_types.specs.declared.command.Op.{Op}
 use Rattle.rr_types.specs.declared.command.Op.TheVariants.{Claim, Update, Release, Transfer}
@@ -13,6 +15,10 @@ use Rattle.rr_registry.specs.Places.{filled, has_place}
 -- the bound names
 abbrev pub bindings_in : Tables → Bindings
 bindings_in t = filled t.names.entries
+
+-- the name free
+abbrev pub unbind : Bindings → List ℕ → Bindings
+unbind m name = remove_entry (bytes_eq name) m
 
 -- the bound names and the kept replies
 abbrev pub kept_in : Tables → Kept

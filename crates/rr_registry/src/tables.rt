@@ -4,12 +4,12 @@
 ghost use Rattle.std.specs.Prelude.{◌≡◌, ℕ, List, [], ◌+◌, length, IsTrue, IsSome, OnOk, IfErr};
 ghost use Rattle.std.specs.List.{All};
 ghost use Rattle.rr_types.specs.declared.command.Command.{Command};
-ghost use Rattle.rr_types.specs.Registry.{holding_of, claim, by_owner, apply_op, bind, unbind};
+ghost use Rattle.rr_types.specs.Registry.{holding_of, claim, by_owner, apply_op, bind};
 ghost use Rattle.std.specs.BTreeMap.{insert_entry};
 ghost use Rattle.rr_types.specs.declared.command.RequestNo.{RequestNo};
 ghost use Rattle.rr_registry.specs.Kept.{request_cmp, kept_reply, applied, applied_all};
 ghost use Rattle.rr_registry.specs.Places.{held};
-ghost use Rattle.rr_registry.specs.Tables.{bindings_in, kept_in, has_name_place, has_reply_place, has_op_place, has_places, name_of, IsCounted};
+ghost use Rattle.rr_registry.specs.Tables.{unbind, bindings_in, kept_in, has_name_place, has_reply_place, has_op_place, has_places, name_of, IsCounted};
 
 use crate::entries::Entries;
 use crate::holding::Holding;

@@ -11,8 +11,8 @@ use Rattle.rr_types.specs.declared.command.Command.{Command}
 use Rattle.rr_types.specs.declared.message.Message.{Message}
 use Rattle.rr_types.specs.declared.message.Body.{Body}
 use Rattle.rr_types.specs.declared.message.Body.TheVariants.{Estimate, Proposal, Ack, Decision, Request, Nack, Beat, Suspects, Ask}
-use Rattle.rr_types.specs.Nodes.{majority_of}
-use Rattle.rr_model.specs.Heard.{Says, HasMajority, count_below}
+use Rattle.rr_types.specs.Rounds.{majority_of}
+use Rattle.rr_model.specs.Lawful.{Says, HasMajority, count_below}
 use Rattle.rr_model.specs.Sound.{IsChosen, IsChosenList, IsDecidedList}
 use Rattle.rr_sim.specs.Chosen.{is_ack_of, has_acked, is_acked, chosen_by}
 

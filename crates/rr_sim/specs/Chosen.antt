@@ -5,8 +5,8 @@ use Rattle.rr_types.specs.declared.command.Command.{Command}
 use Rattle.rr_types.specs.declared.message.Body.{Body}
 use Rattle.rr_types.specs.declared.message.Body.TheVariants.{Estimate, Proposal, Ack, Decision, Request, Nack, Beat, Suspects, Ask}
 use Rattle.rr_types.specs.declared.message.Message.{Message}
-use Rattle.rr_types.specs.Nodes.{majority_of}
-use Rattle.rr_model.specs.Heard.{count_below}
+use Rattle.rr_types.specs.Rounds.{majority_of}
+use Rattle.rr_model.specs.Lawful.{count_below}
 
 -- whether a body acknowledges round r of instance i
 abbrev pub is_ack_of : ℕ → ℕ → Body → Bool

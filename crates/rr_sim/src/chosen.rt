@@ -1,7 +1,7 @@
 //! The decided list of a wire: the commands chosen for instance 0, 1 and on.
 
 ghost use Rattle.std.specs.Prelude.{◌≡◌, ℕ, ◌<◌, ◌↔◌, IsTrue, IfSome, IfNone, IfOk, IfErr, Option, None, Some};
-ghost use Rattle.rr_model.specs.Heard.{count_below};
+ghost use Rattle.rr_model.specs.Lawful.{count_below};
 ghost use Rattle.rr_model.specs.Sound.{IsChosen, IsChosenList, IsDecidedList};
 ghost use Rattle.rr_types.specs.declared.command.Command.{Command};
 ghost use Rattle.rr_sim.specs.Chosen.{is_ack_of, has_acked, is_acked, chosen_by};

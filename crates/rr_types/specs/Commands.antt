@@ -1,13 +1,9 @@
-use Rattle.std.specs.Prelude.{ℕ, Bool, true, false, if◌then◌else◌, ◌&&◌, ◌==◌, List, [], ◌∷◌}
+use Rattle.std.specs.Prelude.{Bool, false, ◌&&◌, ◌==◌}
 use Rattle.std.specs.Str.{bytes_eq}
-use Rattle.rr_types.specs.declared.command.RequestNo.{RequestNo}
 use Rattle.rr_types.specs.declared.command.Op.{Op}
 use Rattle.rr_types.specs.declared.command.Op.TheVariants.{Claim, Update, Release, Transfer}
 use Rattle.rr_types.specs.declared.command.Command.{Command}
-
--- whether two request numbers are one
-abbrev pub is_same_request : RequestNo → RequestNo → Bool
-is_same_request p q = p.client == q.client && p.seq == q.seq
+use Rattle.rr_types.specs.Registry.{is_same_request}
 
 -- whether two operations are one, with name, value and new owner
 abbrev pub is_same_op : Op → Op → Bool
@@ -31,8 +27,3 @@ is_same_op (Transfer m o) (Transfer n w) = bytes_eq m n && o == w
 -- whether two commands are one: request number and operation
 abbrev pub is_same_command : Command → Command → Bool
 is_same_command c d = is_same_request c.request d.request && is_same_op c.op d.op
-
--- whether the list has a command with this request number
-abbrev pub has_request : List Command → RequestNo → Bool
-has_request [] q = false
-has_request (c ∷ cs) q = if is_same_request c.request q then true else has_request cs q

@@ -1,5 +1,4 @@
 pub mod Commands
-pub mod Estimates
 pub mod Facts
 pub mod Groups
 pub mod Names
@@ -7,5 +6,6 @@ pub mod Nodes
 pub mod Promises
 pub mod Refusal
 pub mod Registry
+pub mod Rounds
 pub mod Short
 pub mod Standings

@@ -1,13 +1,5 @@
 use Rattle.std.specs.Prelude.{ℕ, ◌+◌, ◌-◌, ◌/◌, ◌%◌, ◌^◌, Bool, ◌==◌, if◌then◌else◌}
 
--- more than half of n nodes
-abbrev pub majority_of : ℕ → ℕ
-majority_of n = n / 2 + 1
-
--- the coordinator of round r among n nodes
-abbrev pub coordinator_of : ℕ → ℕ → ℕ
-coordinator_of r n = r % n
-
 -- whether a set of nodes has node p: the set is a number, in which node p is bit p
 abbrev pub has_member : ℕ → ℕ → Bool
 has_member set p = (set / 2 ^ p) % 2 == 1

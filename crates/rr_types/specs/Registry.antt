@@ -1,7 +1,8 @@
-use Rattle.std.specs.Prelude.{ℕ, ◌==◌, nat_lt, if◌then◌else◌, List, [], ◌∷◌, length, Option, None, Some}
+use Rattle.std.specs.Prelude.{ℕ, Bool, true, false, ◌&&◌, ◌==◌, nat_lt, if◌then◌else◌, List, [], ◌∷◌, length, Option, None, Some}
 use Rattle.std.specs.Ordering.{nat_cmp}
 use Rattle.std.specs.Cmp.Lexicographic.{slice_cmp}
 use Rattle.std.specs.Str.{bytes_eq}
+use Rattle.std.specs.List.{fold}
 use Rattle.std.specs.BTreeMap.{insert_entry}
 use Rattle.std.specs.Map.{lookup, remove_entry}
 use Rattle.rr_types.specs.declared.command.RequestNo.{RequestNo}
@@ -10,7 +11,6 @@ use Rattle.rr_types.specs.declared.command.Op.TheVariants.{Claim, Update, Releas
 use Rattle.rr_types.specs.declared.command.Command.{Command}
 use Rattle.rr_types.specs.declared.command.Reply.{Reply}
 use Rattle.rr_types.specs.declared.command.Reply.TheVariants.{Claimed, Updated, Released, Transferred, Taken, Unknown, NotOwner, Full}
-use Rattle.rr_types.specs.Commands.{is_same_request, has_request}
 
 -- who has a name, and its value
 pub record Holding : Type 0 where
@@ -29,10 +29,6 @@ holding_of m name = lookup (bytes_eq name) m
 abbrev pub bind : Bindings → List ℕ → ℕ → List ℕ → Bindings
 bind m name owner value = insert_entry (slice_cmp nat_cmp) m name (record { owner = owner; value = value })
 
--- the name free
-abbrev pub unbind : Bindings → List ℕ → Bindings
-unbind m name = remove_entry (bytes_eq name) m
-
 -- what a claim of a name does, where it is free and where somebody has it
 abbrev pub claim : Bindings → ℕ → List ℕ → List ℕ → Option Holding → Bindings × Reply
 claim m client name value None = if nat_lt (length m) 4096 then (bind m name client value, Claimed) else (m, Full)
@@ -47,12 +43,21 @@ by_owner m client (Some h) change = if h.owner == client then change h else (m, 
 abbrev pub apply_op : Bindings → ℕ → Op → Bindings × Reply
 apply_op m client (Claim name value) = claim m client name value (holding_of m name)
 apply_op m client (Update name value) = by_owner m client (holding_of m name) (λ h. (bind m name client value, Updated))
-apply_op m client (Release name) = by_owner m client (holding_of m name) (λ h. (unbind m name, Released))
+apply_op m client (Release name) = by_owner m client (holding_of m name) (λ h. (remove_entry (bytes_eq name) m, Released))
 apply_op m client (Transfer name owner) = by_owner m client (holding_of m name) (λ h. (bind m name owner h.value, Transferred))
 
 -- the registry step: the bindings after a command, and the reply to it
 abbrev pub apply : Bindings → Command → Bindings × Reply
 apply m c = apply_op m c.request.client c.op
+
+-- whether two request numbers are one
+abbrev pub is_same_request : RequestNo → RequestNo → Bool
+is_same_request p q = p.client == q.client && p.seq == q.seq
+
+-- whether the list has a command with this request number
+abbrev pub has_request : List Command → RequestNo → Bool
+has_request [] q = false
+has_request (c ∷ cs) q = if is_same_request c.request q then true else has_request cs q
 
 -- the list without each command whose request number stands earlier in it, or in seen
 abbrev pub firsts_beside : List Command → List Command → List Command
@@ -63,11 +68,6 @@ firsts_beside seen (c ∷ cs) = if has_request seen c.request then firsts_beside
 abbrev pub firsts : List Command → List Command
 firsts cs = firsts_beside [] cs
 
--- the bindings after these commands
-abbrev pub bindings_after : Bindings → List Command → Bindings
-bindings_after m [] = m
-bindings_after m (c ∷ cs) = bindings_after (apply m c).0 cs
-
 -- the reply to the first command with this request number
 abbrev pub reply_after : Bindings → List Command → RequestNo → Option Reply
 reply_after m [] q = None
@@ -75,7 +75,7 @@ reply_after m (c ∷ cs) q = if is_same_request c.request q then Some (apply m c
 
 -- the registry of a list of commands: each request number is applied once
 abbrev pub registry_of : List Command → Bindings
-registry_of cs = bindings_after [] (firsts cs)
+registry_of cs = fold (λ m c. (apply m c).0) [] (firsts cs)
 
 -- the list's reply to a request
 abbrev pub reply_of : List Command → RequestNo → Option Reply

@@ -1,7 +1,8 @@
 //! Commands of the registry, and its replies.
 
 ghost use Rattle.std.specs.Prelude.{◌≡◌};
-ghost use Rattle.rr_types.specs.Commands.{is_same_request, is_same_op, is_same_command};
+ghost use Rattle.rr_types.specs.Registry.{is_same_request};
+ghost use Rattle.rr_types.specs.Commands.{is_same_op, is_same_command};
 
 use crate::name::{Name, Value};
 

@@ -20,7 +20,7 @@ pub struct Estimate {
 
 impl Model for Estimate {
     ghost use Rattle.std.specs.Prelude.{◌<◌, ◌≤◌};
-    ghost use Rattle.rr_types.specs.Estimates.{Estimated};
+    ghost use Rattle.rr_types.specs.Rounds.{Estimated};
 
     ghost Value = { Estimated };
 

@@ -1,7 +1,8 @@
 //! Nodes, sets of nodes, majorities and coordinators.
 
 ghost use Rattle.std.specs.Prelude.{◌≡◌, ◌^◌, ◌<◌, ◌≤◌, ◌↔◌, ◌⊎◌, IsOk, IfOk, IsErrOf, IsSome, IfSome};
-ghost use Rattle.rr_types.specs.Nodes.{majority_of, coordinator_of, has_member, with_member, without_member};
+ghost use Rattle.rr_types.specs.Rounds.{majority_of, coordinator_of};
+ghost use Rattle.rr_types.specs.Nodes.{has_member, with_member, without_member};
 
 use crate::refusal::Refusal;
 use crate::round::Round;

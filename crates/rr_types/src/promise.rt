@@ -19,7 +19,7 @@ pub struct OpenStanding {
 
 impl Model for OpenStanding {
     ghost use Rattle.std.specs.Prelude.{◌≤◌};
-    ghost use Rattle.rr_types.specs.Standings.{OpenAt};
+    ghost use Rattle.rr_types.specs.Rounds.{OpenAt};
 
     ghost Value = { OpenAt };
 

@@ -1,6 +1,6 @@
 use Rattle.rr_model.proofs.Laws.{beginning_is_a_run, chosen_stays_chosen, decided_list_grows, kept_facts_are_never_lost, rounds_rise_over_restarts as rounds_rise, acknowledgement_binds_estimates, later_proposals_are_locked as proposals_are_locked}
-use Rattle.rr_model.specs.Runs.{end_of}
-use Rattle.rr_model.specs.World.{settled}
+use Rattle.rr_model.specs.World.{end_of}
+use Rattle.rr_model.specs.Laws.{settled}
 use Rattle.rr_model.proofs.Soundness.{invariant_of}
 use Rattle.rr_model.proofs.Invariants.{all_said, settled_history}
 use Rattle.rr_model.proofs.Promised.{history_fits}

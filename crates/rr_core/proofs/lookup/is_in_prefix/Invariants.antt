@@ -1,5 +1,5 @@
 use Rattle.std.proofs.Common.{◌≡◌, drop}
-use Rattle.rr_types.specs.Commands.{has_request}
+use Rattle.rr_types.specs.Registry.{has_request}
 use Rattle.rr_model.specs.NodeState.{decided_from}
 use Rattle.rr_core.proofs.lookup.is_in_prefix.Given as goal
 

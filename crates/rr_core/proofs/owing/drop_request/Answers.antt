@@ -1,7 +1,7 @@
 use Rattle.std.specs.Prelude.{not}
 use Rattle.std.proofs.Common.{rules}
 use Rattle.std.proofs.lemmas.Fn.{filter_same}
-use Rattle.rr_types.specs.Commands.{is_same_request}
+use Rattle.rr_types.specs.Registry.{is_same_request}
 use Rattle.rr_core.proofs.owing.drop_request.Goals as goal
 
 pub returns : goal.returns

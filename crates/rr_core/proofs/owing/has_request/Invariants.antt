@@ -1,5 +1,5 @@
 use Rattle.std.proofs.Common.{◌≡◌, drop}
-use Rattle.rr_types.specs.Commands.{has_request}
+use Rattle.rr_types.specs.Registry.{has_request}
 use Rattle.rr_core.proofs.owing.has_request.Given as goal
 
 abbrev pub invariant-loop-command : goal.invariant-loop-command

@@ -1,5 +1,5 @@
 use Rattle.std.proofs.Common.{◌≡◌, ◌++◌, take, drop}
-use Rattle.rr_types.specs.Facts.{set_entry}
+use Rattle.rr_types.specs.Promises.{set_entry}
 use Rattle.rr_core.proofs.promise.entry_place.Given as goal
 
 abbrev pub invariant-loop-at : goal.invariant-loop-at

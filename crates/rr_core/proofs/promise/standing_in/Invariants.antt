@@ -1,5 +1,5 @@
 use Rattle.std.proofs.Common.{◌≡◌, drop}
-use Rattle.rr_types.specs.Facts.{standing_in}
+use Rattle.rr_types.specs.Promises.{standing_in}
 use Rattle.rr_core.proofs.promise.standing_in.Given as goal
 
 abbrev pub invariant-loop-entry : goal.invariant-loop-entry

@@ -1,5 +1,5 @@
 use Rattle.std.proofs.Common.{◌≡◌, drop}
-use Rattle.rr_types.specs.Facts.{take_on_all}
+use Rattle.rr_types.specs.Promises.{take_on_all}
 use Rattle.rr_core.specs.Rounds.{AllInRound}
 use Rattle.rr_core.proofs.promise.take_on_all.Given as goal
 

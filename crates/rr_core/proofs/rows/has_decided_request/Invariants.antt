@@ -1,7 +1,7 @@
 use Rattle.std.proofs.Common.{◌≡◌, false, drop}
 use Rattle.std.specs.Option.{option_map_or}
 use Rattle.std.specs.List.{list_any}
-use Rattle.rr_types.specs.Commands.{is_same_request}
+use Rattle.rr_types.specs.Registry.{is_same_request}
 use Rattle.rr_model.specs.NodeState.{decided_command}
 use Rattle.rr_core.proofs.rows.has_decided_request.Given as goal
 

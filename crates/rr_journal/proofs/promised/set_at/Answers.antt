@@ -1,5 +1,5 @@
 use Rattle.std.proofs.Common.{◌≡◌, ◌<◌, length, ◌∙◌, refl, sym, arith, rules}
-use Rattle.rr_types.specs.Facts.{set_entry}
+use Rattle.rr_types.specs.Promises.{set_entry}
 use Rattle.rr_journal.proofs.PlaceLemmas.{set_there, put_there, ascends_set, is_at-within}
 use Rattle.rr_journal.proofs.promised.set_at.Goals as goal
 

@@ -1,6 +1,5 @@
 use Rattle.std.proofs.Common.{◌≡◌, drop}
-use Rattle.rr_types.specs.Promises.{IsAscending}
-use Rattle.rr_types.specs.Facts.{all_fit, take_on_all}
+use Rattle.rr_types.specs.Promises.{IsAscending, all_fit, take_on_all}
 use Rattle.rr_journal.proofs.promised.take_on_all.Given as goal
 
 abbrev pub invariant-loop-fact : goal.invariant-loop-fact

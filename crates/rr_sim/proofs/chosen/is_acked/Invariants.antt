@@ -1,5 +1,5 @@
 use Rattle.std.proofs.Common.{◌≡◌, ◌≤◌}
-use Rattle.rr_model.specs.Heard.{count_below}
+use Rattle.rr_model.specs.Lawful.{count_below}
 use Rattle.rr_sim.specs.Chosen.{has_acked}
 use Rattle.rr_sim.proofs.chosen.is_acked.Given as goal
 

@@ -1,6 +1,6 @@
 use Rattle.std.proofs.Common.{◌≡◌, nat_lt, drop}
 use Rattle.std.specs.Prelude.{find}
-use Rattle.rr_types.specs.Facts.{round_of}
+use Rattle.rr_types.specs.Standings.{round_of}
 use Rattle.rr_model.specs.NodeState.{standing_at}
 use Rattle.rr_core.proofs.state.State.first_in_round.Given as goal
 

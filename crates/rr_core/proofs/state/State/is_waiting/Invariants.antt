@@ -1,6 +1,6 @@
 use Rattle.std.proofs.Common.{◌≡◌, drop}
 use Rattle.std.specs.List.{list_any}
-use Rattle.rr_types.specs.Commands.{is_same_request}
+use Rattle.rr_types.specs.Registry.{is_same_request}
 use Rattle.rr_core.proofs.state.State.is_waiting.Given as goal
 
 abbrev pub invariant-loop-waiting : goal.invariant-loop-waiting
