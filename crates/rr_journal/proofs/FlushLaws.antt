@@ -5,7 +5,9 @@ use Rattle.std.proofs.lemmas.List.{append_assoc, take_at, drop_at, take-append-d
 use Rattle.rr_types.specs.declared.fact.Fact.{Fact}
 use Rattle.rr_types.specs.declared.promise.Entry.{Entry}
 use Rattle.rr_types.specs.Groups.{Grouped}
-use Rattle.rr_types.specs.Facts.{fits, standing_in, instance_of, take_on, take_on_all, promise_of, all_fit}
+use Rattle.rr_types.specs.Standings.{fits}
+use Rattle.rr_types.specs.Promises.{standing_in, take_on, take_on_all, promise_of, all_fit}
+use Rattle.rr_types.specs.Facts.{instance_of}
 use Rattle.rr_disk.specs.declared.area.Area.{Area}
 use Rattle.rr_disk.specs.Crash.{Images}
 use Rattle.rr_frame.specs.Numbers.{number_bytes}

@@ -3,7 +3,7 @@ use Rattle.std.proofs.Common.{◌≡◌, ℕ, ◌-◌, ◌^◌, ◌<◌, ◌≤�
 use Rattle.std.proofs.lemmas.List.{append-nil, length-map}
 use Rattle.rr_types.specs.declared.fact.Fact.{Fact}
 use Rattle.rr_types.specs.declared.promise.Entry.{Entry}
-use Rattle.rr_types.specs.Facts.{promise_of}
+use Rattle.rr_types.specs.Promises.{promise_of}
 use Rattle.rr_disk.specs.declared.area.Area.TheVariants.{First, Second}
 use Rattle.rr_disk.specs.Areas.{Extent, Areas, Torn, extent_of, replaced, read_of, written, synced, at_rest, firm_cell}
 use Rattle.rr_disk.specs.Crash.{Images, IsCrashImage, restarted}

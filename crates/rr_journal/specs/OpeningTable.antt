@@ -2,7 +2,7 @@
 use Rattle.std.specs.Prelude.{◌≡◌, ℕ, ◌-◌, ◌^◌, ◌<◌, true, List, [], ◌∷◌, length, Result, Ok, Err}
 use Rattle.rr_types.specs.declared.fact.Fact.{Fact}
 use Rattle.rr_types.specs.declared.refusal.Refusal.{Refusal}
-use Rattle.rr_types.specs.Facts.{promise_of}
+use Rattle.rr_types.specs.Promises.{promise_of}
 use Rattle.rr_disk.specs.declared.area.Area.TheVariants.{First}
 use Rattle.rr_disk.specs.Areas.{Areas, IsTorn, extent_of, bytes_of, read_of, synced}
 use Rattle.rr_disk.specs.Crash.{Images, restarted}

@@ -3,7 +3,7 @@
 ghost use Rattle.std.specs.Prelude.{◌≡◌, ◌⊎◌, ◌+◌, ◌^◌, ◌<◌, ◌≤◌, [], ◌++◌, List, true, false, nat_lt, length, IfOk, IfErr, Some};
 ghost use Rattle.rr_types.specs.declared.fact.Fact.{Fact};
 ghost use Rattle.rr_types.specs.declared.refusal.Refusal.TheVariants.{OutOfMemory, Failed, Busy, TooLarge};
-ghost use Rattle.rr_types.specs.Facts.{all_fit};
+ghost use Rattle.rr_types.specs.Promises.{all_fit};
 ghost use Rattle.rr_disk.specs.Crash.{Images, restarted};
 ghost use Rattle.rr_frame.specs.GroupFormat.{group_bytes};
 ghost use Rattle.rr_gate.specs.Moments.{IsAt, body_due, with_group};

@@ -12,10 +12,11 @@ use Rattle.rr_types.specs.declared.message.Body.TheVariants.{Estimate, Proposal,
 use Rattle.rr_types.specs.declared.promise.Standing.{Standing}
 use Rattle.rr_types.specs.declared.promise.Standing.TheVariants.{Decided, Open}
 use Rattle.rr_types.specs.declared.promise.Entry.{Entry}
-use Rattle.rr_types.specs.Commands.{has_request}
-use Rattle.rr_types.specs.Estimates.{Estimated}
-use Rattle.rr_types.specs.Nodes.{coordinator_of, with_member}
-use Rattle.rr_types.specs.Facts.{is_undecided, decision_of, round_of, stamp_of}
+use Rattle.rr_types.specs.Registry.{has_request}
+use Rattle.rr_types.specs.Rounds.{Estimated, coordinator_of}
+use Rattle.rr_types.specs.Nodes.{with_member}
+use Rattle.rr_types.specs.Standings.{is_undecided, round_of, stamp_of}
+use Rattle.rr_types.specs.Facts.{decision_of}
 use Rattle.rr_model.specs.NodeState.{NodeState, Row, Tally, ◌▷◌, next_number, everyone, others, row_of, put_row, standing_at, open_instances, is_open, first_undecided, is_decided_request, decided_prefix}
 use Rattle.rr_model.specs.NodeDetector.{all_ticked, late_nodes}
 use Rattle.rr_model.specs.NodeParts.{owe, pool_add, stage, backing_at, leave_round, enter_with, entering_estimate, enter, restate, restate_all, conclude, propose}

@@ -1,5 +1,5 @@
 use Rattle.std.proofs.Common.{◌≡◌, inr, refl, sym, subst, Ok, ℕ, length, false, Vec, Global}
-use Rattle.rr_types.specs.Facts.{promise_of}
+use Rattle.rr_types.specs.Promises.{promise_of}
 use Rattle.rr_disk.specs.Crash.{Images, restarted}
 use Rattle.rr_gate.specs.Moments.{EachHolds}
 use Rattle.rr_journal.specs.declared.journal.Journal.{Journal}
