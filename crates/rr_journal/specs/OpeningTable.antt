@@ -1,11 +1,11 @@
 -- What stands on a disk in each phase of an opening, and what a crash may leave then.
-use Rattle.std.specs.Prelude.{◌≡◌, ℕ, ◌-◌, ◌^◌, ◌<◌, true, List, [], ◌∷◌, length, Result, Ok, Err}
+use Rattle.std.specs.Prelude.{◌≡◌, ◌⊎◌, ℕ, ◌-◌, ◌^◌, ◌<◌, true, List, [], ◌∷◌, length, Result, Ok, Err}
 use Rattle.rr_types.specs.declared.fact.Fact.{Fact}
 use Rattle.rr_types.specs.declared.refusal.Refusal.{Refusal}
 use Rattle.rr_types.specs.Facts.{promise_of}
 use Rattle.rr_disk.specs.declared.area.Area.TheVariants.{First}
 use Rattle.rr_disk.specs.Areas.{Areas, IsTorn, extent_of, bytes_of, read_of, synced}
-use Rattle.rr_disk.specs.Crash.{Images, restarted}
+use Rattle.rr_disk.specs.Crash.{Images, IsCrashImage, restarted}
 use Rattle.rr_frame.specs.Snapshots.{Snapped}
 use Rattle.rr_frame.specs.SnapshotFormat.{snapshot_bytes, IsLawfulSnapshot}
 use Rattle.rr_gate.specs.Flushes.{Flush}
@@ -98,6 +98,10 @@ abbrev pub ComesTo : {D : Type 0} → (D → Areas) → List Fact → code_3.Pro
 ComesTo areas facts (progress.More opening) = OpensWith opening.nodes opening.node facts opening.phase (areas opening.disk)
 ComesTo areas facts (progress.Done journal promise number) =
     ((start : Images) × (areas journal.disk ≡ restarted start) × IsOver journal start facts) × (promise ≡ promise_of facts) × (number ≡ length facts)
+
+-- every image that a crash may leave is one that it might have left before, or holds these facts
+abbrev pub EachKept : (Images → List Fact → Type 0) → List Fact → Areas → Areas → Type 0
+EachKept holds facts old new = (images : Images) → IsCrashImage new images → IsCrashImage old images ⊎ holds images facts
 
 -- the disk behind a step, whatever it answered
 abbrev pub disk_after : {D : Type 0} → Result (code_3.Progress D) (Refusal × D) → D
