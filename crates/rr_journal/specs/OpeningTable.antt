@@ -5,11 +5,11 @@ use Rattle.rr_types.specs.declared.refusal.Refusal.{Refusal}
 use Rattle.rr_types.specs.Facts.{promise_of}
 use Rattle.rr_disk.specs.declared.area.Area.TheVariants.{First}
 use Rattle.rr_disk.specs.Areas.{Areas, IsTorn, extent_of, bytes_of, read_of, synced}
-use Rattle.rr_disk.specs.Crash.{Images, IsCrashImage, restarted}
+use Rattle.rr_disk.specs.Crash.{Images, restarted}
 use Rattle.rr_frame.specs.Snapshots.{Snapped}
 use Rattle.rr_frame.specs.SnapshotFormat.{snapshot_bytes, IsLawfulSnapshot}
 use Rattle.rr_gate.specs.Flushes.{Flush}
-use Rattle.rr_gate.specs.Moments.{IsAt, body_due, body_out, body_safe, gate_set}
+use Rattle.rr_gate.specs.Moments.{IsAt, EachHolds, body_due, body_out, body_safe, gate_set}
 use Rattle.rr_journal.specs.declared.opening.Phase as code
 use Rattle.rr_journal.specs.declared.opening.Phase.TheVariants as at
 use Rattle.rr_journal.specs.declared.opening.Next as code_2
@@ -99,9 +99,9 @@ ComesTo areas facts (progress.More opening) = OpensWith opening.nodes opening.no
 ComesTo areas facts (progress.Done journal promise number) =
     ((start : Images) × (areas journal.disk ≡ restarted start) × IsOver journal start facts) × (promise ≡ promise_of facts) × (number ≡ length facts)
 
--- every image that a crash may leave is one that it might have left before, or holds these facts
-abbrev pub EachKept : (Images → List Fact → Type 0) → List Fact → Areas → Areas → Type 0
-EachKept holds facts old new = (images : Images) → IsCrashImage new images → IsCrashImage old images ⊎ holds images facts
+-- both areas are as they were, or every image that a crash may leave holds these facts
+abbrev pub IsKept : (Images → List Fact → Type 0) → List Fact → Areas → Areas → Type 0
+IsKept holds facts old new = (new ≡ old) ⊎ EachHolds holds new facts
 
 -- the disk behind a step, whatever it answered
 abbrev pub disk_after : {D : Type 0} → Result (code_3.Progress D) (Refusal × D) → D

@@ -10,7 +10,7 @@ ghost use Rattle.rr_journal.specs.Image.{found};
 ghost use Rattle.rr_journal.specs.Openings.{Done, Refused, due_call, after_found, after_opening_call};
 ghost use Rattle.rr_journal.specs.Phases.{phase_of, Follows};
 ghost use Rattle.rr_journal.specs.OpeningSteps.{Steps};
-ghost use Rattle.rr_journal.specs.OpeningTable.{IsReadBy, IsLeftBy, Rests, contents, OpensWith, GoesOnWith, ComesTo, EachKept, disk_after};
+ghost use Rattle.rr_journal.specs.OpeningTable.{IsReadBy, IsLeftBy, Rests, contents, OpensWith, GoesOnWith, ComesTo, IsKept, disk_after};
 ghost use Rattle.rr_journal.specs.Journals.{Holds};
 
 use crate::image::{Image, read_image};
@@ -96,7 +96,7 @@ impl<D: Disk> Opening<D> {
         ensures undamaged { D.tells self.disk → (facts : List Fact) → OpensWith self.nodes self.node facts self.phase (D.areas self.disk)
             → IfErr result (λ r. (r.0 ≡ OutOfMemory) ⊎ (r.0 ≡ Device)) }
         ensures kept { D.tells self.disk → (facts : List Fact) → OpensWith self.nodes self.node facts self.phase (D.areas self.disk)
-            → EachKept (Holds self.nodes self.node) facts (D.areas self.disk) (D.areas (disk_after result)) }
+            → IsKept (Holds self.nodes self.node) facts (D.areas self.disk) (D.areas (disk_after result)) }
     {
         let Opening {
             mut disk,

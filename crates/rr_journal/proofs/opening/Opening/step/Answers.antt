@@ -3,7 +3,7 @@ use Rattle.rr_types.specs.Facts.{promise_of}
 use Rattle.rr_disk.specs.Crash.{Images, restarted}
 use Rattle.rr_journal.specs.declared.journal.Journal.{Journal}
 use Rattle.rr_journal.specs.declared.opening.Next.{Next}
-use Rattle.rr_journal.specs.OpeningTable.{GoesOnWith, EachKept}
+use Rattle.rr_journal.specs.OpeningTable.{GoesOnWith, IsKept}
 use Rattle.rr_journal.specs.Openings.{Done, Opens, due_call, after_opening_call}
 use Rattle.rr_journal.specs.Journals.{Holds, IsOver}
 use Rattle.rr_journal.specs.Phases.{Follows, phase_of}
@@ -66,6 +66,6 @@ returns-in-Ok-Open-clause-table g c tells facts opens =
 pub returns-in-Ok-Open-clause-kept : goal.returns-in-Ok-Open-clause-kept
 returns-in-Ok-Open-clause-kept g c tells facts opens =
     subst
-    (λ (j : Journal g.row.D.Denot). EachKept (Holds c.args.self.nodes c.args.self.node) facts (g.D.Disk.areas c.args.self.disk) (g.D.Disk.areas j.disk))
+    (λ (j : Journal g.row.D.Denot). IsKept (Holds c.args.self.nodes c.args.self.node) facts (g.D.Disk.areas c.args.self.disk) (g.D.Disk.areas j.disk))
     (sym c.new.ensures)
     (kept c.args.self.nodes c.args.self.node facts _ _ c.args.self.phase opens (c.in-Ok.ensures.areas tells))
