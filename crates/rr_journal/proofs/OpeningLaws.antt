@@ -21,7 +21,7 @@ use Rattle.rr_journal.specs.Image.{Content, Found, Unformatted, Active, found}
 use Rattle.rr_journal.specs.Journals.{StandsFor, Holds, IsOver}
 use Rattle.rr_journal.specs.Openings.{formatted, due_call}
 use Rattle.rr_journal.specs.Phases.{phase_of}
-use Rattle.rr_journal.specs.OpeningTable.{IsReadBy, IsLeftBy, Rests, first_snapshot, formatting, IsBlank, Formats, gate_written, Closes, OpensWith}
+use Rattle.rr_journal.specs.OpeningTable.{IsReadBy, IsLeftBy, Rests, first_snapshot, formatting, IsBlank, Formats, gate_written, Closes, OpensWith, IsKept}
 use Rattle.rr_journal.proofs.FlushLaws.{opened}
 use Rattle.rr_journal.proofs.FormatLaws.{short_blank, close_short, open_at_front, blanks, both_blank, still_held, holds_formatted, found_formatted, format_grounded, gate_closed, closed_fresh, close_grounded}
 use Rattle.rr_journal.proofs.ImageLaws.{read_whole}
@@ -116,9 +116,6 @@ module _ (n p : ℕ) (facts : List Fact) (both : Areas) (rests : Rests n p facts
 
 -- ---- what a crash may leave
 
-same_held : (holds : Images → List Fact → Type 0) (facts : List Fact) (old new : Areas) → EachHolds holds old facts → new ≡ old → EachHolds holds new facts
-same_held holds facts old new held same images is = held images (subst (λ (b : Areas). IsCrashImage b images) same is)
-
 -- the group of no facts adds none
 either_held : (holds : Images → List Fact → Type 0) (facts : List Fact) (both : Areas) → EachHoldsEither holds both facts [] → EachHolds holds both facts
 either_held holds facts both held images is = by_either (held images is)
@@ -150,34 +147,34 @@ closing_images n p facts start fresh due extent torn images is =
 written_torn : (start : Images) → Torn 0 1 (at_rest start.of_first) (written 0 (0 ∷ []) (at_rest start.of_first))
 written_torn start = torn_written 0 (0 ∷ []) (at_rest start.of_first) (omega arith)
 
-module _ (n p : ℕ) (facts : List Fact) (old new : Areas) (held : EachHolds (Holds n p) old facts) where
-  -- a device call that succeeded leaves the facts
-  pub kept : (phase : Phase) → OpensWith n p facts phase old → new ≡ after_call (due_call (phase_of phase)) old → EachHolds (Holds n p) new facts
-  kept at.Settling opens after = rest_held n p facts opens.start new (after ∙ opens.stands) opens.holds
-  kept at.ReadingFirst opens after = same_held (Holds n p) facts old new held after
-  kept (at.ReadingSecond first) opens after = same_held (Holds n p) facts old new held after
+module _ (n p : ℕ) (facts : List Fact) (old new : Areas) where
+  -- a device call that succeeded keeps the facts
+  pub kept : (phase : Phase) → OpensWith n p facts phase old → new ≡ after_call (due_call (phase_of phase)) old → IsKept (Holds n p) facts old new
+  kept at.Settling opens after = inr (rest_held n p facts opens.start new (after ∙ opens.stands) opens.holds)
+  kept at.ReadingFirst opens after = inl after
+  kept (at.ReadingSecond first) opens after = inl after
   kept (at.Closing body) opens after =
       let next = closing n p facts old new [] opens.1 after in
-      λ images is. closing_images n p facts next.start next.fresh next.due (written 0 (0 ∷ []) (at_rest next.start.of_first)) (written_torn next.start) images (subst (λ (b : Areas). IsCrashImage b images) next.stands is)
-  kept (at.SettlingClosed body) opens after = let next = closed n p facts old new [] opens.1 after in due_holds (Holds n p) (formatting n p) next.start facts new next.stands
-  kept (at.WritingBody body) opens after = let next = body_written_on n p facts old new [] body.items opens.0 opens.1 after in out_holds (Holds n p) (formatting n p) next.start facts new next.stands
-  kept at.SettlingBody opens after = let next = body_settled n p facts old new [] opens after in safe_holds (Holds n p) (formatting n p) next.start facts new next.stands
-  kept at.OpeningGate opens after = let next = gate_opened_on n p facts old new [] opens after in either_held (Holds n p) facts new (set_holds (Holds n p) (formatting n p) next.start facts new next.stands)
-  kept at.SettlingGate opens after = let end = gate_settled n p facts old new [] opens after in rest_held n p facts end.0 new end.1 end.2
+      inr (λ images is. closing_images n p facts next.start next.fresh next.due (written 0 (0 ∷ []) (at_rest next.start.of_first)) (written_torn next.start) images (subst (λ (b : Areas). IsCrashImage b images) next.stands is))
+  kept (at.SettlingClosed body) opens after = let next = closed n p facts old new [] opens.1 after in inr (due_holds (Holds n p) (formatting n p) next.start facts new next.stands)
+  kept (at.WritingBody body) opens after = let next = body_written_on n p facts old new [] body.items opens.0 opens.1 after in inr (out_holds (Holds n p) (formatting n p) next.start facts new next.stands)
+  kept at.SettlingBody opens after = let next = body_settled n p facts old new [] opens after in inr (safe_holds (Holds n p) (formatting n p) next.start facts new next.stands)
+  kept at.OpeningGate opens after = let next = gate_opened_on n p facts old new [] opens after in inr (either_held (Holds n p) facts new (set_holds (Holds n p) (formatting n p) next.start facts new next.stands))
+  kept at.SettlingGate opens after = let end = gate_settled n p facts old new [] opens after in inr (rest_held n p facts end.0 new end.1 end.2)
 
   -- and so does one that failed
-  pub kept_failed : (phase : Phase) → OpensWith n p facts phase old → IsLeftBy (due_call (phase_of phase)) old new → EachHolds (Holds n p) new facts
-  kept_failed at.Settling opens left = same_held (Holds n p) facts old new held left
-  kept_failed at.ReadingFirst opens left = same_held (Holds n p) facts old new held left
-  kept_failed (at.ReadingSecond first) opens left = same_held (Holds n p) facts old new held left
+  pub kept_failed : (phase : Phase) → OpensWith n p facts phase old → IsLeftBy (due_call (phase_of phase)) old new → IsKept (Holds n p) facts old new
+  kept_failed at.Settling opens left = inl left
+  kept_failed at.ReadingFirst opens left = inl left
+  kept_failed (at.ReadingSecond first) opens left = inl left
   kept_failed (at.Closing body) opens left =
       let closes = opens.1 in
       let was : extent_of old First ≡ at_rest closes.start.of_first = ap (λ (b : Areas). extent_of b First) closes.stands in
       let torn : Torn 0 1 (at_rest closes.start.of_first) (extent_of new First) = subst (λ (e : Extent). Torn 0 1 e (extent_of new First)) was left.0 in
-      λ images is. closing_images n p facts closes.start closes.fresh closes.due (extent_of new First) torn images
-      (subst (λ (b : Areas). IsCrashImage b images) (left.1 ∙ ap (λ (b : Areas). replaced b First (extent_of new First)) closes.stands) is)
-  kept_failed (at.SettlingClosed body) opens left = same_held (Holds n p) facts old new held left
-  kept_failed (at.WritingBody body) opens left = body_refused (Holds n p) (formatting n p) opens.1.start facts old new (length body.items) opens.1.stands (inr left)
-  kept_failed at.SettlingBody opens left = same_held (Holds n p) facts old new held left
-  kept_failed at.OpeningGate opens left = either_held (Holds n p) facts new (gate_refused (Holds n p) (formatting n p) opens.start facts old new opens.stands (inr left))
-  kept_failed at.SettlingGate opens left = same_held (Holds n p) facts old new held left
+      inr (λ images is. closing_images n p facts closes.start closes.fresh closes.due (extent_of new First) torn images
+      (subst (λ (b : Areas). IsCrashImage b images) (left.1 ∙ ap (λ (b : Areas). replaced b First (extent_of new First)) closes.stands) is))
+  kept_failed (at.SettlingClosed body) opens left = inl left
+  kept_failed (at.WritingBody body) opens left = inr (body_refused (Holds n p) (formatting n p) opens.1.start facts old new (length body.items) opens.1.stands (inr left))
+  kept_failed at.SettlingBody opens left = inl left
+  kept_failed at.OpeningGate opens left = inr (either_held (Holds n p) facts new (gate_refused (Holds n p) (formatting n p) opens.start facts old new opens.stands (inr left)))
+  kept_failed at.SettlingGate opens left = inl left

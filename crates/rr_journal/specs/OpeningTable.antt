@@ -1,5 +1,5 @@
 -- What stands on a disk in each phase of an opening, and what a crash may leave then.
-use Rattle.std.specs.Prelude.{◌≡◌, ℕ, ◌-◌, ◌^◌, ◌<◌, true, List, [], ◌∷◌, length, Result, Ok, Err}
+use Rattle.std.specs.Prelude.{◌≡◌, ◌⊎◌, ℕ, ◌-◌, ◌^◌, ◌<◌, true, List, [], ◌∷◌, length, Result, Ok, Err}
 use Rattle.rr_types.specs.declared.fact.Fact.{Fact}
 use Rattle.rr_types.specs.declared.refusal.Refusal.{Refusal}
 use Rattle.rr_types.specs.Promises.{promise_of}
@@ -9,7 +9,7 @@ use Rattle.rr_disk.specs.Crash.{Images, restarted}
 use Rattle.rr_frame.specs.Snapshots.{Snapped}
 use Rattle.rr_frame.specs.SnapshotFormat.{snapshot_bytes, IsLawfulSnapshot}
 use Rattle.rr_gate.specs.Flushes.{Flush}
-use Rattle.rr_gate.specs.Moments.{IsAt, body_due, body_out, body_safe, gate_set}
+use Rattle.rr_gate.specs.Moments.{IsAt, EachHolds, body_due, body_out, body_safe, gate_set}
 use Rattle.rr_journal.specs.declared.opening.Phase as code
 use Rattle.rr_journal.specs.declared.opening.Phase.TheVariants as at
 use Rattle.rr_journal.specs.declared.opening.Next as code_2
@@ -98,6 +98,10 @@ abbrev pub ComesTo : {D : Type 0} → (D → Areas) → List Fact → code_3.Pro
 ComesTo areas facts (progress.More opening) = OpensWith opening.nodes opening.node facts opening.phase (areas opening.disk)
 ComesTo areas facts (progress.Done journal promise number) =
     ((start : Images) × (areas journal.disk ≡ restarted start) × IsOver journal start facts) × (promise ≡ promise_of facts) × (number ≡ length facts)
+
+-- both areas are as they were, or every image that a crash may leave holds these facts
+abbrev pub IsKept : (Images → List Fact → Type 0) → List Fact → Areas → Areas → Type 0
+IsKept holds facts old new = (new ≡ old) ⊎ EachHolds holds new facts
 
 -- the disk behind a step, whatever it answered
 abbrev pub disk_after : {D : Type 0} → Result (code_3.Progress D) (Refusal × D) → D

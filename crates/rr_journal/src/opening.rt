@@ -6,13 +6,12 @@ ghost use Rattle.rr_types.specs.declared.refusal.Refusal.TheVariants.{OutOfMemor
 ghost use Rattle.rr_disk.specs.Areas.{Areas};
 ghost use Rattle.rr_disk.specs.Failing.{FailingRead, FailingWrite, FailingSync};
 ghost use Rattle.rr_frame.specs.SnapshotFormat.{snapshot_bytes, IsLawfulSnapshot};
-ghost use Rattle.rr_gate.specs.Moments.{EachHolds};
 ghost use Rattle.rr_journal.specs.Calls.{must_close, frame_bytes, after_call};
 ghost use Rattle.rr_journal.specs.Image.{found};
 ghost use Rattle.rr_journal.specs.Openings.{Settling, ReadingSecond, Done, Refused, due_call, after_found, after_opening_call};
 ghost use Rattle.rr_journal.specs.Phases.{phase_of, Follows};
 ghost use Rattle.rr_journal.specs.OpeningSteps.{Steps};
-ghost use Rattle.rr_journal.specs.OpeningTable.{IsReadBy, IsLeftBy, Rests, contents, OpensWith, GoesOnWith, ComesTo, disk_after};
+ghost use Rattle.rr_journal.specs.OpeningTable.{IsReadBy, IsLeftBy, Rests, contents, OpensWith, GoesOnWith, ComesTo, IsKept, disk_after};
 ghost use Rattle.rr_journal.specs.Journals.{Holds};
 
 use crate::image::{Image, read_image};
@@ -91,7 +90,7 @@ impl<D: Disk> Opening<D> {
     }
 
     /// Makes the next device call. A refused opening hands its disk back.
-    /// Errors: `OutOfMemory`, `Device`, `Damaged`.
+    /// Errors: `OutOfMemory`, `Device`; `Damaged`, of a disk that holds no facts.
     pub fn step(self, alloc: Global) -> Result<Progress<D>, (Refusal, D)>
         ensures exact { Steps D.read_gives D.write_gives D.sync_gives self result }
         ensures tells { D.tells self.disk → D.tells (disk_after result) }
@@ -100,8 +99,7 @@ impl<D: Disk> Opening<D> {
         ensures undamaged { D.tells self.disk → (facts : List Fact) → OpensWith self.nodes self.node facts self.phase (D.areas self.disk)
             → IfErr result (λ r. (r.0 ≡ OutOfMemory) ⊎ (r.0 ≡ Device)) }
         ensures kept { D.tells self.disk → (facts : List Fact) → OpensWith self.nodes self.node facts self.phase (D.areas self.disk)
-            → EachHolds (Holds self.nodes self.node) (D.areas self.disk) facts
-            → EachHolds (Holds self.nodes self.node) (D.areas (disk_after result)) facts }
+            → IsKept (Holds self.nodes self.node) facts (D.areas self.disk) (D.areas (disk_after result)) }
     {
         let Opening {
             mut disk,

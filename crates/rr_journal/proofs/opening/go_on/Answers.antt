@@ -29,8 +29,8 @@ returns-in-ReadingSecond-clause-undamaged c facts old =
     (λ (q : Phase). OpensWith c.args.nodes c.args.node facts q old → IsReadBy (due_call (phase_of q)) old c.args.read.items → IfErr c.with_areas.result (λ e. e ≡ OutOfMemory))
     (sym c.in-ReadingSecond.is)
     (λ opens read.
-        c.with_areas.ensures.undamaged facts old opens.0 (c.deref.ensures.value ∙ opens.1)
-        (c.deref-in-ReadingSecond.ensures.value ∙ second_read c.args.nodes c.args.node facts old old c.args.read.items opens.0 read))
+    c.with_areas.ensures.undamaged facts old opens.0 (c.deref.ensures.value ∙ opens.1)
+    (c.deref-in-ReadingSecond.ensures.value ∙ second_read c.args.nodes c.args.node facts old old c.args.read.items opens.0 read))
 
 pub returns-in-SettlingClosed-clause-table : goal.returns-in-SettlingClosed-clause-table
 returns-in-SettlingClosed-clause-table c facts old new =

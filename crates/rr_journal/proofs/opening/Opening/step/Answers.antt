@@ -1,10 +1,9 @@
 use Rattle.std.proofs.Common.{◌≡◌, inr, refl, sym, subst, Ok, ℕ, length, false, Vec, Global}
 use Rattle.rr_types.specs.Promises.{promise_of}
 use Rattle.rr_disk.specs.Crash.{Images, restarted}
-use Rattle.rr_gate.specs.Moments.{EachHolds}
 use Rattle.rr_journal.specs.declared.journal.Journal.{Journal}
 use Rattle.rr_journal.specs.declared.opening.Next.{Next}
-use Rattle.rr_journal.specs.OpeningTable.{GoesOnWith}
+use Rattle.rr_journal.specs.OpeningTable.{GoesOnWith, IsKept}
 use Rattle.rr_journal.specs.Openings.{Done, Opens, due_call, after_opening_call}
 use Rattle.rr_journal.specs.Journals.{Holds, IsOver}
 use Rattle.rr_journal.specs.Phases.{Follows, phase_of}
@@ -12,13 +11,13 @@ use Rattle.rr_journal.proofs.OpeningLaws.{kept, kept_failed, opened_over}
 use Rattle.rr_journal.proofs.opening.Opening.step.Goals as goal
 
 pub returns-in-Err-clause-kept : goal.returns-in-Err-clause-kept
-returns-in-Err-clause-kept g c tells facts opens held = kept_failed c.args.self.nodes c.args.self.node facts _ _ held c.args.self.phase opens (c.in-Err.ensures.left tells)
+returns-in-Err-clause-kept g c tells facts opens = kept_failed c.args.self.nodes c.args.self.node facts _ _ c.args.self.phase opens (c.in-Err.ensures.left tells)
 
 pub returns-in-Err-go_on-clause-exact : goal.returns-in-Err-go_on-clause-exact
 returns-in-Err-go_on-clause-exact g c = inr (c.in-Ok.read, c.in-Ok.ensures.done, c.in-Err-go_on.ensures.exact)
 
 pub returns-in-Err-go_on-clause-kept : goal.returns-in-Err-go_on-clause-kept
-returns-in-Err-go_on-clause-kept g c tells facts opens held = kept c.args.self.nodes c.args.self.node facts _ _ held c.args.self.phase opens (c.in-Ok.ensures.areas tells)
+returns-in-Err-go_on-clause-kept g c tells facts opens = kept c.args.self.nodes c.args.self.node facts _ _ c.args.self.phase opens (c.in-Ok.ensures.areas tells)
 
 pub returns-in-Ok-Phase-clause-exact : goal.returns-in-Ok-Phase-clause-exact
 returns-in-Ok-Phase-clause-exact g c =
@@ -31,7 +30,7 @@ returns-in-Ok-Phase-clause-table g c tells facts opens =
     subst (λ (x : Next). GoesOnWith c.args.self.nodes c.args.self.node facts x (g.D.Disk.areas c.call-called.new.disk)) c.in-Ok-Phase.field-0-is on
 
 pub returns-in-Ok-Phase-clause-kept : goal.returns-in-Ok-Phase-clause-kept
-returns-in-Ok-Phase-clause-kept g c tells facts opens held = kept c.args.self.nodes c.args.self.node facts _ _ held c.args.self.phase opens (c.in-Ok.ensures.areas tells)
+returns-in-Ok-Phase-clause-kept g c tells facts opens = kept c.args.self.nodes c.args.self.node facts _ _ c.args.self.phase opens (c.in-Ok.ensures.areas tells)
 
 pub returns-in-Ok-Open-clause-exact : goal.returns-in-Ok-Open-clause-exact
 returns-in-Ok-Open-clause-exact g c =
@@ -65,8 +64,8 @@ returns-in-Ok-Open-clause-table g c tells facts opens =
     ((is.0, is.1, over.0), over.1, over.2)
 
 pub returns-in-Ok-Open-clause-kept : goal.returns-in-Ok-Open-clause-kept
-returns-in-Ok-Open-clause-kept g c tells facts opens held =
+returns-in-Ok-Open-clause-kept g c tells facts opens =
     subst
-    (λ (j : Journal g.row.D.Denot). EachHolds (Holds c.args.self.nodes c.args.self.node) (g.D.Disk.areas j.disk) facts)
+    (λ (j : Journal g.row.D.Denot). IsKept (Holds c.args.self.nodes c.args.self.node) facts (g.D.Disk.areas c.args.self.disk) (g.D.Disk.areas j.disk))
     (sym c.new.ensures)
-    (kept c.args.self.nodes c.args.self.node facts _ _ held c.args.self.phase opens (c.in-Ok.ensures.areas tells))
+    (kept c.args.self.nodes c.args.self.node facts _ _ c.args.self.phase opens (c.in-Ok.ensures.areas tells))
