@@ -3,10 +3,14 @@
 # bench/wire.sh [COUNT [ROUNDS]]
 set -euo pipefail
 count=${1:-1000000}
-rounds=${2:-11}
+rounds=${2:-15}
 cd "$(dirname "$0")"
 
-(cd ../crates/bench_wire && rt run --jobs 1 -- 9 >/dev/null)
+# Proves and builds the program; what that prints matters only where it fails.
+if ! said=$(cd ../crates/bench_wire && rt run --jobs 1 -- 9 2>&1); then
+    echo "$said" >&2
+    exit 1
+fi
 (cd baseline && cargo build --release --quiet)
 ours=../crates/bench_wire/out/bench_wire
 theirs=baseline/target/release/baseline
