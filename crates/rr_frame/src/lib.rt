@@ -21,4 +21,6 @@ pub use snapshot::{Snapshot, decode_snapshot, encode_snapshot, read_snapshot};
 pub use stop::{Fault, Stop};
 
 #[cfg(test)]
+mod sweeps;
+#[cfg(test)]
 mod tests;

@@ -1,4 +1,4 @@
-//! Spelled examples, faults and their offsets, and each byte of an example at each value.
+//! Spelled examples, faults and their offsets.
 
 use super::*;
 use rr_types::{
@@ -67,34 +67,6 @@ fn a_fact_is_read_as_it_was_written(rt: HostRuntime) -> Result<(), Fail> {
     assert_eq!(rt; bent.len(), 30);
     bent[12] = 1;
     assert!(rt; matches!(decode_fact(&bent), Err(Refusal::Malformed(9))));
-    Ok(())
-}
-
-#[test]
-fn each_byte_of_a_group_at_each_value(rt: HostRuntime) -> Result<(), Fail> {
-    let mut bytes = DECIDED;
-    for place in 0..32 {
-        let kept = bytes[place];
-        for value in 0..=255u8 {
-            bytes[place] = value;
-            match decode_group(rt.alloc(), &bytes) {
-                Ok(group) => {
-                    assert_eq!(rt;
-                        encode_group(rt.alloc(), &group)?.as_slice(),
-                        bytes.as_slice()
-                    );
-                }
-                Err(e) => assert!(rt; matches!(e, Refusal::Malformed(_))),
-            }
-        }
-        bytes[place] = kept;
-        assert!(rt;
-            matches!(
-                decode_group(rt.alloc(), &bytes[..place]),
-                Err(Refusal::Malformed(_))
-            )
-        );
-    }
     Ok(())
 }
 

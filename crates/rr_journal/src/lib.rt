@@ -14,4 +14,6 @@ pub use journal::Journal;
 pub use opening::{Opening, Progress};
 
 #[cfg(test)]
+mod sweeps;
+#[cfg(test)]
 mod tests;

@@ -7,7 +7,7 @@ use std::alloc::Global;
 
 /// Area 0 of node 0 of 1 behind four facts: it entered round 1 of instance 0 with `7.1 claim a x`, proposed
 /// it, adopted it and decided. The gates stand at 0, 28, 73, 114, 155 and 192.
-const AREA: [u8; 193] = [
+pub const AREA: [u8; 193] = [
     0xA5, 0, 0, 0, 0x17, 2, 0, 1, 0, 0, 0, 0, 0, 0, 0, 1, 0, 0, 0, 0, 0, 0, 0, 0, 0, 0, 0, 0, 0xA5,
     0, 0, 0, 0x28, 0, 0, 0, 0, 0, 0, 0, 0, 0, 1, 1, 0, 0, 0, 0, 0, 0, 0, 1, 0, 0, 0, 0, 0, 0, 0, 7,
     0, 0, 0, 0, 0, 0, 0, 1, 1, 1, 0x61, 1, 0x78, 0xA5, 0, 0, 0, 0x24, 0, 0, 0, 0, 0, 0, 0, 1, 0, 1,
@@ -17,7 +17,8 @@ const AREA: [u8; 193] = [
     0, 0, 7, 0, 0, 0, 0, 0, 0, 0, 1, 1, 1, 0x61, 1, 0x78, 0,
 ];
 
-fn opened(alloc: Global, first: &[u8], second: &[u8]) -> Result<Image, Refusal> {
+/// What two areas stand for to node 0 of 1.
+pub fn opened(alloc: Global, first: &[u8], second: &[u8]) -> Result<Image, Refusal> {
     let nodes = Nodes::new(1)?;
     let node = NodeId::new(nodes, 0).ok_or(Refusal::BadNodes)?;
     read_image(alloc, nodes, node, first, second)

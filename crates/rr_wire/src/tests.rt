@@ -16,6 +16,28 @@ const ESTIMATE: [u8; 33] = [
     1, b'x',
 ];
 
+/// In round 258 of instance 5 node 1 proposes `7.1 claim a x` to node 2.
+const PROPOSAL: [u8; 29] = [
+    2, 1, 2, 2, 0, 0, 0, 5, 0, 0, 1, 2, 0, 0, 0, 7, 0, 0, 0, 0, 0, 0, 0, 1, 1, 1, b'a', 1, b'x',
+];
+
+/// The last instance has decided `7.1 claim a x`, from node 2 to node 0.
+const DECISION: [u8; 25] = [
+    2, 2, 0, 4, 0, 15, 255, 255, 0, 0, 0, 7, 0, 0, 0, 0, 0, 0, 0, 1, 1, 1, b'a', 1, b'x',
+];
+
+/// Node 0 refuses the last round of instance 1, to node 1.
+const NACK: [u8; 12] = [2, 0, 1, 6, 0, 0, 0, 1, 127, 255, 255, 255];
+
+/// Node 6 is up, to node 5.
+const BEAT: [u8; 4] = [2, 6, 5, 7];
+
+/// Node 0 suspects nodes 0 and 2, to itself.
+const SUSPECTS: [u8; 5] = [2, 0, 0, 8, 5];
+
+/// Node 1 asks node 0 for the decision of instance 3.
+const ASK: [u8; 8] = [2, 1, 0, 9, 0, 0, 0, 3];
+
 /// The request `7.2 transfer a 9`, from node 0 to node 1.
 const REQUEST: [u8; 23] = [
     2, 0, 1, 5, 0, 0, 0, 7, 0, 0, 0, 0, 0, 0, 0, 2, 4, 1, b'a', 0, 0, 0, 9,
@@ -46,12 +68,17 @@ fn assert_refused(rt: &impl Abort, nodes: u8, bytes: &[u8], offset: u64) -> Resu
     Ok(())
 }
 
+/// Puts a byte at a place of these, where there is one.
+fn put_at(bytes: &mut [u8], place: usize, byte: u8) {
+    if let Some(at) = bytes.get_mut(place) {
+        *at = byte;
+    }
+}
+
 /// The bytes with another one at this place.
 fn with_byte<const N: usize>(bytes: &[u8; N], place: usize, byte: u8) -> [u8; N] {
     let mut changed = *bytes;
-    if let Some(at) = changed.get_mut(place) {
-        *at = byte;
-    }
+    put_at(&mut changed, place, byte);
     changed
 }
 
@@ -156,37 +183,23 @@ fn each_message_both_ways(rt: HostRuntime) -> Result<(), Fail> {
         (
             7,
             message(1, 2, Body::Proposal(instance(5)?, round(258)?, claim()?))?,
-            &[
-                2, 1, 2, 2, 0, 0, 0, 5, 0, 0, 1, 2, 0, 0, 0, 7, 0, 0, 0, 0, 0, 0, 0, 1, 1, 1, b'a',
-                1, b'x',
-            ],
+            &PROPOSAL,
         ),
         (3, message(2, 1, Body::Ack(instance(0)?, round(1)?))?, &ACK),
         (
             7,
             message(2, 0, Body::Decision(instance(1_048_575)?, claim()?))?,
-            &[
-                2, 2, 0, 4, 0, 15, 255, 255, 0, 0, 0, 7, 0, 0, 0, 0, 0, 0, 0, 1, 1, 1, b'a', 1,
-                b'x',
-            ],
+            &DECISION,
         ),
         (2, message(0, 1, Body::Request(transfer()?))?, &REQUEST),
         (
             2,
             message(0, 1, Body::Nack(instance(1)?, round(2_147_483_647)?))?,
-            &[2, 0, 1, 6, 0, 0, 0, 1, 127, 255, 255, 255],
+            &NACK,
         ),
-        (7, message(6, 5, Body::Beat)?, &[2, 6, 5, 7]),
-        (
-            3,
-            message(0, 0, Body::Suspects(suspects))?,
-            &[2, 0, 0, 8, 5],
-        ),
-        (
-            2,
-            message(1, 0, Body::Ask(instance(3)?))?,
-            &[2, 1, 0, 9, 0, 0, 0, 3],
-        ),
+        (7, message(6, 5, Body::Beat)?, &BEAT),
+        (3, message(0, 0, Body::Suspects(suspects))?, &SUSPECTS),
+        (2, message(1, 0, Body::Ask(instance(3)?))?, &ASK),
     ];
     for (nodes, message, bytes) in rows {
         assert_spelled(&rt, alloc, nodes, &message, bytes)?;
@@ -194,9 +207,9 @@ fn each_message_both_ways(rt: HostRuntime) -> Result<(), Fail> {
     Ok(())
 }
 
-/// Asserts that bytes are either refused within them, or what is read of them is spelled so.
-fn assert_exact(rt: &impl Abort, alloc: Global, bytes: &[u8]) -> Result<(), Refusal> {
-    match decode(Nodes::new(3)?, bytes) {
+/// Asserts that bytes are refused within them, or are the spelling of what is read of them.
+fn assert_exact(rt: &impl Abort, alloc: Global, nodes: Nodes, bytes: &[u8]) -> Result<(), Refusal> {
+    match decode(nodes, bytes) {
         Ok(message) => assert_eq!(rt; encode(alloc, &message)?.as_slice(), bytes),
         Err(Refusal::Malformed(offset)) => assert!(rt; offset <= bytes.len() as u64),
         Err(refusal) => return Err(refusal),
@@ -204,28 +217,61 @@ fn assert_exact(rt: &impl Abort, alloc: Global, bytes: &[u8]) -> Result<(), Refu
     Ok(())
 }
 
-#[test]
-fn each_byte_and_each_cut(rt: HostRuntime) -> Result<(), Fail> {
-    let alloc = rt.alloc();
-    for place in 0..ESTIMATE.len() {
-        assert_refused(&rt, 3, &ESTIMATE[..place], field_of_estimate(place))?;
-        for byte in 0..=255 {
-            assert_exact(&rt, alloc, &with_byte(&ESTIMATE, place, byte))?;
-            assert_exact(&rt, alloc, &with_byte(&ACK, place, byte))?;
-            assert_exact(&rt, alloc, &with_byte(&REQUEST, place, byte))?;
+/// Where the field begins that has this place.
+fn field_of(fields: &[u8], place: usize) -> u64 {
+    let mut found = 0;
+    for start in fields {
+        if *start as usize <= place {
+            found = *start;
         }
     }
-    Ok(())
+    found as u64
 }
 
-/// Where the field of the estimate begins that has this byte.
-fn field_of_estimate(place: usize) -> u64 {
-    let starts = [0, 1, 2, 3, 4, 8, 12, 16, 20, 28, 29, 30, 31, 32];
-    let mut start = 0;
-    for field in starts {
-        if field <= place {
-            start = field;
+/// Each byte of an example at each value is exact; cut, it is refused at the field that is cut.
+fn sweep(
+    rt: &impl Abort,
+    alloc: Global,
+    nodes: u8,
+    example: &[u8],
+    fields: &[u8],
+) -> Result<(), Refusal> {
+    let mut bytes = example.to_vec(alloc)?;
+    for (place, kept) in example.iter().enumerate() {
+        assert_refused(rt, nodes, &example[..place], field_of(fields, place))?;
+        for byte in 0..=255 {
+            put_at(&mut bytes, place, byte);
+            assert_exact(rt, alloc, Nodes::new(nodes)?, &bytes)?;
         }
+        put_at(&mut bytes, place, *kept);
     }
-    start as u64
+    bytes.push(0)?;
+    assert_refused(rt, nodes, &bytes, example.len() as u64)
+}
+
+#[test]
+fn each_byte_and_each_cut(rt: HostRuntime) -> Result<(), Fail> {
+    let rows: [(u8, &[u8], &[u8]); 9] = [
+        (
+            3,
+            &ESTIMATE,
+            &[0, 1, 2, 3, 4, 8, 12, 16, 20, 28, 29, 30, 31, 32],
+        ),
+        (
+            7,
+            &PROPOSAL,
+            &[0, 1, 2, 3, 4, 8, 12, 16, 24, 25, 26, 27, 28],
+        ),
+        (3, &ACK, &[0, 1, 2, 3, 4, 8]),
+        (7, &DECISION, &[0, 1, 2, 3, 4, 8, 12, 20, 21, 22, 23, 24]),
+        (2, &REQUEST, &[0, 1, 2, 3, 4, 8, 16, 17, 18, 19]),
+        (2, &NACK, &[0, 1, 2, 3, 4, 8]),
+        (7, &BEAT, &[0, 1, 2, 3]),
+        (3, &SUSPECTS, &[0, 1, 2, 3, 4]),
+        (2, &ASK, &[0, 1, 2, 3, 4]),
+    ];
+    for (nodes, example, fields) in rows {
+        sweep(&rt, rt.alloc(), nodes, example, fields)?;
+    }
+    Ok(())
 }
