@@ -19,10 +19,10 @@ use Rattle.rr_text.proofs.NumberLemmas.{node_again, node_takes, small_again, sma
 use Rattle.rr_text.proofs.WordReading.{AtLeast-weaken, name_plain, value_plain, set_again, set_takes, set_plain, fill_again, fill_takes, fill_plain}
 use Rattle.rr_text.proofs.OpReading.{find_takes, submitted_text, submitted_again, submitted_takes}
 
-keyword_takes : (w : List ℕ) (k : Keyword) → keyword_at w ≡ Some k → w ≡ keyword_text k
+pub keyword_takes : (w : List ℕ) (k : Keyword) → keyword_at w ≡ Some k → w ≡ keyword_text k
 keyword_takes w k e = find_takes keyword_text w (Submit ∷ Hear ∷ Suspect ∷ Tick ∷ Advance ∷ Take ∷ Device ∷ Fail ∷ Mark ∷ Send ∷ Ack ∷ Snap ∷ Crash ∷ Restart ∷ []) k e
 
-keyword_again : (k : Keyword) → keyword_at (keyword_text k) ≡ Some k
+pub keyword_again : (k : Keyword) → keyword_at (keyword_text k) ≡ Some k
 keyword_again Submit = refl
 keyword_again Hear = refl
 keyword_again Suspect = refl
@@ -38,7 +38,7 @@ keyword_again Snap = refl
 keyword_again Crash = refl
 keyword_again Restart = refl
 
-keyword_plain : (k : Keyword) → AtLeast 33 (keyword_text k)
+pub keyword_plain : (k : Keyword) → AtLeast 33 (keyword_text k)
 keyword_plain Submit = plain_by_test (codes "submit") refl
 keyword_plain Hear = plain_by_test (codes "hear") refl
 keyword_plain Suspect = plain_by_test (codes "suspect") refl
@@ -98,9 +98,9 @@ cuts_takes text c e =
     subst (λ (d : ℕ × ℕ × List ℕ). (cuts_text d ≡ text) × AreCuts d) (same_Some made c f.2) (is, (ta.1, tb.1, tf.1))
 
 -- an event was read from the words behind its keyword
-record Was (n : ℕ) (k : Keyword) (text : List ℕ) (e : Event) : Type 0 where
-  printed : event_text e ≡ keyword_text k ++ 32 ∷ text
-  fits : IsEvent n e
+pub record Was (n : ℕ) (k : Keyword) (text : List ℕ) (e : Event) : Type 0 where
+  pub printed : event_text e ≡ keyword_text k ++ 32 ∷ text
+  pub fits : IsEvent n e
 
 -- an event that has a node alone
 alone : (n : ℕ) (k : Keyword) (text : List ℕ) (make : ℕ → Event) (e : Event) → n ≤ 7 → ((p : ℕ) → event_text (make p) ≡ keyword_text k ++ 32 ∷ decimal p) → ((p : ℕ) → p < n → IsEvent n (make p)) → (node_at n text >>= λ p. Some (make p)) ≡ Some e → Was n k text e
@@ -130,16 +130,16 @@ beside n k text read print Fits make e few takes prints fits given =
       fits = subst (λ (d : Event). IsEvent n d) is (fits p.0.0 x.0 t.1 u.1);
     }
 
-spaced_op : (w : List ℕ) (op : Op) → spaced (w ∷ op_words op) ≡ w ++ 32 ∷ spaced (op_words op)
+pub spaced_op : (w : List ℕ) (op : Op) → spaced (w ∷ op_words op) ≡ w ++ 32 ∷ spaced (op_words op)
 spaced_op w (ops.Claim x v) = refl
 spaced_op w (ops.Update x v) = refl
 spaced_op w (ops.Release x) = refl
 spaced_op w (ops.Transfer x o) = refl
 
-submit_text : (p : ℕ) (c : Command) → event_text (events.Submit p c) ≡ codes "submit " ++ (decimal p ++ 32 ∷ submitted_text c)
+pub submit_text : (p : ℕ) (c : Command) → event_text (events.Submit p c) ≡ codes "submit " ++ (decimal p ++ 32 ∷ submitted_text c)
 submit_text p c = ap (λ (y : List ℕ). codes "submit " ++ (decimal p ++ 32 ∷ (decimal c.request.client ++ 32 ∷ y))) (spaced_op (decimal c.request.seq) c.op)
 
-fields_takes : (n : ℕ) (k : Keyword) (text : List ℕ) (e : Event) → n ≤ 7 → fields_at n k text ≡ Some e → Was n k text e
+pub fields_takes : (n : ℕ) (k : Keyword) (text : List ℕ) (e : Event) → n ≤ 7 → fields_at n k text ≡ Some e → Was n k text e
 fields_takes n Submit text e few given = beside n Submit text submitted_at submitted_text IsCommand (λ p c. events.Submit p c) e few submitted_takes submit_text (λ p c lt h. record { node = lt; fields = h }) given
 fields_takes n Hear text e few given = beside n Hear text small_at decimal (λ k. k < 2 ^ 32) (λ p k. events.Hear p k) e few small_takes (λ p k. refl) (λ p k lt h. record { node = lt; fields = h }) given
 fields_takes n Suspect text e few given = beside n Suspect text (set_at n) set_text (λ s. s < 2 ^ n) (λ p s. events.Suspect p s) e few (set_takes n) (λ p s. refl) (λ p s lt h. record { node = lt; fields = h }) given
@@ -187,17 +187,17 @@ event_again n (events.Restart p) few h = event_from n Restart (decimal p) (event
 
 -- ---- no line feed
 
-joined : (v w : List ℕ) → AtLeast 33 v → AtLeast 32 w → AtLeast 32 (v ++ 32 ∷ w)
+pub joined : (v w : List ℕ) → AtLeast 33 v → AtLeast 32 w → AtLeast 32 (v ++ 32 ∷ w)
 joined v w p q = AtLeast-append 32 v (32 ∷ w) (AtLeast-weaken 32 33 v (omega arith) p) (omega arith, q)
 
-low : (w : List ℕ) → AtLeast 33 w → AtLeast 32 w
+pub low : (w : List ℕ) → AtLeast 33 w → AtLeast 32 w
 low w p = AtLeast-weaken 32 33 w (omega arith) p
 
 named_plain : (x v : List ℕ) → IsName x → IsValue v → AtLeast 32 (spaced (x ∷ value_words v))
 named_plain x [] name value = low x (name_plain x name)
 named_plain x (b ∷ v) name value = joined x (b ∷ v) (name_plain x name) (low (b ∷ v) (value_plain (b ∷ v) value))
 
-op_plain : (op : Op) → IsOp op → AtLeast 32 (spaced (op_words op))
+pub op_plain : (op : Op) → IsOp op → AtLeast 32 (spaced (op_words op))
 op_plain (ops.Claim x v) h = joined (codes "claim") (spaced (x ∷ value_words v)) (plain_by_test (codes "claim") refl) (named_plain x v h.0 h.1)
 op_plain (ops.Update x v) h = joined (codes "update") (spaced (x ∷ value_words v)) (plain_by_test (codes "update") refl) (named_plain x v h.0 h.1)
 op_plain (ops.Release x) h = joined (codes "release") x (plain_by_test (codes "release") refl) (low x (name_plain x h))

@@ -1,22 +1,27 @@
--- The first line of a schedule.
-use Rattle.std.proofs.Common.{◌≡◌, ℕ, ◌+◌, ◌-◌, ◌≤◌, true, false, cond, leb, ◌&&◌, List, [], ◌∷◌, ◌++◌, None, Some, Result, Ok, Err, MatchResult, codes, decimal, refl, ap, subst, ◌∙◌, sym, arith, ◌⊎◌, inl, inr}
-use Rattle.std.specs.Prelude.{IfOk, IfErr}
+-- The first line of a text.
+use Rattle.std.proofs.Common.{◌≡◌, ℕ, ◌+◌, ◌-◌, ◌≤◌, true, false, cond, leb, ◌&&◌, List, [], ◌∷◌, ◌++◌, None, Some, codes, decimal, refl, ap, ◌∙◌, sym, arith}
 use Rattle.std.specs.Str.{bytes_eq}
 use Rattle.std.proofs.lemmas.List.{append_assoc, append_cancel_left}
 use Rattle.std.proofs.lemmas.Option.{same_Some, cond_some, some_pair_parts, none-some}
 use Rattle.std.proofs.lemmas.Bool.{false≢true, and_parts, leb-true, le-leb}
-use Rattle.std.proofs.lemmas.Fmt.{decimal_digit}
+use Rattle.std.proofs.lemmas.Fmt.{decimal_digit, decimal_injective}
 use Rattle.rr_text.specs.Numbers.{is_number}
-use Rattle.std.specs.List.{flat_map}
-use Rattle.rr_types.specs.declared.refusal.Refusal.{Refusal}
-use Rattle.rr_types.specs.declared.refusal.Refusal.TheVariants.{OutOfMemory, BadNodes, BadEvent}
-use Rattle.rr_text.specs.Scheduled.{Scheduled, IsSchedule}
-use Rattle.rr_text.specs.ScheduleTexts.{event_line, nodes_line, schedule_text, HasOtherNodes, HasNoNodes, HasNoPlace, IsFault}
+use Rattle.rr_text.specs.Lines.{nodes_line, HasOtherNodes, HasNoNodes}
 use Rattle.rr_text.specs.Reading.{cut_at, nodes_at, count_at}
-use Rattle.rr_text.proofs.CutLemmas.{bind_some, cut_again, cut_takes, plain_by_test}
-use Rattle.rr_text.proofs.NumberLemmas.{number_plain}
-use Rattle.rr_text.proofs.WordReading.{same_text}
-use Rattle.rr_text.proofs.ScheduleReading.{nodes_again, heading_plain, no_stop, schedule_one}
+use Rattle.rr_text.proofs.CutLemmas.{AtLeast, AtLeast-append, bind_some, cut_again, cut_takes, plain_by_test}
+use Rattle.rr_text.proofs.NumberLemmas.{number_plain, decimal_plain}
+use Rattle.rr_text.proofs.WordReading.{AtLeast-weaken, same_text}
+
+pub heading_plain : (w : List ℕ) → AtLeast 33 w → AtLeast 32 (codes "nodes " ++ w)
+heading_plain w h = AtLeast-append 32 (codes "nodes ") w (omega arith, (omega arith, (omega arith, (omega arith, (omega arith, (omega arith, tt)))))) (AtLeast-weaken 32 33 w (omega arith) h)
+
+pub nodes_again : (n : ℕ) (rest : List ℕ) → n ≤ 7 → cut_at 10 (nodes_line n ++ rest) ≡ Some (codes "nodes " ++ decimal n, rest)
+nodes_again n rest few = ap (cut_at 10) (append_assoc (codes "nodes " ++ decimal n) (10 ∷ []) rest) ∙ cut_again 10 32 (codes "nodes " ++ decimal n) rest (omega arith) (heading_plain (decimal n) (decimal_plain n (omega arith)))
+
+pub nodes_one : (m n : ℕ) (x y : List ℕ) → m ≤ 7 → n ≤ 7 → nodes_line m ++ x ≡ nodes_line n ++ y → (m ≡ n) × (x ≡ y)
+nodes_one m n x y few_m few_n same =
+    let parts = some_pair_parts (codes "nodes " ++ decimal m) (codes "nodes " ++ decimal n) x y (sym (nodes_again m x few_m) ∙ ap (cut_at 10) same ∙ nodes_again n y few_n) in
+    (decimal_injective m n (omega arith) (omega arith) (append_cancel_left (codes "nodes ") (decimal m) (decimal n) parts.0), parts.1)
 
 nodes_takes : (w : List ℕ) (n : ℕ) → nodes_at w ≡ Some n → decimal n ≡ w
 nodes_takes [] n e = absurd cc
@@ -90,29 +95,3 @@ first_other bytes text rest word cut count read is = record {
   other = λ n some few same. none-some _ (read ∙ ap nodes_at same ∙ nodes_read n some few);
   split = cut_takes 10 bytes text rest cut ∙ ap (λ (y : List ℕ). y ++ 10 ∷ rest) (count_takes text word count);
 }
-
--- ---- no schedule is at fault
-
-no_other_nodes : (s : Scheduled) → IsSchedule s → HasOtherNodes (schedule_text s) → ⊥
-no_other_nodes s fits o =
-    let parts = some_pair_parts (codes "nodes " ++ decimal s.nodes) (codes "nodes " ++ o.word) (flat_map event_line s.events) o.rest (sym (nodes_again s.nodes (flat_map event_line s.events) fits.few) ∙ other_again (schedule_text s) o) in
-    o.other s.nodes fits.some fits.few (sym (append_cancel_left (codes "nodes ") (decimal s.nodes) o.word parts.0))
-
-no_event_fault : (s : Scheduled) (line : ℕ) → IsSchedule s → ((line ≡ 1) × HasNoNodes (schedule_text s)) ⊎ HasNoPlace (schedule_text s) line → ⊥
-no_event_fault s line fits (inl p) = p.1.none s.nodes (flat_map event_line s.events) fits.some fits.few refl
-no_event_fault s line fits (inr p) = no_stop s line fits p
-
-no_fault : (s : Scheduled) (e : Refusal) → IsSchedule s → IsFault (schedule_text s) e → e ≡ OutOfMemory
-no_fault s OutOfMemory fits fault = refl
-no_fault s BadNodes fits fault = absurd (no_other_nodes s fits fault)
-no_fault s (BadEvent line) fits fault = absurd (no_event_fault s line fits fault)
-no_fault s _ fits fault = absurd fault
-
--- what is a schedule's text is refused for memory alone
-pub only_memory : (bytes : List ℕ) (e : Refusal) → IsFault bytes e → (s : Scheduled) → IsSchedule s → bytes ≡ schedule_text s → e ≡ OutOfMemory
-only_memory bytes e fault s fits is = no_fault s e fits (subst (λ (b : List ℕ). IsFault b e) is fault)
-
--- what is read is the one schedule with this text, unless memory runs out
-pub read_again : (bytes : List ℕ) (r : Result Scheduled Refusal) → IfOk r (λ t. IsSchedule t × (bytes ≡ schedule_text t)) → IfErr r (λ e. IsFault bytes e) → (s : Scheduled) → IsSchedule s → bytes ≡ schedule_text s → MatchResult r (λ t. t ≡ s) (λ e. e ≡ OutOfMemory)
-read_again bytes (Ok t) found fault s fits is = schedule_one t s found.0 fits (sym found.1 ∙ is)
-read_again bytes (Err e) found fault s fits is = only_memory bytes e fault s fits is

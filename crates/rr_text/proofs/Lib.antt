@@ -2,9 +2,10 @@ pub mod CutLemmas
 pub mod EventReading
 pub mod FillLoop
 pub mod FirstLine
+pub mod LineReading
 pub mod NumberLemmas
-pub mod OneFault
 pub mod OpReading
 pub mod ScheduleReading
+pub mod TextReading
 pub mod WordLemmas
 pub mod WordReading

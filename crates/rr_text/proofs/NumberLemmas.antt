@@ -134,6 +134,17 @@ digits_plain (b ∷ ds) h =
     let r = digit_range b p.0 in
     (omega (arith, r.0), digits_plain ds p.1)
 
+digits_high : (ds : List ℕ) → list_all is_digit ds ≡ true → AtLeast 48 ds
+digits_high [] h = tt
+digits_high (b ∷ ds) h =
+    let p = and_parts (is_digit b) (list_all is_digit ds) h in
+    let r = digit_range b p.0 in
+    (omega (arith, r.0), digits_high ds p.1)
+
+-- a number has no dot
+pub decimal_high : (n : ℕ) → n < 2 ^ 64 → AtLeast 48 (decimal n)
+decimal_high n lt = digits_high (decimal n) (digits_decimal own n lt)
+
 -- a number has no space and no line feed
 pub decimal_plain : (n : ℕ) → n < 2 ^ 64 → AtLeast 33 (decimal n)
 decimal_plain n lt = digits_plain (decimal n) (digits_decimal own n lt)

@@ -2,14 +2,14 @@
 #![tactic(auto)]
 
 mod event;
-mod keyword;
+pub mod keyword;
 mod report;
 mod schedule;
 mod text_law;
-mod text_parse;
-mod text_read;
-mod text_report;
-mod text_schedule;
+pub mod text_parse;
+pub mod text_read;
+pub mod text_report;
+pub mod text_schedule;
 mod text_word;
 
 pub use event::{Event, Fill};

@@ -95,6 +95,51 @@ fn faults_are_told(rt: HostRuntime) {
     }
 }
 
+/// Whether bytes are refused, or printed as they were read.
+fn is_refused_or_printed(alloc: Global, bytes: &[u8]) -> Result<bool, Fail> {
+    match Schedule::parse(alloc, bytes) {
+        Ok(schedule) => Ok(schedule.text(alloc)?.as_slice() == bytes),
+        Err(Refusal::BadNodes | Refusal::BadEvent(_)) => Ok(true),
+        Err(_) => Ok(false),
+    }
+}
+
+/// The text with another byte at one place.
+fn with_byte(alloc: Global, text: &[u8], at: usize, byte: u8) -> Result<Vec<u8>, Fail> {
+    let mut bytes = text.to_vec(alloc)?;
+    if let Some(place) = bytes.get_mut(at) {
+        *place = byte;
+    }
+    Ok(bytes)
+}
+
+#[test]
+fn no_other_byte_is_taken_for_it(rt: HostRuntime) -> Result<(), Fail> {
+    let text = SCHEDULES[4].as_bytes();
+    for at in 0..text.len() {
+        for byte in 0..=255u8 {
+            let bytes = with_byte(rt.alloc(), text, at, byte)?;
+            assert!(rt;
+                is_refused_or_printed(rt.alloc(), &bytes)?,
+                "{byte} at {at}"
+            );
+        }
+    }
+    Ok(())
+}
+
+#[test]
+fn a_text_that_is_cut_is_refused_or_printed(rt: HostRuntime) -> Result<(), Fail> {
+    let text = SCHEDULES[4].as_bytes();
+    for end in 0..text.len() {
+        assert!(rt;
+            is_refused_or_printed(rt.alloc(), &text[..end])?,
+            "cut at {end}"
+        );
+    }
+    Ok(())
+}
+
 #[test]
 fn what_is_read_is_what_is_written(rt: HostRuntime) -> Result<(), Fail> {
     let text = b"nodes 3\nsubmit 2 7 1 claim a x\nhear 1 5\nsuspect 0 12\ncrash 0 3 4 A50F\n";

@@ -3,7 +3,8 @@
 ghost use Rattle.std.specs.Prelude.{◌≡◌, ◌+◌, ◌<◌, ◌≤◌, ◌++◌, ◌∷◌, None, Some, MatchOption, MatchResult, IfOk, IfErr, length};
 ghost use Rattle.std.specs.List.{flat_map, AllByRecursion};
 ghost use Rattle.rr_text.specs.Scheduled.{Scheduled, IsEvent, IsSchedule};
-ghost use Rattle.rr_text.specs.ScheduleTexts.{event_line, nodes_line, schedule_text, ArePrinted, IsStop, HasNoEvent, StopsAt, HasNoNodes, HasOtherNodes, IsFault};
+ghost use Rattle.rr_text.specs.Lines.{nodes_line, ArePrinted, IsStop, IsFirstFault, IsFault};
+ghost use Rattle.rr_text.specs.ScheduleTexts.{event_line, schedule_text};
 ghost use Rattle.rr_text.specs.Reading.{pairs_at, fill_at, first_node_at, cuts_at, fields_at, event_at, nodes_at, count_at};
 
 use crate::event::{Event, Fill};
@@ -49,7 +50,8 @@ fn fill(alloc: Global, word: &[u8]) -> Result<Option<Fill>, Refusal>
     }
 }
 
-fn first_node(nodes: Nodes, text: &[u8]) -> Option<(NodeId, &[u8])>
+/// The node that a first word is, and the text behind it.
+pub fn first_node(nodes: Nodes, text: &[u8]) -> Option<(NodeId, &[u8])>
     ensures { MatchOption result (first_node_at nodes text.now ≡ None) (λ x. first_node_at nodes text.now ≡ Some (x.0, x.1.now)) }
 {
     match cut(text, b' ') {
@@ -150,7 +152,11 @@ fn crash(alloc: Global, nodes: Nodes, text: &[u8]) -> Result<Option<Event>, Refu
     }
 }
 
-fn fields(
+/// The event of this keyword that the text behind it says; none where it says none.
+///
+/// # Errors
+/// `OutOfMemory`.
+pub fn fields(
     alloc: Global,
     nodes: Nodes,
     keyword: Keyword,
@@ -214,10 +220,14 @@ fn nodes_of(word: &[u8]) -> Option<Nodes>
     }
 }
 
+/// How many nodes the first line says that there are, and the bytes behind it.
+///
+/// # Errors
+/// `BadNodes` where it says another number than 1 to 7, else `BadEvent` of line 1.
 #[tactic(auto, using(crate::proofs::FirstLine::first_ok, crate::proofs::FirstLine::first_uncut, crate::proofs::FirstLine::first_uncounted, crate::proofs::FirstLine::first_unnumbered, crate::proofs::FirstLine::first_other))]
-fn first_line(bytes: &[u8]) -> Result<(Nodes, &[u8]), Refusal>
+pub fn first_line(bytes: &[u8]) -> Result<(Nodes, &[u8]), Refusal>
     ensures ok { IfOk result (λ x. bytes.now ≡ nodes_line x.0 ++ x.1.now) }
-    ensures err { IfErr result (λ e. IsFault bytes.now e) }
+    ensures err { IfErr result (λ e. IsFirstFault bytes.now e) }
 {
     let Some((line, rest)) = cut(bytes, b'\n') else {
         return Err(Refusal::BadEvent(1));
@@ -238,8 +248,8 @@ fn first_line(bytes: &[u8]) -> Result<(Nodes, &[u8]), Refusal>
 }
 
 fn events(alloc: Global, nodes: Nodes, bytes: &[u8]) -> Result<Vec<Event>, Refusal>
-    ensures ok { IfOk result (λ v. ArePrinted nodes v.items bytes.now) }
-    ensures err { IfErr result (λ e. IsStop nodes bytes.now e) }
+    ensures ok { IfOk result (λ v. ArePrinted (IsEvent nodes) event_line v.items bytes.now) }
+    ensures err { IfErr result (λ e. IsStop (IsEvent nodes) event_line bytes.now e) }
 {
     let _count = nodes.count();
     let mut events = Vec::new(alloc);
@@ -265,7 +275,7 @@ fn events(alloc: Global, nodes: Nodes, bytes: &[u8]) -> Result<Vec<Event>, Refus
 
 fn schedule(alloc: Global, bytes: &[u8]) -> Result<Schedule, Refusal>
     ensures found { IfOk result (λ s. IsSchedule s × (bytes.now ≡ schedule_text s)) }
-    ensures fault { IfErr result (λ e. IsFault bytes.now e) }
+    ensures fault { IfErr result (λ e. IsFault IsEvent event_line bytes.now e) }
 {
     match first_line(bytes) {
         Err(refusal) => Err(refusal),
@@ -291,7 +301,7 @@ impl Schedule {
         // What is printed so is read, unless memory runs out.
         ensures only { (s : Scheduled) → IsSchedule s → bytes.now ≡ schedule_text s → MatchResult result (λ t. t ≡ s) (λ e. e ≡ Refusal.OutOfMemory) }
         // Which line is at fault.
-        ensures fault { IfErr result (λ e. IsFault bytes.now e) }
+        ensures fault { IfErr result (λ e. IsFault IsEvent event_line bytes.now e) }
     {
         schedule(alloc, bytes)
     }

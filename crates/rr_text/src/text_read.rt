@@ -158,6 +158,7 @@ fn hex_value(digit: u8) -> Option<u8>
     }
 }
 
+/// The byte that two upper-case hex digits are.
 pub fn hex_byte(high: u8, low: u8) -> Option<u8>
     ensures { result ≡ hex_byte high low }
 {
@@ -233,13 +234,15 @@ fn target(verb: Verb, text: &[u8]) -> Option<Op>
     }
 }
 
-fn op(text: &[u8]) -> Option<Op>
+/// The operation that a text is.
+pub fn op(text: &[u8]) -> Option<Op>
     ensures { result ≡ op_at text.now }
 {
     let (word, rest) = cut(text, b' ')?;
     target(verb(word)?, rest)
 }
 
+/// The command that the words of a submit behind the node are.
 pub fn submitted(text: &[u8]) -> Option<Command>
     ensures { result ≡ submitted_at text.now }
 {

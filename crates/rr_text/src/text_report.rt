@@ -175,7 +175,11 @@ fn refusal_name(refusal: &Refusal) -> &'static [u8]
     }
 }
 
-fn push_report_words(out: &mut Vec<u8>, report_line: &ReportLine) -> Result<(), Refusal>
+/// Appends the words of a line of a report.
+///
+/// # Errors
+/// `OutOfMemory`.
+pub fn push_report_words(out: &mut Vec<u8>, report_line: &ReportLine) -> Result<(), Refusal>
     ensures ok { OnOk result (out.new.items ≡ out.old.items ++ spaced (report_words report_line.now)) }
     ensures err { IfErr result (λ e. e ≡ Refusal.OutOfMemory) }
 {

@@ -3,7 +3,8 @@
 ghost use Rattle.std.specs.Prelude.{◌≡◌, ◌∷◌, ◌++◌, [], OnOk, IfOk, IfErr, codes, decimal};
 ghost use Rattle.std.specs.List.{flat_map};
 ghost use Rattle.rr_text.specs.Words.{spaced, op_words};
-ghost use Rattle.rr_text.specs.ScheduleTexts.{event_words, event_text, event_line, nodes_line, schedule_text};
+ghost use Rattle.rr_text.specs.Lines.{nodes_line};
+ghost use Rattle.rr_text.specs.ScheduleTexts.{event_words, event_text, event_line, schedule_text};
 
 use crate::event::Event;
 use crate::schedule::Schedule;
@@ -30,7 +31,11 @@ fn push_submitted(out: &mut Vec<u8>, command: &Command) -> Result<(), Refusal>
     push_op(out, &command.op)
 }
 
-fn push_event(out: &mut Vec<u8>, event: &Event) -> Result<(), Refusal>
+/// Appends the text of an event.
+///
+/// # Errors
+/// `OutOfMemory`.
+pub fn push_event(out: &mut Vec<u8>, event: &Event) -> Result<(), Refusal>
     ensures ok { OnOk result (out.new.items ≡ out.old.items ++ event_text event.now) }
     ensures err { IfErr result (λ e. e ≡ Refusal.OutOfMemory) }
 {
@@ -92,7 +97,11 @@ fn push_event_lines(out: &mut Vec<u8>, events: &[Event]) -> Result<(), Refusal>
     Ok(())
 }
 
-fn push_nodes_line(out: &mut Vec<u8>, nodes: Nodes) -> Result<(), Refusal>
+/// Appends the first line.
+///
+/// # Errors
+/// `OutOfMemory`.
+pub fn push_nodes_line(out: &mut Vec<u8>, nodes: Nodes) -> Result<(), Refusal>
     ensures ok { OnOk result (out.new.items ≡ out.old.items ++ nodes_line nodes) }
     ensures err { IfErr result (λ e. e ≡ Refusal.OutOfMemory) }
 {

@@ -1,4 +1,4 @@
-use Rattle.rr_text.proofs.FirstLine.{read_again}
+use Rattle.rr_text.proofs.ScheduleReading.{read_again}
 use Rattle.rr_text.proofs.schedule.Schedule.parse.Goals as goal
 
 pub returns-clause-only : goal.returns-clause-only

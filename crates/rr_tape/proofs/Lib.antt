@@ -1,0 +1,3 @@
+pub mod MessageReading
+pub mod Readers
+pub mod TapeReading

@@ -1,0 +1,84 @@
+use Rattle.std.specs.Prelude.{ℕ, ◌^◌, ◌<◌, ◌≤◌, List, length}
+use Rattle.std.specs.List.{AllByRecursion}
+use Rattle.rr_types.specs.declared.command.RequestNo.{RequestNo}
+use Rattle.rr_types.specs.declared.command.Reply.{Reply}
+use Rattle.rr_types.specs.declared.command.Reply.TheVariants.{Claimed, Updated, Released, Transferred, Taken, Unknown, NotOwner, Full}
+use Rattle.rr_types.specs.declared.message.Body.{Body}
+use Rattle.rr_types.specs.declared.message.Body.TheVariants as bodies
+use Rattle.rr_types.specs.declared.message.Message.{Message}
+use Rattle.rr_types.specs.Estimates.{Estimated}
+use Rattle.rr_text.specs.Words.{IsCommand}
+use Rattle.rr_tape.specs.declared.tape_event.TapeEvent.{TapeEvent}
+use Rattle.rr_tape.specs.declared.tape_event.TapeEvent.TheVariants.{Submit, Hear, Suspect, Tick, Advance, Take, Mark, Send, Ack}
+
+-- a tape: how many nodes there are, and the events
+pub record Taped : Type 0 where
+  pub nodes : ℕ
+  pub events : List TapeEvent
+
+-- the number of an instance
+abbrev pub IsInstance : ℕ → Type 0
+IsInstance i = i < 1048576
+
+-- the number of a round
+abbrev pub IsRound : ℕ → Type 0
+IsRound r = (1 ≤ r) × (r ≤ 2147483647)
+
+-- an estimate whose stamp lies before its round
+pub record IsEstimate (e : Estimated) : Type 0 where
+  pub round : IsRound e.round
+  pub stamp : e.stamp < e.round
+  pub command : IsCommand e.command
+
+-- what a message among n nodes may say
+abbrev pub IsBody : ℕ → Body → Type 0
+IsBody n (bodies.Estimate i e) = IsInstance i × IsEstimate e
+IsBody n (bodies.Proposal i r c) = IsInstance i × IsRound r × IsCommand c
+IsBody n (bodies.Ack i r) = IsInstance i × IsRound r
+IsBody n (bodies.Decision i c) = IsInstance i × IsCommand c
+IsBody n (bodies.Request c) = IsCommand c
+IsBody n (bodies.Nack i r) = IsInstance i × IsRound r
+IsBody n bodies.Beat = Unit {0}
+IsBody n (bodies.Suspects s) = s < 2 ^ n
+IsBody n (bodies.Ask i) = IsInstance i
+
+-- a message among n nodes
+pub record IsMessage (n : ℕ) (m : Message) : Type 0 where
+  pub from : m.from < n
+  pub to : m.to < n
+  pub body : IsBody n m.body
+
+-- a request number
+pub record IsRequest (q : RequestNo) : Type 0 where
+  pub client : q.client < 2 ^ 32
+  pub seq : q.seq < 2 ^ 64
+
+-- a reply
+abbrev pub IsReply : Reply → Type 0
+IsReply Claimed = Unit {0}
+IsReply Updated = Unit {0}
+IsReply Released = Unit {0}
+IsReply Transferred = Unit {0}
+IsReply (Taken owner) = owner < 2 ^ 32
+IsReply Unknown = Unit {0}
+IsReply NotOwner = Unit {0}
+IsReply Full = Unit {0}
+
+-- an event of a tape, among n nodes
+abbrev pub IsTapeEvent : ℕ → TapeEvent → Type 0
+IsTapeEvent n (Submit p c) = (p < n) × IsCommand c
+IsTapeEvent n (Hear p k) = (p < n) × (k < 2 ^ 32)
+IsTapeEvent n (Suspect p s) = (p < n) × (s < 2 ^ n)
+IsTapeEvent n (Tick p) = p < n
+IsTapeEvent n (Advance p) = p < n
+IsTapeEvent n (Take p) = p < n
+IsTapeEvent n (Mark p) = p < n
+IsTapeEvent n (Send k m) = (k < 2 ^ 32) × IsMessage n m
+IsTapeEvent n (Ack p q r) = (p < n) × IsRequest q × IsReply r
+
+-- a tape of 1 to 7 nodes and at most a million events among them
+pub record IsTape (t : Taped) : Type 0 where
+  pub some : 1 ≤ t.nodes
+  pub few : t.nodes ≤ 7
+  pub short : length t.events ≤ 1000000
+  pub each : AllByRecursion (IsTapeEvent t.nodes) t.events

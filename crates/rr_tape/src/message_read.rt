@@ -1,0 +1,205 @@
+//! Reading the words of messages and of replies.
+
+ghost use Rattle.std.specs.Prelude.{◌≡◌, None, Some, MatchOption};
+ghost use Rattle.rr_tape.specs.Reading.{instance_at, round_at, request_at, command_at, estimate_at, estimated_at, proposed_at, round_of_at, decided_at, kind_at, body_fields_at, body_at, plain_reply_at, reply_at};
+
+use rr_text::text_read::{cut, number, op, set, small_number};
+use rr_types::{Body, Command, Estimate, Instance, Nodes, Op, Reply, RequestNo, Round};
+
+/// What a message says, where it says something behind its word.
+#[derive(Clone, Copy, Debug)]
+pub enum Kind {
+    Estimate,
+    Proposal,
+    Ack,
+    Decision,
+    Request,
+    Nack,
+    Suspects,
+    Ask,
+}
+
+fn instance(word: &[u8]) -> Option<Instance>
+    ensures { result ≡ instance_at word.now }
+{
+    Instance::new(small_number(word)?)
+}
+
+fn round(word: &[u8]) -> Option<Round>
+    ensures { result ≡ round_at word.now }
+{
+    Round::new(small_number(word)?)
+}
+
+/// The request number that a word is.
+pub fn request(word: &[u8]) -> Option<RequestNo>
+    ensures { result ≡ request_at word.now }
+{
+    let (client, seq) = cut(word, b'.')?;
+    let client = small_number(client)?;
+    let seq = number(seq)?;
+    Some(RequestNo { client, seq })
+}
+
+fn command(text: &[u8]) -> Option<Command>
+    ensures { result ≡ command_at text.now }
+{
+    let (word, rest) = cut(text, b' ')?;
+    let request = request(word)?;
+    let op = op(rest)?;
+    Some(Command { request, op })
+}
+
+fn estimate(text: &[u8]) -> Option<Estimate>
+    ensures { result ≡ estimate_at text.now }
+{
+    // The check learns what an estimate is made of from the types of a function's variables.
+    let _parts: Option<(Command, Op)> = None;
+    let (word, rest) = cut(text, b' ')?;
+    let round = round(word)?;
+    let (word, rest) = cut(rest, b' ')?;
+    let stamp = small_number(word)?;
+    Estimate::new(round, stamp, command(rest)?)
+}
+
+fn estimated(text: &[u8]) -> Option<(Instance, Estimate)>
+    ensures { result ≡ estimated_at text.now }
+{
+    let (word, rest) = cut(text, b' ')?;
+    let instance = instance(word)?;
+    Some((instance, estimate(rest)?))
+}
+
+fn proposed(text: &[u8]) -> Option<(Instance, Round, Command)>
+    ensures { result ≡ proposed_at text.now }
+{
+    let (word, rest) = cut(text, b' ')?;
+    let instance = instance(word)?;
+    let (word, rest) = cut(rest, b' ')?;
+    let round = round(word)?;
+    Some((instance, round, command(rest)?))
+}
+
+fn round_of(text: &[u8]) -> Option<(Instance, Round)>
+    ensures { result ≡ round_of_at text.now }
+{
+    let (word, rest) = cut(text, b' ')?;
+    let instance = instance(word)?;
+    Some((instance, round(rest)?))
+}
+
+fn decided(text: &[u8]) -> Option<(Instance, Command)>
+    ensures { result ≡ decided_at text.now }
+{
+    let (word, rest) = cut(text, b' ')?;
+    let instance = instance(word)?;
+    Some((instance, command(rest)?))
+}
+
+fn kind_named(word: &[u8]) -> Option<Kind>
+    ensures { result ≡ kind_at word.now }
+{
+    if word == b"estimate".as_slice() {
+        Some(Kind::Estimate)
+    } else if word == b"proposal".as_slice() {
+        Some(Kind::Proposal)
+    } else if word == b"ack".as_slice() {
+        Some(Kind::Ack)
+    } else if word == b"decision".as_slice() {
+        Some(Kind::Decision)
+    } else if word == b"request".as_slice() {
+        Some(Kind::Request)
+    } else if word == b"nack".as_slice() {
+        Some(Kind::Nack)
+    } else if word == b"suspects".as_slice() {
+        Some(Kind::Suspects)
+    } else if word == b"ask".as_slice() {
+        Some(Kind::Ask)
+    } else {
+        None
+    }
+}
+
+fn body_fields(nodes: Nodes, kind: Kind, text: &[u8]) -> Option<Body>
+    ensures { result ≡ body_fields_at nodes kind text.now }
+{
+    match kind {
+        Kind::Estimate => {
+            let (instance, estimate) = estimated(text)?;
+            Some(Body::Estimate(instance, estimate))
+        }
+        Kind::Proposal => {
+            let (instance, round, command) = proposed(text)?;
+            Some(Body::Proposal(instance, round, command))
+        }
+        Kind::Ack => {
+            let (instance, round) = round_of(text)?;
+            Some(Body::Ack(instance, round))
+        }
+        Kind::Decision => {
+            let (instance, command) = decided(text)?;
+            Some(Body::Decision(instance, command))
+        }
+        Kind::Request => Some(Body::Request(command(text)?)),
+        Kind::Nack => {
+            let (instance, round) = round_of(text)?;
+            Some(Body::Nack(instance, round))
+        }
+        Kind::Suspects => Some(Body::Suspects(set(nodes, text)?)),
+        Kind::Ask => Some(Body::Ask(instance(text)?)),
+    }
+}
+
+/// What a message says.
+pub fn body(nodes: Nodes, text: &[u8]) -> Option<Body>
+    ensures { result ≡ body_at nodes text.now }
+{
+    match cut(text, b' ') {
+        Some((word, rest)) => body_fields(nodes, kind_named(word)?, rest),
+        None => {
+            if text == b"beat".as_slice() {
+                Some(Body::Beat)
+            } else {
+                None
+            }
+        }
+    }
+}
+
+fn plain_reply(word: &[u8]) -> Option<Reply>
+    ensures { result ≡ plain_reply_at word.now }
+{
+    if word == b"claimed".as_slice() {
+        Some(Reply::Claimed)
+    } else if word == b"updated".as_slice() {
+        Some(Reply::Updated)
+    } else if word == b"released".as_slice() {
+        Some(Reply::Released)
+    } else if word == b"transferred".as_slice() {
+        Some(Reply::Transferred)
+    } else if word == b"unknown".as_slice() {
+        Some(Reply::Unknown)
+    } else if word == b"notowner".as_slice() {
+        Some(Reply::NotOwner)
+    } else if word == b"full".as_slice() {
+        Some(Reply::Full)
+    } else {
+        None
+    }
+}
+
+/// The reply that a text is.
+pub fn reply(text: &[u8]) -> Option<Reply>
+    ensures { result ≡ reply_at text.now }
+{
+    match cut(text, b' ') {
+        Some((word, rest)) => {
+            if word == b"taken".as_slice() {
+                Some(Reply::Taken(small_number(rest)?))
+            } else {
+                None
+            }
+        }
+        None => plain_reply(text),
+    }
+}

@@ -1,0 +1,147 @@
+//! Reading tapes.
+
+ghost use Rattle.std.specs.Prelude.{◌≡◌, ◌+◌, ◌<◌, ◌≤◌, ◌++◌, None, Some, MatchResult, IfOk, IfErr, length};
+ghost use Rattle.std.specs.List.{flat_map, AllByRecursion};
+ghost use Rattle.rr_text.specs.Lines.{nodes_line, ArePrinted, IsStop, IsFirstFault, IsFault};
+ghost use Rattle.rr_tape.specs.Reading.{message_at, sent_at, acked_at, tape_fields_at, tape_event_at};
+ghost use Rattle.rr_tape.specs.Taped.{Taped, IsTapeEvent, IsTape};
+ghost use Rattle.rr_tape.specs.TapeTexts.{tape_line, tape_text};
+
+use crate::message_read::{body, reply, request};
+use crate::tape::Tape;
+use crate::tape_event::{TapeEvent, recorded};
+use rr_text::MAX_EVENTS;
+use rr_text::keyword::Keyword;
+use rr_text::text_parse::{fields, first_line};
+use rr_text::text_read::{cut, keyword, node, small_number};
+use rr_types::{Body, Command, Message, Nodes, Op, Refusal, Reply};
+use std::alloc::Global;
+
+fn message(nodes: Nodes, text: &[u8]) -> Option<Message>
+    ensures { result ≡ message_at nodes text.now }
+{
+    let (word, rest) = cut(text, b' ')?;
+    let from = node(nodes, word)?;
+    let (word, rest) = cut(rest, b' ')?;
+    let to = node(nodes, word)?;
+    let body = body(nodes, rest)?;
+    Some(Message { from, to, body })
+}
+
+fn sent(nodes: Nodes, text: &[u8]) -> Option<TapeEvent>
+    ensures { result ≡ sent_at nodes text.now }
+{
+    let (word, rest) = cut(text, b' ')?;
+    let number = small_number(word)?;
+    let message = message(nodes, rest)?;
+    Some(TapeEvent::Send { number, message })
+}
+
+fn acked(nodes: Nodes, text: &[u8]) -> Option<TapeEvent>
+    ensures { result ≡ acked_at nodes text.now }
+{
+    let (word, rest) = cut(text, b' ')?;
+    let node = node(nodes, word)?;
+    let (word, rest) = cut(rest, b' ')?;
+    let request = request(word)?;
+    let reply = reply(rest)?;
+    Some(TapeEvent::Ack {
+        node,
+        request,
+        reply,
+    })
+}
+
+fn tape_fields(
+    alloc: Global,
+    nodes: Nodes,
+    keyword: Keyword,
+    text: &[u8],
+) -> Result<Option<TapeEvent>, Refusal>
+    ensures ok { IfOk result (λ e. e ≡ tape_fields_at nodes keyword text.now) }
+    ensures err { IfErr result (λ e. e ≡ Refusal.OutOfMemory) }
+{
+    match keyword {
+        Keyword::Send => Ok(sent(nodes, text)),
+        Keyword::Ack => Ok(acked(nodes, text)),
+        _ => match fields(alloc, nodes, keyword, text)? {
+            Some(event) => Ok(recorded(&event)),
+            None => Ok(None),
+        },
+    }
+}
+
+fn tape_event(alloc: Global, nodes: Nodes, text: &[u8]) -> Result<Option<TapeEvent>, Refusal>
+    ensures ok { IfOk result (λ e. e ≡ tape_event_at nodes text.now) }
+    ensures err { IfErr result (λ e. e ≡ Refusal.OutOfMemory) }
+{
+    let Some((word, rest)) = cut(text, b' ') else {
+        return Ok(None);
+    };
+    match keyword(word) {
+        Some(keyword) => tape_fields(alloc, nodes, keyword, rest),
+        None => Ok(None),
+    }
+}
+
+fn tape_events(alloc: Global, nodes: Nodes, bytes: &[u8]) -> Result<Vec<TapeEvent>, Refusal>
+    ensures ok { IfOk result (λ v. ArePrinted (IsTapeEvent nodes) tape_line v.items bytes.now) }
+    ensures err { IfErr result (λ e. IsStop (IsTapeEvent nodes) tape_line bytes.now e) }
+{
+    // The check learns what an event is made of from the types of a function's variables.
+    let _parts: Option<(Body, Command, Message, Op, Reply)> = None;
+    let _count = nodes.count();
+    let mut events = Vec::new(alloc);
+    let mut rest = bytes;
+    while !rest.is_empty() {
+        let number = events.len() as u64 + 2;
+        if events.len() == MAX_EVENTS {
+            return Err(Refusal::BadEvent(number));
+        }
+        match cut(rest, b'\n') {
+            None => return Err(Refusal::BadEvent(number)),
+            Some((text, after)) => match tape_event(alloc, nodes, text)? {
+                None => return Err(Refusal::BadEvent(number)),
+                Some(event) => {
+                    events.push(event)?;
+                    rest = after;
+                }
+            },
+        }
+    }
+    Ok(events)
+}
+
+fn tape(alloc: Global, bytes: &[u8]) -> Result<Tape, Refusal>
+    ensures found { IfOk result (λ t. IsTape t × (bytes.now ≡ tape_text t)) }
+    ensures fault { IfErr result (λ e. IsFault IsTapeEvent tape_line bytes.now e) }
+{
+    match first_line(bytes) {
+        Err(refusal) => Err(refusal),
+        Ok((nodes, rest)) => {
+            let _count = nodes.count();
+            match tape_events(alloc, nodes, rest) {
+                Err(refusal) => Err(refusal),
+                Ok(events) => Ok(Tape::of_parts(nodes, events)),
+            }
+        }
+    }
+}
+
+impl Tape {
+    /// The tape that the bytes are the text of. Bytes that are none are `BadNodes` where their first line
+    /// names a number of nodes that isn't 1 to 7, and else `BadEvent` of the first line that has no place.
+    ///
+    /// # Errors
+    /// `OutOfMemory`, `BadNodes`, `BadEvent`.
+    pub fn parse(alloc: Global, bytes: &[u8]) -> Result<Tape, Refusal>
+        // What is read is printed so.
+        ensures found { IfOk result (λ t. IsTape t × (bytes.now ≡ tape_text t)) }
+        // What is printed so is read, unless memory runs out.
+        ensures only { (s : Taped) → IsTape s → bytes.now ≡ tape_text s → MatchResult result (λ t. t ≡ s) (λ e. e ≡ Refusal.OutOfMemory) }
+        // Which line is at fault.
+        ensures fault { IfErr result (λ e. IsFault IsTapeEvent tape_line bytes.now e) }
+    {
+        tape(alloc, bytes)
+    }
+}

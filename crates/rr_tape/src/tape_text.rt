@@ -1,0 +1,81 @@
+//! Printing tapes.
+
+ghost use Rattle.std.specs.Prelude.{◌≡◌, ◌++◌, OnOk, IfOk, IfErr};
+ghost use Rattle.std.specs.List.{flat_map};
+ghost use Rattle.rr_text.specs.Words.{spaced};
+ghost use Rattle.rr_tape.specs.TapeTexts.{tape_words, tape_line, tape_text};
+
+use crate::tape::Tape;
+use crate::tape_event::TapeEvent;
+use rr_text::text_report::push_report_words;
+use rr_text::text_schedule::{push_event, push_nodes_line};
+use rr_text::{Event, ReportLine};
+use rr_types::Refusal;
+use std::alloc::Global;
+
+fn push_tape_event(out: &mut Vec<u8>, event: &TapeEvent) -> Result<(), Refusal>
+    ensures ok { OnOk result (out.new.items ≡ out.old.items ++ spaced (tape_words event.now)) }
+    ensures err { IfErr result (λ e. e ≡ Refusal.OutOfMemory) }
+{
+    let event = *event;
+    match event {
+        TapeEvent::Submit { node, command } => push_event(out, &Event::Submit { node, command }),
+        TapeEvent::Hear { node, message } => push_event(out, &Event::Hear { node, message }),
+        TapeEvent::Suspect { node, set } => push_event(out, &Event::Suspect { node, set }),
+        TapeEvent::Tick { node } => push_event(out, &Event::Tick { node }),
+        TapeEvent::Advance { node } => push_event(out, &Event::Advance { node }),
+        TapeEvent::Take { node } => push_event(out, &Event::Take { node }),
+        TapeEvent::Mark { node } => push_event(out, &Event::Mark { node }),
+        TapeEvent::Send { number, message } => {
+            let number = u64::from(number);
+            push_report_words(out, &ReportLine::Send { number, message })
+        }
+        TapeEvent::Ack {
+            node,
+            request,
+            reply,
+        } => push_report_words(
+            out,
+            &ReportLine::Ack {
+                node,
+                request,
+                reply,
+            },
+        ),
+    }
+}
+
+fn push_tape_line(out: &mut Vec<u8>, event: &TapeEvent) -> Result<(), Refusal>
+    ensures ok { OnOk result (out.new.items ≡ out.old.items ++ tape_line event.now) }
+    ensures err { IfErr result (λ e. e ≡ Refusal.OutOfMemory) }
+{
+    push_tape_event(out, event)?;
+    out.push(b'\n')?;
+    Ok(())
+}
+
+fn push_tape_lines(out: &mut Vec<u8>, events: &[TapeEvent]) -> Result<(), Refusal>
+    ensures ok { OnOk result (out.new.items ≡ out.old.items ++ flat_map tape_line events.now) }
+    ensures err { IfErr result (λ e. e ≡ Refusal.OutOfMemory) }
+{
+    for event in events {
+        push_tape_line(out, event)?;
+    }
+    Ok(())
+}
+
+impl Tape {
+    /// The text of the tape.
+    ///
+    /// # Errors
+    /// `OutOfMemory`.
+    pub fn text(&self, alloc: Global) -> Result<Vec<u8>, Refusal>
+        ensures ok { IfOk result (λ v. v.items ≡ tape_text self.now) }
+        ensures err { IfErr result (λ e. e ≡ Refusal.OutOfMemory) }
+    {
+        let mut out = Vec::new(alloc);
+        push_nodes_line(&mut out, self.nodes())?;
+        push_tape_lines(&mut out, self.events())?;
+        Ok(out)
+    }
+}
