@@ -9,7 +9,7 @@ use Rattle.rr_types.specs.declared.command.Reply.{Reply}
 use Rattle.rr_types.specs.declared.command.Reply.TheVariants as replies
 use Rattle.rr_types.specs.declared.message.Body.{Body}
 use Rattle.rr_types.specs.declared.message.Body.TheVariants as bodies
-use Rattle.rr_types.specs.Estimates.{Estimated}
+use Rattle.rr_types.specs.Rounds.{Estimated}
 use Rattle.rr_text.specs.Words.{spaced, op_words, set_text, IsOp, IsCommand}
 use Rattle.rr_text.specs.ReportTexts.{request_text, command_words, body_words, message_words, reply_words}
 use Rattle.rr_text.specs.Reading.{◌>>=◌, cut_at, find_by, small_at, number_at, op_at}

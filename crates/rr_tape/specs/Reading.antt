@@ -8,7 +8,7 @@ use Rattle.rr_types.specs.declared.command.Reply.TheVariants.{Claimed, Updated, 
 use Rattle.rr_types.specs.declared.message.Body.{Body}
 use Rattle.rr_types.specs.declared.message.Body.TheVariants as bodies
 use Rattle.rr_types.specs.declared.message.Message.{Message}
-use Rattle.rr_types.specs.Estimates.{Estimated}
+use Rattle.rr_types.specs.Rounds.{Estimated}
 use Rattle.rr_text.specs.declared.event.Event.{Event}
 use Rattle.rr_text.specs.declared.event.Event.TheVariants as events
 use Rattle.rr_text.specs.declared.keyword.Keyword.{Keyword}

@@ -6,7 +6,7 @@ use Rattle.rr_types.specs.declared.command.Reply.TheVariants.{Claimed, Updated, 
 use Rattle.rr_types.specs.declared.message.Body.{Body}
 use Rattle.rr_types.specs.declared.message.Body.TheVariants as bodies
 use Rattle.rr_types.specs.declared.message.Message.{Message}
-use Rattle.rr_types.specs.Estimates.{Estimated}
+use Rattle.rr_types.specs.Rounds.{Estimated}
 use Rattle.rr_text.specs.Words.{IsCommand}
 use Rattle.rr_tape.specs.declared.tape_event.TapeEvent.{TapeEvent}
 use Rattle.rr_tape.specs.declared.tape_event.TapeEvent.TheVariants.{Submit, Hear, Suspect, Tick, Advance, Take, Mark, Send, Ack}
