@@ -1,6 +1,7 @@
 //! How long it takes to encode and decode messages: `bench_wire COUNT`.
 //!
-//! Standard output has what was done, standard error the time. `bench/baseline` does the same in plain Rust.
+//! Standard output has what was done, standard error the time. `bench/baseline` does the same in
+//! plain Rust.
 #![tactic(auto)]
 
 mod messages;

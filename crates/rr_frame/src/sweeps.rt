@@ -60,9 +60,10 @@ const GROUP_FIELDS: [usize; 38] = [
     72, 76, 80, 88, 89, 90, 91, 92, 96, 100, 108, 109, 110, 111,
 ];
 
-/// The snapshot of node 1 of 3 with epoch 5 behind nine facts: instance 0 has decided `7.1 claim a x`;
-/// instance 2 is in round 4, in which `7.2 transfer a 9` was adopted and the node proposed `7.3 release a`;
-/// the last instance is in its last round with `7.2 update a-9`, never adopted, and no proposal.
+/// The snapshot of node 1 of 3 with epoch 5 behind nine facts. Instance 0 has decided
+/// `7.1 claim a x`. Instance 2 is in round 4, in which `7.2 transfer a 9` was adopted and the node
+/// proposed `7.3 release a`. The last instance is in its last round with `7.2 update a-9`, never
+/// adopted, and no proposal.
 const SNAPSHOT: [u8; 125] = [
     2, 1, 3, 0, 0, 0, 0, 0, 0, 0, 5, 0, 0, 0, 0, 0, 0, 0, 9, 0, 0, 0, 3, 0, 0, 0, 0, 1, 0, 0, 0, 7,
     0, 0, 0, 0, 0, 0, 0, 1, 1, 1, 97, 1, 120, 0, 0, 0, 2, 2, 0, 0, 0, 4, 0, 0, 0, 4, 0, 0, 0, 7, 0,
@@ -124,7 +125,7 @@ fn put_at(bytes: &mut [u8], place: usize, byte: u8) {
     }
 }
 
-/// The example is exact, and with each byte at each value; cut, it is refused at the field that is cut.
+/// The example is exact, also with each byte at each value; cut, it is refused at the cut field.
 fn sweep(
     rt: &impl Abort,
     alloc: Global,

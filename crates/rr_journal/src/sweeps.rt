@@ -13,8 +13,8 @@ use std::alloc::Global;
 use std::process::Abort;
 use std::test::Fail;
 
-/// Area 1 behind a switch: the snapshot of node 0 of 1 with epoch 2 behind four facts, by which instance 0 has
-/// decided `7.1 claim a x`, and a closed gate.
+/// Area 1 behind a switch: the snapshot of node 0 of 1 with epoch 2 behind four facts, by which
+/// instance 0 has decided `7.1 claim a x`, and a closed gate.
 const SNAPSHOT: [u8; 51] = [
     0xA5, 0, 0, 0, 0x2D, 2, 0, 1, 0, 0, 0, 0, 0, 0, 0, 2, 0, 0, 0, 0, 0, 0, 0, 4, 0, 0, 0, 1, 0, 0,
     0, 0, 1, 0, 0, 0, 7, 0, 0, 0, 0, 0, 0, 0, 1, 1, 1, 0x61, 1, 0x78, 0,
@@ -29,7 +29,7 @@ fn payload_at(bytes: &[u8], gate: usize) -> Option<&[u8]> {
     reader.take(count as usize).ok()
 }
 
-/// Asserts that the frames of an area, up to its last gate, are the spelling of what is read of them.
+/// Asserts that the frames up to the last gate of an area are the spelling of what is read there.
 fn assert_spelled(
     rt: &impl Abort,
     alloc: Global,
@@ -56,7 +56,7 @@ fn assert_spelled(
     Ok(())
 }
 
-/// Asserts that two areas are broken at a gate of one of them, or hold what they spell, or are unformatted.
+/// Asserts that two areas are broken at a gate, or hold what they spell, or are unformatted.
 fn assert_exact(
     rt: &impl Abort,
     alloc: Global,
@@ -145,7 +145,8 @@ fn what_the_areas_hold(rt: HostRuntime) -> Result<(), Fail> {
     Ok(())
 }
 
-/// An area whose first byte is no open gate is formatted anew: its gate is opened by the sixth device call.
+/// An area whose first byte is no open gate is formatted anew: its gate is opened by the sixth
+/// device call.
 #[test]
 fn an_unformatted_area_is_formatted_anew(rt: HostRuntime) -> Result<(), Fail> {
     let alloc = rt.alloc();
@@ -166,7 +167,8 @@ fn an_unformatted_area_is_formatted_anew(rt: HostRuntime) -> Result<(), Fail> {
     }
     let mut disk = opening.into_disk();
     let bytes = disk.read(alloc, Area::First, 0, u64::MAX)?;
-    // The snapshot of epoch 1 and its open gate; the next gate is closed, and nothing behind it has changed.
+    // The snapshot of epoch 1 and its open gate; the next gate is closed, and nothing behind it has
+    // changed.
     let mut expected = AREA;
     expected[28] = 0;
     assert_eq!(rt; bytes.as_slice(), expected.as_slice());
