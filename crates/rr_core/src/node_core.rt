@@ -43,7 +43,7 @@ impl Core {
     /// A node after its opening, which gave its promise and the number of its next fact: it owes the restatement
     /// of its open instances.
     #[tactic(auto, unfolding(rr_model::specs::NodeStep::started))]
-    pub fn start_at(
+    pub(crate) fn start_at(
         alloc: Global,
         nodes: Nodes,
         node: NodeId,

@@ -1,3 +1,4 @@
+mod AwaitingLaws
 mod DiskLaws
 mod OpeningLaws
 mod ServingLaws

@@ -28,7 +28,8 @@ use Rattle.rr_node.specs.declared.event.Outcome.{Outcome}
 use Rattle.rr_node.specs.declared.event.Outcome.TheVariants.{Quiet}
 use Rattle.rr_node.specs.Seats as seats
 use Rattle.rr_node.specs.Seats.{Seat, Answer, Gives, Fails, read_by, opens_on, seat_step, starve_opening}
-use Rattle.rr_node.specs.Views.{NodeDisk, seat_of, IsOpened, IsSteady, Serves, Carries, CarriesFailing}
+use Rattle.rr_node.specs.Views.{NodeDisk, seat_of, IsAwaiting, HoldSoMany, IsOpened, IsSteady, Serves, Carries, CarriesFailing}
+use Rattle.rr_node.proofs.AwaitingLaws.{KeepsTable, awaits, counts}
 use Rattle.rr_node.proofs.DiskLaws.{passed_on, call_fails}
 
 -- device calls of a node's disk, that succeeded and that were refused, and a step of an opening over it
@@ -84,12 +85,14 @@ stepped n p phase old new v after h is =
     ∙ ap (λ (areas : Areas). opens_on (seat_in n p phase areas) (after_opening_call n p (read_by (due_call phase) old.areas) phase)) (done_areas (due_call phase) old new v h)
 
 -- an opening that goes on
-pub opens_more : (n p : ℕ) (o next : Opening NodeDisk) → Stepped o (Ok (progress.More next)) → Carries n p at.Device (does.Opening o) (Ok Quiet) (does.Opening next)
-opens_more n p o next (v, made, goes, nodes, node) h =
+pub opens_more : (n p : ℕ) (o next : Opening NodeDisk) → Stepped o (Ok (progress.More next)) → KeepsTable o (progress.More next) → Carries n p at.Device (does.Opening o) (Ok Quiet) (does.Opening next)
+opens_more n p o next (v, made, goes, nodes, node) table h =
     let done = made_below (due_call (phase_of o.phase)) o.disk next.disk v h.2 made in
+    let own : IsAwaiting o.nodes o.node o.phase o.disk.below.areas = subst (λ (k : ℕ). IsAwaiting k o.node o.phase o.disk.below.areas) (sym h.0) (subst (λ (k : ℕ). IsAwaiting n k o.phase o.disk.below.areas) (sym h.1) h.3) in
+    let waits : IsAwaiting next.nodes next.node next.phase next.disk.below.areas = awaits o next v done.0 goes nodes node table own in
     let goes_here : after_opening_call n p v.items (phase_of o.phase) ≡ Goes (phase_of next.phase) =
     ap (λ (k : ℕ). after_opening_call k p v.items (phase_of o.phase)) (sym h.0) ∙ ap (λ (k : ℕ). after_opening_call o.nodes k v.items (phase_of o.phase)) (sym h.1) ∙ goes in
-    (inl (stepped n p (phase_of o.phase) o.disk.below next.disk.below v (Goes (phase_of next.phase)) done.0 goes_here), (nodes ∙ h.0, node ∙ h.1, done.1))
+    (inl (stepped n p (phase_of o.phase) o.disk.below next.disk.below v (Goes (phase_of next.phase)) done.0 goes_here), (nodes ∙ h.0, node ∙ h.1, done.1, subst (λ (k : ℕ). IsAwaiting k p next.phase next.disk.below.areas) (nodes ∙ h.0) (subst (λ (k : ℕ). IsAwaiting next.nodes k next.phase next.disk.below.areas) (node ∙ h.1) waits)))
 
 -- only a read or a sync ends an opening
 abbrev StopsBy : Phase → Type 0
@@ -216,3 +219,12 @@ opens_failing n p fill o new refused h =
         → Fails fill (seat_of n p (does.Opening o)) (Err because.Device) (seat_of n p (does.Faulted new))
     by (inl is) = inl (rw is refl)
     by (inr is) = inr (rw is refl)
+
+-- what an opening ends with, so that the node may serve
+pub opens_counted : (n p : ℕ) (o : Opening NodeDisk) (j : Journal NodeDisk) (promise : List Entry) (number : ℕ) → Stepped o (Ok (progress.Done j promise number)) → KeepsTable o (progress.Done j promise number) → IsSteady n p (does.Opening o) → HoldSoMany n p j.disk.below.areas number
+opens_counted n p o j promise number (v, made, opens, is) table h =
+    let done = made_below (due_call (phase_of o.phase)) o.disk j.disk v h.2 made in
+    let own : IsAwaiting o.nodes o.node o.phase o.disk.below.areas = subst (λ (k : ℕ). IsAwaiting k o.node o.phase o.disk.below.areas) (sym h.0) (subst (λ (k : ℕ). IsAwaiting n k o.phase o.disk.below.areas) (sym h.1) h.3) in
+    let many : HoldSoMany o.nodes o.node j.disk.below.areas number =
+    counts o j promise number v done.0 opens (ap (λ (x : Journal NodeDisk). x.nodes) is) (ap (λ (x : Journal NodeDisk). x.node) is) (ap (λ (x : Journal NodeDisk). x.next) is) table own in
+    subst (λ (k : ℕ). HoldSoMany k p j.disk.below.areas number) h.0 (subst (λ (k : ℕ). HoldSoMany o.nodes k j.disk.below.areas number) h.1 many)

@@ -1,17 +1,23 @@
 -- How the code's node stands for a seat, and what keeps its parts together.
-use Rattle.std.specs.Prelude.{◌≡◌, ◌⊎◌, ℕ, ◌+◌, false, List, [], ◌∷◌, Option, None, Some, Result, Ok, Err}
+use Rattle.std.specs.Prelude.{◌≡◌, ◌⊎◌, ℕ, ◌+◌, ◌<◌, ◌^◌, false, length, List, [], ◌∷◌, Option, None, Some, Result, Ok, Err}
+use Rattle.rr_types.specs.declared.fact.Fact.{Fact}
 use Rattle.rr_types.specs.declared.promise.Entry.{Entry}
 use Rattle.rr_types.specs.declared.refusal.Refusal.{Refusal}
 use Rattle.rr_types.specs.declared.refusal.Refusal.TheVariants.{OutOfMemory}
 use Rattle.rr_model.specs.NodeState.{NodeState}
 use Rattle.rr_model.specs.NodeStep.{running_group}
 use Rattle.rr_disk.specs.Areas.{Areas}
+use Rattle.rr_disk.specs.Crash.{Images, IsCrashImage, restarted}
 use Rattle.rr_disk.specs.Failing.{FailingState}
 use Rattle.rr_disk.specs.Memory.{MemoryState}
 use Rattle.rr_frame.specs.GroupFormat.{group_bytes}
 use Rattle.rr_gate.specs.Flushes as gate
 use Rattle.rr_journal.specs.declared.journal.Journal.{Journal}
 use Rattle.rr_journal.specs.Calls.{Write, Sync, frame_bytes}
+use Rattle.rr_journal.specs.declared.opening.Phase as opening
+use Rattle.rr_journal.specs.declared.opening.Phase.TheVariants as phase
+use Rattle.rr_journal.specs.Journals.{Holds}
+use Rattle.rr_journal.specs.OpeningTable.{OpensWith}
 use Rattle.rr_journal.specs.Phases.{phase_of}
 use Rattle.rr_node.specs.declared.doing.Doing as code
 use Rattle.rr_node.specs.declared.doing.Doing.TheVariants as does
@@ -93,11 +99,34 @@ pub record IsServing (n p : ℕ) (s : Serving) : Type 0 where
   pub calm : s.journal.disk.due ≡ None
   pub flush : IsFlushOf s.core s.journal s.flush
 
+-- nothing is loose in either area, of fewer than 2^64 bytes each
+pub record IsAtRest (both : Areas) : Type 0 where
+  pub start : Images
+  pub stands : both ≡ restarted start
+  pub first_fits : length start.of_first < 2 ^ 64
+  pub second_fits : length start.of_second < 2 ^ 64
+
+-- an opening knows what stands on its disk: from its sync on nothing is loose, area 0 is what it has read, and a disk that it formats holds no facts
+abbrev pub IsAwaiting : ℕ → ℕ → opening.Phase → Areas → Type 0
+IsAwaiting n p phase.Settling both = (length both.first.cells < 2 ^ 64) × (length both.second.cells < 2 ^ 64)
+IsAwaiting n p phase.ReadingFirst both = IsAtRest both
+IsAwaiting n p (phase.ReadingSecond first) both = (rests : IsAtRest both) × (first.items ≡ rests.start.of_first)
+IsAwaiting n p (phase.Closing body) both = OpensWith n p [] (phase.Closing body) both
+IsAwaiting n p (phase.SettlingClosed body) both = OpensWith n p [] (phase.SettlingClosed body) both
+IsAwaiting n p (phase.WritingBody body) both = OpensWith n p [] (phase.WritingBody body) both
+IsAwaiting n p phase.SettlingBody both = OpensWith n p [] phase.SettlingBody both
+IsAwaiting n p phase.OpeningGate both = OpensWith n p [] phase.OpeningGate both
+IsAwaiting n p phase.SettlingGate both = OpensWith n p [] phase.SettlingGate both
+
+-- whatever a crash may leave of these areas holds so many facts
+abbrev pub HoldSoMany : ℕ → ℕ → Areas → ℕ → Type 0
+HoldSoMany n p both count = (images : Images) → IsCrashImage both images → (facts : List Fact) → Holds n p images facts → length facts ≡ count
+
 -- what holds of node p of n between events: no failure is due
 abbrev pub IsSteady : ℕ → ℕ → code.Doing → Type 0
 IsSteady n p (does.Stopped disk) = disk.due ≡ None
 IsSteady n p (does.Faulted disk) = disk.due ≡ None
-IsSteady n p (does.Opening opening) = (opening.nodes ≡ n) × (opening.node ≡ p) × (opening.disk.due ≡ None)
+IsSteady n p (does.Opening o) = (o.nodes ≡ n) × (o.node ≡ p) × (o.disk.due ≡ None) × IsAwaiting n p o.phase o.disk.below.areas
 IsSteady n p (does.Serving s) = IsServing n p s
 
 -- from one steady doing an event leads, with this answer, to another as the definitions say

@@ -1,15 +1,18 @@
 //! What a node does: nothing, an opening, or its service.
 
-ghost use Rattle.std.specs.Prelude.{◌≡◌, ◌↔◌, IsTrue, IfOk, IfErr};
+ghost use Rattle.std.specs.Prelude.{◌≡◌, ◌↔◌, None, IsTrue, IfOk, IfErr};
 ghost use Rattle.rr_types.specs.Registry.{registry_of};
 ghost use Rattle.rr_model.specs.NodeState.{decided_prefix};
 ghost use Rattle.rr_types.specs.declared.refusal.Refusal.TheVariants.{OutOfMemory, Device};
-ghost use Rattle.rr_node.specs.Views.{Carries, CarriesFailing, Serves, areas_of, due_of};
+ghost use Rattle.rr_journal.specs.Openings.{Settling};
+ghost use Rattle.rr_node.specs.Seats as seats;
+ghost use Rattle.rr_node.specs.Views.{Carries, CarriesFailing, Serves, IsSteady, HoldSoMany, areas_of, doing_of, due_of};
 
 use crate::event::{BoundNames, NodeEvent, Outcome};
 use crate::serving::Serving;
 use rr_core::Core;
-use rr_disk::{FailingDisk, MemDisk};
+use rr_disk::{Area, Disk, FailingDisk, MemDisk};
+use rr_gate::Opened;
 use rr_journal::{Journal, Opening, Progress};
 use rr_types::{NodeId, Nodes, Promise, Refusal};
 use std::alloc::Global;
@@ -52,21 +55,16 @@ pub fn go_on(
     doing: Doing,
     event: NodeEvent,
 ) -> (Doing, Result<Outcome, Refusal>)
+    requires { IsSteady nodes node doing }
     ensures { Carries nodes node event doing result.1 result.0 }
 {
     match doing {
         Doing::Stopped(disk) => match event {
-            NodeEvent::Restart => (
-                Doing::Opening(Opening::start(nodes, node, disk)),
-                Ok(Outcome::Quiet),
-            ),
+            NodeEvent::Restart => (restart(nodes, node, disk), Ok(Outcome::Quiet)),
             _ => (Doing::Stopped(disk), Err(Refusal::Down)),
         },
         Doing::Faulted(disk) => match event {
-            NodeEvent::Restart => (
-                Doing::Opening(Opening::start(nodes, node, disk)),
-                Ok(Outcome::Quiet),
-            ),
+            NodeEvent::Restart => (restart(nodes, node, disk), Ok(Outcome::Quiet)),
             _ => (Doing::Faulted(disk), Err(Refusal::Failed)),
         },
         Doing::Opening(opening) => match event {
@@ -76,6 +74,18 @@ pub fn go_on(
         },
         Doing::Serving(serving) => serving.go_on(alloc, event),
     }
+}
+
+/// An opening of the disk begins.
+fn restart(nodes: Nodes, node: NodeId, disk: NodeDisk) -> Doing
+    ensures doing { doing_of result ≡ seats.Opening Settling }
+    ensures areas { areas_of result ≡ disk.below.areas }
+    ensures steady { disk.due ≡ None → IsSteady nodes node result }
+{
+    // The lengths have numbers of 64 bits.
+    let _first = disk.len(Area::First);
+    let _second = disk.len(Area::Second);
+    Doing::Opening(Opening::start(nodes, node, disk))
 }
 
 /// The next device call of a node fails with this fill. A node that is down or has failed refuses it, and where
@@ -107,6 +117,7 @@ fn open_on(
     node: NodeId,
     opening: Opening<NodeDisk>,
 ) -> (Doing, Result<Outcome, Refusal>)
+    requires { IsSteady nodes node (Doing.Opening opening) }
     ensures { Carries nodes node NodeEvent.Device (Doing.Opening opening) result.1 result.0 }
 {
     match opening.step(alloc) {
@@ -140,9 +151,11 @@ fn serve(
     promise: Promise,
     number: u64,
 ) -> (Doing, Result<Outcome, Refusal>)
+    requires { HoldSoMany nodes node journal.disk.below.areas number }
     ensures { Serves nodes node journal promise number result.1 result.0 }
 {
-    match Core::start_at(alloc, nodes, node, promise, number) {
+    let opened = Opened::new(&journal, nodes, node, number);
+    match Core::start(alloc, nodes, node, promise, &opened) {
         Ok(core) => match bound_names(alloc, &core) {
             Ok(names) => {
                 let decided = core.decided_count() as u64;
