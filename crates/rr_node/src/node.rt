@@ -96,4 +96,12 @@ impl Node {
         disk.crash(u64::from(cut_first), u64::from(cut_second), fill);
         drop(mem::replace(&mut self.doing, Doing::Stopped(disk)).into_disk());
     }
+
+    /// The node's disk, of which whatever ran over it is given up.
+    pub fn into_disk(mut self, alloc: Global) -> FailingDisk<MemDisk>
+        ensures { result.below.areas ≡ self.areas }
+    {
+        let down = Doing::Stopped(FailingDisk::new(MemDisk::new(alloc)));
+        mem::replace(&mut self.doing, down).into_disk()
+    }
 }

@@ -139,6 +139,18 @@ impl Cluster {
         })
     }
 
+    /// The nodes by their numbers.
+    pub fn into_nodes(self) -> Vec<Node>
+        ensures { result.items ≡ self.seats }
+    {
+        let Cluster {
+            seats,
+            wire: _,
+            lines: _,
+        } = self;
+        seats
+    }
+
     /// All messages ever sent.
     pub fn wire(&self) -> &[Message]
         ensures { result.now ≡ self.now.wire }

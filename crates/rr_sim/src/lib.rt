@@ -8,4 +8,4 @@ mod simulator;
 pub use chosen::decided_list;
 pub use cluster::Cluster;
 pub use rr_text::{Binding, BoundNames, Event, Fill, MAX_EVENTS, Report, ReportLine, Schedule};
-pub use simulator::simulate;
+pub use simulator::{nodes_after, simulate};

@@ -1,11 +1,13 @@
 //! The simulator: a schedule in, the report of its run out.
 
 ghost use Rattle.std.specs.Prelude.{◌≡◌, ◌↔◌, ◌<◌, ◌≤◌, ◌⊎◌, ℕ, length, Some, OnOk, IfOk, IfErr, IsErrOf, IsTrue, All};
-ghost use Rattle.rr_sim.specs.Clusters.{first_fault, is_served, Leads, IsReportOf};
+ghost use Rattle.rr_sim.specs.Clusters as cluster;
+ghost use Rattle.rr_sim.specs.Clusters.{first_fault, is_served, Leads, IsReportOf, new_cluster};
 ghost use Rattle.rr_text.specs.Scheduled.{node_of};
 
 use crate::chosen::decided_list;
 use crate::cluster::Cluster;
+use rr_node::Node;
 use rr_text::{Event, Report, Schedule};
 use rr_types::{NodeId, Nodes, Refusal};
 use std::alloc::Global;
@@ -26,6 +28,21 @@ pub fn simulate(alloc: Global, nodes: u8, schedule: &Schedule) -> Result<Report,
         Ok(count) => match first_fault(count, events) {
             Some(line) => Err(Refusal::BadEvent(line)),
             None => run(alloc, count, events),
+        },
+    }
+}
+
+/// Runs a schedule as `simulate` does, and gives the nodes behind its last event, with their disks.
+/// Errors as of `simulate`.
+pub fn nodes_after(alloc: Global, nodes: u8, schedule: &Schedule) -> Result<Vec<Node>, Refusal>
+    ensures { IfOk result (λ seats. (end : cluster.Cluster) × Leads 2 schedule.now.events (new_cluster nodes) end × (seats.items ≡ end.seats)) }
+{
+    let events = schedule.events();
+    match Nodes::new(nodes) {
+        Err(refusal) => Err(refusal),
+        Ok(count) => match first_fault(count, events) {
+            Some(line) => Err(Refusal::BadEvent(line)),
+            None => Ok(cluster_after(alloc, count, events)?.into_nodes()),
         },
     }
 }
@@ -79,10 +96,21 @@ fn run(alloc: Global, nodes: Nodes, events: &[Event]) -> Result<Report, Refusal>
     ensures report { IfOk result (λ report. IsReportOf nodes events.now report) }
     ensures err { IfErr result (λ e. e ≡ Refusal.OutOfMemory) }
 {
-    let mut cluster = Cluster::new(alloc, nodes)?;
-    run_events(alloc, &mut cluster, events)?;
+    let cluster = cluster_after(alloc, nodes, events)?;
     let decided = decided_list(alloc, nodes, cluster.wire())?;
     Ok(Report::new(cluster.into_lines(), decided))
+}
+
+/// The nodes, the wire and the report behind events that can all be run.
+fn cluster_after(alloc: Global, nodes: Nodes, events: &[Event]) -> Result<Cluster, Refusal>
+    requires short { length events.now ≤ 1000000 }
+    requires served { All (λ e. IsTrue (is_served e)) events.now }
+    ensures ok { IfOk result (λ end. Leads 2 events.now (new_cluster nodes) end) }
+    ensures err { IfErr result (λ e. e ≡ Refusal.OutOfMemory) }
+{
+    let mut cluster = Cluster::new(alloc, nodes)?;
+    run_events(alloc, &mut cluster, events)?;
+    Ok(cluster)
 }
 
 /// Runs the events in order.

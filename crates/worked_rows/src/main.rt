@@ -1,0 +1,104 @@
+//! Says of each text that it is given by name whether it is printed as it was read, or what it is refused with:
+//! of tapes, whose names end in `.tape`, and of schedules. Behind the word `run` it prints the report of each
+//! schedule, and behind the word `areas` the bytes that the areas of node 0 hold at its end.
+#![tactic(auto)]
+
+ghost use Rattle.std.specs.Prelude.{◌≡◌, IfOk};
+ghost use Rattle.rr_cli.specs.Ends.{IsReportOn};
+
+use rr_cli::report_on;
+use rr_disk::{Area, Disk};
+use rr_sim::nodes_after;
+use rr_tape::Tape;
+use rr_text::Schedule;
+use rr_types::Refusal;
+use std::alloc::Global;
+use std::io::Write;
+use std::{env, fs, io};
+
+/// What is done with the texts that follow.
+#[derive(Clone, Copy, Debug)]
+enum Task {
+    Read,
+    Run,
+    Areas,
+}
+
+fn printed(alloc: Global, is_tape: bool, bytes: &[u8]) -> Result<Vec<u8>, Refusal>
+    // What is read is printed so.
+    ensures { IfOk result (λ text. text.items ≡ bytes.now) }
+{
+    if is_tape {
+        Tape::parse(alloc, bytes)?.text(alloc)
+    } else {
+        Schedule::parse(alloc, bytes)?.text(alloc)
+    }
+}
+
+fn read_again(rt: &HostRuntime, path: &str, bytes: &[u8]) -> io::Result<()> {
+    match printed(rt.alloc(), path.ends_with(".tape"), bytes) {
+        Ok(text) if text.as_slice() == bytes => { println!(rt; "{path} printed as it was read") }
+        Ok(_) => println!(rt; "{path} printed otherwise"),
+        Err(refusal) => println!(rt; "{path} {refusal}"),
+    }
+}
+
+fn run(rt: &HostRuntime, path: &str, bytes: &[u8]) -> io::Result<()> {
+    match report_on(rt.alloc(), bytes) {
+        Ok(report) => {
+            println!(rt; "{path} run")?;
+            rt.stdout().write_all(&report)
+        }
+        Err(refusal) => println!(rt; "{path} {refusal}"),
+    }
+}
+
+/// The bytes of both areas of node 0 behind the schedule.
+fn areas_after(alloc: Global, bytes: &[u8]) -> Result<[Vec<u8>; 2], Refusal> {
+    let schedule = Schedule::parse(alloc, bytes)?;
+    let mut nodes = nodes_after(alloc, schedule.nodes().count(), &schedule)?;
+    nodes.truncate(1);
+    match nodes.pop() {
+        None => Err(Refusal::BadNodes),
+        Some(node) => {
+            let mut disk = node.into_disk(alloc);
+            let first = disk.read(alloc, Area::First, 0, u64::MAX)?;
+            let second = disk.read(alloc, Area::Second, 0, u64::MAX)?;
+            Ok([first, second])
+        }
+    }
+}
+
+fn print_areas(rt: &HostRuntime, path: &str, bytes: &[u8]) -> io::Result<()> {
+    match areas_after(rt.alloc(), bytes) {
+        Ok(areas) => {
+            for area in &areas {
+                println!(rt; "{path} area of {} bytes", area.len())?;
+                for byte in area {
+                    println!(rt; "{byte:02X}")?;
+                }
+            }
+            Ok(())
+        }
+        Err(refusal) => println!(rt; "{path} {refusal}"),
+    }
+}
+
+fn main(rt: HostRuntime) -> io::Result<()> {
+    let mut task = Task::Read;
+    for word in env::args(&rt)?.skip(1) {
+        match word.as_str() {
+            "run" => task = Task::Run,
+            "areas" => task = Task::Areas,
+            path => {
+                let bytes = fs::read(&rt, path)?;
+                match task {
+                    Task::Read => read_again(&rt, path, &bytes)?,
+                    Task::Run => run(&rt, path, &bytes)?,
+                    Task::Areas => print_areas(&rt, path, &bytes)?,
+                }
+            }
+        }
+    }
+    Ok(())
+}
