@@ -1,0 +1,38 @@
+#!/usr/bin/env python3
+"""Tries the edits beside it, each on a copy of the repository: the compiler must refuse each with its error.
+
+The gate can't try them: its must-fail edits have to compile, and it is the prover that refuses those."""
+import pathlib
+import re
+import subprocess
+import sys
+import tempfile
+
+FOLDER = pathlib.Path(__file__).resolve().parent
+
+
+def field(text, name):
+    return re.search(rf"^{name}: (.*)$", text, re.MULTILINE).group(1)
+
+
+def refused(edit):
+    text = edit.read_text()
+    with tempfile.TemporaryDirectory() as copy:
+        subprocess.run(["git", "clone", "--quiet", str(FOLDER.parent), copy], check=True)
+        path = pathlib.Path(copy) / field(text, "file")
+        source = path.read_text()
+        if source.count(field(text, "old")) != 1:
+            return "its old text doesn't stand there once"
+        path.write_text(source.replace(field(text, "old"), field(text, "new")))
+        ran = subprocess.run(["rt", "try", "--test"], cwd=path.parent.parent, capture_output=True, text=True)
+        if ran.returncode != 0 and field(text, "error") in ran.stdout + ran.stderr:
+            return None
+        return "it was not refused with its error:\n" + ran.stdout + ran.stderr
+
+
+failed = 0
+for edit in sorted(FOLDER.glob("*.edit")):
+    fault = refused(edit)
+    failed += fault is not None
+    print(edit.stem, "refused" if fault is None else fault, flush=True)
+sys.exit(failed != 0)
