@@ -24,7 +24,8 @@ def refused(edit):
         if source.count(field(text, "old")) != 1:
             return "its old text doesn't stand there once"
         path.write_text(source.replace(field(text, "old"), field(text, "new")))
-        ran = subprocess.run(["rt", "try", "--test"], cwd=path.parent.parent, capture_output=True, text=True)
+        program = pathlib.Path(copy) / "crates" / "rr"
+        ran = subprocess.run(["rt", "try", "--", "--version"], cwd=program, capture_output=True, text=True)
         if ran.returncode != 0 and field(text, "error") in ran.stdout + ran.stderr:
             return None
         return "it was not refused with its error:\n" + ran.stdout + ran.stderr
