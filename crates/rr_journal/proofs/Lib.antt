@@ -4,6 +4,7 @@ pub mod FormatLaws
 pub mod FoundLaws
 pub mod FrameLaws
 pub mod ImageLaws
+pub mod OpeningEnds
 pub mod OpeningLaws
 pub mod PlaceLemmas
 pub mod ReadingLaws

@@ -2,6 +2,7 @@ pub mod Calls
 pub mod Ends
 pub mod Image
 pub mod Journals
+pub mod OpenDisks
 pub mod Openings
 pub mod OpeningSteps
 pub mod OpeningTable

@@ -2,7 +2,6 @@
 use Rattle.std.specs.Prelude.{◌≡◌, ◌⊎◌, ℕ, ◌-◌, ◌^◌, ◌<◌, true, List, [], ◌∷◌, length, Result, Ok, Err}
 use Rattle.rr_types.specs.declared.fact.Fact.{Fact}
 use Rattle.rr_types.specs.declared.refusal.Refusal.{Refusal}
-use Rattle.rr_types.specs.Promises.{promise_of}
 use Rattle.rr_disk.specs.declared.area.Area.TheVariants.{First}
 use Rattle.rr_disk.specs.Areas.{Areas, IsTorn, extent_of, bytes_of, read_of, synced}
 use Rattle.rr_disk.specs.Crash.{Images, restarted}
@@ -18,7 +17,8 @@ use Rattle.rr_journal.specs.declared.opening.Progress as code_3
 use Rattle.rr_journal.specs.declared.opening.Progress.TheVariants as progress
 use Rattle.rr_journal.specs.Calls.{Call, Read, Write, Sync, after_call, frame_bytes, must_close}
 use Rattle.rr_journal.specs.Image.{Unformatted, Active, found}
-use Rattle.rr_journal.specs.Journals.{Holds, IsOver}
+use Rattle.rr_journal.specs.Journals.{Holds}
+use Rattle.rr_journal.specs.OpenDisks.{IsOpenWith}
 
 -- a read gave these bytes of its area
 abbrev pub IsReadBy : Call → Areas → List ℕ → Type 0
@@ -96,8 +96,7 @@ GoesOnWith n p facts (next.Open area epoch gate promise number) both =
 -- a step of such an opening gives one, or a journal over these facts, their promise and how many they are
 abbrev pub ComesTo : {D : Type 0} → (D → Areas) → List Fact → code_3.Progress D → Type 0
 ComesTo areas facts (progress.More opening) = OpensWith opening.nodes opening.node facts opening.phase (areas opening.disk)
-ComesTo areas facts (progress.Done journal promise number) =
-    ((start : Images) × (areas journal.disk ≡ restarted start) × IsOver journal start facts) × (promise ≡ promise_of facts) × (number ≡ length facts)
+ComesTo areas facts (progress.Done journal promise number) = IsOpenWith areas facts (journal, promise, number)
 
 -- both areas are as they were, or every image that a crash may leave holds these facts
 abbrev pub IsKept : (Images → List Fact → Type 0) → List Fact → Areas → Areas → Type 0

@@ -12,6 +12,7 @@ ghost use Rattle.rr_journal.specs.Openings.{Settling, ReadingSecond, Done, Refus
 ghost use Rattle.rr_journal.specs.Phases.{phase_of, Follows};
 ghost use Rattle.rr_journal.specs.OpeningSteps.{Steps};
 ghost use Rattle.rr_journal.specs.OpeningTable.{IsReadBy, IsLeftBy, Rests, contents, OpensWith, GoesOnWith, ComesTo, IsKept, disk_after};
+ghost use Rattle.rr_journal.specs.OpenDisks.{IsOpenWith, IsReady, disk_behind};
 ghost use Rattle.rr_journal.specs.Journals.{Holds};
 
 use crate::image::{Image, read_image};
@@ -125,6 +126,54 @@ impl<D: Disk> Opening<D> {
                 )),
             },
         }
+    }
+
+    /// Makes all device calls that are left: the journal, the promise of the facts that it holds, and the
+    /// number of the next fact. A refused opening hands its disk back.
+    /// Errors: as of `step`.
+    pub fn finish(self, alloc: Global) -> Result<(Journal<D>, Promise, u64), (Refusal, D)>
+        ensures tells { D.tells self.disk → D.tells (disk_behind result) }
+        ensures journal { IfOk result (λ r. IsReady self.nodes self.node r) }
+        ensures table { D.tells self.disk → (facts : List Fact) → OpensWith self.nodes self.node facts self.phase (D.areas self.disk)
+            → IfOk result (λ r. IsOpenWith D.areas facts r) }
+        ensures undamaged { D.tells self.disk → (facts : List Fact) → OpensWith self.nodes self.node facts self.phase (D.areas self.disk)
+            → IfErr result (λ r. (r.0 ≡ OutOfMemory) ⊎ (r.0 ≡ Device)) }
+        ensures kept { D.tells self.disk → (facts : List Fact) → OpensWith self.nodes self.node facts self.phase (D.areas self.disk)
+            → IsKept (Holds self.nodes self.node) facts (D.areas self.disk) (D.areas (disk_behind result)) }
+    {
+        let mut opening = self;
+        loop {
+            match opening.step(alloc) {
+                Err(refused) => return Err(refused),
+                Ok(Progress::More(next)) => opening = next,
+                Ok(Progress::Done(journal, promise, number)) => {
+                    return Ok((journal, promise, number));
+                }
+            }
+        }
+    }
+}
+
+impl<D: Disk> Journal<D> {
+    /// Opens a node's disk by all steps of an `Opening`: the journal, the promise of the facts that it holds,
+    /// and the number of the next fact. A refused opening hands its disk back.
+    /// Errors: `OutOfMemory`, `Device`; `Damaged`, of a disk that holds no facts.
+    pub fn open(
+        alloc: Global,
+        nodes: Nodes,
+        node: NodeId,
+        disk: D,
+    ) -> Result<(Journal<D>, Promise, u64), (Refusal, D)>
+        ensures tells { D.tells disk → D.tells (disk_behind result) }
+        ensures journal { IfOk result (λ r. IsReady nodes node r) }
+        ensures table { D.tells disk → (facts : List Fact) → length (D.areas disk).first.cells < 2 ^ 64 → length (D.areas disk).second.cells < 2 ^ 64
+            → Holds nodes node (contents (D.areas disk)) facts → IfOk result (λ r. IsOpenWith D.areas facts r) }
+        ensures undamaged { D.tells disk → (facts : List Fact) → length (D.areas disk).first.cells < 2 ^ 64 → length (D.areas disk).second.cells < 2 ^ 64
+            → Holds nodes node (contents (D.areas disk)) facts → IfErr result (λ r. (r.0 ≡ OutOfMemory) ⊎ (r.0 ≡ Device)) }
+        ensures kept { D.tells disk → (facts : List Fact) → length (D.areas disk).first.cells < 2 ^ 64 → length (D.areas disk).second.cells < 2 ^ 64
+            → Holds nodes node (contents (D.areas disk)) facts → IsKept (Holds nodes node) facts (D.areas disk) (D.areas (disk_behind result)) }
+    {
+        Opening::start(nodes, node, disk).finish(alloc)
     }
 }
 

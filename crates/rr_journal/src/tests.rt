@@ -1,9 +1,13 @@
-//! Openings of one area, with each answer by hand.
+//! Openings of areas and of disks, with each answer by hand.
 
 use super::*;
-use rr_disk::Area;
-use rr_types::{NodeId, Nodes, Refusal};
+use rr_disk::{Area, Disk, FailingDisk, MemDisk};
+use rr_types::{
+    Command, Entry, Estimate, Fact, Group, Instance, Name, NodeId, Nodes, Op, Refusal, RequestNo,
+    Round, Standing, Value,
+};
 use std::alloc::Global;
+use std::test::Fail;
 
 /// Area 0 of node 0 of 1 behind four facts: it entered round 1 of instance 0 with `7.1 claim a x`, proposed
 /// it, adopted it and decided. The gates stand at 0, 28, 73, 114, 155 and 192.
@@ -103,4 +107,100 @@ fn two_areas(rt: HostRuntime) {
             Err(Refusal::Damaged { area: 0, offset: 0 })
         )
     );
+}
+
+/// A group of one fact, the first of `AREA`: the node enters round 1 of instance 0 with `7.1 claim a x`.
+fn entered(alloc: Global) -> Result<Group, Fail> {
+    let instance = Instance::new(0).ok_or("an instance")?;
+    let round = Round::new(1).ok_or("a round")?;
+    let command = Command {
+        request: RequestNo { client: 7, seq: 1 },
+        op: Op::Claim(Name::new(b"a")?, Value::new(b"x")?),
+    };
+    let estimate = Estimate::new(round, 0, command).ok_or("an estimate")?;
+    let facts = [Fact::Enter(instance, estimate)].to_vec(alloc)?;
+    Ok(Group::new(0, facts).map_err(|_| "a group")?)
+}
+
+/// An empty disk opens with no facts; a fact that a flush wrote is there when it is opened again.
+#[test]
+fn a_disk_is_opened_twice(rt: HostRuntime) -> Result<(), Fail> {
+    let alloc = rt.alloc();
+    let nodes = Nodes::new(1)?;
+    let node = NodeId::new(nodes, 0).ok_or("a node")?;
+    let (mut journal, promise, number) = Journal::open(
+        alloc,
+        nodes,
+        node,
+        MemDisk::new(alloc),
+    ).map_err(|refused| refused.0)?;
+    assert_eq!(rt;
+        (journal.facts(), number, promise.entries().len()),
+        (0, 0, 0)
+    );
+    let job = journal
+        .begin(alloc, entered(alloc)?)
+        .map_err(|refused| refused.0)?;
+    let job = job.step(&mut journal)?;
+    let job = job.step(&mut journal)?;
+    let job = job.step(&mut journal)?;
+    let flushed = job.step(&mut journal)?.into_group();
+    assert_eq!(rt; (flushed.serial(), journal.facts()), (0, 1));
+    let (journal, promise, number) = Journal::open(alloc, nodes, node, journal.into_disk()).map_err(
+        |refused| refused.0,
+    )?;
+    assert_eq!(rt; (journal.facts(), number), (1, 1));
+    match promise.entries() {
+        [
+            Entry {
+                instance,
+                standing: Standing::Open(open),
+            },
+        ] => {
+            assert_eq!(rt;
+                (instance.number(), open.round().number(), open.stamp()),
+                (0, 1, 0)
+            );
+        }
+        _ => assert!(rt; false, "another promise"),
+    }
+    // The frames of `AREA` up to its first group, and a closed gate behind it.
+    let mut disk = journal.into_disk();
+    let bytes = disk.read(alloc, Area::First, 0, u64::MAX)?;
+    let (last, before) = bytes.split_last().ok_or("an empty area")?;
+    assert_eq!(rt; before, &AREA[..73]);
+    assert_eq!(rt; *last, 0);
+    assert_eq!(rt; disk.len(Area::Second), 0);
+    Ok(())
+}
+
+/// A refused opening hands the disk back, which can be opened then: an empty one by nine device calls.
+#[test]
+fn a_refused_opening_is_repeated(rt: HostRuntime) -> Result<(), Fail> {
+    let alloc = rt.alloc();
+    let nodes = Nodes::new(1)?;
+    let node = NodeId::new(nodes, 0).ok_or("a node")?;
+    let mut disk = FailingDisk::new(MemDisk::new(alloc));
+    disk.fail_next(Vec::new(alloc));
+    let disk = match Journal::open(alloc, nodes, node, disk) {
+        Err((Refusal::Device, disk)) => disk,
+        _ => return Err("an opening whose sync failed".into()),
+    };
+    assert_eq!(rt; disk.below().len(Area::First), 0);
+    let mut opening = Opening::start(nodes, node, disk);
+    for _ in 0..8 {
+        match opening.step(alloc) {
+            Ok(Progress::More(next)) => opening = next,
+            Ok(Progress::Done(_, _, _)) => return Err("an opening of nine calls".into()),
+            Err((refusal, _)) => return Err(refusal.into()),
+        }
+    }
+    let (journal, promise, number) = opening.finish(alloc).map_err(|refused| refused.0)?;
+    assert_eq!(rt; (number, promise.entries().len()), (0, 0));
+    let mut disk = journal.into_disk();
+    let bytes = disk.read(alloc, Area::First, 0, u64::MAX)?;
+    let (last, before) = bytes.split_last().ok_or("an empty area")?;
+    assert_eq!(rt; before, &AREA[..28]);
+    assert_eq!(rt; *last, 0);
+    Ok(())
 }
