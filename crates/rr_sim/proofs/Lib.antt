@@ -1,2 +1,4 @@
 pub mod ChosenLemmas
 pub mod RunLemmas
+pub mod TellingLaws
+pub mod SubmittedLaws

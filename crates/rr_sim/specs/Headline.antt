@@ -1,0 +1,103 @@
+-- A schedule run is a run of the world, and what its report tells agrees with one list of commands.
+use Rattle.std.specs.Prelude.{◌≡◌, ◌⊎◌, ℕ, ◌+◌, ◌≤◌, IsTrue, List, [], ◌∷◌, ◌++◌, length, map, take, slice_get, Some}
+use Rattle.std.specs.List.{Contains, flat_map, AllByRecursion}
+use Rattle.rr_types.specs.declared.command.Command.{Command}
+use Rattle.rr_types.specs.declared.command.RequestNo.{RequestNo}
+use Rattle.rr_types.specs.declared.command.Reply.{Reply}
+use Rattle.rr_types.specs.declared.fact.Fact.{Fact}
+use Rattle.rr_types.specs.declared.message.Body.TheVariants.{Decision}
+use Rattle.rr_types.specs.declared.message.Message.{Message}
+use Rattle.rr_types.specs.Registry.{Bindings, registry_of, reply_of, has_request}
+use Rattle.rr_model.specs.Laws.{after_steps}
+use Rattle.rr_model.specs.Sound.{IsDecidedList, IsSound}
+use Rattle.rr_model.specs.World as world
+use Rattle.rr_model.specs.World.{World, Step, Stage, Settle, GoDown, Acknowledge, Told, Sent, Acknowledged, empty_world, IsRun, end_of}
+use Rattle.rr_text.specs.declared.event.Event.{Event}
+use Rattle.rr_text.specs.declared.event.Event.TheVariants.{Submit, Hear, Suspect, Tick, Advance, Take, Device, Fail, Mark, Send, Ack, Snap, Crash, Restart}
+use Rattle.rr_text.specs.declared.report.Binding.{Binding}
+use Rattle.rr_text.specs.declared.report.ReportLine.{ReportLine}
+use Rattle.rr_text.specs.declared.report.ReportLine.TheVariants as line
+use Rattle.rr_text.specs.Reported.{Reported}
+use Rattle.rr_sim.specs.Clusters.{Cluster, new_cluster, Steps, shown}
+
+-- the registry that a report shows by its bound names
+abbrev pub bound : List Binding → Bindings
+bound names = map (λ b. (b.name, record { owner = b.owner; value = b.value })) names
+
+-- what a line of a report tells in the world; a refusal tells nothing
+abbrev pub told_by_line : ReportLine → List Told
+told_by_line (line.Send number m) = Sent m ∷ []
+told_by_line (line.Ack p q reply) = Acknowledged p q reply ∷ []
+told_by_line (line.Restart p facts decided names) = world.Reported p decided (bound names) ∷ []
+told_by_line (line.Refuse at e) = []
+
+-- what the lines of a report tell, in order
+abbrev pub told_in : List ReportLine → List Told
+told_in lines = flat_map told_by_line lines
+
+-- node p stages a fact
+abbrev pub IsStaging : ℕ → Step → Type 0
+IsStaging p step = (f : Fact) × (step ≡ Stage p f)
+
+-- a step of the world that an event over this wire may take: it is at the event's node. A device call ends a flush, or
+-- an opening, or fails for want of memory
+abbrev pub IsStepOf : List Message → Event → Step → Type 0
+IsStepOf wire (Submit p c) step = (step ≡ world.Submit p c) ⊎ IsStaging p step
+IsStepOf wire (Hear p k) step = ((m : Message) × (slice_get wire k ≡ Some m) × (step ≡ world.Hear p m)) ⊎ IsStaging p step
+IsStepOf wire (Suspect p set) step = IsStaging p step
+IsStepOf wire (Tick p) step = IsStaging p step
+IsStepOf wire (Advance p) step = IsStaging p step
+IsStepOf wire (Take p) step = ⊥
+IsStepOf wire (Device p) step = ((count : ℕ) × (step ≡ Settle p count)) ⊎ ((count : ℕ) × (step ≡ world.Restart p count)) ⊎ (step ≡ GoDown p)
+IsStepOf wire (Fail p fill) step = step ≡ GoDown p
+IsStepOf wire (Mark p) step = ⊥
+IsStepOf wire (Send p) step = (m : Message) × (step ≡ world.Send p m)
+IsStepOf wire (Ack p) step = (q : RequestNo) × (reply : Reply) × (step ≡ Acknowledge p q reply)
+IsStepOf wire (Snap p) step = ⊥
+IsStepOf wire (Crash p a b fill) step = step ≡ GoDown p
+IsStepOf wire (Restart p) step = ⊥
+
+-- a cluster and the world have the same messages on the wire, and the report tells what was told
+pub record IsAlike (c : Cluster) (w : World) : Type 0 where
+  pub wire : w.wire ≡ c.wire
+  pub told : w.trace ≡ told_in c.lines
+
+-- the events, of which the first stands on this line, lead from one cluster to another, and each takes the world
+-- along by some steps of its own
+abbrev pub TakesAlong : ℕ → List Event → Cluster → World → List (List Step) → Cluster → Type 0
+TakesAlong at [] old w [] new = new ≡ old
+TakesAlong at [] old w (steps ∷ pieces) new = ⊥
+TakesAlong at (e ∷ es) old w [] new = ⊥
+TakesAlong at (e ∷ es) old w (steps ∷ pieces) new =
+    (next : Cluster) × Steps at e old next × AllByRecursion (IsStepOf old.wire e) steps × IsAlike next (after_steps w steps)
+    × TakesAlong (at + 1) es next (after_steps w steps) pieces new
+
+-- the schedule run of n nodes is a sound run of the world: one piece of it for each event, and the same wire and tale
+-- as the report's behind each; the report ends with the decided list of its wire
+pub record IsRunOfTheWorld (n : ℕ) (events : List Event) (report : Reported) : Type 0 where
+  pub pieces : List (List Step)
+  pub at_the_end : Cluster
+  pub is_a_run : IsRun n (flat_map (λ piece. piece) pieces)
+  pub is_this_one : TakesAlong 2 events (new_cluster n) empty_world pieces at_the_end
+  pub lines : report.lines ≡ at_the_end.lines
+  pub wire : (end_of (flat_map (λ piece. piece) pieces)).wire ≡ at_the_end.wire
+  pub told : (end_of (flat_map (λ piece. piece) pieces)).trace ≡ told_in report.lines
+  pub decided : IsDecidedList n (end_of (flat_map (λ piece. piece) pieces)).wire report.decided
+  pub is_sound : IsSound n (flat_map (λ piece. piece) pieces)
+
+-- what a report tells agrees with the one list of commands that it ends with
+pub record AgreesWithOneList (events : List Event) (report : Reported) : Type 0 where
+  -- each command of the list was submitted by the schedule
+  pub submitted : (c : Command) → Contains report.decided c → (p : ℕ) × Contains events (Submit p c)
+  -- a restarted node has the registry of a beginning of the list
+  pub restarts : (p facts count : ℕ) (names : List Binding) → Contains report.lines (line.Restart p facts count names) →
+      (count ≤ length report.decided) × (names ≡ shown (registry_of (take count report.decided)))
+  -- and this beginning holds all that the node acknowledged before
+  pub nothing_acknowledged_is_lost : (before after : List ReportLine) (p facts count : ℕ) (names : List Binding) →
+      report.lines ≡ before ++ line.Restart p facts count names ∷ after →
+      (q : RequestNo) (reply : Reply) → Contains before (line.Ack p q reply) → IsTrue (has_request (take count report.decided) q)
+  -- an acknowledged reply is the list's
+  pub replies : (p : ℕ) (q : RequestNo) (reply : Reply) → Contains report.lines (line.Ack p q reply) → reply_of report.decided q ≡ Some reply
+  -- no two nodes say that an instance has decided differently
+  pub decisions : (j k i : ℕ) (m o : Message) (v w : Command) → Contains report.lines (line.Send j m) → Contains report.lines (line.Send k o) →
+      m.body ≡ Decision i v → o.body ≡ Decision i w → v ≡ w
