@@ -31,3 +31,4 @@ pub mod NodeRuns
 pub mod NodeWeights
 pub mod NodeEnds
 pub mod NodeSteady
+pub mod NodeReached
