@@ -20,7 +20,7 @@ use Rattle.rr_disk.specs.Counts.{Grew}
 use Rattle.rr_disk.specs.Failing.{FailingWrite, FailingSync}
 use Rattle.rr_disk.specs.Memory.{MemoryState, MemoryWrite, MemorySync}
 use Rattle.rr_frame.specs.Numbers.{number_bytes}
-use Rattle.rr_frame.specs.GroupFormat.{group_bytes}
+use Rattle.rr_frame.specs.GroupFormat.{group_bytes, IsLawfulGroup}
 use Rattle.rr_frame.proofs.FieldLaws.{length-number_bytes}
 use Rattle.rr_gate.specs.Flushes as gate
 use Rattle.rr_journal.specs.declared.journal.Journal.{Journal}
@@ -45,7 +45,7 @@ flush_stays s t j f same h = by f h
     group = ap (λ (o : Option (List Fact)). option_map (λ facts. record { serial = t.marked_end; facts = facts }) o) same.running ∙ ap (λ (n : ℕ). option_map (λ (facts : List Fact). record { serial = n; facts = facts }) s.running) same.marked_end
 
     job_stays : (job : gate.Flush) → IsJobOf s j job → IsJobOf t j job
-    job_stays job h = record { node = h.node ∙ sym same.node; area = h.area; gate = h.gate; body = h.body; group = group ∙ h.group }
+    job_stays job h = record { node = h.node ∙ sym same.node; area = h.area; gate = h.gate; body = h.body; group = group ∙ h.group; lawful = h.lawful }
 
     by : (f : Flush) → IsFlushOf s j f → IsFlushOf t j f
     by flush.Resting h = (same.running ∙ h.0, h.1)
@@ -171,10 +171,10 @@ take_is s j seat group fits some is fit =
     ∙ ap (λ (b : Bool). taken_with s j seat false b (group_bytes group)) fit
 
 pub begin_done : (s t : NodeState) (j k : Journal NodeDisk) (group : Grouped) (job : gate.Flush) → s.staged ≢ [] → t ≡ group_taken s → Some group ≡ running_group t → s.running ≡ None
-    → j.gate + 6 + length (group_bytes group) < 2 ^ 32 → k ≡ record j { busy = true }
+    → IsLawfulGroup group → j.gate + 6 + length (group_bytes group) < 2 ^ 32 → k ≡ record j { busy = true }
     → job ≡ record { nodes = j.nodes; node = j.node; area = j.area; gate = j.gate; body = frame_bytes (group_bytes group); group = group }
     → CarriesOn at.Take (record { core = s; journal = j; flush = flush.Resting }) (Ok Quiet) (does.Serving (record { core = t; journal = k; flush = flush.Body job }))
-begin_done s t j k group job some taken runs rests small busy is n p h =
+begin_done s t j k group job some taken runs rests lawful small busy is n p h =
     rw (taken, busy, is) (
       inl (sym step),
       record {
@@ -184,7 +184,7 @@ begin_done s t j k group job some taken runs rests small busy is n p h =
         journal_node = h.journal_node;
         sound = h.sound;
         calm = h.calm;
-        flush = record { node = h.journal_node ∙ sym (nodes_stay.1 ∙ h.node); area = refl; gate = refl; body = refl; group = group_is };
+        flush = record { node = h.journal_node ∙ sym (nodes_stay.1 ∙ h.node); area = refl; gate = refl; body = refl; group = group_is; lawful = lawful };
       },
     )
   where
@@ -259,7 +259,7 @@ flush_goes s j k f g call next calls is behind same gave keeps n p h =
 -- a job stays of the running group over another disk
 pub job_goes : (s : NodeState) (j k : Journal NodeDisk) (job next : gate.Flush) → k ≡ record j { disk = k.disk } → next ≡ job → IsJobOf s j job → IsJobOf s k next
 job_goes s j k job next same is h =
-    rw is (record { node = h.node; area = h.area ∙ sym (ap (λ (x : Journal NodeDisk). x.area) same); gate = h.gate ∙ sym (ap (λ (x : Journal NodeDisk). x.gate) same); body = h.body; group = h.group })
+    rw is (record { node = h.node; area = h.area ∙ sym (ap (λ (x : Journal NodeDisk). x.area) same); gate = h.gate ∙ sym (ap (λ (x : Journal NodeDisk). x.gate) same); body = h.body; group = h.group; lawful = h.lawful })
 
 -- a job's step was refused: by a journal that has failed, and nothing has changed, or by a device call that gave this
 abbrev pub IsRefused : (NodeDisk → Result (Unit {0}) Refusal → NodeDisk → Type 0) → Journal NodeDisk → Journal NodeDisk → Refusal → Type 0

@@ -2,3 +2,4 @@ pub mod ChosenLemmas
 pub mod RunLemmas
 pub mod TellingLaws
 pub mod SubmittedLaws
+pub mod ClusterLaws

@@ -1,12 +1,13 @@
 -- What a run of a schedule submits was submitted by an event of it.
-use Rattle.std.proofs.Common.{◌≡◌, ◌⊎◌, inl, inr, ℕ, zero, suc, ◌+◌, List, [], ◌∷◌, ◌++◌, Contains, refl, sym, ap, subst, arith}
+use Rattle.std.proofs.Common.{◌≡◌, ◌⊎◌, inl, inr, ℕ, zero, suc, ◌+◌, List, [], ◌∷◌, ◌++◌, map, Contains, refl, sym, ap, subst, arith}
 use Rattle.std.specs.Prelude.{Some, slice_get}
-use Rattle.std.specs.List.{flat_map, fold, AllByRecursion}
+use Rattle.std.specs.List.{flat_map, fold}
 use Rattle.std.proofs.lemmas.List.Sums.{fold-append}
 use Rattle.std.proofs.lemmas.List.Elements.{Contains-append_cases}
 use Rattle.rr_types.specs.declared.command.Command.{Command}
 use Rattle.rr_types.specs.declared.command.RequestNo.{RequestNo}
 use Rattle.rr_types.specs.declared.command.Reply.{Reply}
+use Rattle.rr_types.specs.declared.fact.Fact.{Fact}
 use Rattle.rr_types.specs.declared.message.Message.{Message}
 use Rattle.rr_model.specs.Laws.{after_steps}
 use Rattle.rr_model.specs.World as world
@@ -14,38 +15,68 @@ use Rattle.rr_model.specs.World.{World, Step, Stage, Settle, GoDown, Acknowledge
 use Rattle.rr_text.specs.declared.event.Event.{Event}
 use Rattle.rr_text.specs.declared.event.Event.TheVariants.{Submit, Hear, Suspect, Tick, Advance, Take, Device, Fail, Mark, Send, Ack, Snap, Crash, Restart}
 use Rattle.rr_sim.specs.Clusters.{Cluster, new_cluster}
-use Rattle.rr_sim.specs.Headline.{IsStaging, IsStepOf, TakesAlong}
+use Rattle.rr_node.specs.Runs.{AreStaged, AreStagedBehind, MayFall, IsDeviceCall}
+use Rattle.rr_sim.specs.Headline.{AreStepsOf, TakesAlong}
 
--- a step changes nothing that was submitted
-abbrev pub SubmitsNothing : Step → Type 0
-SubmitsNothing s = (w : World) → (after_step w s).submitted ≡ w.submitted
+-- these steps submit nothing
+abbrev pub SubmitNothing : List Step → Type 0
+SubmitNothing steps = (w : World) → (after_steps w steps).submitted ≡ w.submitted
 
-staging : (p : ℕ) (s : Step) → IsStaging p s → SubmitsNothing s
-staging p s (f, is) = subst SubmitsNothing (sym is) (λ w. refl)
+staged : (p : ℕ) (facts : List Fact) → SubmitNothing (map (Stage p) facts)
+staged p [] w = refl
+staged p (f ∷ facts) w = staged p facts (after_step w (Stage p f))
 
-going_down : (p : ℕ) (s : Step) → s ≡ GoDown p → SubmitsNothing s
-going_down p s is = subst SubmitsNothing (sym is) (λ w. refl)
+-- steps that are these
+so : (is steps : List Step) → steps ≡ is → SubmitNothing is → SubmitNothing steps
+so is steps e h = subst SubmitNothing (sym e) h
 
--- a step of an event submits nothing, or it is a submit of that event
-of_event : (wire : List Message) (e : Event) (s : Step) → IsStepOf wire e s → ((p : ℕ) × (c : Command) × (e ≡ Submit p c) × (s ≡ world.Submit p c)) ⊎ SubmitsNothing s
-of_event wire (Submit p c) s (inl is) = inl (p, c, refl, is)
-of_event wire (Submit p c) s (inr is) = inr (staging p s is)
-of_event wire (Hear p k) s (inl (m, at, is)) = inr (subst SubmitsNothing (sym is) (λ w. refl))
-of_event wire (Hear p k) s (inr is) = inr (staging p s is)
-of_event wire (Suspect p set) s is = inr (staging p s is)
-of_event wire (Tick p) s is = inr (staging p s is)
-of_event wire (Advance p) s is = inr (staging p s is)
-of_event wire (Take p) s is = absurd is
-of_event wire (Device p) s (inl (count, is)) = inr (subst SubmitsNothing (sym is) (λ w. refl))
-of_event wire (Device p) s (inr (inl (count, is))) = inr (subst SubmitsNothing (sym is) (λ w. refl))
-of_event wire (Device p) s (inr (inr is)) = inr (going_down p s is)
-of_event wire (Fail p fill) s is = inr (going_down p s is)
-of_event wire (Mark p) s is = absurd is
-of_event wire (Send p) s (m, is) = inr (subst SubmitsNothing (sym is) (λ w. refl))
-of_event wire (Ack p) s (q, reply, is) = inr (subst SubmitsNothing (sym is) (λ w. refl))
-of_event wire (Snap p) s is = absurd is
-of_event wire (Crash p a b fill) s is = inr (going_down p s is)
-of_event wire (Restart p) s is = absurd is
+nothing : (steps : List Step) → steps ≡ [] → SubmitNothing steps
+nothing steps e = so [] steps e (λ w. refl)
+
+are_staged : (p : ℕ) (steps : List Step) → AreStaged p steps → SubmitNothing steps
+are_staged p steps (facts, e) = so (map (Stage p) facts) steps e (staged p facts)
+
+falls : (p : ℕ) (steps : List Step) → MayFall p steps → SubmitNothing steps
+falls p steps (inl e) = nothing steps e
+falls p steps (inr e) = so (GoDown p ∷ []) steps e (λ w. refl)
+
+calls : (p : ℕ) (steps : List Step) → IsDeviceCall p steps → SubmitNothing steps
+calls p steps (inl h) = falls p steps h
+calls p steps (inr (inl (count, e))) = so (Settle p count ∷ []) steps e (λ w. refl)
+calls p steps (inr (inr (count, e))) = so (world.Restart p count ∷ []) steps e (λ w. refl)
+
+hears : (p : ℕ) (m : Message) (steps : List Step) → AreStagedBehind p (world.Hear p m) steps → SubmitNothing steps
+hears p m steps (inl e) = nothing steps e
+hears p m steps (inr (facts, e)) = so (world.Hear p m ∷ map (Stage p) facts) steps e (λ w. staged p facts (after_step w (world.Hear p m)))
+
+-- the event is a submit of this command at p, and so are the steps
+record Submits (e : Event) (steps : List Step) : Type 0 where
+  node : ℕ
+  command : Command
+  facts : List Fact
+  event : e ≡ Submit node command
+  are : steps ≡ world.Submit node command ∷ map (Stage node) facts
+
+-- the steps of an event submit nothing, or it is a submit
+of_event : (wire : List Message) (e : Event) (steps : List Step) → AreStepsOf wire e steps → Submits e steps ⊎ SubmitNothing steps
+of_event wire (Submit p c) steps (inl e) = inr (nothing steps e)
+of_event wire (Submit p c) steps (inr (facts, e)) = inl (record { node = p; command = c; facts = facts; event = refl; are = e })
+of_event wire (Hear p k) steps (inl e) = inr (nothing steps e)
+of_event wire (Hear p k) steps (inr (m, at, h)) = inr (hears p m steps h)
+of_event wire (Suspect p set) steps h = inr (are_staged p steps h)
+of_event wire (Tick p) steps h = inr (are_staged p steps h)
+of_event wire (Advance p) steps h = inr (are_staged p steps h)
+of_event wire (Take p) steps h = inr (nothing steps h)
+of_event wire (Device p) steps h = inr (calls p steps h)
+of_event wire (Fail p fill) steps h = inr (falls p steps h)
+of_event wire (Mark p) steps h = inr (nothing steps h)
+of_event wire (Send p) steps (inl e) = inr (nothing steps e)
+of_event wire (Send p) steps (inr (m, e)) = inr (so (world.Send p m ∷ []) steps e (λ w. refl))
+of_event wire (Ack p) steps (inl e) = inr (nothing steps e)
+of_event wire (Ack p) steps (inr (q, reply, e)) = inr (so (Acknowledge p q reply ∷ []) steps e (λ w. refl))
+of_event wire (Snap p) steps h = inr (nothing steps h)
+of_event wire (Crash p a b fill) steps h = inr (falls p steps h)
+of_event wire (Restart p) steps h = inr (nothing steps h)
 
 -- it was submitted before, or by this event
 abbrev pub BeforeOrBy : World → Event → Command → Type 0
@@ -55,23 +86,19 @@ only : {A : Type 0} (x y : A) → Contains (y ∷ []) x → y ≡ x
 only x y (zero, l, e) = e
 only x y (suc k, l, e) = absurd (omega (arith, l))
 
-by_step : (wire : List Message) (e : Event) (s : Step) (w : World) (c : Command) → IsStepOf wire e s → Contains (after_step w s).submitted c → BeforeOrBy w e c
-by_step wire e s w c of there = by (of_event wire e s of)
+by_steps : (wire : List Message) (e : Event) (steps : List Step) (w : World) (c : Command) → AreStepsOf wire e steps → Contains (after_steps w steps).submitted c → BeforeOrBy w e c
+by_steps wire e steps w c of there = by (of_event wire e steps of)
   where
     last : (p : ℕ) (d : Command) → e ≡ Submit p d → Contains w.submitted c ⊎ Contains (d ∷ []) c → BeforeOrBy w e c
     last p d is (inl old) = inl old
     last p d is (inr new) = inr (p, subst (λ (x : Command). e ≡ Submit p x) (only c d new) is)
-    by : ((p : ℕ) × (d : Command) × (e ≡ Submit p d) × (s ≡ world.Submit p d)) ⊎ SubmitsNothing s → BeforeOrBy w e c
-    by (inl (p, d, is, same)) = last p d is (Contains-append_cases w.submitted (d ∷ []) c (subst (λ (x : Step). Contains (after_step w x).submitted c) same there))
-    by (inr none) = inl (subst (λ (cs : List Command). Contains cs c) (none w) there)
 
-by_steps : (wire : List Message) (e : Event) (steps : List Step) (w : World) (c : Command) → AllByRecursion (IsStepOf wire e) steps → Contains (after_steps w steps).submitted c → BeforeOrBy w e c
-by_steps wire e [] w c of there = inl there
-by_steps wire e (s ∷ steps) w c of there = by (by_steps wire e steps (after_step w s) c of.1 there)
-  where
-    by : BeforeOrBy (after_step w s) e c → BeforeOrBy w e c
-    by (inl before) = by_step wire e s w c of.0 before
-    by (inr here) = inr here
+    by : Submits e steps ⊎ SubmitNothing steps → BeforeOrBy w e c
+    by (inl h) =
+        let first = after_step w (world.Submit h.node h.command) in
+        let there_so : Contains (after_steps first (map (Stage h.node) h.facts)).submitted c = subst (λ (x : List Step). Contains (after_steps w x).submitted c) h.are there in
+        last h.node h.command h.event (Contains-append_cases w.submitted (h.command ∷ []) c (subst (λ (cs : List Command). Contains cs c) (staged h.node h.facts first) there_so))
+    by (inr none) = inl (subst (λ (cs : List Command). Contains cs c) (none w) there)
 
 -- an event of the schedule submits the command
 abbrev pub IsSubmittedIn : List Event → Command → Type 0

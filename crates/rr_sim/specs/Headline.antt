@@ -1,17 +1,18 @@
 -- A schedule run is a run of the world, and what its report tells agrees with one list of commands.
 use Rattle.std.specs.Prelude.{◌≡◌, ◌⊎◌, ℕ, ◌+◌, ◌≤◌, IsTrue, List, [], ◌∷◌, ◌++◌, length, map, take, slice_get, Some}
-use Rattle.std.specs.List.{Contains, flat_map, AllByRecursion}
+use Rattle.std.specs.List.{Contains, flat_map}
 use Rattle.rr_types.specs.declared.command.Command.{Command}
 use Rattle.rr_types.specs.declared.command.RequestNo.{RequestNo}
 use Rattle.rr_types.specs.declared.command.Reply.{Reply}
-use Rattle.rr_types.specs.declared.fact.Fact.{Fact}
 use Rattle.rr_types.specs.declared.message.Body.TheVariants.{Decision}
 use Rattle.rr_types.specs.declared.message.Message.{Message}
 use Rattle.rr_types.specs.Registry.{Bindings, registry_of, reply_of, has_request}
 use Rattle.rr_model.specs.Laws.{after_steps}
 use Rattle.rr_model.specs.Sound.{IsDecidedList, IsSound}
 use Rattle.rr_model.specs.World as world
-use Rattle.rr_model.specs.World.{World, Step, Stage, Settle, GoDown, Acknowledge, Told, Sent, Acknowledged, empty_world, IsRun, end_of}
+use Rattle.rr_model.specs.World.{World, Step, Told, Sent, Acknowledged, empty_world, IsRun, end_of}
+use Rattle.rr_node.specs.declared.event.NodeEvent.TheVariants as node
+use Rattle.rr_node.specs.Runs.{MayBe, MayFall}
 use Rattle.rr_text.specs.declared.event.Event.{Event}
 use Rattle.rr_text.specs.declared.event.Event.TheVariants.{Submit, Hear, Suspect, Tick, Advance, Take, Device, Fail, Mark, Send, Ack, Snap, Crash, Restart}
 use Rattle.rr_text.specs.declared.report.Binding.{Binding}
@@ -35,27 +36,22 @@ told_by_line (line.Refuse at e) = []
 abbrev pub told_in : List ReportLine → List Told
 told_in lines = flat_map told_by_line lines
 
--- node p stages a fact
-abbrev pub IsStaging : ℕ → Step → Type 0
-IsStaging p step = (f : Fact) × (step ≡ Stage p f)
-
--- a step of the world that an event over this wire may take: it is at the event's node. A device call ends a flush, or
--- an opening, or fails for want of memory
-abbrev pub IsStepOf : List Message → Event → Step → Type 0
-IsStepOf wire (Submit p c) step = (step ≡ world.Submit p c) ⊎ IsStaging p step
-IsStepOf wire (Hear p k) step = ((m : Message) × (slice_get wire k ≡ Some m) × (step ≡ world.Hear p m)) ⊎ IsStaging p step
-IsStepOf wire (Suspect p set) step = IsStaging p step
-IsStepOf wire (Tick p) step = IsStaging p step
-IsStepOf wire (Advance p) step = IsStaging p step
-IsStepOf wire (Take p) step = ⊥
-IsStepOf wire (Device p) step = ((count : ℕ) × (step ≡ Settle p count)) ⊎ ((count : ℕ) × (step ≡ world.Restart p count)) ⊎ (step ≡ GoDown p)
-IsStepOf wire (Fail p fill) step = step ≡ GoDown p
-IsStepOf wire (Mark p) step = ⊥
-IsStepOf wire (Send p) step = (m : Message) × (step ≡ world.Send p m)
-IsStepOf wire (Ack p) step = (q : RequestNo) × (reply : Reply) × (step ≡ Acknowledge p q reply)
-IsStepOf wire (Snap p) step = ⊥
-IsStepOf wire (Crash p a b fill) step = step ≡ GoDown p
-IsStepOf wire (Restart p) step = ⊥
+-- the steps of the world that an event over this wire may be, all at its node
+abbrev pub AreStepsOf : List Message → Event → List Step → Type 0
+AreStepsOf wire (Submit p c) steps = MayBe p (node.Submit c) steps
+AreStepsOf wire (Hear p k) steps = (steps ≡ []) ⊎ ((m : Message) × (slice_get wire k ≡ Some m) × MayBe p (node.Hear m) steps)
+AreStepsOf wire (Suspect p set) steps = MayBe p (node.Suspect set) steps
+AreStepsOf wire (Tick p) steps = MayBe p node.Tick steps
+AreStepsOf wire (Advance p) steps = MayBe p node.Advance steps
+AreStepsOf wire (Take p) steps = MayBe p node.Take steps
+AreStepsOf wire (Device p) steps = MayBe p node.Device steps
+AreStepsOf wire (Fail p fill) steps = MayFall p steps
+AreStepsOf wire (Mark p) steps = MayBe p node.Mark steps
+AreStepsOf wire (Send p) steps = MayBe p node.Send steps
+AreStepsOf wire (Ack p) steps = MayBe p node.Acknowledge steps
+AreStepsOf wire (Snap p) steps = steps ≡ []
+AreStepsOf wire (Crash p a b fill) steps = MayFall p steps
+AreStepsOf wire (Restart p) steps = MayBe p node.Restart steps
 
 -- a cluster and the world have the same messages on the wire, and the report tells what was told
 pub record IsAlike (c : Cluster) (w : World) : Type 0 where
@@ -69,7 +65,7 @@ TakesAlong at [] old w [] new = new ≡ old
 TakesAlong at [] old w (steps ∷ pieces) new = ⊥
 TakesAlong at (e ∷ es) old w [] new = ⊥
 TakesAlong at (e ∷ es) old w (steps ∷ pieces) new =
-    (next : Cluster) × Steps at e old next × AllByRecursion (IsStepOf old.wire e) steps × IsAlike next (after_steps w steps)
+    (next : Cluster) × Steps at e old next × AreStepsOf old.wire e steps × IsAlike next (after_steps w steps)
     × TakesAlong (at + 1) es next (after_steps w steps) pieces new
 
 -- the schedule run of n nodes is a sound run of the world: one piece of it for each event, and the same wire and tale

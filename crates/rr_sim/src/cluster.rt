@@ -1,7 +1,8 @@
 //! A cluster of nodes with their disks: what each event of a schedule does to it.
 
 ghost use Rattle.std.specs.Prelude.{◌≡◌, ◌++◌, length, option_to_list, Ok, OnOk, IfOk, IfErr, IsTrue};
-ghost use Rattle.rr_sim.specs.Clusters.{shown, note_of, sent_by, new_cluster, at_node, fail_at, hear_at, crash_at, is_served, IsEither, Steps};
+ghost use Rattle.rr_sim.specs.Clusters.{shown, note_of, new_cluster, at_node, fail_at, hear_at, crash_at, is_served, IsEither, Steps, IsSpeltAt, IsSpeltBehind};
+ghost use Rattle.rr_node.specs.Runs.{sent_by};
 
 use rr_node::{Node, NodeEvent, Outcome};
 use rr_registry::Holding;
