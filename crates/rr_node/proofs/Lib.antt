@@ -2,3 +2,4 @@ mod AwaitingLaws
 mod DiskLaws
 mod OpeningLaws
 mod ServingLaws
+pub mod InOrder
