@@ -31,4 +31,6 @@ pub mod NodeRuns
 pub mod NodeWeights
 pub mod NodeEnds
 pub mod NodeSteady
+pub mod Fits
 pub mod NodeReached
+pub mod NodeInWorld

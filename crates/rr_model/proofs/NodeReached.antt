@@ -1,12 +1,11 @@
 -- What holds of a node that was reached: it is truthful and lawful, and its facts fit.
 use Rattle.std.proofs.Common.{◌≡◌, ℕ, true, List, [], ◌∷◌, ◌++◌, length, take, refl, ap, sym, ◌∙◌, subst, append-nil}
-use Rattle.std.proofs.lemmas.Bool.{and_parts, and_from}
+use Rattle.std.proofs.lemmas.Bool.{and_from}
 use Rattle.std.proofs.lemmas.List.{take_at}
 use Rattle.rr_types.specs.declared.fact.Fact.{Fact}
-use Rattle.rr_types.specs.declared.promise.Entry.{Entry}
 use Rattle.rr_types.specs.Facts.{instance_of, standing_of}
 use Rattle.rr_types.specs.Standings.{fits}
-use Rattle.rr_types.specs.Promises.{standing_in, promise_of, take_on, take_on_all, all_fit}
+use Rattle.rr_types.specs.Promises.{promise_of, all_fit}
 use Rattle.rr_model.specs.Lawful.{Heard}
 use Rattle.rr_model.specs.NodeState.{NodeState}
 use Rattle.rr_model.specs.NodeStep.{Input, Submit, Suspect, Tick, Advance, Hear, node_step}
@@ -14,6 +13,7 @@ use Rattle.rr_model.specs.NodeLaws.{AreLawful, NodeEvent, Told, Grouped, PutBack
 use Rattle.rr_model.specs.NodeReached.{IsProperInput, IsProperEvent, IsReached, Opened, Happened, StagesLawfully, IsItself}
 use Rattle.rr_model.proofs.Permitted.{lawful_permitted}
 use Rattle.rr_model.proofs.Promised.{standing_in-promise_of, lawful_fits}
+use Rattle.rr_model.proofs.Fits.{take_both, fit_both}
 use Rattle.rr_model.proofs.NodeKnows.{in_flight, Knows}
 use Rattle.rr_model.proofs.NodeStages.{Fitting, Steps, steps, step_goes, event_knows, moment, started_knows}
 
@@ -76,25 +76,6 @@ module _ (n p : ℕ) (facts : List Fact) (h : Heard) (s : NodeState) (R : IsReac
   reached_lawful Marked x = (tt, tt)
   reached_lawful Left x = (tt, tt)
   reached_lawful Answered x = (tt, tt)
-
--- a promise takes on one list of facts, and then another
-take_both : (es : List Entry) (xs ys : List Fact) → take_on_all (take_on_all es xs) ys ≡ take_on_all es (xs ++ ys)
-take_both es [] ys = refl
-take_both es (x ∷ xs) ys = take_both (take_on es x) xs ys
-
--- facts fit together where the later ones fit the promise of the first
-pub fit_both : (n p : ℕ) (es : List Entry) (xs ys : List Fact) → all_fit n p es xs ≡ true → all_fit n p (take_on_all es xs) ys ≡ true → all_fit n p es (xs ++ ys) ≡ true
-fit_both n p es [] ys a b = b
-fit_both n p es (x ∷ xs) ys a b =
-    let parts : (fits n p (standing_in es (instance_of x)) x ≡ true) × (all_fit n p (take_on es x) xs ≡ true) = and_parts _ _ a in
-    and_from _ _ parts.0 (fit_both n p (take_on es x) xs ys parts.1 b)
-
--- and the later ones fit where all do
-pub fit_later : (n p : ℕ) (es : List Entry) (xs ys : List Fact) → all_fit n p es (xs ++ ys) ≡ true → all_fit n p (take_on_all es xs) ys ≡ true
-fit_later n p es [] ys a = a
-fit_later n p es (x ∷ xs) ys a =
-    let parts : (fits n p (standing_in es (instance_of x)) x ≡ true) × (all_fit n p (take_on es x) (xs ++ ys) ≡ true) = and_parts _ _ a in
-    fit_later n p (take_on es x) xs ys parts.1
 
 -- lawful facts fit the promise of those before them
 lawful_all_fit : (n p : ℕ) (before : List Fact) (h : Heard) (more : List Fact) → AreLawful n p before h more → all_fit n p (promise_of before) more ≡ true

@@ -74,7 +74,8 @@ impl Node {
     /// failed. A node that is down refuses it with `Down` and one that has failed with `Failed`; where no
     /// device call is due nothing happens.
     pub fn fail(&mut self, alloc: Global, fill: Vec<u8>) -> Result<Outcome, Refusal>
-        ensures { Fails fill.items self.old result self.new }
+        ensures fails { Fails fill.items self.old result self.new }
+        ensures spelt { IsSpelt self.new.doing }
     {
         let doing = mem::replace(
             &mut self.doing,
