@@ -3,3 +3,5 @@ pub mod RunLemmas
 pub mod TellingLaws
 pub mod SubmittedLaws
 pub mod ClusterLaws
+pub mod HeadlineLaws
+pub mod NodeLaws

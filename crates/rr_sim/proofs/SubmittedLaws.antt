@@ -108,7 +108,7 @@ later : (e : Event) (es : List Event) (c : Command) → IsSubmittedIn es c → I
 later e es c (p, (k, l, is)) = (p, (suc k, omega (arith, l), is))
 
 -- the steps of all pieces, one behind the other
-joined : (w : World) (steps : List Step) (pieces : List (List Step)) → after_steps w (flat_map (λ piece. piece) (steps ∷ pieces)) ≡ after_steps (after_steps w steps) (flat_map (λ piece. piece) pieces)
+pub joined : (w : World) (steps : List Step) (pieces : List (List Step)) → after_steps w (flat_map (λ piece. piece) (steps ∷ pieces)) ≡ after_steps (after_steps w steps) (flat_map (λ piece. piece) pieces)
 joined w steps pieces = fold-append after_step w steps (flat_map (λ piece. piece) pieces)
 
 pub submitted_by_events : (at : ℕ) (events : List Event) (old new : Cluster) (w : World) (pieces : List (List Step)) (c : Command) → TakesAlong at events old w pieces new

@@ -61,11 +61,11 @@ sent_more w m x h c = by (Contains-append_cases w.trace (Sent m ∷ []) (Sent x)
     by (inr new) = Contains-append_right w.wire (m ∷ []) x (let e : Sent m ≡ Sent x = only (Sent x) (Sent m) new in let f : m ≡ x = cc in (0, omega arith, f))
 
 told_else : (w : World) (t : Told) (x : Message) → IsSentOnWire w → ((t ≡ Sent x) → ⊥) → Contains (w.trace ++ t ∷ []) (Sent x) → Contains w.wire x
-told_else w t x h no c = by (Contains-append_cases w.trace (t ∷ []) (Sent x) c)
+told_else w t x h else c = by (Contains-append_cases w.trace (t ∷ []) (Sent x) c)
   where
     by : Contains w.trace (Sent x) ⊎ Contains (t ∷ []) (Sent x) → Contains w.wire x
     by (inl old) = h x old
-    by (inr new) = absurd (no (only (Sent x) t new))
+    by (inr new) = absurd (else (only (Sent x) t new))
 
 sent_step : (w : World) (s : Step) → IsSentOnWire w → IsSentOnWire (after_step w s)
 sent_step w (world.Submit p c) h = h
