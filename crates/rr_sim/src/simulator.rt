@@ -112,7 +112,8 @@ fn run(alloc: Global, nodes: Nodes, events: &[Event]) -> Result<Report, Refusal>
 fn cluster_after(alloc: Global, nodes: Nodes, events: &[Event]) -> Result<Cluster, Refusal>
     requires short { length events.now ≤ 1000000 }
     requires served { All (λ e. IsTrue (is_served e)) events.now }
-    ensures ok { IfOk result (λ end. LeadsSpelt 2 events.now (new_cluster nodes) end) }
+    ensures ok { IfOk result (λ end. Leads 2 events.now (new_cluster nodes) end) }
+    ensures spelt { IfOk result (λ end. LeadsSpelt 2 events.now (new_cluster nodes) end) }
     ensures err { IfErr result (λ e. e ≡ Refusal.OutOfMemory) }
 {
     let mut cluster = Cluster::new(alloc, nodes)?;
@@ -124,7 +125,8 @@ fn cluster_after(alloc: Global, nodes: Nodes, events: &[Event]) -> Result<Cluste
 fn run_events(alloc: Global, cluster: &mut Cluster, events: &[Event]) -> Result<(), Refusal>
     requires short { length events.now ≤ 1000000 }
     requires served { All (λ e. IsTrue (is_served e)) events.now }
-    ensures ok { OnOk result (LeadsSpelt 2 events.now cluster.old cluster.new) }
+    ensures ok { OnOk result (Leads 2 events.now cluster.old cluster.new) }
+    ensures spelt { OnOk result (LeadsSpelt 2 events.now cluster.old cluster.new) }
     ensures err { IfErr result (λ e. e ≡ Refusal.OutOfMemory) }
 {
     let mut line = 2u64;

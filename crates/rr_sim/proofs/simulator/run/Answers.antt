@@ -18,9 +18,9 @@ its_list c =
 pub returns-clause-report : goal.returns-clause-report
 returns-clause-report c =
     let valid = c.requires.ranges in
-    is_report c.args.nodes valid.0 (node_laws c.args.nodes c.requires.few) c.args.events.now c.in_ok-cluster.cluster c.new.result valid.1 c.in_ok-cluster.ensures.ok (same_lines c) (its_list c)
+    is_report c.args.nodes valid.0 (node_laws c.args.nodes c.requires.few) c.args.events.now c.in_ok-cluster.cluster c.new.result valid.1 c.in_ok-cluster.ensures.spelt (same_lines c) (its_list c)
 
 pub returns-clause-world : goal.returns-clause-world
 returns-clause-world c =
     let valid = c.requires.ranges in
-    is_world_run c.args.nodes valid.0 (node_laws c.args.nodes c.requires.few) c.args.events.now c.in_ok-cluster.cluster c.new.result valid.1 c.in_ok-cluster.ensures.ok (same_lines c) (its_list c)
+    is_world_run c.args.nodes valid.0 (node_laws c.args.nodes c.requires.few) c.args.events.now c.in_ok-cluster.cluster c.new.result valid.1 c.in_ok-cluster.ensures.spelt (same_lines c) (its_list c)
