@@ -179,8 +179,8 @@ module _ (n : ℕ) (laws : NodeLaws n) where
           let is : at_node p at starved event c ≡ with_answer p at c (result starved seat) = ap step e in
           let spelt_so : IsSpelt (result starved seat).1.doing = subst (λ (x : Cluster). IsSpeltAt p x) is spelt (result starved seat).1 (get_here c.seats p seat (result starved seat).1 e) in
           subst (λ (x : Cluster). Took n Are w x) (sym is) (
-            answered n p at (MayBe p event) Are w c seat (result starved seat) so h e
-            (laws.steps p event seat (result starved seat).1 w (result starved seat).0 (h.seats p seat e) may (gives starved seat) spelt_so)
+          answered n p at (MayBe p event) Are w c seat (result starved seat) so h e
+          (laws.steps p event seat (result starved seat).1 w (result starved seat).0 (h.seats p seat e) may (gives starved seat) spelt_so)
           )
 
   -- a failing device call at node p
@@ -202,8 +202,8 @@ module _ (n : ℕ) (laws : NodeLaws n) where
       by (Some seat) e =
           let is : fail_at p at starved fill c ≡ with_answer p at c (result starved seat) = ap step e in
           subst (λ (x : Cluster). Took n (MayFall p) w x) (sym is) (
-            answered n p at (MayFall p) (MayFall p) w c seat (result starved seat) (λ steps m. m) h e
-            (laws.fails p fill seat (result starved seat).1 w (result starved seat).0 (bytes_of fill bytes) (h.seats p seat e) (gives starved seat))
+          answered n p at (MayFall p) (MayFall p) w c seat (result starved seat) (λ steps m. m) h e
+          (laws.fails p fill seat (result starved seat).1 w (result starved seat).0 (bytes_of fill bytes) (h.seats p seat e) (gives starved seat))
           )
 
   -- a crash of node p
@@ -222,8 +222,8 @@ module _ (n : ℕ) (laws : NodeLaws n) where
       by (Some seat) e =
           let is : crash_at p a b fill c ≡ with_answer p at c (Ok Quiet, crashed a b fill seat) = ap step e ∙ silent seat in
           subst (λ (x : Cluster). Took n (MayFall p) w x) (sym is) (
-            answered n p at (MayFall p) (MayFall p) w c seat (Ok Quiet, crashed a b fill seat) (λ steps m. m) h e
-            (laws.crashes p a b fill seat w (bytes_of fill bytes) (h.seats p seat e))
+          answered n p at (MayFall p) (MayFall p) w c seat (Ok Quiet, crashed a b fill seat) (λ steps m. m) h e
+          (laws.crashes p a b fill seat w (bytes_of fill bytes) (h.seats p seat e))
           )
 
   -- a message of the wire is heard
@@ -244,9 +244,9 @@ module _ (n : ℕ) (laws : NodeLaws n) where
       heard : (m : Message) (b : Bool) → slice_get c.wire k ≡ Some m → eqb m.to p ≡ b → hear_at p at starved k c ≡ at_this b m → Took n (AreStepsOf c.wire (Hear p k)) w (hear_at p at starved k c)
       heard m false e own is = stays n (AreStepsOf c.wire (Hear p k)) w c (hear_at p at starved k c) (inl refl) is h
       heard m true e own is = subst (λ (x : Cluster). Took n (AreStepsOf c.wire (Hear p k)) w x) (sym is) (
-        node_takes p at starved (node.Hear m) (AreStepsOf c.wire (Hear p k)) w c (λ steps may. inr (m, e, may)) h (comes m e (eqb-true m.to p own))
-        (subst (λ (x : Cluster). IsSpeltAt p x) is spelt)
-      )
+          node_takes p at starved (node.Hear m) (AreStepsOf c.wire (Hear p k)) w c (λ steps may. inr (m, e, may)) h (comes m e (eqb-true m.to p own))
+          (subst (λ (x : Cluster). IsSpeltAt p x) is spelt)
+          )
 
       by : (o : Option Message) → slice_get c.wire k ≡ o → Took n (AreStepsOf c.wire (Hear p k)) w (hear_at p at starved k c)
       by None e = stays n (AreStepsOf c.wire (Hear p k)) w c (hear_at p at starved k c) (inl refl) (ap step e) h

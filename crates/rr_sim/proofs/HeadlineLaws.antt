@@ -2,7 +2,7 @@
 use Rattle.std.proofs.Common.{◌≡◌, ◌⊎◌, inl, inr, ℕ, zero, suc, ◌+◌, ◌<◌, ◌≤◌, List, [], ◌∷◌, ◌++◌, Contains, refl, sym, ◌∙◌, ap, subst, arith}
 use Rattle.std.specs.Prelude.{IfOk, Result, Ok, Err}
 use Rattle.rr_types.specs.declared.refusal.Refusal.{Refusal}
-use Rattle.std.specs.List.{flat_map, AllByRecursion}
+use Rattle.std.specs.List.{AllByRecursion}
 use Rattle.rr_types.specs.declared.command.Command.{Command}
 use Rattle.rr_types.specs.declared.message.Message.{Message}
 use Rattle.rr_model.specs.Laws.{after_steps}
@@ -15,7 +15,7 @@ use Rattle.rr_text.specs.declared.report.ReportLine.{ReportLine}
 use Rattle.rr_text.specs.Reported.{Reported}
 use Rattle.rr_text.specs.Scheduled.{IsEvent}
 use Rattle.rr_sim.specs.Clusters.{Cluster, new_cluster, Steps, Leads, LeadsSpelt, IsReportOf}
-use Rattle.rr_sim.specs.Headline.{told_in, TakesAlong, IsRunOfTheWorld, AgreesWithOneList}
+use Rattle.rr_sim.specs.Headline.{told_in, TakesAlong, in_turn, IsRunOfTheWorld, AgreesWithOneList}
 use Rattle.rr_sim.proofs.ClusterLaws.{IsClusterInStep, Took, NodeLaws, step_takes, starts_in_step}
 use Rattle.rr_sim.proofs.SubmittedLaws.{joined, all_submitted_by_events}
 use Rattle.rr_sim.proofs.TellingLaws.{restarts_of_list, acknowledged_in_list, replies_of_list, one_decision}
@@ -29,8 +29,8 @@ leads_too at (e ∷ es) old new (next, step, spelt, rest) = (next, step, leads_t
 record TookAll (n at : ℕ) (events : List Event) (old : Cluster) (w : World) (new : Cluster) : Type 0 where
   pieces : List (List Step)
   along : TakesAlong at events old w pieces new
-  run : IsRunFrom n w (flat_map (λ piece. piece) pieces)
-  in_step : IsClusterInStep n new (after_steps w (flat_map (λ piece. piece) pieces))
+  run : IsRunFrom n w (in_turn pieces)
+  in_step : IsClusterInStep n new (after_steps w (in_turn pieces))
 
 module _ (n m : ℕ) (laws : NodeLaws n) where
   take_all : (at : ℕ) (events : List Event) (old new : Cluster) (w : World) → AllByRecursion (IsEvent m) events → IsClusterInStep n old w → LeadsSpelt at events old new → TookAll n at events old w new
@@ -41,7 +41,7 @@ module _ (n m : ℕ) (laws : NodeLaws n) where
       record {
         pieces = took.steps ∷ behind.pieces;
         along = (next, step, took.are, took.in_step.alike, behind.along);
-        run = run_on n w took.steps (flat_map (λ piece. piece) behind.pieces) took.run behind.run;
+        run = run_on n w took.steps (in_turn behind.pieces) took.run behind.run;
         in_step = subst (λ (v : World). IsClusterInStep n new v) (sym (joined w took.steps behind.pieces)) behind.in_step;
       }
 
@@ -66,13 +66,13 @@ module _ (n m : ℕ) (laws : NodeLaws n) where
           wire = alike.wire;
           told = alike.told ∙ ap told_in (sym lines);
           decided = subst (λ (ms : List Message). IsDecidedList n ms report.decided) (sym alike.wire) decided;
-          is_sound = sound n (flat_map (λ piece. piece) all.pieces) all.run;
+          is_sound = sound n (in_turn all.pieces) all.run;
         }
 
 -- the report of a schedule run that is a run of the world agrees with one list
 pub agrees : (n : ℕ) (events : List Event) (report : Reported) → IsRunOfTheWorld n events report → AgreesWithOneList events report
 agrees n events report r =
-    let run = flat_map (λ piece. piece) r.pieces in
+    let run = in_turn r.pieces in
     record {
       submitted = λ c there. all_submitted_by_events n events r.at_the_end r.pieces c r.is_this_one (r.is_sound.its_commands_were_submitted report.decided r.decided c there);
       restarts = restarts_of_list n run report.lines report.decided r.is_sound r.told r.decided;

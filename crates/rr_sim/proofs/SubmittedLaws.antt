@@ -1,7 +1,7 @@
 -- What a run of a schedule submits was submitted by an event of it.
 use Rattle.std.proofs.Common.{◌≡◌, ◌⊎◌, inl, inr, ℕ, zero, suc, ◌+◌, List, [], ◌∷◌, ◌++◌, map, Contains, refl, sym, ap, subst, arith}
 use Rattle.std.specs.Prelude.{Some, slice_get}
-use Rattle.std.specs.List.{flat_map, fold}
+use Rattle.std.specs.List.{fold}
 use Rattle.std.proofs.lemmas.List.Sums.{fold-append}
 use Rattle.std.proofs.lemmas.List.Elements.{Contains-append_cases}
 use Rattle.rr_types.specs.declared.command.Command.{Command}
@@ -16,7 +16,7 @@ use Rattle.rr_text.specs.declared.event.Event.{Event}
 use Rattle.rr_text.specs.declared.event.Event.TheVariants.{Submit, Hear, Suspect, Tick, Advance, Take, Device, Fail, Mark, Send, Ack, Snap, Crash, Restart}
 use Rattle.rr_sim.specs.Clusters.{Cluster, new_cluster}
 use Rattle.rr_node.specs.Runs.{AreStaged, AreStagedBehind, MayFall, IsDeviceCall}
-use Rattle.rr_sim.specs.Headline.{AreStepsOf, TakesAlong}
+use Rattle.rr_sim.specs.Headline.{AreStepsOf, TakesAlong, in_turn}
 
 -- these steps submit nothing
 abbrev pub SubmitNothing : List Step → Type 0
@@ -108,11 +108,11 @@ later : (e : Event) (es : List Event) (c : Command) → IsSubmittedIn es c → I
 later e es c (p, (k, l, is)) = (p, (suc k, omega (arith, l), is))
 
 -- the steps of all pieces, one behind the other
-pub joined : (w : World) (steps : List Step) (pieces : List (List Step)) → after_steps w (flat_map (λ piece. piece) (steps ∷ pieces)) ≡ after_steps (after_steps w steps) (flat_map (λ piece. piece) pieces)
-joined w steps pieces = fold-append after_step w steps (flat_map (λ piece. piece) pieces)
+pub joined : (w : World) (steps : List Step) (pieces : List (List Step)) → after_steps w (in_turn (steps ∷ pieces)) ≡ after_steps (after_steps w steps) (in_turn pieces)
+joined w steps pieces = fold-append after_step w steps (in_turn pieces)
 
 pub submitted_by_events : (at : ℕ) (events : List Event) (old new : Cluster) (w : World) (pieces : List (List Step)) (c : Command) → TakesAlong at events old w pieces new
-    → Contains (after_steps w (flat_map (λ piece. piece) pieces)).submitted c → Contains w.submitted c ⊎ IsSubmittedIn events c
+    → Contains (after_steps w (in_turn pieces)).submitted c → Contains w.submitted c ⊎ IsSubmittedIn events c
 submitted_by_events at [] old new w [] c along there = inl there
 submitted_by_events at [] old new w (steps ∷ pieces) c along there = absurd along
 submitted_by_events at (e ∷ es) old new w [] c along there = absurd along
@@ -122,13 +122,14 @@ submitted_by_events at (e ∷ es) old new w (steps ∷ pieces) c (next, step, of
     here : BeforeOrBy w e c → Contains w.submitted c ⊎ IsSubmittedIn (e ∷ es) c
     here (inl before) = inl before
     here (inr (p, is)) = inr (p, (0, omega arith, is))
+
     by : Contains (after_steps w steps).submitted c ⊎ IsSubmittedIn es c → Contains w.submitted c ⊎ IsSubmittedIn (e ∷ es) c
     by (inl before) = here (by_steps old.wire e steps w c of before)
     by (inr behind) = inr (later e es c behind)
 
 -- from nothing, what was submitted was submitted by an event
 pub all_submitted_by_events : (n : ℕ) (events : List Event) (new : Cluster) (pieces : List (List Step)) (c : Command) → TakesAlong 2 events (new_cluster n) empty_world pieces new
-    → Contains (end_of (flat_map (λ piece. piece) pieces)).submitted c → IsSubmittedIn events c
+    → Contains (end_of (in_turn pieces)).submitted c → IsSubmittedIn events c
 all_submitted_by_events n events new pieces c along there = by (submitted_by_events 2 events (new_cluster n) new empty_world pieces c along there)
   where
     by : Contains empty_world.submitted c ⊎ IsSubmittedIn events c → IsSubmittedIn events c

@@ -68,18 +68,22 @@ TakesAlong at (e ∷ es) old w (steps ∷ pieces) new =
     (next : Cluster) × Steps at e old next × AreStepsOf old.wire e steps × IsAlike next (after_steps w steps)
     × TakesAlong (at + 1) es next (after_steps w steps) pieces new
 
--- the schedule run of n nodes is a sound run of the world: one piece of it for each event, and the same wire and tale
--- as the report's behind each; the report ends with the decided list of its wire
+-- the steps of all pieces of a run, in turn
+abbrev pub in_turn : List (List Step) → List Step
+in_turn pieces = flat_map (λ piece. piece) pieces
+
+-- the schedule run of n nodes is a sound run of the world, of a piece for each event; its wire and its trace are what the
+-- report's lines say, and the report ends with the decided list of this wire
 pub record IsRunOfTheWorld (n : ℕ) (events : List Event) (report : Reported) : Type 0 where
   pub pieces : List (List Step)
   pub at_the_end : Cluster
-  pub is_a_run : IsRun n (flat_map (λ piece. piece) pieces)
+  pub is_a_run : IsRun n (in_turn pieces)
   pub is_this_one : TakesAlong 2 events (new_cluster n) empty_world pieces at_the_end
   pub lines : report.lines ≡ at_the_end.lines
-  pub wire : (end_of (flat_map (λ piece. piece) pieces)).wire ≡ at_the_end.wire
-  pub told : (end_of (flat_map (λ piece. piece) pieces)).trace ≡ told_in report.lines
-  pub decided : IsDecidedList n (end_of (flat_map (λ piece. piece) pieces)).wire report.decided
-  pub is_sound : IsSound n (flat_map (λ piece. piece) pieces)
+  pub wire : (end_of (in_turn pieces)).wire ≡ at_the_end.wire
+  pub told : (end_of (in_turn pieces)).trace ≡ told_in report.lines
+  pub decided : IsDecidedList n (end_of (in_turn pieces)).wire report.decided
+  pub is_sound : IsSound n (in_turn pieces)
 
 -- what a report tells agrees with the one list of commands that it ends with
 pub record AgreesWithOneList (events : List Event) (report : Reported) : Type 0 where
