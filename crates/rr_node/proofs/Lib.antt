@@ -3,3 +3,6 @@ mod DiskLaws
 mod OpeningLaws
 mod ServingLaws
 pub mod InOrder
+pub mod Flushing
+pub mod Holding
+pub mod Frames
