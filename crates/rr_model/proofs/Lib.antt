@@ -34,3 +34,5 @@ pub mod NodeSteady
 pub mod Fits
 pub mod NodeReached
 pub mod NodeInWorld
+pub mod NodeRestarts
+pub mod Frames

@@ -159,7 +159,8 @@ promised_backing next (x ∷ es) i row e = at (promised_backing next es i row) (
 abbrev pub Fitting : ℕ → ℕ → List Fact → Type 0
 Fitting n p facts = all_fit n p [] facts ≡ true
 
-restored_knows : (n p : ℕ) (facts : List Fact) → Knows (Fitting n p facts) n p facts nothing_heard (restored n p (promise_of facts) (length facts))
+-- a node that knows its facts and nothing else knows what it should
+pub restored_knows : (n p : ℕ) (facts : List Fact) → Knows (Fitting n p facts) n p facts nothing_heard (restored n p (promise_of facts) (length facts))
 restored_knows n p facts = record {
   nodes = refl;
   node = refl;
