@@ -6,3 +6,5 @@ pub mod InOrder
 pub mod Flushing
 pub mod Holding
 pub mod Frames
+pub mod Spelling
+pub mod Going
