@@ -8,3 +8,5 @@ pub mod Holding
 pub mod Frames
 pub mod Spelling
 pub mod Going
+pub mod FlushCalls
+pub mod Falling

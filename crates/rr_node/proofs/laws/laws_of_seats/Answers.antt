@@ -1,5 +1,9 @@
 use Rattle.std.proofs.Common.{ℕ}
-use Rattle.rr_node.proofs.Holding.{seat_holds}
-use Rattle.rr_node.proofs.Spelling.{body_fits}
-use Rattle.rr_node.proofs.Going.{goes}
+use Rattle.rr_node.proofs.Falling.{crashes_in_step, fails_in_step}
 use Rattle.rr_node.proofs.laws.laws_of_seats.Goals as goal
+
+pub returns-clause-crashes_are_runs_of_steps : goal.returns-clause-crashes_are_runs_of_steps
+returns-clause-crashes_are_runs_of_steps c = λ n p few. crashes_in_step n p
+
+pub returns-clause-failing_calls_are_runs_of_steps : goal.returns-clause-failing_calls_are_runs_of_steps
+returns-clause-failing_calls_are_runs_of_steps c = λ n p few. fails_in_step n p
