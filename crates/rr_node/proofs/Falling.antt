@@ -161,7 +161,7 @@ module _ (leaves : Call → Areas → Areas) (fails : IsFailure leaves) (n p : �
   each_left call both same each = subst (λ (b : Areas). EachHoldsSome n p w b) (sym same) each
 
   -- the call that is due in an opening fails
-  opening_fails : (both : Areas) (phase : opening.Phase) → AreInOrder both → IsOpening n p w both phase → EachHoldsSome n p w both → AreInOrder (leaves (due_call phase) both) × EachHoldsSome n p w (leaves (due_call phase) both)
+  pub opening_fails : (both : Areas) (phase : opening.Phase) → AreInOrder both → IsOpening n p w both phase → EachHoldsSome n p w both → AreInOrder (leaves (due_call phase) both) × EachHoldsSome n p w (leaves (due_call phase) both)
   opening_fails both opening.Settling order opens each = (fails.order Sync both tt order, each_left Sync both (fails.left Sync both tt) each)
   opening_fails both opening.ReadingFirst order opens each = (fails.order (due_call opening.ReadingFirst) both tt order, each_left (due_call opening.ReadingFirst) both (fails.left (due_call opening.ReadingFirst) both tt) each)
   opening_fails both (opening.ReadingSecond first) order opens each = (fails.order (due_call (opening.ReadingSecond first)) both tt order, each_left (due_call (opening.ReadingSecond first)) both (fails.left (due_call (opening.ReadingSecond first)) both tt) each)
@@ -178,7 +178,7 @@ module _ (leaves : Call → Areas → Areas) (fails : IsFailure leaves) (n p : �
       )
 
   -- the call that is due in a flush fails
-  flush_fails : (both : Areas) (s : NodeState) (journal : Journaled) (call : Call) (calls : List Call) → AreInOrder both → IsServing n p w both s journal (Writing (call ∷ calls)) → AreInOrder (leaves call both) × EachHoldsSome n p w (leaves call both)
+  pub flush_fails : (both : Areas) (s : NodeState) (journal : Journaled) (call : Call) (calls : List Call) → AreInOrder both → IsServing n p w both s journal (Writing (call ∷ calls)) → AreInOrder (leaves call both) × EachHoldsSome n p w (leaves call both)
   flush_fails both s journal call calls order serves =
       let f = serves.flushes in
       let flush = flush_of n p journal f.group in

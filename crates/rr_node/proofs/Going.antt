@@ -18,7 +18,7 @@ pub record IsQuiet (p : ℕ) (answer : Result Outcome Refusal) : Type 0 where
   pub unsent : sent_by answer ≡ []
   pub untold : told_by p answer ≡ []
 
-no_member : {A : Type 0} → (x : A) → Contains [] x → ⊥
+pub no_member : {A : Type 0} → (x : A) → Contains [] x → ⊥
 no_member x c = let l : c.0 < 0 = c.1 in omega arith
 
 pub goes : (n p : ℕ) (May : List Step → Type 0) (w : World) (answer : Result Outcome Refusal) (next : Seat) (steps : List Step) → May steps → IsRunFrom n w steps → AreStepsAt p steps → InStep n p next (after_steps w steps)

@@ -10,3 +10,5 @@ pub mod Spelling
 pub mod Going
 pub mod FlushCalls
 pub mod Falling
+pub mod Starting
+pub mod Opens
