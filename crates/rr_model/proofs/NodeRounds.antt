@@ -28,6 +28,8 @@ use Rattle.rr_model.specs.NodeParts.{messages_to, owe, pool_add, stage, free_com
 use Rattle.rr_model.specs.NodeDue.{Due, Begin, Offer, Conclude, MoveOn, pick, is_majority, due_of_coordinator, due_of_row, due_at, first_due, due, carry_out, settle_within, settle}
 use Rattle.rr_model.specs.NodeStep.{Input, Submit, Suspect, Tick, Advance, Hear, is_waiting, wait_for, submitted, is_list_full, is_behind, ask, ticked_on, lowest_in_round, advanced, with_vote, change_tally, count_estimate, count_ack, count_nack, catch_up, take_proposal, take_estimate, has_proposed, answer, heard_body, taken_in, node_step, group_taken, group_put_back, marked_running, may_leave, next_leaving, restored, started}
 use Rattle.rr_model.specs.NodeLaws.{NodeEvent, Told, Grouped, PutBack, Marked, Left, Answered, after_event, HasRound, IsTruthful}
+use Rattle.rr_model.specs.World.{World}
+use Rattle.rr_model.specs.NodeWorld.{MayCome}
 use Rattle.rr_model.specs.NodeReached.{NamesRounds, IsProperInput, IsProperEvent, opened_over, IsReached, Opened, Happened}
 use Rattle.rr_model.proofs.Promised.{standing_in-take_on}
 use Rattle.rr_model.proofs.NodeRows.{stands, row_of-put_row, stands-promised}
@@ -397,3 +399,7 @@ module _ (n p : ℕ) (facts : List Fact) (h : Heard) (s : NodeState) (R : IsReac
       let names : NamesRounds m.body = leaving_names m (find (may_leave s.marked_end) s.owed) refl e in
       let T : IsTruthful p facts h s = reached_truthful n p facts h s R in
       ((T.leaving m e (names_has_round m.body names)).0, names)
+
+  -- so it may leave in any world
+  pub reached_may_leave : (w : World) → MayCome w p s Left
+  reached_may_leave w m e = names_has_round m.body (reached_names_rounds m e).1
