@@ -36,3 +36,4 @@ pub mod NodeReached
 pub mod NodeInWorld
 pub mod NodeRestarts
 pub mod Frames
+pub mod NodeRounds

@@ -20,8 +20,8 @@ use Rattle.rr_model.proofs.NodeKnows.{Alike}
 use Rattle.rr_model.proofs.NodePrefixes.{same_prefix}
 use Rattle.rr_model.proofs.NodeStages.{Fitting, restored_knows}
 
--- an opening only restates
-opened_alike : (n p : ℕ) (facts : List Fact) → Alike (Fitting n p facts) p facts nothing_heard (restored n p (promise_of facts) (length facts)) (opened_over n p facts)
+-- an opening only restates: nothing runs, nothing is staged, and all facts are marked
+pub opened_alike : (n p : ℕ) (facts : List Fact) → Alike (Fitting n p facts) p facts nothing_heard (restored n p (promise_of facts) (length facts)) (opened_over n p facts)
 unfolding started
 opened_alike n p facts = let s : NodeState = restored n p (promise_of facts) (length facts) in restate_all_alike (Fitting n p facts) n p facts nothing_heard (open_instances s) s (restored_knows n p facts)
 
