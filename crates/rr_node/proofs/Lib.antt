@@ -12,3 +12,4 @@ pub mod FlushCalls
 pub mod Falling
 pub mod Starting
 pub mod Opens
+pub mod ServingSteps
