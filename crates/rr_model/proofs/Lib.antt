@@ -34,3 +34,6 @@ pub mod NodeSteady
 pub mod Fits
 pub mod NodeReached
 pub mod NodeInWorld
+pub mod NodeRestarts
+pub mod Frames
+pub mod NodeRounds

@@ -7,7 +7,7 @@ use Rattle.rr_types.specs.declared.command.RequestNo.{RequestNo}
 use Rattle.rr_types.specs.declared.command.Reply.{Reply}
 use Rattle.rr_types.specs.declared.fact.Fact.{Fact}
 use Rattle.rr_types.specs.declared.message.Message.{Message}
-use Rattle.rr_types.specs.Promises.{take_on_all, all_fit}
+use Rattle.rr_types.specs.Promises.{promise_of, take_on_all, all_fit}
 use Rattle.rr_types.specs.Registry.{reply_of}
 use Rattle.rr_model.specs.Lawful.{Heard, IsBacked}
 use Rattle.rr_model.specs.World as world
@@ -27,7 +27,7 @@ use Rattle.rr_model.proofs.Fits.{fit_first, fitting_prefix}
 use Rattle.rr_model.proofs.NodeKnows.{Knows}
 use Rattle.rr_model.proofs.NodeStages.{Steps, drop_front, steps, step_goes}
 use Rattle.rr_model.proofs.NodeFollows.{at_same, run_on, IsAt, stage_run, input_run}
-use Rattle.rr_model.proofs.NodeReached.{event_of_nodes, reached_knows, reached_truthful, reached_fits}
+use Rattle.rr_model.proofs.NodeReached.{event_of_nodes, reached_knows, reached_truthful, reached_itself, reached_fits}
 
 -- marked facts, the group on one side or the other, and the staged ones
 regroup : (b : Bool) (marked group staged : List Fact) → marked ++ (group ++ staged) ≡ (marked ++ (if b then group else [])) ++ ((if b then [] else group) ++ staged)
@@ -98,15 +98,33 @@ module _ (n p : ℕ) (facts : List Fact) (h : Heard) (s : NodeState) (R : IsReac
           let backed : IsBacked m.body (w.kept p) = subst (IsBacked m.body) (sym A.kept) (backed_grows m.body (marked_facts facts s) (if b then group_of s else []) l.1) in
           ((((A.exists, A.up), l.0, backed, λ c x. A.submitted c (subst (λ z. IsOfSubmitted z h.commands) x l.2)), tt), no_more b n p facts h _ _ (record { exists = A.exists; up = A.up; runs = A.runs; kept = A.kept; staged = A.staged; heard = A.heard; submitted = A.submitted }))
 
-  -- the marked facts and the running group fit
-  front_fits : (b : Bool) → all_fit n p [] (marked_facts facts s ++ (if b then group_of s else [])) ≡ true
-  front_fits b = fit_first n p [] (marked_facts facts s ++ (if b then group_of s else [])) ((if b then [] else group_of s) ++ s.staged)
+  -- the marked facts fit, and the running group behind them
+  pub reached_front_fits : (b : Bool) → all_fit n p [] (marked_facts facts s ++ (if b then group_of s else [])) ≡ true
+  reached_front_fits b = fit_first n p [] (marked_facts facts s ++ (if b then group_of s else [])) ((if b then [] else group_of s) ++ s.staged)
       (subst (λ z. all_fit n p [] z ≡ true) (truth.together ∙ regroup b (marked_facts facts s) (group_of s) s.staged) (reached_fits n p facts h s R))
+
+  -- whatever a crash leaves of the node's facts fits
+  pub reached_left_fits : (b : Bool) (w : World) (count : ℕ) → IsInWorld b n p facts h s w → all_fit n p [] (w.kept p ++ take count (w.staged p)) ≡ true
+  reached_left_fits b w count A =
+      let whole : facts ≡ w.kept p ++ w.staged p = truth.together ∙ regroup b (marked_facts facts s) (group_of s) s.staged ∙ sym (ap (λ z. z ++ ((if b then [] else group_of s) ++ s.staged)) A.kept) ∙ sym (ap (λ z. w.kept p ++ z) A.staged) in
+      let split : facts ≡ (w.kept p ++ take count (w.staged p)) ++ drop count (w.staged p) = whole ∙ ap (λ z. w.kept p ++ z) (sym (take-append-drop count (w.staged p))) ∙ sym (append_assoc (w.kept p) (take count (w.staged p)) (drop count (w.staged p))) in
+      fit_first n p [] (w.kept p ++ take count (w.staged p)) (drop count (w.staged p)) (subst (λ z. all_fit n p [] z ≡ true) split (reached_fits n p facts h s R))
+
+  -- while its group isn't settled, what is kept of the node is what it has marked
+  pub kept_are_marked : (w : World) → IsInWorld false n p facts h s w → w.kept p ≡ marked_facts facts s
+  kept_are_marked w A = A.kept ∙ append-nil (marked_facts facts s)
+
+  -- it counts these facts, and knows their promise
+  pub kept_are_counted : (w : World) → IsInWorld false n p facts h s w → s.marked_end ≡ length (w.kept p)
+  kept_are_counted w A = (reached_itself n p facts h s R).marked_end ∙ ap length (sym (kept_are_marked w A))
+
+  pub kept_are_promised : (w : World) → IsInWorld false n p facts h s w → s.marked ≡ promise_of (w.kept p)
+  kept_are_promised w A = truth.promise ∙ ap promise_of (sym (kept_are_marked w A))
 
   -- a reply by the marked facts is one by all that are kept
   kept_reply : (b : Bool) (w : World) (q : RequestNo) (r : Reply) → IsInWorld b n p facts h s w → told_reply s q ≡ Some r → reply_of (world.decided_prefix (w.kept p)) q ≡ Some r
   kept_reply b w q r A e =
-      let B : Begins (world.decided_prefix (marked_facts facts s)) (world.decided_prefix (marked_facts facts s ++ (if b then group_of s else []))) = fitting_prefix n p (marked_facts facts s) (if b then group_of s else []) (front_fits b) in
+      let B : Begins (world.decided_prefix (marked_facts facts s)) (world.decided_prefix (marked_facts facts s ++ (if b then group_of s else []))) = fitting_prefix n p (marked_facts facts s) (if b then group_of s else []) (reached_front_fits b) in
       ap (λ z. reply_of (world.decided_prefix z) q) A.kept ∙ ap (λ z. reply_of z q) (sym B.is)
       ∙ same_reply (world.decided_prefix (marked_facts facts s)) B.rest q r (ap (λ z. reply_of z q) (sym truth.prefix) ∙ e)
 
