@@ -71,7 +71,7 @@ runs_is s group e = runs_by s.marked_end s.running group e
 
 module _ (n p : ℕ) (w : World) (facts : List Fact) (h : Heard) (s : NodeState) (group : Grouped) (reached : IsReached n p facts h s) (world : IsInWorld false n p facts h s w) (runs : running_group s ≡ Some group) where
   -- the facts of the group are those of the running group
-  own_group : group_of s ≡ group.facts
+  pub own_group : group_of s ≡ group.facts
   own_group = ap (λ (o : Option (List Fact)). option_map_or (λ g. g) o []) (runs_is s group runs).0
 
   -- the kept facts are the marked ones

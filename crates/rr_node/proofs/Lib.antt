@@ -13,3 +13,5 @@ pub mod Falling
 pub mod Starting
 pub mod Opens
 pub mod ServingSteps
+pub mod FlushSteps
+pub mod Stepping

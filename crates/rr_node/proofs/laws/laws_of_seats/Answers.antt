@@ -1,6 +1,8 @@
 use Rattle.std.proofs.Common.{ℕ}
 use Rattle.rr_node.proofs.Falling.{crashes_in_step, fails_in_step}
 use Rattle.rr_node.proofs.ServingSteps.{replies}
+use Rattle.rr_node.proofs.FlushSteps.{marks_in_step}
+use Rattle.rr_node.proofs.Stepping.{doing_in_step}
 use Rattle.rr_node.proofs.Starting.{starts_in_step}
 use Rattle.rr_node.proofs.Opens.{opens_in_step}
 use Rattle.rr_node.proofs.laws.laws_of_seats.Goals as goal
