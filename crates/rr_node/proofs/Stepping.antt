@@ -5,7 +5,7 @@ use Rattle.rr_types.specs.declared.refusal.Refusal.{Refusal}
 use Rattle.rr_types.specs.declared.refusal.Refusal.TheVariants as because
 use Rattle.rr_model.specs.World.{World}
 use Rattle.rr_disk.specs.Areas.{Areas, synced}
-use Rattle.rr_disk.specs.Crash.{restarted}
+use Rattle.rr_disk.specs.Crash.{Images, restarted}
 use Rattle.rr_gate.specs.Moments.{EachHolds}
 use Rattle.rr_journal.specs.Calls.{Call, Read, Write, Sync, after_call, after_starved}
 use Rattle.rr_journal.specs.Journals.{Holds}
@@ -75,9 +75,64 @@ module _ (n p : ℕ) (few : n ≤ 7) (w : World) (areas : Areas) where
   serving_in_step s journal flush h at.Restart comes = λ spelt. refuses n p w at.Restart (seated n p areas (Serving s journal flush)) because.Busy h
 
   -- where memory is there
-  pub doing_in_step : (doing : Doing) → InStep n p (seated n p areas doing) w → (event : NodeEvent) → MayCome n p w event
+  doing_in_step : (doing : Doing) → InStep n p (seated n p areas doing) w → (event : NodeEvent) → MayCome n p w event
       → (let x = by_doing event (seated n p areas doing) doing in IsSpelt x.1.doing → GoesOn n p (MayBe p event) w x.0 x.1)
   doing_in_step Stopped h event comes = λ spelt. idle_in_step Stopped because.Down h.doing.0 h event
   doing_in_step Faulted h event comes = λ spelt. idle_in_step Faulted because.Failed h.doing.0 h event
   doing_in_step (Opening phase) h event comes = λ spelt. opening_in_step phase h event
   doing_in_step (Serving s journal flush) h event comes = serving_in_step s journal flush h event comes
+
+  -- behind a sync every image holds what the bytes did
+  synced_holds : AreInOrder areas → EachHoldsSome n p w areas → EachHoldsSome n p w (synced areas)
+  synced_holds order each images left = subst (λ (x : Images). HoldsSome n p (w.kept p) (w.staged p) x) (rest_image (contents areas) images left) (each (contents areas) (own_image areas order))
+
+  -- an opening for whose device call memory is wanting ends
+  opening_starves : (phase : opening.Phase) → InStep n p (seated n p areas (Opening phase)) w → (call : Call) → due_call phase ≡ call
+      → (let x = starve_opening call (seated n p areas (Opening phase)) in GoesOn n p (MayBe p at.Device) w x.0 x.1)
+  opening_starves phase h (Read area) is =
+      down_falls n p n p (MayBe p at.Device) w (Err because.OutOfMemory) areas Stopped (nothing p at.Device) stopped h.exists refl refl (opening_down n p w areas phase h.doing) h.in_order
+      (seat_holds n p (seated n p areas (Opening phase)) w h) (record { unsent = refl; untold = refl })
+  opening_starves phase h (Write area from bytes) is =
+      let left = subst (λ (c : Call). AreInOrder (after_starved c areas) × EachHoldsSome n p w (after_starved c areas)) is
+      (opening_fails after_starved starvation n p w areas phase h.in_order h.doing (seat_holds n p (seated n p areas (Opening phase)) w h)) in
+      down_falls n p n p (MayBe p at.Device) w (Err because.Device) (after_starved (Write area from bytes) areas) Faulted (nothing p at.Device) faulted h.exists refl refl (opening_down n p w areas phase h.doing) left.0 left.1 (record { unsent = refl; untold = refl })
+  opening_starves phase h Sync is =
+      down_falls n p n p (MayBe p at.Device) w (Err because.OutOfMemory) (synced areas) Stopped (nothing p at.Device) stopped h.exists refl refl (opening_down n p w areas phase h.doing) (synced_in_order areas h.in_order)
+      (synced_holds h.in_order (seat_holds n p (seated n p areas (Opening phase)) w h)) (record { unsent = refl; untold = refl })
+
+  device_starves : (doing : Doing) → InStep n p (seated n p areas doing) w → (let x = starve_device doing (seated n p areas doing) in GoesOn n p (MayBe p at.Device) w x.0 x.1)
+  device_starves Stopped h = refuses n p w at.Device (seated n p areas Stopped) because.OutOfMemory h
+  device_starves Faulted h = refuses n p w at.Device (seated n p areas Faulted) because.OutOfMemory h
+  device_starves (Opening phase) h = opening_starves phase h (due_call phase) refl
+  device_starves (Serving s journal flush) h = starves_in_step n p w areas s journal h.exists flush h
+
+  -- where memory is wanting
+  starves : (doing : Doing) → InStep n p (seated n p areas doing) w → (event : NodeEvent) → (let x = starve event (seated n p areas doing) in GoesOn n p (MayBe p event) w x.0 x.1)
+  starves doing h (at.Submit c) = refuses n p w (at.Submit c) (seated n p areas doing) because.OutOfMemory h
+  starves doing h (at.Hear m) = refuses n p w (at.Hear m) (seated n p areas doing) because.OutOfMemory h
+  starves doing h (at.Suspect set) = refuses n p w (at.Suspect set) (seated n p areas doing) because.OutOfMemory h
+  starves doing h at.Tick = refuses n p w at.Tick (seated n p areas doing) because.OutOfMemory h
+  starves doing h at.Advance = refuses n p w at.Advance (seated n p areas doing) because.OutOfMemory h
+  starves doing h at.Take = refuses n p w at.Take (seated n p areas doing) because.OutOfMemory h
+  starves doing h at.Device = device_starves doing h
+  starves doing h at.Mark = refuses n p w at.Mark (seated n p areas doing) because.OutOfMemory h
+  starves doing h at.Send = refuses n p w at.Send (seated n p areas doing) because.OutOfMemory h
+  starves doing h at.Acknowledge = refuses n p w at.Acknowledge (seated n p areas doing) because.OutOfMemory h
+  starves doing h at.Restart = refuses n p w at.Restart (seated n p areas doing) because.OutOfMemory h
+
+pub steps_in_step : (n p : ℕ) → n ≤ 7 → StepsInStep n p
+steps_in_step n p few event seat next w answer h comes gives spelt = by gives
+  where
+    same : seat ≡ seated n p seat.areas seat.doing
+    same = λ i. record { nodes = h.nodes i; node = h.node i; doing = seat.doing; areas = seat.areas }
+
+    here : InStep n p (seated n p seat.areas seat.doing) w
+    here = record { exists = h.exists; nodes = refl; node = refl; in_order = h.in_order; doing = h.doing }
+
+    by : Gives event seat answer next → GoesOn n p (MayBe p event) w answer next
+    by (inl is) =
+        let own = is ∙ ap (λ (x : Seat). by_doing event x seat.doing) same in
+        given n p (MayBe p event) w answer next (by_doing event (seated n p seat.areas seat.doing) seat.doing) own
+        (doing_in_step n p few w seat.areas seat.doing here event comes (subst (λ (a : Answer). IsSpelt a.1.doing) own spelt))
+    by (inr is) =
+        given n p (MayBe p event) w answer next (starve event (seated n p seat.areas seat.doing)) (is ∙ ap (starve event) same) (starves n p few w seat.areas seat.doing here event)
