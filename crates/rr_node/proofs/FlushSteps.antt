@@ -1,5 +1,5 @@
 -- A flush of a node that is up, in the world: taken up by no step, settled by its last device call, marked by no step.
-use Rattle.std.proofs.Common.{◌≡◌, ◌⊎◌, inl, inr, ℕ, ◌+◌, ◌^◌, ◌<◌, ◌≤◌, Bool, true, false, ◌==◌, nat_lt, ltb-true, List, [], ◌∷◌, ◌++◌, length, length-append, append-nil, take, Option, None, Some, is_none, IfSome, Result, Ok, Err, refl, sym, ap, subst, ◌∙◌, arith, if◌then◌else◌}
+use Rattle.std.proofs.Common.{◌≡◌, inl, inr, ℕ, ◌+◌, ◌^◌, ◌<◌, Bool, true, false, ◌==◌, nat_lt, ltb-true, List, [], ◌∷◌, ◌++◌, length, length-append, append-nil, take, Option, None, Some, is_none, IfSome, Ok, Err, refl, sym, ap, subst, ◌∙◌, arith, if◌then◌else◌}
 use Rattle.std.specs.Option.{option_map_or}
 use Rattle.rr_types.specs.declared.fact.Fact.{Fact}
 use Rattle.rr_types.specs.declared.refusal.Refusal.TheVariants as because
@@ -14,7 +14,7 @@ use Rattle.rr_model.specs.NodeInWorld.{IsInWorld, group_of}
 use Rattle.rr_model.proofs.NodeInWorld.{reached_in_world, reached_marks, settles_in_world}
 use Rattle.rr_model.proofs.NodeReached.{reached_still}
 use Rattle.rr_disk.specs.Areas.{Areas, synced}
-use Rattle.rr_disk.specs.Crash.{Images, restarted}
+use Rattle.rr_disk.specs.Crash.{Images}
 use Rattle.rr_frame.specs.GroupFormat.{group_bytes, IsLawfulGroup}
 use Rattle.rr_gate.specs.Flushes as gate
 use Rattle.rr_gate.specs.Moments.{with_group, IsGrounded}
@@ -25,8 +25,8 @@ use Rattle.rr_journal.specs.Journals.{Holds, IsOver, once_flushed}
 use Rattle.rr_journal.proofs.FlushLaws.{length-frame}
 use Rattle.rr_node.specs.declared.event.NodeEvent.TheVariants as at
 use Rattle.rr_node.specs.declared.event.Outcome.TheVariants.{Quiet}
-use Rattle.rr_node.specs.Seats.{Flush, Resting, Writing, Flushed, Journaled, Doing, Faulted, Serving, Seat, Answer, goes_on, refuse, payload_of, take_up, mark_up, flush_on, journal_behind, starve_call, starve_flush}
-use Rattle.rr_node.specs.Worlds.{Moment, BodyDue, BodyOut, BodySafe, GateSet, calls_at, areas_at, flush_of, AreInOrder, journal_at, IsFlushing, IsServing, InStep}
+use Rattle.rr_node.specs.Seats.{Flush, Resting, Writing, Flushed, Journaled, Faulted, Serving, Seat, Answer, goes_on, refuse, payload_of, take_up, mark_up, flush_on, journal_behind, starve_flush}
+use Rattle.rr_node.specs.Worlds.{Moment, BodyDue, BodyOut, BodySafe, GateSet, calls_at, areas_at, flush_of, AreInOrder, journal_at, IsServing, InStep}
 use Rattle.rr_node.specs.Runs.{MayBe, IsSpelt, GoesOn}
 use Rattle.rr_node.proofs.InOrder.{call_in_order}
 use Rattle.rr_node.proofs.Flushing.{runs_is, own_group, serial_kept, flush_grounded, flushed_over}
@@ -160,8 +160,6 @@ module _ (n p : ℕ) (w : World) (both : Areas) (s : NodeState) (journal : Journ
       → IsServing n p (after_steps w (Settle p (length serves.flushes.group.facts) ∷ [])) (synced both) s (journal_behind s journal) Flushed
   settles calls serves is =
       let f = serves.flushes in
-      let group = serves.flushes.group in
-      let v = after_steps w (Settle p (length serves.flushes.group.facts) ∷ []) in
       let runs = (runs_is s f.group f.runs).0 in
       let came = settles_in_world n p serves.facts serves.heard s w f.group.facts runs serves.in_world in
       let now : IsInWorld true n p serves.facts serves.heard s (after_steps w (Settle p (length serves.flushes.group.facts) ∷ [])) = came.1 in
@@ -239,7 +237,6 @@ module _ (n p : ℕ) (w : World) (both : Areas) (s : NodeState) (journal : Journ
   starves_in_step (Writing []) h = refuses n p w at.Device (seated n p both (Serving s journal (Writing []))) because.OutOfMemory h
   starves_in_step (Writing (Read area ∷ calls)) h = refuses n p w at.Device (seated n p both (Serving s journal (Writing (Read area ∷ calls)))) because.OutOfMemory h
   starves_in_step (Writing (Write area from bytes ∷ calls)) h =
-      let call : Call = Write area from bytes in
       let left = flush_fails after_starved starvation n p w both s journal (Write area from bytes) calls h.in_order h.doing in
       serving_falls n p n p (MayBe p at.Device) w (Err because.Device) both (after_starved (Write area from bytes) both) s journal (Writing (Write area from bytes ∷ calls)) Faulted (inl (inr refl)) faulted refl refl h.doing left.0 left.1 (record { unsent = refl; untold = refl })
   starves_in_step (Writing (Sync ∷ calls)) h = refuses n p w at.Device (seated n p both (Serving s journal (Writing (Sync ∷ calls)))) because.OutOfMemory h

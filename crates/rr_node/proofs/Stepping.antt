@@ -1,31 +1,27 @@
 -- Each event of a node with its disk is a run of the world's steps that keeps them in step.
-use Rattle.std.proofs.Common.{◌≡◌, ◌⊎◌, inl, inr, ℕ, ◌^◌, ◌<◌, ◌≤◌, List, [], ◌∷◌, ◌++◌, length, take, Result, Ok, Err, refl, sym, ap, subst, ◌∙◌, arith}
-use Rattle.rr_types.specs.declared.fact.Fact.{Fact}
+use Rattle.std.proofs.Common.{◌≡◌, inl, inr, ℕ, ◌≤◌, Ok, Err, refl, ap, subst, ◌∙◌}
 use Rattle.rr_types.specs.declared.refusal.Refusal.{Refusal}
 use Rattle.rr_types.specs.declared.refusal.Refusal.TheVariants as because
 use Rattle.rr_model.specs.World.{World}
 use Rattle.rr_disk.specs.Areas.{Areas, synced}
-use Rattle.rr_disk.specs.Crash.{Images, restarted}
-use Rattle.rr_gate.specs.Moments.{EachHolds}
-use Rattle.rr_journal.specs.Calls.{Call, Read, Write, Sync, after_call, after_starved}
-use Rattle.rr_journal.specs.Journals.{Holds}
+use Rattle.rr_disk.specs.Crash.{Images}
+use Rattle.rr_journal.specs.Calls.{Call, Read, Write, Sync, after_starved}
 use Rattle.rr_journal.specs.Openings as opening
 use Rattle.rr_journal.specs.Openings.{due_call}
 use Rattle.rr_journal.specs.OpeningTable.{contents}
 use Rattle.rr_node.specs.declared.event.NodeEvent.{NodeEvent}
 use Rattle.rr_node.specs.declared.event.NodeEvent.TheVariants as at
-use Rattle.rr_node.specs.declared.event.Outcome.{Outcome}
 use Rattle.rr_node.specs.declared.event.Outcome.TheVariants.{Quiet}
-use Rattle.rr_node.specs.Seats.{Flush, Journaled, Doing, Stopped, Faulted, Opening, Serving, Seat, Answer, Gives, wait, await_opening, serve, by_doing, seat_step, starve_opening, starve_device, starve}
-use Rattle.rr_node.specs.Worlds.{AreInOrder, EachHoldsSome, HoldsSome, IsDown, IsOpening, InStep}
+use Rattle.rr_node.specs.Seats.{Flush, Journaled, Doing, Stopped, Faulted, Opening, Serving, Seat, Answer, Gives, wait, await_opening, serve, by_doing, starve_opening, starve_device, starve}
+use Rattle.rr_node.specs.Worlds.{AreInOrder, EachHoldsSome, HoldsSome, IsDown, InStep}
 use Rattle.rr_node.specs.Runs.{MayCome, MayBe, IsSpelt, GoesOn, StepsInStep}
 use Rattle.rr_model.specs.NodeState.{NodeState}
 use Rattle.rr_node.proofs.InOrder.{own_image, synced_in_order, rest_image}
 use Rattle.rr_node.proofs.Holding.{seat_holds}
 use Rattle.rr_node.proofs.Going.{stays, given}
-use Rattle.rr_node.proofs.Falling.{seated, stopped, faulted, IsIdle, idle_does, down_falls, opening_down, starvation, opening_fails}
+use Rattle.rr_node.proofs.Falling.{seated, stopped, faulted, down_falls, opening_down, starvation, opening_fails}
 use Rattle.rr_node.proofs.Opens.{opens_in_step}
-use Rattle.rr_node.proofs.ServingSteps.{nothing, refuses, does_nothing, submits, hears, suspects, ticks, advances, sends, replies}
+use Rattle.rr_node.proofs.ServingSteps.{nothing, refuses, submits, hears, suspects, ticks, advances, sends, replies}
 use Rattle.rr_node.proofs.FlushSteps.{takes_in_step, marks_in_step, device_in_step, starves_in_step}
 
 module _ (n p : ℕ) (few : n ≤ 7) (w : World) (areas : Areas) where
