@@ -1,5 +1,5 @@
 -- The events of a node that is up, in the world: inputs, sends, acknowledgements, the taking up and the marking of a group.
-use Rattle.std.proofs.Common.{◌≡◌, ◌⊎◌, inl, inr, ℕ, ◌+◌, ◌^◌, ◌<◌, ◌≤◌, Bool, true, false, ◌==◌, nat_lt, eq-eqb, ltb-true, List, [], ◌∷◌, ◌++◌, length, map, take, append-nil, Contains, Option, None, Some, is_none, Result, Ok, Err, refl, sym, ap, subst, ◌∙◌, arith, if◌then◌else◌}
+use Rattle.std.proofs.Common.{◌≡◌, ◌⊎◌, inl, inr, ℕ, ◌<◌, Bool, true, false, ◌==◌, eq-eqb, List, [], ◌∷◌, ◌++◌, length, map, append-nil, Contains, Option, None, Some, Ok, Err, refl, sym, ap, subst, ◌∙◌, if◌then◌else◌}
 use Rattle.std.specs.Option.{option_map_or}
 use Rattle.std.proofs.lemmas.List.Elements.{Contains-push_cases}
 use Rattle.rr_types.specs.declared.command.Command.{Command}
@@ -8,36 +8,32 @@ use Rattle.rr_types.specs.declared.command.Reply.{Reply}
 use Rattle.rr_types.specs.declared.fact.Fact.{Fact}
 use Rattle.rr_types.specs.declared.message.Message.{Message}
 use Rattle.rr_types.specs.declared.refusal.Refusal.{Refusal}
-use Rattle.rr_types.specs.declared.refusal.Refusal.TheVariants as because
 use Rattle.rr_types.specs.Registry.{reply_of}
 use Rattle.rr_model.specs.World as world
 use Rattle.rr_model.specs.World.{World, Step, Stage, Send, after_step, IsRunFrom}
 use Rattle.rr_model.specs.Laws.{after_steps}
 use Rattle.rr_model.specs.NodeState.{NodeState, decided_prefix}
-use Rattle.rr_model.specs.NodeStep.{Input, Submit, Hear, Suspect, Tick, Advance, node_step, refusal_of, group_taken, marked_running, running_group, next_leaving, message_left, next_acknowledged, acknowledged}
-use Rattle.rr_model.specs.NodeLaws.{NodeEvent, Told, Grouped, Marked, Left, Answered, after_event, heard_after, facts_of_input, facts_of_event}
+use Rattle.rr_model.specs.NodeStep.{Input, Submit, Hear, Suspect, Tick, Advance, node_step, refusal_of, running_group, next_leaving, message_left, next_acknowledged, acknowledged}
+use Rattle.rr_model.specs.NodeLaws.{NodeEvent, Told, Left, Answered, after_event, heard_after, facts_of_input, facts_of_event}
 use Rattle.rr_model.specs.NodeReached.{NamesRounds, IsProperEvent, Happened}
 use Rattle.rr_model.specs.NodeWorld as worldly
 use Rattle.rr_model.specs.NodeWorld.{step_of_input, steps_of_event}
-use Rattle.rr_model.specs.NodeInWorld.{IsInWorld, LeavesTheGroup}
+use Rattle.rr_model.specs.NodeInWorld.{LeavesTheGroup}
 use Rattle.rr_model.proofs.Laws.{after_steps-append}
 use Rattle.rr_model.proofs.Frames.{event_at, event_says}
-use Rattle.rr_model.proofs.NodeInWorld.{reached_in_world, reached_marks}
-use Rattle.rr_model.proofs.NodeReached.{reached_still}
+use Rattle.rr_model.proofs.NodeInWorld.{reached_in_world}
 use Rattle.rr_model.proofs.NodeRounds.{reached_names_rounds, reached_may_leave}
 use Rattle.rr_model.proofs.NodeSteady.{input_stays}
 use Rattle.rr_disk.specs.Areas.{Areas}
 use Rattle.rr_disk.specs.Crash.{Images}
-use Rattle.rr_frame.specs.GroupFormat.{group_bytes}
-use Rattle.rr_journal.specs.Calls.{append_calls}
 use Rattle.rr_journal.specs.Journals.{IsOver}
 use Rattle.rr_node.specs.declared.event.NodeEvent as node
 use Rattle.rr_node.specs.declared.event.NodeEvent.TheVariants as at
 use Rattle.rr_node.specs.declared.event.Outcome.TheVariants as outcome
-use Rattle.rr_node.specs.Seats.{Flush, Resting, Writing, Flushed, Journaled, Doing, Serving, Seat, Answer, goes_on, refuse, told, payload_of, take_up, mark_up, send_off, reply_off}
-use Rattle.rr_node.specs.Worlds.{BodyDue, is_settled, journal_at, flush_of, IsFlushing, FlushesSo, IsServing, InStep}
-use Rattle.rr_node.specs.Runs.{MayBe, IsSpelt, GoesOn}
-use Rattle.rr_node.proofs.Going.{IsQuiet, no_member, goes, stays}
+use Rattle.rr_node.specs.Seats.{Flush, Resting, Writing, Flushed, Journaled, Serving, Seat, goes_on, refuse, told, send_off, reply_off}
+use Rattle.rr_node.specs.Worlds.{is_settled, journal_at, FlushesSo, IsServing, InStep}
+use Rattle.rr_node.specs.Runs.{MayBe, GoesOn}
+use Rattle.rr_node.proofs.Going.{no_member, goes, stays}
 use Rattle.rr_node.proofs.Falling.{seated}
 
 -- any event may be no step
@@ -112,14 +108,10 @@ input_keeps p w (Hear m) = by (m.to == p)
 
 told_keeps : (p : ℕ) (w : World) (s : NodeState) (input : Input) → (after_steps w (steps_of_event p s (Told input))).kept p ≡ w.kept p
 told_keeps p w s input =
-    let facts = facts_of_input s input in
     ap (λ (v : World). v.kept p) (after_steps-append w (step_of_input p input) (map (Stage p) (facts_of_input s input)))
     ∙ ap (λ (k : ℕ → List Fact). k p) (stages_keep p (after_steps w (step_of_input p input)) (facts_of_input s input) ∙ input_keeps p w input)
 
 module _ (n p : ℕ) (w : World) (both : Areas) (s : NodeState) (journal : Journaled) (flush : Flush) (h : InStep n p (seated n p both (Serving s journal flush)) w) where
-  seat : Seat
-  seat = seated n p both (Serving s journal flush)
-
   -- an input that isn't refused is a run of steps
   pub told_in_step : (event : node.NodeEvent) (input : Input) → MayBe p event (steps_of_event p s (Told input)) → IsProperEvent n (Told input) → worldly.MayCome w p s (Told input)
       → (let x = told input s journal flush (seated n p both (Serving s journal flush)) in GoesOn n p (MayBe p event) w x.0 x.1)
@@ -166,9 +158,6 @@ module _ (n p : ℕ) (w : World) (both : Areas) (s : NodeState) (journal : Journ
   pub sends : (let x = send_off s journal flush (seated n p both (Serving s journal flush)) in GoesOn n p (MayBe p at.Send) w x.0 x.1)
   sends = by (next_leaving s) refl
     where
-      serves : IsServing n p w both s journal flush
-      serves = h.doing
-
       by : (o : Option Message) → next_leaving s ≡ o
           → (let x = option_map_or (λ m. goes_on (outcome.Left m) (Serving (message_left s) journal flush) (seated n p both (Serving s journal flush))) o (Ok outcome.Quiet, seated n p both (Serving s journal flush)) in GoesOn n p (MayBe p at.Send) w x.0 x.1)
       by None is = does_nothing n p w at.Send (seated n p both (Serving s journal flush)) h
@@ -202,9 +191,6 @@ module _ (n p : ℕ) (w : World) (both : Areas) (s : NodeState) (journal : Journ
   pub replies : (let x = reply_off s journal flush (seated n p both (Serving s journal flush)) in GoesOn n p (MayBe p at.Acknowledge) w x.0 x.1)
   replies = by (next_acknowledged s) refl
     where
-      here : Seat
-      here = seated n p both (Serving s journal flush)
-
       replied : (q : RequestNo) (o : Option Reply) → steps_of_event p s Answered ≡ option_map_or (λ (reply : Reply). world.Acknowledge p q reply ∷ []) o []
           → (let x = option_map_or (λ reply. goes_on (outcome.Replied q reply) (Serving (acknowledged s) journal flush) (seated n p both (Serving s journal flush))) o (Ok outcome.Quiet, seated n p both (Serving s journal flush)) in GoesOn n p (MayBe p at.Acknowledge) w x.0 x.1)
       replied q None steps = does_nothing n p w at.Acknowledge (seated n p both (Serving s journal flush)) h
