@@ -2,17 +2,16 @@
 use Rattle.std.proofs.Common.{◌≡◌, ◌≢◌, ◌⊎◌, inl, inr, ℕ, zero, suc, ◌+◌, ◌<◌, ◌≤◌, Bool, true, false, eqb, List, [], ◌∷◌, ◌++◌, length, map, Contains, Option, None, Some, Result, Ok, Err, refl, sym, ◌∙◌, ap, subst, arith}
 use Rattle.std.specs.Prelude.{All, if◌then◌else◌, slice_get, slice_set}
 use Rattle.std.specs.Option.{option_map_or}
-use Rattle.std.specs.List.{flat_map, AllByRecursion, range_with_len}
+use Rattle.std.specs.List.{AllByRecursion, range_with_len}
 use Rattle.std.proofs.lemmas.Bool.{eqb-true}
 use Rattle.std.proofs.lemmas.List.{append-nil}
-use Rattle.std.proofs.lemmas.List.Concat.{flat_map-append}
 use Rattle.std.proofs.lemmas.List.FromFn.{length-map-range_with_len}
 use Rattle.rr_types.specs.declared.message.Message.{Message}
 use Rattle.rr_types.specs.declared.refusal.Refusal.{Refusal}
 use Rattle.rr_types.specs.Registry.{Bindings}
 use Rattle.rr_model.specs.Laws.{after_steps}
 use Rattle.rr_model.specs.NodeReached.{NamesRounds}
-use Rattle.rr_model.specs.World.{World, Step, Told, Sent, Acknowledged, Reported, empty_world, IsRunFrom}
+use Rattle.rr_model.specs.World.{World, Step, Told, Reported, empty_world, IsRunFrom}
 use Rattle.rr_node.specs.declared.event.NodeEvent.{NodeEvent}
 use Rattle.rr_node.specs.declared.event.NodeEvent.TheVariants as node
 use Rattle.rr_node.specs.declared.event.Outcome.{Outcome}
@@ -22,10 +21,9 @@ use Rattle.rr_node.specs.Seats.{Seat, new_seat, Answer, Gives, Fails, seat_step,
 use Rattle.rr_node.specs.Worlds.{InStep}
 use Rattle.rr_text.specs.declared.event.Event.{Event}
 use Rattle.rr_text.specs.declared.event.Event.TheVariants.{Submit, Hear, Suspect, Tick, Advance, Take, Device, Fail, Mark, Send, Ack, Snap, Crash, Restart}
-use Rattle.rr_text.specs.declared.report.ReportLine.{ReportLine}
-use Rattle.rr_text.specs.Scheduled.{node_of, IsInRange, IsEvent}
+use Rattle.rr_text.specs.Scheduled.{IsInRange}
 use Rattle.rr_text.specs.Words.{IsFill}
-use Rattle.rr_sim.specs.Clusters.{Cluster, new_cluster, shown, note_of, with_answer, at_node, fail_at, hear_at, crash_at, event_step, IsEither, Steps, IsSpeltAt, IsSpeltBehind}
+use Rattle.rr_sim.specs.Clusters.{Cluster, new_cluster, note_of, with_answer, at_node, fail_at, hear_at, crash_at, event_step, Steps, IsSpeltAt, IsSpeltBehind}
 use Rattle.rr_sim.specs.Headline.{told_in, AreStepsOf, IsAlike}
 use Rattle.rr_sim.proofs.TellingLaws.{bound_shown, told_parts}
 

@@ -1,22 +1,20 @@
 -- A schedule run is a sound run of the world, and its report agrees with one list.
-use Rattle.std.proofs.Common.{◌≡◌, ◌⊎◌, inl, inr, ℕ, zero, suc, ◌+◌, ◌<◌, ◌≤◌, List, [], ◌∷◌, ◌++◌, Contains, refl, sym, ◌∙◌, ap, subst, arith}
+use Rattle.std.proofs.Common.{◌≡◌, ℕ, ◌+◌, List, [], ◌∷◌, sym, ◌∙◌, ap, subst}
 use Rattle.std.specs.Prelude.{IfOk, Result, Ok, Err}
 use Rattle.rr_types.specs.declared.refusal.Refusal.{Refusal}
 use Rattle.std.specs.List.{AllByRecursion}
-use Rattle.rr_types.specs.declared.command.Command.{Command}
 use Rattle.rr_types.specs.declared.message.Message.{Message}
 use Rattle.rr_model.specs.Laws.{after_steps}
-use Rattle.rr_model.specs.Sound.{IsDecidedList, IsSound}
-use Rattle.rr_model.specs.World.{World, Step, empty_world, IsRun, IsRunFrom, end_of}
+use Rattle.rr_model.specs.Sound.{IsDecidedList}
+use Rattle.rr_model.specs.World.{World, Step, empty_world, IsRunFrom}
 use Rattle.rr_model.proofs.NodeFollows.{run_on}
 use Rattle.rr_model.proofs.Soundness.{sound}
 use Rattle.rr_text.specs.declared.event.Event.{Event}
-use Rattle.rr_text.specs.declared.report.ReportLine.{ReportLine}
 use Rattle.rr_text.specs.Reported.{Reported}
 use Rattle.rr_text.specs.Scheduled.{IsEvent}
-use Rattle.rr_sim.specs.Clusters.{Cluster, new_cluster, Steps, Leads, LeadsSpelt, IsReportOf}
+use Rattle.rr_sim.specs.Clusters.{Cluster, new_cluster, Leads, LeadsSpelt, IsReportOf}
 use Rattle.rr_sim.specs.Headline.{told_in, TakesAlong, in_turn, IsRunOfTheWorld, AgreesWithOneList}
-use Rattle.rr_sim.proofs.ClusterLaws.{IsClusterInStep, Took, NodeLaws, step_takes, starts_in_step}
+use Rattle.rr_sim.proofs.ClusterLaws.{IsClusterInStep, NodeLaws, step_takes, starts_in_step}
 use Rattle.rr_sim.proofs.SubmittedLaws.{joined, all_submitted_by_events}
 use Rattle.rr_sim.proofs.TellingLaws.{restarts_of_list, acknowledged_in_list, replies_of_list, one_decision}
 
