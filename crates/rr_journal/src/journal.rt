@@ -1,6 +1,6 @@
 //! A journal over an open disk: groups of facts are appended behind the last gate of the active area.
 
-ghost use Rattle.std.specs.Prelude.{◌≡◌, ◌⊎◌, ◌+◌, ◌^◌, ◌<◌, ◌≤◌, [], ◌++◌, List, true, false, nat_lt, length, IfOk, IfErr, OnOk, Some};
+ghost use Rattle.std.specs.Prelude.{◌≡◌, ◌⊎◌, ◌+◌, ◌^◌, ◌<◌, ◌≤◌, [], ◌++◌, List, true, false, nat_lt, length, IfOk, IfErr, Some};
 ghost use Rattle.rr_types.specs.declared.fact.Fact.{Fact};
 ghost use Rattle.rr_types.specs.declared.refusal.Refusal.TheVariants.{OutOfMemory, Failed, Busy, TooLarge};
 ghost use Rattle.rr_types.specs.Promises.{all_fit};
@@ -114,20 +114,18 @@ impl<D: Disk> Journal<D> {
         self.closes_other
     }
 
-    /// Lends its disk to a switch to the other area. Errors: `Failed` after a device failure, `Busy` while a job
-    /// runs; nothing has changed then.
-    pub fn begin_switch(&mut self) -> Result<(), Refusal>
-        ensures ok { OnOk result ((self.old.failed ≡ false) × (self.old.busy ≡ false) × (self.new ≡ record self.old { busy = true })) }
-        ensures refused { IfErr result (λ e. (self.new ≡ self.old) × (((e ≡ Failed) × (self.old.failed ≡ true)) ⊎ ((e ≡ Busy) × (self.old.busy ≡ true)))) }
+    /// Whether a job runs.
+    pub fn is_busy(&self) -> bool
+        ensures { result ≡ self.now.busy }
     {
-        if self.failed {
-            return Err(Refusal::Failed);
-        }
-        if self.busy {
-            return Err(Refusal::Busy);
-        }
+        self.busy
+    }
+
+    /// Takes note of a job: a switch to the other area.
+    pub fn note_job(&mut self)
+        ensures { self.new ≡ record self.old { busy = true } }
+    {
         self.busy = true;
-        Ok(())
     }
 
     /// Takes note of the end of a switch: the other area has this epoch, and the journal goes on there, behind
