@@ -123,7 +123,7 @@ opened flush bytes there =
     ∙ sym (append_assoc front (165 ∷ flush.body) rest) in
     ap (take (flush.gate + 1 + length flush.body)) whole ∙ take_at (front ++ 165 ∷ flush.body) rest (flush.gate + 1 + length flush.body) (length-append front (165 ∷ flush.body) ∙ omega (arith, long))
 
-length-frame : (payload : List ℕ) → length (frame_bytes payload) ≡ 5 + length payload
+pub length-frame : (payload : List ℕ) → length (frame_bytes payload) ≡ 5 + length payload
 length-frame payload = omega (arith, length-append (number_bytes 4 (length payload) ++ payload) (0 ∷ []), length-append (number_bytes 4 (length payload)) payload, length-number_bytes 4 (length payload))
 
 module _ {D : Type 0} (journal : Journal D) (start : Images) (facts : List Fact) (flush : Flush) (over : IsOver journal start facts)

@@ -22,7 +22,9 @@ many_entries s many =
     let own = owner_bytes s.node s.nodes in
     let entries = flat_map entry_bytes s.entries in
     omega (
-      arith, entries_long s.entries, many,
+      arith,
+      entries_long s.entries,
+      many,
       length-append (owner_bytes s.node s.nodes) (number_bytes 8 s.epoch ++ (number_bytes 8 s.next ++ (number_bytes 4 (length s.entries) ++ flat_map entry_bytes s.entries))),
       length-append (number_bytes 8 s.epoch) (number_bytes 8 s.next ++ (number_bytes 4 (length s.entries) ++ flat_map entry_bytes s.entries)),
       length-append (number_bytes 8 s.next) (number_bytes 4 (length s.entries) ++ flat_map entry_bytes s.entries),

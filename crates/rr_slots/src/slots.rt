@@ -121,11 +121,19 @@ impl<D: Disk> Slots<D> {
     /// Errors: `Failed` after a device failure, `Busy` while a job runs, `TooLarge` where the snapshot would pass
     /// byte 4,294,967,295 of the area or its epoch 2^64 - 1, `OutOfMemory`; the last also of a promise that no
     /// facts of the node make. Nothing has changed then.
+    #[tactic(auto, using(crate::proofs::SwitchLaws::begins_of))]
     pub fn begin_snapshot(&mut self, alloc: Global, promise: Promise) -> Result<SwitchJob, Refusal>
         ensures ok { IfOk result (λ job. (self.old.failed ≡ false) × (self.old.busy ≡ false) × (self.old.epoch + 1 < 2 ^ 64)
             × (6 + length (snapshot_bytes (snapshot_of self.old promise)) < 2 ^ 32) × (self.new ≡ record self.old { busy = true })
-            × (job ≡ record { nodes = self.old.nodes; node = self.old.node; area = other_area self.old.area; epoch = self.old.epoch + 1; next = self.old.next;
-            body = frame_bytes (snapshot_bytes (snapshot_of self.old promise)); stage = first_stage self.old.closes_other })) }
+            × (job ≡ record {
+              nodes = self.old.nodes;
+              node = self.old.node;
+              area = other_area self.old.area;
+              epoch = self.old.epoch + 1;
+              next = self.old.next;
+              body = frame_bytes (snapshot_bytes (snapshot_of self.old promise));
+              stage = first_stage self.old.closes_other;
+            })) }
         ensures refused { IfErr result (λ e. (self.new ≡ self.old) × ((e ≡ OutOfMemory) ⊎ ((e ≡ Failed) × (self.old.failed ≡ true)) ⊎ ((e ≡ Busy) × (self.old.busy ≡ true))
             ⊎ ((e ≡ TooLarge) × ((2 ^ 64 ≤ self.old.epoch + 1) ⊎ (2 ^ 32 ≤ 6 + length (snapshot_bytes (snapshot_of self.old promise))))))) }
         ensures table { (start : Images) (facts : List Fact) → D.areas self.old.disk ≡ restarted start → IsSlotsOver self.old start facts → promise ≡ promise_of facts
