@@ -1,4 +1,6 @@
 mod AwaitingLaws
 mod DiskLaws
+mod FrontLaws
 mod OpeningLaws
 mod ServingLaws
+mod SwitchingLaws
