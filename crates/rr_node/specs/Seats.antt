@@ -1,18 +1,11 @@
 -- A node with its disk, from its first restart on: what each event does to it.
-use Rattle.std.specs.Prelude.{◌≡◌, ◌⊎◌, ℕ, ◌+◌, ◌-◌, ◌^◌, Bool, true, false, ◌&&◌, not, ◌==◌, nat_lt, nat_le, if◌then◌else◌, List, [], ◌∷◌, length, Option, None, Some, is_none, Result, Ok, Err}
+use Rattle.std.specs.Prelude.{◌≡◌, ◌⊎◌, ℕ, ◌+◌, ◌-◌, ◌^◌, Bool, ◌&&◌, ◌==◌, nat_lt, if◌then◌else◌, List, [], ◌∷◌, length, Result, Ok, Err}
 use Rattle.std.specs.Option.{option_map_or}
-use Rattle.rr_types.specs.declared.command.Command.{Command}
-use Rattle.rr_types.specs.declared.command.RequestNo.{RequestNo}
-use Rattle.rr_types.specs.declared.command.Reply.{Reply}
-use Rattle.rr_types.specs.declared.fact.Fact.{Fact}
-use Rattle.rr_types.specs.declared.message.Message.{Message}
-use Rattle.rr_types.specs.declared.promise.Entry.{Entry}
 use Rattle.rr_types.specs.declared.refusal.Refusal.{Refusal}
 use Rattle.rr_types.specs.declared.refusal.Refusal.TheVariants as because
-use Rattle.rr_types.specs.Groups.{Grouped}
-use Rattle.rr_types.specs.Registry.{Bindings, registry_of, reply_of}
-use Rattle.rr_model.specs.NodeState.{NodeState, decided_prefix, decided_from}
-use Rattle.rr_model.specs.NodeStep.{Input, Submit, Hear, Suspect, Tick, Advance, node_step, refusal_of, group_taken, group_put_back, marked_running, running_group, next_leaving, message_left, next_acknowledged, acknowledged, started}
+use Rattle.rr_types.specs.Registry.{registry_of, reply_of}
+use Rattle.rr_model.specs.NodeState.{NodeState, decided_prefix}
+use Rattle.rr_model.specs.NodeStep.{Input, Submit, Hear, Suspect, Tick, Advance, node_step, refusal_of, group_taken, marked_running, running_group, next_leaving, message_left, next_acknowledged, acknowledged, started}
 use Rattle.rr_disk.specs.declared.area.Area.{Area}
 use Rattle.rr_disk.specs.Areas.{Areas, extent_of, read_of, at_rest}
 use Rattle.rr_disk.specs.Crash.{crash_images, restarted}
