@@ -3,6 +3,7 @@ mod DiskLaws
 mod FrontLaws
 mod OpeningLaws
 mod ServingLaws
+mod SpellingLaws
 mod SwitchingLaws
 pub mod Falling
 pub mod FlushCalls

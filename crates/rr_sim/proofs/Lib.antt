@@ -1,2 +1,7 @@
 pub mod ChosenLemmas
 pub mod RunLemmas
+pub mod TellingLaws
+pub mod SubmittedLaws
+pub mod ClusterLaws
+pub mod HeadlineLaws
+pub mod NodeLaws
