@@ -6,6 +6,7 @@ pub mod FrameLaws
 pub mod ImageLaws
 pub mod OpeningEnds
 pub mod OpeningLaws
+pub mod OtherLaws
 pub mod PlaceLemmas
 pub mod ReadingLaws
 pub mod SnapshotSize

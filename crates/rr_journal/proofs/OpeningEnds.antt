@@ -12,6 +12,8 @@ use Rattle.rr_journal.specs.Image.{Found, Unformatted, Broken, Active, found}
 use Rattle.rr_journal.specs.Journals.{Holds}
 use Rattle.rr_journal.specs.Openings.{Phase, Settling, ReadingFirst, ReadingSecond, Formatting, After, Goes, Opens, Stops, after_found, after_opening_call}
 use Rattle.rr_journal.specs.OpeningTable.{OpensWith, IsKept, first_snapshot}
+use Rattle.rr_journal.specs.OtherAreas.{KnowsFronts}
+use Rattle.rr_journal.specs.Phases.{phase_of}
 
 -- the device calls that are left at most
 abbrev pub calls_left : Phase → ℕ
@@ -64,6 +66,7 @@ pub record ComesFrom {D : Type 0} (tells : D → Type 0) (areas : D → Areas) (
   pub still_tells : tells first.disk → tells now.disk
   pub opens : tells first.disk → (facts : List Fact) → OpensWith first.nodes first.node facts first.phase (areas first.disk) → OpensWith now.nodes now.node facts now.phase (areas now.disk)
   pub keeps : tells first.disk → (facts : List Fact) → OpensWith first.nodes first.node facts first.phase (areas first.disk) → IsKept (Holds first.nodes first.node) facts (areas first.disk) (areas now.disk)
+  pub knows : tells first.disk → KnowsFronts (phase_of first.phase) first.fronts (areas first.disk) → KnowsFronts (phase_of now.phase) now.fronts (areas now.disk)
 
 -- what the next step keeps, all steps so far have kept
 pub keeps_on : {D : Type 0} (tells : D → Type 0) (areas : D → Areas) (first now : Opening D) (end : D) (facts : List Fact) → ComesFrom tells areas first now

@@ -125,7 +125,7 @@ either_held holds facts both held images is = by_either (held images is)
     by_either (inr h) = subst (λ (fs : List Fact). holds images fs) (append-nil facts) h
 
 -- a disk at rest holds what its bytes hold
-rest_held : (n p : ℕ) (facts : List Fact) (start : Images) (both : Areas) → both ≡ restarted start → Holds n p start facts → EachHolds (Holds n p) both facts
+pub rest_held : (n p : ℕ) (facts : List Fact) (start : Images) (both : Areas) → both ≡ restarted start → Holds n p start facts → EachHolds (Holds n p) both facts
 rest_held n p facts start both stands holds images is =
     let now : IsCrashImage (restarted start) images = subst (λ (b : Areas). IsCrashImage b images) stands is in
     let one = at_rest_image start.of_first images.of_first now.may_first in

@@ -6,5 +6,6 @@ pub mod OpenDisks
 pub mod Openings
 pub mod OpeningSteps
 pub mod OpeningTable
+pub mod OtherAreas
 pub mod Phases
 pub mod Places

@@ -18,7 +18,7 @@ module _ {D : Type 0} (of_read : D → Area → ℕ → ℕ → Result (Vec ℕ 
       × (after_opening_call o.nodes o.node v.items (phase_of o.phase) ≡ Goes (phase_of next.phase)) × (next.nodes ≡ o.nodes) × (next.node ≡ o.node)
   Steps o (Ok (progress.Done journal promise number)) = (v : Vec ℕ Global) × Done of_read of_write of_sync (due_call (phase_of o.phase)) o.disk v journal.disk
       × (after_opening_call o.nodes o.node v.items (phase_of o.phase) ≡ Opens journal.area (record { epoch = journal.epoch; promise = promise; next = number; gate = journal.gate }))
-      × (journal ≡ record { disk = journal.disk; nodes = o.nodes; node = o.node; area = journal.area; epoch = journal.epoch; gate = journal.gate; next = number; failed = false; busy = false })
+      × (journal ≡ record { disk = journal.disk; nodes = o.nodes; node = o.node; area = journal.area; epoch = journal.epoch; gate = journal.gate; next = number; failed = false; busy = false; closes_other = journal.closes_other })
   Steps o (Err (e, disk)) = Refused of_read of_write of_sync (due_call (phase_of o.phase)) o.disk e disk
       ⊎ ((v : Vec ℕ Global) × Done of_read of_write of_sync (due_call (phase_of o.phase)) o.disk v disk
       × (((e ≡ OutOfMemory) × TakesMemory (phase_of o.phase)) ⊎ (after_opening_call o.nodes o.node v.items (phase_of o.phase) ≡ Stops e)))

@@ -28,10 +28,12 @@ pub struct Journal<D: Disk> {
     next: u64,
     failed: bool,
     busy: bool,
+    closes_other: bool,
 }
 
 impl<D: Disk> Journal<D> {
-    // Of an opening that has ended: the active area, its last gate, and the number of the next fact.
+    // Of an opening that has ended: the active area, its last gate, the number of the next fact, and whether the
+    // other area has to be closed before it is written anew.
     pub(crate) fn new(
         disk: D,
         nodes: Nodes,
@@ -40,8 +42,9 @@ impl<D: Disk> Journal<D> {
         epoch: u64,
         gate: u64,
         next: u64,
+        closes_other: bool,
     ) -> Journal<D>
-        ensures { result ≡ record { disk = disk; nodes = nodes; node = node; area = area; epoch = epoch; gate = gate; next = next; failed = false; busy = false } }
+        ensures { result ≡ record { disk = disk; nodes = nodes; node = node; area = area; epoch = epoch; gate = gate; next = next; failed = false; busy = false; closes_other = closes_other } }
     {
         Journal {
             disk,
@@ -53,6 +56,7 @@ impl<D: Disk> Journal<D> {
             next,
             failed: false,
             busy: false,
+            closes_other,
         }
     }
 
@@ -77,8 +81,63 @@ impl<D: Disk> Journal<D> {
             next: _,
             failed: _,
             busy: _,
+            closes_other: _,
         } = self;
         disk
+    }
+
+    /// Whose journal it is, of how many nodes.
+    pub fn owner(&self) -> (Nodes, NodeId)
+        ensures { result ≡ (self.now.nodes, self.now.node) }
+    {
+        (self.nodes, self.node)
+    }
+
+    /// The area to which it appends.
+    pub fn area(&self) -> Area
+        ensures { result ≡ self.now.area }
+    {
+        self.area
+    }
+
+    /// The epoch of that area.
+    pub fn epoch(&self) -> u64
+        ensures { result ≡ self.now.epoch }
+    {
+        self.epoch
+    }
+
+    /// Whether the other area has to be closed before it is written anew: it is empty or looks formatted.
+    pub fn closes_other(&self) -> bool
+        ensures { result ≡ self.now.closes_other }
+    {
+        self.closes_other
+    }
+
+    /// Whether a job runs.
+    pub fn is_busy(&self) -> bool
+        ensures { result ≡ self.now.busy }
+    {
+        self.busy
+    }
+
+    /// Takes note of a job: a switch to the other area.
+    pub fn note_job(&mut self)
+        ensures { self.new ≡ record self.old { busy = true } }
+    {
+        self.busy = true;
+    }
+
+    /// Takes note of the end of a switch: the other area has this epoch, and the journal goes on there, behind
+    /// the gate at this place. The area that it leaves looks formatted.
+    pub fn note_switch(&mut self, area: Area, epoch: u64, place: u64)
+        ensures { self.new ≡ record self.old { area = area; epoch = epoch; gate = place; busy = false; closes_other = true } }
+    {
+        self.area = area;
+        self.epoch = epoch;
+        self.gate = place;
+        self.busy = false;
+        self.closes_other = true;
     }
 
     /// Begins to flush a group: the job will append its frame behind the last gate. A refused group is handed
@@ -129,7 +188,7 @@ fn fits(gate: u64, payload: usize) -> bool
 }
 
 /// What stands behind a frame's gate: length, payload, a closed next gate.
-pub(crate) fn frame(alloc: Global, payload: Vec<u8>) -> Result<Vec<u8>, Refusal>
+pub fn frame(alloc: Global, payload: Vec<u8>) -> Result<Vec<u8>, Refusal>
     requires { length payload.items < 2 ^ 32 }
     ensures ok { IfOk result (λ body. body.items ≡ frame_bytes payload.items) }
     ensures err { IfErr result (λ e. e ≡ OutOfMemory) }

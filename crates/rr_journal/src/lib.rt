@@ -10,7 +10,7 @@ mod promised;
 
 pub use content::Content;
 pub use image::{Image, read_image};
-pub use journal::Journal;
+pub use journal::{Journal, frame};
 pub use opening::{Opening, Progress};
 
 #[cfg(test)]

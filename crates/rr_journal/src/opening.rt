@@ -14,6 +14,7 @@ ghost use Rattle.rr_journal.specs.OpeningSteps.{Steps};
 ghost use Rattle.rr_journal.specs.OpeningTable.{IsReadBy, IsLeftBy, Rests, contents, OpensWith, GoesOnWith, ComesTo, IsKept, disk_after};
 ghost use Rattle.rr_journal.specs.OpenDisks.{IsOpenWith, IsReady, disk_behind};
 ghost use Rattle.rr_journal.specs.Journals.{Holds};
+ghost use Rattle.rr_journal.specs.OtherAreas.{front_beside, KnowsFronts, KnowsRead, KnowsOther, IsOtherKnown};
 
 use crate::image::{Image, read_image};
 use crate::journal::{Journal, frame};
@@ -43,6 +44,25 @@ enum Phase {
     SettlingGate,
 }
 
+/// Whether each area has to be closed before it is written anew, as far as an opening has read them.
+#[derive(Clone, Copy, Debug)]
+struct Fronts {
+    first: bool,
+    second: bool,
+}
+
+impl Fronts {
+    /// Whether the area beside this one has to be closed.
+    fn beside(self, area: Area) -> bool
+        ensures { result ≡ front_beside area self }
+    {
+        match area {
+            Area::First => self.second,
+            Area::Second => self.first,
+        }
+    }
+}
+
 /// An opening of a node's disk: it syncs, reads both areas, and formats the first where neither is formatted.
 #[derive(Drop)]
 pub struct Opening<D: Disk> {
@@ -50,6 +70,7 @@ pub struct Opening<D: Disk> {
     nodes: Nodes,
     node: NodeId,
     phase: Phase,
+    fronts: Fronts,
 }
 
 /// What a step of an opening gives.
@@ -74,6 +95,10 @@ impl<D: Disk> Opening<D> {
             nodes,
             node,
             phase: Phase::Settling,
+            fronts: Fronts {
+                first: true,
+                second: true,
+            },
         }
     }
 
@@ -86,6 +111,7 @@ impl<D: Disk> Opening<D> {
             nodes: _,
             node: _,
             phase: _,
+            fronts: _,
         } = self;
         disk
     }
@@ -101,30 +127,39 @@ impl<D: Disk> Opening<D> {
             → IfErr result (λ r. (r.0 ≡ OutOfMemory) ⊎ (r.0 ≡ Device)) }
         ensures kept { D.tells self.disk → (facts : List Fact) → OpensWith self.nodes self.node facts self.phase (D.areas self.disk)
             → IsKept (Holds self.nodes self.node) facts (D.areas self.disk) (D.areas (disk_after result)) }
+        ensures fronts { D.tells self.disk → KnowsFronts (phase_of self.phase) self.fronts (D.areas self.disk) → IfOk result (λ progress. KnowsOther D.areas progress) }
     {
         let Opening {
             mut disk,
             nodes,
             node,
             phase,
+            fronts,
         } = self;
         let called = call(alloc, &mut disk, &phase);
         match called {
             Err(refusal) => Err((refusal, disk)),
-            Ok(read) => match go_on(alloc, nodes, node, phase, read) {
-                Err(refusal) => Err((refusal, disk)),
-                Ok(Next::Phase(phase)) => Ok(Progress::More(Opening {
-                    disk,
-                    nodes,
-                    node,
-                    phase,
-                })),
-                Ok(Next::Open(area, epoch, gate, promise, next)) => Ok(Progress::Done(
-                    Journal::new(disk, nodes, node, area, epoch, gate, next),
-                    promise,
-                    next,
-                )),
-            },
+            Ok(read) => {
+                let fronts = fronts_behind(&phase, &read, fronts);
+                match go_on(alloc, nodes, node, phase, read) {
+                    Err(refusal) => Err((refusal, disk)),
+                    Ok(Next::Phase(phase)) => Ok(Progress::More(Opening {
+                        disk,
+                        nodes,
+                        node,
+                        phase,
+                        fronts,
+                    })),
+                    Ok(Next::Open(area, epoch, gate, promise, next)) => {
+                        let closes_other = fronts.beside(area);
+                        Ok(Progress::Done(
+                            Journal::new(disk, nodes, node, area, epoch, gate, next, closes_other),
+                            promise,
+                            next,
+                        ))
+                    }
+                }
+            }
         }
     }
 
@@ -140,6 +175,7 @@ impl<D: Disk> Opening<D> {
             → IfErr result (λ r. (r.0 ≡ OutOfMemory) ⊎ (r.0 ≡ Device)) }
         ensures kept { D.tells self.disk → (facts : List Fact) → OpensWith self.nodes self.node facts self.phase (D.areas self.disk)
             → IsKept (Holds self.nodes self.node) facts (D.areas self.disk) (D.areas (disk_behind result)) }
+        ensures fronts { D.tells self.disk → KnowsFronts (phase_of self.phase) self.fronts (D.areas self.disk) → IfOk result (λ r. IsOtherKnown D.areas r.0) }
     {
         let mut opening = self;
         loop {
@@ -172,6 +208,7 @@ impl<D: Disk> Journal<D> {
             → Holds nodes node (contents (D.areas disk)) facts → IfErr result (λ r. (r.0 ≡ OutOfMemory) ⊎ (r.0 ≡ Device)) }
         ensures kept { D.tells disk → (facts : List Fact) → length (D.areas disk).first.cells < 2 ^ 64 → length (D.areas disk).second.cells < 2 ^ 64
             → Holds nodes node (contents (D.areas disk)) facts → IsKept (Holds nodes node) facts (D.areas disk) (D.areas (disk_behind result)) }
+        ensures fronts { D.tells disk → IfOk result (λ r. IsOtherKnown D.areas r.0) }
     {
         Opening::start(nodes, node, disk).finish(alloc)
     }
@@ -188,6 +225,7 @@ impl<D: Disk> Opening<FailingDisk<D>> {
             nodes: _,
             node: _,
             phase,
+            fronts: _,
         } = self;
         disk.fail_next(fill);
         let _refused = call(alloc, &mut disk, &phase);
@@ -230,6 +268,24 @@ fn done(alloc: Global, called: Result<(), Refusal>) -> Result<Vec<u8>, Refusal>
     match called {
         Ok(()) => Ok(Vec::new(alloc)),
         Err(refusal) => Err(refusal),
+    }
+}
+
+/// What is known of both areas behind a device call that succeeded.
+fn fronts_behind(phase: &Phase, read: &[u8], fronts: Fronts) -> Fronts
+    ensures { (old new : Areas) → KnowsFronts (phase_of phase.now) fronts old → IsReadBy (due_call (phase_of phase.now)) old read.now
+        → new ≡ after_call (due_call (phase_of phase.now)) old → KnowsRead (phase_of phase.now) result new }
+{
+    match phase {
+        Phase::ReadingFirst => Fronts {
+            first: must_close(read),
+            second: fronts.second,
+        },
+        Phase::ReadingSecond(_) => Fronts {
+            first: fronts.first,
+            second: must_close(read),
+        },
+        _ => fronts,
     }
 }
 

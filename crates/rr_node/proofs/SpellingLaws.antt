@@ -1,4 +1,4 @@
--- The group that a steady node is flushing has a spelling.
+-- The group that a steady node is flushing has a spelling, and so has the snapshot to which it switches.
 use Rattle.std.proofs.Common.{◌≡◌, ℕ, Option, Some, sym, subst}
 use Rattle.std.specs.Prelude.{IfSome}
 use Rattle.rr_types.specs.Groups.{Grouped}
@@ -25,9 +25,10 @@ flush_spelt s j (flush.BodyOut job) h = job_spelt s j job h
 flush_spelt s j (flush.BodySafe job) h = job_spelt s j job h
 flush_spelt s j (flush.GateSet job) h = job_spelt s j job h
 flush_spelt s j (flush.Flushed synced) h = tt
+flush_spelt s j (flush.Switching job) h = h.lawful
 
 pub steady_spelt : (n p : ℕ) (doing : code.Doing) → IsSteady n p doing → IsSpelt (doing_of doing)
 steady_spelt n p (does.Stopped disk) h = tt
 steady_spelt n p (does.Faulted disk) h = tt
 steady_spelt n p (does.Opening opening) h = tt
-steady_spelt n p (does.Serving s) h = flush_spelt s.core s.journal s.flush h.flush
+steady_spelt n p (does.Serving s) h = flush_spelt s.core s.slots s.flush h.flush

@@ -4,11 +4,12 @@ use Rattle.rr_journal.specs.Journals.{Holds}
 use Rattle.rr_journal.specs.Phases.{phase_of}
 use Rattle.rr_journal.specs.OpeningSteps.{Steps}
 use Rattle.rr_journal.specs.OpeningTable.{ComesTo, IsKept, disk_after}
+use Rattle.rr_journal.specs.OtherAreas.{KnowsOther}
 use Rattle.rr_journal.proofs.OpeningEnds.{fewer_left, keeps_on}
 use Rattle.rr_journal.proofs.opening.Opening.finish.Goals as goal
 
 pub loop-refused-init : goal.loop-refused-init
-loop-refused-init g c = record { same_nodes = refl; same_node = refl; still_tells = λ tells. tells; opens = λ tells facts opens. opens; keeps = λ tells facts opens. inl refl }
+loop-refused-init g c = record { same_nodes = refl; same_node = refl; still_tells = λ tells. tells; opens = λ tells facts opens. opens; keeps = λ tells facts opens. inl refl; knows = λ tells knows. knows }
 
 pub returns-in-Err-clause-tells : goal.returns-in-Err-clause-tells
 returns-in-Err-clause-tells g c tells = c.in-Err.ensures.tells (c.loop-refused.invariant.still_tells tells)
@@ -39,6 +40,7 @@ loop-refused-preserved g c =
       keeps = λ tells facts opens. keeps_on g.D.Disk.tells g.D.Disk.areas c.args.self c.loop-refused.opening c.in-Ok-More.next.disk facts came tells opens
           (subst (λ (x : Progress g.row.D.Denot). IsKept (Holds c.loop-refused.opening.nodes c.loop-refused.opening.node) facts (g.D.Disk.areas c.loop-refused.opening.disk) (g.D.Disk.areas (disk_after {D = g.row.D.Denot} (Ok x))))
           c.in-Ok-More.field-0-is (c.in-Ok-More.ensures.kept (came.still_tells tells) facts (came.opens tells facts opens)));
+      knows = λ tells knows. subst (λ (x : Progress g.row.D.Denot). KnowsOther g.D.Disk.areas x) c.in-Ok-More.field-0-is (c.in-Ok-More.ensures.fronts (came.still_tells tells) (came.knows tells knows));
     }
 
 pub returns-in-Ok-Done-clause-tells : goal.returns-in-Ok-Done-clause-tells
@@ -55,6 +57,11 @@ pub returns-in-Ok-Done-clause-table : goal.returns-in-Ok-Done-clause-table
 returns-in-Ok-Done-clause-table g c tells facts opens =
     let came = c.loop-refused.invariant in
     subst (λ (x : Progress g.row.D.Denot). ComesTo g.D.Disk.areas facts x) c.in-Ok-Done.field-0-is (c.in-Ok-Done.ensures.table (came.still_tells tells) facts (came.opens tells facts opens))
+
+pub returns-in-Ok-Done-clause-fronts : goal.returns-in-Ok-Done-clause-fronts
+returns-in-Ok-Done-clause-fronts g c tells knows =
+    let came = c.loop-refused.invariant in
+    subst (λ (x : Progress g.row.D.Denot). KnowsOther g.D.Disk.areas x) c.in-Ok-Done.field-0-is (c.in-Ok-Done.ensures.fronts (came.still_tells tells) (came.knows tells knows))
 
 pub returns-in-Ok-Done-clause-kept : goal.returns-in-Ok-Done-clause-kept
 returns-in-Ok-Done-clause-kept g c tells facts opens =

@@ -1,4 +1,4 @@
-use Rattle.std.proofs.Common.{◌≡◌, inr, refl, sym, subst, Ok, ℕ, length, false, Vec, Global}
+use Rattle.std.proofs.Common.{◌≡◌, inr, refl, sym, subst, ◌∙◌, Ok, ℕ, length, false, Vec, Global}
 use Rattle.rr_types.specs.Promises.{promise_of}
 use Rattle.rr_disk.specs.Crash.{Images, restarted}
 use Rattle.rr_journal.specs.declared.journal.Journal.{Journal}
@@ -8,6 +8,9 @@ use Rattle.rr_journal.specs.Openings.{Done, Opens, due_call, after_opening_call}
 use Rattle.rr_journal.specs.Journals.{Holds, IsOver}
 use Rattle.rr_journal.specs.Phases.{Follows, phase_of}
 use Rattle.rr_journal.proofs.OpeningLaws.{kept, kept_failed, opened_over}
+use Rattle.rr_journal.specs.OpeningTable.{IsReadBy}
+use Rattle.rr_journal.specs.OtherAreas.{front_beside, closes_in, other_area, KnowsRead, IsOtherKnown}
+use Rattle.rr_journal.proofs.OtherLaws.{AfterKnows, goes_on_knowing}
 use Rattle.rr_journal.proofs.opening.Opening.step.Goals as goal
 
 pub returns-in-Err-clause-kept : goal.returns-in-Err-clause-kept
@@ -38,7 +41,7 @@ returns-in-Ok-Open-clause-exact g c =
     subst
     (λ (j : Journal g.row.D.Denot). (v : Vec ℕ Global) × Done g.D.Disk.read_gives g.D.Disk.write_gives g.D.Disk.sync_gives (due_call (phase_of c.args.self.phase)) c.args.self.disk v j.disk
     × (after_opening_call c.args.self.nodes c.args.self.node v.items (phase_of c.args.self.phase) ≡ Opens j.area (record { epoch = j.epoch; promise = c.in-Ok-Open.promise; next = c.in-Ok-Open.next; gate = j.gate }))
-    × (j ≡ record { disk = j.disk; nodes = c.args.self.nodes; node = c.args.self.node; area = j.area; epoch = j.epoch; gate = j.gate; next = c.in-Ok-Open.next; failed = false; busy = false }))
+    × (j ≡ record { disk = j.disk; nodes = c.args.self.nodes; node = c.args.self.node; area = j.area; epoch = j.epoch; gate = j.gate; next = c.in-Ok-Open.next; failed = false; busy = false; closes_other = j.closes_other }))
     (sym c.new.ensures)
     (c.in-Ok.read, c.in-Ok.ensures.done, follows, refl)
 
@@ -56,6 +59,7 @@ returns-in-Ok-Open-clause-table g c tells facts opens =
       next = c.in-Ok-Open.next;
       failed = false;
       busy = false;
+      closes_other = c.beside-closes_other.result;
     } in
     let over = opened_over {D = g.row.D.Denot} journal is.0 facts c.in-Ok-Open.promise is.2 is.3 in
     subst
@@ -69,3 +73,21 @@ returns-in-Ok-Open-clause-kept g c tells facts opens =
     (λ (j : Journal g.row.D.Denot). IsKept (Holds c.args.self.nodes c.args.self.node) facts (g.D.Disk.areas c.args.self.disk) (g.D.Disk.areas j.disk))
     (sym c.new.ensures)
     (kept c.args.self.nodes c.args.self.node facts _ _ c.args.self.phase opens (c.in-Ok.ensures.areas tells))
+
+pub returns-in-Ok-Phase-clause-fronts : goal.returns-in-Ok-Phase-clause-fronts
+returns-in-Ok-Phase-clause-fronts g c tells knows =
+    let new = g.D.Disk.areas c.call-called.new.disk in
+    let read = subst (IsReadBy (due_call (phase_of c.args.self.phase)) (g.D.Disk.areas c.args.self.disk)) (sym c.deref.ensures.value) (c.in-Ok.ensures.read tells) in
+    let noted : KnowsRead (phase_of c.args.self.phase) c.fronts_behind-fronts.result (g.D.Disk.areas c.call-called.new.disk) = c.fronts_behind-fronts.ensures (g.D.Disk.areas c.args.self.disk) new knows read (c.in-Ok.ensures.areas tells) in
+    let follows = subst (λ (x : Next). Follows (Ok x) (phase_of c.args.self.phase) (after_opening_call c.args.self.nodes c.args.self.node c.in-Ok.read.items (phase_of c.args.self.phase))) c.in-Ok-Phase.field-0-is c.in-Ok-Phase.ensures.exact in
+    subst (AfterKnows c.fronts_behind-fronts.result new) follows (goes_on_knowing c.args.self.nodes c.args.self.node c.in-Ok.read.items c.fronts_behind-fronts.result new (phase_of c.args.self.phase) noted)
+
+pub returns-in-Ok-Open-clause-fronts : goal.returns-in-Ok-Open-clause-fronts
+returns-in-Ok-Open-clause-fronts g c tells knows =
+    let new = g.D.Disk.areas c.call-called.new.disk in
+    let read = subst (IsReadBy (due_call (phase_of c.args.self.phase)) (g.D.Disk.areas c.args.self.disk)) (sym c.deref.ensures.value) (c.in-Ok.ensures.read tells) in
+    let noted : KnowsRead (phase_of c.args.self.phase) c.fronts_behind-fronts.result (g.D.Disk.areas c.call-called.new.disk) = c.fronts_behind-fronts.ensures (g.D.Disk.areas c.args.self.disk) new knows read (c.in-Ok.ensures.areas tells) in
+    let follows = subst (λ (x : Next). Follows (Ok x) (phase_of c.args.self.phase) (after_opening_call c.args.self.nodes c.args.self.node c.in-Ok.read.items (phase_of c.args.self.phase))) c.in-Ok-Open.field-0-is c.in-Ok-Open.ensures.exact in
+    let known : front_beside c.in-Ok-Open.area c.fronts_behind-fronts.result ≡ closes_in (g.D.Disk.areas c.call-called.new.disk) (other_area c.in-Ok-Open.area) =
+    subst (AfterKnows c.fronts_behind-fronts.result new) follows (goes_on_knowing c.args.self.nodes c.args.self.node c.in-Ok.read.items c.fronts_behind-fronts.result new (phase_of c.args.self.phase) noted) in
+    subst (IsOtherKnown {D = g.row.D.Denot} g.D.Disk.areas) (sym c.new.ensures) (c.beside-closes_other.ensures ∙ known)

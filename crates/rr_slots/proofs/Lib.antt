@@ -1,0 +1,4 @@
+pub mod BesideLaws
+pub mod GroundLaws
+pub mod SnapshotLaws
+pub mod SwitchLaws
