@@ -1,2 +1,1 @@
 pub mod ChosenLemmas
-pub mod RunLemmas
