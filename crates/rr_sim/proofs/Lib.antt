@@ -1,5 +1,4 @@
 pub mod ChosenLemmas
-pub mod RunLemmas
 pub mod TellingLaws
 pub mod SubmittedLaws
 pub mod ClusterLaws
