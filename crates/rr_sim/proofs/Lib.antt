@@ -1,2 +1,3 @@
 pub mod ChosenLemmas
 pub mod RunLemmas
+mod DrawingLemmas
