@@ -279,7 +279,6 @@ impl Cluster {
 
     /// What the event of a line does, memory aside; `OutOfMemory` where the wire or the report can't grow.
     pub fn step(&mut self, alloc: Global, line: u64, event: &Event) -> Result<(), Refusal>
-        requires { IsTrue (is_served event.now) }
         ensures ok { OnOk result (Steps line event.now self.old self.new) }
         ensures spelt { OnOk result (IsSpeltBehind event.now self.old self.new) }
         ensures err { IfErr result (λ e. e ≡ Refusal.OutOfMemory) }

@@ -96,7 +96,6 @@ fn is_served(event: &Event) -> bool
 /// Runs events that can all be run, and reports.
 fn run(alloc: Global, nodes: Nodes, events: &[Event]) -> Result<Report, Refusal>
     requires short { length events.now ≤ 1000000 }
-    requires served { All (λ e. IsTrue (is_served e)) events.now }
     requires few { nodes ≤ 7 }
     requires ranges { (m : ℕ) × AllByRecursion (IsEvent m) events.now }
     ensures report { IfOk result (λ report. IsReportOf nodes events.now report) }
@@ -111,7 +110,6 @@ fn run(alloc: Global, nodes: Nodes, events: &[Event]) -> Result<Report, Refusal>
 /// The nodes, the wire and the report behind events that can all be run.
 fn cluster_after(alloc: Global, nodes: Nodes, events: &[Event]) -> Result<Cluster, Refusal>
     requires short { length events.now ≤ 1000000 }
-    requires served { All (λ e. IsTrue (is_served e)) events.now }
     ensures ok { IfOk result (λ end. Leads 2 events.now (new_cluster nodes) end) }
     ensures spelt { IfOk result (λ end. LeadsSpelt 2 events.now (new_cluster nodes) end) }
     ensures err { IfErr result (λ e. e ≡ Refusal.OutOfMemory) }
@@ -122,9 +120,12 @@ fn cluster_after(alloc: Global, nodes: Nodes, events: &[Event]) -> Result<Cluste
 }
 
 /// Runs the events in order.
-fn run_events(alloc: Global, cluster: &mut Cluster, events: &[Event]) -> Result<(), Refusal>
+pub(crate) fn run_events(
+    alloc: Global,
+    cluster: &mut Cluster,
+    events: &[Event],
+) -> Result<(), Refusal>
     requires short { length events.now ≤ 1000000 }
-    requires served { All (λ e. IsTrue (is_served e)) events.now }
     ensures ok { OnOk result (Leads 2 events.now cluster.old cluster.new) }
     ensures spelt { OnOk result (LeadsSpelt 2 events.now cluster.old cluster.new) }
     ensures err { IfErr result (λ e. e ≡ Refusal.OutOfMemory) }
