@@ -1,3 +1,4 @@
 pub mod Chosen
 pub mod Clusters
 pub mod Headline
+pub mod Random

@@ -3,9 +3,11 @@
 
 mod chosen;
 mod cluster;
+mod drawing;
 mod simulator;
 
 pub use chosen::decided_list;
 pub use cluster::Cluster;
+pub use drawing::{MAX_STEPS, random};
 pub use rr_text::{Binding, BoundNames, Event, Fill, MAX_EVENTS, Report, ReportLine, Schedule};
 pub use simulator::{nodes_after, simulate};

@@ -114,7 +114,11 @@ fn cluster_after(alloc: Global, nodes: Nodes, events: &[Event]) -> Result<Cluste
 }
 
 /// Runs the events in order.
-fn run_events(alloc: Global, cluster: &mut Cluster, events: &[Event]) -> Result<(), Refusal>
+pub(crate) fn run_events(
+    alloc: Global,
+    cluster: &mut Cluster,
+    events: &[Event],
+) -> Result<(), Refusal>
     requires { length events.now ≤ 1000000 }
     ensures ok { OnOk result (Leads 2 events.now cluster.old cluster.new) }
     ensures spelt { OnOk result (LeadsSpelt 2 events.now cluster.old cluster.new) }

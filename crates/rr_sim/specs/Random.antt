@@ -1,0 +1,94 @@
+-- Random schedules: a function of a generator's words, and of the wire as the run goes.
+use Rattle.std.specs.Prelude.{◌≡◌, ℕ, zero, suc, ◌+◌, ◌*◌, ◌/◌, ◌%◌, ◌^◌, ◌==◌, nat_lt, if◌then◌else◌, List, [], ◌∷◌, ◌++◌, length, slice_get, replicate}
+use Rattle.std.specs.Option.{option_map_or}
+use Rattle.std.specs.List.{AllByRecursion, flat_map, range_with_len}
+use Rattle.rand_core.specs.Pcg32Seed.{pcg32_seed}
+use Rattle.rand_pcg.specs.Lcg.{Lcg}
+use Rattle.rand_pcg.specs.Pcg.{pcg32, pcg32_of_seed}
+use Rattle.rr_types.specs.declared.command.Command.{Command}
+use Rattle.rr_types.specs.declared.command.Op.TheVariants.{Claim}
+use Rattle.rr_types.specs.declared.message.Message.{Message}
+use Rattle.rr_text.specs.declared.event.Event.{Event}
+use Rattle.rr_text.specs.declared.event.Event.TheVariants.{Submit, Hear, Suspect, Tick, Advance, Take, Device, Fail, Mark, Send, Ack, Snap, Crash, Restart}
+use Rattle.rr_text.specs.Scheduled.{Scheduled, IsEvent}
+use Rattle.rr_sim.specs.Clusters.{Cluster, new_cluster, Steps, Leads}
+
+-- the generator of a seed, whose words are drawn one after another
+abbrev pub seeded : ℕ → Lcg
+seeded seed = pcg32_of_seed (pcg32_seed 16 seed)
+
+-- the next word of a generator
+abbrev pub word : Lcg → ℕ
+word g = (pcg32 g).0
+
+-- the generator behind its next word
+abbrev pub behind : Lcg → Lcg
+behind g = (pcg32 g).1
+
+-- one of four clients claims one of the names a to d, without a value
+abbrev pub claim_of : ℕ → Command
+claim_of b = record { request = record { client = b % 4; seq = b / 4 % 8 }; op = Claim ((97 + b / 32 % 4) ∷ []) [] }
+
+-- a message of the wire is heard by its addressee, where that is one of the nodes; on an empty wire node p hears message 0
+abbrev pub hearing : ℕ → List Message → ℕ → ℕ → Event
+hearing n [] p b = Hear p 0
+hearing n (m ∷ ms) p b =
+    let k = b % length (m ∷ ms) in
+    Hear (option_map_or (λ (sent : Message). if nat_lt sent.to n then sent.to else p) (slice_get (m ∷ ms) k) p) k
+
+-- the event of a kind from 0 to 31 at node p of n, by a word, where these messages are on the wire
+abbrev pub event_of_kind : ℕ → List Message → ℕ → ℕ → ℕ → Event
+event_of_kind n wire p kind b =
+    if kind == 0 then Submit p (claim_of b)
+    else (if nat_lt kind 8 then hearing n wire p b
+    else (if kind == 8 then Suspect p (b % 2 ^ n)
+    else (if kind == 9 then Tick p
+    else (if kind == 10 then Advance p
+    else (if nat_lt kind 13 then Take p
+    else (if nat_lt kind 21 then Device p
+    else (if nat_lt kind 23 then Mark p
+    else (if nat_lt kind 27 then Send p
+    else (if kind == 27 then Ack p
+    else (if kind == 28 then Snap p
+    else (if kind == 29 then Fail p (b % 256 ∷ [])
+    else (if kind == 30 then Crash p (b / 256 % 1024) (b / 256 % 1024) (b % 256 ∷ [])
+    else Restart p))))))))))))
+
+-- the event that two words give: the first says the node and the kind, the second the rest
+abbrev pub event_of_words : ℕ → List Message → ℕ → ℕ → Event
+event_of_words n wire a b = event_of_kind n wire (a % n) (a / 256 % 32) b
+
+-- the event that the next two words of a generator give
+abbrev pub drawn : ℕ → List Message → Lcg → Event
+drawn n wire g = event_of_words n wire (word g) (word (behind g))
+
+-- node p opens its disk, which is formatted
+abbrev pub opening_of : ℕ → List Event
+opening_of p = Restart p ∷ replicate 9 (Device p)
+
+-- each of the n nodes opens its disk
+abbrev pub openings : ℕ → List Event
+openings n = flat_map opening_of (range_with_len 0 n)
+
+-- so many events drawn from the words of a generator, each by the wire as the run has it then, from the one of this line on
+abbrev pub AreDrawn : ℕ → ℕ → ℕ → Lcg → Cluster → List Event → Type 0
+AreDrawn n at zero g c events = events ≡ []
+AreDrawn n at (suc steps) g c events =
+    (next : Cluster) × (rest : List Event)
+    × (events ≡ drawn n c.wire g ∷ rest)
+    × Steps at (drawn n c.wire g) c next
+    × AreDrawn n (at + 1) steps (behind (behind g)) next rest
+
+-- so many events of n nodes are drawn behind those that are there
+abbrev pub Draws : ℕ → ℕ → Lcg → Cluster → List Event → List Event → Type 0
+Draws n steps g c old new =
+    (more : List Event) × (new ≡ old ++ more) × (length more ≡ steps) × AllByRecursion (IsEvent n) more × AreDrawn n (length old + 2) steps g c more
+
+-- the random schedule of n nodes, by this seed and of so many steps: its nodes open, and then come the events that the words give
+pub record IsRandom (n seed steps : ℕ) (schedule : Scheduled) : Type 0 where
+  pub opened : Cluster
+  pub leads : Leads 2 (openings n) (new_cluster n) opened
+  pub events : List Event
+  pub are_drawn : AreDrawn n (2 + 10 * n) steps (seeded seed) opened events
+  pub nodes : schedule.nodes ≡ n
+  pub all : schedule.events ≡ openings n ++ events
