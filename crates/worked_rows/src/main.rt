@@ -1,7 +1,10 @@
 //! Says of each text that it is given by name whether it is printed as it was read, or what it is refused with:
 //! of tapes, whose names end in `.tape`, and of schedules. Behind the word `run` it prints the report of each
-//! schedule, and behind the word `areas` the bytes that the areas of node 0 hold at its end.
+//! schedule, behind the word `areas` the bytes that the areas of node 0 hold at its end, and behind the word
+//! `sweep` how many crashes in the switch with which it ends kept what it was of.
 #![tactic(auto)]
+
+mod sweep;
 
 ghost use Rattle.std.specs.Prelude.{◌≡◌, IfOk};
 ghost use Rattle.rr_cli.specs.Ends.{IsReportOn};
@@ -22,6 +25,7 @@ enum Task {
     Read,
     Run,
     Areas,
+    Sweep,
 }
 
 fn printed(alloc: Global, is_tape: bool, bytes: &[u8]) -> Result<Vec<u8>, Refusal>
@@ -90,12 +94,14 @@ fn main(rt: HostRuntime) -> io::Result<()> {
         match word.as_str() {
             "run" => task = Task::Run,
             "areas" => task = Task::Areas,
+            "sweep" => task = Task::Sweep,
             path => {
                 let bytes = fs::read(&rt, path)?;
                 match task {
                     Task::Read => read_again(&rt, path, &bytes)?,
                     Task::Run => run(&rt, path, &bytes)?,
                     Task::Areas => print_areas(&rt, path, &bytes)?,
+                    Task::Sweep => sweep::sweep(&rt, path, &bytes)?,
                 }
             }
         }
