@@ -1,0 +1,1 @@
+//! Areas with values worked out by hand.
