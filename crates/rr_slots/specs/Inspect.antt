@@ -1,5 +1,5 @@
 -- What the bytes of both areas tell, each read as the node does that its own snapshot names.
-use Rattle.std.specs.Prelude.{◌≡◌, ℕ, ◌-◌, ◌^◌, ◌≤◌, ◌==◌, nat_lt, if◌then◌else◌, List, length, drop, Option, None, Some, Result, Ok, Err, Vec}
+use Rattle.std.specs.Prelude.{◌≡◌, ◌⊎◌, ℕ, ◌-◌, ◌^◌, ◌≤◌, ◌==◌, nat_lt, if◌then◌else◌, List, length, drop, Option, None, Some, Result, Ok, Err, Vec}
 use Rattle.std.specs.declared.alloc.Global.{Global}
 use Rattle.rr_types.specs.declared.refusal.Refusal.{Refusal}
 use Rattle.rr_types.specs.declared.refusal.Refusal.TheVariants as refusals
@@ -82,10 +82,14 @@ abbrev pub IsDamage : Refusal → Type 0
 IsDamage (refusals.Damaged number offset) = Unit {0}
 IsDamage e = ⊥
 
+-- a read is refused for memory or by the device
+abbrev pub IsRefusedRead : Refusal → Type 0
+IsRefusedRead e = (e ≡ refusals.OutOfMemory) ⊎ (e ≡ refusals.Device)
+
 -- an inspection of a disk: both areas were read, and what they tell was answered; or a read was refused
 pub data Inspects {D : Type 0} (of_read : D → Area → ℕ → ℕ → Result (Vec ℕ Global) Refusal → D → Type 0) (old : D) (result : Result (Option AreaReport × Option AreaReport) Refusal) (new : D) : Type 0 where
   both_read : (first second : Vec ℕ Global) (mid : D) → of_read old First 0 (2 ^ 64 - 1) (Ok first) mid → of_read mid Second 0 (2 ^ 64 - 1) (Ok second) new
       → IsTold result (inspected first.items second.items) → Inspects of_read old result new
-  first_refused : (e : Refusal) → of_read old First 0 (2 ^ 64 - 1) (Err e) new → result ≡ Err e → Inspects of_read old result new
-  second_refused : (first : Vec ℕ Global) (mid : D) (e : Refusal) → of_read old First 0 (2 ^ 64 - 1) (Ok first) mid → of_read mid Second 0 (2 ^ 64 - 1) (Err e) new
+  first_refused : (e : Refusal) → IsRefusedRead e → of_read old First 0 (2 ^ 64 - 1) (Err e) new → result ≡ Err e → Inspects of_read old result new
+  second_refused : (first : Vec ℕ Global) (mid : D) (e : Refusal) → IsRefusedRead e → of_read old First 0 (2 ^ 64 - 1) (Ok first) mid → of_read mid Second 0 (2 ^ 64 - 1) (Err e) new
       → result ≡ Err e → Inspects of_read old result new

@@ -1,15 +1,15 @@
-use Rattle.std.proofs.Common.{◌≡◌, inl, refl, ap₂, ◌∙◌}
+use Rattle.std.proofs.Common.{inl, refl, ◌∙◌}
 use Rattle.rr_slots.specs.Inspect.{inspected, IsTold, both_read, first_refused, second_refused}
-use Rattle.rr_slots.proofs.InspectLaws.{told_of}
+use Rattle.rr_slots.proofs.InspectLaws.{told_of, refused_read}
 use Rattle.rr_slots.proofs.inspection.inspect.Goals as goal
 
 -- src/inspection.rt:245:25
 pub returns-in-Err-clause-exact : goal.returns-in-Err-clause-exact
-returns-in-Err-clause-exact g c = first_refused c.in-Err.refusal c.in-Err.ensures.exact refl
+returns-in-Err-clause-exact g c = first_refused c.in-Err.refusal (refused_read c.in-Err.refusal _ c.in-Err.ensures.cause) c.in-Err.ensures.exact refl
 
 -- src/inspection.rt:249:25
 pub returns-in-Err-read-clause-exact : goal.returns-in-Err-read-clause-exact
-returns-in-Err-read-clause-exact g c = second_refused c.in-Ok.bytes c.read.new.self c.in-Err-read.refusal c.in-Ok.ensures.exact c.in-Err-read.ensures.exact refl
+returns-in-Err-read-clause-exact g c = second_refused c.in-Ok.bytes c.read.new.self c.in-Err-read.refusal (refused_read c.in-Err-read.refusal _ c.in-Err-read.ensures.cause) c.in-Ok.ensures.exact c.in-Err-read.ensures.exact refl
 
 -- src/inspection.rt:231:1
 pub returns-clause-exact : goal.returns-clause-exact
