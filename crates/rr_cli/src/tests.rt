@@ -1,6 +1,7 @@
 //! Runs of the program over memory.
 
 mod rows;
+mod shown;
 
 use crate::{end_without_words, execute, print_refusal, report_on, status};
 use rows::ROWS;
@@ -83,11 +84,19 @@ fn reads_words(rt: HostRuntime) -> Result<(), Fail> {
     assert_eq!(rt; help.status, 0);
     assert!(rt; help.out.as_str().contains("Usage: rr <COMMAND>"));
     assert!(rt; help.err.is_empty());
-    let wrong: [(&[&str], &str); 5] = [
+    let wrong: [(&[&str], &str); 7] = [
+        (
+            &["rr", "show"],
+            "error: the following required arguments were not provided:\n  <DIR>\n",
+        ),
+        (
+            &["rr", "show", "a", "b"],
+            "error: unexpected argument 'b' found",
+        ),
         (&["rr"], "A replicated name registry"),
         (
-            &["rr", "show", "dir"],
-            "error: unrecognized subcommand 'show'",
+            &["rr", "shows", "dir"],
+            "error: unrecognized subcommand 'shows'",
         ),
         (
             &["rr", "sim", "a", "b"],

@@ -2,3 +2,4 @@ pub mod BesideLaws
 pub mod GroundLaws
 pub mod SnapshotLaws
 pub mod SwitchLaws
+pub mod InspectLaws

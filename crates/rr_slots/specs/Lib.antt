@@ -1,2 +1,3 @@
 pub mod Switches
 pub mod SwitchTable
+pub mod Inspect

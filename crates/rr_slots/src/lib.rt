@@ -6,8 +6,13 @@
 #![tactic(auto)]
 
 mod call;
+mod inspection;
 mod slots;
 mod switch;
 
+pub use inspection::{AreaReport, inspect, inspect_bytes};
 pub use slots::Slots;
 pub use switch::{SwitchJob, Switching};
+
+#[cfg(test)]
+mod inspection_tests;
