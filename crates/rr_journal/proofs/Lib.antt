@@ -1,4 +1,5 @@
 pub mod ContentLemmas
+pub mod CourseLaws
 pub mod FlushLaws
 pub mod FormatLaws
 pub mod FoundLaws

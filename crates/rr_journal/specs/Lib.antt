@@ -3,6 +3,7 @@ pub mod Ends
 pub mod Image
 pub mod Journals
 pub mod OpenDisks
+pub mod OpeningCourse
 pub mod Openings
 pub mod OpeningSteps
 pub mod OpeningTable

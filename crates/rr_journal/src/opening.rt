@@ -1,15 +1,17 @@
 //! The opening of a journal, one device call a step.
 
-ghost use Rattle.std.specs.Prelude.{◌≡◌, ◌⊎◌, ◌<◌, ◌^◌, [], List, length, Some, Ok, Err, OnOk, OnErr, IfOk, IfErr};
+ghost use Rattle.std.specs.Prelude.{◌≡◌, ◌≢◌, ◌⊎◌, ◌+◌, ◌<◌, ◌≤◌, ◌^◌, [], List, length, Some, Ok, Err, OnOk, OnErr, IfOk, IfErr};
 ghost use Rattle.rr_types.specs.declared.fact.Fact.{Fact};
 ghost use Rattle.rr_types.specs.declared.refusal.Refusal.TheVariants.{OutOfMemory, Device};
 ghost use Rattle.rr_disk.specs.Areas.{Areas};
+ghost use Rattle.rr_disk.specs.Counts.{counted, Grew};
 ghost use Rattle.rr_disk.specs.Failing.{FailingRead, FailingWrite, FailingSync};
 ghost use Rattle.rr_frame.specs.SnapshotFormat.{snapshot_bytes, IsLawfulSnapshot};
 ghost use Rattle.rr_journal.specs.Calls.{must_close, frame_bytes, after_call};
-ghost use Rattle.rr_journal.specs.Image.{found};
+ghost use Rattle.rr_journal.specs.Image.{Unformatted, found};
 ghost use Rattle.rr_journal.specs.Openings.{Settling, ReadingSecond, Done, Refused, due_call, after_found, after_opening_call};
 ghost use Rattle.rr_journal.specs.Phases.{phase_of, Follows};
+ghost use Rattle.rr_journal.specs.OpeningCourse.{calls_left, found_from, calls_from, EndsBy, StaysOnCourse, IsRefused, IsUntouched, IsAsBefore, IsDone};
 ghost use Rattle.rr_journal.specs.OpeningSteps.{Steps};
 ghost use Rattle.rr_journal.specs.OpeningTable.{IsReadBy, IsLeftBy, Rests, contents, OpensWith, GoesOnWith, ComesTo, IsKept, disk_after};
 ghost use Rattle.rr_journal.specs.OpenDisks.{IsOpenWith, IsReady, disk_behind};
@@ -120,7 +122,12 @@ impl<D: Disk> Opening<D> {
     /// Errors: `OutOfMemory`, `Device`; `Damaged`, of a disk that holds no facts.
     pub fn step(self, alloc: Global) -> Result<Progress<D>, (Refusal, D)>
         ensures exact { Steps D.read_gives D.write_gives D.sync_gives self result }
+        ensures call { D.calls (disk_after result) ≡ counted (D.calls self.disk) }
+        ensures faults { D.faults self.disk ≤ D.faults (disk_after result) }
+        ensures cause { IfErr result (λ r. IsRefused D.faults self.disk r) }
         ensures tells { D.tells self.disk → D.tells (disk_after result) }
+        ensures course { D.tells self.disk → StaysOnCourse D.areas self result }
+        ensures untouched { D.tells self.disk → IsUntouched (phase_of self.phase) (D.areas self.disk) (D.areas (disk_after result)) }
         ensures table { D.tells self.disk → (facts : List Fact) → OpensWith self.nodes self.node facts self.phase (D.areas self.disk)
             → IfOk result (λ progress. ComesTo D.areas facts progress) }
         ensures undamaged { D.tells self.disk → (facts : List Fact) → OpensWith self.nodes self.node facts self.phase (D.areas self.disk)
@@ -167,7 +174,15 @@ impl<D: Disk> Opening<D> {
     /// number of the next fact. A refused opening hands its disk back.
     /// Errors: as of `step`.
     pub fn finish(self, alloc: Global) -> Result<(Journal<D>, Promise, u64), (Refusal, D)>
+        ensures calls { D.calls (disk_behind result) ≤ D.calls self.disk + calls_left (phase_of self.phase) }
+        ensures faults { D.faults self.disk ≤ D.faults (disk_behind result) }
+        ensures cause { IfErr result (λ r. IsRefused D.faults self.disk r) }
         ensures tells { D.tells self.disk → D.tells (disk_behind result) }
+        ensures ends { D.tells self.disk → EndsBy (found_from self.nodes self.node (phase_of self.phase) (D.areas self.disk)) result }
+        ensures counted { D.tells self.disk → D.calls (disk_behind result) ≤ D.calls self.disk + length (calls_from self.nodes self.node (phase_of self.phase) (D.areas self.disk)) }
+        ensures done { D.tells self.disk → OnOk result (IsDone (calls_from self.nodes self.node (phase_of self.phase) (D.areas self.disk)) D.areas D.calls self.disk (disk_behind result)) }
+        ensures untouched { D.tells self.disk → found_from self.nodes self.node (phase_of self.phase) (D.areas self.disk) ≢ Unformatted
+            → IsAsBefore (D.areas self.disk) (D.areas (disk_behind result)) }
         ensures journal { IfOk result (λ r. IsReady self.nodes self.node r) }
         ensures table { D.tells self.disk → (facts : List Fact) → OpensWith self.nodes self.node facts self.phase (D.areas self.disk)
             → IfOk result (λ r. IsOpenWith D.areas facts r) }
@@ -244,7 +259,8 @@ enum Next {
 fn call<D: Disk>(alloc: Global, disk: &mut D, phase: &Phase) -> Result<Vec<u8>, Refusal>
     ensures done { IfOk result (λ v. Done D.read_gives D.write_gives D.sync_gives (due_call (phase_of phase.now)) disk.old v disk.new) }
     ensures refused { IfErr result (λ e. Refused D.read_gives D.write_gives D.sync_gives (due_call (phase_of phase.now)) disk.old e disk.new) }
-    ensures cause { IfErr result (λ e. (e ≡ OutOfMemory) ⊎ (e ≡ Device)) }
+    ensures cause { IfErr result (λ e. (e ≡ OutOfMemory) ⊎ ((e ≡ Device) × Grew (D.faults disk.old) (D.faults disk.new))) }
+    ensures counts { (D.calls disk.new ≡ counted (D.calls disk.old)) × (D.faults disk.old ≤ D.faults disk.new) }
     ensures tells { D.tells disk.old → D.tells disk.new }
     ensures areas { D.tells disk.old → OnOk result (D.areas disk.new ≡ after_call (due_call (phase_of phase.now)) (D.areas disk.old)) }
     ensures read { D.tells disk.old → IfOk result (λ v. IsReadBy (due_call (phase_of phase.now)) (D.areas disk.old) v.items) }
