@@ -1,4 +1,5 @@
 pub mod Calls
+pub mod CrashedDisks
 pub mod Ends
 pub mod Image
 pub mod Journals

@@ -1,5 +1,5 @@
 -- What an opening makes of the bytes as they stand: what it finds, the device calls that are left, and how it ends.
-use Rattle.std.specs.Prelude.{◌≡◌, ◌⊎◌, ℕ, ◌+◌, ◌-◌, ◌^◌, ◌≤◌, min, List, [], ◌∷◌, length, Result, Ok, Err}
+use Rattle.std.specs.Prelude.{◌≡◌, ◌⊎◌, ℕ, ◌+◌, ◌-◌, ◌^◌, min, List, [], ◌∷◌, length, Result, Ok, Err}
 use Rattle.rr_types.specs.declared.promise.Entry.{Entry}
 use Rattle.rr_types.specs.declared.refusal.Refusal.{Refusal}
 use Rattle.rr_types.specs.declared.refusal.Refusal.TheVariants.{OutOfMemory, Device, Damaged}
@@ -11,7 +11,7 @@ use Rattle.rr_journal.specs.declared.journal.Journal.{Journal}
 use Rattle.rr_journal.specs.declared.opening.Opening as code
 use Rattle.rr_journal.specs.declared.opening.Progress as code_2
 use Rattle.rr_journal.specs.declared.opening.Progress.TheVariants as progress
-use Rattle.rr_journal.specs.Calls.{Call, Read, Write, Sync, after_call, format_calls}
+use Rattle.rr_journal.specs.Calls.{Call, Read, Sync, after_call, format_calls}
 use Rattle.rr_journal.specs.Ends.{area_number}
 use Rattle.rr_journal.specs.Image.{Found, Unformatted, Broken, Active, found}
 use Rattle.rr_journal.specs.Openings.{Phase, Settling, ReadingFirst, ReadingSecond, Formatting, After, Opens, Stops, formatted, due_call}

@@ -8,6 +8,7 @@ ghost use Rattle.rr_disk.specs.Counts.{counted, Grew};
 ghost use Rattle.rr_disk.specs.Failing.{FailingRead, FailingWrite, FailingSync};
 ghost use Rattle.rr_frame.specs.SnapshotFormat.{snapshot_bytes, IsLawfulSnapshot};
 ghost use Rattle.rr_journal.specs.Calls.{must_close, frame_bytes, after_call};
+ghost use Rattle.rr_journal.specs.CrashedDisks.{MayStand, EachHoldsSome, SomeHolds, IsOpenWithOneOf, IsReading, AddsNone, AddsBlankAlone};
 ghost use Rattle.rr_journal.specs.Image.{Unformatted, found};
 ghost use Rattle.rr_journal.specs.Openings.{Settling, ReadingSecond, Done, Refused, due_call, after_found, after_opening_call};
 ghost use Rattle.rr_journal.specs.Phases.{phase_of, Follows};
@@ -91,6 +92,8 @@ impl<D: Disk> Opening<D> {
         ensures phase { phase_of result.phase ≡ Settling }
         ensures table { (facts : List Fact) → length (D.areas disk).first.cells < 2 ^ 64 → length (D.areas disk).second.cells < 2 ^ 64
             → Holds nodes node (contents (D.areas disk)) facts → OpensWith nodes node facts result.phase (D.areas disk) }
+        ensures some { length (D.areas disk).first.cells < 2 ^ 64 → length (D.areas disk).second.cells < 2 ^ 64 → MayStand (D.areas disk) → EachHoldsSome (Holds nodes node) (D.areas disk)
+            → (facts : List Fact) × SomeHolds (Holds nodes node) (D.areas disk) facts × OpensWith nodes node facts result.phase (D.areas disk) }
     {
         Opening {
             disk,
@@ -128,6 +131,7 @@ impl<D: Disk> Opening<D> {
         ensures tells { D.tells self.disk → D.tells (disk_after result) }
         ensures course { D.tells self.disk → StaysOnCourse D.areas self result }
         ensures untouched { D.tells self.disk → IsUntouched (phase_of self.phase) (D.areas self.disk) (D.areas (disk_after result)) }
+        ensures images { D.tells self.disk → MayStand (D.areas self.disk) → IsReading (phase_of self.phase) → AddsNone (D.areas self.disk) (D.areas (disk_after result)) }
         ensures table { D.tells self.disk → (facts : List Fact) → OpensWith self.nodes self.node facts self.phase (D.areas self.disk)
             → IfOk result (λ progress. ComesTo D.areas facts progress) }
         ensures undamaged { D.tells self.disk → (facts : List Fact) → OpensWith self.nodes self.node facts self.phase (D.areas self.disk)
@@ -215,7 +219,18 @@ impl<D: Disk> Journal<D> {
         node: NodeId,
         disk: D,
     ) -> Result<(Journal<D>, Promise, u64), (Refusal, D)>
+        ensures calls { D.calls (disk_behind result) ≤ D.calls disk + 9 }
+        ensures faults { D.faults disk ≤ D.faults (disk_behind result) }
+        ensures cause { IfErr result (λ r. IsRefused D.faults disk r) }
         ensures tells { D.tells disk → D.tells (disk_behind result) }
+        ensures ends { D.tells disk → EndsBy (found_from nodes node Settling (D.areas disk)) result }
+        ensures counted { D.tells disk → D.calls (disk_behind result) ≤ D.calls disk + length (calls_from nodes node Settling (D.areas disk)) }
+        ensures done { D.tells disk → OnOk result (IsDone (calls_from nodes node Settling (D.areas disk)) D.areas D.calls disk (disk_behind result)) }
+        ensures untouched { D.tells disk → found_from nodes node Settling (D.areas disk) ≢ Unformatted → IsAsBefore (D.areas disk) (D.areas (disk_behind result)) }
+        ensures images { D.tells disk → length (D.areas disk).first.cells < 2 ^ 64 → length (D.areas disk).second.cells < 2 ^ 64 → MayStand (D.areas disk)
+            → AddsBlankAlone nodes node (D.areas disk) (D.areas (disk_behind result)) }
+        ensures some { D.tells disk → length (D.areas disk).first.cells < 2 ^ 64 → length (D.areas disk).second.cells < 2 ^ 64 → MayStand (D.areas disk) → EachHoldsSome (Holds nodes node) (D.areas disk)
+            → IfOk result (λ r. IsOpenWithOneOf D.areas (Holds nodes node) (D.areas disk) r) × IfErr result (λ r. (r.0 ≡ OutOfMemory) ⊎ (r.0 ≡ Device)) }
         ensures journal { IfOk result (λ r. IsReady nodes node r) }
         ensures table { D.tells disk → (facts : List Fact) → length (D.areas disk).first.cells < 2 ^ 64 → length (D.areas disk).second.cells < 2 ^ 64
             → Holds nodes node (contents (D.areas disk)) facts → IfOk result (λ r. IsOpenWith D.areas facts r) }

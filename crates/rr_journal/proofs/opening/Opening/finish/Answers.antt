@@ -3,8 +3,6 @@ use Rattle.rr_journal.specs.declared.opening.Progress.{Progress}
 use Rattle.rr_journal.specs.Journals.{Holds}
 use Rattle.rr_journal.specs.Phases.{phase_of}
 use Rattle.rr_disk.specs.Counts.{counted}
-use Rattle.rr_journal.specs.Openings.{After}
-use Rattle.rr_journal.specs.Image.{Found}
 use Rattle.rr_journal.specs.OpeningCourse.{StaysOnCourse, IsUntouched, end_by}
 use Rattle.rr_journal.specs.OpeningSteps.{Steps}
 use Rattle.rr_journal.proofs.CourseLaws.{has_begun, runs_on, still_before, last_left, last_from, all_done, refused_at, ends_refused}
@@ -40,8 +38,7 @@ pub loop-refused-preserved : goal.loop-refused-preserved
 loop-refused-preserved g c =
     let came = c.loop-refused.invariant.0 in
     let exact = subst (λ (x : Progress g.row.D.Denot). Steps g.D.Disk.read_gives g.D.Disk.write_gives g.D.Disk.sync_gives c.loop-refused.opening (Ok x)) c.in-Ok-More.field-0-is c.in-Ok-More.ensures.exact in
-    let less = fewer_left c.loop-refused.opening.nodes c.loop-refused.opening.node exact.0.items (phase_of c.loop-refused.opening.phase) (phase_of c.in-Ok-More.next.phase) exact.2 in
-    (
+    let less = fewer_left c.loop-refused.opening.nodes c.loop-refused.opening.node exact.0.items (phase_of c.loop-refused.opening.phase) (phase_of c.in-Ok-More.next.phase) exact.2 in (
       record {
         same_nodes = exact.3 ∙ came.same_nodes;
         same_node = exact.4 ∙ came.same_node;
@@ -53,11 +50,11 @@ loop-refused-preserved g c =
         knows = λ tells knows. subst (λ (x : Progress g.row.D.Denot). KnowsOther g.D.Disk.areas x) c.in-Ok-More.field-0-is (c.in-Ok-More.ensures.fronts (came.still_tells tells) (came.knows tells knows));
       },
       runs_on {D = g.row.D.Denot} g.D.Disk.tells g.D.Disk.areas g.D.Disk.calls g.D.Disk.faults c.args.self c.loop-refused.opening c.loop-refused.invariant.1 c.in-Ok-More.next
-      (λ tells. subst (λ (x : Progress g.row.D.Denot). StaysOnCourse {D = g.row.D.Denot} g.D.Disk.areas c.loop-refused.opening (Ok x)) c.in-Ok-More.field-0-is (c.in-Ok-More.ensures.course (came.still_tells tells)))
-      (λ tells. subst (λ (x : Progress g.row.D.Denot). IsUntouched (phase_of c.loop-refused.opening.phase) (g.D.Disk.areas c.loop-refused.opening.disk) (g.D.Disk.areas (disk_after {D = g.row.D.Denot} (Ok x)))) c.in-Ok-More.field-0-is (c.in-Ok-More.ensures.untouched (came.still_tells tells)))
-      (subst (λ (x : Progress g.row.D.Denot). g.D.Disk.calls (disk_after {D = g.row.D.Denot} (Ok x)) ≡ counted (g.D.Disk.calls c.loop-refused.opening.disk)) c.in-Ok-More.field-0-is c.in-Ok-More.ensures.call)
-      (subst (λ (x : Progress g.row.D.Denot). g.D.Disk.faults c.loop-refused.opening.disk ≤ g.D.Disk.faults (disk_after {D = g.row.D.Denot} (Ok x))) c.in-Ok-More.field-0-is c.in-Ok-More.ensures.faults)
-      less,
+          (λ tells. subst (λ (x : Progress g.row.D.Denot). StaysOnCourse {D = g.row.D.Denot} g.D.Disk.areas c.loop-refused.opening (Ok x)) c.in-Ok-More.field-0-is (c.in-Ok-More.ensures.course (came.still_tells tells)))
+          (λ tells. subst (λ (x : Progress g.row.D.Denot). IsUntouched (phase_of c.loop-refused.opening.phase) (g.D.Disk.areas c.loop-refused.opening.disk) (g.D.Disk.areas (disk_after {D = g.row.D.Denot} (Ok x)))) c.in-Ok-More.field-0-is (c.in-Ok-More.ensures.untouched (came.still_tells tells)))
+          (subst (λ (x : Progress g.row.D.Denot). g.D.Disk.calls (disk_after {D = g.row.D.Denot} (Ok x)) ≡ counted (g.D.Disk.calls c.loop-refused.opening.disk)) c.in-Ok-More.field-0-is c.in-Ok-More.ensures.call)
+          (subst (λ (x : Progress g.row.D.Denot). g.D.Disk.faults c.loop-refused.opening.disk ≤ g.D.Disk.faults (disk_after {D = g.row.D.Denot} (Ok x))) c.in-Ok-More.field-0-is c.in-Ok-More.ensures.faults)
+          less,
     )
 
 pub returns-in-Ok-Done-clause-tells : goal.returns-in-Ok-Done-clause-tells

@@ -8,8 +8,10 @@ use Rattle.rr_journal.specs.OpeningTable.{GoesOnWith, IsKept}
 use Rattle.rr_journal.specs.Openings.{Done, Opens, due_call, after_opening_call}
 use Rattle.rr_journal.specs.Journals.{Holds, IsOver}
 use Rattle.rr_journal.specs.Phases.{Follows, phase_of}
-use Rattle.rr_journal.specs.OpeningCourse.{StaysOnCourse, IsRefused, IsUntouched}
+use Rattle.rr_journal.specs.CrashedDisks.{AddsNone}
+use Rattle.rr_journal.specs.OpeningCourse.{StaysOnCourse, IsUntouched}
 use Rattle.rr_journal.proofs.CourseLaws.{OnCourse, on_course, refused_on_course, refused_by, untouched_by, untouched_failing}
+use Rattle.rr_journal.proofs.CrashLaws.{untouched_adds}
 use Rattle.rr_journal.proofs.OpeningLaws.{kept, kept_failed, opened_over}
 use Rattle.rr_journal.specs.OpeningTable.{IsReadBy}
 use Rattle.rr_journal.specs.OtherAreas.{front_beside, closes_in, other_area, KnowsRead, IsOtherKnown}
@@ -139,3 +141,19 @@ returns-in-Ok-Open-clause-untouched g c tells =
     (λ (j : Journal g.row.D.Denot). IsUntouched (phase_of c.args.self.phase) (g.D.Disk.areas c.args.self.disk) (g.D.Disk.areas j.disk))
     (sym c.new.ensures)
     (untouched_by (phase_of c.args.self.phase) _ _ (c.in-Ok.ensures.areas tells))
+
+pub returns-in-Err-clause-images : goal.returns-in-Err-clause-images
+returns-in-Err-clause-images g c tells stands reading = untouched_adds (phase_of c.args.self.phase) _ _ stands reading (untouched_failing (phase_of c.args.self.phase) _ _ (c.in-Err.ensures.left tells))
+
+pub returns-in-Err-go_on-clause-images : goal.returns-in-Err-go_on-clause-images
+returns-in-Err-go_on-clause-images g c tells stands reading = untouched_adds (phase_of c.args.self.phase) _ _ stands reading (untouched_by (phase_of c.args.self.phase) _ _ (c.in-Ok.ensures.areas tells))
+
+pub returns-in-Ok-Phase-clause-images : goal.returns-in-Ok-Phase-clause-images
+returns-in-Ok-Phase-clause-images g c tells stands reading = untouched_adds (phase_of c.args.self.phase) _ _ stands reading (untouched_by (phase_of c.args.self.phase) _ _ (c.in-Ok.ensures.areas tells))
+
+pub returns-in-Ok-Open-clause-images : goal.returns-in-Ok-Open-clause-images
+returns-in-Ok-Open-clause-images g c tells stands reading =
+    subst
+    (λ (j : Journal g.row.D.Denot). AddsNone (g.D.Disk.areas c.args.self.disk) (g.D.Disk.areas j.disk))
+    (sym c.new.ensures)
+    (untouched_adds (phase_of c.args.self.phase) _ _ stands reading (untouched_by (phase_of c.args.self.phase) _ _ (c.in-Ok.ensures.areas tells)))
