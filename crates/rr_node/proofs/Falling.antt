@@ -1,37 +1,35 @@
 -- A failing device call and a crash: the node goes down, and whatever is left of its disk holds its kept facts.
-use Rattle.std.proofs.Common.{◌≡◌, ◌⊎◌, inl, inr, ℕ, ◌+◌, ◌^◌, ◌<◌, ◌≤◌, All, List, [], ◌∷◌, ◌++◌, length, take, Result, Ok, Err, refl, sym, ap, subst, ◌∙◌, arith}
+use Rattle.std.proofs.Common.{◌≡◌, inl, inr, ℕ, ◌+◌, ◌^◌, ◌<◌, List, [], ◌∷◌, ◌++◌, length, take, Result, Ok, Err, refl, sym, ap, subst, ◌∙◌, arith}
 use Rattle.std.proofs.lemmas.List.Elements.{All-nil, All-cons}
 use Rattle.rr_types.specs.declared.fact.Fact.{Fact}
 use Rattle.rr_types.specs.declared.refusal.Refusal.{Refusal}
 use Rattle.rr_types.specs.declared.refusal.Refusal.TheVariants as because
 use Rattle.rr_types.specs.Groups.{Grouped}
-use Rattle.rr_model.specs.World.{World, Step, GoDown, IsRunFrom}
+use Rattle.rr_model.specs.World.{World, Step, GoDown}
 use Rattle.rr_model.specs.Laws.{after_steps}
 use Rattle.rr_model.specs.NodeState.{NodeState}
-use Rattle.rr_model.specs.NodeInWorld.{IsDownIn}
 use Rattle.rr_model.proofs.NodeInWorld.{goes_down_in_world}
 use Rattle.rr_disk.specs.declared.area.Area.TheVariants.{First}
 use Rattle.rr_disk.specs.Areas.{Extent, Areas, Torn, extent_of, replaced, at_rest}
 use Rattle.rr_disk.specs.Crash.{Images, IsCrashImage, restarted, crash_images}
 use Rattle.rr_frame.specs.GroupFormat.{group_bytes, IsLawfulGroup}
 use Rattle.rr_frame.specs.SnapshotFormat.{snapshot_bytes}
-use Rattle.rr_gate.specs.Flushes as gate
-use Rattle.rr_gate.specs.Moments.{EachHolds, EachHoldsEither}
-use Rattle.rr_journal.specs.Calls.{Call, Read, Write, Sync, frame_bytes, after_failing, after_starved}
+use Rattle.rr_gate.specs.Moments.{EachHolds}
+use Rattle.rr_journal.specs.Calls.{Call, Write, Sync, after_failing, after_starved}
 use Rattle.rr_journal.specs.Journals.{Holds}
 use Rattle.rr_journal.specs.Openings as opening
 use Rattle.rr_journal.specs.Openings.{due_call}
-use Rattle.rr_journal.specs.OpeningTable.{IsLeftBy, formatting, first_snapshot, Closes}
+use Rattle.rr_journal.specs.OpeningTable.{IsLeftBy, formatting, first_snapshot}
 use Rattle.rr_journal.proofs.FlushLaws.{length-frame}
 use Rattle.rr_journal.proofs.OpeningLaws.{either_held, closing_images}
 use Rattle.rr_journal.proofs.SnapshotSize.{length-snapshot_bytes}
 use Rattle.rr_node.specs.declared.event.Outcome.{Outcome}
 use Rattle.rr_node.specs.declared.event.Outcome.TheVariants.{Quiet}
-use Rattle.rr_node.specs.Seats.{Flush, Resting, Writing, Flushed, Journaled, Doing, Stopped, Faulted, Opening, Serving, Seat, Fails, crashed, fail_doing}
-use Rattle.rr_node.specs.Worlds.{Moment, BodyDue, calls_at, areas_at, flush_of, AreInOrder, EachHoldsSome, HoldsSome, IsDown, Stage, Closing, Closed, Flushing, calls_of_stage, StandsAt, IsOpening, is_settled, IsFlushing, IsServing, DoesSo, InStep}
+use Rattle.rr_node.specs.Seats.{Flush, Resting, Writing, Flushed, Journaled, Doing, Stopped, Faulted, Opening, Serving, Seat, fail_doing}
+use Rattle.rr_node.specs.Worlds.{BodyDue, calls_at, flush_of, AreInOrder, EachHoldsSome, HoldsSome, IsDown, Stage, Closing, Closed, Flushing, calls_of_stage, StandsAt, IsOpening, is_settled, IsServing, DoesSo, InStep}
 use Rattle.rr_node.specs.Runs.{MayFall, GoesOn, FailsInStep, CrashesInStep}
 use Rattle.rr_node.proofs.InOrder.{Bytes, IsSmall, StartsWithin, crash_in_order, crash_image, rest_image, starved_in_order, failing_in_order, starved_left, failing_left}
-use Rattle.rr_node.proofs.Flushing.{EachSome, each_first, each_either, flush_grounded, staged_group}
+use Rattle.rr_node.proofs.Flushing.{each_first, each_either, flush_grounded, staged_group}
 use Rattle.rr_node.proofs.FlushCalls.{call_of, calls_behind, calls_are, call_is, IsSmallFlush, call_small, call_within, moment_fails}
 use Rattle.rr_node.proofs.Holding.{seat_holds, stage_holds}
 use Rattle.rr_node.proofs.Spelling.{body_fits, first_body_fits}
@@ -167,14 +165,11 @@ module _ (leaves : Call → Areas → Areas) (fails : IsFailure leaves) (n p : �
   opening_fails both (opening.ReadingSecond first) order opens each = (fails.order (due_call (opening.ReadingSecond first)) both tt order, each_left (due_call (opening.ReadingSecond first)) both (fails.left (due_call (opening.ReadingSecond first)) both tt) each)
   opening_fails both (opening.Formatting calls) order opens each =
       let some = opens.1 in
-      let stage = some.opens.0 in
-      let facts = w.kept p ++ take some.count (w.staged p) in
-      let call = call_of_stage n p some.opens.0 in
       let new = leaves (call_of_stage n p some.opens.0) both in
       let left = fails.left (call_of_stage n p some.opens.0) both (stage_within n p (w.kept p ++ take some.count (w.staged p)) both some.opens.0 some.opens.2) in
       subst (λ (c : Call). AreInOrder (leaves c both) × EachHoldsSome n p w (leaves c both)) (sym (stage_due n p some.opens.0 calls some.opens.1)) (
-          fails.order (call_of_stage n p some.opens.0) both (stage_small n p some.opens.0) order,
-          each_first n p (w.kept p) (w.staged p) some.count new some.there (stage_fails n p (w.kept p ++ take some.count (w.staged p)) both new some.opens.0 some.opens.2 left),
+        fails.order (call_of_stage n p some.opens.0) both (stage_small n p some.opens.0) order,
+        each_first n p (w.kept p) (w.staged p) some.count new some.there (stage_fails n p (w.kept p ++ take some.count (w.staged p)) both new some.opens.0 some.opens.2 left),
       )
 
   -- the call that is due in a flush fails

@@ -1,16 +1,15 @@
 -- The device calls of a flush, one at a time: what each leaves where it succeeds, and where it fails.
-use Rattle.std.proofs.Common.{◌≡◌, ◌⊎◌, inl, inr, ℕ, ◌+◌, ◌^◌, ◌<◌, ◌≤◌, List, [], ◌∷◌, length, refl, sym, ap, subst, ◌∙◌, arith}
+use Rattle.std.proofs.Common.{◌≡◌, inl, inr, ℕ, ◌+◌, ◌^◌, ◌<◌, List, [], ◌∷◌, length, refl, ap, ◌∙◌, arith}
 use Rattle.std.proofs.lemmas.List.{length-map}
 use Rattle.std.proofs.lemmas.List.Elements.{All-nil, All-cons}
 use Rattle.rr_types.specs.declared.fact.Fact.{Fact}
 use Rattle.rr_disk.specs.declared.area.Area.{Area}
-use Rattle.rr_disk.specs.declared.area.Area.TheVariants.{First, Second}
-use Rattle.rr_disk.specs.Areas.{Extent, Areas, extent_of, at_rest, firm_cell, synced}
+use Rattle.rr_disk.specs.Areas.{Extent, Areas, extent_of, firm_cell, synced}
 use Rattle.rr_disk.specs.Crash.{Images, restarted}
 use Rattle.rr_gate.specs.Flushes as gate
 use Rattle.rr_gate.specs.Moments.{image_of, body_written, with_body, IsGrounded, IsAt, EachHolds, EachHoldsEither}
 use Rattle.rr_gate.proofs.Content.{extent_restarted, image_of_with, body_there}
-use Rattle.rr_gate.proofs.Table.{out_holds, set_holds, body_refused, gate_refused, same_holds, same_either, to_out, to_safe, to_set, to_group}
+use Rattle.rr_gate.proofs.Table.{out_holds, set_holds, body_refused, gate_refused, same_holds, same_either, to_out, to_safe, to_set}
 use Rattle.rr_journal.specs.Calls.{Call, Write, Sync, after_call}
 use Rattle.rr_journal.specs.OpeningTable.{IsLeftBy}
 use Rattle.rr_node.specs.Worlds.{Moment, BodyDue, BodyOut, BodySafe, GateSet, calls_at, areas_at}

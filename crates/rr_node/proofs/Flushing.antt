@@ -1,5 +1,5 @@
 -- A flush of a node that is up: what it rests on, where its journal stands behind it, and what a crash may leave meanwhile.
-use Rattle.std.proofs.Common.{◌≡◌, ◌≢◌, ◌⊎◌, inl, inr, ℕ, zero, suc, ◌+◌, ◌^◌, ◌<◌, ◌≤◌, true, false, List, [], ◌∷◌, ◌++◌, length, take, length-append, append-nil, append_assoc, Option, None, Some, option_map, refl, sym, ap, subst, ◌∙◌, arith}
+use Rattle.std.proofs.Common.{◌≡◌, ◌⊎◌, inl, inr, ℕ, ◌+◌, ◌^◌, ◌<◌, ◌≤◌, true, false, List, [], ◌++◌, length, take, length-append, append-nil, append_assoc, Option, None, Some, option_map, refl, sym, ap, subst, ◌∙◌, arith}
 use Rattle.std.specs.Option.{option_map_or}
 use Rattle.std.proofs.lemmas.List.{take_at}
 use Rattle.rr_types.specs.declared.fact.Fact.{Fact}
@@ -9,21 +9,19 @@ use Rattle.rr_model.specs.Lawful.{Heard}
 use Rattle.rr_model.specs.World.{World}
 use Rattle.rr_model.specs.NodeState.{NodeState}
 use Rattle.rr_model.specs.NodeStep.{running_group}
-use Rattle.rr_model.specs.NodeLaws.{marked_facts, IsTruthful}
-use Rattle.rr_model.specs.NodeReached.{IsReached, IsItself}
+use Rattle.rr_model.specs.NodeLaws.{marked_facts}
+use Rattle.rr_model.specs.NodeReached.{IsReached}
 use Rattle.rr_model.specs.NodeInWorld.{group_of, IsInWorld}
 use Rattle.rr_model.proofs.Fits.{fit_first}
 use Rattle.rr_model.proofs.NodeReached.{reached_truthful, reached_itself, reached_fits}
 use Rattle.rr_disk.specs.Areas.{Areas}
 use Rattle.rr_disk.specs.Crash.{Images, IsCrashImage, restarted}
 use Rattle.rr_frame.specs.GroupFormat.{group_bytes, IsLawfulGroup}
-use Rattle.rr_gate.specs.Flushes as gate
 use Rattle.rr_gate.specs.Moments.{with_group, EachHolds, EachHoldsEither, IsGrounded}
 use Rattle.rr_gate.proofs.Table.{due_holds, out_holds, safe_holds, set_holds}
-use Rattle.rr_journal.specs.declared.journal.Journal.{Journal}
 use Rattle.rr_journal.specs.Journals.{Holds, IsOver, once_flushed}
 use Rattle.rr_journal.proofs.FlushLaws.{grounded, over_after}
-use Rattle.rr_node.specs.Seats.{Journaled, journal_behind}
+use Rattle.rr_node.specs.Seats.{Journaled}
 use Rattle.rr_node.specs.Worlds.{Moment, BodyDue, BodyOut, BodySafe, GateSet, areas_at, flush_of, HoldsSome, journal_at}
 use Rattle.rr_node.proofs.InOrder.{rest_image}
 
@@ -71,7 +69,7 @@ runs_is s group e = runs_by s.marked_end s.running group e
 
 module _ (n p : ℕ) (w : World) (facts : List Fact) (h : Heard) (s : NodeState) (group : Grouped) (reached : IsReached n p facts h s) (world : IsInWorld false n p facts h s w) (runs : running_group s ≡ Some group) where
   -- the facts of the group are those of the running group
-  own_group : group_of s ≡ group.facts
+  pub own_group : group_of s ≡ group.facts
   own_group = ap (λ (o : Option (List Fact)). option_map_or (λ g. g) o []) (runs_is s group runs).0
 
   -- the kept facts are the marked ones

@@ -1,14 +1,14 @@
 -- What happens at another node keeps a node in step.
-use Rattle.std.proofs.Common.{◌≡◌, ◌≢◌, ℕ, ◌≤◌, ◌++◌, List, [], ◌∷◌, length, take, refl, sym, ap, subst, ◌∙◌}
+use Rattle.std.proofs.Common.{ℕ, ◌≤◌, ◌++◌, List, length, take, sym, subst, ◌∙◌}
 use Rattle.rr_types.specs.declared.fact.Fact.{Fact}
 use Rattle.rr_model.specs.World.{World}
 use Rattle.rr_model.specs.NodeState.{NodeState}
-use Rattle.rr_model.specs.NodeInWorld.{IsInWorld, LeavesAlone}
+use Rattle.rr_model.specs.NodeInWorld.{LeavesAlone}
 use Rattle.rr_disk.specs.Areas.{Areas}
 use Rattle.rr_journal.specs.Journals.{IsOver}
 use Rattle.rr_journal.specs.Openings as opening
-use Rattle.rr_node.specs.Seats.{Flush, Resting, Writing, Flushed, Journaled, Doing, Stopped, Faulted, Opening, Serving, Seat}
-use Rattle.rr_node.specs.Worlds.{EachHoldsSome, HoldsSome, IsDown, OpensOver, OpensSome, IsOpening, journal_at, IsServing, DoesSo, InStep}
+use Rattle.rr_node.specs.Seats.{Flush, Journaled, Doing, Stopped, Faulted, Opening, Serving, Seat}
+use Rattle.rr_node.specs.Worlds.{EachHoldsSome, IsDown, OpensOver, OpensSome, IsOpening, journal_at, IsServing, DoesSo, InStep}
 use Rattle.rr_node.proofs.Flushing.{EachSome}
 
 module _ (n q : ℕ) (w v : World) (alone : LeavesAlone q w v) where

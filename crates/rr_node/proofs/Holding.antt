@@ -1,11 +1,10 @@
 -- Whatever a crash leaves of a node in step holds its kept facts and some of its staged ones.
-use Rattle.std.proofs.Common.{◌≡◌, ℕ, ◌≤◌, ◌++◌, List, [], ◌∷◌, length, take, refl, sym, ap, subst, ◌∙◌}
+use Rattle.std.proofs.Common.{ℕ, ◌++◌, List, [], ◌∷◌, take, subst}
 use Rattle.rr_types.specs.declared.fact.Fact.{Fact}
 use Rattle.rr_model.specs.World.{World}
 use Rattle.rr_model.specs.NodeState.{NodeState}
-use Rattle.rr_disk.specs.declared.area.Area.TheVariants.{First}
 use Rattle.rr_disk.specs.Areas.{Areas, written, at_rest}
-use Rattle.rr_disk.specs.Crash.{Images, IsCrashImage, restarted}
+use Rattle.rr_disk.specs.Crash.{IsCrashImage}
 use Rattle.rr_gate.specs.Moments.{EachHolds}
 use Rattle.rr_gate.proofs.Table.{due_holds, out_holds, safe_holds, set_holds}
 use Rattle.rr_journal.specs.Journals.{Holds}
@@ -13,8 +12,8 @@ use Rattle.rr_journal.specs.Openings as opening
 use Rattle.rr_journal.specs.OpeningTable.{formatting}
 use Rattle.rr_journal.proofs.OpeningLaws.{either_held, closing_images, written_torn}
 use Rattle.rr_node.specs.Seats.{Flush, Resting, Writing, Flushed, Journaled, Doing, Stopped, Faulted, Opening, Serving, Seat}
-use Rattle.rr_node.specs.Worlds.{BodyDue, BodyOut, BodySafe, GateSet, EachHoldsSome, Stage, Closing, Closed, Flushing, StandsAt, OpensSome, IsOpening, IsServing, DoesSo, InStep}
-use Rattle.rr_node.proofs.Flushing.{EachSome, each_none, each_first, rest_holds, flush_holds}
+use Rattle.rr_node.specs.Worlds.{BodyDue, BodyOut, BodySafe, GateSet, EachHoldsSome, Stage, Closing, Closed, Flushing, StandsAt, IsOpening, IsServing, DoesSo, InStep}
+use Rattle.rr_node.proofs.Flushing.{each_none, each_first, rest_holds, flush_holds}
 
 -- at each stage of its formatting a disk holds its facts
 pub stage_holds : (n p : ℕ) (facts : List Fact) (both : Areas) (stage : Stage) → StandsAt n p facts both stage → EachHolds (Holds n p) both facts

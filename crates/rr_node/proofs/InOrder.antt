@@ -1,5 +1,5 @@
 -- Areas in order stay so behind each device call and each crash, and what stands in them is what a crash may leave.
-use Rattle.std.proofs.Common.{◌≡◌, ◌⊎◌, inl, inr, ⊎_elim, ℕ, zero, suc, ◌+◌, ◌-◌, ◌^◌, ◌<◌, ◌≤◌, min, max, true, false, List, [], ◌∷◌, ◌++◌, map, length, take, drop, All, refl, sym, ◌∙◌, ap, subst, arith}
+use Rattle.std.proofs.Common.{◌≡◌, ⊎_elim, ℕ, zero, suc, ◌+◌, ◌^◌, ◌<◌, ◌≤◌, List, [], ◌∷◌, ◌++◌, map, length, take, drop, All, refl, sym, ap, subst, arith}
 use Rattle.std.proofs.lemmas.List.{length-append, length-map, length-take, length-drop}
 use Rattle.std.proofs.lemmas.Simd.{map-map}
 use Rattle.std.proofs.lemmas.List.Elements.{All-nil, All-cons, All-head, All-tail, All-map, All-append, All-take, All-drop}
@@ -58,7 +58,6 @@ synced_in_order both order = (settled_in_order both.first order.0, settled_in_or
 
 written_in_order : (at : ℕ) (bytes : List ℕ) (extent : Extent) → Bytes bytes → at + length bytes < 2 ^ 32 → IsInOrder extent → IsInOrder (written at bytes extent)
 written_in_order at bytes extent fit small order =
-    let cells = extent.cells in
     let long = length-append (take at extent.cells ++ map loose_cell bytes) (drop (at + length bytes) extent.cells) in
     let front = length-append (take at extent.cells) (map loose_cell bytes) in
     let mid = length-map bytes loose_cell in
@@ -72,14 +71,19 @@ written_in_order at bytes extent fit small order =
       small = omega (arith, order.small, small, long, front, mid, before, behind);
     }
 
-loose_byte : Cell → Cell
-loose_byte cell = loose_cell cell.byte
-
 loosened_length : (at n : ℕ) (extent : Extent) → length (loosened at n extent).cells ≡ length extent.cells
 loosened_length at n extent =
     let f : Cell → Cell = λ cell. loose_cell cell.byte in
-    omega (arith, length-append (take at extent.cells ++ map f (take n (drop at extent.cells))) (drop (at + n) extent.cells), length-append (take at extent.cells) (map f (take n (drop at extent.cells))),
-    length-map (take n (drop at extent.cells)) f, length-take n (drop at extent.cells), length-drop at extent.cells, length-take at extent.cells, length-drop (at + n) extent.cells)
+    omega (
+      arith,
+      length-append (take at extent.cells ++ map f (take n (drop at extent.cells))) (drop (at + n) extent.cells),
+      length-append (take at extent.cells) (map f (take n (drop at extent.cells))),
+      length-map (take n (drop at extent.cells)) f,
+      length-take n (drop at extent.cells),
+      length-drop at extent.cells,
+      length-take at extent.cells,
+      length-drop (at + n) extent.cells,
+    )
 
 loosened_in_order : (at n : ℕ) (extent : Extent) → IsInOrder extent → IsInOrder (loosened at n extent)
 loosened_in_order at n extent order =

@@ -2,13 +2,16 @@ mod AwaitingLaws
 mod DiskLaws
 mod OpeningLaws
 mod ServingLaws
-pub mod InOrder
-pub mod Flushing
-pub mod Holding
-pub mod Frames
-pub mod Spelling
-pub mod Going
-pub mod FlushCalls
 pub mod Falling
-pub mod Starting
+pub mod FlushCalls
+pub mod FlushSteps
+pub mod Flushing
+pub mod Frames
+pub mod Going
+pub mod Holding
+pub mod InOrder
 pub mod Opens
+pub mod ServingSteps
+pub mod Spelling
+pub mod Starting
+pub mod Stepping

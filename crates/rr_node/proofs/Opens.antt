@@ -1,9 +1,7 @@
 -- The device calls of an opening, in the world: the node is down until the opening ends, and then it restarts.
-use Rattle.std.proofs.Common.{◌≡◌, ◌⊎◌, inl, inr, ℕ, ◌+◌, ◌-◌, ◌^◌, ◌<◌, ◌≤◌, Bool, true, false, cond, List, [], ◌∷◌, ◌++◌, length, take, append-nil, None, Result, Ok, Err, refl, sym, ap, subst, ◌∙◌, arith, if◌then◌else◌}
+use Rattle.std.proofs.Common.{◌≡◌, inl, inr, ℕ, ◌-◌, ◌^◌, ◌<◌, ◌≤◌, Bool, true, false, List, [], ◌∷◌, ◌++◌, length, take, append-nil, Ok, refl, sym, ap, subst, ◌∙◌, arith, if◌then◌else◌}
 use Rattle.std.proofs.lemmas.List.{length-map}
 use Rattle.rr_types.specs.declared.fact.Fact.{Fact}
-use Rattle.rr_types.specs.declared.promise.Entry.{Entry}
-use Rattle.rr_types.specs.declared.refusal.Refusal.TheVariants as because
 use Rattle.rr_types.specs.Promises.{promise_of}
 use Rattle.rr_model.specs.World.{World, Restart, nothing_heard}
 use Rattle.rr_model.specs.Laws.{after_steps}
@@ -15,11 +13,10 @@ use Rattle.rr_model.proofs.NodeSteady.{started_stays}
 use Rattle.rr_disk.specs.declared.area.Area.{Area}
 use Rattle.rr_disk.specs.declared.area.Area.TheVariants.{First, Second}
 use Rattle.rr_disk.specs.declared.cell.Cell.{Cell}
-use Rattle.rr_disk.specs.Areas.{Extent, Areas, extent_of, read_of, bytes_of, synced}
+use Rattle.rr_disk.specs.Areas.{Areas, extent_of, read_of, synced}
 use Rattle.rr_disk.specs.Crash.{Images, restarted}
 use Rattle.rr_frame.specs.SnapshotFormat.{IsLawfulSnapshot, snapshot_bytes}
-use Rattle.rr_gate.specs.Moments.{EachHolds}
-use Rattle.rr_journal.specs.Calls.{Call, Read, Write, Sync, after_call, after_starved, append_calls, must_close, format_calls}
+use Rattle.rr_journal.specs.Calls.{Call, Write, Sync, after_call, append_calls, must_close, format_calls}
 use Rattle.rr_journal.specs.Image.{Content, Found, Unformatted, Broken, Active, found}
 use Rattle.rr_journal.specs.Journals.{StandsFor, Holds, IsOver}
 use Rattle.rr_journal.specs.Openings as opening
@@ -28,14 +25,12 @@ use Rattle.rr_journal.specs.OpeningTable.{contents, Rests, first_snapshot, forma
 use Rattle.rr_journal.proofs.OpeningLaws.{read_at_rest, closing_due, body_is_due, closing, closed, body_written_on, body_settled, gate_opened_on, gate_settled}
 use Rattle.rr_node.specs.declared.event.NodeEvent.TheVariants as at
 use Rattle.rr_node.specs.declared.event.Outcome.TheVariants.{Quiet}
-use Rattle.rr_node.specs.Seats.{Resting, Journaled, Doing, Stopped, Faulted, Opening, Serving, Seat, serves, read_by, opens_on, open_on, starve_opening}
-use Rattle.rr_node.specs.Worlds.{BodyDue, BodyOut, BodySafe, GateSet, calls_at, AreInOrder, EachHoldsSome, HoldsSome, IsDown, Stage, Closing, Closed, Flushing, calls_of_stage, StandsAt, OpensSome, IsOpening, journal_at, InStep}
+use Rattle.rr_node.specs.Seats.{Journaled, Doing, Opening, serves, opens_on, open_on}
+use Rattle.rr_node.specs.Worlds.{BodyDue, BodyOut, BodySafe, GateSet, AreInOrder, EachHoldsSome, IsDown, Stage, Closing, Closed, Flushing, calls_of_stage, StandsAt, OpensSome, IsOpening, journal_at, InStep}
 use Rattle.rr_node.specs.Runs.{MayBe, GoesOn}
 use Rattle.rr_node.proofs.InOrder.{own_image, synced_in_order, call_in_order}
-use Rattle.rr_node.proofs.Flushing.{each_first, rest_holds}
-use Rattle.rr_node.proofs.Holding.{seat_holds, stage_holds}
-use Rattle.rr_node.proofs.Going.{IsQuiet, no_member, goes, stays}
-use Rattle.rr_node.proofs.Falling.{seated, stopped, faulted, down_falls, opening_down, call_of_stage, stage_calls, stage_due, stage_small, starvation, opening_fails}
+use Rattle.rr_node.proofs.Going.{no_member, goes, stays}
+use Rattle.rr_node.proofs.Falling.{seated, call_of_stage, stage_small}
 
 -- the snapshot that formatting writes has a spelling
 snapshot_lawful : (n p : ℕ) → p < n → n ≤ 7 → IsLawfulSnapshot (first_snapshot n p)
@@ -44,13 +39,9 @@ snapshot_lawful n p exists few = record { node = exists; nodes = few; epoch = (o
 -- a device call of an opening that ends with this content of its facts: the node restarts
 module _ (n p : ℕ) (w : World) (areas : Areas) (doing : Doing) (exists : p < n) (order : AreInOrder areas) (down : IsDown p w) (count : ℕ) (there : count ≤ length (w.staged p))
     (start : Images) (stands : areas ≡ restarted start) (holds : Holds n p start (w.kept p ++ take count (w.staged p))) where
-  facts : List Fact
-  facts = w.kept p ++ take count (w.staged p)
-
   restarts_at : (area : Area) (epoch gate : ℕ) → (let c : Content = record { epoch = epoch; promise = promise_of (w.kept p ++ take count (w.staged p)); next = length (w.kept p ++ take count (w.staged p)); gate = gate } in
       found n p start.of_first start.of_second ≡ Active area c → GoesOn n p (MayBe p at.Device) w (serves area c (seated n p areas doing)).0 (serves area c (seated n p areas doing)).1)
   restarts_at area epoch gate is =
-      let F : List Fact = w.kept p ++ take count (w.staged p) in
       let came = restarts_in_world n p (w.kept p) (w.staged p) count w exists (record { down = down.down; keeps = refl; stages = refl; heard = down.heard }) there holds.fit in
       let v : World = after_steps w (Restart p count ∷ []) in
       let now : IsInWorld false n p (w.kept p ++ take count (w.staged p)) nothing_heard (opened_over n p (w.kept p ++ take count (w.staged p))) (after_steps w (Restart p count ∷ [])) = came.1 in
@@ -135,12 +126,6 @@ module _ (n p : ℕ) (few : n ≤ 7) (w : World) (areas : Areas) where
       → (let x = opens_on (seated n p areas (Opening (opening.ReadingSecond first))) (after_found n p first f) in GoesOn n p (MayBe p at.Device) w x.0 x.1)
   finds first some exists order down f is = by f (sym here ∙ is)
     where
-      facts : List Fact
-      facts = w.kept p ++ take some.count (w.staged p)
-
-      rests : Rests n p (w.kept p ++ take some.count (w.staged p)) areas
-      rests = some.opens.0
-
       here : found n p first (read_of 0 (2 ^ 64 - 1) (extent_of areas Second)) ≡ found n p some.opens.0.start.of_first some.opens.0.start.of_second
       here = ap (λ (b : List ℕ). found n p b (read_of 0 (2 ^ 64 - 1) (extent_of areas Second))) some.opens.1 ∙ ap (λ (b : List ℕ). found n p some.opens.0.start.of_first b) (read_second (w.kept p ++ take some.count (w.staged p)) some.opens.0)
 

@@ -1,5 +1,5 @@
 -- What a node writes to its disk are bytes.
-use Rattle.std.proofs.Common.{◌≡◌, ◌⊎◌, inl, inr, ℕ, ◌+◌, ◌<◌, ◌≤◌, Bool, true, ◌&&◌, ◌||◌, List, [], ◌∷◌, ◌++◌, length, Option, None, Some, All, IsTrue, leb, eqb, refl, sym, ap, subst, ◌∙◌, arith, nat_le, ◌==◌}
+use Rattle.std.proofs.Common.{◌≡◌, ◌⊎◌, inl, inr, ℕ, ◌<◌, ◌≤◌, Bool, true, ◌&&◌, ◌||◌, List, [], ◌∷◌, ◌++◌, length, leb, eqb, sym, subst, arith}
 use Rattle.std.specs.List.{flat_map, AllByRecursion, list_all}
 use Rattle.std.proofs.lemmas.Bool.{and_parts, or_cases, leb-true, eqb-true}
 use Rattle.std.proofs.lemmas.List.Concat.{flat_map-cons}

@@ -1,13 +1,10 @@
 -- A node that was never started is in step with the empty world.
-use Rattle.std.proofs.Common.{◌≡◌, ℕ, ◌<◌, ◌++◌, List, [], refl, sym, ap, subst, ◌∙◌, arith, All}
+use Rattle.std.proofs.Common.{◌≡◌, ℕ, ◌<◌, [], refl, sym, subst, arith}
 use Rattle.std.proofs.lemmas.List.Elements.{All-nil}
-use Rattle.rr_types.specs.declared.fact.Fact.{Fact}
-use Rattle.rr_model.specs.World.{empty_world}
-use Rattle.rr_disk.specs.Crash.{Images, IsCrashImage, restarted}
+use Rattle.rr_disk.specs.Crash.{Images, restarted}
 use Rattle.rr_journal.specs.Image.{Found, Unformatted, found}
 use Rattle.rr_journal.specs.Journals.{StandsFor, Holds}
 use Rattle.rr_journal.proofs.FormatLaws.{both_blank, short_blank}
-use Rattle.rr_node.specs.Worlds.{HoldsSome}
 use Rattle.rr_node.specs.Runs.{StartsInStep}
 use Rattle.rr_node.proofs.InOrder.{rest_in_order}
 use Rattle.rr_node.proofs.Flushing.{each_none, rest_holds}

@@ -1,5 +1,5 @@
 -- What the events of a node with its disk are in the world: which steps, what they send, and what they tell.
-use Rattle.std.specs.Prelude.{◌≡◌, ◌≢◌, ◌⊎◌, ℕ, ◌<◌, ◌≤◌, List, [], ◌∷◌, ◌++◌, map, All, IfSome, Result, Ok, Err}
+use Rattle.std.specs.Prelude.{◌≡◌, ◌≢◌, ◌⊎◌, ℕ, ◌<◌, List, [], ◌∷◌, ◌++◌, map, All, IfSome, Result, Ok, Err}
 use Rattle.std.specs.List.{Contains}
 use Rattle.rr_types.specs.declared.command.RequestNo.{RequestNo}
 use Rattle.rr_types.specs.declared.command.Reply.{Reply}
@@ -10,14 +10,13 @@ use Rattle.rr_model.specs.World as world
 use Rattle.rr_model.specs.World.{World, Told, Sent, Acknowledged, Reported, Step, Stage, Settle, GoDown, Send, IsRunFrom, empty_world}
 use Rattle.rr_model.specs.Laws.{after_steps}
 use Rattle.rr_model.specs.NodeReached.{NamesRounds}
-use Rattle.rr_model.specs.NodeState.{NodeState}
 use Rattle.rr_model.specs.NodeStep.{running_group}
 use Rattle.rr_frame.specs.GroupFormat.{IsLawfulGroup}
 use Rattle.rr_node.specs.declared.event.NodeEvent.{NodeEvent}
 use Rattle.rr_node.specs.declared.event.NodeEvent.TheVariants as at
 use Rattle.rr_node.specs.declared.event.Outcome.{Outcome}
 use Rattle.rr_node.specs.declared.event.Outcome.TheVariants.{Quiet, Left, Replied, Opened}
-use Rattle.rr_node.specs.Seats.{Flush, Resting, Writing, Flushed, Doing, Stopped, Faulted, Opening, Serving, Seat, Gives, Fails, crashed, new_seat}
+use Rattle.rr_node.specs.Seats.{Resting, Writing, Flushed, Doing, Stopped, Faulted, Opening, Serving, Seat, Gives, Fails, crashed, new_seat}
 use Rattle.rr_node.specs.Worlds.{InStep}
 
 -- the messages that an answer puts on the wire
