@@ -83,7 +83,7 @@ module _ (n p : ℕ) (w : World) (both : Areas) (s : NodeState) (journal : Journ
       let lawful : IsLawfulGroup (record { serial = s.marked_end; facts = take 64 s.staged }) = subst (λ (o : Option groups.Grouped). IfSome o IsLawfulGroup) (taken_runs s) spelt in
       let small : journal.gate + 6 + length (payload_of s) < 2 ^ 32 = ltb-true _ _ is in
       let next : Flush = Writing (append_calls journal.area journal.gate (payload_of s)) in
-      goes_quietly n p (MayBe p at.Take) w (Ok Quiet) (seated n p both (Serving (group_taken s) journal next)) [] refl tt tt
+      goes_quietly n p (MayBe p at.Take) w (Ok Quiet) (seated n p both (Serving (group_taken s) journal next)) [] tt refl tt tt
       (record { exists = h.exists; nodes = refl; node = refl; in_order = h.in_order; doing = taken h.doing lawful small }) refl refl (record { unsent = refl; untold = refl })
 
   pub takes_in_step : (flush : Flush) → InStep n p (seated n p both (Serving s journal flush)) w
@@ -115,7 +115,7 @@ module _ (n p : ℕ) (w : World) (both : Areas) (s : NodeState) (journal : Journ
   marks_in_step (Writing calls) h = does_nothing n p w at.Mark (seated n p both (Serving s journal (Writing calls))) h
   marks_in_step (Switching calls) h = does_nothing n p w at.Mark (seated n p both (Serving s journal (Switching calls))) h
   marks_in_step Flushed h =
-      goes_quietly n p (MayBe p at.Mark) w (Ok Quiet) (seated n p both (Serving (marked_running s) journal Resting)) [] refl tt tt
+      goes_quietly n p (MayBe p at.Mark) w (Ok Quiet) (seated n p both (Serving (marked_running s) journal Resting)) [] tt refl tt tt
       (record { exists = h.exists; nodes = refl; node = refl; in_order = h.in_order; doing = marked h.doing }) refl refl (record { unsent = refl; untold = refl })
 
 -- ---- the device calls
@@ -201,7 +201,7 @@ module _ (n p : ℕ) (w : World) (both : Areas) (s : NodeState) (journal : Journ
     -- on to the next moment
     to : (next : Moment) (areas : Areas) → AreInOrder areas → areas ≡ areas_at next its_flush h.doing.start → GoesOn n p (MayBe p at.Device) w (Ok Quiet) (seated n p areas (Serving s journal (Writing (calls_at its_flush next))))
     to next areas order stands =
-        goes_quietly n p (MayBe p at.Device) w (Ok Quiet) (seated n p areas (Serving s journal (Writing (calls_at its_flush next)))) [] (nothing p at.Device) tt tt
+        goes_quietly n p (MayBe p at.Device) w (Ok Quiet) (seated n p areas (Serving s journal (Writing (calls_at its_flush next)))) [] tt (nothing p at.Device) tt tt
         (record { exists = exists; nodes = refl; node = refl; in_order = order; doing = moved areas its_group next calls h.doing refl stands }) refl refl (record { unsent = refl; untold = refl })
 
     -- a device call of the flush at each of its moments
@@ -215,7 +215,7 @@ module _ (n p : ℕ) (w : World) (both : Areas) (s : NodeState) (journal : Journ
         let count = length h.doing.flushes.group.facts in
         let runs = (runs_is s serves.flushes.group serves.flushes.runs).0 in
         let came = settles_in_world n p serves.facts serves.heard s w serves.flushes.group.facts runs serves.in_world in
-        goes_quietly n p (MayBe p at.Device) w (Ok Quiet) (seated n p (synced both) (Serving s (journal_behind s journal) Flushed)) (Settle p count ∷ []) (inr (inl (count, refl))) came.0 (refl, tt)
+        goes_quietly n p (MayBe p at.Device) w (Ok Quiet) (seated n p (synced both) (Serving s (journal_behind s journal) Flushed)) (Settle p count ∷ []) tt (inr (inl (count, refl))) came.0 (refl, tt)
         (record { exists = exists; nodes = refl; node = refl; in_order = ordered GateSet; doing = settles calls h.doing is }) refl refl (record { unsent = refl; untold = refl })
 
     calls_in_step : (let x = flush_on s journal (seated n p both (Serving s journal (Writing calls))) (Writing calls) in GoesOn n p (MayBe p at.Device) w x.0 x.1)

@@ -49,7 +49,7 @@ module _ (n p : ℕ) (w : World) (areas : Areas) (doing : Doing) (exists : p < n
       let journal : Journaled = record { area = area; gate = gate; epoch = epoch } in
       let c : Content = record { epoch = epoch; promise = promise_of (w.kept p ++ take count (w.staged p)); next = length (w.kept p ++ take count (w.staged p)); gate = gate } in
       let over : IsOver (journal_at n p journal (length (w.kept p ++ take count (w.staged p)))) start (w.kept p ++ take count (w.staged p)) = record { holds = holds; active = is } in
-      goes n p (MayBe p at.Device) w (serves area c (seated n p areas doing)).0 (serves area c (seated n p areas doing)).1 (Restart p count ∷ []) (inr (inr (count, refl))) came.0 (refl, tt)
+      goes n p (MayBe p at.Device) w (serves area c (seated n p areas doing)).0 (serves area c (seated n p areas doing)).1 (Restart p count ∷ []) tt (inr (inr (count, refl))) came.0 (refl, tt)
       (record {
         exists = exists;
         nodes = refl;

@@ -124,7 +124,7 @@ module _ (n p : ℕ) (w : World) (both : Areas) (s : NodeState) (journal : Journ
       by None =
           let says = event_says p s (Told input) w in
           let same = input_stays input s in
-          goes n p (MayBe p event) w (Ok outcome.Quiet) (seated n p both (Serving (node_step input s) journal flush)) (steps_of_event p s (Told input)) may
+          goes n p (MayBe p event) w (Ok outcome.Quiet) (seated n p both (Serving (node_step input s) journal flush)) (steps_of_event p s (Told input)) tt may
           (event_runs n p w both s journal flush h.doing (Told input) proper tt comes) (event_at p s (Told input))
           (record {
             exists = h.exists;
@@ -169,7 +169,7 @@ module _ (n p : ℕ) (w : World) (both : Areas) (s : NodeState) (journal : Journ
           let names = reached_names_rounds n p serves.facts serves.heard s serves.reached m is in
           let steps : steps_of_event p s Left ≡ Send p m ∷ [] = ap (λ (o : Option Message). option_map_or (λ x. Send p x ∷ []) o []) is in
           let kept : (after_steps w (steps_of_event p s Left)).kept p ≡ w.kept p = ap (λ (ss : List Step). (after_steps w ss).kept p) steps in
-          goes n p (MayBe p at.Send) w (Ok (outcome.Left m)) (seated n p both (Serving (message_left s) journal flush)) (Send p m ∷ []) (inr (m, refl))
+          goes n p (MayBe p at.Send) w (Ok (outcome.Left m)) (seated n p both (Serving (message_left s) journal flush)) (Send p m ∷ []) tt (inr (m, refl))
           (subst (λ (ss : List Step). IsRunFrom n w ss) steps (event_runs n p w both s journal flush h.doing Left tt tt comes)) (refl, tt)
           (record {
             exists = h.exists;
@@ -198,7 +198,7 @@ module _ (n p : ℕ) (w : World) (both : Areas) (s : NodeState) (journal : Journ
       replied q None steps = does_nothing n p w at.Acknowledge (seated n p both (Serving s journal flush)) h
       replied q (Some reply) steps =
           let kept : (after_steps w (steps_of_event p s Answered)).kept p ≡ w.kept p = ap (λ (ss : List Step). (after_steps w ss).kept p) steps in
-          goes n p (MayBe p at.Acknowledge) w (Ok (outcome.Replied q reply)) (seated n p both (Serving (acknowledged s) journal flush)) (world.Acknowledge p q reply ∷ []) (inr (q, reply, refl))
+          goes n p (MayBe p at.Acknowledge) w (Ok (outcome.Replied q reply)) (seated n p both (Serving (acknowledged s) journal flush)) (world.Acknowledge p q reply ∷ []) tt (inr (q, reply, refl))
           (subst (λ (ss : List Step). IsRunFrom n w ss) steps (event_runs n p w both s journal flush h.doing Answered tt tt tt)) (refl, tt)
           (record {
             exists = h.exists;

@@ -1,5 +1,5 @@
 -- What the events of a node with its disk are in the world: which steps, what they send, and what they tell.
-use Rattle.std.specs.Prelude.{◌≡◌, ◌≢◌, ◌⊎◌, ℕ, ◌<◌, List, [], ◌∷◌, ◌++◌, map, All, IfSome, Result, Ok, Err}
+use Rattle.std.specs.Prelude.{◌≡◌, ◌≢◌, ◌⊎◌, ℕ, ◌<◌, List, [], ◌∷◌, ◌++◌, map, All, IfSome, IfErr, Result, Ok, Err}
 use Rattle.std.specs.List.{Contains}
 use Rattle.rr_types.specs.declared.command.RequestNo.{RequestNo}
 use Rattle.rr_types.specs.declared.command.Reply.{Reply}
@@ -83,10 +83,12 @@ MayBe p at.Snap steps = steps ≡ []
 MayBe p at.Restart steps = steps ≡ []
 
 -- an event of node p of n that answers so and leaves this seat is a run of such steps, behind which they are in step:
--- it sends and tells what was answered, a message of its own that names rounds above 0, and the other nodes stay in step
+-- where it was refused the node at most goes down, it sends and tells what was answered, a message of its own that names
+-- rounds above 0, and the other nodes stay in step
 pub record GoesOn (n p : ℕ) (May : List Step → Type 0) (w : World) (answer : Result Outcome Refusal) (next : Seat) : Type 0 where
   pub steps : List Step
   pub may : May steps
+  pub refused : IfErr answer (λ e. MayFall p steps)
   pub run : IsRunFrom n w steps
   pub in_step : InStep n p next (after_steps w steps)
   pub wire : (after_steps w steps).wire ≡ w.wire ++ sent_by answer

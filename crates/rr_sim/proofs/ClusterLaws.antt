@@ -1,10 +1,10 @@
 -- Each event of a schedule takes the world along: a cluster in step with it stays so.
 use Rattle.std.proofs.Common.{◌≡◌, ◌≢◌, ◌⊎◌, inl, inr, ℕ, zero, suc, ◌+◌, ◌<◌, ◌≤◌, Bool, true, false, eqb, List, [], ◌∷◌, ◌++◌, length, map, Contains, Option, None, Some, Result, Ok, Err, refl, sym, ◌∙◌, ap, subst, arith}
-use Rattle.std.specs.Prelude.{All, if◌then◌else◌, slice_get, slice_set}
+use Rattle.std.specs.Prelude.{All, IfErr, if◌then◌else◌, slice_get, slice_set}
 use Rattle.std.specs.Option.{option_map_or}
 use Rattle.std.specs.List.{AllByRecursion, range_with_len}
 use Rattle.std.proofs.lemmas.Bool.{eqb-true}
-use Rattle.std.proofs.lemmas.List.{append-nil}
+use Rattle.std.proofs.lemmas.List.{append-nil, append_cancel_left}
 use Rattle.std.proofs.lemmas.List.FromFn.{length-map-range_with_len}
 use Rattle.rr_types.specs.declared.message.Message.{Message}
 use Rattle.rr_types.specs.declared.refusal.Refusal.{Refusal}
@@ -21,7 +21,8 @@ use Rattle.rr_node.specs.Seats.{Seat, new_seat, Answer, Gives, Fails, seat_step,
 use Rattle.rr_node.specs.Worlds.{InStep}
 use Rattle.rr_text.specs.declared.event.Event.{Event}
 use Rattle.rr_text.specs.declared.event.Event.TheVariants.{Submit, Hear, Suspect, Tick, Advance, Take, Device, Fail, Mark, Send, Ack, Snap, Crash, Restart}
-use Rattle.rr_text.specs.Scheduled.{IsInRange}
+use Rattle.rr_text.specs.declared.report.ReportLine.TheVariants as line
+use Rattle.rr_text.specs.Scheduled.{node_of, IsInRange}
 use Rattle.rr_text.specs.Words.{IsFill}
 use Rattle.rr_sim.specs.Clusters.{Cluster, new_cluster, note_of, with_answer, at_node, fail_at, hear_at, crash_at, event_step, Steps, IsSpeltAt, IsSpeltBehind}
 use Rattle.rr_sim.specs.Headline.{told_in, AreStepsOf, IsAlike}
@@ -97,23 +98,33 @@ sent_proper n p (Ok (Replied q reply)) l h = tt
 sent_proper n p (Ok (Opened facts decided bindings)) l h = tt
 sent_proper n p (Err e) l h = tt
 
--- an event that took the world along by these steps
-pub record Took (n : ℕ) (Are : List Step → Type 0) (w : World) (next : Cluster) : Type 0 where
+-- an event of this line at node p that took the world along by these steps
+pub record Took (n p at : ℕ) (Are : List Step → Type 0) (w : World) (old next : Cluster) : Type 0 where
   pub steps : List Step
   pub are : Are steps
+  pub refused : (refusal : Refusal) → next.lines ≡ old.lines ++ line.Refuse at refusal ∷ [] → MayFall p steps
   pub run : IsRunFrom n w steps
   pub in_step : IsClusterInStep n next (after_steps w steps)
 
 -- nothing happened
-stays : (n : ℕ) (Are : List Step → Type 0) (w : World) (c next : Cluster) → Are [] → next ≡ c → IsClusterInStep n c w → Took n Are w next
-stays n Are w c next none same h = record { steps = []; are = none; run = tt; in_step = subst (λ (x : Cluster). IsClusterInStep n x w) (sym same) h }
+stays : (n p at : ℕ) (Are : List Step → Type 0) (w : World) (c next : Cluster) → Are [] → next ≡ c → IsClusterInStep n c w → Took n p at Are w c next
+stays n p at Are w c next none same h = record { steps = []; are = none; refused = λ refusal e. inl refl; run = tt; in_step = subst (λ (x : Cluster). IsClusterInStep n x w) (sym same) h }
+
+-- a report tells of a refusal only where it was given
+refused_note : (p at sent : ℕ) (answer : Result Outcome Refusal) (refusal : Refusal) (P : Type 0) → note_of p at sent answer ≡ line.Refuse at refusal ∷ [] → IfErr answer (λ e. P) → P
+refused_note p at sent (Ok Quiet) refusal P is h = absurd (cc)
+refused_note p at sent (Ok (Left m)) refusal P is h = absurd (cc)
+refused_note p at sent (Ok (Replied q reply)) refusal P is h = absurd (cc)
+refused_note p at sent (Ok (Opened facts decided bindings)) refusal P is h = absurd (cc)
+refused_note p at sent (Err e) refusal P is h = h
 
 -- node p answered and is this seat from now on
 answered : (n p at : ℕ) (May Are : List Step → Type 0) (w : World) (c : Cluster) (seat : Seat) (answer : Answer) → ((steps : List Step) → May steps → Are steps)
-    → IsClusterInStep n c w → slice_get c.seats p ≡ Some seat → GoesOn n p May w answer.0 answer.1 → Took n Are w (with_answer p at c answer)
+    → IsClusterInStep n c w → slice_get c.seats p ≡ Some seat → GoesOn n p May w answer.0 answer.1 → Took n p at Are w c (with_answer p at c answer)
 answered n p at May Are w c seat answer so h here g = record {
   steps = g.steps;
   are = so g.steps g.may;
+  refused = λ refusal e. refused_note p at (length c.wire) answer.0 refusal (MayFall p g.steps) (append_cancel_left c.lines (note_of p at (length c.wire) answer.0) (line.Refuse at refusal ∷ []) e) g.refused;
   run = g.run;
   in_step = record {
     count = length_replaced c.seats p answer.1 ∙ h.count;
@@ -158,7 +169,7 @@ no_steps p node.Restart = refl
 module _ (n : ℕ) (laws : NodeLaws n) where
   -- an event at node p
   node_takes : (p at : ℕ) (starved : Bool) (event : NodeEvent) (Are : List Step → Type 0) (w : World) (c : Cluster) → ((steps : List Step) → MayBe p event steps → Are steps)
-      → IsClusterInStep n c w → MayCome n p w event → IsSpeltAt p (at_node p at starved event c) → Took n Are w (at_node p at starved event c)
+      → IsClusterInStep n c w → MayCome n p w event → IsSpeltAt p (at_node p at starved event c) → Took n p at Are w c (at_node p at starved event c)
   node_takes p at starved event Are w c so h may spelt = by (slice_get c.seats p) refl
     where
       result : (starved : Bool) → Seat → Answer
@@ -171,18 +182,18 @@ module _ (n : ℕ) (laws : NodeLaws n) where
       step : Option Seat → Cluster
       step o = option_map_or (λ seat. with_answer p at c (result starved seat)) o c
 
-      by : (o : Option Seat) → slice_get c.seats p ≡ o → Took n Are w (at_node p at starved event c)
-      by None e = stays n Are w c (at_node p at starved event c) (so [] (no_steps p event)) (ap step e) h
+      by : (o : Option Seat) → slice_get c.seats p ≡ o → Took n p at Are w c (at_node p at starved event c)
+      by None e = stays n p at Are w c (at_node p at starved event c) (so [] (no_steps p event)) (ap step e) h
       by (Some seat) e =
           let is : at_node p at starved event c ≡ with_answer p at c (result starved seat) = ap step e in
           let spelt_so : IsSpelt (result starved seat).1.doing = subst (λ (x : Cluster). IsSpeltAt p x) is spelt (result starved seat).1 (get_here c.seats p seat (result starved seat).1 e) in
-          subst (λ (x : Cluster). Took n Are w x) (sym is) (
+          subst (λ (x : Cluster). Took n p at Are w c x) (sym is) (
           answered n p at (MayBe p event) Are w c seat (result starved seat) so h e
           (laws.steps p event seat (result starved seat).1 w (result starved seat).0 (h.seats p seat e) may (gives starved seat) spelt_so)
           )
 
   -- a failing device call at node p
-  failing_takes : (p at : ℕ) (starved : Bool) (fill : List ℕ) (w : World) (c : Cluster) → IsFill fill → IsClusterInStep n c w → Took n (MayFall p) w (fail_at p at starved fill c)
+  failing_takes : (p at : ℕ) (starved : Bool) (fill : List ℕ) (w : World) (c : Cluster) → IsFill fill → IsClusterInStep n c w → Took n p at (MayFall p) w c (fail_at p at starved fill c)
   failing_takes p at starved fill w c bytes h = by (slice_get c.seats p) refl
     where
       result : (starved : Bool) → Seat → Answer
@@ -195,17 +206,17 @@ module _ (n : ℕ) (laws : NodeLaws n) where
       step : Option Seat → Cluster
       step o = option_map_or (λ seat. with_answer p at c (result starved seat)) o c
 
-      by : (o : Option Seat) → slice_get c.seats p ≡ o → Took n (MayFall p) w (fail_at p at starved fill c)
-      by None e = stays n (MayFall p) w c (fail_at p at starved fill c) (inl refl) (ap step e) h
+      by : (o : Option Seat) → slice_get c.seats p ≡ o → Took n p at (MayFall p) w c (fail_at p at starved fill c)
+      by None e = stays n p at (MayFall p) w c (fail_at p at starved fill c) (inl refl) (ap step e) h
       by (Some seat) e =
           let is : fail_at p at starved fill c ≡ with_answer p at c (result starved seat) = ap step e in
-          subst (λ (x : Cluster). Took n (MayFall p) w x) (sym is) (
+          subst (λ (x : Cluster). Took n p at (MayFall p) w c x) (sym is) (
           answered n p at (MayFall p) (MayFall p) w c seat (result starved seat) (λ steps m. m) h e
           (laws.fails p fill seat (result starved seat).1 w (result starved seat).0 (bytes_of fill bytes) (h.seats p seat e) (gives starved seat))
           )
 
   -- a crash of node p
-  crash_takes : (p a b at : ℕ) (fill : List ℕ) (w : World) (c : Cluster) → IsFill fill → IsClusterInStep n c w → Took n (MayFall p) w (crash_at p a b fill c)
+  crash_takes : (p a b at : ℕ) (fill : List ℕ) (w : World) (c : Cluster) → IsFill fill → IsClusterInStep n c w → Took n p at (MayFall p) w c (crash_at p a b fill c)
   crash_takes p a b at fill w c bytes h = by (slice_get c.seats p) refl
     where
       step : Option Seat → Cluster
@@ -215,19 +226,19 @@ module _ (n : ℕ) (laws : NodeLaws n) where
       silent : (seat : Seat) → record c { seats = slice_set c.seats p (crashed a b fill seat) } ≡ with_answer p at c (Ok Quiet, crashed a b fill seat)
       silent seat = λ i. record { seats = slice_set c.seats p (crashed a b fill seat); wire = sym (append-nil c.wire) i; lines = sym (append-nil c.lines) i }
 
-      by : (o : Option Seat) → slice_get c.seats p ≡ o → Took n (MayFall p) w (crash_at p a b fill c)
-      by None e = stays n (MayFall p) w c (crash_at p a b fill c) (inl refl) (ap step e) h
+      by : (o : Option Seat) → slice_get c.seats p ≡ o → Took n p at (MayFall p) w c (crash_at p a b fill c)
+      by None e = stays n p at (MayFall p) w c (crash_at p a b fill c) (inl refl) (ap step e) h
       by (Some seat) e =
           let is : crash_at p a b fill c ≡ with_answer p at c (Ok Quiet, crashed a b fill seat) = ap step e ∙ silent seat in
-          subst (λ (x : Cluster). Took n (MayFall p) w x) (sym is) (
+          subst (λ (x : Cluster). Took n p at (MayFall p) w c x) (sym is) (
           answered n p at (MayFall p) (MayFall p) w c seat (Ok Quiet, crashed a b fill seat) (λ steps m. m) h e
           (laws.crashes p a b fill seat w (bytes_of fill bytes) (h.seats p seat e))
           )
 
   -- a message of the wire is heard
   hear_takes : (p at : ℕ) (starved : Bool) (k : ℕ) (w : World) (c : Cluster) → IsClusterInStep n c w → (hear_at p at starved k c ≡ c) ⊎ IsSpeltAt p (hear_at p at starved k c)
-      → Took n (AreStepsOf c.wire (Hear p k)) w (hear_at p at starved k c)
-  hear_takes p at starved k w c h (inl same) = stays n (AreStepsOf c.wire (Hear p k)) w c (hear_at p at starved k c) (inl refl) same h
+      → Took n p at (AreStepsOf c.wire (Hear p k)) w c (hear_at p at starved k c)
+  hear_takes p at starved k w c h (inl same) = stays n p at (AreStepsOf c.wire (Hear p k)) w c (hear_at p at starved k c) (inl refl) same h
   hear_takes p at starved k w c h (inr spelt) = by (slice_get c.wire k) refl
     where
       at_this : Bool → Message → Cluster
@@ -239,26 +250,26 @@ module _ (n : ℕ) (laws : NodeLaws n) where
       comes : (m : Message) → slice_get c.wire k ≡ Some m → m.to ≡ p → MayCome n p w (node.Hear m)
       comes m e own = let good = all_at (IsProper n) c.wire k m h.proper e in (subst (λ (ms : List Message). Contains ms m) (sym h.alike.wire) (contains_at c.wire k m e), own, good.0, good.1)
 
-      heard : (m : Message) (b : Bool) → slice_get c.wire k ≡ Some m → eqb m.to p ≡ b → hear_at p at starved k c ≡ at_this b m → Took n (AreStepsOf c.wire (Hear p k)) w (hear_at p at starved k c)
-      heard m false e own is = stays n (AreStepsOf c.wire (Hear p k)) w c (hear_at p at starved k c) (inl refl) is h
-      heard m true e own is = subst (λ (x : Cluster). Took n (AreStepsOf c.wire (Hear p k)) w x) (sym is) (
+      heard : (m : Message) (b : Bool) → slice_get c.wire k ≡ Some m → eqb m.to p ≡ b → hear_at p at starved k c ≡ at_this b m → Took n p at (AreStepsOf c.wire (Hear p k)) w c (hear_at p at starved k c)
+      heard m false e own is = stays n p at (AreStepsOf c.wire (Hear p k)) w c (hear_at p at starved k c) (inl refl) is h
+      heard m true e own is = subst (λ (x : Cluster). Took n p at (AreStepsOf c.wire (Hear p k)) w c x) (sym is) (
           node_takes p at starved (node.Hear m) (AreStepsOf c.wire (Hear p k)) w c (λ steps may. inr (m, e, may)) h (comes m e (eqb-true m.to p own))
           (subst (λ (x : Cluster). IsSpeltAt p x) is spelt)
           )
 
-      by : (o : Option Message) → slice_get c.wire k ≡ o → Took n (AreStepsOf c.wire (Hear p k)) w (hear_at p at starved k c)
-      by None e = stays n (AreStepsOf c.wire (Hear p k)) w c (hear_at p at starved k c) (inl refl) (ap step e) h
+      by : (o : Option Message) → slice_get c.wire k ≡ o → Took n p at (AreStepsOf c.wire (Hear p k)) w c (hear_at p at starved k c)
+      by None e = stays n p at (AreStepsOf c.wire (Hear p k)) w c (hear_at p at starved k c) (inl refl) (ap step e) h
       by (Some m) e = heard m (eqb m.to p) e refl (ap step e)
 
   -- any other event at node p, or nothing
   takes : (p at : ℕ) (starved : Bool) (event : NodeEvent) (w : World) (c : Cluster) → IsClusterInStep n c w → MayCome n p w event
-      → (at_node p at starved event c ≡ c) ⊎ IsSpeltAt p (at_node p at starved event c) → Took n (MayBe p event) w (at_node p at starved event c)
-  takes p at starved event w c h may (inl same) = stays n (MayBe p event) w c (at_node p at starved event c) (no_steps p event) same h
+      → (at_node p at starved event c ≡ c) ⊎ IsSpeltAt p (at_node p at starved event c) → Took n p at (MayBe p event) w c (at_node p at starved event c)
+  takes p at starved event w c h may (inl same) = stays n p at (MayBe p event) w c (at_node p at starved event c) (no_steps p event) same h
   takes p at starved event w c h may (inr spelt) = node_takes p at starved event (MayBe p event) w c (λ steps m. m) h may spelt
 
   -- an event of a schedule
   event_takes : (at : ℕ) (starved : Bool) (e : Event) (m : ℕ) (w : World) (c : Cluster) → IsInRange m e → IsClusterInStep n c w → IsSpeltBehind e c (event_step at starved e c)
-      → Took n (AreStepsOf c.wire e) w (event_step at starved e c)
+      → Took n (node_of e) at (AreStepsOf c.wire e) w c (event_step at starved e c)
   event_takes at starved (Submit p v) m w c range h spelt = takes p at starved (node.Submit v) w c h tt spelt
   event_takes at starved (Hear p k) m w c range h spelt = hear_takes p at starved k w c h spelt
   event_takes at starved (Suspect p set) m w c range h spelt = takes p at starved (node.Suspect set) w c h tt spelt
@@ -270,15 +281,15 @@ module _ (n : ℕ) (laws : NodeLaws n) where
   event_takes at starved (Mark p) m w c range h spelt = takes p at starved node.Mark w c h tt spelt
   event_takes at starved (Send p) m w c range h spelt = takes p at starved node.Send w c h tt spelt
   event_takes at starved (Ack p) m w c range h spelt = takes p at starved node.Acknowledge w c h tt spelt
-  event_takes at starved (Snap p) m w c range h spelt = stays n (λ steps. steps ≡ []) w c c refl refl h
+  event_takes at starved (Snap p) m w c range h spelt = stays n p at (λ steps. steps ≡ []) w c c refl refl h
   event_takes at starved (Crash p a b fill) m w c range h spelt = crash_takes p a b at fill w c range.2 h
   event_takes at starved (Restart p) m w c range h spelt = takes p at starved node.Restart w c h tt spelt
 
-  pub step_takes : (at : ℕ) (e : Event) (m : ℕ) (w : World) (old new : Cluster) → IsInRange m e → IsClusterInStep n old w → Steps at e old new → IsSpeltBehind e old new → Took n (AreStepsOf old.wire e) w new
+  pub step_takes : (at : ℕ) (e : Event) (m : ℕ) (w : World) (old new : Cluster) → IsInRange m e → IsClusterInStep n old w → Steps at e old new → IsSpeltBehind e old new → Took n (node_of e) at (AreStepsOf old.wire e) w old new
   step_takes at e m w old new range h (inl is) spelt =
-      subst (λ (x : Cluster). Took n (AreStepsOf old.wire e) w x) (sym is) (event_takes at false e m w old range h (subst (λ (x : Cluster). IsSpeltBehind e old x) is spelt))
+      subst (λ (x : Cluster). Took n (node_of e) at (AreStepsOf old.wire e) w old x) (sym is) (event_takes at false e m w old range h (subst (λ (x : Cluster). IsSpeltBehind e old x) is spelt))
   step_takes at e m w old new range h (inr is) spelt =
-      subst (λ (x : Cluster). Took n (AreStepsOf old.wire e) w x) (sym is) (event_takes at true e m w old range h (subst (λ (x : Cluster). IsSpeltBehind e old x) is spelt))
+      subst (λ (x : Cluster). Took n (node_of e) at (AreStepsOf old.wire e) w old x) (sym is) (event_takes at true e m w old range h (subst (λ (x : Cluster). IsSpeltBehind e old x) is spelt))
 
   -- nodes that were never started are in step with the empty world
   seats_from : (k count : ℕ) (p : ℕ) (seat : Seat) → k + count ≤ n → slice_get (map (new_seat n) (range_with_len k count)) p ≡ Some seat → InStep n (k + p) seat empty_world

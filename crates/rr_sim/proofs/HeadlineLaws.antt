@@ -38,7 +38,7 @@ module _ (n m : ℕ) (laws : NodeLaws n) where
       let behind = take_all (at + 1) es next new (after_steps w took.steps) valid.1 took.in_step rest in
       record {
         pieces = took.steps ∷ behind.pieces;
-        along = (next, step, took.are, took.in_step.alike, behind.along);
+        along = (next, step, took.are, took.refused, took.in_step.alike, behind.along);
         run = run_on n w took.steps (in_turn behind.pieces) took.run behind.run;
         in_step = subst (λ (v : World). IsClusterInStep n new v) (sym (joined w took.steps behind.pieces)) behind.in_step;
       }
@@ -72,7 +72,7 @@ pub agrees : (n : ℕ) (events : List Event) (report : Reported) → IsRunOfTheW
 agrees n events report r =
     let run = in_turn r.pieces in
     record {
-      submitted = λ c there. all_submitted_by_events n events r.at_the_end r.pieces c r.is_this_one (r.is_sound.its_commands_were_submitted report.decided r.decided c there);
+      submitted = λ c there. all_submitted_by_events n events r.at_the_end r.pieces report.lines c r.lines r.is_this_one (r.is_sound.its_commands_were_submitted report.decided r.decided c there);
       restarts = restarts_of_list n run report.lines report.decided r.is_sound r.told r.decided;
       nothing_acknowledged_is_lost = acknowledged_in_list n run report.lines report.decided r.is_sound r.told r.decided;
       replies = replies_of_list n run report.lines report.decided r.is_sound r.told r.decided;

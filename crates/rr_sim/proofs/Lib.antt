@@ -5,3 +5,4 @@ pub mod SubmittedLaws
 pub mod ClusterLaws
 pub mod HeadlineLaws
 pub mod NodeLaws
+pub mod RefusedLaws

@@ -47,7 +47,7 @@ line_told lines l t is c =
 abbrev pub IsSentOnWire : World → Type 0
 IsSentOnWire w = (m : Message) → Contains w.trace (Sent m) → Contains w.wire m
 
-only : {A : Type 0} (x y : A) → Contains (y ∷ []) x → y ≡ x
+pub only : {A : Type 0} (x y : A) → Contains (y ∷ []) x → y ≡ x
 only x y (zero, l, e) = e
 only x y (suc k, l, e) = absurd (omega (arith, l))
 

@@ -6,6 +6,7 @@ use Rattle.rr_types.specs.declared.command.RequestNo.{RequestNo}
 use Rattle.rr_types.specs.declared.command.Reply.{Reply}
 use Rattle.rr_types.specs.declared.message.Body.TheVariants.{Decision}
 use Rattle.rr_types.specs.declared.message.Message.{Message}
+use Rattle.rr_types.specs.declared.refusal.Refusal.{Refusal}
 use Rattle.rr_types.specs.Registry.{Bindings, registry_of, reply_of, has_request}
 use Rattle.rr_model.specs.Laws.{after_steps}
 use Rattle.rr_model.specs.Sound.{IsDecidedList, IsSound}
@@ -19,6 +20,7 @@ use Rattle.rr_text.specs.declared.report.Binding.{Binding}
 use Rattle.rr_text.specs.declared.report.ReportLine.{ReportLine}
 use Rattle.rr_text.specs.declared.report.ReportLine.TheVariants as line
 use Rattle.rr_text.specs.Reported.{Reported}
+use Rattle.rr_text.specs.Scheduled.{node_of}
 use Rattle.rr_sim.specs.Clusters.{Cluster, new_cluster, Steps, shown}
 
 -- the registry that a report shows by its bound names
@@ -53,6 +55,10 @@ AreStepsOf wire (Snap p) steps = steps ≡ []
 AreStepsOf wire (Crash p a b fill) steps = MayFall p steps
 AreStepsOf wire (Restart p) steps = MayBe p node.Restart steps
 
+-- where the report tells that the event of this line was refused, the world has nothing of it, but that its node may go down
+abbrev pub IsNothingWhereRefused : ℕ → Event → Cluster → Cluster → List Step → Type 0
+IsNothingWhereRefused at e old new steps = (refusal : Refusal) → new.lines ≡ old.lines ++ line.Refuse at refusal ∷ [] → MayFall (node_of e) steps
+
 -- a cluster and the world have the same messages on the wire, and the report tells what was told
 pub record IsAlike (c : Cluster) (w : World) : Type 0 where
   pub wire : w.wire ≡ c.wire
@@ -65,8 +71,8 @@ TakesAlong at [] old w [] new = new ≡ old
 TakesAlong at [] old w (steps ∷ pieces) new = ⊥
 TakesAlong at (e ∷ es) old w [] new = ⊥
 TakesAlong at (e ∷ es) old w (steps ∷ pieces) new =
-    (next : Cluster) × Steps at e old next × AreStepsOf old.wire e steps × IsAlike next (after_steps w steps)
-    × TakesAlong (at + 1) es next (after_steps w steps) pieces new
+    (next : Cluster) × Steps at e old next × AreStepsOf old.wire e steps × IsNothingWhereRefused at e old next steps
+    × IsAlike next (after_steps w steps) × TakesAlong (at + 1) es next (after_steps w steps) pieces new
 
 -- the steps of all pieces of a run, in turn
 abbrev pub in_turn : List (List Step) → List Step
@@ -87,8 +93,9 @@ pub record IsRunOfTheWorld (n : ℕ) (events : List Event) (report : Reported) :
 
 -- what a report tells agrees with the one list of commands that it ends with
 pub record AgreesWithOneList (events : List Event) (report : Reported) : Type 0 where
-  -- each command of the list was submitted by the schedule
-  pub submitted : (c : Command) → Contains report.decided c → (p : ℕ) × Contains events (Submit p c)
+  -- each command of the list was submitted, by an event that wasn't refused; the first event stands on line 2
+  pub submitted : (c : Command) → Contains report.decided c → (place : ℕ) × (p : ℕ) × (slice_get events place ≡ Some (Submit p c)) ×
+      ((refusal : Refusal) → Contains report.lines (line.Refuse (2 + place) refusal) → ⊥)
   -- a restarted node has the registry of a beginning of the list
   pub restarts : (p facts count : ℕ) (names : List Binding) → Contains report.lines (line.Restart p facts count names) →
       (count ≤ length report.decided) × (names ≡ shown (registry_of (take count report.decided)))
