@@ -1,14 +1,12 @@
 -- What an opening knows of its disk, from one device call to the next, and at its end.
-use Rattle.std.proofs.Common.{◌≡◌, ℕ, ◌-◌, ◌^◌, ◌<◌, List, [], ◌∷◌, length, Option, Some, None, Result, Ok, Err, Vec, refl, sym, ap, subst, ◌∙◌, arith}
+use Rattle.std.proofs.Common.{◌≡◌, ℕ, ◌-◌, ◌^◌, ◌<◌, List, [], length, Vec, refl, sym, ap, subst, ◌∙◌, arith}
 use Rattle.std.specs.Global.{Global}
 use Rattle.std.proofs.lemmas.List.{length-map}
-use Rattle.rr_types.specs.declared.fact.Fact.{Fact}
 use Rattle.rr_types.specs.declared.promise.Entry.{Entry}
-use Rattle.rr_disk.specs.declared.area.Area.{Area}
 use Rattle.rr_disk.specs.declared.area.Area.TheVariants.{First, Second}
 use Rattle.rr_disk.specs.declared.cell.Cell.{Cell}
 use Rattle.rr_disk.specs.Areas.{Areas, Extent, extent_of, bytes_of, read_of, at_rest, synced}
-use Rattle.rr_disk.specs.Crash.{Images, IsCrashImage, restarted}
+use Rattle.rr_disk.specs.Crash.{Images, IsCrashImage}
 use Rattle.rr_disk.specs.Memory.{MemoryState, MemoryRead, MemoryWrite, MemorySync}
 use Rattle.rr_journal.specs.declared.journal.Journal.{Journal}
 use Rattle.rr_journal.specs.declared.opening.Opening.{Opening}
@@ -16,18 +14,15 @@ use Rattle.rr_journal.specs.declared.opening.Phase as code
 use Rattle.rr_journal.specs.declared.opening.Phase.TheVariants as at
 use Rattle.rr_journal.specs.declared.opening.Progress as code_2
 use Rattle.rr_journal.specs.declared.opening.Progress.TheVariants as progress
-use Rattle.rr_journal.specs.Image.{Content, Found, Unformatted, Broken, Active, found}
-use Rattle.rr_journal.specs.Journals.{StandsFor, Holds, IsOver}
-use Rattle.rr_journal.specs.Openings.{Phase, Settling, ReadingFirst, ReadingSecond, Formatting, After, Goes, Opens, Stops, Done, due_call, after_found, after_opening_call}
+use Rattle.rr_journal.specs.Image.{Found, Unformatted, Broken, Active, found}
+use Rattle.rr_journal.specs.Journals.{StandsFor, Holds}
+use Rattle.rr_journal.specs.Openings.{ReadingFirst, ReadingSecond, After, Goes, Opens, Stops, Done, due_call, after_found, after_opening_call}
 use Rattle.rr_journal.specs.OpeningTable.{OpensWith, ComesTo, Rests}
 use Rattle.rr_journal.specs.Phases.{phase_of}
 use Rattle.rr_journal.proofs.ImageLaws.{facts_after_a_crash}
 use Rattle.rr_journal.proofs.OpeningLaws.{read_at_rest}
-use Rattle.rr_node.specs.Views.{NodeDisk, IsAtRest, IsAwaiting, HoldSoMany}
-
--- the areas of a node's disk
-abbrev pub areas_in : NodeDisk → Areas
-areas_in disk = disk.below.areas
+use Rattle.rr_node.proofs.FrontLaws.{Ends}
+use Rattle.rr_node.specs.Views.{NodeDisk, areas_in, IsAtRest, IsAwaiting, HoldSoMany}
 
 -- a step keeps what an opening of a disk without facts knows
 abbrev pub KeepsTable : Opening NodeDisk → code_2.Progress NodeDisk → Type 0
@@ -149,32 +144,18 @@ awaits o next v done goes nodes node table knows = by o.phase refl knows done go
     by at.OpeningGate is knows done goes = on (subst (λ (q : code.Phase). OpensWith o.nodes o.node [] q old) (sym is) knows)
     by at.SettlingGate is knows done goes = on (subst (λ (q : code.Phase). OpensWith o.nodes o.node [] q old) (sym is) knows)
 
--- a disk at rest holds as many facts as were found on it
-found_many : (n p : ℕ) (both : Areas) (start : Images) (area : Area) (c : Content) → both ≡ restarted start → found n p start.of_first start.of_second ≡ Active area c → HoldSoMany n p both c.next
-found_many n p both start area c stands is images left facts holds =
-    facts_after_a_crash n p start.of_first start.of_second images facts area c is (subst (λ (b : Areas). IsCrashImage b images) stands left) holds
-
--- an opening ends with the number of the facts that its disk holds
-pub counts : (o : Opening NodeDisk) (j : Journal NodeDisk) (promise : List Entry) (number : ℕ) (v : Vec ℕ Global) → Done MemoryRead MemoryWrite MemorySync (due_call (phase_of o.phase)) o.disk.below v j.disk.below
+-- an opening ends with the active content of its disk, which is at rest
+pub ended : (o : Opening NodeDisk) (j : Journal NodeDisk) (promise : List Entry) (number : ℕ) (v : Vec ℕ Global) → Done MemoryRead MemoryWrite MemorySync (due_call (phase_of o.phase)) o.disk.below v j.disk.below
     → after_opening_call o.nodes o.node v.items (phase_of o.phase) ≡ Opens j.area (record { epoch = j.epoch; promise = promise; next = number; gate = j.gate })
     → j.nodes ≡ o.nodes → j.node ≡ o.node → j.next ≡ number
-    → KeepsTable o (progress.Done j promise number) → IsAwaiting o.nodes o.node o.phase o.disk.below.areas → HoldSoMany o.nodes o.node j.disk.below.areas number
-counts o j promise number v done opens nodes node next table knows = by o.phase refl knows done opens
+    → KeepsTable o (progress.Done j promise number) → IsAwaiting o.nodes o.node o.phase o.disk.below.areas → Ends o.nodes o.node j number
+ended o j promise number v done opens nodes node next table knows = by o.phase refl knows done opens
   where
-    new : Areas
-    new = j.disk.below.areas
-
     old : Areas
     old = o.disk.below.areas
 
-    on : OpensWith o.nodes o.node [] o.phase old → HoldSoMany o.nodes o.node new number
-    on awaiting =
-        let over = (table awaiting).0 in
-        let many : HoldSoMany j.nodes j.node new j.next = found_many j.nodes j.node new over.0 j.area _ over.1 over.2.active in
-        subst (λ (k : ℕ). HoldSoMany k o.node new number) nodes (subst (λ (k : ℕ). HoldSoMany j.nodes k new number) node (subst (λ (k : ℕ). HoldSoMany j.nodes j.node new k) next many))
-
     by : (phase : code.Phase) → o.phase ≡ phase → IsAwaiting o.nodes o.node phase old → Done MemoryRead MemoryWrite MemorySync (due_call (phase_of phase)) o.disk.below v j.disk.below
-        → after_opening_call o.nodes o.node v.items (phase_of phase) ≡ Opens j.area (record { epoch = j.epoch; promise = promise; next = number; gate = j.gate }) → HoldSoMany o.nodes o.node new number
+        → after_opening_call o.nodes o.node v.items (phase_of phase) ≡ Opens j.area (record { epoch = j.epoch; promise = promise; next = number; gate = j.gate }) → Ends o.nodes o.node j number
     by at.Settling is knows done opens = absurd (cc)
     by at.ReadingFirst is knows done opens = absurd (cc)
     by (at.ReadingSecond first) is knows done opens = found_by (found o.nodes o.node first.items v.items) refl opens
@@ -182,20 +163,39 @@ counts o j promise number v done opens nodes node next table knows = by o.phase 
         here : found o.nodes o.node first.items v.items ≡ found o.nodes o.node knows.0.start.of_first knows.0.start.of_second
         here = found_is o.nodes o.node first.items v.items knows.0.start knows.1 (done.0 ∙ second_is old knows.0)
 
-        found_by : (f : Found) → found o.nodes o.node first.items v.items ≡ f → after_found o.nodes o.node first.items f ≡ Opens j.area (record { epoch = j.epoch; promise = promise; next = number; gate = j.gate }) → HoldSoMany o.nodes o.node new number
+        found_by : (f : Found) → found o.nodes o.node first.items v.items ≡ f → after_found o.nodes o.node first.items f ≡ Opens j.area (record { epoch = j.epoch; promise = promise; next = number; gate = j.gate }) → Ends o.nodes o.node j number
         found_by Unformatted e opens = absurd (cc)
         found_by (Broken area offset) e opens = absurd (cc)
-        found_by (Active area c) e opens =
-            let count : c.next ≡ number = ap next_of opens in
-            subst (λ (k : ℕ). HoldSoMany o.nodes o.node new k) count (found_many o.nodes o.node new knows.0.start area c (ap (λ (m : MemoryState). m.areas) done.1 ∙ knows.0.stands) (sym here ∙ e))
+        found_by (Active area c) e opens = record {
+          start = knows.0.start;
+          content = record { epoch = j.epoch; promise = promise; next = number; gate = j.gate };
+          stands = ap (λ (m : MemoryState). m.areas) done.1 ∙ knows.0.stands;
+          active = sym here ∙ e ∙ ap found_of opens;
+          gate = refl;
+          next = refl;
+        }
           where
-            next_of : After → ℕ
-            next_of (Goes phase) = 0
-            next_of (Opens area c) = c.next
-            next_of (Stops e) = 0
+            found_of : After → Found
+            found_of (Goes phase) = Unformatted
+            found_of (Opens area c) = Active area c
+            found_of (Stops e) = Unformatted
     by (at.Closing body) is knows done opens = absurd (cc)
     by (at.SettlingClosed body) is knows done opens = absurd (cc)
     by (at.WritingBody body) is knows done opens = absurd (cc)
     by at.SettlingBody is knows done opens = absurd (cc)
     by at.OpeningGate is knows done opens = absurd (cc)
-    by at.SettlingGate is knows done opens = on (subst (λ (q : code.Phase). OpensWith o.nodes o.node [] q old) (sym is) knows)
+    by at.SettlingGate is knows done opens =
+        let over = (table (subst (λ (q : code.Phase). OpensWith o.nodes o.node [] q old) (sym is) knows)).0 in
+        record {
+          start = over.0;
+          content = record { epoch = j.epoch; promise = []; next = j.next; gate = j.gate };
+          stands = over.1;
+          active = ap (λ (k : ℕ). found k o.node over.0.of_first over.0.of_second) (sym nodes) ∙ ap (λ (k : ℕ). found j.nodes k over.0.of_first over.0.of_second) (sym node) ∙ over.2.active;
+          gate = refl;
+          next = next;
+        }
+
+-- and holds as many facts as were found there
+pub counts : (n p : ℕ) (j : Journal NodeDisk) (number : ℕ) → Ends n p j number → HoldSoMany n p j.disk.below.areas number
+counts n p j number ends images left facts holds =
+    facts_after_a_crash n p ends.start.of_first ends.start.of_second images facts j.area ends.content ends.active (subst (λ (b : Areas). IsCrashImage b images) ends.stands left) holds ∙ ends.next

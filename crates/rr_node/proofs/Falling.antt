@@ -9,13 +9,14 @@ use Rattle.rr_model.specs.World.{World, Step, GoDown}
 use Rattle.rr_model.specs.Laws.{after_steps}
 use Rattle.rr_model.specs.NodeState.{NodeState}
 use Rattle.rr_model.proofs.NodeInWorld.{goes_down_in_world}
+use Rattle.rr_disk.specs.declared.area.Area.{Area}
 use Rattle.rr_disk.specs.declared.area.Area.TheVariants.{First}
 use Rattle.rr_disk.specs.Areas.{Extent, Areas, Torn, extent_of, replaced, at_rest}
 use Rattle.rr_disk.specs.Crash.{Images, IsCrashImage, restarted, crash_images}
 use Rattle.rr_frame.specs.GroupFormat.{group_bytes, IsLawfulGroup}
-use Rattle.rr_frame.specs.SnapshotFormat.{snapshot_bytes}
+use Rattle.rr_frame.specs.SnapshotFormat.{snapshot_bytes, IsLawfulSnapshot}
 use Rattle.rr_gate.specs.Moments.{EachHolds}
-use Rattle.rr_journal.specs.Calls.{Call, Write, Sync, after_failing, after_starved}
+use Rattle.rr_journal.specs.Calls.{Call, Write, Sync, frame_bytes, after_failing, after_starved}
 use Rattle.rr_journal.specs.Journals.{Holds}
 use Rattle.rr_journal.specs.Openings as opening
 use Rattle.rr_journal.specs.Openings.{due_call}
@@ -23,16 +24,22 @@ use Rattle.rr_journal.specs.OpeningTable.{IsLeftBy, formatting, first_snapshot}
 use Rattle.rr_journal.proofs.FlushLaws.{length-frame}
 use Rattle.rr_journal.proofs.OpeningLaws.{either_held, closing_images}
 use Rattle.rr_journal.proofs.SnapshotSize.{length-snapshot_bytes}
+use Rattle.rr_slots.specs.declared.switch.Stage as slots
+use Rattle.rr_slots.specs.declared.switch.Stage.TheVariants as step
+use Rattle.rr_slots.specs.Switches.{call_at, calls_from}
+use Rattle.rr_slots.specs.SwitchTable as table
+use Rattle.rr_slots.specs.SwitchTable.{IsAtStage}
+use Rattle.rr_slots.proofs.SwitchLaws.{held_failed}
 use Rattle.rr_node.specs.declared.event.Outcome.{Outcome}
 use Rattle.rr_node.specs.declared.event.Outcome.TheVariants.{Quiet}
-use Rattle.rr_node.specs.Seats.{Flush, Resting, Writing, Flushed, Journaled, Doing, Stopped, Faulted, Opening, Serving, Seat, fail_doing}
-use Rattle.rr_node.specs.Worlds.{BodyDue, calls_at, flush_of, AreInOrder, EachHoldsSome, HoldsSome, IsDown, Stage, Closing, Closed, Flushing, calls_of_stage, StandsAt, IsOpening, is_settled, IsServing, DoesSo, InStep}
+use Rattle.rr_node.specs.Seats.{Flush, Resting, Writing, Flushed, Switching, Journaled, Doing, Stopped, Faulted, Opening, Serving, Seat, fail_doing}
+use Rattle.rr_node.specs.Worlds.{BodyDue, BodySafe, calls_at, flush_of, AreInOrder, EachHoldsSome, HoldsSome, IsDown, Stage, Closing, Closed, Flushing, calls_of_stage, StandsAt, IsOpening, is_settled, snapshot_over, switch_at, journal_at, IsServing, DoesSo, InStep}
 use Rattle.rr_node.specs.Runs.{MayFall, GoesOn, FailsInStep, CrashesInStep}
 use Rattle.rr_node.proofs.InOrder.{Bytes, IsSmall, StartsWithin, crash_in_order, crash_image, rest_image, starved_in_order, failing_in_order, starved_left, failing_left}
-use Rattle.rr_node.proofs.Flushing.{each_first, each_either, flush_grounded, staged_group}
+use Rattle.rr_node.proofs.Flushing.{each_none, each_first, each_either, flush_grounded, staged_group}
 use Rattle.rr_node.proofs.FlushCalls.{call_of, calls_behind, calls_are, call_is, IsSmallFlush, call_small, call_within, moment_fails}
 use Rattle.rr_node.proofs.Holding.{seat_holds, stage_holds}
-use Rattle.rr_node.proofs.Spelling.{body_fits, first_body_fits}
+use Rattle.rr_node.proofs.Spelling.{body_fits, first_body_fits, snapped_body_fits}
 use Rattle.rr_node.proofs.Going.{IsQuiet, stays, falls, given}
 
 -- a seat of these parts
@@ -153,6 +160,42 @@ stage_fails n p facts old new Closed stands left = subst (λ (b : Areas). EachHo
 stage_fails n p facts old new (Flushing moment) stands left =
     either_held (Holds n p) facts new (moment_fails (Holds n p) (formatting n p) stands.start facts stands.stands.grounded moment old new stands.stands.stands left)
 
+-- ---- the calls of a switch
+
+switch_call : (area : Area) (body : List ℕ) (stage : slots.Stage) (call : Call) (calls : List Call) → call ∷ calls ≡ calls_from area body stage → call ≡ call_at area body stage
+switch_call area body step.Closing call calls e = cc
+switch_call area body step.SettlingClosed call calls e = cc
+switch_call area body step.WritingBody call calls e = cc
+switch_call area body step.SettlingBody call calls e = cc
+switch_call area body step.OpeningGate call calls e = cc
+switch_call area body step.SettlingGate call calls e = cc
+
+-- what a switch writes are bytes, below byte 4,294,967,296
+pub record IsSmallBody (body : List ℕ) : Type 0 where
+  pub bytes : Bytes body
+  pub small : 1 + length body < 2 ^ 32
+
+pub switch_body : (n p : ℕ) (journal : Journaled) (kept : List Fact) → IsLawfulSnapshot (snapshot_over n p journal kept) → 6 + length (snapshot_bytes (snapshot_over n p journal kept)) < 2 ^ 32
+    → IsSmallBody (frame_bytes (snapshot_bytes (snapshot_over n p journal kept)))
+switch_body n p journal kept spelt small = record { bytes = snapped_body_fits (snapshot_over n p journal kept) spelt.entries; small = omega (arith, small, length-frame (snapshot_bytes (snapshot_over n p journal kept))) }
+
+pub switch_small : (area : Area) (body : List ℕ) (stage : slots.Stage) → IsSmallBody body → IsSmall (call_at area body stage)
+switch_small area body step.Closing small = (All-cons (λ b. b < 256) 0 [] (omega arith) (All-nil (λ b. b < 256)), omega arith)
+switch_small area body step.SettlingClosed small = tt
+switch_small area body step.WritingBody small = (small.bytes, small.small)
+switch_small area body step.SettlingBody small = tt
+switch_small area body step.OpeningGate small = (All-cons (λ b. b < 256) 165 [] (omega arith) (All-nil (λ b. b < 256)), omega arith)
+switch_small area body step.SettlingGate small = tt
+
+switch_within : (n p : ℕ) (journal : Journaled) (kept : List Fact) (start : Images) (both : Areas) (stage : slots.Stage) → IsAtStage stage (switch_at n p journal kept stage) start kept both
+    → StartsWithin (call_at (switch_at n p journal kept stage).area (switch_at n p journal kept stage).body stage) both
+switch_within n p journal kept start both step.Closing at = omega arith
+switch_within n p journal kept start both step.SettlingClosed at = tt
+switch_within n p journal kept start both step.WritingBody at = call_within (Holds n p) (table.flush_of (switch_at n p journal kept step.WritingBody)) start kept at.grounded BodyDue both at.stands
+switch_within n p journal kept start both step.SettlingBody at = tt
+switch_within n p journal kept start both step.OpeningGate at = call_within (Holds n p) (table.flush_of (switch_at n p journal kept step.OpeningGate)) start kept at.grounded BodySafe both at.stands
+switch_within n p journal kept start both step.SettlingGate at = tt
+
 module _ (leaves : Call → Areas → Areas) (fails : IsFailure leaves) (n p : ℕ) (w : World) where
   -- a failing call that writes nothing leaves the disk as it was
   each_left : (call : Call) (both : Areas) → leaves call both ≡ both → EachHoldsSome n p w both → EachHoldsSome n p w (leaves call both)
@@ -177,13 +220,26 @@ module _ (leaves : Call → Areas → Areas) (fails : IsFailure leaves) (n p : �
   flush_fails both s journal call calls order serves =
       let f = serves.flushes in
       let flush = flush_of n p journal f.group in
-      let ground = flush_grounded n p w serves.facts serves.heard s f.group serves.reached serves.in_world f.runs journal serves.epoch serves.start serves.over f.lawful f.small in
+      let ground = flush_grounded n p w serves.facts serves.heard s f.group serves.reached serves.in_world f.runs journal serves.start serves.over f.lawful f.small in
       let due = (call_is flush f.moment call calls f.calls_left).0 in
       let left = fails.left (call_of flush f.moment) both (call_within (Holds n p) flush serves.start (w.kept p) ground f.moment both f.stands) in
       subst (λ (c : Call). AreInOrder (leaves c both) × EachHoldsSome n p w (leaves c both)) (sym due) (
         fails.order (call_of flush f.moment) both (call_small flush f.moment (small_flush n p journal f.group f.lawful f.small)) order,
         each_either n p (w.kept p) f.group.facts s.staged (w.staged p) (leaves (call_of flush f.moment) both) (staged_group n p w serves.facts serves.heard s f.group serves.reached serves.in_world f.runs)
             (moment_fails (Holds n p) flush serves.start (w.kept p) ground f.moment both (leaves (call_of flush f.moment) both) f.stands left),
+      )
+
+  -- the call that is due in a switch fails
+  pub switch_fails : (both : Areas) (s : NodeState) (journal : Journaled) (call : Call) (calls : List Call) → AreInOrder both → IsServing n p w both s journal (Switching (call ∷ calls)) → AreInOrder (leaves call both) × EachHoldsSome n p w (leaves call both)
+  switch_fails both s journal call calls order serves =
+      let f = serves.flushes in
+      let job = switch_at n p journal (w.kept p) f.stage in
+      let due = switch_call job.area job.body f.stage call calls f.calls_left in
+      let left = fails.left (call_at job.area job.body f.stage) both (switch_within n p journal (w.kept p) serves.start both f.stage f.stands) in
+      subst (λ (c : Call). AreInOrder (leaves c both) × EachHoldsSome n p w (leaves c both)) (sym due) (
+        fails.order (call_at job.area job.body f.stage) both (switch_small job.area job.body f.stage (switch_body n p journal (w.kept p) f.spelt f.small)) order,
+        each_none n p (w.kept p) (w.staged p) (leaves (call_at job.area job.body f.stage) both)
+            (held_failed (journal_at n p journal (length (w.kept p))) (w.kept p) (length (w.kept p)) f.stage serves.start both (leaves (call_at job.area job.body f.stage) both) serves.over f.stands (inr left)),
       )
 
   -- the next device call of a node fails
@@ -196,6 +252,10 @@ module _ (leaves : Call → Areas → Areas) (fails : IsFailure leaves) (n p : �
       down_falls n p m q (MayFall p) w (Err because.Device) (leaves (due_call phase) areas) Faulted (inl refl) faulted h.exists h.nodes h.node (opening_down n p w areas phase h.doing) left.0 left.1 (record { unsent = refl; untold = refl })
   fail_by m q areas (Serving s journal Resting) h = stays n p (MayFall p) w (Ok Quiet) (seated m q areas (Serving s journal Resting)) (inl refl) h (record { unsent = refl; untold = refl })
   fail_by m q areas (Serving s journal Flushed) h = stays n p (MayFall p) w (Ok Quiet) (seated m q areas (Serving s journal Flushed)) (inl refl) h (record { unsent = refl; untold = refl })
+  fail_by m q areas (Serving s journal (Switching [])) h = stays n p (MayFall p) w (Ok Quiet) (seated m q areas (Serving s journal (Switching []))) (inl refl) h (record { unsent = refl; untold = refl })
+  fail_by m q areas (Serving s journal (Switching (call ∷ calls))) h =
+      let left = switch_fails areas s journal call calls h.in_order h.doing in
+      serving_falls n p m q (MayFall p) w (Err because.Device) areas (leaves call areas) s journal (Switching (call ∷ calls)) Faulted (inr refl) faulted h.nodes h.node h.doing left.0 left.1 (record { unsent = refl; untold = refl })
   fail_by m q areas (Serving s journal (Writing [])) h = stays n p (MayFall p) w (Ok Quiet) (seated m q areas (Serving s journal (Writing []))) (inl refl) h (record { unsent = refl; untold = refl })
   fail_by m q areas (Serving s journal (Writing (call ∷ calls))) h =
       let left = flush_fails areas s journal call calls h.in_order h.doing in

@@ -95,17 +95,17 @@ module _ (n p : ℕ) (w : World) (facts : List Fact) (h : Heard) (s : NodeState)
       ∙ sym (append_assoc (w.kept p) group.facts s.staged) in
       fit_first n p [] (w.kept p ++ group.facts) s.staged (subst (λ (fs : List Fact). all_fit n p [] fs ≡ true) whole (reached_fits n p facts h s reached))
 
-  module _ (journal : Journaled) (epoch : ℕ) (start : Images) (over : IsOver (journal_at n p journal epoch (length (w.kept p))) start (w.kept p))
+  module _ (journal : Journaled) (start : Images) (over : IsOver (journal_at n p journal (length (w.kept p))) start (w.kept p))
       (lawful : IsLawfulGroup group) (small : journal.gate + 6 + length (group_bytes group) < 2 ^ 32) where
     -- the flush rests on what it needs
     pub flush_grounded : IsGrounded (Holds n p) (flush_of n p journal group) start (w.kept p)
     flush_grounded =
-        grounded (journal_at n p journal epoch (length (w.kept p))) start (w.kept p) (flush_of n p journal group) over refl refl refl lawful (omega (arith, small)) group_fits serial_kept
+        grounded (journal_at n p journal (length (w.kept p))) start (w.kept p) (flush_of n p journal group) over refl refl refl lawful (omega (arith, small)) group_fits serial_kept
 
     -- behind it the journal is over the facts with the group's
-    pub flushed_over : IsOver (once_flushed (flush_of n p journal group) (journal_at n p journal epoch (length (w.kept p)))) (with_group (flush_of n p journal group) start) (w.kept p ++ group.facts)
+    pub flushed_over : IsOver (once_flushed (flush_of n p journal group) (journal_at n p journal (length (w.kept p)))) (with_group (flush_of n p journal group) start) (w.kept p ++ group.facts)
     flushed_over =
-        over_after (journal_at n p journal epoch (length (w.kept p))) start (w.kept p) (flush_of n p journal group) over refl refl refl lawful (omega (arith, small)) group_fits serial_kept
+        over_after (journal_at n p journal (length (w.kept p))) start (w.kept p) (flush_of n p journal group) over refl refl refl lawful (omega (arith, small)) group_fits serial_kept
 
     -- whatever a crash leaves at one of its moments holds the kept facts, and the group's where its gate is open
     pub flush_holds : (moment : Moment) (both : Areas) → both ≡ areas_at moment (flush_of n p journal group) start → EachSome n p (w.kept p) (w.staged p) both

@@ -8,7 +8,7 @@ use Rattle.rr_disk.specs.Areas.{Areas}
 use Rattle.rr_journal.specs.Journals.{IsOver}
 use Rattle.rr_journal.specs.Openings as opening
 use Rattle.rr_node.specs.Seats.{Flush, Journaled, Doing, Stopped, Faulted, Opening, Serving, Seat}
-use Rattle.rr_node.specs.Worlds.{EachHoldsSome, IsDown, OpensOver, OpensSome, IsOpening, journal_at, IsServing, DoesSo, InStep}
+use Rattle.rr_node.specs.Worlds.{EachHoldsSome, IsDown, OpensOver, OpensSome, IsOpening, journal_at, FlushesSo, IsServing, DoesSo, InStep}
 use Rattle.rr_node.proofs.Flushing.{EachSome}
 
 module _ (n q : ℕ) (w v : World) (alone : LeavesAlone q w v) where
@@ -50,10 +50,9 @@ module _ (n q : ℕ) (w v : World) (alone : LeavesAlone q w v) where
           heard = alone.heard ∙ in_world.heard;
           submitted = λ c held. alone.submitted c (in_world.submitted c held);
         };
-        epoch = h.epoch;
         start = h.start;
-        over = subst (λ (kept : List Fact). IsOver (journal_at n q journal h.epoch (length kept)) h.start kept) (sym alone.kept) h.over;
-        flushes = h.flushes;
+        over = subst (λ (kept : List Fact). IsOver (journal_at n q journal (length kept)) h.start kept) (sym alone.kept) h.over;
+        flushes = subst (λ (kept : List Fact). FlushesSo n q s journal kept h.start both flush) (sym alone.kept) h.flushes;
       }
 
   doing_stays : (both : Areas) (doing : Doing) → DoesSo n q w both doing → DoesSo n q v both doing

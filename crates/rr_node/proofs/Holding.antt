@@ -1,5 +1,5 @@
 -- Whatever a crash leaves of a node in step holds its kept facts and some of its staged ones.
-use Rattle.std.proofs.Common.{ℕ, ◌++◌, List, [], ◌∷◌, take, subst}
+use Rattle.std.proofs.Common.{ℕ, ◌++◌, List, [], ◌∷◌, take, subst, length}
 use Rattle.rr_types.specs.declared.fact.Fact.{Fact}
 use Rattle.rr_model.specs.World.{World}
 use Rattle.rr_model.specs.NodeState.{NodeState}
@@ -11,8 +11,9 @@ use Rattle.rr_journal.specs.Journals.{Holds}
 use Rattle.rr_journal.specs.Openings as opening
 use Rattle.rr_journal.specs.OpeningTable.{formatting}
 use Rattle.rr_journal.proofs.OpeningLaws.{either_held, closing_images, written_torn}
-use Rattle.rr_node.specs.Seats.{Flush, Resting, Writing, Flushed, Journaled, Doing, Stopped, Faulted, Opening, Serving, Seat}
-use Rattle.rr_node.specs.Worlds.{BodyDue, BodyOut, BodySafe, GateSet, EachHoldsSome, Stage, Closing, Closed, Flushing, StandsAt, IsOpening, IsServing, DoesSo, InStep}
+use Rattle.rr_slots.proofs.SwitchLaws.{held}
+use Rattle.rr_node.specs.Seats.{Flush, Resting, Writing, Flushed, Switching, Journaled, Doing, Stopped, Faulted, Opening, Serving, Seat}
+use Rattle.rr_node.specs.Worlds.{BodyDue, BodyOut, BodySafe, GateSet, EachHoldsSome, Stage, Closing, Closed, Flushing, StandsAt, IsOpening, journal_at, IsServing, DoesSo, InStep}
 use Rattle.rr_node.proofs.Flushing.{each_none, each_first, rest_holds, flush_holds}
 
 -- at each stage of its formatting a disk holds its facts
@@ -42,7 +43,10 @@ serving_holds : (n p : ℕ) (w : World) (both : Areas) (s : NodeState) (journal 
 serving_holds n p w both s journal Resting serves = each_none n p (w.kept p) (w.staged p) both (rest_holds n p (w.kept p) serves.start both serves.flushes.1 serves.over.holds)
 serving_holds n p w both s journal (Writing calls) serves =
     let f = serves.flushes in
-    flush_holds n p w serves.facts serves.heard s f.group serves.reached serves.in_world f.runs journal serves.epoch serves.start serves.over f.lawful f.small f.moment both f.stands
+    flush_holds n p w serves.facts serves.heard s f.group serves.reached serves.in_world f.runs journal serves.start serves.over f.lawful f.small f.moment both f.stands
+serving_holds n p w both s journal (Switching calls) serves =
+    let f = serves.flushes in
+    each_none n p (w.kept p) (w.staged p) both (held (journal_at n p journal (length (w.kept p))) (w.kept p) (length (w.kept p)) f.stage serves.start both serves.over f.stands)
 serving_holds n p w both s journal Flushed serves = each_none n p (w.kept p) (w.staged p) both (rest_holds n p (w.kept p) serves.start both serves.flushes.2 serves.over.holds)
 
 doing_holds : (n p : ℕ) (w : World) (both : Areas) (doing : Doing) → DoesSo n p w both doing → EachHoldsSome n p w both

@@ -1,7 +1,10 @@
 mod AwaitingLaws
 mod DiskLaws
+mod FrontLaws
 mod OpeningLaws
 mod ServingLaws
+mod SpellingLaws
+mod SwitchingLaws
 pub mod Falling
 pub mod FlushCalls
 pub mod FlushSteps
@@ -15,3 +18,4 @@ pub mod ServingSteps
 pub mod Spelling
 pub mod Starting
 pub mod Stepping
+pub mod SwitchSteps

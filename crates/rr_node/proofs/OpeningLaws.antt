@@ -1,5 +1,5 @@
 -- Each device call of an opening does what the definitions say.
-use Rattle.std.proofs.Common.{◌≡◌, ◌≢◌, ◌⊎◌, inl, inr, ℕ, Bool, true, false, List, [], ◌∷◌, Option, None, Some, Result, Ok, Err, Vec, refl, sym, ap, subst, ◌∙◌}
+use Rattle.std.proofs.Common.{◌≡◌, ◌≢◌, ◌⊎◌, inl, inr, ℕ, List, [], ◌∷◌, None, Some, Result, Ok, Err, Vec, refl, sym, ap, subst, ◌∙◌}
 use Rattle.std.specs.Global.{Global}
 use Rattle.std.proofs.lemmas.Bool.{false≢true}
 use Rattle.rr_types.specs.declared.promise.Entry.{Entry}
@@ -17,10 +17,10 @@ use Rattle.rr_journal.specs.declared.opening.Progress as progress_of
 use Rattle.rr_journal.specs.declared.opening.Progress.TheVariants as progress
 use Rattle.rr_journal.specs.Calls.{Call, Read, Write, Sync, after_call, after_failing, after_starved}
 use Rattle.rr_journal.specs.Image.{Content, Found, Unformatted, Broken, Active, found}
-use Rattle.rr_journal.specs.Openings as opening
 use Rattle.rr_journal.specs.Openings.{Phase, Settling, ReadingFirst, ReadingSecond, Formatting, After, Goes, Opens, Stops, Done, Refused, due_call, after_found, after_opening_call}
 use Rattle.rr_journal.specs.Phases.{phase_of, TakesMemory}
 use Rattle.rr_journal.specs.OpeningSteps.{Steps}
+use Rattle.rr_journal.specs.OtherAreas.{KnowsFronts, KnowsOther}
 use Rattle.rr_node.specs.declared.doing.Doing as doing
 use Rattle.rr_node.specs.declared.doing.Doing.TheVariants as does
 use Rattle.rr_node.specs.declared.event.NodeEvent.TheVariants as at
@@ -28,8 +28,9 @@ use Rattle.rr_node.specs.declared.event.Outcome.{Outcome}
 use Rattle.rr_node.specs.declared.event.Outcome.TheVariants.{Quiet}
 use Rattle.rr_node.specs.Seats as seats
 use Rattle.rr_node.specs.Seats.{Seat, Answer, Gives, Fails, read_by, opens_on, seat_step, starve_opening}
-use Rattle.rr_node.specs.Views.{NodeDisk, seat_of, IsAwaiting, HoldSoMany, IsOpened, IsSteady, Serves, Carries, CarriesFailing}
-use Rattle.rr_node.proofs.AwaitingLaws.{KeepsTable, awaits, counts}
+use Rattle.rr_node.specs.Views.{NodeDisk, areas_in, seat_of, IsAwaiting, HoldSoMany, IsOpened, IsSteady, Serves, Carries, CarriesFailing}
+use Rattle.rr_node.proofs.AwaitingLaws.{KeepsTable, awaits, ended, counts}
+use Rattle.rr_node.proofs.FrontLaws.{Ends, ends_appending}
 use Rattle.rr_node.proofs.DiskLaws.{passed_on, call_fails}
 
 -- device calls of a node's disk, that succeeded and that were refused, and a step of an opening over it
@@ -84,15 +85,32 @@ stepped n p phase old new v after h is =
     ap (opens_on (seat_in n p phase new.areas)) (sym is ∙ done_after n p phase old new v h)
     ∙ ap (λ (areas : Areas). opens_on (seat_in n p phase areas) (after_opening_call n p (read_by (due_call phase) old.areas) phase)) (done_areas (due_call phase) old new v h)
 
+-- a step keeps what an opening has noted of both areas
+abbrev pub KeepsKnown : Opening NodeDisk → progress_of.Progress NodeDisk → Type 0
+KeepsKnown o next = KnowsFronts (phase_of o.phase) o.fronts o.disk.below.areas → KnowsOther areas_in next
+
 -- an opening that goes on
-pub opens_more : (n p : ℕ) (o next : Opening NodeDisk) → Stepped o (Ok (progress.More next)) → KeepsTable o (progress.More next) → Carries n p at.Device (does.Opening o) (Ok Quiet) (does.Opening next)
-opens_more n p o next (v, made, goes, nodes, node) table h =
+pub opens_more : (n p : ℕ) (o next : Opening NodeDisk) → Stepped o (Ok (progress.More next)) → KeepsTable o (progress.More next) → KeepsKnown o (progress.More next) → Carries n p at.Device (does.Opening o) (Ok Quiet) (does.Opening next)
+opens_more n p o next (v, made, goes, nodes, node) table fronts h =
     let done = made_below (due_call (phase_of o.phase)) o.disk next.disk v h.2 made in
     let own : IsAwaiting o.nodes o.node o.phase o.disk.below.areas = subst (λ (k : ℕ). IsAwaiting k o.node o.phase o.disk.below.areas) (sym h.0) (subst (λ (k : ℕ). IsAwaiting n k o.phase o.disk.below.areas) (sym h.1) h.3) in
     let waits : IsAwaiting next.nodes next.node next.phase next.disk.below.areas = awaits o next v done.0 goes nodes node table own in
     let goes_here : after_opening_call n p v.items (phase_of o.phase) ≡ Goes (phase_of next.phase) =
     ap (λ (k : ℕ). after_opening_call k p v.items (phase_of o.phase)) (sym h.0) ∙ ap (λ (k : ℕ). after_opening_call o.nodes k v.items (phase_of o.phase)) (sym h.1) ∙ goes in
-    (inl (stepped n p (phase_of o.phase) o.disk.below next.disk.below v (Goes (phase_of next.phase)) done.0 goes_here), (nodes ∙ h.0, node ∙ h.1, done.1, subst (λ (k : ℕ). IsAwaiting k p next.phase next.disk.below.areas) (nodes ∙ h.0) (subst (λ (k : ℕ). IsAwaiting next.nodes k next.phase next.disk.below.areas) (node ∙ h.1) waits)))
+    (inl (stepped n p (phase_of o.phase) o.disk.below next.disk.below v (Goes (phase_of next.phase)) done.0 goes_here), (nodes ∙ h.0, node ∙ h.1, done.1, subst (λ (k : ℕ). IsAwaiting k p next.phase next.disk.below.areas) (nodes ∙ h.0) (subst (λ (k : ℕ). IsAwaiting next.nodes k next.phase next.disk.below.areas) (node ∙ h.1) waits), fronts h.4))
+
+-- what an opening ends with
+pub opens_ended : (n p : ℕ) (o : Opening NodeDisk) (j : Journal NodeDisk) (promise : List Entry) (number : ℕ) → Stepped o (Ok (progress.Done j promise number)) → KeepsTable o (progress.Done j promise number) → IsSteady n p (does.Opening o) → Ends n p j number
+opens_ended n p o j promise number (v, made, opens, is) table h =
+    let done = made_below (due_call (phase_of o.phase)) o.disk j.disk v h.2 made in
+    let own : IsAwaiting o.nodes o.node o.phase o.disk.below.areas = subst (λ (k : ℕ). IsAwaiting k o.node o.phase o.disk.below.areas) (sym h.0) (subst (λ (k : ℕ). IsAwaiting n k o.phase o.disk.below.areas) (sym h.1) h.3) in
+    let ends : Ends o.nodes o.node j number =
+    ended o j promise number v done.0 opens (ap (λ (x : Journal NodeDisk). x.nodes) is) (ap (λ (x : Journal NodeDisk). x.node) is) (ap (λ (x : Journal NodeDisk). x.next) is) table own in
+    subst (λ (k : ℕ). Ends k p j number) h.0 (subst (λ (k : ℕ). Ends o.nodes k j number) h.1 ends)
+
+-- so that the node may serve
+pub opens_counted : (n p : ℕ) (o : Opening NodeDisk) (j : Journal NodeDisk) (promise : List Entry) (number : ℕ) → Stepped o (Ok (progress.Done j promise number)) → KeepsTable o (progress.Done j promise number) → IsSteady n p (does.Opening o) → HoldSoMany n p j.disk.below.areas number
+opens_counted n p o j promise number steps table h = counts n p j number (opens_ended n p o j promise number steps table h)
 
 -- only a read or a sync ends an opening
 abbrev StopsBy : Phase → Type 0
@@ -112,14 +130,15 @@ ends_by n p bytes step.SettlingGate area c e = λ before after m q is. rw is ref
 
 -- an opening that ends
 pub opens_done : (n p : ℕ) (o : Opening NodeDisk) (j : Journal NodeDisk) (promise : List Entry) (number : ℕ) (answer : Result Outcome Refusal) (new : doing.Doing)
-    → Stepped o (Ok (progress.Done j promise number)) → Serves n p j promise number answer new → Carries n p at.Device (does.Opening o) answer new
-opens_done n p o j promise number answer new (v, made, opens, is) serves h = by (serves opened)
+    → Stepped o (Ok (progress.Done j promise number)) → KeepsTable o (progress.Done j promise number) → KeepsKnown o (progress.Done j promise number)
+    → Serves n p j promise number answer new → Carries n p at.Device (does.Opening o) answer new
+opens_done n p o j promise number answer new (v, made, opens, is) table fronts serves h = by (serves opened (ap (λ (x : Journal NodeDisk). x.next) is))
   where
     done : Done MemoryRead MemoryWrite MemorySync (due_call (phase_of o.phase)) o.disk.below v j.disk.below × (j.disk.due ≡ None)
     done = made_below (due_call (phase_of o.phase)) o.disk j.disk v h.2 made
 
     opened : IsOpened n p j
-    opened = record { nodes = ap (λ (x : Journal NodeDisk). x.nodes) is ∙ h.0; node = ap (λ (x : Journal NodeDisk). x.node) is ∙ h.1; sound = ap (λ (x : Journal NodeDisk). x.failed) is; rests = ap (λ (x : Journal NodeDisk). x.busy) is; calm = done.1 }
+    opened = record { nodes = ap (λ (x : Journal NodeDisk). x.nodes) is ∙ h.0; node = ap (λ (x : Journal NodeDisk). x.node) is ∙ h.1; sound = ap (λ (x : Journal NodeDisk). x.failed) is; rests = ap (λ (x : Journal NodeDisk). x.busy) is; calm = done.1; appending = ends_appending n p j number (opens_ended n p o j promise number (v, made, opens, is) table h); beside = fronts h.4 }
 
     content : Content
     content = record { epoch = j.epoch; promise = promise; next = number; gate = j.gate }
@@ -219,12 +238,3 @@ opens_failing n p fill o new refused h =
         → Fails fill (seat_of n p (does.Opening o)) (Err because.Device) (seat_of n p (does.Faulted new))
     by (inl is) = inl (rw is refl)
     by (inr is) = inr (rw is refl)
-
--- what an opening ends with, so that the node may serve
-pub opens_counted : (n p : ℕ) (o : Opening NodeDisk) (j : Journal NodeDisk) (promise : List Entry) (number : ℕ) → Stepped o (Ok (progress.Done j promise number)) → KeepsTable o (progress.Done j promise number) → IsSteady n p (does.Opening o) → HoldSoMany n p j.disk.below.areas number
-opens_counted n p o j promise number (v, made, opens, is) table h =
-    let done = made_below (due_call (phase_of o.phase)) o.disk j.disk v h.2 made in
-    let own : IsAwaiting o.nodes o.node o.phase o.disk.below.areas = subst (λ (k : ℕ). IsAwaiting k o.node o.phase o.disk.below.areas) (sym h.0) (subst (λ (k : ℕ). IsAwaiting n k o.phase o.disk.below.areas) (sym h.1) h.3) in
-    let many : HoldSoMany o.nodes o.node j.disk.below.areas number =
-    counts o j promise number v done.0 opens (ap (λ (x : Journal NodeDisk). x.nodes) is) (ap (λ (x : Journal NodeDisk). x.node) is) (ap (λ (x : Journal NodeDisk). x.next) is) table own in
-    subst (λ (k : ℕ). HoldSoMany k p j.disk.below.areas number) h.0 (subst (λ (k : ℕ). HoldSoMany o.nodes k j.disk.below.areas number) h.1 many)

@@ -46,10 +46,10 @@ module _ (n p : ℕ) (w : World) (areas : Areas) (doing : Doing) (exists : p < n
       let v : World = after_steps w (Restart p count ∷ []) in
       let now : IsInWorld false n p (w.kept p ++ take count (w.staged p)) nothing_heard (opened_over n p (w.kept p ++ take count (w.staged p))) (after_steps w (Restart p count ∷ [])) = came.1 in
       let kept : v.kept p ≡ w.kept p ++ take count (w.staged p) = now.kept ∙ append-nil _ ∙ opened_marked n p (w.kept p ++ take count (w.staged p)) in
-      let journal : Journaled = record { area = area; gate = gate } in
+      let journal : Journaled = record { area = area; gate = gate; epoch = epoch } in
       let c : Content = record { epoch = epoch; promise = promise_of (w.kept p ++ take count (w.staged p)); next = length (w.kept p ++ take count (w.staged p)); gate = gate } in
-      let over : IsOver (journal_at n p journal epoch (length (w.kept p ++ take count (w.staged p)))) start (w.kept p ++ take count (w.staged p)) = record { holds = holds; active = is } in
-      goes n p (MayBe p at.Device) w (serves area c (seated n p areas doing)).0 (serves area c (seated n p areas doing)).1 (Restart p count ∷ []) (inr (inr (count, refl))) came.0 (refl, tt)
+      let over : IsOver (journal_at n p journal (length (w.kept p ++ take count (w.staged p)))) start (w.kept p ++ take count (w.staged p)) = record { holds = holds; active = is } in
+      goes n p (MayBe p at.Device) w (serves area c (seated n p areas doing)).0 (serves area c (seated n p areas doing)).1 (Restart p count ∷ []) tt (inr (inr (count, refl))) came.0 (refl, tt)
       (record {
         exists = exists;
         nodes = refl;
@@ -60,9 +60,8 @@ module _ (n p : ℕ) (w : World) (areas : Areas) (doing : Doing) (exists : p < n
           heard = nothing_heard;
           reached = reached.Opened (w.kept p ++ take count (w.staged p)) holds.fit;
           in_world = now;
-          epoch = epoch;
           start = start;
-          over = subst (λ (fs : List Fact). IsOver (journal_at n p journal epoch (length fs)) start fs) (sym kept) over;
+          over = subst (λ (fs : List Fact). IsOver (journal_at n p journal (length fs)) start fs) (sym kept) over;
           flushes = ((started_stays n p (promise_of (w.kept p ++ take count (w.staged p))) (length (w.kept p ++ take count (w.staged p)))).running, stands);
         };
       })

@@ -1,5 +1,5 @@
 -- Each event at a node that is up does what the definitions say, and keeps its parts together.
-use Rattle.std.proofs.Common.{◌≡◌, ◌≢◌, ◌⊎◌, inl, inr, ℕ, zero, suc, ◌+◌, ◌^◌, ◌<◌, ◌≤◌, Bool, true, false, cond, ltb, eqb, List, [], ◌∷◌, ◌++◌, length, take, drop, Option, None, Some, option_map, Result, Ok, Err, refl, sym, ap, subst, ◌∙◌, arith, if◌then◌else◌, nat_lt}
+use Rattle.std.proofs.Common.{◌≡◌, ◌≢◌, ◌⊎◌, inl, inr, ℕ, suc, ◌+◌, ◌^◌, ◌<◌, ◌≤◌, Bool, true, false, eqb, List, [], ◌∷◌, ◌++◌, length, Option, None, Some, option_map, Result, Ok, Err, refl, sym, ap, subst, ◌∙◌, arith, if◌then◌else◌, nat_lt}
 use Rattle.std.specs.Result.{OnOk, OnErr, IfErr}
 use Rattle.std.specs.Option.{option_map_or}
 use Rattle.std.proofs.lemmas.Bool.{false≢true, ne_eqb, lt-ltb, le-ltb}
@@ -18,24 +18,27 @@ use Rattle.rr_disk.specs.declared.area.Area.{Area}
 use Rattle.rr_disk.specs.Areas.{Areas, synced}
 use Rattle.rr_disk.specs.Counts.{Grew}
 use Rattle.rr_disk.specs.Failing.{FailingWrite, FailingSync}
-use Rattle.rr_disk.specs.Memory.{MemoryState, MemoryWrite, MemorySync}
+use Rattle.rr_disk.specs.Memory.{MemoryWrite, MemorySync}
 use Rattle.rr_frame.specs.Numbers.{number_bytes}
-use Rattle.rr_frame.specs.GroupFormat.{group_bytes}
+use Rattle.rr_frame.specs.GroupFormat.{group_bytes, IsLawfulGroup}
+use Rattle.rr_frame.specs.Snapshots.{Snapped}
+use Rattle.rr_frame.specs.SnapshotFormat.{snapshot_bytes, IsLawfulSnapshot}
 use Rattle.rr_frame.proofs.FieldLaws.{length-number_bytes}
 use Rattle.rr_gate.specs.Flushes as gate
 use Rattle.rr_journal.specs.declared.journal.Journal.{Journal}
-use Rattle.rr_journal.specs.Calls.{Call, Write, frame_bytes, append_calls, after_call, after_starved, after_failing}
-use Rattle.rr_node.proofs.DiskLaws.{passed_on, synced_by, written_by, starved_by, write_fails}
+use Rattle.rr_journal.specs.Calls.{Call, Write, Sync, frame_bytes, append_calls, after_call, after_starved, after_failing}
+use Rattle.rr_journal.specs.OtherAreas.{other_area, closes_in, IsOtherKnown}
+use Rattle.rr_node.proofs.FrontLaws.{Reaches, KeepsFronts, sync_keeps, write_keeps, appends_on, knows_on}
+use Rattle.rr_node.proofs.DiskLaws.{passed_on, synced_by, starved_by, write_fails}
 use Rattle.rr_node.specs.declared.doing.Doing.TheVariants as does
 use Rattle.rr_node.specs.declared.serving.Serving.{Serving}
 use Rattle.rr_node.specs.declared.serving.Flush.{Flush}
 use Rattle.rr_node.specs.declared.serving.Flush.TheVariants as flush
 use Rattle.rr_node.specs.declared.event.NodeEvent.TheVariants as at
-use Rattle.rr_node.specs.declared.event.Outcome.{Outcome}
 use Rattle.rr_node.specs.declared.event.Outcome.TheVariants.{Quiet, Opened}
 use Rattle.rr_node.specs.Seats as seats
 use Rattle.rr_node.specs.Seats.{Seat, Answer, Journaled, Fails, goes_on, refuse, told, take_up, payload_of, journal_behind}
-use Rattle.rr_node.specs.Views.{NodeDisk, journaled_of, flush_of, seat_of, IsJobOf, IsFlushOf, IsServing, CarriesOn, CarriesFailing, Serves, quiet}
+use Rattle.rr_node.specs.Views.{NodeDisk, areas_in, IsBeside, journaled_of, flush_of, seat_of, IsJobOf, IsFlushOf, IsServing, CarriesOn, CarriesFailing, Serves, quiet}
 
 -- where the same group runs, a flush stays of it
 flush_stays : (s t : NodeState) (j : Journal NodeDisk) (f : Flush) → StaysMarked s t → IsFlushOf s j f → IsFlushOf t j f
@@ -45,17 +48,21 @@ flush_stays s t j f same h = by f h
     group = ap (λ (o : Option (List Fact)). option_map (λ facts. record { serial = t.marked_end; facts = facts }) o) same.running ∙ ap (λ (n : ℕ). option_map (λ (facts : List Fact). record { serial = n; facts = facts }) s.running) same.marked_end
 
     job_stays : (job : gate.Flush) → IsJobOf s j job → IsJobOf t j job
-    job_stays job h = record { node = h.node ∙ sym same.node; area = h.area; gate = h.gate; body = h.body; group = group ∙ h.group }
+    job_stays job h = record { node = h.node ∙ sym same.node; area = h.area; gate = h.gate; body = h.body; group = group ∙ h.group; lawful = h.lawful; next = h.next ∙ sym same.marked_end }
+
+    snapshot : seats.snapshot_of t (journaled_of j) ≡ seats.snapshot_of s (journaled_of j)
+    snapshot = λ i. record { node = same.node i; nodes = same.nodes i; epoch = j.epoch + 1; next = same.marked_end i; entries = same.marked i }
 
     by : (f : Flush) → IsFlushOf s j f → IsFlushOf t j f
-    by flush.Resting h = (same.running ∙ h.0, h.1)
+    by flush.Resting h = (same.running ∙ h.0, h.1, h.2 ∙ sym same.marked_end)
     by (flush.Body job) h = job_stays job h
     by (flush.BodyOut job) h = job_stays job h
     by (flush.BodySafe job) h = job_stays job h
     by (flush.GateSet job) h = job_stays job h
-    by (flush.Flushed kept) h = (h.0 ∙ sym same.node, group ∙ h.1, h.2)
+    by (flush.Flushed kept) h = (h.0 ∙ sym same.node, group ∙ h.1, h.2, h.3)
+    by (flush.Switching job) h = record { area = h.area; epoch = h.epoch; body = h.body ∙ ap (λ (x : Snapped). frame_bytes (snapshot_bytes x)) (sym snapshot); lawful = subst IsLawfulSnapshot (sym snapshot) h.lawful; next = h.next ∙ sym same.marked_end; rests = same.running ∙ h.rests }
 
-serving_stays : (n p : ℕ) (s t : NodeState) (j : Journal NodeDisk) (f : Flush) → StaysMarked s t → IsServing n p (record { core = s; journal = j; flush = f }) → IsServing n p (record { core = t; journal = j; flush = f })
+serving_stays : (n p : ℕ) (s t : NodeState) (j : Journal NodeDisk) (f : Flush) → StaysMarked s t → IsServing n p (record { core = s; slots = j; flush = f }) → IsServing n p (record { core = t; slots = j; flush = f })
 serving_stays n p s t j f same h = record {
   nodes = same.nodes ∙ h.nodes;
   node = same.node ∙ h.node;
@@ -64,6 +71,8 @@ serving_stays n p s t j f same h = record {
   sound = h.sound;
   calm = h.calm;
   flush = flush_stays s t j f same h.flush;
+  appending = h.appending;
+  beside = h.beside;
 }
 
 -- what an input to the core answered, and the core after it
@@ -77,38 +86,44 @@ pub record IsTold (input : Input) (s t : NodeState) (r : Result (Unit {0}) Refus
 abbrev Tells : Input → NodeState → Journal NodeDisk → Flush → Seat → Answer → Type 0
 Tells input s j f seat given = (given ≡ told input s (journaled_of j) (flush_of f) seat) ⊎ (given ≡ refuse because.OutOfMemory seat)
 
-pub told_on : (input : Input) (s t : NodeState) (j : Journal NodeDisk) (f : Flush) (r : Result (Unit {0}) Refusal) (n p : ℕ) → IsTold input s t r → IsServing n p (record { core = s; journal = j; flush = f })
-    → Tells input s j f (seat_of n p (does.Serving (record { core = s; journal = j; flush = f }))) (quiet r, seat_of n p (does.Serving (record { core = t; journal = j; flush = f })))
-    × IsServing n p (record { core = t; journal = j; flush = f })
+pub told_on : (input : Input) (s t : NodeState) (j : Journal NodeDisk) (f : Flush) (r : Result (Unit {0}) Refusal) (n p : ℕ) → IsTold input s t r → IsServing n p (record { core = s; slots = j; flush = f })
+    → Tells input s j f (seat_of n p (does.Serving (record { core = s; slots = j; flush = f }))) (quiet r, seat_of n p (does.Serving (record { core = t; slots = j; flush = f })))
+    × IsServing n p (record { core = t; slots = j; flush = f })
 told_on input s t j f (Ok x) n p h steady =
     rw (h.ok, h.allowed) (inl refl, serving_stays n p s (node_step input s) j f (input_stays input s) steady)
 told_on input s t j f (Err e) n p h steady = rw h.err (by h.refused, steady)
   where
-    by : (e ≡ because.OutOfMemory) ⊎ (refusal_of input s ≡ Some e) → Tells input s j f (seat_of n p (does.Serving (record { core = s; journal = j; flush = f }))) (Err e, seat_of n p (does.Serving (record { core = s; journal = j; flush = f })))
+    by : (e ≡ because.OutOfMemory) ⊎ (refusal_of input s ≡ Some e) → Tells input s j f (seat_of n p (does.Serving (record { core = s; slots = j; flush = f }))) (Err e, seat_of n p (does.Serving (record { core = s; slots = j; flush = f })))
     by (inl memory) = inr (rw memory refl)
     by (inr why) = inl (rw why refl)
 
 -- the marked group leaves none running
-marked_rests : (s : NodeState) (g : Grouped) → running_group s ≡ Some g → ((marked_running s).running ≡ None) × ((marked_running s).nodes ≡ s.nodes) × ((marked_running s).node ≡ s.node)
+marked_rests : (s : NodeState) (g : Grouped) → running_group s ≡ Some g → ((marked_running s).running ≡ None) × ((marked_running s).nodes ≡ s.nodes) × ((marked_running s).node ≡ s.node) × ((marked_running s).marked_end ≡ g.serial + length g.facts)
 unfolding marked_running
 marked_rests s g e = by s.running refl
   where
-    by : (o : Option (List Fact)) → s.running ≡ o → ((marked_running s).running ≡ None) × ((marked_running s).nodes ≡ s.nodes) × ((marked_running s).node ≡ s.node)
+    by : (o : Option (List Fact)) → s.running ≡ o → ((marked_running s).running ≡ None) × ((marked_running s).nodes ≡ s.nodes) × ((marked_running s).node ≡ s.node) × ((marked_running s).marked_end ≡ g.serial + length g.facts)
     by None h = absurd (none (rw h at e))
       where
         none : (option_map (λ (facts : List Fact). record { serial = s.marked_end; facts = facts }) None ≡ Some g) → ⊥
         none x = cc
-    by (Some facts) h = rw h (refl, refl, refl)
+    by (Some facts) h =
+        let group : record { serial = s.marked_end; facts = facts } ≡ g = grouped facts (rw h at e) in
+        let count : s.marked_end + length facts ≡ g.serial + length g.facts = ap (λ (x : Grouped). x.serial + length x.facts) group in
+        rw h (refl, refl, refl, count)
+      where
+        grouped : (facts : List Fact) → option_map (λ (facts : List Fact). record { serial = s.marked_end; facts = facts }) (Some facts) ≡ Some g → record { serial = s.marked_end; facts = facts } ≡ g
+        grouped facts x = cc
 
-pub mark_done : (s t : NodeState) (j : Journal NodeDisk) (kept : gate.Kept) → t ≡ marked_running s → CarriesOn at.Mark (record { core = s; journal = j; flush = flush.Flushed kept }) (Ok Quiet) (does.Serving (record { core = t; journal = j; flush = flush.Resting }))
+pub mark_done : (s t : NodeState) (j : Journal NodeDisk) (kept : gate.Kept) → t ≡ marked_running s → CarriesOn at.Mark (record { core = s; slots = j; flush = flush.Flushed kept }) (Ok Quiet) (does.Serving (record { core = t; slots = j; flush = flush.Resting }))
 mark_done s t j kept e n p h =
     let rests = marked_rests s kept.group h.flush.1 in
     rw e (
       inl refl,
-      record { nodes = rests.1 ∙ h.nodes; node = rests.2 ∙ h.node; journal_nodes = h.journal_nodes; journal_node = h.journal_node; sound = h.sound; calm = h.calm; flush = (rests.0, h.flush.2) },
+      record { nodes = rests.1 ∙ h.nodes; node = rests.2 ∙ h.node; journal_nodes = h.journal_nodes; journal_node = h.journal_node; sound = h.sound; calm = h.calm; flush = (rests.0, h.flush.2, h.flush.3 ∙ sym rests.3); appending = h.appending; beside = h.beside },
     )
 
-frame_long : (payload : List ℕ) → length (frame_bytes payload) ≡ 5 + length payload
+pub frame_long : (payload : List ℕ) → length (frame_bytes payload) ≡ 5 + length payload
 unfolding number_bytes
 frame_long payload = length-append (number_bytes 4 (length payload)) (payload ++ 0 ∷ []) ∙ omega (arith, length-number_bytes 4 (length payload), length-append payload (0 ∷ []))
 
@@ -121,13 +136,15 @@ behind s j job h =
     omega (arith, size, body, h.gate)
 
 pub gate_done : (s : NodeState) (j k : Journal NodeDisk) (job : gate.Flush) (kept : gate.Kept) (next : ℕ) → kept ≡ record { node = job.node; group = job.group }
-    → k ≡ record { disk = k.disk; nodes = j.nodes; node = j.node; area = j.area; epoch = j.epoch; gate = job.gate + length job.body; next = next; failed = j.failed; busy = false }
+    → k ≡ record { disk = k.disk; nodes = j.nodes; node = j.node; area = j.area; epoch = j.epoch; gate = job.gate + length job.body; next = next; failed = j.failed; busy = false; closes_other = j.closes_other }
+    → next ≡ job.group.serial + length job.group.facts
     → FailingSync MemorySync j.disk (Ok tt) k.disk
-    → CarriesOn at.Device (record { core = s; journal = j; flush = flush.GateSet job }) (Ok Quiet) (does.Serving (record { core = s; journal = k; flush = flush.Flushed kept }))
-gate_done s j k job kept next is ended gave n p h =
+    → CarriesOn at.Device (record { core = s; slots = j; flush = flush.GateSet job }) (Ok Quiet) (does.Serving (record { core = s; slots = k; flush = flush.Flushed kept }))
+gate_done s j k job kept next is ended count gave n p h =
     let left = synced_by j.disk k.disk h.calm gave in
-    let own : Path Seat (seat_of n p (does.Serving (record { core = s; journal = k; flush = flush.Flushed kept }))) (record { nodes = n; node = p; doing = seats.Serving s (journal_behind s (journaled_of j)) seats.Flushed; areas = synced j.disk.below.areas }) =
-    rw (left.1, ap (λ (x : Journal NodeDisk). x.area) ended, ap (λ (x : Journal NodeDisk). x.gate) ended, behind s j job h.flush) refl in (
+    let own : Path Seat (seat_of n p (does.Serving (record { core = s; slots = k; flush = flush.Flushed kept }))) (record { nodes = n; node = p; doing = seats.Serving s (journal_behind s (journaled_of j)) seats.Flushed; areas = synced j.disk.below.areas }) =
+    rw (left.1, ap (λ (x : Journal NodeDisk). x.area) ended, ap (λ (x : Journal NodeDisk). x.gate) ended, ap (λ (x : Journal NodeDisk). x.epoch) ended, behind s j job h.flush) refl in
+    let keeps = sync_keeps j.disk.below.areas j.area in (
       inl (ap (λ (x : Seat). pair x) own),
       record {
         nodes = h.nodes;
@@ -136,7 +153,17 @@ gate_done s j k job kept next is ended gave n p h =
         journal_node = ap (λ (x : Journal NodeDisk). x.node) ended ∙ h.journal_node;
         sound = ap (λ (x : Journal NodeDisk). x.failed) ended ∙ h.sound;
         calm = left.0;
-        flush = (ap (λ (x : gate.Kept). x.node) is ∙ h.flush.node, h.flush.group ∙ ap (λ (x : gate.Kept). Some x.group) (sym is), ap (λ (x : Journal NodeDisk). x.busy) ended);
+        flush = (
+          ap (λ (x : gate.Kept). x.node) is ∙ h.flush.node,
+          h.flush.group ∙ ap (λ (x : gate.Kept). Some x.group) (sym is),
+          ap (λ (x : Journal NodeDisk). x.busy) ended,
+          ap (λ (x : Journal NodeDisk). x.next) ended ∙ count ∙ ap (λ (x : gate.Kept). x.group.serial + length x.group.facts) (sym is),
+        );
+        appending = record {
+          behind = omega (arith, ap (λ (x : Journal NodeDisk). x.gate) ended, h.flush.gate, h.appending.behind);
+          formatted = ap (λ (x : Journal NodeDisk). closes_in k.disk.below.areas x.area) ended ∙ ap (λ (b : Areas). closes_in b j.area) left.1 ∙ keeps.0 ∙ h.appending.formatted;
+        };
+        beside = ap (λ (x : Journal NodeDisk). x.closes_other) ended ∙ h.beside ∙ sym keeps.1 ∙ ap (λ (b : Areas). closes_in b (other_area j.area)) (sym left.1) ∙ ap (λ (x : Journal NodeDisk). closes_in k.disk.below.areas (other_area x.area)) (sym ended);
       },
     )
   where
@@ -148,9 +175,9 @@ back_again : (s : NodeState) → s.running ≡ None → group_put_back (group_ta
 unfolding group_put_back group_taken
 back_again s rests = rw (take-append-drop 64 s.staged, sym rests) refl
 
-taken_stays : (s : NodeState) → ((group_taken s).nodes ≡ s.nodes) × ((group_taken s).node ≡ s.node)
+taken_stays : (s : NodeState) → ((group_taken s).nodes ≡ s.nodes) × ((group_taken s).node ≡ s.node) × ((group_taken s).marked_end ≡ s.marked_end)
 unfolding group_taken
-taken_stays s = (refl, refl)
+taken_stays s = (refl, refl, refl)
 
 staged_some : (xs : List Fact) → xs ≢ [] → eqb (length xs) 0 ≡ false
 staged_some [] some = absurd (some refl)
@@ -171,10 +198,10 @@ take_is s j seat group fits some is fit =
     ∙ ap (λ (b : Bool). taken_with s j seat false b (group_bytes group)) fit
 
 pub begin_done : (s t : NodeState) (j k : Journal NodeDisk) (group : Grouped) (job : gate.Flush) → s.staged ≢ [] → t ≡ group_taken s → Some group ≡ running_group t → s.running ≡ None
-    → j.gate + 6 + length (group_bytes group) < 2 ^ 32 → k ≡ record j { busy = true }
+    → IsLawfulGroup group → j.gate + 6 + length (group_bytes group) < 2 ^ 32 → k ≡ record j { busy = true }
     → job ≡ record { nodes = j.nodes; node = j.node; area = j.area; gate = j.gate; body = frame_bytes (group_bytes group); group = group }
-    → CarriesOn at.Take (record { core = s; journal = j; flush = flush.Resting }) (Ok Quiet) (does.Serving (record { core = t; journal = k; flush = flush.Body job }))
-begin_done s t j k group job some taken runs rests small busy is n p h =
+    → CarriesOn at.Take (record { core = s; slots = j; flush = flush.Resting }) (Ok Quiet) (does.Serving (record { core = t; slots = k; flush = flush.Body job }))
+begin_done s t j k group job some taken runs rests lawful small busy is n p h =
     rw (taken, busy, is) (
       inl (sym step),
       record {
@@ -184,25 +211,27 @@ begin_done s t j k group job some taken runs rests small busy is n p h =
         journal_node = h.journal_node;
         sound = h.sound;
         calm = h.calm;
-        flush = record { node = h.journal_node ∙ sym (nodes_stay.1 ∙ h.node); area = refl; gate = refl; body = refl; group = group_is };
+        flush = record { node = h.journal_node ∙ sym (nodes_stay.1 ∙ h.node); area = refl; gate = refl; body = refl; group = group_is; lawful = lawful; next = h.flush.2 ∙ sym nodes_stay.2 };
+        appending = record { behind = h.appending.behind; formatted = h.appending.formatted };
+        beside = h.beside;
       },
     )
   where
     group_is : running_group (group_taken s) ≡ Some group
     group_is = ap running_group (sym taken) ∙ sym runs
 
-    nodes_stay : ((group_taken s).nodes ≡ s.nodes) × ((group_taken s).node ≡ s.node)
+    nodes_stay : ((group_taken s).nodes ≡ s.nodes) × ((group_taken s).node ≡ s.node) × ((group_taken s).marked_end ≡ s.marked_end)
     nodes_stay = taken_stays s
 
     seat : Seat
-    seat = seat_of n p (does.Serving (record { core = s; journal = j; flush = flush.Resting }))
+    seat = seat_of n p (does.Serving (record { core = s; slots = j; flush = flush.Resting }))
 
     step : take_up s (journaled_of j) seats.Resting seat ≡ taken_with s (journaled_of j) seat false true (group_bytes group)
     step = take_is s (journaled_of j) seat group true some group_is (lt-ltb _ _ small)
 
 pub begin_refused : (s t u : NodeState) (j k : Journal NodeDisk) (group : Grouped) (e : Refusal) → s.staged ≢ [] → t ≡ group_taken s → Some group ≡ running_group t → s.running ≡ None → u ≡ group_put_back t → k ≡ j
     → (e ≡ because.OutOfMemory) ⊎ ((e ≡ because.Failed) × (j.failed ≡ true)) ⊎ ((e ≡ because.Busy) × (j.busy ≡ true)) ⊎ ((e ≡ because.TooLarge) × (2 ^ 32 ≤ j.gate + 6 + length (group_bytes group)))
-    → CarriesOn at.Take (record { core = s; journal = j; flush = flush.Resting }) (Err e) (does.Serving (record { core = u; journal = k; flush = flush.Resting }))
+    → CarriesOn at.Take (record { core = s; slots = j; flush = flush.Resting }) (Err e) (does.Serving (record { core = u; slots = k; flush = flush.Resting }))
 begin_refused s t u j k group e some taken runs rests back same why n p h = rw (again, same) (by why, h)
   where
     group_is : running_group (group_taken s) ≡ Some group
@@ -212,7 +241,7 @@ begin_refused s t u j k group e some taken runs rests back same why n p h = rw (
     again = back ∙ ap group_put_back taken ∙ back_again s rests
 
     seat : Seat
-    seat = seat_of n p (does.Serving (record { core = s; journal = j; flush = flush.Resting }))
+    seat = seat_of n p (does.Serving (record { core = s; slots = j; flush = flush.Resting }))
 
     step : 2 ^ 32 ≤ j.gate + 6 + length (group_bytes group) → take_up s (journaled_of j) seats.Resting seat ≡ taken_with s (journaled_of j) seat false false (group_bytes group)
     step large = take_is s (journaled_of j) seat group false some group_is (le-ltb _ _ large)
@@ -226,24 +255,62 @@ begin_refused s t u j k group e some taken runs rests back same why n p h = rw (
 
 -- an opening ended, and the node serves
 pub serve_done : (n p : ℕ) (j : Journal NodeDisk) (promise : List Entry) (number decided : ℕ) (core : NodeState) (names : Bindings) (s : Serving) → core ≡ started n p promise number
-    → decided ≡ length (decided_prefix core) → names ≡ registry_of (decided_prefix core) → s ≡ record { core = core; journal = j; flush = flush.Resting } → Serves n p j promise number (Ok (Opened number decided names)) (does.Serving s)
-serve_done n p j promise number decided core names s is count bound own h =
+    → decided ≡ length (decided_prefix core) → names ≡ registry_of (decided_prefix core) → s ≡ record { core = core; slots = j; flush = flush.Resting } → Serves n p j promise number (Ok (Opened number decided names)) (does.Serving s)
+serve_done n p j promise number decided core names s is count bound own h next =
     let same : StaysMarked (restored n p promise number) (started n p promise number) = started_stays n p promise number in
     rw (own, bound, count, is) (
       inl refl,
-      record { nodes = same.nodes; node = same.node; journal_nodes = h.nodes; journal_node = h.node; sound = h.sound; calm = h.calm; flush = (same.running, h.rests) },
+      record { nodes = same.nodes; node = same.node; journal_nodes = h.nodes; journal_node = h.node; sound = h.sound; calm = h.calm; flush = (same.running, h.rests, next ∙ sym same.marked_end); appending = h.appending; beside = h.beside },
     )
+
+-- beside this flush it is known whether the other area has to be closed
+abbrev IsOtherKnownThen : Flush → Journal NodeDisk → Type 0
+IsOtherKnownThen f j = IsBeside f j → IsOtherKnown areas_in j
+
+-- a flush writes behind the first byte of its own area
+flush_keeps : (s : NodeState) (j : Journal NodeDisk) (f : Flush) (call next : Call) (calls : List Call) → flush_of f ≡ seats.Writing (call ∷ next ∷ calls) → IsFlushOf s j f → 0 < j.gate → Reaches call j.disk.below.areas
+    → KeepsFronts j.disk.below.areas (after_call call j.disk.below.areas) j.area × IsOtherKnownThen f j
+flush_keeps s j flush.Resting call next calls is h some reach = absurd (cc)
+flush_keeps s j (flush.Body job) call next calls is h some reach =
+    let made : Write job.area (job.gate + 1) job.body ≡ call = cc in
+    (subst (λ (c : Call). Reaches c j.disk.below.areas → KeepsFronts j.disk.below.areas (after_call c j.disk.below.areas) j.area) (write_is job h ∙ made) (λ le. write_keeps j.disk.below.areas j.area (job.gate + 1) job.body (omega arith) le) reach, λ known. known)
+  where
+    write_is : (job : gate.Flush) → IsJobOf s j job → Write j.area (job.gate + 1) job.body ≡ Write job.area (job.gate + 1) job.body
+    write_is job h = ap (λ (a : Area). Write a (job.gate + 1) job.body) (sym h.area)
+flush_keeps s j (flush.BodyOut job) call next calls is h some reach =
+    let made : Sync ≡ call = cc in
+    (subst (λ (c : Call). KeepsFronts j.disk.below.areas (after_call c j.disk.below.areas) j.area) made (sync_keeps j.disk.below.areas j.area), λ known. known)
+flush_keeps s j (flush.BodySafe job) call next calls is h some reach =
+    let made : Write job.area job.gate (165 ∷ []) ≡ call = cc in
+    (subst (λ (c : Call). Reaches c j.disk.below.areas → KeepsFronts j.disk.below.areas (after_call c j.disk.below.areas) j.area) (write_is job h ∙ made) (λ le. write_keeps j.disk.below.areas j.area job.gate (165 ∷ []) (omega (arith, h.gate, some)) le) reach, λ known. known)
+  where
+    write_is : (job : gate.Flush) → IsJobOf s j job → Write j.area job.gate (165 ∷ []) ≡ Write job.area job.gate (165 ∷ [])
+    write_is job h = ap (λ (a : Area). Write a job.gate (165 ∷ [])) (sym h.area)
+flush_keeps s j (flush.GateSet job) call next calls is h some reach = absurd (cc)
+flush_keeps s j (flush.Flushed kept) call next calls is h some reach = absurd (cc)
+flush_keeps s j (flush.Switching job) call next calls is h some reach = absurd (cc)
+
+-- beside a flush that is known
+beside_flush : (f : Flush) (k : Journal NodeDisk) (calls : List Call) → flush_of f ≡ seats.Writing calls → IsOtherKnown areas_in k → IsBeside f k
+beside_flush flush.Resting k calls is known = known
+beside_flush (flush.Body job) k calls is known = known
+beside_flush (flush.BodyOut job) k calls is known = known
+beside_flush (flush.BodySafe job) k calls is known = known
+beside_flush (flush.GateSet job) k calls is known = known
+beside_flush (flush.Flushed kept) k calls is known = known
+beside_flush (flush.Switching job) k calls is known = absurd (cc)
 
 -- a flush goes on behind a device call
 pub flush_goes : (s : NodeState) (j k : Journal NodeDisk) (f g : Flush) (call next : Call) (calls : List Call) → flush_of f ≡ seats.Writing (call ∷ next ∷ calls) → flush_of g ≡ seats.Writing (next ∷ calls)
-    → k ≡ record j { disk = k.disk } → (j.disk.due ≡ None → (k.disk.due ≡ None) × (k.disk.below.areas ≡ after_call call j.disk.below.areas)) → (IsFlushOf s j f → IsFlushOf s k g)
-    → CarriesOn at.Device (record { core = s; journal = j; flush = f }) (Ok Quiet) (does.Serving (record { core = s; journal = k; flush = g }))
-flush_goes s j k f g call next calls is behind same gave keeps n p h =
+    → k ≡ record j { disk = k.disk } → (j.disk.due ≡ None → (k.disk.due ≡ None) × (k.disk.below.areas ≡ after_call call j.disk.below.areas) × Reaches call j.disk.below.areas) → (IsFlushOf s j f → IsFlushOf s k g)
+    → CarriesOn at.Device (record { core = s; slots = j; flush = f }) (Ok Quiet) (does.Serving (record { core = s; slots = k; flush = g }))
+flush_goes s j k f g call next calls is rest same gave keeps n p h =
     let left = gave h.calm in
-    let old : Seat = seat_of n p (does.Serving (record { core = s; journal = j; flush = f })) in
+    let old : Seat = seat_of n p (does.Serving (record { core = s; slots = j; flush = f })) in
     let here : seats.flush_on s (journaled_of j) old (flush_of f) ≡ seats.flush_on s (journaled_of j) old (seats.Writing (call ∷ next ∷ calls)) = ap (seats.flush_on s (journaled_of j) old) is in
-    let own : Path Answer (Ok Quiet, seat_of n p (does.Serving (record { core = s; journal = k; flush = g }))) (seats.flush_on s (journaled_of j) old (seats.Writing (call ∷ next ∷ calls))) =
-    rw (behind, left.1, ap (λ (x : Journal NodeDisk). x.area) same, ap (λ (x : Journal NodeDisk). x.gate) same) refl in (
+    let own : Path Answer (Ok Quiet, seat_of n p (does.Serving (record { core = s; slots = k; flush = g }))) (seats.flush_on s (journaled_of j) old (seats.Writing (call ∷ next ∷ calls))) =
+    rw (rest, left.1, ap (λ (x : Journal NodeDisk). x.area) same, ap (λ (x : Journal NodeDisk). x.gate) same, ap (λ (x : Journal NodeDisk). x.epoch) same) refl in
+    let fronts = flush_keeps s j f call next calls is h.flush h.appending.behind left.2 in (
       inl (own ∙ sym here),
       record {
         nodes = h.nodes;
@@ -253,13 +320,15 @@ flush_goes s j k f g call next calls is behind same gave keeps n p h =
         sound = ap (λ (x : Journal NodeDisk). x.failed) same ∙ h.sound;
         calm = left.0;
         flush = keeps h.flush;
+        appending = appends_on j k same (ap (λ (b : Areas). closes_in b j.area) left.1 ∙ fronts.0.0) h.appending;
+        beside = beside_flush g k (next ∷ calls) rest (knows_on j k same (ap (λ (b : Areas). closes_in b (other_area j.area)) left.1 ∙ fronts.0.1) (fronts.1 h.beside));
       },
     )
 
 -- a job stays of the running group over another disk
 pub job_goes : (s : NodeState) (j k : Journal NodeDisk) (job next : gate.Flush) → k ≡ record j { disk = k.disk } → next ≡ job → IsJobOf s j job → IsJobOf s k next
 job_goes s j k job next same is h =
-    rw is (record { node = h.node; area = h.area ∙ sym (ap (λ (x : Journal NodeDisk). x.area) same); gate = h.gate ∙ sym (ap (λ (x : Journal NodeDisk). x.gate) same); body = h.body; group = h.group })
+    rw is (record { node = h.node; area = h.area ∙ sym (ap (λ (x : Journal NodeDisk). x.area) same); gate = h.gate ∙ sym (ap (λ (x : Journal NodeDisk). x.gate) same); body = h.body; group = h.group; lawful = h.lawful; next = ap (λ (x : Journal NodeDisk). x.next) same ∙ h.next })
 
 -- a job's step was refused: by a journal that has failed, and nothing has changed, or by a device call that gave this
 abbrev pub IsRefused : (NodeDisk → Result (Unit {0}) Refusal → NodeDisk → Type 0) → Journal NodeDisk → Journal NodeDisk → Refusal → Type 0
@@ -268,31 +337,31 @@ IsRefused gives j k e =
     ⊎ ((e ≡ because.Device) × (j.failed ≡ false) × (k ≡ record j { disk = k.disk; failed = true }) × gives j.disk (Err because.Device) k.disk × Grew j.disk.faults k.disk.faults)
 
 pub write_refused : (s : NodeState) (j k : Journal NodeDisk) (f : Flush) (e : Refusal) (area : Area) (from : ℕ) (bytes : List ℕ) (calls : List Call) → flush_of f ≡ seats.Writing (Write area from bytes ∷ calls)
-    → IsRefused (λ old r new. FailingWrite MemoryWrite old area from bytes r new) j k e → CarriesOn at.Device (record { core = s; journal = j; flush = f }) (Err e) (does.Faulted k.disk)
+    → IsRefused (λ old r new. FailingWrite MemoryWrite old area from bytes r new) j k e → CarriesOn at.Device (record { core = s; slots = j; flush = f }) (Err e) (does.Faulted k.disk)
 write_refused s j k f e area from bytes calls is (inl failed) n p h = absurd (false≢true (sym h.sound ∙ failed.1))
 write_refused s j k f e area from bytes calls is (inr gave) n p h =
     let left = starved_by j.disk k.disk area from bytes h.calm gave.3 in
-    let old : Seat = seat_of n p (does.Serving (record { core = s; journal = j; flush = f })) in
+    let old : Seat = seat_of n p (does.Serving (record { core = s; slots = j; flush = f })) in
     let here : seats.starve_flush (flush_of f) old ≡ seats.starve_flush (seats.Writing (Write area from bytes ∷ calls)) old = ap (λ (x : seats.Flush). seats.starve_flush x old) is in
     let own : Path Answer (Err e, seat_of n p (does.Faulted k.disk)) (seats.starve_flush (seats.Writing (Write area from bytes ∷ calls)) old) = rw (gave.0, left.1) refl in
     (inr (own ∙ sym here), left.0)
 
-pub sync_refused : (s : NodeState) (j k : Journal NodeDisk) (f : Flush) (e : Refusal) → IsRefused (λ old r new. FailingSync MemorySync old r new) j k e → CarriesOn at.Device (record { core = s; journal = j; flush = f }) (Err e) (does.Faulted k.disk)
+pub sync_refused : (s : NodeState) (j k : Journal NodeDisk) (f : Flush) (e : Refusal) → IsRefused (λ old r new. FailingSync MemorySync old r new) j k e → CarriesOn at.Device (record { core = s; slots = j; flush = f }) (Err e) (does.Faulted k.disk)
 sync_refused s j k f e (inl failed) n p h = absurd (false≢true (sym h.sound ∙ failed.1))
 sync_refused s j k f e (inr gave) n p h = absurd (false≢true (passed_on j.disk.due _ _ h.calm gave.3).0.0)
 
 -- the write that is due in a flush fails
 pub write_failing : (n p : ℕ) (fill : List ℕ) (s : NodeState) (j armed k : Journal NodeDisk) (f : Flush) (e : Refusal) (area : Area) (from : ℕ) (bytes : List ℕ) (calls : List Call) → flush_of f ≡ seats.Writing (Write area from bytes ∷ calls)
     → armed ≡ record j { disk = record j.disk { due = Some fill } } → IsRefused (λ old r new. FailingWrite MemoryWrite old area from bytes r new) armed k e
-    → CarriesFailing n p fill (does.Serving (record { core = s; journal = j; flush = f })) (Err because.Device) (does.Faulted k.disk)
+    → CarriesFailing n p fill (does.Serving (record { core = s; slots = j; flush = f })) (Err because.Device) (does.Faulted k.disk)
 write_failing n p fill s j armed k f e area from bytes calls is arms refused h = by (subst (λ (x : Journal NodeDisk). IsRefused (λ old r new. FailingWrite MemoryWrite old area from bytes r new) x k e) arms refused)
   where
     ends : (x : seats.Flush) → flush_of f ≡ x → (left : (k.disk.below.areas ≡ after_failing fill (Write area from bytes) j.disk.below.areas) ⊎ (k.disk.below.areas ≡ after_starved (Write area from bytes) j.disk.below.areas)) → x ≡ seats.Writing (Write area from bytes ∷ calls)
-        → Fails fill (seat_of n p (does.Serving (record { core = s; journal = j; flush = f }))) (Err because.Device) (seat_of n p (does.Faulted k.disk))
-    ends x g (inl left) e = inl (rw left (sym (ap (λ (y : seats.Flush). seats.fail_flush (after_failing fill) y (seat_of n p (does.Serving (record { core = s; journal = j; flush = f })))) (g ∙ e))))
-    ends x g (inr left) e = inr (rw left (sym (ap (λ (y : seats.Flush). seats.fail_flush after_starved y (seat_of n p (does.Serving (record { core = s; journal = j; flush = f })))) (g ∙ e))))
+        → Fails fill (seat_of n p (does.Serving (record { core = s; slots = j; flush = f }))) (Err because.Device) (seat_of n p (does.Faulted k.disk))
+    ends x g (inl left) e = inl (rw left (sym (ap (λ (y : seats.Flush). seats.fail_flush (after_failing fill) y (seat_of n p (does.Serving (record { core = s; slots = j; flush = f })))) (g ∙ e))))
+    ends x g (inr left) e = inr (rw left (sym (ap (λ (y : seats.Flush). seats.fail_flush after_starved y (seat_of n p (does.Serving (record { core = s; slots = j; flush = f })))) (g ∙ e))))
 
     by : IsRefused (λ old r new. FailingWrite MemoryWrite old area from bytes r new) (record j { disk = record j.disk { due = Some fill } }) k e
-        → Fails fill (seat_of n p (does.Serving (record { core = s; journal = j; flush = f }))) (Err because.Device) (seat_of n p (does.Faulted k.disk)) × (k.disk.due ≡ None)
+        → Fails fill (seat_of n p (does.Serving (record { core = s; slots = j; flush = f }))) (Err because.Device) (seat_of n p (does.Faulted k.disk)) × (k.disk.due ≡ None)
     by (inl failed) = absurd (false≢true (sym h.sound ∙ failed.1))
     by (inr gave) = let left = write_fails fill area from bytes j.disk k.disk (Err because.Device) gave.3 in (ends (flush_of f) refl left.1 is, left.0)

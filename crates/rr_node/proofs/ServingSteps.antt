@@ -30,7 +30,7 @@ use Rattle.rr_journal.specs.Journals.{IsOver}
 use Rattle.rr_node.specs.declared.event.NodeEvent as node
 use Rattle.rr_node.specs.declared.event.NodeEvent.TheVariants as at
 use Rattle.rr_node.specs.declared.event.Outcome.TheVariants as outcome
-use Rattle.rr_node.specs.Seats.{Flush, Resting, Writing, Flushed, Journaled, Serving, Seat, goes_on, refuse, told, send_off, reply_off}
+use Rattle.rr_node.specs.Seats.{Flush, Resting, Writing, Flushed, Switching, Journaled, Serving, Seat, goes_on, refuse, told, send_off, reply_off}
 use Rattle.rr_node.specs.Worlds.{is_settled, journal_at, FlushesSo, IsServing, InStep}
 use Rattle.rr_node.specs.Runs.{MayBe, GoesOn}
 use Rattle.rr_node.proofs.Going.{no_member, goes, stays}
@@ -48,6 +48,7 @@ nothing p at.Device = inl (inl refl)
 nothing p at.Mark = refl
 nothing p at.Send = inl refl
 nothing p at.Acknowledge = inl refl
+nothing p at.Snap = refl
 nothing p at.Restart = refl
 
 -- a refused event is none
@@ -66,10 +67,11 @@ pub record RunsOn (s t : NodeState) : Type 0 where
 group_runs : (s t : NodeState) → RunsOn s t → running_group t ≡ running_group s
 group_runs s t on = λ i. running_group (record s { running = on.running i; marked_end = on.marked_end i })
 
-flushes_on : (n p : ℕ) (s t : NodeState) (journal : Journaled) (start : Images) (both : Areas) (flush : Flush) → RunsOn s t → FlushesSo n p s journal start both flush → FlushesSo n p t journal start both flush
-flushes_on n p s t journal start both Resting on h = (on.running ∙ h.0, h.1)
-flushes_on n p s t journal start both (Writing calls) on h = record { group = h.group; moment = h.moment; runs = group_runs s t on ∙ h.runs; lawful = h.lawful; small = h.small; calls_left = h.calls_left; stands = h.stands }
-flushes_on n p s t journal start both Flushed on h = (h.0, on.running ∙ h.1, h.2)
+pub flushes_on : (n p : ℕ) (s t : NodeState) (journal : Journaled) (kept : List Fact) (start : Images) (both : Areas) (flush : Flush) → RunsOn s t → FlushesSo n p s journal kept start both flush → FlushesSo n p t journal kept start both flush
+flushes_on n p s t journal kept start both Resting on h = (on.running ∙ h.0, h.1)
+flushes_on n p s t journal kept start both (Switching calls) on h = record { stage = h.stage; rests = on.running ∙ h.rests; spelt = h.spelt; small = h.small; calls_left = h.calls_left; stands = h.stands }
+flushes_on n p s t journal kept start both (Writing calls) on h = record { group = h.group; moment = h.moment; runs = group_runs s t on ∙ h.runs; lawful = h.lawful; small = h.small; calls_left = h.calls_left; stands = h.stands }
+flushes_on n p s t journal kept start both Flushed on h = (h.0, on.running ∙ h.1, h.2)
 
 -- an event of the core that leaves its group and what is kept
 module _ (n p : ℕ) (w : World) (both : Areas) (s : NodeState) (journal : Journaled) (flush : Flush) (serves : IsServing n p w both s journal flush) (e : NodeEvent) (proper : IsProperEvent n e) (leaves : LeavesTheGroup e) (comes : worldly.MayCome w p s e) where
@@ -82,10 +84,10 @@ module _ (n p : ℕ) (w : World) (both : Areas) (s : NodeState) (journal : Journ
     heard = heard_after p serves.heard e;
     reached = Happened serves.facts serves.heard s e serves.reached proper;
     in_world = (reached_in_world n p serves.facts serves.heard s serves.reached (is_settled flush) e proper leaves w serves.in_world comes).1;
-    epoch = serves.epoch;
     start = serves.start;
-    over = subst (λ (fs : List Fact). IsOver (journal_at n p journal serves.epoch (length fs)) serves.start fs) (sym kept) serves.over;
-    flushes = flushes_on n p s (after_event s e) journal serves.start both flush on serves.flushes;
+    over = subst (λ (fs : List Fact). IsOver (journal_at n p journal (length fs)) serves.start fs) (sym kept) serves.over;
+    flushes = flushes_on n p s (after_event s e) journal ((after_steps w (steps_of_event p s e)).kept p) serves.start both flush on
+        (subst (λ (fs : List Fact). FlushesSo n p s journal fs serves.start both flush) (sym kept) serves.flushes);
   }
 
 -- ---- inputs
@@ -122,7 +124,7 @@ module _ (n p : ℕ) (w : World) (both : Areas) (s : NodeState) (journal : Journ
       by None =
           let says = event_says p s (Told input) w in
           let same = input_stays input s in
-          goes n p (MayBe p event) w (Ok outcome.Quiet) (seated n p both (Serving (node_step input s) journal flush)) (steps_of_event p s (Told input)) may
+          goes n p (MayBe p event) w (Ok outcome.Quiet) (seated n p both (Serving (node_step input s) journal flush)) (steps_of_event p s (Told input)) tt may
           (event_runs n p w both s journal flush h.doing (Told input) proper tt comes) (event_at p s (Told input))
           (record {
             exists = h.exists;
@@ -167,7 +169,7 @@ module _ (n p : ℕ) (w : World) (both : Areas) (s : NodeState) (journal : Journ
           let names = reached_names_rounds n p serves.facts serves.heard s serves.reached m is in
           let steps : steps_of_event p s Left ≡ Send p m ∷ [] = ap (λ (o : Option Message). option_map_or (λ x. Send p x ∷ []) o []) is in
           let kept : (after_steps w (steps_of_event p s Left)).kept p ≡ w.kept p = ap (λ (ss : List Step). (after_steps w ss).kept p) steps in
-          goes n p (MayBe p at.Send) w (Ok (outcome.Left m)) (seated n p both (Serving (message_left s) journal flush)) (Send p m ∷ []) (inr (m, refl))
+          goes n p (MayBe p at.Send) w (Ok (outcome.Left m)) (seated n p both (Serving (message_left s) journal flush)) (Send p m ∷ []) tt (inr (m, refl))
           (subst (λ (ss : List Step). IsRunFrom n w ss) steps (event_runs n p w both s journal flush h.doing Left tt tt comes)) (refl, tt)
           (record {
             exists = h.exists;
@@ -196,7 +198,7 @@ module _ (n p : ℕ) (w : World) (both : Areas) (s : NodeState) (journal : Journ
       replied q None steps = does_nothing n p w at.Acknowledge (seated n p both (Serving s journal flush)) h
       replied q (Some reply) steps =
           let kept : (after_steps w (steps_of_event p s Answered)).kept p ≡ w.kept p = ap (λ (ss : List Step). (after_steps w ss).kept p) steps in
-          goes n p (MayBe p at.Acknowledge) w (Ok (outcome.Replied q reply)) (seated n p both (Serving (acknowledged s) journal flush)) (world.Acknowledge p q reply ∷ []) (inr (q, reply, refl))
+          goes n p (MayBe p at.Acknowledge) w (Ok (outcome.Replied q reply)) (seated n p both (Serving (acknowledged s) journal flush)) (world.Acknowledge p q reply ∷ []) tt (inr (q, reply, refl))
           (subst (λ (ss : List Step). IsRunFrom n w ss) steps (event_runs n p w both s journal flush h.doing Answered tt tt tt)) (refl, tt)
           (record {
             exists = h.exists;

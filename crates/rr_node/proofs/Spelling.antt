@@ -1,5 +1,6 @@
 -- What a node writes to its disk are bytes.
-use Rattle.std.proofs.Common.{◌≡◌, ◌⊎◌, inl, inr, ℕ, ◌<◌, ◌≤◌, Bool, true, ◌&&◌, ◌||◌, List, [], ◌∷◌, ◌++◌, length, leb, eqb, sym, subst, arith}
+use Rattle.std.proofs.Common.{◌≡◌, ◌⊎◌, inl, inr, ℕ, ◌<◌, ◌≤◌, Bool, true, ◌&&◌, ◌||◌, List, [], ◌∷◌, ◌++◌, length, leb, eqb, sym, subst, arith, Option, None, Some}
+use Rattle.std.specs.Prelude.{IfSome}
 use Rattle.std.specs.List.{flat_map, AllByRecursion, list_all}
 use Rattle.std.proofs.lemmas.Bool.{and_parts, or_cases, leb-true, eqb-true}
 use Rattle.std.proofs.lemmas.List.Concat.{flat_map-cons}
@@ -11,12 +12,16 @@ use Rattle.rr_types.specs.declared.fact.Fact.{Fact}
 use Rattle.rr_types.specs.declared.fact.Fact.TheVariants.{Enter, Propose, Adopt, Decide}
 use Rattle.rr_types.specs.Groups.{Grouped}
 use Rattle.rr_types.specs.Names.{IsName, IsValue, is_name_byte, is_value_byte}
-use Rattle.rr_types.specs.Rounds.{Estimated}
+use Rattle.rr_types.specs.declared.promise.Entry.{Entry}
+use Rattle.rr_types.specs.declared.promise.Standing.{Standing}
+use Rattle.rr_types.specs.declared.promise.Standing.TheVariants.{Decided, Open}
+use Rattle.rr_types.specs.Rounds.{Estimated, coordinator_of}
 use Rattle.rr_frame.specs.Numbers.{number_bytes}
 use Rattle.rr_frame.specs.CommandFormat.{text_bytes, op_bytes, command_bytes, IsLawfulOp, IsLawfulCommand}
 use Rattle.rr_frame.specs.FactFormat.{estimate_bytes, fact_bytes, IsLawfulEstimate, IsLawfulFact}
 use Rattle.rr_frame.specs.GroupFormat.{group_bytes, IsLawfulGroup}
-use Rattle.rr_frame.specs.SnapshotFormat.{owner_bytes, contents_bytes, snapshot_bytes, entry_bytes}
+use Rattle.rr_frame.specs.Snapshots.{Snapped}
+use Rattle.rr_frame.specs.SnapshotFormat.{proposal_bytes, open_bytes, standing_bytes, entry_bytes, owner_bytes, contents_bytes, snapshot_bytes, IsLawfulStanding, IsLawfulEntry}
 use Rattle.rr_frame.proofs.FieldLaws.{IsBytes-high_first}
 use Rattle.rr_journal.specs.Calls.{frame_bytes}
 use Rattle.rr_journal.specs.OpeningTable.{first_snapshot}
@@ -104,14 +109,46 @@ frame_fits payload fit =
 pub body_fits : (g : Grouped) → IsLawfulGroup g → Bytes (frame_bytes (group_bytes g))
 body_fits g is = frame_fits (group_bytes g) (group_fits g is)
 
--- the snapshot that formatting writes
-snapshot_fits : (n p : ℕ) → Bytes (snapshot_bytes (first_snapshot n p))
-unfolding snapshot_bytes owner_bytes contents_bytes
-snapshot_fits n p =
-    both_fit (number_bytes 1 2 ++ (number_bytes 1 p ++ number_bytes 1 n)) (number_bytes 8 1 ++ (number_bytes 8 0 ++ (number_bytes 4 0 ++ flat_map entry_bytes [])))
-    (both_fit (number_bytes 1 2) (number_bytes 1 p ++ number_bytes 1 n) (number_fits 1 2) (both_fit (number_bytes 1 p) (number_bytes 1 n) (number_fits 1 p) (number_fits 1 n)))
-    (both_fit (number_bytes 8 1) (number_bytes 8 0 ++ (number_bytes 4 0 ++ flat_map entry_bytes [])) (number_fits 8 1)
-    (both_fit (number_bytes 8 0) (number_bytes 4 0 ++ flat_map entry_bytes []) (number_fits 8 0) (both_fit (number_bytes 4 0) (flat_map entry_bytes []) (number_fits 4 0) (All-nil (λ b. b < 256)))))
+-- ---- snapshots
 
+proposal_fits : (v : Option Command) → IfSome v IsLawfulCommand → Bytes (proposal_bytes v)
+proposal_fits None is = number_fits 1 0
+proposal_fits (Some v) is = both_fit (number_bytes 1 1) (command_bytes v) (number_fits 1 1) (command_fits v is)
+
+proposed : (n p r : ℕ) (v : Option Command) → IfSome v (λ c. (coordinator_of r n ≡ p) × IsLawfulCommand c) → IfSome v IsLawfulCommand
+proposed n p r None is = tt
+proposed n p r (Some v) is = is.1
+
+standing_fits : (n p : ℕ) (s : Standing) → IsLawfulStanding n p s → Bytes (standing_bytes s)
+unfolding standing_bytes open_bytes
+standing_fits n p (Decided v) is = both_fit (number_bytes 1 1) (command_bytes v) (number_fits 1 1) (command_fits v is)
+standing_fits n p (Open o) is =
+    both_fit (number_bytes 1 2) (number_bytes 4 o.round ++ (number_bytes 4 o.stamp ++ (command_bytes o.estimate ++ proposal_bytes o.proposal))) (number_fits 1 2)
+    (both_fit (number_bytes 4 o.round) (number_bytes 4 o.stamp ++ (command_bytes o.estimate ++ proposal_bytes o.proposal)) (number_fits 4 o.round)
+    (both_fit (number_bytes 4 o.stamp) (command_bytes o.estimate ++ proposal_bytes o.proposal) (number_fits 4 o.stamp)
+    (both_fit (command_bytes o.estimate) (proposal_bytes o.proposal) (command_fits o.estimate is.estimate) (proposal_fits o.proposal (proposed n p o.round o.proposal is.proposal)))))
+
+entries_fit : (n p : ℕ) (entries : List Entry) → AllByRecursion (IsLawfulEntry n p) entries → Bytes (flat_map entry_bytes entries)
+unfolding entry_bytes
+entries_fit n p [] is = All-nil (λ b. b < 256)
+entries_fit n p (e ∷ entries) is =
+    subst Bytes (sym (flat_map-cons entry_bytes e entries))
+    (both_fit (number_bytes 4 e.instance ++ standing_bytes e.standing) (flat_map entry_bytes entries) (both_fit (number_bytes 4 e.instance) (standing_bytes e.standing) (number_fits 4 e.instance) (standing_fits n p e.standing is.0.standing))
+    (entries_fit n p entries is.1))
+
+snapshot_fits : (s : Snapped) → AllByRecursion (IsLawfulEntry s.nodes s.node) s.entries → Bytes (snapshot_bytes s)
+unfolding snapshot_bytes owner_bytes contents_bytes
+snapshot_fits s is =
+    both_fit (number_bytes 1 2 ++ (number_bytes 1 s.node ++ number_bytes 1 s.nodes)) (number_bytes 8 s.epoch ++ (number_bytes 8 s.next ++ (number_bytes 4 (length s.entries) ++ flat_map entry_bytes s.entries)))
+    (both_fit (number_bytes 1 2) (number_bytes 1 s.node ++ number_bytes 1 s.nodes) (number_fits 1 2) (both_fit (number_bytes 1 s.node) (number_bytes 1 s.nodes) (number_fits 1 s.node) (number_fits 1 s.nodes)))
+    (both_fit (number_bytes 8 s.epoch) (number_bytes 8 s.next ++ (number_bytes 4 (length s.entries) ++ flat_map entry_bytes s.entries)) (number_fits 8 s.epoch)
+    (both_fit (number_bytes 8 s.next) (number_bytes 4 (length s.entries) ++ flat_map entry_bytes s.entries) (number_fits 8 s.next)
+    (both_fit (number_bytes 4 (length s.entries)) (flat_map entry_bytes s.entries) (number_fits 4 (length s.entries)) (entries_fit s.nodes s.node s.entries is))))
+
+-- the frame of a snapshot whose entries have a spelling
+pub snapped_body_fits : (s : Snapped) → AllByRecursion (IsLawfulEntry s.nodes s.node) s.entries → Bytes (frame_bytes (snapshot_bytes s))
+snapped_body_fits s is = frame_fits (snapshot_bytes s) (snapshot_fits s is)
+
+-- the one that formatting writes has none
 pub first_body_fits : (n p : ℕ) → Bytes (frame_bytes (snapshot_bytes (first_snapshot n p)))
-first_body_fits n p = frame_fits (snapshot_bytes (first_snapshot n p)) (snapshot_fits n p)
+first_body_fits n p = snapped_body_fits (first_snapshot n p) tt

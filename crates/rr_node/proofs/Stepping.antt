@@ -22,6 +22,7 @@ use Rattle.rr_node.proofs.Going.{stays, given}
 use Rattle.rr_node.proofs.Falling.{seated, stopped, faulted, down_falls, opening_down, starvation, opening_fails}
 use Rattle.rr_node.proofs.Opens.{opens_in_step}
 use Rattle.rr_node.proofs.ServingSteps.{nothing, refuses, submits, hears, suspects, ticks, advances, sends, replies}
+use Rattle.rr_node.proofs.SwitchSteps.{snaps_in_step}
 use Rattle.rr_node.proofs.FlushSteps.{takes_in_step, marks_in_step, device_in_step, starves_in_step}
 
 module _ (n p : ℕ) (few : n ≤ 7) (w : World) (areas : Areas) where
@@ -40,6 +41,7 @@ module _ (n p : ℕ) (few : n ≤ 7) (w : World) (areas : Areas) where
   idle_in_step doing e down h at.Mark = refuses n p w at.Mark (seated n p areas doing) e h
   idle_in_step doing e down h at.Send = refuses n p w at.Send (seated n p areas doing) e h
   idle_in_step doing e down h at.Acknowledge = refuses n p w at.Acknowledge (seated n p areas doing) e h
+  idle_in_step doing e down h at.Snap = refuses n p w at.Snap (seated n p areas doing) e h
 
   -- one that opens makes its device calls
   opening_in_step : (phase : opening.Phase) → InStep n p (seated n p areas (Opening phase)) w → (event : NodeEvent) → (let x = await_opening phase (seated n p areas (Opening phase)) event in GoesOn n p (MayBe p event) w x.0 x.1)
@@ -54,6 +56,7 @@ module _ (n p : ℕ) (few : n ≤ 7) (w : World) (areas : Areas) where
   opening_in_step phase h at.Mark = refuses n p w at.Mark (seated n p areas (Opening phase)) because.Down h
   opening_in_step phase h at.Send = refuses n p w at.Send (seated n p areas (Opening phase)) because.Down h
   opening_in_step phase h at.Acknowledge = refuses n p w at.Acknowledge (seated n p areas (Opening phase)) because.Down h
+  opening_in_step phase h at.Snap = refuses n p w at.Snap (seated n p areas (Opening phase)) because.Down h
 
   -- one that is up does as it is told
   serving_in_step : (s : NodeState) (journal : Journaled) (flush : Flush) → InStep n p (seated n p areas (Serving s journal flush)) w → (event : NodeEvent) → MayCome n p w event
@@ -68,6 +71,7 @@ module _ (n p : ℕ) (few : n ≤ 7) (w : World) (areas : Areas) where
   serving_in_step s journal flush h at.Mark comes = λ spelt. marks_in_step n p w areas s journal flush h
   serving_in_step s journal flush h at.Send comes = λ spelt. sends n p w areas s journal flush h
   serving_in_step s journal flush h at.Acknowledge comes = λ spelt. replies n p w areas s journal flush h
+  serving_in_step s journal flush h at.Snap comes = snaps_in_step n p w areas s journal flush h
   serving_in_step s journal flush h at.Restart comes = λ spelt. refuses n p w at.Restart (seated n p areas (Serving s journal flush)) because.Busy h
 
   -- where memory is there
@@ -114,6 +118,7 @@ module _ (n p : ℕ) (few : n ≤ 7) (w : World) (areas : Areas) where
   starves doing h at.Mark = refuses n p w at.Mark (seated n p areas doing) because.OutOfMemory h
   starves doing h at.Send = refuses n p w at.Send (seated n p areas doing) because.OutOfMemory h
   starves doing h at.Acknowledge = refuses n p w at.Acknowledge (seated n p areas doing) because.OutOfMemory h
+  starves doing h at.Snap = refuses n p w at.Snap (seated n p areas doing) because.OutOfMemory h
   starves doing h at.Restart = refuses n p w at.Restart (seated n p areas doing) because.OutOfMemory h
 
 pub steps_in_step : (n p : ℕ) → n ≤ 7 → StepsInStep n p

@@ -1,5 +1,5 @@
 -- What the events of a node with its disk are in the world: which steps, what they send, and what they tell.
-use Rattle.std.specs.Prelude.{◌≡◌, ◌≢◌, ◌⊎◌, ℕ, ◌<◌, List, [], ◌∷◌, ◌++◌, map, All, IfSome, Result, Ok, Err}
+use Rattle.std.specs.Prelude.{◌≡◌, ◌≢◌, ◌⊎◌, ℕ, ◌<◌, List, [], ◌∷◌, ◌++◌, map, All, IfSome, IfErr, Result, Ok, Err}
 use Rattle.std.specs.List.{Contains}
 use Rattle.rr_types.specs.declared.command.RequestNo.{RequestNo}
 use Rattle.rr_types.specs.declared.command.Reply.{Reply}
@@ -12,11 +12,12 @@ use Rattle.rr_model.specs.Laws.{after_steps}
 use Rattle.rr_model.specs.NodeReached.{NamesRounds}
 use Rattle.rr_model.specs.NodeStep.{running_group}
 use Rattle.rr_frame.specs.GroupFormat.{IsLawfulGroup}
+use Rattle.rr_frame.specs.SnapshotFormat.{IsLawfulSnapshot}
 use Rattle.rr_node.specs.declared.event.NodeEvent.{NodeEvent}
 use Rattle.rr_node.specs.declared.event.NodeEvent.TheVariants as at
 use Rattle.rr_node.specs.declared.event.Outcome.{Outcome}
 use Rattle.rr_node.specs.declared.event.Outcome.TheVariants.{Quiet, Left, Replied, Opened}
-use Rattle.rr_node.specs.Seats.{Resting, Writing, Flushed, Doing, Stopped, Faulted, Opening, Serving, Seat, Gives, Fails, crashed, new_seat}
+use Rattle.rr_node.specs.Seats.{Resting, Writing, Flushed, Switching, Doing, Stopped, Faulted, Opening, Serving, Seat, Gives, Fails, crashed, new_seat, snapshot_of}
 use Rattle.rr_node.specs.Worlds.{InStep}
 
 -- the messages that an answer puts on the wire
@@ -47,6 +48,7 @@ MayCome n p w at.Device = Unit {0}
 MayCome n p w at.Mark = Unit {0}
 MayCome n p w at.Send = Unit {0}
 MayCome n p w at.Acknowledge = Unit {0}
+MayCome n p w at.Snap = Unit {0}
 MayCome n p w at.Restart = Unit {0}
 
 -- nothing, or staged facts
@@ -77,13 +79,16 @@ MayBe p at.Device steps = IsDeviceCall p steps
 MayBe p at.Mark steps = steps ≡ []
 MayBe p at.Send steps = (steps ≡ []) ⊎ ((m : Message) × (steps ≡ Send p m ∷ []))
 MayBe p at.Acknowledge steps = (steps ≡ []) ⊎ ((q : RequestNo) × (reply : Reply) × (steps ≡ world.Acknowledge p q reply ∷ []))
+MayBe p at.Snap steps = steps ≡ []
 MayBe p at.Restart steps = steps ≡ []
 
 -- an event of node p of n that answers so and leaves this seat is a run of such steps, behind which they are in step:
--- it sends and tells what was answered, a message of its own that names rounds above 0, and the other nodes stay in step
+-- where it was refused the node at most goes down, it sends and tells what was answered, a message of its own that names
+-- rounds above 0, and the other nodes stay in step
 pub record GoesOn (n p : ℕ) (May : List Step → Type 0) (w : World) (answer : Result Outcome Refusal) (next : Seat) : Type 0 where
   pub steps : List Step
   pub may : May steps
+  pub refused : IfErr answer (λ e. MayFall p steps)
   pub run : IsRunFrom n w steps
   pub in_step : InStep n p next (after_steps w steps)
   pub wire : (after_steps w steps).wire ≡ w.wire ++ sent_by answer
@@ -91,7 +96,7 @@ pub record GoesOn (n p : ℕ) (May : List Step → Type 0) (w : World) (answer :
   pub sent : (m : Message) → Contains (sent_by answer) m → (m.from ≡ p) × NamesRounds m.body
   pub beside : (q : ℕ) (other : Seat) → q ≢ p → InStep n q other w → InStep n q other (after_steps w steps)
 
--- the group that a node is flushing has a spelling
+-- the group that a node is flushing has a spelling, or the snapshot to which it switches
 abbrev pub IsSpelt : Doing → Type 0
 IsSpelt Stopped = Unit {0}
 IsSpelt Faulted = Unit {0}
@@ -99,6 +104,7 @@ IsSpelt (Opening phase) = Unit {0}
 IsSpelt (Serving s journal Resting) = Unit {0}
 IsSpelt (Serving s journal (Writing calls)) = IfSome (running_group s) IsLawfulGroup
 IsSpelt (Serving s journal Flushed) = Unit {0}
+IsSpelt (Serving s journal (Switching calls)) = IsLawfulSnapshot (snapshot_of s journal)
 
 -- a node that was never started is in step with the empty world
 abbrev pub StartsInStep : ℕ → ℕ → Type 0

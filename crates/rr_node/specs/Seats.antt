@@ -1,40 +1,39 @@
 -- A node with its disk, from its first restart on: what each event does to it.
-use Rattle.std.specs.Prelude.{◌≡◌, ◌⊎◌, ℕ, ◌+◌, ◌-◌, ◌^◌, Bool, true, false, ◌&&◌, not, ◌==◌, nat_lt, nat_le, if◌then◌else◌, List, [], ◌∷◌, length, Option, None, Some, is_none, Result, Ok, Err}
+use Rattle.std.specs.Prelude.{◌≡◌, ◌⊎◌, ℕ, ◌+◌, ◌-◌, ◌^◌, Bool, ◌&&◌, ◌==◌, nat_lt, if◌then◌else◌, List, [], ◌∷◌, length, Result, Ok, Err}
 use Rattle.std.specs.Option.{option_map_or}
-use Rattle.rr_types.specs.declared.command.Command.{Command}
-use Rattle.rr_types.specs.declared.command.RequestNo.{RequestNo}
-use Rattle.rr_types.specs.declared.command.Reply.{Reply}
-use Rattle.rr_types.specs.declared.fact.Fact.{Fact}
-use Rattle.rr_types.specs.declared.message.Message.{Message}
-use Rattle.rr_types.specs.declared.promise.Entry.{Entry}
 use Rattle.rr_types.specs.declared.refusal.Refusal.{Refusal}
 use Rattle.rr_types.specs.declared.refusal.Refusal.TheVariants as because
-use Rattle.rr_types.specs.Groups.{Grouped}
-use Rattle.rr_types.specs.Registry.{Bindings, registry_of, reply_of}
-use Rattle.rr_model.specs.NodeState.{NodeState, decided_prefix, decided_from}
-use Rattle.rr_model.specs.NodeStep.{Input, Submit, Hear, Suspect, Tick, Advance, node_step, refusal_of, group_taken, group_put_back, marked_running, running_group, next_leaving, message_left, next_acknowledged, acknowledged, started}
+use Rattle.rr_types.specs.Registry.{registry_of, reply_of}
+use Rattle.rr_model.specs.NodeState.{NodeState, decided_prefix}
+use Rattle.rr_model.specs.NodeStep.{Input, Submit, Hear, Suspect, Tick, Advance, node_step, refusal_of, group_taken, marked_running, running_group, next_leaving, message_left, next_acknowledged, acknowledged, started}
 use Rattle.rr_disk.specs.declared.area.Area.{Area}
 use Rattle.rr_disk.specs.Areas.{Areas, extent_of, read_of, at_rest}
 use Rattle.rr_disk.specs.Crash.{crash_images, restarted}
 use Rattle.rr_frame.specs.GroupFormat.{group_bytes}
+use Rattle.rr_frame.specs.Snapshots.{Snapped}
+use Rattle.rr_frame.specs.SnapshotFormat.{snapshot_bytes}
 use Rattle.rr_journal.specs.Image.{Content}
 use Rattle.rr_node.specs.declared.event.NodeEvent.{NodeEvent}
 use Rattle.rr_node.specs.declared.event.NodeEvent.TheVariants as at
 use Rattle.rr_node.specs.declared.event.Outcome.{Outcome}
 use Rattle.rr_node.specs.declared.event.Outcome.TheVariants.{Quiet, Left, Replied, Opened}
 use Rattle.rr_journal.specs.Calls.{Call, Read, Write, Sync, after_call, after_starved, after_failing, append_calls}
+use Rattle.rr_journal.specs.OtherAreas.{other_area, closes_in}
+use Rattle.rr_slots.specs.Switches.{switch_calls}
 use Rattle.rr_journal.specs.Openings.{Phase, Settling, After, Goes, Opens, Stops, due_call, after_opening_call}
 
--- a flush: none, the device calls that are left of it, or a synced group that isn't marked yet
+-- a job: none, the device calls that are left of a flush, a synced group that isn't marked yet, or the calls that are left of a switch
 pub data Flush : Type 0 where
   Resting : Flush
   Writing : List Call → Flush
   Flushed : Flush
+  Switching : List Call → Flush
 
--- where the journal of an open disk appends: the active area, its last gate
+-- where the journal of an open disk appends: the active area, its last gate, its epoch
 pub record Journaled : Type 0 where
   pub area : Area
   pub gate : ℕ
+  pub epoch : ℕ
 
 -- what a node does
 pub data Doing : Type 0 where
@@ -70,7 +69,7 @@ goes_on outcome doing seat = (Ok outcome, record seat { doing = doing })
 abbrev pub serves : Area → Content → Seat → Answer
 serves area c seat =
     let s = started seat.nodes seat.node c.promise c.next in
-    goes_on (Opened c.next (length (decided_prefix s)) (registry_of (decided_prefix s))) (Serving s (record { area = area; gate = c.gate }) Resting) seat
+    goes_on (Opened c.next (length (decided_prefix s)) (registry_of (decided_prefix s))) (Serving s (record { area = area; gate = c.gate; epoch = c.epoch }) Resting) seat
 
 -- the bytes that a device call reads
 abbrev pub read_by : Call → Areas → List ℕ
@@ -93,13 +92,24 @@ open_on seat phase =
 abbrev pub journal_behind : NodeState → Journaled → Journaled
 journal_behind s journal = record journal { gate = journal.gate + 5 + option_map_or (λ g. length (group_bytes g)) (running_group s) 0 }
 
--- the next device call of a flush
+-- the snapshot of the marked facts with the next epoch
+abbrev pub snapshot_of : NodeState → Journaled → Snapped
+snapshot_of s journal = record { node = s.node; nodes = s.nodes; epoch = journal.epoch + 1; next = s.marked_end; entries = s.marked }
+
+-- where the journal appends once the other area is active: behind that snapshot
+abbrev pub journal_switched : NodeState → Journaled → Journaled
+journal_switched s journal = record { area = other_area journal.area; gate = 5 + length (snapshot_bytes (snapshot_of s journal)); epoch = journal.epoch + 1 }
+
+-- the next device call of a job
 abbrev pub flush_on : NodeState → Journaled → Seat → Flush → Answer
 flush_on s journal seat Resting = (Ok Quiet, seat)
 flush_on s journal seat Flushed = (Ok Quiet, seat)
 flush_on s journal seat (Writing []) = (Ok Quiet, seat)
 flush_on s journal seat (Writing (call ∷ [])) = goes_on Quiet (Serving s (journal_behind s journal) Flushed) (record seat { areas = after_call call seat.areas })
 flush_on s journal seat (Writing (call ∷ next ∷ calls)) = goes_on Quiet (Serving s journal (Writing (next ∷ calls))) (record seat { areas = after_call call seat.areas })
+flush_on s journal seat (Switching []) = (Ok Quiet, seat)
+flush_on s journal seat (Switching (call ∷ [])) = goes_on Quiet (Serving s (journal_switched s journal) Resting) (record seat { areas = after_call call seat.areas })
+flush_on s journal seat (Switching (call ∷ next ∷ calls)) = goes_on Quiet (Serving s journal (Switching (next ∷ calls))) (record seat { areas = after_call call seat.areas })
 
 -- an input to a serving node
 abbrev pub told : Input → NodeState → Journaled → Flush → Seat → Answer
@@ -118,11 +128,27 @@ take_up s journal Resting seat =
     else refuse because.TooLarge seat)
 take_up s journal (Writing calls) seat = refuse because.Busy seat
 take_up s journal Flushed seat = refuse because.Busy seat
+take_up s journal (Switching calls) seat = refuse because.Busy seat
+
+-- whether the snapshot has a next epoch below 2^64, and ends below byte 4,294,967,296 of its area
+abbrev pub may_snap : NodeState → Journaled → Bool
+may_snap s journal = nat_lt (journal.epoch + 1) (2 ^ 64) && nat_lt (6 + length (snapshot_bytes (snapshot_of s journal))) (2 ^ 32)
+
+-- a switch to a snapshot of the marked facts in the other area begins, unless a job runs or that would be too large
+abbrev pub snap_up : NodeState → Journaled → Flush → Seat → Answer
+snap_up s journal Resting seat =
+    if may_snap s journal
+    then goes_on Quiet (Serving s journal (Switching (switch_calls (other_area journal.area) (closes_in seat.areas (other_area journal.area)) (snapshot_bytes (snapshot_of s journal))))) seat
+    else refuse because.TooLarge seat
+snap_up s journal (Writing calls) seat = refuse because.Busy seat
+snap_up s journal Flushed seat = refuse because.Busy seat
+snap_up s journal (Switching calls) seat = refuse because.Busy seat
 
 -- the synced group is marked
 abbrev pub mark_up : NodeState → Journaled → Flush → Seat → Answer
 mark_up s journal Resting seat = (Ok Quiet, seat)
 mark_up s journal (Writing calls) seat = (Ok Quiet, seat)
+mark_up s journal (Switching calls) seat = (Ok Quiet, seat)
 mark_up s journal Flushed seat = goes_on Quiet (Serving (marked_running s) journal Resting) seat
 
 -- the oldest message that may leave goes
@@ -145,6 +171,7 @@ serve s journal flush seat at.Device = flush_on s journal seat flush
 serve s journal flush seat at.Mark = mark_up s journal flush seat
 serve s journal flush seat at.Send = send_off s journal flush seat
 serve s journal flush seat at.Acknowledge = reply_off s journal flush seat
+serve s journal flush seat at.Snap = snap_up s journal flush seat
 serve s journal flush seat at.Restart = refuse because.Busy seat
 
 -- an event at a node that is down, opening or failed
@@ -160,6 +187,7 @@ wait at.Device seat e = refuse e seat
 wait at.Mark seat e = refuse e seat
 wait at.Send seat e = refuse e seat
 wait at.Acknowledge seat e = refuse e seat
+wait at.Snap seat e = refuse e seat
 
 -- a node that opens makes its device calls and refuses the rest
 abbrev pub await_opening : Phase → Seat → NodeEvent → Answer
@@ -174,6 +202,7 @@ await_opening phase seat at.Take = refuse because.Down seat
 await_opening phase seat at.Mark = refuse because.Down seat
 await_opening phase seat at.Send = refuse because.Down seat
 await_opening phase seat at.Acknowledge = refuse because.Down seat
+await_opening phase seat at.Snap = refuse because.Down seat
 
 -- an event at a node, by what the node does
 abbrev pub by_doing : NodeEvent → Seat → Doing → Answer
@@ -196,18 +225,20 @@ starve_opening (Read area) seat = (Err because.OutOfMemory, record seat { doing 
 starve_opening (Write area at bytes) seat = (Err because.Device, record seat { doing = Faulted; areas = after_starved (Write area at bytes) seat.areas })
 starve_opening Sync seat = (Err because.OutOfMemory, record seat { doing = Stopped; areas = after_call Sync seat.areas })
 
--- a device call of a flush for which memory was wanting: a write fails
+-- a device call of a job for which memory was wanting: a write fails
 abbrev pub starve_call : Call → Seat → Answer
 starve_call (Read area) seat = refuse because.OutOfMemory seat
 starve_call (Write area at bytes) seat = (Err because.Device, record seat { doing = Faulted; areas = after_starved (Write area at bytes) seat.areas })
 starve_call Sync seat = refuse because.OutOfMemory seat
 
--- a flush for which memory was wanting
+-- a job for which memory was wanting
 abbrev pub starve_flush : Flush → Seat → Answer
 starve_flush Resting seat = refuse because.OutOfMemory seat
 starve_flush Flushed seat = refuse because.OutOfMemory seat
 starve_flush (Writing []) seat = refuse because.OutOfMemory seat
 starve_flush (Writing (call ∷ calls)) seat = starve_call call seat
+starve_flush (Switching []) seat = refuse because.OutOfMemory seat
+starve_flush (Switching (call ∷ calls)) seat = starve_call call seat
 
 -- the next device call of a node, where memory is wanting for it
 abbrev pub starve_device : Doing → Seat → Answer
@@ -228,6 +259,7 @@ starve at.Device seat = starve_device seat.doing seat
 starve at.Mark seat = refuse because.OutOfMemory seat
 starve at.Send seat = refuse because.OutOfMemory seat
 starve at.Acknowledge seat = refuse because.OutOfMemory seat
+starve at.Snap seat = refuse because.OutOfMemory seat
 starve at.Restart seat = refuse because.OutOfMemory seat
 
 -- what a node may answer to an event, and be after it: what it answers where memory is there, or where it is wanting
@@ -238,12 +270,14 @@ Gives event seat result next = ((result, next) ≡ seat_step event seat) ⊎ ((r
 abbrev pub fall : (Call → Areas → Areas) → Call → Seat → Answer
 fall leaves call seat = (Err because.Device, record seat { doing = Faulted; areas = leaves call seat.areas })
 
--- the next device call of a flush fails; where none is due nothing happens
+-- the next device call of a job fails; where none is due nothing happens
 abbrev pub fail_flush : (Call → Areas → Areas) → Flush → Seat → Answer
 fail_flush leaves Resting seat = (Ok Quiet, seat)
 fail_flush leaves Flushed seat = (Ok Quiet, seat)
 fail_flush leaves (Writing []) seat = (Ok Quiet, seat)
 fail_flush leaves (Writing (call ∷ calls)) seat = fall leaves call seat
+fail_flush leaves (Switching []) seat = (Ok Quiet, seat)
+fail_flush leaves (Switching (call ∷ calls)) seat = fall leaves call seat
 
 -- the next device call of a node fails
 abbrev pub fail_doing : (Call → Areas → Areas) → Doing → Seat → Answer

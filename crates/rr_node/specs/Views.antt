@@ -1,5 +1,5 @@
 -- How the code's node stands for a seat, and what keeps its parts together.
-use Rattle.std.specs.Prelude.{◌≡◌, ◌⊎◌, ℕ, ◌+◌, ◌<◌, ◌^◌, false, length, List, [], ◌∷◌, Option, None, Some, Result, Ok, Err}
+use Rattle.std.specs.Prelude.{◌≡◌, ◌⊎◌, ℕ, ◌+◌, ◌<◌, ◌^◌, true, false, length, List, [], ◌∷◌, Option, None, Some, Result, Ok, Err}
 use Rattle.rr_types.specs.declared.fact.Fact.{Fact}
 use Rattle.rr_types.specs.declared.promise.Entry.{Entry}
 use Rattle.rr_types.specs.declared.refusal.Refusal.{Refusal}
@@ -10,7 +10,8 @@ use Rattle.rr_disk.specs.Areas.{Areas}
 use Rattle.rr_disk.specs.Crash.{Images, IsCrashImage, restarted}
 use Rattle.rr_disk.specs.Failing.{FailingState}
 use Rattle.rr_disk.specs.Memory.{MemoryState}
-use Rattle.rr_frame.specs.GroupFormat.{group_bytes}
+use Rattle.rr_frame.specs.GroupFormat.{group_bytes, IsLawfulGroup}
+use Rattle.rr_frame.specs.SnapshotFormat.{snapshot_bytes, IsLawfulSnapshot}
 use Rattle.rr_gate.specs.Flushes as gate
 use Rattle.rr_journal.specs.declared.journal.Journal.{Journal}
 use Rattle.rr_journal.specs.Calls.{Write, Sync, frame_bytes}
@@ -18,7 +19,10 @@ use Rattle.rr_journal.specs.declared.opening.Phase as opening
 use Rattle.rr_journal.specs.declared.opening.Phase.TheVariants as phase
 use Rattle.rr_journal.specs.Journals.{Holds}
 use Rattle.rr_journal.specs.OpeningTable.{OpensWith}
+use Rattle.rr_journal.specs.OtherAreas.{other_area, closes_in, IsOtherKnown, KnowsFronts}
 use Rattle.rr_journal.specs.Phases.{phase_of}
+use Rattle.rr_slots.specs.declared.switch.Stage.TheVariants as stage
+use Rattle.rr_slots.specs.Switches.{Switch, calls_from}
 use Rattle.rr_node.specs.declared.doing.Doing as code
 use Rattle.rr_node.specs.declared.doing.Doing.TheVariants as does
 use Rattle.rr_node.specs.declared.serving.Serving.{Serving}
@@ -34,11 +38,15 @@ use Rattle.rr_node.specs.Seats.{Seat, Journaled, Answer, Gives, Fails, serves}
 abbrev pub NodeDisk : Type 0
 NodeDisk = FailingState MemoryState
 
+-- the areas of a node's disk
+abbrev pub areas_in : NodeDisk → Areas
+areas_in disk = disk.below.areas
+
 -- where a journal appends
 abbrev pub journaled_of : Journal NodeDisk → Journaled
-journaled_of j = record { area = j.area; gate = j.gate }
+journaled_of j = record { area = j.area; gate = j.gate; epoch = j.epoch }
 
--- a flush, by the device calls that are left of it
+-- a job, by the device calls that are left of it
 abbrev pub flush_of : code_2.Flush → seats.Flush
 flush_of flush.Resting = seats.Resting
 flush_of (flush.Body job) = seats.Writing (Write job.area (job.gate + 1) job.body ∷ Sync ∷ Write job.area job.gate (165 ∷ []) ∷ Sync ∷ [])
@@ -46,58 +54,88 @@ flush_of (flush.BodyOut job) = seats.Writing (Sync ∷ Write job.area job.gate (
 flush_of (flush.BodySafe job) = seats.Writing (Write job.area job.gate (165 ∷ []) ∷ Sync ∷ [])
 flush_of (flush.GateSet job) = seats.Writing (Sync ∷ [])
 flush_of (flush.Flushed synced) = seats.Flushed
+flush_of (flush.Switching job) = seats.Switching (calls_from job.area job.body job.stage)
 
 -- what a node does
 abbrev pub doing_of : code.Doing → seats.Doing
 doing_of (does.Stopped disk) = seats.Stopped
 doing_of (does.Faulted disk) = seats.Faulted
 doing_of (does.Opening opening) = seats.Opening (phase_of opening.phase)
-doing_of (does.Serving s) = seats.Serving s.core (journaled_of s.journal) (flush_of s.flush)
+doing_of (does.Serving s) = seats.Serving s.core (journaled_of s.slots) (flush_of s.flush)
 
 -- what its areas hold
 abbrev pub areas_of : code.Doing → Areas
 areas_of (does.Stopped disk) = disk.below.areas
 areas_of (does.Faulted disk) = disk.below.areas
 areas_of (does.Opening opening) = opening.disk.below.areas
-areas_of (does.Serving s) = s.journal.disk.below.areas
+areas_of (does.Serving s) = s.slots.disk.below.areas
 
 -- the failure that is due at its disk
 abbrev pub due_of : code.Doing → Option (List ℕ)
 due_of (does.Stopped disk) = disk.due
 due_of (does.Faulted disk) = disk.due
 due_of (does.Opening opening) = opening.disk.due
-due_of (does.Serving s) = s.journal.disk.due
+due_of (does.Serving s) = s.slots.disk.due
 
 -- a node of so many that does this
 abbrev pub seat_of : ℕ → ℕ → code.Doing → Seat
 seat_of n p doing = record { nodes = n; node = p; doing = doing_of doing; areas = areas_of doing }
 
--- a job is of the core's running group, and writes its frame where the journal appends
+-- a job is of the core's running group, which has a spelling, and writes its frame where the journal appends
 pub record IsJobOf (s : NodeState) (j : Journal NodeDisk) (job : gate.Flush) : Type 0 where
   pub node : job.node ≡ s.node
   pub area : job.area ≡ j.area
   pub gate : job.gate ≡ j.gate
   pub body : job.body ≡ frame_bytes (group_bytes job.group)
   pub group : running_group s ≡ Some job.group
+  pub lawful : IsLawfulGroup job.group
+  pub next : j.next ≡ s.marked_end
 
--- a flush is of the core's running group; where none runs the journal isn't busy
+-- a switch is to the snapshot of the core's marked facts, which has a spelling, in the other area with the next epoch, and no group runs
+pub record IsSwitchOf (s : NodeState) (j : Journal NodeDisk) (job : Switch) : Type 0 where
+  pub area : job.area ≡ other_area j.area
+  pub epoch : job.epoch ≡ j.epoch + 1
+  pub body : job.body ≡ frame_bytes (snapshot_bytes (seats.snapshot_of s (journaled_of j)))
+  pub lawful : IsLawfulSnapshot (seats.snapshot_of s (journaled_of j))
+  pub next : j.next ≡ s.marked_end
+  pub rests : s.running ≡ None
+
+-- a flush is of the core's running group, and a switch of its marked facts, of which the journal has the number; where no job runs it isn't busy
 abbrev pub IsFlushOf : NodeState → Journal NodeDisk → code_2.Flush → Type 0
-IsFlushOf s j flush.Resting = (s.running ≡ None) × (j.busy ≡ false)
+IsFlushOf s j flush.Resting = (s.running ≡ None) × (j.busy ≡ false) × (j.next ≡ s.marked_end)
 IsFlushOf s j (flush.Body job) = IsJobOf s j job
 IsFlushOf s j (flush.BodyOut job) = IsJobOf s j job
 IsFlushOf s j (flush.BodySafe job) = IsJobOf s j job
 IsFlushOf s j (flush.GateSet job) = IsJobOf s j job
-IsFlushOf s j (flush.Flushed synced) = (synced.node ≡ s.node) × (running_group s ≡ Some synced.group) × (j.busy ≡ false)
+IsFlushOf s j (flush.Flushed synced) = (synced.node ≡ s.node) × (running_group s ≡ Some synced.group) × (j.busy ≡ false) × (j.next ≡ synced.group.serial + length synced.group.facts)
+IsFlushOf s j (flush.Switching job) = IsSwitchOf s j job
+
+-- the journal has noted whether the other area has to be closed; in a switch that area looks formatted once its gate is open
+abbrev pub IsBeside : code_2.Flush → Journal NodeDisk → Type 0
+IsBeside flush.Resting j = IsOtherKnown areas_in j
+IsBeside (flush.Body job) j = IsOtherKnown areas_in j
+IsBeside (flush.BodyOut job) j = IsOtherKnown areas_in j
+IsBeside (flush.BodySafe job) j = IsOtherKnown areas_in j
+IsBeside (flush.GateSet job) j = IsOtherKnown areas_in j
+IsBeside (flush.Flushed synced) j = IsOtherKnown areas_in j
+IsBeside (flush.Switching job) j = job.stage ≡ stage.SettlingGate → closes_in j.disk.below.areas job.area ≡ true
+
+-- the journal appends behind the first gate of its area, which looks formatted
+pub record IsAppending (j : Journal NodeDisk) : Type 0 where
+  pub behind : 0 < j.gate
+  pub formatted : closes_in j.disk.below.areas j.area ≡ true
 
 -- a node that is up is node p of n over its own journal, which hasn't failed, and no failure is due
 pub record IsServing (n p : ℕ) (s : Serving) : Type 0 where
   pub nodes : s.core.nodes ≡ n
   pub node : s.core.node ≡ p
-  pub journal_nodes : s.journal.nodes ≡ n
-  pub journal_node : s.journal.node ≡ p
-  pub sound : s.journal.failed ≡ false
-  pub calm : s.journal.disk.due ≡ None
-  pub flush : IsFlushOf s.core s.journal s.flush
+  pub journal_nodes : s.slots.nodes ≡ n
+  pub journal_node : s.slots.node ≡ p
+  pub sound : s.slots.failed ≡ false
+  pub calm : s.slots.disk.due ≡ None
+  pub flush : IsFlushOf s.core s.slots s.flush
+  pub appending : IsAppending s.slots
+  pub beside : IsBeside s.flush s.slots
 
 -- nothing is loose in either area, of fewer than 2^64 bytes each
 pub record IsAtRest (both : Areas) : Type 0 where
@@ -126,7 +164,7 @@ HoldSoMany n p both count = (images : Images) → IsCrashImage both images → (
 abbrev pub IsSteady : ℕ → ℕ → code.Doing → Type 0
 IsSteady n p (does.Stopped disk) = disk.due ≡ None
 IsSteady n p (does.Faulted disk) = disk.due ≡ None
-IsSteady n p (does.Opening o) = (o.nodes ≡ n) × (o.node ≡ p) × (o.disk.due ≡ None) × IsAwaiting n p o.phase o.disk.below.areas
+IsSteady n p (does.Opening o) = (o.nodes ≡ n) × (o.node ≡ p) × (o.disk.due ≡ None) × IsAwaiting n p o.phase o.disk.below.areas × KnowsFronts (phase_of o.phase) o.fronts o.disk.below.areas
 IsSteady n p (does.Serving s) = IsServing n p s
 
 -- from one steady doing an event leads, with this answer, to another as the definitions say
@@ -144,6 +182,8 @@ pub record IsOpened (n p : ℕ) (j : Journal NodeDisk) : Type 0 where
   pub sound : j.failed ≡ false
   pub rests : j.busy ≡ false
   pub calm : j.disk.due ≡ None
+  pub appending : IsAppending j
+  pub beside : IsOtherKnown areas_in j
 
 -- from one steady doing a failing device call leads, with this answer, to another as the definitions say
 abbrev pub CarriesFailing : ℕ → ℕ → List ℕ → code.Doing → Result Outcome Refusal → code.Doing → Type 0
@@ -153,6 +193,7 @@ CarriesFailing n p fill old answer new = IsSteady n p old → Fails fill (seat_o
 abbrev pub Serves : ℕ → ℕ → Journal NodeDisk → List Entry → ℕ → Result Outcome Refusal → code.Doing → Type 0
 Serves n p j promise number answer new =
     IsOpened n p j
+    → j.next ≡ number
     → (let given : Answer = (answer, seat_of n p new) in
     (given ≡ serves j.area (record { epoch = j.epoch; promise = promise; next = number; gate = j.gate }) (seat_of n p (does.Stopped j.disk)))
     ⊎ (given ≡ (Err OutOfMemory, seat_of n p (does.Stopped j.disk))))

@@ -2,6 +2,7 @@
 use Rattle.std.specs.Prelude.{◌≡◌, ℕ, ◌+◌, ◌<◌, ◌≤◌, ◌^◌, Bool, true, false, List, [], ◌∷◌, ◌++◌, length, take, All, None, Some}
 use Rattle.rr_types.specs.declared.fact.Fact.{Fact}
 use Rattle.rr_types.specs.Groups.{Grouped}
+use Rattle.rr_types.specs.Promises.{promise_of}
 use Rattle.rr_model.specs.Lawful.{Heard}
 use Rattle.rr_model.specs.World.{World, nothing_heard}
 use Rattle.rr_model.specs.NodeState.{NodeState}
@@ -12,14 +13,20 @@ use Rattle.rr_disk.specs.declared.area.Area.TheVariants.{First}
 use Rattle.rr_disk.specs.Areas.{Extent, Areas}
 use Rattle.rr_disk.specs.Crash.{Images, IsCrashImage, restarted}
 use Rattle.rr_frame.specs.GroupFormat.{group_bytes, IsLawfulGroup}
+use Rattle.rr_frame.specs.Snapshots.{Snapped}
+use Rattle.rr_frame.specs.SnapshotFormat.{snapshot_bytes, IsLawfulSnapshot}
 use Rattle.rr_gate.specs.Flushes as gate
 use Rattle.rr_gate.specs.Moments.{body_due, body_out, body_safe, gate_set}
 use Rattle.rr_journal.specs.declared.journal.Journal.{Journal}
 use Rattle.rr_journal.specs.Calls.{Call, Write, Sync, frame_bytes}
 use Rattle.rr_journal.specs.Journals.{Holds, IsOver}
 use Rattle.rr_journal.specs.Openings as opening
+use Rattle.rr_journal.specs.OtherAreas.{other_area}
 use Rattle.rr_journal.specs.OpeningTable.{Rests, formatting, Formats, gate_written, Closes}
-use Rattle.rr_node.specs.Seats.{Flush, Resting, Writing, Flushed, Journaled, Doing, Stopped, Faulted, Opening, Serving, Seat}
+use Rattle.rr_slots.specs.declared.switch.Stage as slots
+use Rattle.rr_slots.specs.Switches.{Switch, calls_from}
+use Rattle.rr_slots.specs.SwitchTable.{IsAtStage}
+use Rattle.rr_node.specs.Seats.{Flush, Resting, Writing, Flushed, Switching, Journaled, Doing, Stopped, Faulted, Opening, Serving, Seat}
 
 -- ---- flushes, by their device calls that are left
 
@@ -122,10 +129,11 @@ abbrev pub is_settled : Flush → Bool
 is_settled Resting = false
 is_settled (Writing calls) = false
 is_settled Flushed = true
+is_settled (Switching calls) = false
 
 -- a journal of so many facts that appends there
-abbrev pub journal_at : ℕ → ℕ → Journaled → ℕ → ℕ → Journal (Unit {0})
-journal_at n p journal epoch next = record { disk = tt; nodes = n; node = p; area = journal.area; epoch = epoch; gate = journal.gate; next = next; failed = false; busy = false }
+abbrev pub journal_at : ℕ → ℕ → Journaled → ℕ → Journal (Unit {0})
+journal_at n p journal next = record { disk = tt; nodes = n; node = p; area = journal.area; epoch = journal.epoch; gate = journal.gate; next = next; failed = false; busy = false; closes_other = true }
 
 -- a flush of the running group at one of its moments, over a disk at rest
 pub record IsFlushing (n p : ℕ) (s : NodeState) (journal : Journaled) (start : Images) (both : Areas) (calls : List Call) : Type 0 where
@@ -137,11 +145,29 @@ pub record IsFlushing (n p : ℕ) (s : NodeState) (journal : Journaled) (start :
   pub calls_left : calls ≡ calls_at (flush_of n p journal group) moment
   pub stands : both ≡ areas_at moment (flush_of n p journal group) start
 
--- what stands on the disk of a node that is up, by its flush
-abbrev pub FlushesSo : ℕ → ℕ → NodeState → Journaled → Images → Areas → Flush → Type 0
-FlushesSo n p s journal start both Resting = (s.running ≡ None) × (both ≡ restarted start)
-FlushesSo n p s journal start both (Writing calls) = IsFlushing n p s journal start both calls
-FlushesSo n p s journal start both Flushed = (group : List Fact) × (s.running ≡ Some group) × (both ≡ restarted start)
+-- the snapshot of these facts with the next epoch
+abbrev pub snapshot_over : ℕ → ℕ → Journaled → List Fact → Snapped
+snapshot_over n p journal kept = record { node = p; nodes = n; epoch = journal.epoch + 1; next = length kept; entries = promise_of kept }
+
+-- the switch to it in the other area, at one of its stages
+abbrev pub switch_at : ℕ → ℕ → Journaled → List Fact → slots.Stage → Switch
+switch_at n p journal kept stage = record { nodes = n; node = p; area = other_area journal.area; epoch = journal.epoch + 1; next = length kept; body = frame_bytes (snapshot_bytes (snapshot_over n p journal kept)); stage = stage }
+
+-- a switch to the snapshot of the kept facts at one of its stages; no group runs
+pub record IsSwitchingTo (n p : ℕ) (s : NodeState) (journal : Journaled) (kept : List Fact) (start : Images) (both : Areas) (calls : List Call) : Type 0 where
+  pub stage : slots.Stage
+  pub rests : s.running ≡ None
+  pub spelt : IsLawfulSnapshot (snapshot_over n p journal kept)
+  pub small : 6 + length (snapshot_bytes (snapshot_over n p journal kept)) < 2 ^ 32
+  pub calls_left : calls ≡ calls_from (other_area journal.area) (frame_bytes (snapshot_bytes (snapshot_over n p journal kept))) stage
+  pub stands : IsAtStage stage (switch_at n p journal kept stage) start kept both
+
+-- what stands on the disk of a node that is up and keeps these facts, by its flush
+abbrev pub FlushesSo : ℕ → ℕ → NodeState → Journaled → List Fact → Images → Areas → Flush → Type 0
+FlushesSo n p s journal kept start both Resting = (s.running ≡ None) × (both ≡ restarted start)
+FlushesSo n p s journal kept start both (Writing calls) = IsFlushing n p s journal start both calls
+FlushesSo n p s journal kept start both Flushed = (group : List Fact) × (s.running ≡ Some group) × (both ≡ restarted start)
+FlushesSo n p s journal kept start both (Switching calls) = IsSwitchingTo n p s journal kept start both calls
 
 -- a node that is up: by its facts and what it heard it has come to its state, the world has it so, and its journal
 -- appends behind images that hold its kept facts
@@ -150,10 +176,9 @@ pub record IsServing (n p : ℕ) (w : World) (both : Areas) (s : NodeState) (jou
   pub heard : Heard
   pub reached : IsReached n p facts heard s
   pub in_world : IsInWorld (is_settled flush) n p facts heard s w
-  pub epoch : ℕ
   pub start : Images
-  pub over : IsOver (journal_at n p journal epoch (length (w.kept p))) start (w.kept p)
-  pub flushes : FlushesSo n p s journal start both flush
+  pub over : IsOver (journal_at n p journal (length (w.kept p))) start (w.kept p)
+  pub flushes : FlushesSo n p s journal (w.kept p) start both flush
 
 -- ---- a node
 

@@ -14,6 +14,7 @@ use rr_core::Core;
 use rr_disk::{Area, Disk, FailingDisk, MemDisk};
 use rr_gate::Opened;
 use rr_journal::{Journal, Opening, Progress};
+use rr_slots::Slots;
 use rr_types::{NodeId, Nodes, Promise, Refusal};
 use std::alloc::Global;
 
@@ -160,7 +161,7 @@ fn serve(
             Ok(names) => {
                 let decided = core.decided_count() as u64;
                 (
-                    Doing::Serving(Serving::new(core, journal)),
+                    Doing::Serving(Serving::new(core, Slots::new(journal))),
                     Ok(Outcome::Opened(number, decided, names)),
                 )
             }

@@ -21,7 +21,7 @@ pub enum NodeEvent {
     Advance,
     /// A flush of the staged facts begins.
     Take,
-    /// The next device call of the opening or the flush is made.
+    /// The next device call of the opening, the flush or the switch is made.
     Device,
     /// The synced group is marked.
     Mark,
@@ -29,6 +29,8 @@ pub enum NodeEvent {
     Send,
     /// The oldest decided request that waits is acknowledged.
     Acknowledge,
+    /// A switch to a snapshot of the marked facts begins.
+    Snap,
     /// The node is started again.
     Restart,
 }

@@ -1,4 +1,4 @@
-//! A node that is up: its core over its journal, and the flush that runs.
+//! A node that is up: its core over the areas of its disk, and the job that runs.
 
 ghost use Rattle.std.specs.Prelude.{◌≡◌, ℕ, Ok, Err, Some};
 ghost use Rattle.rr_model.specs.NodeState.{NodeState};
@@ -9,11 +9,12 @@ use crate::doing::{Doing, NodeDisk};
 use crate::event::{NodeEvent, Outcome};
 use rr_core::Core;
 use rr_gate::{Body, BodyOut, BodySafe, GateSet, Job, Synced};
-use rr_journal::Journal;
+use rr_slots::{Slots, SwitchJob, Switching};
 use rr_types::{Group, Refusal};
 use std::alloc::Global;
 
-/// A flush of a group: none, a job in one of its states, or a synced group that isn't marked yet.
+/// The job that runs: none, the flush of a group in one of its states, a synced group that isn't marked yet, or a
+/// switch to a snapshot.
 pub enum Flush {
     Resting,
     Body(Job<Body>),
@@ -21,10 +22,11 @@ pub enum Flush {
     BodySafe(Job<BodySafe>),
     GateSet(Job<GateSet>),
     Flushed(Synced),
+    Switching(SwitchJob),
 }
 
 impl Flush {
-    /// What is left of a flush is given up with its node.
+    /// What is left of a job is given up with its node.
     fn abandon(self) {
         match self {
             Flush::Resting => (),
@@ -33,40 +35,41 @@ impl Flush {
             Flush::BodySafe(job) => job.abandon(),
             Flush::GateSet(job) => job.abandon(),
             Flush::Flushed(synced) => drop(synced.into_group()),
+            Flush::Switching(job) => job.abandon(),
         }
     }
 }
 
-/// A node that is up. It can't be let go: its flush is spent or given up.
+/// A node that is up. It can't be let go: its job is spent or given up.
 pub struct Serving {
     core: Core,
-    journal: Journal<NodeDisk>,
+    slots: Slots<NodeDisk>,
     flush: Flush,
 }
 
 impl Serving {
     /// A node that has just come up.
-    pub fn new(core: Core, journal: Journal<NodeDisk>) -> Serving
-        ensures { result ≡ record { core = core; journal = journal; flush = Flush.Resting } }
+    pub fn new(core: Core, slots: Slots<NodeDisk>) -> Serving
+        ensures { result ≡ record { core = core; slots = slots; flush = Flush.Resting } }
     {
         Serving {
             core,
-            journal,
+            slots,
             flush: Flush::Resting,
         }
     }
 
-    /// The disk; a flush that runs is given up.
+    /// The disk; a job that runs is given up.
     pub fn into_disk(self) -> NodeDisk
-        ensures { result ≡ self.journal.disk }
+        ensures { result ≡ self.slots.disk }
     {
         let Serving {
             core: _,
-            journal,
+            slots,
             flush,
         } = self;
         flush.abandon();
-        journal.into_disk()
+        slots.into_disk()
     }
 
     /// An event at a node that is up, and what it does afterwards.
@@ -75,57 +78,55 @@ impl Serving {
     {
         let Serving {
             mut core,
-            journal,
+            slots,
             flush,
         } = self;
         match event {
             NodeEvent::Submit(command) => {
                 let told = core.submit(command);
-                up(core, journal, flush, quiet(told))
+                up(core, slots, flush, quiet(told))
             }
             NodeEvent::Hear(message) => {
                 let told = core.hear(&message);
-                up(core, journal, flush, quiet(told))
+                up(core, slots, flush, quiet(told))
             }
             NodeEvent::Suspect(set) => {
                 let told = core.suspect(set);
-                up(core, journal, flush, quiet(told))
+                up(core, slots, flush, quiet(told))
             }
             NodeEvent::Tick => {
                 let told = core.tick();
-                up(core, journal, flush, quiet(told))
+                up(core, slots, flush, quiet(told))
             }
             NodeEvent::Advance => {
                 let told = core.advance();
-                up(core, journal, flush, quiet(told))
+                up(core, slots, flush, quiet(told))
             }
-            NodeEvent::Take => take(alloc, core, journal, flush),
-            NodeEvent::Device => flush_on(core, journal, flush),
-            NodeEvent::Mark => mark(core, journal, flush),
-            NodeEvent::Send => send(core, journal, flush),
-            NodeEvent::Acknowledge => reply(core, journal, flush),
-            NodeEvent::Restart => up(core, journal, flush, Err(Refusal::Busy)),
+            NodeEvent::Take => take(alloc, core, slots, flush),
+            NodeEvent::Device => flush_on(core, slots, flush),
+            NodeEvent::Mark => mark(core, slots, flush),
+            NodeEvent::Send => send(core, slots, flush),
+            NodeEvent::Acknowledge => reply(core, slots, flush),
+            NodeEvent::Snap => snap(alloc, core, slots, flush),
+            NodeEvent::Restart => up(core, slots, flush, Err(Refusal::Busy)),
         }
     }
 }
 
 impl Serving {
-    /// The next device call of the flush fails with this fill; where none is due nothing happens.
+    /// The next device call of the job fails with this fill; where none is due nothing happens.
     pub fn fail(self, fill: Vec<u8>) -> (Doing, Result<Outcome, Refusal>)
         ensures { (n p : ℕ) → CarriesFailing n p fill.items (Doing.Serving self) result.1 result.0 }
     {
-        let Serving {
-            core,
-            journal,
-            flush,
-        } = self;
+        let Serving { core, slots, flush } = self;
         match flush {
-            Flush::Resting => up(core, journal, Flush::Resting, Ok(Outcome::Quiet)),
-            Flush::Flushed(synced) => up(core, journal, Flush::Flushed(synced), Ok(Outcome::Quiet)),
-            Flush::Body(job) => fail_body(journal, job, fill),
-            Flush::BodyOut(job) => fail_body_sync(journal, job, fill),
-            Flush::BodySafe(job) => fail_gate(journal, job, fill),
-            Flush::GateSet(job) => fail_gate_sync(journal, job, fill),
+            Flush::Resting => up(core, slots, Flush::Resting, Ok(Outcome::Quiet)),
+            Flush::Flushed(synced) => up(core, slots, Flush::Flushed(synced), Ok(Outcome::Quiet)),
+            Flush::Body(job) => fail_body(slots, job, fill),
+            Flush::BodyOut(job) => fail_body_sync(slots, job, fill),
+            Flush::BodySafe(job) => fail_gate(slots, job, fill),
+            Flush::GateSet(job) => fail_gate_sync(slots, job, fill),
+            Flush::Switching(job) => fail_switch(slots, job, fill),
         }
     }
 }
@@ -133,20 +134,13 @@ impl Serving {
 /// The node is up, and has answered so.
 fn up(
     core: Core,
-    journal: Journal<NodeDisk>,
+    slots: Slots<NodeDisk>,
     flush: Flush,
     answer: Result<Outcome, Refusal>,
 ) -> (Doing, Result<Outcome, Refusal>)
-    ensures { result ≡ (Doing.Serving (record { core = core; journal = journal; flush = flush }), answer) }
+    ensures { result ≡ (Doing.Serving (record { core = core; slots = slots; flush = flush }), answer) }
 {
-    (
-        Doing::Serving(Serving {
-            core,
-            journal,
-            flush,
-        }),
-        answer,
-    )
+    (Doing::Serving(Serving { core, slots, flush }), answer)
 }
 
 /// A report tells nothing of an input that was taken.
@@ -160,141 +154,168 @@ fn quiet(told: Result<(), Refusal>) -> Result<Outcome, Refusal>
 }
 
 /// The oldest message that may leave goes.
-fn send(
-    mut core: Core,
-    journal: Journal<NodeDisk>,
-    flush: Flush,
-) -> (Doing, Result<Outcome, Refusal>)
-    ensures { CarriesOn NodeEvent.Send (record { core = core; journal = journal; flush = flush }) result.1 result.0 }
+fn send(mut core: Core, slots: Slots<NodeDisk>, flush: Flush) -> (Doing, Result<Outcome, Refusal>)
+    ensures { CarriesOn NodeEvent.Send (record { core = core; slots = slots; flush = flush }) result.1 result.0 }
 {
     let outcome = match core.next_message() {
         Some(cleared) => Outcome::Left(cleared.message()),
         None => Outcome::Quiet,
     };
-    up(core, journal, flush, Ok(outcome))
+    up(core, slots, flush, Ok(outcome))
 }
 
 /// The oldest decided request that waits is acknowledged.
-fn reply(
-    mut core: Core,
-    journal: Journal<NodeDisk>,
-    flush: Flush,
-) -> (Doing, Result<Outcome, Refusal>)
-    ensures { CarriesOn NodeEvent.Acknowledge (record { core = core; journal = journal; flush = flush }) result.1 result.0 }
+fn reply(mut core: Core, slots: Slots<NodeDisk>, flush: Flush) -> (Doing, Result<Outcome, Refusal>)
+    ensures { CarriesOn NodeEvent.Acknowledge (record { core = core; slots = slots; flush = flush }) result.1 result.0 }
 {
     let outcome = match core.next_ack() {
         Some((request, reply)) => Outcome::Replied(request, reply),
         None => Outcome::Quiet,
     };
-    up(core, journal, flush, Ok(outcome))
+    up(core, slots, flush, Ok(outcome))
 }
 
-/// The next device call of a flush.
+/// The next device call of a job.
 fn flush_on(
     core: Core,
-    mut journal: Journal<NodeDisk>,
+    mut slots: Slots<NodeDisk>,
     flush: Flush,
 ) -> (Doing, Result<Outcome, Refusal>)
-    ensures { CarriesOn NodeEvent.Device (record { core = core; journal = journal; flush = flush }) result.1 result.0 }
+    ensures { CarriesOn NodeEvent.Device (record { core = core; slots = slots; flush = flush }) result.1 result.0 }
 {
     match flush {
-        Flush::Resting => up(core, journal, Flush::Resting, Ok(Outcome::Quiet)),
-        Flush::Flushed(synced) => up(core, journal, Flush::Flushed(synced), Ok(Outcome::Quiet)),
-        Flush::Body(job) => match job.step(&mut journal) {
-            Ok(job) => up(core, journal, Flush::BodyOut(job), Ok(Outcome::Quiet)),
-            Err(refusal) => fallen(journal, refusal),
+        Flush::Resting => up(core, slots, Flush::Resting, Ok(Outcome::Quiet)),
+        Flush::Flushed(synced) => up(core, slots, Flush::Flushed(synced), Ok(Outcome::Quiet)),
+        Flush::Body(job) => match job.step(&mut slots) {
+            Ok(job) => up(core, slots, Flush::BodyOut(job), Ok(Outcome::Quiet)),
+            Err(refusal) => fallen(slots, refusal),
         },
-        Flush::BodyOut(job) => match job.step(&mut journal) {
-            Ok(job) => up(core, journal, Flush::BodySafe(job), Ok(Outcome::Quiet)),
-            Err(refusal) => fallen(journal, refusal),
+        Flush::BodyOut(job) => match job.step(&mut slots) {
+            Ok(job) => up(core, slots, Flush::BodySafe(job), Ok(Outcome::Quiet)),
+            Err(refusal) => fallen(slots, refusal),
         },
-        Flush::BodySafe(job) => match job.step(&mut journal) {
-            Ok(job) => up(core, journal, Flush::GateSet(job), Ok(Outcome::Quiet)),
-            Err(refusal) => fallen(journal, refusal),
+        Flush::BodySafe(job) => match job.step(&mut slots) {
+            Ok(job) => up(core, slots, Flush::GateSet(job), Ok(Outcome::Quiet)),
+            Err(refusal) => fallen(slots, refusal),
         },
-        Flush::GateSet(job) => match job.step(&mut journal) {
-            Ok(synced) => up(core, journal, Flush::Flushed(synced), Ok(Outcome::Quiet)),
-            Err(refusal) => fallen(journal, refusal),
+        Flush::GateSet(job) => match job.step(&mut slots) {
+            Ok(synced) => up(core, slots, Flush::Flushed(synced), Ok(Outcome::Quiet)),
+            Err(refusal) => fallen(slots, refusal),
         },
+        Flush::Switching(job) => switch_on(core, slots, job),
+    }
+}
+
+/// The next device call of a switch.
+fn switch_on(
+    core: Core,
+    mut slots: Slots<NodeDisk>,
+    job: SwitchJob,
+) -> (Doing, Result<Outcome, Refusal>)
+    ensures { CarriesOn NodeEvent.Device (record { core = core; slots = slots; flush = Flush.Switching job }) result.1 result.0 }
+{
+    match job.step(&mut slots) {
+        Ok(Switching::More(job)) => up(core, slots, Flush::Switching(job), Ok(Outcome::Quiet)),
+        Ok(Switching::Done) => up(core, slots, Flush::Resting, Ok(Outcome::Quiet)),
+        Err(refusal) => fallen(slots, refusal),
     }
 }
 
 /// A device call has failed: the node has failed too.
-fn fallen(journal: Journal<NodeDisk>, refusal: Refusal) -> (Doing, Result<Outcome, Refusal>)
-    ensures { result ≡ (Doing.Faulted journal.disk, Err refusal) }
+fn fallen(slots: Slots<NodeDisk>, refusal: Refusal) -> (Doing, Result<Outcome, Refusal>)
+    ensures { result ≡ (Doing.Faulted slots.disk, Err refusal) }
 {
-    (Doing::Faulted(journal.into_disk()), Err(refusal))
+    (Doing::Faulted(slots.into_disk()), Err(refusal))
 }
 
 /// The write of the body fails.
 fn fail_body(
-    mut journal: Journal<NodeDisk>,
+    mut slots: Slots<NodeDisk>,
     job: Job<Body>,
     fill: Vec<u8>,
 ) -> (Doing, Result<Outcome, Refusal>)
-    ensures { (core : NodeState) (n p : ℕ) → CarriesFailing n p fill.items (Doing.Serving (record { core = core; journal = journal; flush = Flush.Body job })) result.1 result.0 }
+    ensures { (core : NodeState) (n p : ℕ) → CarriesFailing n p fill.items (Doing.Serving (record { core = core; slots = slots; flush = Flush.Body job })) result.1 result.0 }
 {
-    journal.fail_next(fill);
-    match job.step(&mut journal) {
+    slots.fail_next(fill);
+    match job.step(&mut slots) {
         Ok(left) => {
             left.abandon();
-            fallen(journal, Refusal::Device)
+            fallen(slots, Refusal::Device)
         }
-        Err(_) => fallen(journal, Refusal::Device),
+        Err(_) => fallen(slots, Refusal::Device),
     }
 }
 
 /// The sync of the body fails.
 fn fail_body_sync(
-    mut journal: Journal<NodeDisk>,
+    mut slots: Slots<NodeDisk>,
     job: Job<BodyOut>,
     fill: Vec<u8>,
 ) -> (Doing, Result<Outcome, Refusal>)
-    ensures { (core : NodeState) (n p : ℕ) → CarriesFailing n p fill.items (Doing.Serving (record { core = core; journal = journal; flush = Flush.BodyOut job })) result.1 result.0 }
+    ensures { (core : NodeState) (n p : ℕ) → CarriesFailing n p fill.items (Doing.Serving (record { core = core; slots = slots; flush = Flush.BodyOut job })) result.1 result.0 }
 {
-    journal.fail_next(fill);
-    match job.step(&mut journal) {
+    slots.fail_next(fill);
+    match job.step(&mut slots) {
         Ok(left) => {
             left.abandon();
-            fallen(journal, Refusal::Device)
+            fallen(slots, Refusal::Device)
         }
-        Err(_) => fallen(journal, Refusal::Device),
+        Err(_) => fallen(slots, Refusal::Device),
     }
 }
 
 /// The opening of the gate fails.
 fn fail_gate(
-    mut journal: Journal<NodeDisk>,
+    mut slots: Slots<NodeDisk>,
     job: Job<BodySafe>,
     fill: Vec<u8>,
 ) -> (Doing, Result<Outcome, Refusal>)
-    ensures { (core : NodeState) (n p : ℕ) → CarriesFailing n p fill.items (Doing.Serving (record { core = core; journal = journal; flush = Flush.BodySafe job })) result.1 result.0 }
+    ensures { (core : NodeState) (n p : ℕ) → CarriesFailing n p fill.items (Doing.Serving (record { core = core; slots = slots; flush = Flush.BodySafe job })) result.1 result.0 }
 {
-    journal.fail_next(fill);
-    match job.step(&mut journal) {
+    slots.fail_next(fill);
+    match job.step(&mut slots) {
         Ok(left) => {
             left.abandon();
-            fallen(journal, Refusal::Device)
+            fallen(slots, Refusal::Device)
         }
-        Err(_) => fallen(journal, Refusal::Device),
+        Err(_) => fallen(slots, Refusal::Device),
     }
 }
 
 /// The sync of the open gate fails.
 fn fail_gate_sync(
-    mut journal: Journal<NodeDisk>,
+    mut slots: Slots<NodeDisk>,
     job: Job<GateSet>,
     fill: Vec<u8>,
 ) -> (Doing, Result<Outcome, Refusal>)
-    ensures { (core : NodeState) (n p : ℕ) → CarriesFailing n p fill.items (Doing.Serving (record { core = core; journal = journal; flush = Flush.GateSet job })) result.1 result.0 }
+    ensures { (core : NodeState) (n p : ℕ) → CarriesFailing n p fill.items (Doing.Serving (record { core = core; slots = slots; flush = Flush.GateSet job })) result.1 result.0 }
 {
-    journal.fail_next(fill);
-    match job.step(&mut journal) {
+    slots.fail_next(fill);
+    match job.step(&mut slots) {
         Ok(left) => {
             drop(left.into_group());
-            fallen(journal, Refusal::Device)
+            fallen(slots, Refusal::Device)
         }
-        Err(_) => fallen(journal, Refusal::Device),
+        Err(_) => fallen(slots, Refusal::Device),
+    }
+}
+
+/// The device call of a switch that is due fails.
+fn fail_switch(
+    mut slots: Slots<NodeDisk>,
+    job: SwitchJob,
+    fill: Vec<u8>,
+) -> (Doing, Result<Outcome, Refusal>)
+    ensures { (core : NodeState) (n p : ℕ) → CarriesFailing n p fill.items (Doing.Serving (record { core = core; slots = slots; flush = Flush.Switching job })) result.1 result.0 }
+{
+    slots.fail_next(fill);
+    match job.step(&mut slots) {
+        Ok(Switching::More(left)) => {
+            left.abandon();
+            fallen(slots, Refusal::Device)
+        }
+        Ok(Switching::Done) => fallen(slots, Refusal::Device),
+        Err(_) => fallen(slots, Refusal::Device),
     }
 }
 
@@ -302,14 +323,14 @@ fn fail_gate_sync(
 fn take(
     alloc: Global,
     core: Core,
-    journal: Journal<NodeDisk>,
+    slots: Slots<NodeDisk>,
     flush: Flush,
 ) -> (Doing, Result<Outcome, Refusal>)
-    ensures { CarriesOn NodeEvent.Take (record { core = core; journal = journal; flush = flush }) result.1 result.0 }
+    ensures { CarriesOn NodeEvent.Take (record { core = core; slots = slots; flush = flush }) result.1 result.0 }
 {
     match flush {
-        Flush::Resting => begin(alloc, core, journal),
-        running => up(core, journal, running, Err(Refusal::Busy)),
+        Flush::Resting => begin(alloc, core, slots),
+        running => up(core, slots, running, Err(Refusal::Busy)),
     }
 }
 
@@ -317,18 +338,18 @@ fn take(
 fn begin(
     alloc: Global,
     mut core: Core,
-    mut journal: Journal<NodeDisk>,
+    mut slots: Slots<NodeDisk>,
 ) -> (Doing, Result<Outcome, Refusal>)
-    ensures { CarriesOn NodeEvent.Take (record { core = core; journal = journal; flush = Flush.Resting }) result.1 result.0 }
+    ensures { CarriesOn NodeEvent.Take (record { core = core; slots = slots; flush = Flush.Resting }) result.1 result.0 }
 {
     match core.take_group() {
-        Err(refusal) => up(core, journal, Flush::Resting, Err(refusal)),
-        Ok(None) => up(core, journal, Flush::Resting, Ok(Outcome::Quiet)),
-        Ok(Some(group)) => match journal.begin(alloc, group) {
-            Ok(job) => up(core, journal, Flush::Body(job), Ok(Outcome::Quiet)),
+        Err(refusal) => up(core, slots, Flush::Resting, Err(refusal)),
+        Ok(None) => up(core, slots, Flush::Resting, Ok(Outcome::Quiet)),
+        Ok(Some(group)) => match slots.begin(alloc, group) {
+            Ok(job) => up(core, slots, Flush::Body(job), Ok(Outcome::Quiet)),
             Err((refusal, group)) => {
                 put_back(&mut core, group);
-                up(core, journal, Flush::Resting, Err(refusal))
+                up(core, slots, Flush::Resting, Err(refusal))
             }
         },
     }
@@ -342,18 +363,47 @@ fn put_back(core: &mut Core, group: Group)
 }
 
 /// The synced group is marked.
-fn mark(
-    mut core: Core,
-    journal: Journal<NodeDisk>,
-    flush: Flush,
-) -> (Doing, Result<Outcome, Refusal>)
-    ensures { CarriesOn NodeEvent.Mark (record { core = core; journal = journal; flush = flush }) result.1 result.0 }
+fn mark(mut core: Core, slots: Slots<NodeDisk>, flush: Flush) -> (Doing, Result<Outcome, Refusal>)
+    ensures { CarriesOn NodeEvent.Mark (record { core = core; slots = slots; flush = flush }) result.1 result.0 }
 {
     match flush {
         Flush::Flushed(synced) => match core.mark(synced) {
-            Ok(()) => up(core, journal, Flush::Resting, Ok(Outcome::Quiet)),
-            Err((refusal, synced)) => up(core, journal, Flush::Flushed(synced), Err(refusal)),
+            Ok(()) => up(core, slots, Flush::Resting, Ok(Outcome::Quiet)),
+            Err((refusal, synced)) => up(core, slots, Flush::Flushed(synced), Err(refusal)),
         },
-        other => up(core, journal, other, Ok(Outcome::Quiet)),
+        other => up(core, slots, other, Ok(Outcome::Quiet)),
+    }
+}
+
+/// A switch to a snapshot of the marked facts begins.
+fn snap(
+    alloc: Global,
+    core: Core,
+    slots: Slots<NodeDisk>,
+    flush: Flush,
+) -> (Doing, Result<Outcome, Refusal>)
+    ensures { CarriesOn NodeEvent.Snap (record { core = core; slots = slots; flush = flush }) result.1 result.0 }
+{
+    match flush {
+        Flush::Resting => begin_switch(alloc, core, slots),
+        runs => up(core, slots, runs, Err(Refusal::Busy)),
+    }
+}
+
+/// A switch begins where no job runs.
+fn begin_switch(
+    alloc: Global,
+    core: Core,
+    mut slots: Slots<NodeDisk>,
+) -> (Doing, Result<Outcome, Refusal>)
+    ensures { CarriesOn NodeEvent.Snap (record { core = core; slots = slots; flush = Flush.Resting }) result.1 result.0 }
+{
+    let promise = match core.marked_promise(alloc) {
+        Ok(promise) => promise,
+        Err(refusal) => return up(core, slots, Flush::Resting, Err(refusal)),
+    };
+    match slots.begin_snapshot(alloc, promise) {
+        Ok(job) => up(core, slots, Flush::Switching(job), Ok(Outcome::Quiet)),
+        Err(refusal) => up(core, slots, Flush::Resting, Err(refusal)),
     }
 }

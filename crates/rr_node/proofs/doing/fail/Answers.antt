@@ -1,4 +1,4 @@
-use Rattle.std.proofs.Common.{◌≡◌, sym, subst}
+use Rattle.std.proofs.Common.{sym, subst}
 use Rattle.rr_node.specs.declared.doing.Doing.{Doing}
 use Rattle.rr_node.specs.Views.{CarriesFailing}
 use Rattle.rr_node.proofs.OpeningLaws.{opens_failing}

@@ -1,4 +1,4 @@
-use Rattle.std.proofs.Common.{◌≡◌, sym, subst}
+use Rattle.std.proofs.Common.{sym, subst}
 use Rattle.rr_node.specs.declared.doing.Doing.{Doing}
 use Rattle.rr_node.specs.Views.{Carries}
 use Rattle.rr_node.proofs.doing.go_on.Goals as goal

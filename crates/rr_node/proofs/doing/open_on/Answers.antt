@@ -1,8 +1,8 @@
-use Rattle.std.proofs.Common.{◌≡◌, [], Ok, subst}
+use Rattle.std.proofs.Common.{[], Ok, subst}
 use Rattle.rr_journal.specs.declared.opening.Progress.{Progress}
 use Rattle.rr_node.specs.Views.{NodeDisk}
 use Rattle.rr_node.proofs.AwaitingLaws.{KeepsTable}
-use Rattle.rr_node.proofs.OpeningLaws.{Stepped, opens_more, opens_done, opens_counted, opens_fallen, opens_stopped}
+use Rattle.rr_node.proofs.OpeningLaws.{Stepped, KeepsKnown, opens_more, opens_done, opens_counted}
 use Rattle.rr_node.proofs.doing.open_on.Goals as goal
 
 pub serve-requires : goal.serve-requires
@@ -21,10 +21,14 @@ returns-in-Ok-More c =
     opens_more c.args.nodes c.args.node o c.in-Ok-More.opening
     (subst (λ (x : Progress NodeDisk). Stepped o (Ok x)) c.in-Ok-More.field-0-is gave.exact)
     (subst (λ (x : Progress NodeDisk). KeepsTable o x) c.in-Ok-More.field-0-is (gave.table tt []))
+    (subst (λ (x : Progress NodeDisk). KeepsKnown o x) c.in-Ok-More.field-0-is (gave.fronts tt))
 
 pub returns-in-Ok-Done : goal.returns-in-Ok-Done
 returns-in-Ok-Done c =
     let o = c.args.opening in
     let gave = c.in-Ok-Done.ensures in
     opens_done c.args.nodes c.args.node o c.in-Ok-Done.journal c.in-Ok-Done.promise c.in-Ok-Done.number c.serve.result.1 c.serve.result.0
-    (subst (λ (x : Progress NodeDisk). Stepped o (Ok x)) c.in-Ok-Done.field-0-is gave.exact) c.serve.ensures
+    (subst (λ (x : Progress NodeDisk). Stepped o (Ok x)) c.in-Ok-Done.field-0-is gave.exact)
+    (subst (λ (x : Progress NodeDisk). KeepsTable o x) c.in-Ok-Done.field-0-is (gave.table tt []))
+    (subst (λ (x : Progress NodeDisk). KeepsKnown o x) c.in-Ok-Done.field-0-is (gave.fronts tt))
+    c.serve.ensures

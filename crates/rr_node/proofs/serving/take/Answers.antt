@@ -1,4 +1,3 @@
-use Rattle.std.proofs.Common.{◌≡◌}
 use Rattle.rr_node.proofs.serving.take.Goals as goal
 
 pub returns-in-Resting : goal.returns-in-Resting

@@ -1,4 +1,3 @@
-use Rattle.std.proofs.Common.{◌≡◌}
 use Rattle.rr_node.proofs.serving.Serving.fail.Goals as goal
 
 pub returns-in-Body : goal.returns-in-Body
@@ -12,3 +11,6 @@ returns-in-BodySafe c = rw c.in-BodySafe.is (c.fail_gate.ensures c.args.self.cor
 
 pub returns-in-GateSet : goal.returns-in-GateSet
 returns-in-GateSet c = rw c.in-GateSet.is (c.fail_gate_sync.ensures c.args.self.core)
+
+pub returns-in-Switching : goal.returns-in-Switching
+returns-in-Switching c = rw c.in-Switching.is (c.fail_switch.ensures c.args.self.core)
