@@ -1,4 +1,3 @@
-pub mod DetectorLemmas
 pub mod RowLemmas
 pub mod DueLemmas
 pub mod TallyLemmas

@@ -8,10 +8,10 @@ ghost use Rattle.rr_model.specs.NodeState.{standing_at};
 ghost use Rattle.rr_model.specs.NodeDue.{better, best_vote, pick, is_majority, due_of_coordinator, due_of_participant, due_of_row, due_at, first_due, due, carry_out, settle};
 ghost use Rattle.rr_core.specs.Dues.{meaning_of, MovesBelowLast, CanBeCarriedOut};
 
-use crate::detector::joined;
 use crate::rows::find_row;
 use crate::state::State;
 use rr_round::{Tally, Vote};
+use rr_suspect::joined;
 use rr_types::{
     Command, Instance, NodeSet, Nodes, Refusal, Round, Standing, coordinator, majority,
 };
@@ -136,7 +136,10 @@ impl State {
         ensures value { option_map meaning_of result ≡ due_of_participant self.now instance round }
         ensures moves { IfSome result (MovesBelowLast round) }
     {
-        let is_suspected = self.suspects.contains(coordinator(round, self.nodes));
+        let is_suspected = self
+            .suspects
+            .output()
+            .contains(coordinator(round, self.nodes));
         if is_suspected && round.number() < rr_types::MAX_ROUND {
             Some(Due::MoveOn(instance))
         } else {
