@@ -3,12 +3,10 @@
 ghost use Rattle.std.specs.Prelude.{◌≡◌, map, IfOk, IfErr};
 ghost use Rattle.rr_model.specs.NodeStep.{promised_row, restored};
 
-use crate::rows;
 use crate::state::State;
 use crate::unmarked::Unmarked;
 use rr_heartbeat::Heartbeat;
-use rr_instance::{Backing, Row};
-use rr_round::Tally;
+use rr_instance::Row;
 use rr_suspect::Suspects;
 use rr_types::{Entry, NodeId, NodeSet, Nodes, Promise, Refusal};
 use std::alloc::Global;
@@ -20,32 +18,10 @@ fn clone_rows(alloc: Global, rows: &[Row]) -> Result<Vec<Row>, Refusal>
 {
     let mut copies = Vec::new(alloc);
     for row in rows {
-        let copy = rows::clone_row(alloc, row)?;
+        let copy = row.try_clone(alloc)?;
         copies.push(copy)?;
     }
     Ok(copies)
-}
-
-/// The row of an instance that a promise names: all its facts lie below this number.
-fn promised_row(alloc: Global, next: u64, entry: &Entry) -> Row
-    ensures { result ≡ promised_row next entry.now }
-{
-    let last = if next == 0 { 0 } else { (next - 1) as u128 };
-    Row {
-        instance: entry.instance,
-        standing: entry.standing,
-        backing: Backing {
-            entered: last,
-            proposed: last,
-            adopted: last,
-            decided: last,
-        },
-        tally: Tally {
-            estimates: Vec::new(alloc),
-            acks: NodeSet::empty(),
-            nacks: NodeSet::empty(),
-        },
-    }
 }
 
 /// The rows of the instances that a promise names.
@@ -55,7 +31,7 @@ fn promised_rows(alloc: Global, next: u64, entries: &[Entry]) -> Result<Vec<Row>
 {
     let mut promised = Vec::new(alloc);
     for entry in entries {
-        let row = promised_row(alloc, next, entry);
+        let row = Row::promised(alloc, next, entry);
         promised.push(row)?;
     }
     Ok(promised)
