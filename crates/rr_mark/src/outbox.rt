@@ -1,6 +1,6 @@
 //! What a node owes, in order.
 
-ghost use Rattle.std.specs.Prelude.{◌≡◌, ◌++◌, [], ◌∷◌, None, Some, true, false, All, IsTrue, find, option_map, MatchOption, IfErr, OnOk, OnErr};
+ghost use Rattle.std.specs.Prelude.{◌≡◌, ◌++◌, [], ◌∷◌, None, Some, true, false, All, IsTrue, length, find, option_map, MatchOption, IfErr, OnOk, OnErr};
 ghost use Rattle.rr_model.specs.NodeStep.{may_leave};
 ghost use Rattle.rr_mark.specs.Marks.{is_free, without_first, IsOwn};
 
@@ -9,13 +9,14 @@ use crate::mark::Mark;
 use crate::owed::Owed;
 use rr_types::{Body, Message, NodeId, Refusal};
 use std::alloc::Global;
+use std::collections::VecDeque;
 use std::marker::Model;
 
 /// The messages that a node owes, in order. Each is its own, and free where no fact backs it.
 #[derive(Debug, Drop)]
 pub struct Outbox {
     node: NodeId,
-    owed: Vec<Owed>,
+    owed: VecDeque<Owed>,
 }
 
 impl Model for Outbox {
@@ -31,7 +32,7 @@ impl Model for Outbox {
 
 /// The oldest that may leave is taken.
 #[tactic(auto, using(crate::proofs::OutboxLemmas::find_more, crate::proofs::OutboxLemmas::find_here, crate::proofs::OutboxLemmas::without_more, crate::proofs::OutboxLemmas::without_here, crate::proofs::OutboxLemmas::find_end, crate::proofs::OutboxLemmas::own_at, crate::proofs::OutboxLemmas::own_without))]
-fn take_leaving(owed: &mut Vec<Owed>, mark: &Mark) -> Option<Cleared>
+fn take_leaving(owed: &mut VecDeque<Owed>, mark: &Mark) -> Option<Cleared>
     requires { All (IsOwn mark.now.node) owed.old.items }
     ensures own { All (IsOwn mark.now.node) owed.new.items }
     ensures taken { MatchOption result
@@ -41,7 +42,7 @@ fn take_leaving(owed: &mut Vec<Owed>, mark: &Mark) -> Option<Cleared>
     for at in 0..owed.len() {
         let first = owed[at];
         if let Some(cleared) = cleared(&first, mark) {
-            owed.remove(at);
+            drop(owed.remove(at));
             return Some(cleared);
         }
     }
@@ -73,7 +74,7 @@ impl Outbox {
     {
         Outbox {
             node,
-            owed: Vec::new(alloc),
+            owed: VecDeque::new(alloc),
         }
     }
 
@@ -96,7 +97,7 @@ impl Outbox {
             to,
             body: *body,
         };
-        self.owed.push(Owed { message, backing })?;
+        self.owed.push_back(Owed { message, backing })?;
         Ok(())
     }
 
@@ -110,11 +111,10 @@ impl Outbox {
         take_leaving(&mut self.owed, mark)
     }
 
-    /// What is owed, oldest first.
-    pub fn owed(&self) -> &[Owed]
-        ensures { result.now ≡ self.now.owed }
+    /// How many messages are owed.
+    pub fn count(&self) -> usize
+        ensures { result ≡ length self.now.owed }
     {
-        let owed = &self.owed;
-        owed
+        self.owed.len()
     }
 }

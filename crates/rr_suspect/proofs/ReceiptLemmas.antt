@@ -25,16 +25,18 @@ put s c r l n h =
     at false y (inr h) = h
 
 pub what_was_told : (s c : ℕ) (rs : List Receipt) → IsWhatWasTold s c rs
-what_was_told s c [] l = (λ m. inl (m, tt), λ h. elim h [ | inl a ↦ a.0 | inr b ↦ absurd b ])
+what_was_told s c [] l = (λ m. inl (m, tt), λ h. elim h [ inl a ↦ a.0 | inr b ↦ absurd b ])
 what_was_told s c (r ∷ rs) l =
-    let ih = what_was_told (reduced s r.from r.set) c rs l in
-    (λ m. elim (ih.0 m) [
-      | inl a ↦ (let p = left s c r l a.0 in elim p.1 [ | inl x ↦ inl (x, (p.0, a.1)) | inr x ↦ inr (inl (x, (p.0, a.1))) ])
-      | inr t ↦ inr (inr t)
-    ], λ h. ih.1 (elim h [
-      | inl a ↦ inl (put s c r l a.1.0 (inl a.0), a.1.1)
-      | inr t ↦ elim t [ | inl b ↦ inl (put s c r l b.1.0 (inr b.0), b.1.1) | inr u ↦ inr u ]
-    ]))
+    let ih = what_was_told (reduced s r.from r.set) c rs l in (
+      λ m. elim (ih.0 m) [
+        | inl a ↦ (let p = left s c r l a.0 in elim p.1 [ inl x ↦ inl (x, (p.0, a.1)) | inr x ↦ inr (inl (x, (p.0, a.1))) ])
+        | inr t ↦ inr (inr t)
+      ],
+      λ h. ih.1 (elim h [
+        | inl a ↦ inl (put s c r l a.1.0 (inl a.0), a.1.1)
+        | inr t ↦ elim t [ inl b ↦ inl (put s c r l b.1.0 (inr b.0), b.1.1) | inr u ↦ inr u ]
+      ]),
+    )
 
 -- a named node that stays silent was told
 told : (c : ℕ) (rs : List Receipt) → IsSilent c rs → IsNamed c rs → IsTold c rs

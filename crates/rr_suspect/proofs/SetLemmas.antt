@@ -115,8 +115,8 @@ joined_has zero a b c =
 joined_has (suc k) a b c = go (c == k) refl (joined_has k (cond (has_member b k) (with_member a k) a) b c)
   where
     go : (e : Bool) → (c == k) ≡ e
-      → has_member (joined_below k (cond (has_member b k) (with_member a k) a) b) c ≡ (has_member (cond (has_member b k) (with_member a k) a) c || (nat_lt c k && has_member b c))
-      → has_member (joined_below k (cond (has_member b k) (with_member a k) a) b) c ≡ (has_member a c || (nat_lt c (suc k) && has_member b c))
+        → has_member (joined_below k (cond (has_member b k) (with_member a k) a) b) c ≡ (has_member (cond (has_member b k) (with_member a k) a) c || (nat_lt c k && has_member b c))
+        → has_member (joined_below k (cond (has_member b k) (with_member a k) a) b) c ≡ (has_member a c || (nat_lt c (suc k) && has_member b c))
     go true e h =
         let q : c ≡ k = eqb-true _ _ e in
         let l : nat_lt c k ≡ false = le-ltb c k (omega (arith, q)) in
