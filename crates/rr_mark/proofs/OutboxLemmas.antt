@@ -41,3 +41,14 @@ own_at p os k o l g a = subst (IsOwn p) (sym g) (All-get_or (IsOwn p) os k o l a
 -- without one of them they still are
 pub own_without : (p : ℕ) (os : List Owed) (k : ℕ) → All (IsOwn p) os → All (IsOwn p) (remove os k)
 own_without p os k a = All-append (IsOwn p) (take k os) (drop (suc k) os) (All-take (IsOwn p) k os a) (All-drop (IsOwn p) (suc k) os a)
+
+-- one message more
+pub more_owed : (before more : List Owed) (k : ℕ) (o : Owed) → k < length more → o ≡ get_or more k o → (before ++ take k more) ++ o ∷ [] ≡ before ++ take (k + 1) more
+more_owed before more k o l g =
+    append_assoc before (take k more) (o ∷ []) ∙ ap (λ (x : List Owed). before ++ x) (ap (λ (y : Owed). take k more ++ y ∷ []) g ∙ sym (take_more more k o l))
+
+pub own_both : (p : ℕ) (os more : List Owed) → All (IsOwn p) os → All (IsOwn p) more → All (IsOwn p) (os ++ more)
+own_both p os more a b = All-append (IsOwn p) os more a b
+
+pub own_front : (p : ℕ) (os : List Owed) (k : ℕ) → All (IsOwn p) os → All (IsOwn p) (take k os)
+own_front p os k a = All-take (IsOwn p) k os a

@@ -1,13 +1,13 @@
 //! What a node owes, in order.
 
-ghost use Rattle.std.specs.Prelude.{◌≡◌, ◌++◌, [], ◌∷◌, None, Some, true, false, All, IsTrue, length, find, option_map, MatchOption, IfErr, OnOk, OnErr};
+ghost use Rattle.std.specs.Prelude.{◌≡◌, ◌≤◌, ◌-◌, ◌++◌, take, [], ◌∷◌, None, Some, true, false, All, IsTrue, length, find, option_map, MatchOption, IfErr, OnOk, OnErr};
 ghost use Rattle.rr_model.specs.NodeStep.{may_leave};
 ghost use Rattle.rr_mark.specs.Marks.{is_free, without_first, IsOwn};
 
 use crate::cleared::{Cleared, Draft};
 use crate::mark::Mark;
 use crate::owed::Owed;
-use rr_types::{Body, Message, NodeId, Refusal};
+use rr_types::{Body, Command, Message, NodeId, Op, Refusal};
 use std::alloc::Global;
 use std::collections::VecDeque;
 use std::marker::Model;
@@ -67,6 +67,28 @@ fn cleared(owed: &Owed, mark: &Mark) -> Option<Cleared>
     }
 }
 
+/// Messages come last, all of them or, after an error, none.
+#[tactic(auto, using(crate::proofs::OutboxLemmas::more_owed))]
+fn extend(owed: &mut VecDeque<Owed>, more: &[Owed]) -> Result<(), Refusal>
+    ensures ok { OnOk result (owed.new.items ≡ owed.old.items ++ more.now) }
+    ensures kept { OnErr result (owed.new.items ≡ owed.old.items) }
+    ensures err { IfErr result (λ e. e ≡ Refusal.OutOfMemory) }
+{
+    // The check learns what a message is made of from the types of a function's variables.
+    let _parts: Option<(Body, Command, Message, Op)> = None;
+    let before = owed.len();
+    for one in more {
+        match owed.push_back(*one) {
+            Ok(()) => (),
+            Err(_) => {
+                owed.truncate(before);
+                return Err(Refusal::OutOfMemory);
+            }
+        }
+    }
+    Ok(())
+}
+
 impl Outbox {
     /// Nothing is owed.
     pub fn new(alloc: Global, node: NodeId) -> Outbox
@@ -99,6 +121,26 @@ impl Outbox {
         };
         self.owed.push_back(Owed { message, backing })?;
         Ok(())
+    }
+
+    /// The node owes these messages too, all of them or, after an error, none.
+    #[tactic(auto, using(crate::proofs::OutboxLemmas::own_both))]
+    pub fn owe_all(&mut self, more: &[Owed]) -> Result<(), Refusal>
+        requires { All (IsOwn self.old.node) more.now }
+        ensures ok { OnOk result (self.new ≡ record self.old { owed = self.old.owed ++ more.now }) }
+        ensures kept { OnErr result (self.new ≡ self.old) }
+        ensures err { IfErr result (λ e. e ≡ Refusal.OutOfMemory) }
+    {
+        extend(&mut self.owed, more)
+    }
+
+    /// The messages but the last `count` ones. It needs no memory.
+    #[tactic(auto, using(crate::proofs::OutboxLemmas::own_front))]
+    pub fn forget_last(&mut self, count: usize)
+        requires { count ≤ length self.old.owed }
+        ensures { self.new ≡ record self.old { owed = take (length self.old.owed - count) self.old.owed } }
+    {
+        self.owed.truncate(self.owed.len() - count);
     }
 
     /// Takes the oldest message that may leave by a mark of this node. It needs no memory.
