@@ -4,8 +4,6 @@
 
 mod cleared;
 mod copies;
-#[cfg(test)]
-mod core_tests;
 mod detector;
 mod due;
 mod estimates;
@@ -15,8 +13,6 @@ mod leaving;
 mod lookup;
 mod node_core;
 mod owing;
-#[cfg(test)]
-mod part_tests;
 mod parts;
 mod prefix;
 mod promise;

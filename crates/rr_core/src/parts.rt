@@ -8,8 +8,9 @@ ghost use Rattle.rr_types.specs.Standings.{round_of};
 ghost use Rattle.rr_model.specs.NodeState.{next_number, standing_at, row_of, first_undecided, open_instances, is_open, is_decided_request, everyone, others};
 ghost use Rattle.rr_model.specs.NodeParts.{owe, pool_add, stage, free_command, enter, restate, restate_all, conclude, propose};
 
-use crate::state::{Backing, State};
+use crate::state::State;
 use crate::{estimates, owing, rows, staging};
+use rr_instance::{Backing, entered, with_adopted, with_proposal};
 use rr_types::{
     Body, Command, Estimate, Fact, Instance, NodeId, Refusal, RequestNo, Round, Standing, WINDOW,
 };
@@ -139,7 +140,7 @@ impl State {
         ensures ok { OnOk result (self.new ≡ stage (staged.Enter instance estimate) self.old) }
         ensures err { IfErr result (λ e. e ≡ Refusal.OutOfMemory) }
     {
-        let standing = Some(staging::entered(&estimate));
+        let standing = Some(entered(&estimate));
         self.stage(Fact::Enter(instance, estimate), standing)
     }
 
@@ -154,7 +155,7 @@ impl State {
         ensures err { IfErr result (λ e. e ≡ Refusal.OutOfMemory) }
     {
         let command = &command;
-        let standing = staging::with_proposal(self.standing(instance), *command);
+        let standing = with_proposal(self.standing(instance), *command);
         self.stage(Fact::Propose(instance, round, *command), standing)
     }
 
@@ -170,7 +171,7 @@ impl State {
         ensures err { IfErr result (λ e. e ≡ Refusal.OutOfMemory) }
     {
         let command = &command;
-        let standing = staging::with_adopted(self.standing(instance), *command);
+        let standing = with_adopted(self.standing(instance), *command);
         self.stage(Fact::Adopt(instance, round, *command), standing)
     }
 
