@@ -1,10 +1,11 @@
 //! The areas of a disk, told as text.
 
-ghost use Rattle.std.specs.Prelude.{◌≡◌, ◌⊎◌, ℕ, ◌^◌, ◌<◌, List, length, Err, IfOk, OnOk};
+ghost use Rattle.std.specs.Prelude.{◌≡◌, ◌⊎◌, ℕ, ◌^◌, ◌<◌, List, length, Err, IfOk, IfErr, OnOk};
 ghost use Rattle.std.specs.Io.KnownBytes.{Appends, Keeps};
 ghost use Rattle.rr_types.specs.declared.refusal.Refusal.TheVariants.{Device};
 ghost use Rattle.rr_text.specs.ReportTexts.{line};
 ghost use Rattle.rr_disk.specs.Areas.{bytes_of};
+ghost use Rattle.rr_disk.specs.Counts.{counted, Grew};
 ghost use Rattle.rr_slots.specs.Inspect.{inspected};
 ghost use Rattle.rr_cli.specs.Areas.{area_words, areas_text, IsShown};
 ghost use Rattle.rr_cli.specs.Ends.{EndsOnFolder};
@@ -70,6 +71,8 @@ pub fn show_disk<D: Disk>(alloc: Global, disk: &mut D) -> Result<Vec<u8>, Refusa
         → IsShown result (inspected (bytes_of (D.areas disk.old).first) (bytes_of (D.areas disk.old).second)) ⊎ (result ≡ Err Device) }
     ensures some { ((first : List ℕ) × (second : List ℕ) × IsShown result (inspected first second)) ⊎ (result ≡ Err Device) }
     ensures same { D.tells disk.old → D.areas disk.new ≡ D.areas disk.old }
+    ensures cause { IfErr result (λ e. e ≡ Device → Grew (D.faults disk.old) (D.faults disk.new)) }
+    ensures calls { OnOk result (D.calls disk.new ≡ counted (counted (D.calls disk.old))) }
 {
     match inspect(alloc, disk) {
         Ok((first, second)) => match text_of(alloc, first, second) {
