@@ -44,7 +44,7 @@ length_replaced (x ∷ xs) zero y = refl
 length_replaced (x ∷ xs) (suc p) y = ap suc (length_replaced xs p y)
 
 -- the element at a place that was replaced
-get_here : {X : Type 0} (xs : List X) (p : ℕ) (x y : X) → slice_get xs p ≡ Some x → slice_get (slice_set xs p y) p ≡ Some y
+pub get_here : {X : Type 0} (xs : List X) (p : ℕ) (x y : X) → slice_get xs p ≡ Some x → slice_get (slice_set xs p y) p ≡ Some y
 get_here [] p x y e = absurd (let no : None ≡ Some x = e in cc)
 get_here (z ∷ xs) zero x y e = refl
 get_here (z ∷ xs) (suc p) x y e = get_here xs p x y e
@@ -164,6 +164,7 @@ no_steps p node.Device = inl (inl refl)
 no_steps p node.Mark = refl
 no_steps p node.Send = inl refl
 no_steps p node.Acknowledge = inl refl
+no_steps p node.Snap = refl
 no_steps p node.Restart = refl
 
 module _ (n : ℕ) (laws : NodeLaws n) where
@@ -281,7 +282,7 @@ module _ (n : ℕ) (laws : NodeLaws n) where
   event_takes at starved (Mark p) m w c range h spelt = takes p at starved node.Mark w c h tt spelt
   event_takes at starved (Send p) m w c range h spelt = takes p at starved node.Send w c h tt spelt
   event_takes at starved (Ack p) m w c range h spelt = takes p at starved node.Acknowledge w c h tt spelt
-  event_takes at starved (Snap p) m w c range h spelt = stays n p at (λ steps. steps ≡ []) w c c refl refl h
+  event_takes at starved (Snap p) m w c range h spelt = takes p at starved node.Snap w c h tt spelt
   event_takes at starved (Crash p a b fill) m w c range h spelt = crash_takes p a b at fill w c range.2 h
   event_takes at starved (Restart p) m w c range h spelt = takes p at starved node.Restart w c h tt spelt
 

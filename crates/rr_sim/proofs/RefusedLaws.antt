@@ -82,7 +82,7 @@ event_notes at starved (Fail p fill) c = by_seat p at c (λ seat. if starved the
 event_notes at starved (Mark p) c = node_notes p at starved node.Mark c
 event_notes at starved (Send p) c = node_notes p at starved node.Send c
 event_notes at starved (Ack p) c = node_notes p at starved node.Acknowledge c
-event_notes at starved (Snap p) c = none at c
+event_notes at starved (Snap p) c = node_notes p at starved node.Snap c
 event_notes at starved (Crash p a b fill) c = crash_notes p at a b fill c
 event_notes at starved (Restart p) c = node_notes p at starved node.Restart c
 

@@ -1,5 +1,5 @@
 -- A cluster of nodes with their disks, and what each event of a schedule does to it.
-use Rattle.std.specs.Prelude.{◌≡◌, ◌⊎◌, ℕ, ◌+◌, Bool, true, false, ◌&&◌, ◌==◌, nat_lt, if◌then◌else◌, List, [], ◌∷◌, ◌++◌, length, map, slice_get, slice_set, Option, None, Some, Result, Ok, Err}
+use Rattle.std.specs.Prelude.{◌≡◌, ◌⊎◌, ℕ, ◌+◌, Bool, true, false, ◌==◌, nat_lt, if◌then◌else◌, List, [], ◌∷◌, ◌++◌, length, map, slice_get, slice_set, Option, None, Some, Result, Ok, Err}
 use Rattle.std.specs.Option.{option_map_or}
 use Rattle.std.specs.List.{range_with_len}
 use Rattle.rr_types.specs.declared.message.Message.{Message}
@@ -66,23 +66,6 @@ hear_at p at starved k c = option_map_or (λ m. if m.to == p then at_node p at s
 abbrev pub crash_at : ℕ → ℕ → ℕ → List ℕ → Cluster → Cluster
 crash_at p cut_first cut_second fill c = option_map_or (λ seat. record c { seats = slice_set c.seats p (crashed cut_first cut_second fill seat) }) (slice_get c.seats p) c
 
--- whether the simulator serves an event yet
-abbrev pub is_served : Event → Bool
-is_served (Submit p c) = true
-is_served (Hear p k) = true
-is_served (Suspect p set) = true
-is_served (Tick p) = true
-is_served (Advance p) = true
-is_served (Take p) = true
-is_served (Device p) = true
-is_served (Fail p fill) = true
-is_served (Mark p) = true
-is_served (Send p) = true
-is_served (Ack p) = true
-is_served (Snap p) = false
-is_served (Crash p a b fill) = true
-is_served (Restart p) = true
-
 -- what the event of a line does to a cluster
 abbrev pub event_step : ℕ → Bool → Event → Cluster → Cluster
 event_step at starved (Submit p v) c = at_node p at starved (node.Submit v) c
@@ -96,7 +79,7 @@ event_step at starved (Fail p fill) c = fail_at p at starved fill c
 event_step at starved (Mark p) c = at_node p at starved node.Mark c
 event_step at starved (Send p) c = at_node p at starved node.Send c
 event_step at starved (Ack p) c = at_node p at starved node.Acknowledge c
-event_step at starved (Snap p) c = c
+event_step at starved (Snap p) c = at_node p at starved node.Snap c
 event_step at starved (Crash p a b fill) c = crash_at p a b fill c
 event_step at starved (Restart p) c = at_node p at starved node.Restart c
 
@@ -133,7 +116,7 @@ pub record IsReportOf (n : ℕ) (events : List Event) (report : Reported) : Type
   pub lines : report.lines ≡ at_the_end.lines
   pub decided : IsDecidedList n at_the_end.wire report.decided
 
--- the line of the first of these events that can't be run among n nodes: it isn't served, or its node isn't there
+-- the line of the first of these events whose node isn't there among n nodes
 abbrev pub first_fault : ℕ → ℕ → List Event → Option ℕ
 first_fault n at [] = None
-first_fault n at (e ∷ es) = if is_served e && nat_lt (node_of e) n then first_fault n (at + 1) es else Some at
+first_fault n at (e ∷ es) = if nat_lt (node_of e) n then first_fault n (at + 1) es else Some at

@@ -51,7 +51,7 @@ AreStepsOf wire (Fail p fill) steps = MayFall p steps
 AreStepsOf wire (Mark p) steps = MayBe p node.Mark steps
 AreStepsOf wire (Send p) steps = MayBe p node.Send steps
 AreStepsOf wire (Ack p) steps = MayBe p node.Acknowledge steps
-AreStepsOf wire (Snap p) steps = steps ≡ []
+AreStepsOf wire (Snap p) steps = MayBe p node.Snap steps
 AreStepsOf wire (Crash p a b fill) steps = MayFall p steps
 AreStepsOf wire (Restart p) steps = MayBe p node.Restart steps
 

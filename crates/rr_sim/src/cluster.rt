@@ -1,7 +1,7 @@
 //! A cluster of nodes with their disks: what each event of a schedule does to it.
 
-ghost use Rattle.std.specs.Prelude.{◌≡◌, ◌⊎◌, ◌++◌, length, option_to_list, Ok, OnOk, IfOk, IfErr, IsTrue};
-ghost use Rattle.rr_sim.specs.Clusters.{shown, note_of, new_cluster, at_node, fail_at, hear_at, crash_at, is_served, IsEither, Steps, IsSpeltAt, IsSpeltBehind};
+ghost use Rattle.std.specs.Prelude.{◌≡◌, ◌⊎◌, ◌++◌, length, option_to_list, Ok, OnOk, IfOk, IfErr};
+ghost use Rattle.rr_sim.specs.Clusters.{shown, note_of, new_cluster, at_node, fail_at, hear_at, crash_at, IsEither, Steps, IsSpeltAt, IsSpeltBehind};
 ghost use Rattle.rr_node.specs.Runs.{sent_by};
 
 use rr_node::{Node, NodeEvent, Outcome};
@@ -279,7 +279,6 @@ impl Cluster {
 
     /// What the event of a line does, memory aside; `OutOfMemory` where the wire or the report can't grow.
     pub fn step(&mut self, alloc: Global, line: u64, event: &Event) -> Result<(), Refusal>
-        requires { IsTrue (is_served event.now) }
         ensures ok { OnOk result (Steps line event.now self.old self.new) }
         ensures spelt { OnOk result (IsSpeltBehind event.now self.old self.new) }
         ensures err { IfErr result (λ e. e ≡ Refusal.OutOfMemory) }
@@ -305,6 +304,7 @@ impl Cluster {
             Event::Mark { node } => self.at_node(alloc, *node, line, NodeEvent::Mark),
             Event::Send { node } => self.at_node(alloc, *node, line, NodeEvent::Send),
             Event::Ack { node } => self.at_node(alloc, *node, line, NodeEvent::Acknowledge),
+            Event::Snap { node } => self.at_node(alloc, *node, line, NodeEvent::Snap),
             Event::Restart { node } => self.at_node(alloc, *node, line, NodeEvent::Restart),
             Event::Crash {
                 node,
@@ -316,7 +316,6 @@ impl Cluster {
                 Ok(())
             }
             Event::Fail { node, fill } => self.fail_at(alloc, *node, line, fill.as_bytes()),
-            Event::Snap { .. } => Ok(()),
         }
     }
 }

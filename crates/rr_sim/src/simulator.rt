@@ -1,9 +1,9 @@
 //! The simulator: a schedule in, the report of its run out.
 
-ghost use Rattle.std.specs.Prelude.{◌≡◌, ◌↔◌, ◌<◌, ◌≤◌, ◌⊎◌, ℕ, length, Some, OnOk, IfOk, IfErr, IsErrOf, IsTrue, All};
+ghost use Rattle.std.specs.Prelude.{◌≡◌, ◌↔◌, ◌<◌, ◌≤◌, ◌⊎◌, ℕ, length, Some, OnOk, IfOk, IfErr, IsErrOf};
 ghost use Rattle.rr_sim.specs.Clusters as cluster;
 ghost use Rattle.std.specs.List.{AllByRecursion};
-ghost use Rattle.rr_sim.specs.Clusters.{first_fault, is_served, Leads, LeadsSpelt, IsReportOf, new_cluster};
+ghost use Rattle.rr_sim.specs.Clusters.{first_fault, Leads, LeadsSpelt, IsReportOf, new_cluster};
 ghost use Rattle.rr_sim.specs.Headline.{IsRunOfTheWorld, AgreesWithOneList};
 ghost use Rattle.rr_text.specs.Scheduled.{node_of, IsEvent};
 
@@ -15,8 +15,8 @@ use rr_types::{NodeId, Nodes, Refusal};
 use std::alloc::Global;
 
 /// Runs a schedule on `nodes` nodes that are all down at first, over empty disks, and reports what comes of it.
-/// Errors: `BadNodes` outside 1 to 7; `BadEvent` of the line of the first event that isn't served yet or whose
-/// node isn't there; `OutOfMemory` where the wire or the report can't grow.
+/// Errors: `BadNodes` outside 1 to 7; `BadEvent` of the line of the first event whose node isn't there;
+/// `OutOfMemory` where the wire or the report can't grow.
 pub fn simulate(alloc: Global, nodes: u8, schedule: &Schedule) -> Result<Report, Refusal>
     ensures bad_nodes { IsErrOf result Refusal.BadNodes ↔ ((nodes < 1) ⊎ (7 < nodes)) }
     ensures bad_event { (line : ℕ) → IsErrOf result (Refusal.BadEvent line)
@@ -51,14 +51,14 @@ pub fn nodes_after(alloc: Global, nodes: u8, schedule: &Schedule) -> Result<Vec<
     }
 }
 
-/// The line of the first event that isn't served or whose node isn't there.
+/// The line of the first event whose node isn't there.
 fn first_fault(nodes: Nodes, events: &[Event]) -> Option<u64>
     requires { length events.now ≤ 1000000 }
     ensures { result ≡ first_fault nodes 2 events.now }
 {
     let mut line = 2u64;
     for event in events {
-        if !(is_served(event) && node_of(event).index() < nodes.count()) {
+        if node_of(event).index() >= nodes.count() {
             return Some(line);
         }
         line += 1;
@@ -87,16 +87,9 @@ fn node_of(event: &Event) -> NodeId
     }
 }
 
-fn is_served(event: &Event) -> bool
-    ensures { result ≡ is_served event.now }
-{
-    !matches!(event, Event::Snap { .. })
-}
-
-/// Runs events that can all be run, and reports.
+/// Runs events, and reports.
 fn run(alloc: Global, nodes: Nodes, events: &[Event]) -> Result<Report, Refusal>
     requires short { length events.now ≤ 1000000 }
-    requires served { All (λ e. IsTrue (is_served e)) events.now }
     requires few { nodes ≤ 7 }
     requires ranges { (m : ℕ) × AllByRecursion (IsEvent m) events.now }
     ensures report { IfOk result (λ report. IsReportOf nodes events.now report) }
@@ -108,10 +101,9 @@ fn run(alloc: Global, nodes: Nodes, events: &[Event]) -> Result<Report, Refusal>
     Ok(Report::new(cluster.into_lines(), decided))
 }
 
-/// The nodes, the wire and the report behind events that can all be run.
+/// The nodes, the wire and the report behind events.
 fn cluster_after(alloc: Global, nodes: Nodes, events: &[Event]) -> Result<Cluster, Refusal>
-    requires short { length events.now ≤ 1000000 }
-    requires served { All (λ e. IsTrue (is_served e)) events.now }
+    requires { length events.now ≤ 1000000 }
     ensures ok { IfOk result (λ end. Leads 2 events.now (new_cluster nodes) end) }
     ensures spelt { IfOk result (λ end. LeadsSpelt 2 events.now (new_cluster nodes) end) }
     ensures err { IfErr result (λ e. e ≡ Refusal.OutOfMemory) }
@@ -123,8 +115,7 @@ fn cluster_after(alloc: Global, nodes: Nodes, events: &[Event]) -> Result<Cluste
 
 /// Runs the events in order.
 fn run_events(alloc: Global, cluster: &mut Cluster, events: &[Event]) -> Result<(), Refusal>
-    requires short { length events.now ≤ 1000000 }
-    requires served { All (λ e. IsTrue (is_served e)) events.now }
+    requires { length events.now ≤ 1000000 }
     ensures ok { OnOk result (Leads 2 events.now cluster.old cluster.new) }
     ensures spelt { OnOk result (LeadsSpelt 2 events.now cluster.old cluster.new) }
     ensures err { IfErr result (λ e. e ≡ Refusal.OutOfMemory) }

@@ -1,13 +1,9 @@
-use Rattle.std.proofs.Common.{sym, ◌∙◌, subst, List}
+use Rattle.std.proofs.Common.{sym, subst, List}
 use Rattle.std.specs.List.{AllByRecursion}
 use Rattle.rr_text.specs.declared.event.Event.{Event}
 use Rattle.rr_text.specs.Scheduled.{IsEvent}
 use Rattle.rr_sim.proofs.HeadlineLaws.{run_agrees}
-use Rattle.rr_sim.proofs.RunLemmas.{each_served}
 use Rattle.rr_sim.proofs.simulator.simulate.Goals as goal
-
-pub run-requires-clause-served : goal.run-requires-clause-served
-run-requires-clause-served c = each_served c.in-Ok.count 2 c.events-events.result.now (sym c.first_fault.ensures ∙ c.in-None.is)
 
 pub run-requires-clause-ranges : goal.run-requires-clause-ranges
 run-requires-clause-ranges c =
