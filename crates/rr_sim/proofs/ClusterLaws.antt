@@ -44,7 +44,7 @@ length_replaced (x ∷ xs) zero y = refl
 length_replaced (x ∷ xs) (suc p) y = ap suc (length_replaced xs p y)
 
 -- the element at a place that was replaced
-get_here : {X : Type 0} (xs : List X) (p : ℕ) (x y : X) → slice_get xs p ≡ Some x → slice_get (slice_set xs p y) p ≡ Some y
+pub get_here : {X : Type 0} (xs : List X) (p : ℕ) (x y : X) → slice_get xs p ≡ Some x → slice_get (slice_set xs p y) p ≡ Some y
 get_here [] p x y e = absurd (let no : None ≡ Some x = e in cc)
 get_here (z ∷ xs) zero x y e = refl
 get_here (z ∷ xs) (suc p) x y e = get_here xs p x y e

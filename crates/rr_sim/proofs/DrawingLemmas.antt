@@ -5,7 +5,7 @@ use Rattle.std.specs.List.{AllByRecursion, flat_map, range_with_len}
 use Rattle.rand_pcg.specs.Lcg.{Lcg}
 use Rattle.rr_text.specs.declared.event.Event.{Event}
 use Rattle.rr_text.specs.declared.event.Event.TheVariants.{Device}
-use Rattle.rr_text.specs.Scheduled.{Scheduled, IsEvent, IsSchedule}
+use Rattle.rr_text.specs.Scheduled.{IsEvent, IsSchedule}
 use Rattle.rr_sim.specs.Clusters.{Cluster, Steps}
 use Rattle.rr_sim.specs.Random.{opening_of, openings, drawn, behind, AreDrawn, Draws}
 

@@ -6,3 +6,4 @@ pub mod HeadlineLaws
 pub mod NodeLaws
 pub mod RefusedLaws
 mod DrawingLemmas
+mod FailingLaws
