@@ -11,15 +11,19 @@ use Rattle.rr_text.specs.Reported.{Reported}
 use Rattle.rr_text.specs.ScheduleTexts.{schedule_text}
 use Rattle.rr_text.specs.ReportTexts.{report_text}
 use Rattle.rr_sim.specs.Clusters.{IsReportOf}
+use Rattle.rr_sim.specs.Headline.{IsRunOfTheWorld, AgreesWithOneList}
 use Rattle.rr_cli.specs.Refusals.{status_of}
 
--- the bytes are the text of a schedule, and the other text is that of the report of its run
+-- the bytes are the text of a schedule, and the other text is that of the report of its run, which is a run of the
+-- world and agrees with one list of commands
 pub record IsReportOn (bytes text : List ℕ) : Type 0 where
   pub schedule : Scheduled
   pub report : Reported
   pub lawful : IsSchedule schedule
   pub read : bytes ≡ schedule_text schedule
   pub run : IsReportOf schedule.nodes schedule.events report
+  pub world : IsRunOfTheWorld schedule.nodes schedule.events report
+  pub one_list : AgreesWithOneList schedule.events report
   pub told : text ≡ report_text report
 
 -- a stream has got the front of a text, and no more of it

@@ -134,7 +134,7 @@ rest_held n p facts start both stands holds images is =
     subst (λ (x : Images). Holds n p x facts) same holds
 
 -- however the closing of the first gate ended
-closing_images : (n p : ℕ) (facts : List Fact) (start : Images) → IsBlank n p facts start → must_close start.of_first ≡ true → (extent : Extent) → Torn 0 1 (at_rest start.of_first) extent
+pub closing_images : (n p : ℕ) (facts : List Fact) (start : Images) → IsBlank n p facts start → must_close start.of_first ≡ true → (extent : Extent) → Torn 0 1 (at_rest start.of_first) extent
     → EachHolds (Holds n p) (replaced (restarted start) First extent) facts
 closing_images n p facts start fresh due extent torn images is =
     let one = one_area start First extent images is in
@@ -144,7 +144,7 @@ closing_images n p facts start fresh due extent torn images is =
     let blank : found n p images.of_first start.of_second ≡ Unformatted = both_blank n p images.of_first start.of_second (short_blank n p images.of_first left) fronts.1 in
     subst (λ (x : Images). Holds n p x facts) (sym one.0) (still_held n p start (with_image start First images.of_first) facts fresh.blank fresh.holds blank)
 
-written_torn : (start : Images) → Torn 0 1 (at_rest start.of_first) (written 0 (0 ∷ []) (at_rest start.of_first))
+pub written_torn : (start : Images) → Torn 0 1 (at_rest start.of_first) (written 0 (0 ∷ []) (at_rest start.of_first))
 written_torn start = torn_written 0 (0 ∷ []) (at_rest start.of_first) (omega arith)
 
 module _ (n p : ℕ) (facts : List Fact) (old new : Areas) where

@@ -1,11 +1,11 @@
 //! A journal over an open disk: groups of facts are appended behind the last gate of the active area.
 
-ghost use Rattle.std.specs.Prelude.{◌≡◌, ◌⊎◌, ◌+◌, ◌^◌, ◌<◌, ◌≤◌, [], ◌++◌, List, true, false, nat_lt, length, IfOk, IfErr, Some};
+ghost use Rattle.std.specs.Prelude.{◌≡◌, ◌⊎◌, ◌+◌, ◌^◌, ◌<◌, ◌≤◌, [], ◌++◌, List, true, false, nat_lt, length, IfOk, IfErr, OnOk, Some};
 ghost use Rattle.rr_types.specs.declared.fact.Fact.{Fact};
 ghost use Rattle.rr_types.specs.declared.refusal.Refusal.TheVariants.{OutOfMemory, Failed, Busy, TooLarge};
 ghost use Rattle.rr_types.specs.Promises.{all_fit};
 ghost use Rattle.rr_disk.specs.Crash.{Images, restarted};
-ghost use Rattle.rr_frame.specs.GroupFormat.{group_bytes};
+ghost use Rattle.rr_frame.specs.GroupFormat.{group_bytes, IsLawfulGroup};
 ghost use Rattle.rr_gate.specs.Moments.{IsAt, body_due, with_group};
 ghost use Rattle.rr_journal.specs.Calls.{frame_bytes};
 ghost use Rattle.rr_journal.specs.Journals.{Holds, IsOver, once_flushed};
@@ -148,6 +148,7 @@ impl<D: Disk> Journal<D> {
         ensures ok { IfOk result (λ job. (self.old.failed ≡ false) × (self.old.busy ≡ false)
             × (self.old.gate + 6 + length (group_bytes group) < 2 ^ 32) × (self.new ≡ record self.old { busy = true })
             × (job ≡ record { nodes = self.old.nodes; node = self.old.node; area = self.old.area; gate = self.old.gate; body = frame_bytes (group_bytes group); group = group })) }
+        ensures lawful { OnOk result (IsLawfulGroup group) }
         ensures refused { IfErr result (λ r. (r.1 ≡ group) × (self.new ≡ self.old)) }
         ensures cause { IfErr result (λ r. (r.0 ≡ OutOfMemory) ⊎ ((r.0 ≡ Failed) × (self.old.failed ≡ true)) ⊎ ((r.0 ≡ Busy) × (self.old.busy ≡ true))
             ⊎ ((r.0 ≡ TooLarge) × (2 ^ 32 ≤ self.old.gate + 6 + length (group_bytes group)))) }

@@ -31,3 +31,9 @@ pub mod NodeRuns
 pub mod NodeWeights
 pub mod NodeEnds
 pub mod NodeSteady
+pub mod Fits
+pub mod NodeReached
+pub mod NodeInWorld
+pub mod NodeRestarts
+pub mod Frames
+pub mod NodeRounds

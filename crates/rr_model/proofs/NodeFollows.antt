@@ -22,21 +22,22 @@ use Rattle.rr_model.proofs.NodeKnows.{in_flight, Knows}
 use Rattle.rr_model.proofs.NodeStages.{Fitting, Steps, drop_front, steps, step_goes, event_knows, moment, started_knows}
 
 -- at p the function has the new value
-at_same : {A : Type 0} → (f : ℕ → A) (p : ℕ) (x : A) → with_at f p x p ≡ x
+pub at_same : {A : Type 0} → (f : ℕ → A) (p : ℕ) (x : A) → with_at f p x p ≡ x
 at_same f p x = ap (λ b. if b then x else f p) (eq-eqb p p refl)
 
-run_on : (n : ℕ) (w : World) (xs ys : List Step) → IsRunFrom n w xs → IsRunFrom n (after_steps w xs) ys → IsRunFrom n w (xs ++ ys)
+-- a run, and a run from where it ends
+pub run_on : (n : ℕ) (w : World) (xs ys : List Step) → IsRunFrom n w xs → IsRunFrom n (after_steps w xs) ys → IsRunFrom n w (xs ++ ys)
 run_on n w [] ys a b = b
 run_on n w (x ∷ xs) ys a b = (a.0, run_on n (after_step w x) xs ys a.1 b)
 
 -- the world has node p of n up, with these facts kept and staged, after what it heard
-record IsAt (n p : ℕ) (kept staged : List Fact) (h : Heard) (w : World) : Type 0 where
-  exists : p < n
-  up : w.is_up p ≡ true
-  kept_is : w.kept p ≡ kept
-  staged_is : w.staged p ≡ staged
-  heard : w.heard p ≡ h
-  submitted : (c : Command) → Contains h.commands c → Contains w.submitted c
+pub record IsAt (n p : ℕ) (kept staged : List Fact) (h : Heard) (w : World) : Type 0 where
+  pub exists : p < n
+  pub up : w.is_up p ≡ true
+  pub kept_is : w.kept p ≡ kept
+  pub staged_is : w.staged p ≡ staged
+  pub heard : w.heard p ≡ h
+  pub submitted : (c : Command) → Contains h.commands c → Contains w.submitted c
 
 staged_one : (n p : ℕ) (kept staged : List Fact) (h : Heard) (w : World) (f : Fact) → IsAt n p kept staged h w → IsAt n p kept (staged ++ f ∷ []) h (after_step w (Stage p f))
 staged_one n p kept staged h w f A = record {
@@ -49,7 +50,7 @@ staged_one n p kept staged h w f A = record {
 }
 
 -- lawful facts staged one after another
-stage_run : (n p : ℕ) (kept staged : List Fact) (h : Heard) (w : World) (fs : List Fact) → IsAt n p kept staged h w → AreLawful n p (kept ++ staged) h fs → IsRunFrom n w (map (Stage p) fs) × IsAt n p kept (staged ++ fs) h (after_steps w (map (Stage p) fs))
+pub stage_run : (n p : ℕ) (kept staged : List Fact) (h : Heard) (w : World) (fs : List Fact) → IsAt n p kept staged h w → AreLawful n p (kept ++ staged) h fs → IsRunFrom n w (map (Stage p) fs) × IsAt n p kept (staged ++ fs) h (after_steps w (map (Stage p) fs))
 stage_run n p kept staged h w [] A l = (tt, subst (λ z. IsAt n p kept z h w) (sym (append-nil staged)) A)
 stage_run n p kept staged h w (f ∷ fs) A l =
     let B : IsAt n p kept (staged ++ f ∷ []) h (after_step w (Stage p f)) = staged_one n p kept staged h w f A in
@@ -59,7 +60,7 @@ stage_run n p kept staged h w (f ∷ fs) A l =
     ((((A.exists, A.up), here), rest.0), subst (λ z. IsAt n p kept z h (after_steps (after_step w (Stage p f)) (map (Stage p) fs))) (append_assoc staged (f ∷ []) fs) rest.1)
 
 -- an input, where it is a step
-input_run : (n p : ℕ) (kept staged : List Fact) (h : Heard) (w : World) (input : Input) → IsInputOfWorld w p input → IsAt n p kept staged h w → IsRunFrom n w (step_of_input p input) × IsAt n p kept staged (heard_input p h input) (after_steps w (step_of_input p input))
+pub input_run : (n p : ℕ) (kept staged : List Fact) (h : Heard) (w : World) (input : Input) → IsInputOfWorld w p input → IsAt n p kept staged h w → IsRunFrom n w (step_of_input p input) × IsAt n p kept staged (heard_input p h input) (after_steps w (step_of_input p input))
 input_run n p kept staged h w (Submit c) x A = (
   ((A.exists, A.up), tt),
   record {

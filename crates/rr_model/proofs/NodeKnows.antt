@@ -325,11 +325,12 @@ pub pool_add_standing : (c : Command) (s : NodeState) (i : ℕ) → standing_at 
 unfolding pool_add
 pool_add_standing c s i = if_same (λ z. standing_at z i) s s (record s { pool = s.pool ++ c ∷ [] }) _ refl refl
 
--- the tally of an instance changed to one that was heard
-change_standing : (i j : ℕ) (change : Tally → Tally) (row : Row) (rows : List Row) → row_of rows i ≡ Some row → (b : Bool) → (row.instance == j) ≡ b → stands (if b then Some (record row { tally = change row.tally }) else row_of rows j) ≡ stands (row_of rows j)
+-- a changed tally leaves where instances stand
+pub change_standing : (i j : ℕ) (change : Tally → Tally) (row : Row) (rows : List Row) → row_of rows i ≡ Some row → (b : Bool) → (row.instance == j) ≡ b → stands (if b then Some (record row { tally = change row.tally }) else row_of rows j) ≡ stands (row_of rows j)
 change_standing i j change row rows e true x = ap stands (sym e ∙ ap (row_of rows) (sym (row_of_instance rows i row e) ∙ eqb-true _ _ x))
 change_standing i j change row rows e false x = refl
 
+-- the tally of an instance changed to one that was heard
 change_heard : (n : ℕ) (ms : List Message) (i j : ℕ) (change : Tally → Tally) (row other : Row) (rows : List Row) → row_of rows i ≡ Some row → ((k : ℕ) (r : Row) → row_of rows k ≡ Some r → IsHeardTally n ms k (round_of (Some r.standing)) r.tally) → IsHeardTally n ms i (round_of (Some row.standing)) (change row.tally) → (b : Bool) → (row.instance == j) ≡ b → (if b then Some (record row { tally = change row.tally }) else row_of rows j) ≡ Some other → IsHeardTally n ms j (round_of (Some other.standing)) other.tally
 change_heard n ms i j change row other rows e at H true x y =
     subst (λ (z : Row). IsHeardTally n ms j (round_of (Some z.standing)) z.tally) (same_Some _ other y)

@@ -103,7 +103,8 @@ put_back_knows : (X : Type 0) (n p : ℕ) (facts : List Fact) (h : Heard) (s : N
 unfolding group_put_back
 put_back_knows X n p facts h s K = moved_knows X n p facts h s _ K.kept refl refl refl refl refl K.whole K.count K.promise K
 
-still_owed : (marked_end : ℕ) (os : List Owed) (o : Owed) → Contains (without_first_leaving marked_end os) o → Contains os o
+-- what is owed behind a message that left was owed before
+pub still_owed : (marked_end : ℕ) (os : List Owed) (o : Owed) → Contains (without_first_leaving marked_end os) o → Contains os o
 still_owed marked_end [] o c = c
 still_owed marked_end (x ∷ xs) o c = at (still_owed marked_end xs o) (may_leave marked_end x) c
   where
@@ -159,7 +160,8 @@ promised_backing next (x ∷ es) i row e = at (promised_backing next es i row) (
 abbrev pub Fitting : ℕ → ℕ → List Fact → Type 0
 Fitting n p facts = all_fit n p [] facts ≡ true
 
-restored_knows : (n p : ℕ) (facts : List Fact) → Knows (Fitting n p facts) n p facts nothing_heard (restored n p (promise_of facts) (length facts))
+-- a node that knows its facts and nothing else knows what it should
+pub restored_knows : (n p : ℕ) (facts : List Fact) → Knows (Fitting n p facts) n p facts nothing_heard (restored n p (promise_of facts) (length facts))
 restored_knows n p facts = record {
   nodes = refl;
   node = refl;
@@ -185,7 +187,8 @@ started_knows n p facts =
 pub lawful_node : (n p : ℕ) (facts : List Fact) → IsLawfulNode n p facts
 lawful_node n p facts es x = stages_lawful (Fitting n p facts) n p facts nothing_heard (started n p (promise_of facts) (length facts)) es x (started_knows n p facts)
 
-found_passes : {A : Type 0} → (f : A → Bool) (xs : List A) (x : A) → find f xs ≡ Some x → Contains xs x × (f x ≡ true)
+-- what is found is there, and passes
+pub found_passes : {A : Type 0} → (f : A → Bool) (xs : List A) (x : A) → find f xs ≡ Some x → Contains xs x × (f x ≡ true)
 found_passes f [] x e = absurd (none-some x e)
 found_passes f (y ∷ ys) x e = at (found_passes f ys x) (f y) refl e
   where

@@ -65,19 +65,24 @@ grow_one None q xs ys f b = record { rest = while_decided q ys; is = refl }
 grow_one (Some v) None xs ys f b = absurd (none-some v (f v refl))
 grow_one (Some v) (Some w) xs ys f b = record { rest = b.rest; is = (let e : w ≡ v = same_Some w v (f v refl) in let t : xs ++ b.rest ≡ ys = b.is in cc) }
 
-pub decided_from_grows : (n p : ℕ) (h : Heard) (a b : List Fact) → History n p h (a ++ b) → (k l i : ℕ) → k ≤ l → Begins (decided_from k i a) (decided_from l i (a ++ b))
-decided_from_grows n p h a b H zero l i x = record { rest = decided_from l i (a ++ b); is = refl }
-decided_from_grows n p h a b H (suc k) zero i x = absurd (omega arith)
-decided_from_grows n p h a b H (suc k) (suc l) i x =
-    grow_one (decision_of (standing_of i a)) (decision_of (standing_of i (a ++ b))) (decided_from k (i + 1) a) (decided_from l (i + 1) (a ++ b))
-    (stays_decided n p h a b H i)
-    (decided_from_grows n p h a b H k l (i + 1) (le_of_suc-le-suc x))
+-- where what the first facts decide stays decided, a longer list begins with theirs
+decided_from_follows : (a c : List Fact) → ((i : ℕ) (v : Command) → decision_of (standing_of i a) ≡ Some v → decision_of (standing_of i c) ≡ Some v) → (k l i : ℕ) → k ≤ l → Begins (decided_from k i a) (decided_from l i c)
+decided_from_follows a c stays zero l i x = record { rest = decided_from l i c; is = refl }
+decided_from_follows a c stays (suc k) zero i x = absurd (omega arith)
+decided_from_follows a c stays (suc k) (suc l) i x =
+    grow_one (decision_of (standing_of i a)) (decision_of (standing_of i c)) (decided_from k (i + 1) a) (decided_from l (i + 1) c)
+    (stays i)
+    (decided_from_follows a c stays k l (i + 1) (le_of_suc-le-suc x))
+
+-- and so does its decided prefix
+pub prefix_follows : (a b : List Fact) → ((i : ℕ) (v : Command) → decision_of (standing_of i a) ≡ Some v → decision_of (standing_of i (a ++ b)) ≡ Some v) → Begins (decided_prefix a) (decided_prefix (a ++ b))
+prefix_follows a b stays =
+    let B : Begins (decided_from (length a) 0 a) (decided_from (length (a ++ b)) 0 (a ++ b)) = decided_from_follows a (a ++ b) stays (length a) (length (a ++ b)) 0 (omega (arith, length-append a b)) in
+    record { rest = B.rest; is = ap (λ z. z ++ B.rest) (prefix_is a) ∙ B.is ∙ sym (prefix_is (a ++ b)) }
 
 -- the decided prefix only grows
 pub prefix_grows : (n p : ℕ) (h : Heard) (a b : List Fact) → History n p h (a ++ b) → Begins (decided_prefix a) (decided_prefix (a ++ b))
-prefix_grows n p h a b H =
-    let B : Begins (decided_from (length a) 0 a) (decided_from (length (a ++ b)) 0 (a ++ b)) = decided_from_grows n p h a b H (length a) (length (a ++ b)) 0 (omega (arith, length-append a b)) in
-    record { rest = B.rest; is = ap (λ z. z ++ B.rest) (prefix_is a) ∙ B.is ∙ sym (prefix_is (a ++ b)) }
+prefix_grows n p h a b H = prefix_follows a b (stays_decided n p h a b H)
 
 place_decided_at : (facts : List Fact) (i k : ℕ) (v : Command) (xs : List Command) (o : Option Command) → decision_of (standing_of i facts) ≡ o → ((j : ℕ) → slice_get xs j ≡ Some v → decision_of (standing_of ((i + 1) + j) facts) ≡ Some v) → slice_get (while_decided o xs) k ≡ Some v → decision_of (standing_of (i + k) facts) ≡ Some v
 place_decided_at facts i k v xs None e ih g = absurd (none-some v g)

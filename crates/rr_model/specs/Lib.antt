@@ -12,3 +12,5 @@ pub mod Examples
 pub mod NodeExamples
 pub mod Laws
 pub mod NodeStays
+pub mod NodeReached
+pub mod NodeInWorld

@@ -2,24 +2,28 @@
 //! and reordered, and what stays true through every run of it.
 #![tactic(auto)]
 
-ghost use Rattle.std.specs.Prelude.{◌≡◌, ℕ, ◌≤◌, List, [], ◌∷◌, ◌++◌, ◌↔◌, Option, None, Some, IsTrue};
+ghost use Rattle.std.specs.Prelude.{◌≡◌, ℕ, ◌≤◌, Bool, List, [], ◌∷◌, ◌++◌, ◌↔◌, Option, None, Some, IsTrue};
 ghost use Rattle.rr_types.specs.declared.command.Command.{Command};
 ghost use Rattle.rr_types.specs.declared.fact.Fact.{Fact};
 ghost use Rattle.rr_types.specs.Commands.{is_same_command};
 ghost use Rattle.rr_types.specs.Promises.{all_fit};
 ghost use Rattle.rr_types.specs.declared.fact.Fact.TheVariants.{Enter, Propose, Adopt, Decide};
 ghost use Rattle.rr_types.specs.declared.message.Body.TheVariants.{Estimate};
+ghost use Rattle.rr_types.specs.declared.message.Message.{Message};
 ghost use Rattle.rr_model.specs.NodeState.{NodeState};
 ghost use Rattle.rr_model.specs.NodeDue.{Due, due, carry_out, settle};
 ghost use Rattle.rr_model.specs.NodeStays.{StaysMarked};
 ghost use Rattle.rr_model.specs.NodeStep.{Input, node_step, next_leaving, next_acknowledged};
 ghost use Rattle.rr_model.specs.NodeExamples.{told_alone, decided_alone, marked_alone};
-ghost use Rattle.rr_model.specs.NodeLaws.{IsLawfulNode, IsTruthfulNode};
-ghost use Rattle.rr_model.specs.NodeWorld.{IsWorldlyNode};
-ghost use Rattle.rr_model.specs.World.{Step, IsRun, end_of};
+ghost use Rattle.rr_model.specs.NodeLaws.{NodeEvent, IsTruthful, IsLawfulNode, IsTruthfulNode};
+ghost use Rattle.rr_model.specs.NodeWorld.{IsWorldlyNode, steps_of_event};
+ghost use Rattle.rr_model.specs.NodeReached.{IsProperEvent, IsReached, StagesLawfully, IsItself, NamesRounds};
+ghost use Rattle.rr_model.specs.NodeInWorld.{IsInWorld, LeavesTheGroup, IsRunInWorld, SettlesItsGroup, MarksWhatIsSettled, PutsBackItsGroup, GoesDown, Restarts, AreStepsAt, LeavesAlone, SaysJustThat};
+ghost use Rattle.rr_model.specs.Lawful.{Heard};
+ghost use Rattle.rr_model.specs.World.{World, Step, IsRun, end_of};
 ghost use Rattle.rr_model.specs.Examples.{first_request, claim_a_x, to_itself, first_estimate, decides_and_acknowledges, told_by_it, stages_and_crashes, goes_on, IsProposeOfAnotherUnlawful, IsAdoptBelowTheStampUnlawful, IsDecideWithoutMajorityUnlawful, IsEnterWithMadeUpCommandUnlawful};
 ghost use Rattle.rr_model.specs.Sound.{IsSound};
-ghost use Rattle.rr_model.specs.Laws.{AreBeginningsRuns, StaysChosen, DoesListGrow, AreKeptFactsNeverLost, DoRoundsRise, DoAcksBind, AreProposalsLocked, DoesWhatIsLeftFit, DoesPromiseStand, DoLawfulFactsFit};
+ghost use Rattle.rr_model.specs.Laws.{after_steps, AreBeginningsRuns, StaysChosen, DoesListGrow, AreKeptFactsNeverLost, DoRoundsRise, DoAcksBind, AreProposalsLocked, DoesWhatIsLeftFit, DoesPromiseStand, DoLawfulFactsFit};
 
 /// Agreement and durability: every run of 1 to 7 nodes is sound, whatever is lost, repeated, reordered,
 /// suspected, crashed and restarted.
@@ -58,6 +62,32 @@ pub fn laws_of_nodes()
     ensures inputs_mark_nothing { (input : Input) (s : NodeState) → StaysMarked s (node_step input s) }
     ensures messages_are_backed { (n p : ℕ) (facts : List Fact) → IsTrue (all_fit n p [] facts) → IsTruthfulNode n p facts }
     ensures events_are_steps_of_the_world { (n p : ℕ) (facts : List Fact) → IsTrue (all_fit n p [] facts) → IsWorldlyNode n p facts }
+{}
+
+/// Laws of one moment of a node that was opened over facts that fit, and of the event after it: it says only what
+/// its marked facts back, its facts fit, it stages only lawful ones, and what leaves it names rounds above 0.
+pub fn laws_of_reached_nodes()
+    ensures reached_nodes_are_truthful { (n p : ℕ) (facts : List Fact) (h : Heard) (s : NodeState) → IsReached n p facts h s → IsTruthful p facts h s }
+    ensures they_stay_who_they_are { (n p : ℕ) (facts : List Fact) (h : Heard) (s : NodeState) → IsReached n p facts h s → IsItself n p facts s }
+    ensures their_facts_fit { (n p : ℕ) (facts : List Fact) (h : Heard) (s : NodeState) → IsReached n p facts h s → IsTrue (all_fit n p [] facts) }
+    ensures they_stage_only_lawful_facts { (n p : ℕ) (facts : List Fact) (h : Heard) (s : NodeState) (e : NodeEvent) → IsReached n p facts h s → IsProperEvent n e → StagesLawfully n p facts h s e }
+    ensures their_messages_name_rounds { (n p : ℕ) (facts : List Fact) (h : Heard) (s : NodeState) (m : Message) → IsReached n p facts h s → next_leaving s ≡ Some m → (m.from ≡ p) × NamesRounds m.body }
+{}
+
+/// Laws of such a node in the world, where its running group is settled by one step and marked by none: each of its
+/// events is a run of the world's steps, at this node alone, and tells just what the event tells. It may go down
+/// at any moment, and restart over whatever facts the world kept, where these fit.
+pub fn laws_of_nodes_in_the_world()
+    ensures events_are_steps { (settled : Bool) (n p : ℕ) (facts : List Fact) (h : Heard) (s : NodeState) (e : NodeEvent) → IsReached n p facts h s → IsProperEvent n e → LeavesTheGroup e → IsRunInWorld settled n p facts h s e }
+    ensures one_step_settles_the_group { (n p : ℕ) (facts : List Fact) (h : Heard) (s : NodeState) → SettlesItsGroup n p facts h s }
+    ensures marking_is_no_step { (n p : ℕ) (facts : List Fact) (h : Heard) (s : NodeState) → IsReached n p facts h s → MarksWhatIsSettled n p facts h s }
+    ensures putting_back_is_no_step { (n p : ℕ) (facts : List Fact) (h : Heard) (s : NodeState) → PutsBackItsGroup n p facts h s }
+    ensures nodes_may_go_down { (settled : Bool) (n p : ℕ) (facts : List Fact) (h : Heard) (s : NodeState) → GoesDown settled n p facts h s }
+    ensures nodes_may_restart { (n p : ℕ) (kept staged : List Fact) (count : ℕ) → Restarts n p kept staged count }
+    ensures events_happen_at_their_node { (p : ℕ) (s : NodeState) (e : NodeEvent) → AreStepsAt p (steps_of_event p s e) }
+    ensures events_say_just_that { (p : ℕ) (s : NodeState) (e : NodeEvent) → SaysJustThat p s e }
+    ensures others_are_left_alone { (q p : ℕ) (w : World) (steps : List Step) → (q ≡ p → ⊥) → AreStepsAt p steps → LeavesAlone q w (after_steps w steps) }
+    ensures nodes_left_alone_stay_in_the_world { (settled : Bool) (n q : ℕ) (facts : List Fact) (h : Heard) (s : NodeState) (w v : World) → LeavesAlone q w v → IsInWorld settled n q facts h s w → IsInWorld settled n q facts h s v }
 {}
 
 /// The definitions mean what they say: a run in which a node decides, acknowledges and restarts, one that

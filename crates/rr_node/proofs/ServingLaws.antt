@@ -20,9 +20,9 @@ use Rattle.rr_disk.specs.Counts.{Grew}
 use Rattle.rr_disk.specs.Failing.{FailingWrite, FailingSync}
 use Rattle.rr_disk.specs.Memory.{MemoryWrite, MemorySync}
 use Rattle.rr_frame.specs.Numbers.{number_bytes}
-use Rattle.rr_frame.specs.GroupFormat.{group_bytes}
+use Rattle.rr_frame.specs.GroupFormat.{group_bytes, IsLawfulGroup}
 use Rattle.rr_frame.specs.Snapshots.{Snapped}
-use Rattle.rr_frame.specs.SnapshotFormat.{snapshot_bytes}
+use Rattle.rr_frame.specs.SnapshotFormat.{snapshot_bytes, IsLawfulSnapshot}
 use Rattle.rr_frame.proofs.FieldLaws.{length-number_bytes}
 use Rattle.rr_gate.specs.Flushes as gate
 use Rattle.rr_journal.specs.declared.journal.Journal.{Journal}
@@ -48,7 +48,7 @@ flush_stays s t j f same h = by f h
     group = ap (λ (o : Option (List Fact)). option_map (λ facts. record { serial = t.marked_end; facts = facts }) o) same.running ∙ ap (λ (n : ℕ). option_map (λ (facts : List Fact). record { serial = n; facts = facts }) s.running) same.marked_end
 
     job_stays : (job : gate.Flush) → IsJobOf s j job → IsJobOf t j job
-    job_stays job h = record { node = h.node ∙ sym same.node; area = h.area; gate = h.gate; body = h.body; group = group ∙ h.group; next = h.next ∙ sym same.marked_end }
+    job_stays job h = record { node = h.node ∙ sym same.node; area = h.area; gate = h.gate; body = h.body; group = group ∙ h.group; lawful = h.lawful; next = h.next ∙ sym same.marked_end }
 
     snapshot : seats.snapshot_of t (journaled_of j) ≡ seats.snapshot_of s (journaled_of j)
     snapshot = λ i. record { node = same.node i; nodes = same.nodes i; epoch = j.epoch + 1; next = same.marked_end i; entries = same.marked i }
@@ -60,7 +60,7 @@ flush_stays s t j f same h = by f h
     by (flush.BodySafe job) h = job_stays job h
     by (flush.GateSet job) h = job_stays job h
     by (flush.Flushed kept) h = (h.0 ∙ sym same.node, group ∙ h.1, h.2, h.3)
-    by (flush.Switching job) h = record { area = h.area; epoch = h.epoch; body = h.body ∙ ap (λ (x : Snapped). frame_bytes (snapshot_bytes x)) (sym snapshot); next = h.next ∙ sym same.marked_end; rests = same.running ∙ h.rests }
+    by (flush.Switching job) h = record { area = h.area; epoch = h.epoch; body = h.body ∙ ap (λ (x : Snapped). frame_bytes (snapshot_bytes x)) (sym snapshot); lawful = subst IsLawfulSnapshot (sym snapshot) h.lawful; next = h.next ∙ sym same.marked_end; rests = same.running ∙ h.rests }
 
 serving_stays : (n p : ℕ) (s t : NodeState) (j : Journal NodeDisk) (f : Flush) → StaysMarked s t → IsServing n p (record { core = s; slots = j; flush = f }) → IsServing n p (record { core = t; slots = j; flush = f })
 serving_stays n p s t j f same h = record {
@@ -198,10 +198,10 @@ take_is s j seat group fits some is fit =
     ∙ ap (λ (b : Bool). taken_with s j seat false b (group_bytes group)) fit
 
 pub begin_done : (s t : NodeState) (j k : Journal NodeDisk) (group : Grouped) (job : gate.Flush) → s.staged ≢ [] → t ≡ group_taken s → Some group ≡ running_group t → s.running ≡ None
-    → j.gate + 6 + length (group_bytes group) < 2 ^ 32 → k ≡ record j { busy = true }
+    → IsLawfulGroup group → j.gate + 6 + length (group_bytes group) < 2 ^ 32 → k ≡ record j { busy = true }
     → job ≡ record { nodes = j.nodes; node = j.node; area = j.area; gate = j.gate; body = frame_bytes (group_bytes group); group = group }
     → CarriesOn at.Take (record { core = s; slots = j; flush = flush.Resting }) (Ok Quiet) (does.Serving (record { core = t; slots = k; flush = flush.Body job }))
-begin_done s t j k group job some taken runs rests small busy is n p h =
+begin_done s t j k group job some taken runs rests lawful small busy is n p h =
     rw (taken, busy, is) (
       inl (sym step),
       record {
@@ -211,7 +211,7 @@ begin_done s t j k group job some taken runs rests small busy is n p h =
         journal_node = h.journal_node;
         sound = h.sound;
         calm = h.calm;
-        flush = record { node = h.journal_node ∙ sym (nodes_stay.1 ∙ h.node); area = refl; gate = refl; body = refl; group = group_is; next = h.flush.2 ∙ sym nodes_stay.2 };
+        flush = record { node = h.journal_node ∙ sym (nodes_stay.1 ∙ h.node); area = refl; gate = refl; body = refl; group = group_is; lawful = lawful; next = h.flush.2 ∙ sym nodes_stay.2 };
         appending = record { behind = h.appending.behind; formatted = h.appending.formatted };
         beside = h.beside;
       },
@@ -328,7 +328,7 @@ flush_goes s j k f g call next calls is rest same gave keeps n p h =
 -- a job stays of the running group over another disk
 pub job_goes : (s : NodeState) (j k : Journal NodeDisk) (job next : gate.Flush) → k ≡ record j { disk = k.disk } → next ≡ job → IsJobOf s j job → IsJobOf s k next
 job_goes s j k job next same is h =
-    rw is (record { node = h.node; area = h.area ∙ sym (ap (λ (x : Journal NodeDisk). x.area) same); gate = h.gate ∙ sym (ap (λ (x : Journal NodeDisk). x.gate) same); body = h.body; group = h.group; next = ap (λ (x : Journal NodeDisk). x.next) same ∙ h.next })
+    rw is (record { node = h.node; area = h.area ∙ sym (ap (λ (x : Journal NodeDisk). x.area) same); gate = h.gate ∙ sym (ap (λ (x : Journal NodeDisk). x.gate) same); body = h.body; group = h.group; lawful = h.lawful; next = ap (λ (x : Journal NodeDisk). x.next) same ∙ h.next })
 
 -- a job's step was refused: by a journal that has failed, and nothing has changed, or by a device call that gave this
 abbrev pub IsRefused : (NodeDisk → Result (Unit {0}) Refusal → NodeDisk → Type 0) → Journal NodeDisk → Journal NodeDisk → Refusal → Type 0

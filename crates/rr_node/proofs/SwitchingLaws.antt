@@ -11,7 +11,7 @@ use Rattle.rr_disk.specs.Counts.{Grew}
 use Rattle.rr_disk.specs.Failing.{FailingWrite, FailingSync}
 use Rattle.rr_disk.specs.Memory.{MemoryWrite, MemorySync}
 use Rattle.rr_frame.specs.Snapshots.{Snapped}
-use Rattle.rr_frame.specs.SnapshotFormat.{snapshot_bytes}
+use Rattle.rr_frame.specs.SnapshotFormat.{snapshot_bytes, IsLawfulSnapshot}
 use Rattle.rr_journal.specs.declared.journal.Journal.{Journal}
 use Rattle.rr_journal.specs.Calls.{Call, Read, Write, Sync, frame_bytes, after_call, after_failing, after_starved}
 use Rattle.rr_journal.specs.OtherAreas.{other_area, closes_in}
@@ -100,6 +100,7 @@ switch_goes s j k job next went made n p h = (
       area = ap (λ (x : Switch). x.area) is ∙ h.flush.area ∙ ap (λ (x : Journal NodeDisk). other_area x.area) (sym same);
       epoch = ap (λ (x : Switch). x.epoch) is ∙ h.flush.epoch ∙ ap (λ (x : Journal NodeDisk). x.epoch + 1) (sym same);
       body = ap (λ (x : Switch). x.body) is ∙ h.flush.body ∙ ap (λ (x : Journal NodeDisk). frame_bytes (snapshot_bytes (snapshot_of s (journaled_of x)))) (sym same);
+      lawful = subst (λ (x : Journal NodeDisk). IsLawfulSnapshot (snapshot_of s (journaled_of x))) (sym same) h.flush.lawful;
       next = ap (λ (x : Journal NodeDisk). x.next) same ∙ h.flush.next;
       rests = h.flush.rests;
     };
@@ -251,10 +252,10 @@ snapped_if s j seat may =
     if may then seats.goes_on Quiet (seats.Serving s (journaled_of j) (seats.Switching (switch_calls (other_area j.area) (closes_in seat.areas (other_area j.area)) (snapshot_bytes (snapshot_of s (journaled_of j)))))) seat
     else seats.refuse because.TooLarge seat
 
-pub switch_begun : (s : NodeState) (j k : Journal NodeDisk) (promise : List Entry) (job : Switch) → promise ≡ s.marked → j.epoch + 1 < 2 ^ 64 → 6 + length (snapshot_bytes (slots.snapshot_of j promise)) < 2 ^ 32 → k ≡ record j { busy = true }
+pub switch_begun : (s : NodeState) (j k : Journal NodeDisk) (promise : List Entry) (job : Switch) → promise ≡ s.marked → j.epoch + 1 < 2 ^ 64 → IsLawfulSnapshot (slots.snapshot_of j promise) → 6 + length (snapshot_bytes (slots.snapshot_of j promise)) < 2 ^ 32 → k ≡ record j { busy = true }
     → job ≡ record { nodes = j.nodes; node = j.node; area = other_area j.area; epoch = j.epoch + 1; next = j.next; body = frame_bytes (snapshot_bytes (slots.snapshot_of j promise)); stage = first_stage j.closes_other }
     → CarriesOn at.Snap (record { core = s; slots = j; flush = flush.Resting }) (Ok Quiet) (does.Serving (record { core = s; slots = k; flush = flush.Switching job }))
-switch_begun s j k promise job marked epoch short busy is n p h = (
+switch_begun s j k promise job marked epoch lawful short busy is n p h = (
   inl (own ∙ ap (snapped_if s j old) (sym may)),
   record {
     nodes = h.nodes;
@@ -267,6 +268,7 @@ switch_begun s j k promise job marked epoch short busy is n p h = (
       area = ap (λ (x : Switch). x.area) is ∙ ap (λ (x : Journal NodeDisk). other_area x.area) (sym busy);
       epoch = ap (λ (x : Switch). x.epoch) is ∙ ap (λ (x : Journal NodeDisk). x.epoch + 1) (sym busy);
       body = body ∙ ap (λ (x : Journal NodeDisk). frame_bytes (snapshot_bytes (snapshot_of s (journaled_of x)))) (sym busy);
+      lawful = subst (λ (x : Journal NodeDisk). IsLawfulSnapshot (snapshot_of s (journaled_of x))) (sym busy) (subst IsLawfulSnapshot snapshot lawful);
       next = ap (λ (x : Journal NodeDisk). x.next) busy ∙ h.flush.2;
       rests = h.flush.0;
     };

@@ -1,2 +1,4 @@
+pub mod Runs
 pub mod Seats
 pub mod Views
+pub mod Worlds

@@ -10,8 +10,8 @@ use Rattle.rr_disk.specs.Areas.{Areas}
 use Rattle.rr_disk.specs.Crash.{Images, IsCrashImage, restarted}
 use Rattle.rr_disk.specs.Failing.{FailingState}
 use Rattle.rr_disk.specs.Memory.{MemoryState}
-use Rattle.rr_frame.specs.GroupFormat.{group_bytes}
-use Rattle.rr_frame.specs.SnapshotFormat.{snapshot_bytes}
+use Rattle.rr_frame.specs.GroupFormat.{group_bytes, IsLawfulGroup}
+use Rattle.rr_frame.specs.SnapshotFormat.{snapshot_bytes, IsLawfulSnapshot}
 use Rattle.rr_gate.specs.Flushes as gate
 use Rattle.rr_journal.specs.declared.journal.Journal.{Journal}
 use Rattle.rr_journal.specs.Calls.{Write, Sync, frame_bytes}
@@ -81,20 +81,22 @@ due_of (does.Serving s) = s.slots.disk.due
 abbrev pub seat_of : ℕ → ℕ → code.Doing → Seat
 seat_of n p doing = record { nodes = n; node = p; doing = doing_of doing; areas = areas_of doing }
 
--- a job is of the core's running group, and writes its frame where the journal appends
+-- a job is of the core's running group, which has a spelling, and writes its frame where the journal appends
 pub record IsJobOf (s : NodeState) (j : Journal NodeDisk) (job : gate.Flush) : Type 0 where
   pub node : job.node ≡ s.node
   pub area : job.area ≡ j.area
   pub gate : job.gate ≡ j.gate
   pub body : job.body ≡ frame_bytes (group_bytes job.group)
   pub group : running_group s ≡ Some job.group
+  pub lawful : IsLawfulGroup job.group
   pub next : j.next ≡ s.marked_end
 
--- a switch is to the snapshot of the core's marked facts, in the other area with the next epoch, and no group runs
+-- a switch is to the snapshot of the core's marked facts, which has a spelling, in the other area with the next epoch, and no group runs
 pub record IsSwitchOf (s : NodeState) (j : Journal NodeDisk) (job : Switch) : Type 0 where
   pub area : job.area ≡ other_area j.area
   pub epoch : job.epoch ≡ j.epoch + 1
   pub body : job.body ≡ frame_bytes (snapshot_bytes (seats.snapshot_of s (journaled_of j)))
+  pub lawful : IsLawfulSnapshot (seats.snapshot_of s (journaled_of j))
   pub next : j.next ≡ s.marked_end
   pub rests : s.running ≡ None
 

@@ -3,8 +3,10 @@
 
 mod doing;
 mod event;
+mod laws;
 mod node;
 mod serving;
 
 pub use event::{BoundNames, NodeEvent, Outcome};
+pub use laws::laws_of_seats;
 pub use node::Node;

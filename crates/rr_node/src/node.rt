@@ -1,6 +1,7 @@
 //! A node over its disk.
 
 ghost use Rattle.std.specs.Prelude.{◌≡◌};
+ghost use Rattle.rr_node.specs.Runs.{IsSpelt};
 ghost use Rattle.rr_node.specs.Seats.{Gives, Fails, new_seat, crashed};
 
 use crate::doing::{Doing, fail, go_on};
@@ -57,7 +58,8 @@ impl Node {
     /// device call: an opening that is refused ends, and a node whose flush fails has failed.
     /// Errors: `OutOfMemory`, `Device`, `Damaged`, `Failed`, `Down`, `ListFull`, `RoundsOut`, `Busy`, `TooLarge`.
     pub fn step(&mut self, alloc: Global, event: NodeEvent) -> Result<Outcome, Refusal>
-        ensures { Gives event self.old result self.new }
+        ensures gives { Gives event self.old result self.new }
+        ensures spelt { IsSpelt self.new.doing }
     {
         let doing = mem::replace(
             &mut self.doing,
@@ -72,7 +74,8 @@ impl Node {
     /// failed. A node that is down refuses it with `Down` and one that has failed with `Failed`; where no
     /// device call is due nothing happens.
     pub fn fail(&mut self, alloc: Global, fill: Vec<u8>) -> Result<Outcome, Refusal>
-        ensures { Fails fill.items self.old result self.new }
+        ensures fails { Fails fill.items self.old result self.new }
+        ensures spelt { IsSpelt self.new.doing }
     {
         let doing = mem::replace(
             &mut self.doing,

@@ -1,1 +1,8 @@
 pub mod ChosenLemmas
+pub mod TellingLaws
+pub mod SubmittedLaws
+pub mod ClusterLaws
+pub mod HeadlineLaws
+pub mod NodeLaws
+pub mod RefusedLaws
+pub mod FailingLaws

@@ -10,6 +10,7 @@ use Rattle.rr_node.specs.declared.event.NodeEvent.{NodeEvent}
 use Rattle.rr_node.specs.declared.event.NodeEvent.TheVariants as node
 use Rattle.rr_node.specs.declared.event.Outcome.{Outcome}
 use Rattle.rr_node.specs.declared.event.Outcome.TheVariants.{Quiet, Left, Replied, Opened}
+use Rattle.rr_node.specs.Runs.{sent_by, IsSpelt}
 use Rattle.rr_node.specs.Seats.{Seat, new_seat, Answer, seat_step, starve, seat_fails, starve_fails, crashed}
 use Rattle.rr_text.specs.declared.event.Event.{Event}
 use Rattle.rr_text.specs.declared.event.Event.TheVariants.{Submit, Hear, Suspect, Tick, Advance, Take, Device, Fail, Mark, Send, Ack, Snap, Crash, Restart}
@@ -40,14 +41,6 @@ note_of p at sent (Ok (Left m)) = line.Send sent m ∷ []
 note_of p at sent (Ok (Replied q reply)) = line.Ack p q reply ∷ []
 note_of p at sent (Ok (Opened facts decided bindings)) = line.Restart p facts decided (shown bindings) ∷ []
 note_of p at sent (Err e) = line.Refuse at e ∷ []
-
--- the messages that an answer puts on the wire
-abbrev pub sent_by : Result Outcome Refusal → List Message
-sent_by (Ok Quiet) = []
-sent_by (Ok (Left m)) = m ∷ []
-sent_by (Ok (Replied q reply)) = []
-sent_by (Ok (Opened facts decided bindings)) = []
-sent_by (Err e) = []
 
 -- the cluster after an answer of node p to the event of a line
 abbrev pub with_answer : ℕ → ℕ → Cluster → Answer → Cluster
@@ -102,6 +95,19 @@ Steps at event old new = IsEither (λ starved. new ≡ event_step at starved eve
 abbrev pub Leads : ℕ → List Event → Cluster → Cluster → Type 0
 Leads at [] old new = new ≡ old
 Leads at (e ∷ es) old new = (next : Cluster) × Steps at e old next × Leads (at + 1) es next new
+
+-- the group that node p is flushing has a spelling
+abbrev pub IsSpeltAt : ℕ → Cluster → Type 0
+IsSpeltAt p c = (seat : Seat) → slice_get c.seats p ≡ Some seat → IsSpelt seat.doing
+
+-- that holds of an event's node behind it, or nothing has changed
+abbrev pub IsSpeltBehind : Event → Cluster → Cluster → Type 0
+IsSpeltBehind event old new = (new ≡ old) ⊎ IsSpeltAt (node_of event) new
+
+-- the events lead from one cluster to another, and that holds behind each
+abbrev pub LeadsSpelt : ℕ → List Event → Cluster → Cluster → Type 0
+LeadsSpelt at [] old new = new ≡ old
+LeadsSpelt at (e ∷ es) old new = (next : Cluster) × Steps at e old next × IsSpeltBehind e old next × LeadsSpelt (at + 1) es next new
 
 -- the report of a schedule run of n nodes: the events lead to its lines, and it ends with the decided list of the wire
 pub record IsReportOf (n : ℕ) (events : List Event) (report : Reported) : Type 0 where

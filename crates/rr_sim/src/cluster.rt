@@ -1,7 +1,8 @@
 //! A cluster of nodes with their disks: what each event of a schedule does to it.
 
-ghost use Rattle.std.specs.Prelude.{◌≡◌, ◌++◌, length, option_to_list, Ok, OnOk, IfOk, IfErr};
-ghost use Rattle.rr_sim.specs.Clusters.{shown, note_of, sent_by, new_cluster, at_node, fail_at, hear_at, crash_at, IsEither, Steps};
+ghost use Rattle.std.specs.Prelude.{◌≡◌, ◌⊎◌, ◌++◌, length, option_to_list, Ok, OnOk, IfOk, IfErr};
+ghost use Rattle.rr_sim.specs.Clusters.{shown, note_of, new_cluster, at_node, fail_at, hear_at, crash_at, IsEither, Steps, IsSpeltAt, IsSpeltBehind};
+ghost use Rattle.rr_node.specs.Runs.{sent_by};
 
 use rr_node::{Node, NodeEvent, Outcome};
 use rr_registry::Holding;
@@ -180,6 +181,7 @@ impl Cluster {
     ) -> Result<(), Refusal>
         ensures ok { OnOk result
             (IsEither (λ starved. self.new ≡ at_node node line starved event self.old)) }
+        ensures spelt { OnOk result (IsSpeltAt node self.new) }
         ensures err { IfErr result (λ e. e ≡ Refusal.OutOfMemory) }
     {
         let at = usize::from(node.index());
@@ -201,6 +203,7 @@ impl Cluster {
     ) -> Result<(), Refusal>
         ensures ok { OnOk result
             (IsEither (λ starved. self.new ≡ fail_at node line starved fill.now self.old)) }
+        ensures spelt { OnOk result (IsSpeltAt node self.new) }
         ensures err { IfErr result (λ e. e ≡ Refusal.OutOfMemory) }
     {
         let at = usize::from(node.index());
@@ -243,6 +246,7 @@ impl Cluster {
     ) -> Result<(), Refusal>
         ensures ok { OnOk result
             (IsEither (λ starved. self.new ≡ hear_at node line starved number self.old)) }
+        ensures spelt { OnOk result ((self.new ≡ self.old) ⊎ IsSpeltAt node self.new) }
         ensures err { IfErr result (λ e. e ≡ Refusal.OutOfMemory) }
     {
         let Some(message) = self.wire.get(number as usize).copied() else {
@@ -263,7 +267,8 @@ impl Cluster {
         cut_second: u32,
         fill: &[u8],
     )
-        ensures { self.new ≡ crash_at node cut_first cut_second fill.now self.old }
+        ensures crash { self.new ≡ crash_at node cut_first cut_second fill.now self.old }
+        ensures spelt { IsSpeltAt node self.new }
     {
         let at = usize::from(node.index());
         if at < self.seats.len() {
@@ -275,6 +280,7 @@ impl Cluster {
     /// What the event of a line does, memory aside; `OutOfMemory` where the wire or the report can't grow.
     pub fn step(&mut self, alloc: Global, line: u64, event: &Event) -> Result<(), Refusal>
         ensures ok { OnOk result (Steps line event.now self.old self.new) }
+        ensures spelt { OnOk result (IsSpeltBehind event.now self.old self.new) }
         ensures err { IfErr result (λ e. e ≡ Refusal.OutOfMemory) }
     {
         match event {

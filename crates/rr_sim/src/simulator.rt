@@ -2,8 +2,10 @@
 
 ghost use Rattle.std.specs.Prelude.{◌≡◌, ◌↔◌, ◌<◌, ◌≤◌, ◌⊎◌, ℕ, length, Some, OnOk, IfOk, IfErr, IsErrOf};
 ghost use Rattle.rr_sim.specs.Clusters as cluster;
-ghost use Rattle.rr_sim.specs.Clusters.{first_fault, Leads, IsReportOf, new_cluster};
-ghost use Rattle.rr_text.specs.Scheduled.{node_of};
+ghost use Rattle.std.specs.List.{AllByRecursion};
+ghost use Rattle.rr_sim.specs.Clusters.{first_fault, Leads, LeadsSpelt, IsReportOf, new_cluster};
+ghost use Rattle.rr_sim.specs.Headline.{IsRunOfTheWorld, AgreesWithOneList};
+ghost use Rattle.rr_text.specs.Scheduled.{node_of, IsEvent};
 
 use crate::chosen::decided_list;
 use crate::cluster::Cluster;
@@ -20,6 +22,8 @@ pub fn simulate(alloc: Global, nodes: u8, schedule: &Schedule) -> Result<Report,
     ensures bad_event { (line : ℕ) → IsErrOf result (Refusal.BadEvent line)
         ↔ ((1 ≤ nodes) × (nodes ≤ 7) × (first_fault nodes 2 schedule.now.events ≡ Some line)) }
     ensures report { IfOk result (λ report. IsReportOf nodes schedule.now.events report) }
+    ensures world { IfOk result (λ report. IsRunOfTheWorld nodes schedule.now.events report) }
+    ensures one_list { IfOk result (λ report. AgreesWithOneList schedule.now.events report) }
     ensures else_memory { IfErr result (λ e. (e ≡ Refusal.OutOfMemory) ⊎ (e ≡ Refusal.BadNodes) ⊎ ((line : ℕ) × (e ≡ Refusal.BadEvent line))) }
 {
     let events = schedule.events();
@@ -85,8 +89,11 @@ fn node_of(event: &Event) -> NodeId
 
 /// Runs events, and reports.
 fn run(alloc: Global, nodes: Nodes, events: &[Event]) -> Result<Report, Refusal>
-    requires { length events.now ≤ 1000000 }
+    requires short { length events.now ≤ 1000000 }
+    requires few { nodes ≤ 7 }
+    requires ranges { (m : ℕ) × AllByRecursion (IsEvent m) events.now }
     ensures report { IfOk result (λ report. IsReportOf nodes events.now report) }
+    ensures world { IfOk result (λ report. IsRunOfTheWorld nodes events.now report) }
     ensures err { IfErr result (λ e. e ≡ Refusal.OutOfMemory) }
 {
     let cluster = cluster_after(alloc, nodes, events)?;
@@ -98,6 +105,7 @@ fn run(alloc: Global, nodes: Nodes, events: &[Event]) -> Result<Report, Refusal>
 fn cluster_after(alloc: Global, nodes: Nodes, events: &[Event]) -> Result<Cluster, Refusal>
     requires { length events.now ≤ 1000000 }
     ensures ok { IfOk result (λ end. Leads 2 events.now (new_cluster nodes) end) }
+    ensures spelt { IfOk result (λ end. LeadsSpelt 2 events.now (new_cluster nodes) end) }
     ensures err { IfErr result (λ e. e ≡ Refusal.OutOfMemory) }
 {
     let mut cluster = Cluster::new(alloc, nodes)?;
@@ -109,6 +117,7 @@ fn cluster_after(alloc: Global, nodes: Nodes, events: &[Event]) -> Result<Cluste
 fn run_events(alloc: Global, cluster: &mut Cluster, events: &[Event]) -> Result<(), Refusal>
     requires { length events.now ≤ 1000000 }
     ensures ok { OnOk result (Leads 2 events.now cluster.old cluster.new) }
+    ensures spelt { OnOk result (LeadsSpelt 2 events.now cluster.old cluster.new) }
     ensures err { IfErr result (λ e. e ≡ Refusal.OutOfMemory) }
 {
     let mut line = 2u64;

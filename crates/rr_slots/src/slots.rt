@@ -5,7 +5,7 @@ ghost use Rattle.rr_types.specs.declared.fact.Fact.{Fact};
 ghost use Rattle.rr_types.specs.declared.refusal.Refusal.TheVariants.{OutOfMemory, Device, Failed, Busy, TooLarge};
 ghost use Rattle.rr_types.specs.Promises.{promise_of, all_fit};
 ghost use Rattle.rr_disk.specs.Crash.{Images, restarted};
-ghost use Rattle.rr_frame.specs.GroupFormat.{group_bytes};
+ghost use Rattle.rr_frame.specs.GroupFormat.{group_bytes, IsLawfulGroup};
 ghost use Rattle.rr_frame.specs.SnapshotFormat.{snapshot_bytes, IsLawfulSnapshot};
 ghost use Rattle.rr_gate.specs.Moments.{IsAt, body_due, with_group};
 ghost use Rattle.rr_journal.specs.Calls.{frame_bytes};
@@ -106,6 +106,7 @@ impl<D: Disk> Slots<D> {
         ensures ok { IfOk result (λ job. (self.old.failed ≡ false) × (self.old.busy ≡ false)
             × (self.old.gate + 6 + length (group_bytes group) < 2 ^ 32) × (self.new ≡ record self.old { busy = true })
             × (job ≡ record { nodes = self.old.nodes; node = self.old.node; area = self.old.area; gate = self.old.gate; body = frame_bytes (group_bytes group); group = group })) }
+        ensures lawful { OnOk result (IsLawfulGroup group) }
         ensures refused { IfErr result (λ r. (r.1 ≡ group) × (self.new ≡ self.old)) }
         ensures cause { IfErr result (λ r. (r.0 ≡ OutOfMemory) ⊎ ((r.0 ≡ Failed) × (self.old.failed ≡ true)) ⊎ ((r.0 ≡ Busy) × (self.old.busy ≡ true))
             ⊎ ((r.0 ≡ TooLarge) × (2 ^ 32 ≤ self.old.gate + 6 + length (group_bytes group)))) }
@@ -134,6 +135,7 @@ impl<D: Disk> Slots<D> {
               body = frame_bytes (snapshot_bytes (snapshot_of self.old promise));
               stage = first_stage self.old.closes_other;
             })) }
+        ensures lawful { OnOk result (IsLawfulSnapshot (snapshot_of self.old promise)) }
         ensures refused { IfErr result (λ e. (self.new ≡ self.old) × ((e ≡ OutOfMemory) ⊎ ((e ≡ Failed) × (self.old.failed ≡ true)) ⊎ ((e ≡ Busy) × (self.old.busy ≡ true))
             ⊎ ((e ≡ TooLarge) × ((2 ^ 64 ≤ self.old.epoch + 1) ⊎ (2 ^ 32 ≤ 6 + length (snapshot_bytes (snapshot_of self.old promise))))))) }
         ensures table { (start : Images) (facts : List Fact) → D.areas self.old.disk ≡ restarted start → IsSlotsOver self.old start facts → promise ≡ promise_of facts

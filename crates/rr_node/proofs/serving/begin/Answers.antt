@@ -10,7 +10,7 @@ returns-in-Ok c =
     let runs = sym c.in-Ok-Some.field-0-is ∙ (took.some some).1 in
     let gave = c.in-Ok.ensures.ok in
     rw c.up-in-Ok.ensures
-    (begin_done c.args.core c.take_group.new.self c.args.slots c.begin.new.self c.in-Ok-Some.group c.in-Ok.job (took.there some) (took.some some).0 runs took.free gave.2 gave.3 gave.4)
+    (begin_done c.args.core c.take_group.new.self c.args.slots c.begin.new.self c.in-Ok-Some.group c.in-Ok.job (took.there some) (took.some some).0 runs took.free c.in-Ok.ensures.lawful gave.2 gave.3 gave.4)
 
 pub returns-in-Err-begin : goal.returns-in-Err-begin
 returns-in-Err-begin c =

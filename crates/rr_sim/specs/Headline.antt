@@ -1,0 +1,110 @@
+-- A schedule run is a run of the world, and what its report tells agrees with one list of commands.
+use Rattle.std.specs.Prelude.{◌≡◌, ◌⊎◌, ℕ, ◌+◌, ◌≤◌, IsTrue, List, [], ◌∷◌, ◌++◌, length, map, take, slice_get, Some}
+use Rattle.std.specs.List.{Contains, flat_map}
+use Rattle.rr_types.specs.declared.command.Command.{Command}
+use Rattle.rr_types.specs.declared.command.RequestNo.{RequestNo}
+use Rattle.rr_types.specs.declared.command.Reply.{Reply}
+use Rattle.rr_types.specs.declared.message.Body.TheVariants.{Decision}
+use Rattle.rr_types.specs.declared.message.Message.{Message}
+use Rattle.rr_types.specs.declared.refusal.Refusal.{Refusal}
+use Rattle.rr_types.specs.Registry.{Bindings, registry_of, reply_of, has_request}
+use Rattle.rr_model.specs.Laws.{after_steps}
+use Rattle.rr_model.specs.Sound.{IsDecidedList, IsSound}
+use Rattle.rr_model.specs.World as world
+use Rattle.rr_model.specs.World.{World, Step, Told, Sent, Acknowledged, empty_world, IsRun, end_of}
+use Rattle.rr_node.specs.declared.event.NodeEvent.TheVariants as node
+use Rattle.rr_node.specs.Runs.{MayBe, MayFall}
+use Rattle.rr_text.specs.declared.event.Event.{Event}
+use Rattle.rr_text.specs.declared.event.Event.TheVariants.{Submit, Hear, Suspect, Tick, Advance, Take, Device, Fail, Mark, Send, Ack, Snap, Crash, Restart}
+use Rattle.rr_text.specs.declared.report.Binding.{Binding}
+use Rattle.rr_text.specs.declared.report.ReportLine.{ReportLine}
+use Rattle.rr_text.specs.declared.report.ReportLine.TheVariants as line
+use Rattle.rr_text.specs.Reported.{Reported}
+use Rattle.rr_text.specs.Scheduled.{node_of}
+use Rattle.rr_sim.specs.Clusters.{Cluster, new_cluster, Steps, shown}
+
+-- the registry that a report shows by its bound names
+abbrev pub bound : List Binding → Bindings
+bound names = map (λ b. (b.name, record { owner = b.owner; value = b.value })) names
+
+-- what a line of a report tells in the world; a refusal tells nothing
+abbrev pub told_by_line : ReportLine → List Told
+told_by_line (line.Send number m) = Sent m ∷ []
+told_by_line (line.Ack p q reply) = Acknowledged p q reply ∷ []
+told_by_line (line.Restart p facts decided names) = world.Reported p decided (bound names) ∷ []
+told_by_line (line.Refuse at e) = []
+
+-- what the lines of a report tell, in order
+abbrev pub told_in : List ReportLine → List Told
+told_in lines = flat_map told_by_line lines
+
+-- the steps of the world that an event over this wire may be, all at its node
+abbrev pub AreStepsOf : List Message → Event → List Step → Type 0
+AreStepsOf wire (Submit p c) steps = MayBe p (node.Submit c) steps
+AreStepsOf wire (Hear p k) steps = (steps ≡ []) ⊎ ((m : Message) × (slice_get wire k ≡ Some m) × MayBe p (node.Hear m) steps)
+AreStepsOf wire (Suspect p set) steps = MayBe p (node.Suspect set) steps
+AreStepsOf wire (Tick p) steps = MayBe p node.Tick steps
+AreStepsOf wire (Advance p) steps = MayBe p node.Advance steps
+AreStepsOf wire (Take p) steps = MayBe p node.Take steps
+AreStepsOf wire (Device p) steps = MayBe p node.Device steps
+AreStepsOf wire (Fail p fill) steps = MayFall p steps
+AreStepsOf wire (Mark p) steps = MayBe p node.Mark steps
+AreStepsOf wire (Send p) steps = MayBe p node.Send steps
+AreStepsOf wire (Ack p) steps = MayBe p node.Acknowledge steps
+AreStepsOf wire (Snap p) steps = MayBe p node.Snap steps
+AreStepsOf wire (Crash p a b fill) steps = MayFall p steps
+AreStepsOf wire (Restart p) steps = MayBe p node.Restart steps
+
+-- where the report tells that the event of this line was refused, the world has nothing of it, but that its node may go down
+abbrev pub IsNothingWhereRefused : ℕ → Event → Cluster → Cluster → List Step → Type 0
+IsNothingWhereRefused at e old new steps = (refusal : Refusal) → new.lines ≡ old.lines ++ line.Refuse at refusal ∷ [] → MayFall (node_of e) steps
+
+-- a cluster and the world have the same messages on the wire, and the report tells what was told
+pub record IsAlike (c : Cluster) (w : World) : Type 0 where
+  pub wire : w.wire ≡ c.wire
+  pub told : w.trace ≡ told_in c.lines
+
+-- the events, of which the first stands on this line, lead from one cluster to another, and each takes the world
+-- along by some steps of its own
+abbrev pub TakesAlong : ℕ → List Event → Cluster → World → List (List Step) → Cluster → Type 0
+TakesAlong at [] old w [] new = new ≡ old
+TakesAlong at [] old w (steps ∷ pieces) new = ⊥
+TakesAlong at (e ∷ es) old w [] new = ⊥
+TakesAlong at (e ∷ es) old w (steps ∷ pieces) new =
+    (next : Cluster) × Steps at e old next × AreStepsOf old.wire e steps × IsNothingWhereRefused at e old next steps
+    × IsAlike next (after_steps w steps) × TakesAlong (at + 1) es next (after_steps w steps) pieces new
+
+-- the steps of all pieces of a run, in turn
+abbrev pub in_turn : List (List Step) → List Step
+in_turn pieces = flat_map (λ piece. piece) pieces
+
+-- the schedule run of n nodes is a sound run of the world, of a piece for each event; its wire and its trace are what the
+-- report's lines say, and the report ends with the decided list of this wire
+pub record IsRunOfTheWorld (n : ℕ) (events : List Event) (report : Reported) : Type 0 where
+  pub pieces : List (List Step)
+  pub at_the_end : Cluster
+  pub is_a_run : IsRun n (in_turn pieces)
+  pub is_this_one : TakesAlong 2 events (new_cluster n) empty_world pieces at_the_end
+  pub lines : report.lines ≡ at_the_end.lines
+  pub wire : (end_of (in_turn pieces)).wire ≡ at_the_end.wire
+  pub told : (end_of (in_turn pieces)).trace ≡ told_in report.lines
+  pub decided : IsDecidedList n (end_of (in_turn pieces)).wire report.decided
+  pub is_sound : IsSound n (in_turn pieces)
+
+-- what a report tells agrees with the one list of commands that it ends with
+pub record AgreesWithOneList (events : List Event) (report : Reported) : Type 0 where
+  -- each command of the list was submitted, by an event that wasn't refused; the first event stands on line 2
+  pub submitted : (c : Command) → Contains report.decided c → (place : ℕ) × (p : ℕ) × (slice_get events place ≡ Some (Submit p c)) ×
+      ((refusal : Refusal) → Contains report.lines (line.Refuse (2 + place) refusal) → ⊥)
+  -- a restarted node has the registry of a beginning of the list
+  pub restarts : (p facts count : ℕ) (names : List Binding) → Contains report.lines (line.Restart p facts count names) →
+      (count ≤ length report.decided) × (names ≡ shown (registry_of (take count report.decided)))
+  -- and this beginning holds all that the node acknowledged before
+  pub nothing_acknowledged_is_lost : (before after : List ReportLine) (p facts count : ℕ) (names : List Binding) →
+      report.lines ≡ before ++ line.Restart p facts count names ∷ after →
+      (q : RequestNo) (reply : Reply) → Contains before (line.Ack p q reply) → IsTrue (has_request (take count report.decided) q)
+  -- an acknowledged reply is the list's
+  pub replies : (p : ℕ) (q : RequestNo) (reply : Reply) → Contains report.lines (line.Ack p q reply) → reply_of report.decided q ≡ Some reply
+  -- no two nodes say that an instance has decided differently
+  pub decisions : (j k i : ℕ) (m o : Message) (v w : Command) → Contains report.lines (line.Send j m) → Contains report.lines (line.Send k o) →
+      m.body ≡ Decision i v → o.body ≡ Decision i w → v ≡ w
