@@ -4,5 +4,6 @@ pub mod OneByOne
 pub mod OverMemory
 pub mod Filled
 pub mod Rows
+pub mod Standing
 pub mod Strips
 pub mod Torn

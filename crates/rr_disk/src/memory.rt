@@ -1,7 +1,7 @@
 //! A disk in memory.
 
 ghost use Rattle.std.specs.Prelude.{◌≡◌, ℕ, ◌+◌, ◌<◌, ◌≤◌, ◌⊎◌, ◌^◌, [], List, length, IfOk, IfErr, OnOk, OnErr};
-ghost use Rattle.rr_disk.specs.Areas.{extent_of};
+ghost use Rattle.rr_disk.specs.Areas.{extent_of, bytes_of};
 ghost use Rattle.rr_disk.specs.Crash.{Images, IsCrashImage, IsNamed, restarted, crash_images};
 ghost use Rattle.rr_disk.specs.Memory.{MemoryRead, MemoryWrite, MemorySync};
 
@@ -42,6 +42,14 @@ impl MemDisk {
             calls: 0,
             faults: 0,
         }
+    }
+
+    /// A law of it, and nothing else: its bytes as they stand are among the images that a crash may leave.
+    pub fn may_stand(&self)
+        ensures { IsCrashImage self.now.areas (record { of_first = bytes_of self.now.areas.first; of_second = bytes_of self.now.areas.second }) }
+    {
+        self.first.may_stand();
+        self.second.may_stand();
     }
 
     /// What a crash leaves: the length of each area becomes its cut, brought into the range from the safe to the

@@ -3,7 +3,7 @@
 
 ghost use Rattle.std.specs.Prelude.{◌≡◌, ℕ, ◌+◌, ◌<◌, ◌≤◌, ◌⊎◌, ◌^◌, [], length, take, IfOk, IfErr, OnOk, OnErr};
 ghost use Rattle.rr_types.specs.declared.refusal.Refusal.TheVariants.{Device};
-ghost use Rattle.rr_disk.specs.Areas.{Torn, at_rest, read_of, written, loosened, settled};
+ghost use Rattle.rr_disk.specs.Areas.{Torn, at_rest, bytes_of, read_of, written, loosened, settled};
 ghost use Rattle.rr_disk.specs.Crash.{MayLeave, clamped, left_of, loose_count};
 
 use crate::cell::Cell;
@@ -52,6 +52,14 @@ impl Strip {
         ensures { result ≡ length self.now.cells }
     {
         self.cells.len() as u64
+    }
+
+    /// A law of it, and nothing else: its bytes as they stand are among what a crash may leave.
+    pub fn may_stand(&self)
+        ensures { MayLeave self.now (bytes_of self.now) }
+    {
+        // the proof has what a strip keeps of itself where a field is read
+        let _safe = self.safe;
     }
 
     /// The bytes from an offset on, as many as are asked for or as there are.

@@ -1,4 +1,6 @@
 pub mod ContentLemmas
+pub mod CourseLaws
+pub mod CrashLaws
 pub mod FlushLaws
 pub mod FormatLaws
 pub mod FoundLaws

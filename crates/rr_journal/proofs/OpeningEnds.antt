@@ -11,16 +11,10 @@ use Rattle.rr_journal.specs.Calls.{Write, Sync, append_calls, format_calls, must
 use Rattle.rr_journal.specs.Image.{Found, Unformatted, Broken, Active, found}
 use Rattle.rr_journal.specs.Journals.{Holds}
 use Rattle.rr_journal.specs.Openings.{Phase, Settling, ReadingFirst, ReadingSecond, Formatting, After, Goes, Opens, Stops, after_found, after_opening_call}
+use Rattle.rr_journal.specs.OpeningCourse.{calls_left}
 use Rattle.rr_journal.specs.OpeningTable.{OpensWith, IsKept, first_snapshot}
 use Rattle.rr_journal.specs.OtherAreas.{KnowsFronts}
 use Rattle.rr_journal.specs.Phases.{phase_of}
-
--- the device calls that are left at most
-abbrev pub calls_left : Phase → ℕ
-calls_left Settling = 9
-calls_left ReadingFirst = 8
-calls_left (ReadingSecond first) = 7
-calls_left (Formatting calls) = length calls
 
 -- the device calls that are left behind one
 abbrev pub calls_behind : After → ℕ

@@ -1,8 +1,10 @@
 pub mod Calls
+pub mod CrashedDisks
 pub mod Ends
 pub mod Image
 pub mod Journals
 pub mod OpenDisks
+pub mod OpeningCourse
 pub mod Openings
 pub mod OpeningSteps
 pub mod OpeningTable

@@ -1,15 +1,18 @@
 //! The opening of a journal, one device call a step.
 
-ghost use Rattle.std.specs.Prelude.{◌≡◌, ◌⊎◌, ◌<◌, ◌^◌, [], List, length, Some, Ok, Err, OnOk, OnErr, IfOk, IfErr};
+ghost use Rattle.std.specs.Prelude.{◌≡◌, ◌≢◌, ◌⊎◌, ◌+◌, ◌<◌, ◌≤◌, ◌^◌, [], List, length, Some, Ok, Err, OnOk, OnErr, IfOk, IfErr};
 ghost use Rattle.rr_types.specs.declared.fact.Fact.{Fact};
 ghost use Rattle.rr_types.specs.declared.refusal.Refusal.TheVariants.{OutOfMemory, Device};
 ghost use Rattle.rr_disk.specs.Areas.{Areas};
+ghost use Rattle.rr_disk.specs.Counts.{counted, Grew};
 ghost use Rattle.rr_disk.specs.Failing.{FailingRead, FailingWrite, FailingSync};
 ghost use Rattle.rr_frame.specs.SnapshotFormat.{snapshot_bytes, IsLawfulSnapshot};
 ghost use Rattle.rr_journal.specs.Calls.{must_close, frame_bytes, after_call};
-ghost use Rattle.rr_journal.specs.Image.{found};
+ghost use Rattle.rr_journal.specs.CrashedDisks.{MayStand, EachHoldsSome, SomeHolds, IsOpenWithOneOf, IsReading, AddsNone, AddsBlankAlone};
+ghost use Rattle.rr_journal.specs.Image.{Unformatted, found};
 ghost use Rattle.rr_journal.specs.Openings.{Settling, ReadingSecond, Done, Refused, due_call, after_found, after_opening_call};
 ghost use Rattle.rr_journal.specs.Phases.{phase_of, Follows};
+ghost use Rattle.rr_journal.specs.OpeningCourse.{calls_left, found_from, calls_from, EndsBy, StaysOnCourse, IsRefused, IsUntouched, IsAsBefore, IsDone};
 ghost use Rattle.rr_journal.specs.OpeningSteps.{Steps};
 ghost use Rattle.rr_journal.specs.OpeningTable.{IsReadBy, IsLeftBy, Rests, contents, OpensWith, GoesOnWith, ComesTo, IsKept, disk_after};
 ghost use Rattle.rr_journal.specs.OpenDisks.{IsOpenWith, IsReady, disk_behind};
@@ -89,6 +92,8 @@ impl<D: Disk> Opening<D> {
         ensures phase { phase_of result.phase ≡ Settling }
         ensures table { (facts : List Fact) → length (D.areas disk).first.cells < 2 ^ 64 → length (D.areas disk).second.cells < 2 ^ 64
             → Holds nodes node (contents (D.areas disk)) facts → OpensWith nodes node facts result.phase (D.areas disk) }
+        ensures some { length (D.areas disk).first.cells < 2 ^ 64 → length (D.areas disk).second.cells < 2 ^ 64 → MayStand (D.areas disk) → EachHoldsSome (Holds nodes node) (D.areas disk)
+            → (facts : List Fact) × SomeHolds (Holds nodes node) (D.areas disk) facts × OpensWith nodes node facts result.phase (D.areas disk) }
     {
         Opening {
             disk,
@@ -120,7 +125,13 @@ impl<D: Disk> Opening<D> {
     /// Errors: `OutOfMemory`, `Device`; `Damaged`, of a disk that holds no facts.
     pub fn step(self, alloc: Global) -> Result<Progress<D>, (Refusal, D)>
         ensures exact { Steps D.read_gives D.write_gives D.sync_gives self result }
+        ensures call { D.calls (disk_after result) ≡ counted (D.calls self.disk) }
+        ensures faults { D.faults self.disk ≤ D.faults (disk_after result) }
+        ensures cause { IfErr result (λ r. IsRefused D.faults self.disk r) }
         ensures tells { D.tells self.disk → D.tells (disk_after result) }
+        ensures course { D.tells self.disk → StaysOnCourse D.areas self result }
+        ensures untouched { D.tells self.disk → IsUntouched (phase_of self.phase) (D.areas self.disk) (D.areas (disk_after result)) }
+        ensures images { D.tells self.disk → MayStand (D.areas self.disk) → IsReading (phase_of self.phase) → AddsNone (D.areas self.disk) (D.areas (disk_after result)) }
         ensures table { D.tells self.disk → (facts : List Fact) → OpensWith self.nodes self.node facts self.phase (D.areas self.disk)
             → IfOk result (λ progress. ComesTo D.areas facts progress) }
         ensures undamaged { D.tells self.disk → (facts : List Fact) → OpensWith self.nodes self.node facts self.phase (D.areas self.disk)
@@ -167,7 +178,15 @@ impl<D: Disk> Opening<D> {
     /// number of the next fact. A refused opening hands its disk back.
     /// Errors: as of `step`.
     pub fn finish(self, alloc: Global) -> Result<(Journal<D>, Promise, u64), (Refusal, D)>
+        ensures calls { D.calls (disk_behind result) ≤ D.calls self.disk + calls_left (phase_of self.phase) }
+        ensures faults { D.faults self.disk ≤ D.faults (disk_behind result) }
+        ensures cause { IfErr result (λ r. IsRefused D.faults self.disk r) }
         ensures tells { D.tells self.disk → D.tells (disk_behind result) }
+        ensures ends { D.tells self.disk → EndsBy (found_from self.nodes self.node (phase_of self.phase) (D.areas self.disk)) result }
+        ensures counted { D.tells self.disk → D.calls (disk_behind result) ≤ D.calls self.disk + length (calls_from self.nodes self.node (phase_of self.phase) (D.areas self.disk)) }
+        ensures done { D.tells self.disk → OnOk result (IsDone (calls_from self.nodes self.node (phase_of self.phase) (D.areas self.disk)) D.areas D.calls self.disk (disk_behind result)) }
+        ensures untouched { D.tells self.disk → found_from self.nodes self.node (phase_of self.phase) (D.areas self.disk) ≢ Unformatted
+            → IsAsBefore (D.areas self.disk) (D.areas (disk_behind result)) }
         ensures journal { IfOk result (λ r. IsReady self.nodes self.node r) }
         ensures table { D.tells self.disk → (facts : List Fact) → OpensWith self.nodes self.node facts self.phase (D.areas self.disk)
             → IfOk result (λ r. IsOpenWith D.areas facts r) }
@@ -200,7 +219,18 @@ impl<D: Disk> Journal<D> {
         node: NodeId,
         disk: D,
     ) -> Result<(Journal<D>, Promise, u64), (Refusal, D)>
+        ensures calls { D.calls (disk_behind result) ≤ D.calls disk + 9 }
+        ensures faults { D.faults disk ≤ D.faults (disk_behind result) }
+        ensures cause { IfErr result (λ r. IsRefused D.faults disk r) }
         ensures tells { D.tells disk → D.tells (disk_behind result) }
+        ensures ends { D.tells disk → EndsBy (found_from nodes node Settling (D.areas disk)) result }
+        ensures counted { D.tells disk → D.calls (disk_behind result) ≤ D.calls disk + length (calls_from nodes node Settling (D.areas disk)) }
+        ensures done { D.tells disk → OnOk result (IsDone (calls_from nodes node Settling (D.areas disk)) D.areas D.calls disk (disk_behind result)) }
+        ensures untouched { D.tells disk → found_from nodes node Settling (D.areas disk) ≢ Unformatted → IsAsBefore (D.areas disk) (D.areas (disk_behind result)) }
+        ensures images { D.tells disk → length (D.areas disk).first.cells < 2 ^ 64 → length (D.areas disk).second.cells < 2 ^ 64 → MayStand (D.areas disk)
+            → AddsBlankAlone nodes node (D.areas disk) (D.areas (disk_behind result)) }
+        ensures some { D.tells disk → length (D.areas disk).first.cells < 2 ^ 64 → length (D.areas disk).second.cells < 2 ^ 64 → MayStand (D.areas disk) → EachHoldsSome (Holds nodes node) (D.areas disk)
+            → IfOk result (λ r. IsOpenWithOneOf D.areas (Holds nodes node) (D.areas disk) r) × IfErr result (λ r. (r.0 ≡ OutOfMemory) ⊎ (r.0 ≡ Device)) }
         ensures journal { IfOk result (λ r. IsReady nodes node r) }
         ensures table { D.tells disk → (facts : List Fact) → length (D.areas disk).first.cells < 2 ^ 64 → length (D.areas disk).second.cells < 2 ^ 64
             → Holds nodes node (contents (D.areas disk)) facts → IfOk result (λ r. IsOpenWith D.areas facts r) }
@@ -244,7 +274,8 @@ enum Next {
 fn call<D: Disk>(alloc: Global, disk: &mut D, phase: &Phase) -> Result<Vec<u8>, Refusal>
     ensures done { IfOk result (λ v. Done D.read_gives D.write_gives D.sync_gives (due_call (phase_of phase.now)) disk.old v disk.new) }
     ensures refused { IfErr result (λ e. Refused D.read_gives D.write_gives D.sync_gives (due_call (phase_of phase.now)) disk.old e disk.new) }
-    ensures cause { IfErr result (λ e. (e ≡ OutOfMemory) ⊎ (e ≡ Device)) }
+    ensures cause { IfErr result (λ e. (e ≡ OutOfMemory) ⊎ ((e ≡ Device) × Grew (D.faults disk.old) (D.faults disk.new))) }
+    ensures counts { (D.calls disk.new ≡ counted (D.calls disk.old)) × (D.faults disk.old ≤ D.faults disk.new) }
     ensures tells { D.tells disk.old → D.tells disk.new }
     ensures areas { D.tells disk.old → OnOk result (D.areas disk.new ≡ after_call (due_call (phase_of phase.now)) (D.areas disk.old)) }
     ensures read { D.tells disk.old → IfOk result (λ v. IsReadBy (due_call (phase_of phase.now)) (D.areas disk.old) v.items) }

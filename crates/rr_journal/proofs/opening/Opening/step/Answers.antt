@@ -3,10 +3,15 @@ use Rattle.rr_types.specs.Promises.{promise_of}
 use Rattle.rr_disk.specs.Crash.{Images, restarted}
 use Rattle.rr_journal.specs.declared.journal.Journal.{Journal}
 use Rattle.rr_journal.specs.declared.opening.Next.{Next}
+use Rattle.rr_journal.specs.declared.opening.Progress.TheVariants as progress
 use Rattle.rr_journal.specs.OpeningTable.{GoesOnWith, IsKept}
 use Rattle.rr_journal.specs.Openings.{Done, Opens, due_call, after_opening_call}
 use Rattle.rr_journal.specs.Journals.{Holds, IsOver}
 use Rattle.rr_journal.specs.Phases.{Follows, phase_of}
+use Rattle.rr_journal.specs.CrashedDisks.{AddsNone}
+use Rattle.rr_journal.specs.OpeningCourse.{StaysOnCourse, IsUntouched}
+use Rattle.rr_journal.proofs.CourseLaws.{OnCourse, on_course, refused_on_course, refused_by, untouched_by, untouched_failing}
+use Rattle.rr_journal.proofs.CrashLaws.{untouched_adds}
 use Rattle.rr_journal.proofs.OpeningLaws.{kept, kept_failed, opened_over}
 use Rattle.rr_journal.specs.OpeningTable.{IsReadBy}
 use Rattle.rr_journal.specs.OtherAreas.{front_beside, closes_in, other_area, KnowsRead, IsOtherKnown}
@@ -91,3 +96,64 @@ returns-in-Ok-Open-clause-fronts g c tells knows =
     let known : front_beside c.in-Ok-Open.area c.fronts_behind-fronts.result ≡ closes_in (g.D.Disk.areas c.call-called.new.disk) (other_area c.in-Ok-Open.area) =
     subst (AfterKnows c.fronts_behind-fronts.result new) follows (goes_on_knowing c.args.self.nodes c.args.self.node c.in-Ok.read.items c.fronts_behind-fronts.result new (phase_of c.args.self.phase) noted) in
     subst (IsOtherKnown {D = g.row.D.Denot} g.D.Disk.areas) (sym c.new.ensures) (c.beside-closes_other.ensures ∙ known)
+
+pub returns-in-Err-clause-untouched : goal.returns-in-Err-clause-untouched
+returns-in-Err-clause-untouched g c tells = untouched_failing (phase_of c.args.self.phase) _ _ (c.in-Err.ensures.left tells)
+
+pub returns-in-Err-go_on-clause-course : goal.returns-in-Err-go_on-clause-course
+returns-in-Err-go_on-clause-course g c tells =
+    refused_on_course c.args.self.nodes c.args.self.node c.in-Ok.read.items (g.D.Disk.areas c.args.self.disk) (g.D.Disk.areas c.call-called.new.disk) (phase_of c.args.self.phase) _
+    (c.in-Ok.ensures.read tells) (c.in-Ok.ensures.areas tells) c.in-Err-go_on.ensures.exact
+
+pub returns-in-Err-go_on-clause-cause : goal.returns-in-Err-go_on-clause-cause
+returns-in-Err-go_on-clause-cause g c = refused_by c.args.self.nodes c.args.self.node c.in-Ok.read.items (phase_of c.args.self.phase) _ _ c.in-Err-go_on.ensures.exact
+
+pub returns-in-Err-go_on-clause-untouched : goal.returns-in-Err-go_on-clause-untouched
+returns-in-Err-go_on-clause-untouched g c tells = untouched_by (phase_of c.args.self.phase) _ _ (c.in-Ok.ensures.areas tells)
+
+pub returns-in-Ok-Phase-clause-course : goal.returns-in-Ok-Phase-clause-course
+returns-in-Ok-Phase-clause-course g c tells =
+    let old = g.D.Disk.areas c.args.self.disk in
+    let new = g.D.Disk.areas c.call-called.new.disk in
+    let follows = subst (λ (x : Next). Follows (Ok x) (phase_of c.args.self.phase) (after_opening_call c.args.self.nodes c.args.self.node c.in-Ok.read.items (phase_of c.args.self.phase))) c.in-Ok-Phase.field-0-is c.in-Ok-Phase.ensures.exact in
+    let on = subst (OnCourse c.args.self.nodes c.args.self.node old new (phase_of c.args.self.phase)) follows
+    (on_course c.args.self.nodes c.args.self.node c.in-Ok.read.items old new (phase_of c.args.self.phase) (c.in-Ok.ensures.read tells) (c.in-Ok.ensures.areas tells)) in
+    (c.in-Ok.ensures.areas tells, on.0, on.1)
+
+pub returns-in-Ok-Phase-clause-untouched : goal.returns-in-Ok-Phase-clause-untouched
+returns-in-Ok-Phase-clause-untouched g c tells = untouched_by (phase_of c.args.self.phase) _ _ (c.in-Ok.ensures.areas tells)
+
+pub returns-in-Ok-Open-clause-course : goal.returns-in-Ok-Open-clause-course
+returns-in-Ok-Open-clause-course g c tells =
+    let old = g.D.Disk.areas c.args.self.disk in
+    let new = g.D.Disk.areas c.call-called.new.disk in
+    let follows = subst (λ (x : Next). Follows (Ok x) (phase_of c.args.self.phase) (after_opening_call c.args.self.nodes c.args.self.node c.in-Ok.read.items (phase_of c.args.self.phase))) c.in-Ok-Open.field-0-is c.in-Ok-Open.ensures.exact in
+    let on = subst (OnCourse c.args.self.nodes c.args.self.node old new (phase_of c.args.self.phase)) follows
+    (on_course c.args.self.nodes c.args.self.node c.in-Ok.read.items old new (phase_of c.args.self.phase) (c.in-Ok.ensures.read tells) (c.in-Ok.ensures.areas tells)) in
+    subst
+    (λ (j : Journal g.row.D.Denot). StaysOnCourse {D = g.row.D.Denot} g.D.Disk.areas c.args.self (Ok (progress.Done j c.in-Ok-Open.promise c.in-Ok-Open.next)))
+    (sym c.new.ensures)
+    (c.in-Ok.ensures.areas tells, on.0, on.1)
+
+pub returns-in-Ok-Open-clause-untouched : goal.returns-in-Ok-Open-clause-untouched
+returns-in-Ok-Open-clause-untouched g c tells =
+    subst
+    (λ (j : Journal g.row.D.Denot). IsUntouched (phase_of c.args.self.phase) (g.D.Disk.areas c.args.self.disk) (g.D.Disk.areas j.disk))
+    (sym c.new.ensures)
+    (untouched_by (phase_of c.args.self.phase) _ _ (c.in-Ok.ensures.areas tells))
+
+pub returns-in-Err-clause-images : goal.returns-in-Err-clause-images
+returns-in-Err-clause-images g c tells stands reading = untouched_adds (phase_of c.args.self.phase) _ _ stands reading (untouched_failing (phase_of c.args.self.phase) _ _ (c.in-Err.ensures.left tells))
+
+pub returns-in-Err-go_on-clause-images : goal.returns-in-Err-go_on-clause-images
+returns-in-Err-go_on-clause-images g c tells stands reading = untouched_adds (phase_of c.args.self.phase) _ _ stands reading (untouched_by (phase_of c.args.self.phase) _ _ (c.in-Ok.ensures.areas tells))
+
+pub returns-in-Ok-Phase-clause-images : goal.returns-in-Ok-Phase-clause-images
+returns-in-Ok-Phase-clause-images g c tells stands reading = untouched_adds (phase_of c.args.self.phase) _ _ stands reading (untouched_by (phase_of c.args.self.phase) _ _ (c.in-Ok.ensures.areas tells))
+
+pub returns-in-Ok-Open-clause-images : goal.returns-in-Ok-Open-clause-images
+returns-in-Ok-Open-clause-images g c tells stands reading =
+    subst
+    (λ (j : Journal g.row.D.Denot). AddsNone (g.D.Disk.areas c.args.self.disk) (g.D.Disk.areas j.disk))
+    (sym c.new.ensures)
+    (untouched_adds (phase_of c.args.self.phase) _ _ stands reading (untouched_by (phase_of c.args.self.phase) _ _ (c.in-Ok.ensures.areas tells)))

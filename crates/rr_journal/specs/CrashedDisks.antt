@@ -1,0 +1,46 @@
+-- An opening of a disk of which a crash may leave many images, each with facts of its own.
+use Rattle.std.specs.Prelude.{◌≡◌, ◌⊎◌, ℕ, List, []}
+use Rattle.rr_types.specs.declared.fact.Fact.{Fact}
+use Rattle.rr_types.specs.declared.promise.Entry.{Entry}
+use Rattle.rr_disk.specs.Areas.{Areas}
+use Rattle.rr_disk.specs.Crash.{Images, IsCrashImage}
+use Rattle.rr_gate.specs.Moments.{EachHolds}
+use Rattle.rr_journal.specs.declared.journal.Journal.{Journal}
+use Rattle.rr_journal.specs.Image.{Unformatted, found}
+use Rattle.rr_journal.specs.Journals.{Holds}
+use Rattle.rr_journal.specs.Openings.{Phase, Settling, ReadingFirst, ReadingSecond, Formatting}
+use Rattle.rr_journal.specs.OpeningTable.{contents}
+use Rattle.rr_journal.specs.OpenDisks.{IsOpenWith}
+
+-- the bytes as they stand are among the images that a crash may leave
+abbrev pub MayStand : Areas → Type 0
+MayStand both = IsCrashImage both (contents both)
+
+-- every image that a crash may leave holds some facts, each its own
+abbrev pub EachHoldsSome : (Images → List Fact → Type 0) → Areas → Type 0
+EachHoldsSome holds both = (images : Images) → IsCrashImage both images → (facts : List Fact) × holds images facts
+
+-- an image that a crash may leave holds these facts
+abbrev pub SomeHolds : (Images → List Fact → Type 0) → Areas → List Fact → Type 0
+SomeHolds holds both facts = (images : Images) × IsCrashImage both images × holds images facts
+
+-- the journal is over the facts of one of the images that a crash might have left, and every image now holds these
+abbrev pub IsOpenWithOneOf : {D : Type 0} → (D → Areas) → (Images → List Fact → Type 0) → Areas → Journal D × List Entry × ℕ → Type 0
+IsOpenWithOneOf areas holds old (journal, promise, number) =
+    (facts : List Fact) × SomeHolds holds old facts × IsOpenWith areas facts (journal, promise, number) × EachHolds (Holds journal.nodes journal.node) (areas journal.disk) facts
+
+-- an opening in this phase formats nothing yet
+abbrev pub IsReading : Phase → Type 0
+IsReading Settling = Unit {0}
+IsReading ReadingFirst = Unit {0}
+IsReading (ReadingSecond first) = Unit {0}
+IsReading (Formatting calls) = ⊥
+
+-- every image that a crash may leave is one from before, and so are the bytes as they stand
+abbrev pub AddsNone : Areas → Areas → Type 0
+AddsNone old new = MayStand new × ((images : Images) → IsCrashImage new images → IsCrashImage old images)
+
+-- every image that a crash may leave is one from before, or holds no facts where no area was formatted
+abbrev pub AddsBlankAlone : ℕ → ℕ → Areas → Areas → Type 0
+AddsBlankAlone n p old new = (images : Images) → IsCrashImage new images
+    → IsCrashImage old images ⊎ ((found n p (contents old).of_first (contents old).of_second ≡ Unformatted) × Holds n p images [])

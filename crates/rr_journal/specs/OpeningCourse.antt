@@ -1,0 +1,95 @@
+-- What an opening makes of the bytes as they stand: what it finds, the device calls that are left, and how it ends.
+use Rattle.std.specs.Prelude.{◌≡◌, ◌⊎◌, ℕ, ◌+◌, ◌-◌, ◌^◌, min, List, [], ◌∷◌, length, Result, Ok, Err}
+use Rattle.rr_types.specs.declared.promise.Entry.{Entry}
+use Rattle.rr_types.specs.declared.refusal.Refusal.{Refusal}
+use Rattle.rr_types.specs.declared.refusal.Refusal.TheVariants.{OutOfMemory, Device, Damaged}
+use Rattle.rr_disk.specs.declared.area.Area.{Area}
+use Rattle.rr_disk.specs.declared.area.Area.TheVariants.{First, Second}
+use Rattle.rr_disk.specs.Areas.{Extent, Areas, read_of, synced}
+use Rattle.rr_disk.specs.Counts.{Grew}
+use Rattle.rr_journal.specs.declared.journal.Journal.{Journal}
+use Rattle.rr_journal.specs.declared.opening.Opening as code
+use Rattle.rr_journal.specs.declared.opening.Progress as code_2
+use Rattle.rr_journal.specs.declared.opening.Progress.TheVariants as progress
+use Rattle.rr_journal.specs.Calls.{Call, Read, Sync, after_call, format_calls}
+use Rattle.rr_journal.specs.Ends.{area_number}
+use Rattle.rr_journal.specs.Image.{Found, Unformatted, Broken, Active, found}
+use Rattle.rr_journal.specs.Openings.{Phase, Settling, ReadingFirst, ReadingSecond, Formatting, After, Opens, Stops, formatted, due_call}
+use Rattle.rr_journal.specs.Phases.{phase_of}
+
+-- the device calls that are left at most
+abbrev pub calls_left : Phase → ℕ
+calls_left Settling = 9
+calls_left ReadingFirst = 8
+calls_left (ReadingSecond first) = 7
+calls_left (Formatting calls) = length calls
+
+-- what a read of a whole area gives
+abbrev pub whole_read : Extent → List ℕ
+whole_read extent = read_of 0 (2 ^ 64 - 1) extent
+
+-- what an opening in this phase finds, of an area that it hasn't read by the bytes as they stand
+abbrev pub found_from : ℕ → ℕ → Phase → Areas → Found
+found_from n p Settling both = found n p (whole_read both.first) (whole_read both.second)
+found_from n p ReadingFirst both = found n p (whole_read both.first) (whole_read both.second)
+found_from n p (ReadingSecond first) both = found n p first (whole_read both.second)
+found_from n p (Formatting calls) both = Unformatted
+
+-- the device calls behind the reads, by what they find
+abbrev pub calls_by : ℕ → ℕ → List ℕ → Found → List Call
+calls_by n p first Unformatted = format_calls n p first
+calls_by n p first (Broken area offset) = []
+calls_by n p first (Active area c) = []
+
+-- the device calls that are left
+abbrev pub calls_from : ℕ → ℕ → Phase → Areas → List Call
+calls_from n p Settling both = Sync ∷ Read First ∷ Read Second ∷ calls_by n p (whole_read both.first) (found n p (whole_read both.first) (whole_read both.second))
+calls_from n p ReadingFirst both = Read First ∷ Read Second ∷ calls_by n p (whole_read both.first) (found n p (whole_read both.first) (whole_read both.second))
+calls_from n p (ReadingSecond first) both = Read Second ∷ calls_by n p first (found n p first (whole_read both.second))
+calls_from n p (Formatting []) both = Sync ∷ []
+calls_from n p (Formatting (call ∷ calls)) both = call ∷ calls
+
+-- how an opening ends by what it finds: a disk that isn't formatted is formatted
+abbrev pub end_by : Found → After
+end_by Unformatted = Opens First formatted
+end_by (Broken area offset) = Stops (Damaged (area_number area) offset)
+end_by (Active area c) = Opens area c
+
+-- both areas after these calls
+abbrev pub areas_after : List Call → Areas → Areas
+areas_after [] both = both
+areas_after (call ∷ calls) both = areas_after calls (after_call call both)
+
+-- these calls were made on a disk, each of them counted, and nothing else
+abbrev pub IsDone : {D : Type 0} → List Call → (D → Areas) → (D → ℕ) → D → D → Type 0
+IsDone calls areas counts old new = (areas new ≡ areas_after calls (areas old)) × (counts new ≡ min (counts old + length calls) (2 ^ 64 - 1))
+
+-- an opening that found this ends so, or is refused for memory or by the device
+abbrev pub EndsBy : {D : Type 0} → Found → Result (Journal D × List Entry × ℕ) (Refusal × D) → Type 0
+EndsBy found (Ok (journal, promise, number)) = end_by found ≡ Opens journal.area (record { epoch = journal.epoch; promise = promise; next = number; gate = journal.gate })
+EndsBy found (Err (e, disk)) = (e ≡ OutOfMemory) ⊎ (e ≡ Device) ⊎ (end_by found ≡ Stops e)
+
+-- behind a step an opening finds what it would have found, and makes the calls that were left but one; or it ends so, or is refused for memory or by the device
+abbrev pub StaysOnCourse : {D : Type 0} → (D → Areas) → code.Opening D → Result (code_2.Progress D) (Refusal × D) → Type 0
+StaysOnCourse areas o (Ok (progress.More next)) = (areas next.disk ≡ after_call (due_call (phase_of o.phase)) (areas o.disk))
+    × (found_from next.nodes next.node (phase_of next.phase) (areas next.disk) ≡ found_from o.nodes o.node (phase_of o.phase) (areas o.disk))
+    × (calls_from o.nodes o.node (phase_of o.phase) (areas o.disk) ≡ due_call (phase_of o.phase) ∷ calls_from next.nodes next.node (phase_of next.phase) (areas next.disk))
+StaysOnCourse areas o (Ok (progress.Done journal promise number)) = (areas journal.disk ≡ after_call (due_call (phase_of o.phase)) (areas o.disk))
+    × (end_by (found_from o.nodes o.node (phase_of o.phase) (areas o.disk)) ≡ Opens journal.area (record { epoch = journal.epoch; promise = promise; next = number; gate = journal.gate }))
+    × (calls_from o.nodes o.node (phase_of o.phase) (areas o.disk) ≡ due_call (phase_of o.phase) ∷ [])
+StaysOnCourse areas o (Err (e, disk)) = (e ≡ OutOfMemory) ⊎ (e ≡ Device) ⊎ (end_by (found_from o.nodes o.node (phase_of o.phase) (areas o.disk)) ≡ Stops e)
+
+-- an opening is refused for memory, where a device call failed, or for damage
+abbrev pub IsRefused : {D : Type 0} → (D → ℕ) → D → Refusal × D → Type 0
+IsRefused faults old (e, new) = (e ≡ OutOfMemory) ⊎ ((e ≡ Device) × Grew (faults old) (faults new)) ⊎ ((area : Area) × (offset : ℕ) × (e ≡ Damaged (area_number area) offset))
+
+-- both areas are as they were, or synced
+abbrev pub IsAsBefore : Areas → Areas → Type 0
+IsAsBefore old new = (new ≡ old) ⊎ (new ≡ synced old)
+
+-- an opening that doesn't format yet leaves both areas as they were; its first call syncs them
+abbrev pub IsUntouched : Phase → Areas → Areas → Type 0
+IsUntouched Settling old new = IsAsBefore old new
+IsUntouched ReadingFirst old new = new ≡ old
+IsUntouched (ReadingSecond first) old new = new ≡ old
+IsUntouched (Formatting calls) old new = Unit {0}
