@@ -11,3 +11,6 @@ mod switch;
 
 pub use slots::Slots;
 pub use switch::{SwitchJob, Switching};
+
+#[cfg(test)]
+mod tests;
