@@ -6,4 +6,4 @@ pub mod HeadlineLaws
 pub mod NodeLaws
 pub mod RefusedLaws
 mod DrawingLemmas
-mod FailingLaws
+pub mod FailingLaws

@@ -16,3 +16,5 @@ pub use switch::{SwitchJob, Switching};
 
 #[cfg(test)]
 mod inspection_tests;
+#[cfg(test)]
+mod tests;

@@ -1,6 +1,6 @@
 //! Two areas, one of them active.
 
-ghost use Rattle.std.specs.Prelude.{◌≡◌, ◌⊎◌, ◌+◌, ◌^◌, ◌<◌, ◌≤◌, [], ◌++◌, List, true, false, length, IfOk, IfErr, OnOk, Some};
+ghost use Rattle.std.specs.Prelude.{◌≡◌, ◌≢◌, ◌⊎◌, ◌+◌, ◌^◌, ◌<◌, ◌≤◌, [], ◌++◌, List, true, false, length, IfOk, IfErr, OnOk, Some};
 ghost use Rattle.rr_types.specs.declared.fact.Fact.{Fact};
 ghost use Rattle.rr_types.specs.declared.refusal.Refusal.TheVariants.{OutOfMemory, Device, Failed, Busy, TooLarge};
 ghost use Rattle.rr_types.specs.Promises.{promise_of, all_fit};
@@ -10,6 +10,10 @@ ghost use Rattle.rr_frame.specs.SnapshotFormat.{snapshot_bytes, IsLawfulSnapshot
 ghost use Rattle.rr_gate.specs.Moments.{IsAt, body_due, with_group};
 ghost use Rattle.rr_journal.specs.Calls.{frame_bytes};
 ghost use Rattle.rr_journal.specs.Journals.{Holds, IsOver, once_flushed};
+ghost use Rattle.rr_journal.specs.CrashedDisks.{MayStand, EachHoldsSome, IsOpenWithOneOf, AddsBlankAlone};
+ghost use Rattle.rr_journal.specs.Image.{Unformatted};
+ghost use Rattle.rr_journal.specs.OpeningCourse.{found_from, calls_from, EndsBy, IsDone, IsRefused, IsAsBefore};
+ghost use Rattle.rr_journal.specs.Openings.{Settling};
 ghost use Rattle.rr_journal.specs.OpenDisks.{IsOpenWith, IsReady, disk_behind};
 ghost use Rattle.rr_journal.specs.OpeningTable.{contents, IsKept};
 ghost use Rattle.rr_journal.specs.OtherAreas.{other_area, IsOtherKnown};
@@ -53,14 +57,24 @@ impl<D: Disk> Slots<D> {
 
     /// Opens a node's disk by all steps of an opening: the areas, the promise of the facts that they hold, and the
     /// number of the next fact. A refused opening hands its disk back.
-    /// Errors: `OutOfMemory`, `Device`; `Damaged`, of a disk that holds no facts.
+    /// Errors: `OutOfMemory`; `Device`, where a device call failed; `Damaged`, of a disk that holds no facts.
     pub fn open(
         alloc: Global,
         nodes: Nodes,
         node: NodeId,
         disk: D,
     ) -> Result<(Slots<D>, Promise, u64), (Refusal, D)>
+        ensures calls { D.calls (disk_behind result) ≤ D.calls disk + 9 }
+        ensures faults { D.faults disk ≤ D.faults (disk_behind result) }
+        ensures cause { IfErr result (λ r. IsRefused D.faults disk r) }
         ensures tells { D.tells disk → D.tells (disk_behind result) }
+        ensures ends { D.tells disk → EndsBy (found_from nodes node Settling (D.areas disk)) result }
+        ensures done { D.tells disk → OnOk result (IsDone (calls_from nodes node Settling (D.areas disk)) D.areas D.calls disk (disk_behind result)) }
+        ensures untouched { D.tells disk → found_from nodes node Settling (D.areas disk) ≢ Unformatted → IsAsBefore (D.areas disk) (D.areas (disk_behind result)) }
+        ensures images { D.tells disk → length (D.areas disk).first.cells < 2 ^ 64 → length (D.areas disk).second.cells < 2 ^ 64 → MayStand (D.areas disk)
+            → AddsBlankAlone nodes node (D.areas disk) (D.areas (disk_behind result)) }
+        ensures some { D.tells disk → length (D.areas disk).first.cells < 2 ^ 64 → length (D.areas disk).second.cells < 2 ^ 64 → MayStand (D.areas disk) → EachHoldsSome (Holds nodes node) (D.areas disk)
+            → IfOk result (λ r. IsOpenWithOneOf D.areas (Holds nodes node) (D.areas disk) r) × IfErr result (λ r. (r.0 ≡ OutOfMemory) ⊎ (r.0 ≡ Device)) }
         ensures journal { IfOk result (λ r. IsReady nodes node r) }
         ensures table { D.tells disk → (facts : List Fact) → length (D.areas disk).first.cells < 2 ^ 64 → length (D.areas disk).second.cells < 2 ^ 64
             → Holds nodes node (contents (D.areas disk)) facts → IfOk result (λ r. IsOpenWith D.areas facts r) }
