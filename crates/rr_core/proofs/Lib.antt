@@ -16,3 +16,4 @@ pub mod MarkLemmas
 pub mod QuietLaws
 pub mod PartLaws
 pub mod DueLaws
+pub mod OverLemmas

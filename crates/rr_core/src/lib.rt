@@ -24,7 +24,10 @@ mod rounds;
 mod rows;
 mod same;
 mod staging;
+mod over;
+mod known;
 mod state;
+mod step;
 mod tally;
 mod unmarked;
 

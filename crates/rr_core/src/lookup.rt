@@ -139,30 +139,11 @@ impl State {
         self.round(instance) == round.number() && self.proposal(instance).is_some()
     }
 
-    /// Whether a later instance than `first` has decided.
-    pub fn has_decided_above(&self, first: Instance) -> bool
-        ensures { result ≡ list_any (λ r. nat_lt first r.instance && is_decided r) self.now.rows }
-    {
-        has_decided_above(&self.rows, first)
-    }
-
     /// Whether all instances are decided here.
     pub fn is_list_full(&self) -> bool
         ensures { result ≡ is_list_full self.now }
     {
         INSTANCES <= self.first_undecided()
-    }
-
-    /// Whether a request waits for its acknowledgement.
-    pub fn is_waiting(&self, request: RequestNo) -> bool
-        ensures { result ≡ is_waiting self.now request }
-    {
-        for waiting in &self.waiting {
-            if waiting.is_same(request) {
-                return true;
-            }
-        }
-        false
     }
 
     /// Whether the decided prefix holds a command with this request number.

@@ -62,13 +62,6 @@ impl State {
         rows::is_lowest_undecided(&self.rows, WINDOW, instance)
     }
 
-    /// Whether some instance has decided a command with this request number.
-    pub fn is_decided_request(&self, request: RequestNo) -> bool
-        ensures { result ≡ is_decided_request self.now request }
-    {
-        rows::has_decided_request(&self.rows, request)
-    }
-
     /// The node owes a message to one node.
     #[tactic(auto, unfolding(rr_model::specs::NodeParts::owe))]
     pub fn owe(&mut self, body: Body, backing: Option<u128>, to: NodeId) -> Result<(), Refusal>

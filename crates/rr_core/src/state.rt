@@ -128,6 +128,7 @@ pub struct State {
 
 impl Model for State {
     ghost use Rattle.rr_model.specs.NodeState as model;
+    ghost use Rattle.rr_core.specs.Steps.{RowsAscendFrom};
 
     ghost Value = { model.NodeState };
 
@@ -145,4 +146,6 @@ impl Model for State {
       waiting = s.waiting.items;
       owed = s.owed.items;
     } };
+
+    ghost invariant = { λ s. RowsAscendFrom 0 s.rows.items };
 }
