@@ -17,3 +17,5 @@ pub mod QuietLaws
 pub mod PartLaws
 pub mod DueLaws
 pub mod OverLemmas
+pub mod PoolLemmas
+pub mod InputSteps

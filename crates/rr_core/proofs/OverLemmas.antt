@@ -1,5 +1,5 @@
 -- Rows with changed ones over them.
-use Rattle.std.proofs.Common.{◌≡◌, ◌≢◌, ◌+◌, ◌<◌, ◌≤◌, ℕ, arith, Bool, true, false, ltb, eqb, cond, ◌&&◌, ◌||◌, not, List, [], ◌∷◌, ap, sym, ◌∙◌, refl, subst, Option, Some, None, option_map}
+use Rattle.std.proofs.Common.{◌≡◌, ◌≢◌, ◌+◌, ◌<◌, ◌≤◌, ℕ, arith, Bool, true, false, ltb, eqb, cond, ◌&&◌, ◌||◌, not, List, [], ◌∷◌, ◌++◌, ap, sym, ◌∙◌, refl, subst, Option, Some, None, option_map}
 use Rattle.std.specs.List.{list_any}
 use Rattle.std.specs.Option.{option_map_or}
 use Rattle.std.proofs.lemmas.Bool.{ltb-true, ltb-false, lt-ltb, le-ltb, ne_eqb, eq-eqb, eqb-true, eqb-false, false≢true}
@@ -8,10 +8,12 @@ use Rattle.rr_types.specs.declared.command.Command.{Command}
 use Rattle.rr_types.specs.declared.promise.Standing.{Standing}
 use Rattle.rr_types.specs.declared.promise.Standing.TheVariants.{Decided, Open}
 use Rattle.rr_types.specs.Registry.{is_same_request}
-use Rattle.rr_types.specs.Facts.{decision_of}
+use Rattle.rr_types.specs.declared.fact.Fact.{Fact}
+use Rattle.rr_types.specs.Facts.{decision_of, instance_of, after_fact}
 use Rattle.rr_types.specs.Standings.{is_undecided}
 use Rattle.rr_model.specs.NodeState.{Row, row_of, put_row, is_decided, decided_command, undecided_from}
-use Rattle.rr_core.specs.Steps.{put_rows, has_decided, decision_in, KeepsDecision, KeepDecisions, RowsAscendFrom}
+use Rattle.rr_model.specs.NodeParts.{row_after, fresh_row, rows_after}
+use Rattle.rr_core.specs.Steps.{put_rows, has_decided, KeepsStanding, KeepsDecision, KeepDecisions, RowsAscendFrom}
 
 -- the row put there is the one of its instance
 row_of_put : (r : Row) (rows : List Row) (i : ℕ) → row_of (put_row r rows) i ≡ cond (eqb r.instance i) (Some r) (row_of rows i)
@@ -91,7 +93,7 @@ any_put p r (o ∷ os) h = by (λ k. any_put p r os k) (ltb r.instance o.instanc
 pub any_changed : (p : Row → Bool) → IsOfDecision p → (rs rows : List Row) → KeepDecisions rs rows → list_any p (put_rows rs rows) ≡ (list_any p rs || list_any p rows)
 any_changed p h [] rows k = refl
 any_changed p h (r ∷ rs) rows k =
-    any_put p r (put_rows rs rows) (λ o there. h o r (row_is_of (put_rows rs rows) r.instance o there) (λ v e. k.0 v (ap (λ (x : Option Row). option_map_or decided_command x None) there ∙ e)))
+    any_put p r (put_rows rs rows) (λ o there. h o r (row_is_of (put_rows rs rows) r.instance o there) (λ v e. k.0 v (ap (λ (x : Option Row). decision_of (option_map (λ o. o.standing) x)) there ∙ e)))
     ∙ ap (λ (b : Bool). p r || b) (any_changed p h rs rows k.1)
     ∙ sym (or_both (p r) (list_any p rs) (list_any p rows))
 
@@ -262,3 +264,36 @@ above_then first rs rows x k e t = t ∙ sym (above_changed first rs rows k ∙ 
 
 pub above_else : (first : ℕ) (rs rows : List Row) (x y : Bool) → KeepDecisions rs rows → x ≡ list_any (λ (r : Row). ltb first r.instance && is_decided r) rs → x ≡ false → y ≡ list_any (λ (r : Row). ltb first r.instance && is_decided r) rows → y ≡ list_any (λ (r : Row). ltb first r.instance && is_decided r) (put_rows rs rows)
 above_else first rs rows x y k e t f = f ∙ sym (above_changed first rs rows k ∙ rw (sym e ∙ t) refl)
+
+-- a row with the standing of the one there leaves a decision alone
+pub keeps_standing : (rows : List Row) (i : ℕ) (o r : Row) → row_of rows i ≡ Some o → r.instance ≡ o.instance → r.standing ≡ o.standing → KeepsDecision rows r
+keeps_standing rows i o r there same stands v d =
+    let at : row_of rows r.instance ≡ Some o = ap (row_of rows) (same ∙ row_is_of rows i o there) ∙ there in
+    ap (λ (s : Standing). decision_of (Some s)) stands ∙ sym (ap (λ (x : Option Row). decision_of (option_map (λ o. o.standing) x)) at) ∙ d
+
+-- and so does the row after a fact after which the instance stands so
+pub after_keeps : (k : ℕ) (f : Fact) (st : Standing) (rows : List Row) (r : Row) → r ≡ row_after k f st (option_map_or (λ old. old) (row_of rows (instance_of f)) (fresh_row (instance_of f) st)) → KeepsStanding (option_map (λ (o : Row). o.standing) (row_of rows (instance_of f))) (Some st) → KeepsDecision rows r
+after_keeps k f st rows r e h v d =
+    let of : r.instance ≡ instance_of f = ap (λ (x : Row). x.instance) e ∙ by (row_of rows (instance_of f)) refl in
+    let stands : r.standing ≡ st = ap (λ (x : Row). x.standing) e in
+    ap (λ (s : Standing). decision_of (Some s)) stands ∙ h v (sym (ap (λ (i : ℕ). decision_of (option_map (λ (o : Row). o.standing) (row_of rows i))) of) ∙ d)
+  where
+    by : (x : Option Row) → row_of rows (instance_of f) ≡ x → (option_map_or (λ (old : Row). old) x (fresh_row (instance_of f) st)).instance ≡ instance_of f
+    by None g = refl
+    by (Some o) g = row_is_of rows (instance_of f) o g
+
+-- the rows after a fact, by where its instance then stands
+pub rows_stay : (k : ℕ) (f : Fact) (rows : List Row) → None ≡ after_fact (option_map (λ r. r.standing) (row_of rows (instance_of f))) f → rows_after k f rows ≡ rows
+rows_stay k f rows h = rw (sym h) refl
+
+pub rows_put : (k : ℕ) (f : Fact) (st : Standing) (rows : List Row) (r : Row) → Some st ≡ after_fact (option_map (λ r. r.standing) (row_of rows (instance_of f))) f → r ≡ row_after k f st (option_map_or (λ old. old) (row_of rows (instance_of f)) (fresh_row (instance_of f) st)) → put_row r rows ≡ rows_after k f rows
+rows_put k f st rows r h e = by (row_of rows (instance_of f)) refl
+  where
+    by : (x : Option Row) → row_of rows (instance_of f) ≡ x → put_row r rows ≡ rows_after k f rows
+    by None g = rw (e, sym h, g) refl
+    by (Some o) g = rw (e, sym h, g) refl
+
+-- the oldest changed row is put first
+pub put_last : (rs rows : List Row) (r : Row) → put_rows (rs ++ r ∷ []) rows ≡ put_rows rs (put_row r rows)
+put_last [] rows r = refl
+put_last (q ∷ rs) rows r = ap (put_row q) (put_last rs rows r)

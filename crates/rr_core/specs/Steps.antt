@@ -1,11 +1,16 @@
-use Rattle.std.specs.Prelude.{◌≡◌, ℕ, ◌+◌, ◌<◌, Bool, false, not, List, [], ◌∷◌, ◌++◌, filter, Option, Some, None}
+use Rattle.std.specs.Prelude.{◌≡◌, ℕ, ◌+◌, ◌<◌, Bool, false, not, List, [], ◌∷◌, ◌++◌, filter, ◌^◌, Option, None, Some, option_map}
 use Rattle.std.specs.List.{list_any}
 use Rattle.std.specs.Option.{option_map_or}
 use Rattle.rr_types.specs.declared.command.RequestNo.{RequestNo}
 use Rattle.rr_types.specs.declared.command.Command.{Command}
 use Rattle.rr_types.specs.declared.fact.Fact.{Fact}
+use Rattle.rr_types.specs.declared.promise.Standing.{Standing}
+use Rattle.rr_types.specs.Facts.{decision_of}
 use Rattle.rr_types.specs.Registry.{is_same_request}
-use Rattle.rr_model.specs.NodeState.{NodeState, Row, Watch, Owed, row_of, put_row, decided_command}
+use Rattle.rr_model.specs.NodeState.{NodeState, Row, Watch, Owed, row_of, put_row, decided_command, next_number}
+use Rattle.rr_model.specs.NodeDue.{settle}
+use Rattle.rr_core.specs.Lawful.{IsLawful}
+use Rattle.rr_model.specs.NodeStep.{Input, node_step, refusal_of}
 
 -- a node within a step: what it was before, and what it is by now
 pub record Stepped : Type 0 where
@@ -35,7 +40,7 @@ put_rows (r ∷ rs) rows = put_row r (put_rows rs rows)
 
 -- commands but those with one of these request numbers
 abbrev pub without_requests : List RequestNo → List Command → List Command
-without_requests taken cs = filter (λ c. not (list_any (λ q. is_same_request c.request q) taken)) cs
+without_requests taken cs = filter (λ c. not (list_any (λ q. is_same_request q c.request) taken)) cs
 
 -- a node with what a step has changed
 abbrev pub combined : NodeState → Changed → NodeState
@@ -49,14 +54,13 @@ combined s c = record s {
   owed = s.owed ++ c.owed;
 }
 
--- the command that the rows have decided for instance i
-abbrev pub decision_in : List Row → ℕ → Option Command
-decision_in rows i = option_map_or decided_command (row_of rows i) None
-
+-- a standing that takes the place of another leaves a decision alone
+abbrev pub KeepsStanding : Option Standing → Option Standing → Type 0
+KeepsStanding before after = (v : Command) → decision_of before ≡ Some v → decision_of after ≡ Some v
 
 -- a changed row leaves a decision of its instance alone
 abbrev pub KeepsDecision : List Row → Row → Type 0
-KeepsDecision rows r = (v : Command) → decision_in rows r.instance ≡ Some v → decided_command r ≡ Some v
+KeepsDecision rows r = KeepsStanding (option_map (λ o. o.standing) (row_of rows r.instance)) (Some r.standing)
 
 -- each changed row does, of which the newest stands first
 abbrev pub KeepDecisions : List Row → List Row → Type 0
@@ -71,3 +75,21 @@ has_decided q r = option_map_or (λ v. is_same_request v.request q) (decided_com
 abbrev pub RowsAscendFrom : ℕ → List Row → Type 0
 RowsAscendFrom low [] = Unit {0}
 RowsAscendFrom low (r ∷ rs) = (low < r.instance + 1) × RowsAscendFrom (r.instance + 1) rs
+
+-- what a step changes makes all that was due done, and the next fact has a number
+pub record IsSettled (base state : NodeState) (c : Changed) : Type 0 where
+  pub done : combined base c ≡ settle state
+  pub room : next_number (settle state) < 2 ^ 64
+  pub keep : KeepDecisions c.rows base.rows
+
+-- what an input changes makes the node's step, and isn't refused
+pub record IsStep (input : Input) (s : NodeState) (c : Changed) : Type 0 where
+  pub done : combined s c ≡ node_step input s
+  pub allowed : refusal_of input s ≡ None
+  pub keep : KeepDecisions c.rows s.rows
+
+-- the state with what a step changes stays lawful, and the next fact has a number
+pub record CanBeTaken (s : NodeState) (c : Changed) : Type 0 where
+  pub lawful : IsLawful s → IsLawful (combined s c)
+  pub room : next_number (combined s c) < 2 ^ 64
+  pub keep : KeepDecisions c.rows s.rows

@@ -1,4 +1,4 @@
-//! Whole states: a copy of one, and the one that a promise restores.
+//! The state that a promise restores, and a copy of rows.
 
 ghost use Rattle.std.specs.Prelude.{◌≡◌, map, replicate, IfOk, IfErr};
 ghost use Rattle.rr_model.specs.NodeDetector.{new_watch};
@@ -17,7 +17,7 @@ use std::alloc::Global;
 const FIRST_TIME_OUT: u32 = 4;
 
 /// A copy of rows.
-fn clone_rows(alloc: Global, rows: &[Row]) -> Result<Vec<Row>, Refusal>
+pub fn clone_rows(alloc: Global, rows: &[Row]) -> Result<Vec<Row>, Refusal>
     ensures ok { IfOk result (λ v. v.items ≡ rows.now) }
     ensures err { IfErr result (λ e. e ≡ Refusal.OutOfMemory) }
 {
@@ -80,33 +80,6 @@ fn new_watches(alloc: Global, nodes: Nodes) -> Result<Vec<Watch>, Refusal>
 }
 
 impl State {
-    /// A copy of this state.
-    pub fn try_clone(&self, alloc: Global) -> Result<State, Refusal>
-        ensures ok { IfOk result (λ s. s ≡ self.now) }
-        ensures err { IfErr result (λ e. e ≡ Refusal.OutOfMemory) }
-    {
-        let rows = clone_rows(alloc, &self.rows)?;
-        let marked = Vec::from_slice(alloc, self.marked.as_slice())?;
-        let unmarked = self.unmarked.try_clone(alloc)?;
-        let pool = Vec::from_slice(alloc, self.pool.as_slice())?;
-        let watches = Vec::from_slice(alloc, self.watches.as_slice())?;
-        let waiting = Vec::from_slice(alloc, self.waiting.as_slice())?;
-        let owed = Vec::from_slice(alloc, self.owed.as_slice())?;
-        Ok(State {
-            nodes: self.nodes,
-            node: self.node,
-            rows,
-            marked,
-            marked_end: self.marked_end,
-            unmarked,
-            pool,
-            suspects: self.suspects,
-            watches,
-            waiting,
-            owed,
-        })
-    }
-
     /// A node that knows what its facts promise, of which there are `next`, and nothing else.
     pub fn restored(
         alloc: Global,

@@ -4,12 +4,12 @@
 ghost use Rattle.std.specs.Prelude.{◌≡◌, ◌<◌, ◌≤◌, length};
 ghost use Rattle.rr_model.specs.NodeDetector.{all_ticked, heard_beat, late_nodes, joined, reduced};
 
-use crate::state::State;
 use rr_heartbeat::Watch;
 use rr_types::{NodeId, NodeSet};
 
+/// A tick for each watch.
 #[tactic(auto, using(crate::proofs::DetectorLemmas::tick_more))]
-fn tick_each(watches: &mut Vec<Watch>)
+pub fn tick_each(watches: &mut Vec<Watch>)
     ensures { watches.new.items ≡ all_ticked watches.old.items }
 {
     for index in 0..watches.len() {
@@ -17,8 +17,9 @@ fn tick_each(watches: &mut Vec<Watch>)
     }
 }
 
+/// A beat of a node; one that isn't there changes nothing.
 #[tactic(auto, using(crate::proofs::DetectorLemmas::beat_at, crate::proofs::DetectorLemmas::beat_past))]
-fn beat_one(watches: &mut Vec<Watch>, node: NodeId)
+pub fn beat_one(watches: &mut Vec<Watch>, node: NodeId)
     ensures { watches.new.items ≡ heard_beat node watches.old.items }
 {
     let index = usize::from(node.index());
@@ -27,39 +28,22 @@ fn beat_one(watches: &mut Vec<Watch>, node: NodeId)
     }
 }
 
-impl State {
-    /// A tick for the heartbeat detector.
-    pub fn tick_watches(&mut self)
-        ensures { self.new ≡ record self.old { watches = all_ticked self.old.watches } }
-    {
-        tick_each(&mut self.watches);
-    }
-
-    /// A beat of a node; one that isn't there changes nothing.
-    pub fn beat(&mut self, node: NodeId)
-        ensures { self.new ≡ record self.old { watches = heard_beat node self.old.watches } }
-    {
-        beat_one(&mut self.watches, node);
-    }
-
-    /// The nodes that the heartbeat detector suspects.
-    #[tactic(auto, using(crate::proofs::DetectorLemmas::late_more, crate::proofs::DetectorLemmas::with_next))]
-    pub fn late_nodes(&self) -> NodeSet
-        requires { length self.now.watches ≤ 7 }
-        ensures { result ≡ late_nodes self.now.node self.now.watches }
-    {
-        let mut late = NodeSet::empty();
-        let watches = self.watches.as_slice();
-        for index in 0..watches.len() {
-            let Some(node) = NodeId::at(index as u8) else {
-                unreachable!()
-            };
-            if watches[index].is_late() && node.index() != self.node.index() {
-                late = late.with(node);
-            }
+/// The nodes but this one that the heartbeat detector suspects.
+#[tactic(auto, using(crate::proofs::DetectorLemmas::late_more, crate::proofs::DetectorLemmas::with_next))]
+pub fn late_nodes(this: NodeId, watches: &[Watch]) -> NodeSet
+    requires { length watches.now ≤ 7 }
+    ensures { result ≡ late_nodes this watches.now }
+{
+    let mut late = NodeSet::empty();
+    for index in 0..watches.len() {
+        let Some(node) = NodeId::at(index as u8) else {
+            unreachable!()
+        };
+        if watches[index].is_late() && node.index() != this.index() {
+            late = late.with(node);
         }
-        late
     }
+    late
 }
 
 /// Two sets of nodes together.

@@ -2,17 +2,18 @@
 
 ghost use Rattle.std.specs.Prelude.{◌≡◌, ◌<◌};
 ghost use Rattle.rr_core.specs.Places.{is_estimate_of, is_estimate_beside, first_free};
+ghost use Rattle.rr_core.specs.Steps.{without_requests};
 
-use crate::rows;
-use rr_instance::Row;
-use rr_types::{Command, Estimate, Instance, Round, Standing};
+use crate::known::is_among;
+use crate::step::Step;
+use rr_types::{Command, Estimate, Instance, RequestNo, Round, Standing};
 
 /// Whether a command is the estimate of an instance.
 #[tactic(auto, unfolding(crate::specs::Places::is_estimate_of))]
-pub fn is_estimate_of(rows: &[Row], instance: Instance, command: &Command) -> bool
-    ensures { result ≡ is_estimate_of rows.now instance command.now }
+pub fn is_estimate_of(step: &Step<'_>, instance: Instance, command: &Command) -> bool
+    ensures { result ≡ is_estimate_of step.now.state.rows instance command.now }
 {
-    match rows::standing_in_rows(rows, instance) {
+    match step.standing(instance) {
         None => false,
         Some(standing) => match standing {
             Standing::Decided(_) => false,
@@ -24,33 +25,38 @@ pub fn is_estimate_of(rows: &[Row], instance: Instance, command: &Command) -> bo
 /// Whether a command is the estimate of one of these instances but one.
 #[tactic(auto, unfolding(crate::specs::Places::is_estimate_beside))]
 pub fn is_estimate_beside(
-    rows: &[Row],
+    step: &Step<'_>,
     instances: &[Instance],
     instance: Instance,
     command: &Command,
 ) -> bool
-    ensures { result ≡ is_estimate_beside rows.now instances.now instance command.now }
+    ensures { result ≡ is_estimate_beside step.now.state.rows instances.now instance command.now }
 {
     for other in instances {
-        if *other != instance && is_estimate_of(rows, *other, command) {
+        if *other != instance && is_estimate_of(step, *other, command) {
             return true;
         }
     }
     false
 }
 
-/// The first command that is no estimate of one of these instances but one.
-#[tactic(auto, unfolding(crate::specs::Places::first_free))]
+/// The first command that is no estimate of one of these instances but one, and has none of the request numbers
+/// that were taken.
+#[tactic(auto, using(crate::proofs::PoolLemmas::free_passed, crate::proofs::PoolLemmas::free_taken, crate::proofs::PoolLemmas::free_here), unfolding(crate::specs::Places::first_free))]
 pub fn first_free(
-    rows: &[Row],
+    step: &Step<'_>,
     instances: &[Instance],
     instance: Instance,
     pool: &[Command],
+    taken: &[RequestNo],
 ) -> Option<Command>
-    ensures { result ≡ first_free rows.now instances.now instance pool.now }
+    ensures { result ≡ first_free step.now.state.rows instances.now instance (without_requests taken.now pool.now) }
 {
     for command in pool {
-        if !is_estimate_beside(rows, instances, instance, command) {
+        if is_among(taken, command.request) {
+            continue;
+        }
+        if !is_estimate_beside(step, instances, instance, command) {
             return Some(*command);
         }
     }

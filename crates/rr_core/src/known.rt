@@ -1,17 +1,26 @@
 //! What a state says of instances, request numbers and commands.
 
-ghost use Rattle.std.specs.Prelude.{◌≡◌, ◌≤◌, ◌&&◌, nat_lt, None, Some, MatchOption};
+ghost use Rattle.std.specs.Prelude.{◌≡◌, ◌≤◌, ◌<◌, ◌^◌, ◌&&◌, nat_lt, None, Some, MatchOption};
 ghost use Rattle.std.specs.List.{list_any};
 ghost use Rattle.rr_types.specs.Registry.{has_request, is_same_request};
-ghost use Rattle.rr_model.specs.NodeState.{row_of, is_decided, is_decided_request, undecided_from};
+ghost use Rattle.rr_model.specs.NodeState.{next_number, row_of, is_decided, is_decided_request, undecided_from};
 ghost use Rattle.rr_model.specs.NodeStep.{is_waiting};
 ghost use Rattle.rr_core.specs.Steps.{RowsAscendFrom};
 
-use crate::state::{Row, State};
+use crate::state::State;
+use rr_instance::Row;
 use crate::{over, owing, rows};
 use rr_types::{Instance, RequestNo};
 
 impl State {
+    /// The number of the next fact.
+    pub fn next_number(&self) -> u128
+        ensures value { result ≡ next_number self.now }
+        ensures room { result < 2 ^ 65 }
+    {
+        self.marked_end as u128 + self.unmarked.count() as u128
+    }
+
     /// The row of an instance.
     pub fn row(&self, instance: Instance) -> Option<&Row>
         ensures { MatchOption result (row_of self.now.rows instance ≡ None) (λ r. row_of self.now.rows instance ≡ Some r.now) }

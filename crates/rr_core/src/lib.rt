@@ -2,6 +2,7 @@
 //! and owes messages; whoever runs it flushes the facts and carries the messages.
 #![tactic(auto)]
 
+mod absorb;
 mod cleared;
 mod copies;
 #[cfg(test)]
@@ -11,9 +12,12 @@ mod due;
 mod estimates;
 mod group;
 mod input;
+mod inputs;
+mod known;
 mod leaving;
 mod lookup;
 mod node_core;
+mod over;
 mod owing;
 #[cfg(test)]
 mod part_tests;
@@ -24,8 +28,6 @@ mod rounds;
 mod rows;
 mod same;
 mod staging;
-mod over;
-mod known;
 mod state;
 mod step;
 mod tally;

@@ -1,13 +1,15 @@
 //! The rows of a state with the rows that a step has changed, of which the newest stands first.
 
-ghost use Rattle.std.specs.Prelude.{◌≡◌, ◌≤◌, ◌<◌, ◌&&◌, ◌==◌, nat_lt, IsTrue, None, Some, MatchOption};
+ghost use Rattle.std.specs.Prelude.{◌≡◌, ◌≤◌, ◌<◌, ◌&&◌, ◌==◌, nat_lt, IsTrue, None, Some, MatchOption, IfOk, IfErr};
 ghost use Rattle.std.specs.List.{list_any};
-ghost use Rattle.rr_model.specs.NodeState.{row_of, is_decided, undecided_from};
+ghost use Rattle.rr_model.specs.NodeState.{row_of, is_decided, undecided_from, lowest_undecided};
 ghost use Rattle.rr_core.specs.Steps.{put_rows, KeepDecisions, has_decided};
 
 use crate::rows::{find_row, has_decided_request, is_decided};
-use crate::state::{Row, State};
-use rr_types::{Instance, RequestNo};
+use crate::state::State;
+use rr_instance::Row;
+use rr_types::{Instance, Refusal, RequestNo};
+use std::alloc::Global;
 
 /// The row of an instance.
 #[tactic(auto, using(crate::proofs::OverLemmas::row_changed, crate::proofs::OverLemmas::row_same))]
@@ -47,6 +49,53 @@ pub fn undecided_over(base: &State, changed: &[Row], from: u32) -> u32
         lowest = base.undecided_from(lowest + 1);
     }
     lowest
+}
+
+/// The `count` lowest undecided instances, ascending.
+#[tactic(auto, using(crate::proofs::RowLemmas::lowest_next, crate::proofs::RowLemmas::lowest_done, crate::proofs::RowLemmas::push_next))]
+pub fn lowest_over(
+    alloc: Global,
+    base: &State,
+    changed: &[Row],
+    count: usize,
+) -> Result<Vec<Instance>, Refusal>
+    requires { KeepDecisions changed.now base.now.rows }
+    ensures value { IfOk result (λ found. found.items ≡ lowest_undecided count 0 (put_rows changed.now base.now.rows)) }
+    ensures err { IfErr result (λ e. e ≡ Refusal.OutOfMemory) }
+{
+    let mut found = Vec::new(alloc);
+    let mut from = 0;
+    for _turn in 0..count {
+        match Instance::new(undecided_over(base, changed, from)) {
+            None => return Ok(found),
+            Some(instance) => {
+                found.push(instance)?;
+                from = instance.number() + 1;
+            }
+        }
+    }
+    Ok(found)
+}
+
+/// Whether an instance is one of the `count` lowest undecided ones.
+#[tactic(auto, using(crate::proofs::RowLemmas::lowest_next, crate::proofs::RowLemmas::lowest_end))]
+pub fn is_lowest_over(base: &State, changed: &[Row], count: usize, instance: Instance) -> bool
+    requires { KeepDecisions changed.now base.now.rows }
+    ensures { result ≡ list_any (λ j. j == instance) (lowest_undecided count 0 (put_rows changed.now base.now.rows)) }
+{
+    let mut from = 0;
+    for _turn in 0..count {
+        match Instance::new(undecided_over(base, changed, from)) {
+            None => return false,
+            Some(lowest) => {
+                if lowest == instance {
+                    return true;
+                }
+                from = lowest.number() + 1;
+            }
+        }
+    }
+    false
 }
 
 /// Whether an instance has decided a command with this request number.

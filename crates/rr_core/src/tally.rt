@@ -3,9 +3,10 @@
 ghost use Rattle.std.specs.Prelude.{◌≡◌, ◌≤◌, length, MatchOption, IfErr, OnOk};
 ghost use Rattle.std.specs.List.{insert};
 ghost use Rattle.rr_model.specs.NodeStep.{with_vote, count_estimate, count_ack, count_nack};
+ghost use Rattle.rr_core.specs.Steps.{stepped};
 
-use crate::rows::{clone_row, find_row, put_row};
-use crate::state::State;
+use crate::rows::clone_row;
+use crate::step::Step;
 use rr_instance::Row;
 use rr_round::{Tally, Vote};
 use rr_types::{Estimate, Instance, NodeId, Refusal};
@@ -40,9 +41,9 @@ fn put_vote(votes: &mut Vec<Vote>, vote: Vote) -> Result<(), Refusal>
     Ok(())
 }
 
-impl State {
+impl<'a> Step<'a> {
     /// The coordinator keeps an estimate.
-    #[tactic(auto, unfolding(rr_model::specs::NodeStep::count_estimate))]
+    #[tactic(auto, using(crate::proofs::OverLemmas::keeps_standing), unfolding(rr_model::specs::NodeStep::count_estimate))]
     pub fn count_estimate(
         &mut self,
         alloc: Global,
@@ -50,10 +51,10 @@ impl State {
         sender: NodeId,
         estimate: Estimate,
     ) -> Result<(), Refusal>
-        ensures ok { OnOk result (self.new ≡ count_estimate instance sender estimate self.old) }
+        ensures ok { OnOk result (self.new ≡ stepped (count_estimate instance sender estimate) self.old) }
         ensures err { IfErr result (λ e. e ≡ Refusal.OutOfMemory) }
     {
-        let Some(row) = find_row(&self.rows, instance) else {
+        let Some(row) = self.row(instance) else {
             return Ok(());
         };
         let mut row = match clone_row(alloc, row) {
@@ -66,23 +67,23 @@ impl State {
             command: estimate.command(),
         };
         match put_vote(&mut row.tally.estimates, vote) {
-            Ok(()) => put_row(&mut self.rows, row),
+            Ok(()) => self.put_row(row),
             Err(refusal) => Err(refusal),
         }
     }
 
     /// The coordinator keeps an acknowledgement.
-    #[tactic(auto, unfolding(rr_model::specs::NodeStep::count_ack))]
+    #[tactic(auto, using(crate::proofs::OverLemmas::keeps_standing), unfolding(rr_model::specs::NodeStep::count_ack))]
     pub fn count_ack(
         &mut self,
         alloc: Global,
         instance: Instance,
         sender: NodeId,
     ) -> Result<(), Refusal>
-        ensures ok { OnOk result (self.new ≡ count_ack instance sender self.old) }
+        ensures ok { OnOk result (self.new ≡ stepped (count_ack instance sender) self.old) }
         ensures err { IfErr result (λ e. e ≡ Refusal.OutOfMemory) }
     {
-        let Some(row) = find_row(&self.rows, instance) else {
+        let Some(row) = self.row(instance) else {
             return Ok(());
         };
         let row = match clone_row(alloc, row) {
@@ -110,21 +111,21 @@ impl State {
                 nacks,
             },
         };
-        put_row(&mut self.rows, row)
+        self.put_row(row)
     }
 
     /// The coordinator keeps a refusal.
-    #[tactic(auto, unfolding(rr_model::specs::NodeStep::count_nack))]
+    #[tactic(auto, using(crate::proofs::OverLemmas::keeps_standing), unfolding(rr_model::specs::NodeStep::count_nack))]
     pub fn count_nack(
         &mut self,
         alloc: Global,
         instance: Instance,
         sender: NodeId,
     ) -> Result<(), Refusal>
-        ensures ok { OnOk result (self.new ≡ count_nack instance sender self.old) }
+        ensures ok { OnOk result (self.new ≡ stepped (count_nack instance sender) self.old) }
         ensures err { IfErr result (λ e. e ≡ Refusal.OutOfMemory) }
     {
-        let Some(row) = find_row(&self.rows, instance) else {
+        let Some(row) = self.row(instance) else {
             return Ok(());
         };
         let row = match clone_row(alloc, row) {
@@ -152,6 +153,6 @@ impl State {
                 nacks: nacks.with(sender),
             },
         };
-        put_row(&mut self.rows, row)
+        self.put_row(row)
     }
 }
