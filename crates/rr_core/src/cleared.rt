@@ -4,7 +4,7 @@
 ghost use Rattle.std.specs.Prelude.{◌≡◌, ◌↔◌, IsTrue, IsOk, IfOk, IfErr};
 ghost use Rattle.rr_model.specs.NodeStep.{may_leave};
 
-use crate::state::Owed;
+use rr_mark::Owed;
 use rr_types::Message;
 use std::marker::Model;
 

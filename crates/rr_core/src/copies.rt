@@ -5,8 +5,11 @@ ghost use Rattle.rr_model.specs.NodeDetector.{new_watch};
 ghost use Rattle.rr_model.specs.NodeStep.{promised_row, restored};
 
 use crate::rows;
-use crate::state::{Backing, Row, State, Tally, Watch};
+use crate::state::State;
 use crate::unmarked::Unmarked;
+use rr_heartbeat::Watch;
+use rr_instance::{Backing, Row};
+use rr_round::Tally;
 use rr_types::{Entry, NodeId, NodeSet, Nodes, Promise, Refusal};
 use std::alloc::Global;
 

@@ -2,56 +2,11 @@
 //! reduction that makes a detector complete (Chandra and Toueg 1996).
 
 ghost use Rattle.std.specs.Prelude.{◌≡◌, ◌<◌, ◌≤◌, length};
-ghost use Rattle.rr_model.specs.NodeDetector.{new_watch, counted, is_late, ticked, beaten, all_ticked, heard_beat, late_nodes, joined, reduced};
+ghost use Rattle.rr_model.specs.NodeDetector.{all_ticked, heard_beat, late_nodes, joined, reduced};
 
-use crate::state::{State, Watch};
+use crate::state::State;
+use rr_heartbeat::Watch;
 use rr_types::{NodeId, NodeSet};
-
-/// One more; counts stop at the greatest number of their type.
-fn counted(count: u32) -> u32
-    ensures { result ≡ counted count }
-{
-    count.saturating_add(1)
-}
-
-impl Watch {
-    /// What is known of a node at the start: four ticks without a beat are borne.
-    pub fn new() -> Watch
-        ensures { result ≡ new_watch }
-    {
-        Watch {
-            ticks: 0,
-            time_out: 4,
-        }
-    }
-
-    /// Whether more ticks have come since the last beat than are borne.
-    pub fn is_late(self) -> bool
-        ensures { result ≡ is_late self }
-    {
-        self.time_out < self.ticks
-    }
-
-    fn ticked(self) -> Watch
-        ensures { result ≡ ticked self }
-    {
-        Watch {
-            ticks: counted(self.ticks),
-            time_out: self.time_out,
-        }
-    }
-
-    fn beaten(self) -> Watch
-        ensures { result ≡ beaten self }
-    {
-        let time_out = if self.is_late() {
-            counted(self.time_out)
-        } else {
-            self.time_out
-        };
-        Watch { ticks: 0, time_out }
-    }
-}
 
 #[tactic(auto, using(crate::proofs::DetectorLemmas::tick_more))]
 fn tick_each(watches: &mut Vec<Watch>)

@@ -10,7 +10,8 @@ ghost use Rattle.rr_core.specs.Dues.{meaning_of, MovesBelowLast, CanBeCarriedOut
 
 use crate::detector::joined;
 use crate::rows::find_row;
-use crate::state::{State, Tally, Vote};
+use crate::state::State;
+use rr_round::{Tally, Vote};
 use rr_types::{
     Command, Instance, NodeSet, Nodes, Refusal, Round, Standing, coordinator, majority,
 };

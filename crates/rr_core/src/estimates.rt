@@ -4,7 +4,7 @@ ghost use Rattle.std.specs.Prelude.{◌≡◌, ◌<◌};
 ghost use Rattle.rr_core.specs.Places.{is_estimate_of, is_estimate_beside, first_free};
 
 use crate::rows;
-use crate::state::Row;
+use rr_instance::Row;
 use rr_types::{Command, Estimate, Instance, Round, Standing};
 
 /// Whether a command is the estimate of an instance.

@@ -6,7 +6,8 @@ ghost use Rattle.rr_registry.specs.Kept.{kept_reply};
 ghost use Rattle.rr_core.specs.Firsts.{without_first};
 
 use crate::cleared::{Cleared, Draft, Mark};
-use crate::state::{Owed, State};
+use crate::state::State;
+use rr_mark::Owed;
 use rr_registry::Registry;
 use rr_types::{Reply, RequestNo};
 

@@ -9,7 +9,8 @@ ghost use Rattle.rr_model.specs.NodeState.{standing_at, is_decided, first_undeci
 ghost use Rattle.rr_model.specs.NodeStep.{is_waiting, is_list_full, lowest_in_round, has_proposed};
 
 use crate::rows::is_decided;
-use crate::state::{Row, State};
+use crate::state::State;
+use rr_instance::Row;
 use rr_types::{Command, Entry, INSTANCES, Instance, Refusal, RequestNo, Round, Standing};
 use std::alloc::Global;
 

@@ -6,7 +6,7 @@ ghost use Rattle.rr_types.specs.Registry.{is_same_request, has_request};
 ghost use Rattle.rr_model.specs.NodeParts.{messages_to};
 ghost use Rattle.rr_core.specs.Places.{message_to, nodes_beside};
 
-use crate::state::Owed;
+use rr_mark::Owed;
 use rr_types::{Body, Command, Message, NodeId, Nodes, Refusal, RequestNo};
 
 /// Owes a body to one node.

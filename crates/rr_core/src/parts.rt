@@ -8,8 +8,9 @@ ghost use Rattle.rr_types.specs.Standings.{round_of};
 ghost use Rattle.rr_model.specs.NodeState.{next_number, standing_at, row_of, first_undecided, open_instances, is_open, is_decided_request, everyone, others};
 ghost use Rattle.rr_model.specs.NodeParts.{owe, pool_add, stage, free_command, enter, restate, restate_all, conclude, propose};
 
-use crate::state::{Backing, State};
+use crate::state::State;
 use crate::{estimates, owing, rows, staging};
+use rr_instance::Backing;
 use rr_types::{
     Body, Command, Estimate, Fact, Instance, NodeId, Refusal, RequestNo, Round, Standing, WINDOW,
 };

@@ -8,7 +8,8 @@ ghost use Rattle.rr_model.specs.NodeParts.{backing_at, leave_round, enter_with, 
 ghost use Rattle.rr_core.specs.Places.{owe_coordinator};
 
 use crate::estimates::estimate_at;
-use crate::state::{Backing, State};
+use crate::state::State;
+use rr_instance::Backing;
 use rr_types::{
     Body, Command, Estimate, Instance, OpenStanding, Refusal, Round, Standing, coordinator,
 };

@@ -7,7 +7,8 @@ ghost use Rattle.rr_types.specs.Registry.{is_same_request};
 ghost use Rattle.rr_model.specs.NodeState.{row_of, put_row, is_decided, undecided_from, lowest_undecided, decided_command};
 ghost use Rattle.rr_core.specs.Places.{rows_below, is_row_of};
 
-use crate::state::{Backing, Row, Tally};
+use rr_instance::{Backing, Row};
+use rr_round::Tally;
 use rr_types::{Command, Instance, Refusal, RequestNo, Standing};
 use std::alloc::Global;
 

@@ -10,7 +10,8 @@ ghost use Rattle.rr_model.specs.NodeParts.{backing_after, tally_after, row_after
 
 use crate::owing::drop_request;
 use crate::rows;
-use crate::state::{Backing, Row, Tally};
+use rr_instance::{Backing, Row};
+use rr_round::Tally;
 use rr_types::{Command, Estimate, Fact, Instance, NodeSet, OpenStanding, Refusal, Standing};
 use std::alloc::Global;
 

@@ -5,7 +5,9 @@ ghost use Rattle.std.specs.List.{insert};
 ghost use Rattle.rr_model.specs.NodeStep.{with_vote, count_estimate, count_ack, count_nack};
 
 use crate::rows::{clone_row, find_row, put_row};
-use crate::state::{Row, State, Tally, Vote};
+use crate::state::State;
+use rr_instance::Row;
+use rr_round::{Tally, Vote};
 use rr_types::{Estimate, Instance, NodeId, Refusal};
 use std::alloc::Global;
 

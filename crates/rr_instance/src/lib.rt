@@ -1,0 +1,6 @@
+//! One instance over its rounds: where it stands, which facts back its messages, what was heard of its round.
+#![tactic(auto)]
+
+mod row;
+
+pub use row::{Backing, Row};
