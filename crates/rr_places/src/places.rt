@@ -74,10 +74,7 @@ pub fn put<K: Ord + Copy + Drop, V: Drop>(
 }
 
 /// Takes a key's place away if it is free.
-pub fn drop_free_place<K: Ord + Copy + Drop, V: Drop>(
-    map: &mut BTreeMap<K, Option<V>>,
-    key: &K,
-)
+pub fn drop_free_place<K: Ord + Copy + Drop, V: Drop>(map: &mut BTreeMap<K, Option<V>>, key: &K)
     ensures { filled map.new.entries ≡ filled map.old.entries }
 {
     if let Some(None) = map.get(key) {
