@@ -1,17 +1,17 @@
 //! Maps in which a key may have a place before it has a value. Making a place may need memory;
 //! giving a place a value, and taking it, needs none.
 
-ghost use Rattle.std.specs.Prelude.{◌≡◌, ◌+◌, length, IsTrue, IsSome, OnOk};
+ghost use Rattle.std.specs.Prelude.{◌≡◌, ◌+◌, length, None, Some, IsTrue, IsSome, MatchOption, OnOk};
 ghost use Rattle.std.specs.BTreeMap.{is_at};
 ghost use Rattle.std.specs.Map.{lookup};
 ghost use Rattle.std.proofs.lemmas.Map.Lookups.{CmpEqualImpliesEq};
-ghost use Rattle.rr_registry.specs.Places.{filled, has_place, put_entry, held};
+ghost use Rattle.rr_places.specs.Places.{filled, has_place, put_entry, held};
 
 use std::alloc::AllocError;
 use std::collections::BTreeMap;
 
 /// The value at a key.
-pub(crate) fn value_at<K: Ord, V: Copy>(map: &BTreeMap<K, Option<V>>, key: &K) -> Option<V>
+pub fn value_at<K: Ord, V: Copy>(map: &BTreeMap<K, Option<V>>, key: &K) -> Option<V>
     ensures value { result ≡ lookup (is_at (K.cmp key.now)) (filled map.now.entries) }
     ensures place { IsSome result → IsTrue (has_place K.cmp map.now.entries key.now) }
 {
@@ -24,8 +24,24 @@ pub(crate) fn value_at<K: Ord, V: Copy>(map: &BTreeMap<K, Option<V>>, key: &K) -
     }
 }
 
+/// The value at a key, in its place.
+pub fn value_of<'a, K: Ord, V>(map: &'a BTreeMap<K, Option<V>>, key: &K) -> Option<&'a V>
+    ensures { MatchOption result
+        (lookup (is_at (K.cmp key.now)) (filled map.now.entries) ≡ None)
+        (λ v. lookup (is_at (K.cmp key.now)) (filled map.now.entries) ≡ Some v.now) }
+{
+    if map.len() == 0 {
+        return None;
+    }
+    match map.get(key) {
+        Some(Some(value)) => Some(value),
+        Some(None) => None,
+        None => None,
+    }
+}
+
 /// Makes a free place for a key that has none.
-pub(crate) fn make_place<K: Ord + Copy + Drop, V: Copy + Drop>(
+pub fn make_place<K: Ord + Copy + Drop, V: Drop>(
     map: &mut BTreeMap<K, Option<V>>,
     key: K,
 ) -> Result<(), AllocError>
@@ -40,7 +56,7 @@ pub(crate) fn make_place<K: Ord + Copy + Drop, V: Copy + Drop>(
 }
 
 /// Writes what a key's place holds: a value, or `None`. It needs no memory.
-pub(crate) fn put<K: Ord + Copy + Drop, V: Copy + Drop>(
+pub fn put<K: Ord + Copy + Drop, V: Drop>(
     map: &mut BTreeMap<K, Option<V>>,
     key: K,
     value: Option<V>,
@@ -58,10 +74,7 @@ pub(crate) fn put<K: Ord + Copy + Drop, V: Copy + Drop>(
 }
 
 /// Takes a key's place away if it is free.
-pub(crate) fn drop_free_place<K: Ord + Copy + Drop, V: Copy + Drop>(
-    map: &mut BTreeMap<K, Option<V>>,
-    key: &K,
-)
+pub fn drop_free_place<K: Ord + Copy + Drop, V: Drop>(map: &mut BTreeMap<K, Option<V>>, key: &K)
     ensures { filled map.new.entries ≡ filled map.old.entries }
 {
     if let Some(None) = map.get(key) {

@@ -8,7 +8,7 @@ use Rattle.std.specs.BTreeMap.{insert_entry, is_at}
 use Rattle.std.specs.Map.{lookup, remove_entry, keys_of}
 use Rattle.std.proofs.lemmas.Map.Keys.{sorted_head, sorted_tail}
 use Rattle.std.proofs.lemmas.Map.Lookups.{CmpEqualImpliesEq}
-use Rattle.rr_registry.specs.Places.{filled, filled_cons, put_entry, held}
+use Rattle.rr_places.specs.Places.{filled, filled_cons, put_entry, held}
 
 -- the value at a place that may be free, if there is a place
 abbrev pub joined : {V : Type 0} → Option (Option V) → Option V
