@@ -1,13 +1,15 @@
 -- What each input changes makes the node's step.
-use Rattle.std.proofs.Common.{◌≡◌, ◌^◌, ◌<◌, ◌≤◌, ℕ, Bool, true, false, cond, ltb, ap, sym, ◌∙◌, refl, Option, Some, None, is_some}
+use Rattle.std.proofs.Common.{◌≡◌, ◌^◌, ◌<◌, ◌≤◌, ℕ, Bool, true, false, cond, ltb, List, ap, sym, ◌∙◌, refl, subst, Option, Some, None, is_some}
 use Rattle.std.proofs.lemmas.Bool.{ltb-true, false≢true}
 use Rattle.rr_types.specs.declared.command.Command.{Command}
 use Rattle.rr_types.specs.declared.message.Message.{Message}
+use Rattle.rr_types.specs.declared.promise.Entry.{Entry}
+use Rattle.rr_types.specs.Promises.{IsAscending}
 use Rattle.rr_types.specs.declared.refusal.Refusal.{Refusal}
 use Rattle.rr_types.specs.declared.refusal.Refusal.TheVariants.{TooLarge}
-use Rattle.rr_model.specs.NodeState.{NodeState, next_number}
+use Rattle.rr_model.specs.NodeState.{NodeState, next_number, open_instances, decided_from}
 use Rattle.rr_model.specs.NodeDue.{settle}
-use Rattle.rr_model.specs.NodeStep.{Input, Submit, Suspect, Tick, Advance, Hear, submitted, heard, ticked_on, advanced, node_step, submit_refusal, advance_refusal, input_refusal, refusal_of}
+use Rattle.rr_model.specs.NodeStep.{Input, Submit, Suspect, Tick, Advance, Hear, submitted, heard, ticked_on, advanced, node_step, submit_refusal, advance_refusal, input_refusal, refusal_of, restored, started}
 use Rattle.rr_types.specs.declared.command.RequestNo.{RequestNo}
 use Rattle.rr_types.specs.declared.command.Reply.{Reply}
 use Rattle.rr_types.specs.Registry.{has_request}
@@ -16,16 +18,16 @@ use Rattle.rr_model.specs.NodeState.{decided_prefix}
 use Rattle.rr_core.specs.Kept.{IsKept}
 use Rattle.rr_core.specs.Lawful.{IsLawful}
 use Rattle.rr_core.proofs.MarkLemmas.{replied_where}
-use Rattle.rr_core.specs.Steps.{Stepped, stepped, Changed, combined, KeepDecisions, IsSettled, IsStep, CanBeTaken}
+use Rattle.rr_core.specs.Steps.{Stepped, stepped, Changed, combined, IsFitting, IsSettled, IsStep, CanBeTaken}
 use Rattle.rr_core.proofs.CoreLemmas as core
 use Rattle.rr_core.proofs.StepLaws as law
 
 -- a step that is settled
-pub settled : (s t : Stepped) (c : Changed) → t ≡ stepped settle s → combined t.base c ≡ t.state → next_number t.state < 2 ^ 64 → KeepDecisions c.rows t.base.rows → IsSettled s.base s.state c
+pub settled : (s t : Stepped) (c : Changed) → t ≡ stepped settle s → combined t.base c ≡ t.state → next_number t.state < 2 ^ 64 → IsFitting t.base c → IsSettled s.base s.state c
 settled s t c e f l k = record {
   done = ap (λ (u : Stepped). combined u.base c) (sym e) ∙ f ∙ ap (λ (u : Stepped). u.state) e;
   room = rw (ap (λ (u : Stepped). u.state) e) at l;
-  keep = rw (ap (λ (u : Stepped). u.base) e) at k;
+  fits = rw (ap (λ (u : Stepped). u.base) e) at k;
 }
 
 -- what is allowed for what it is
@@ -33,7 +35,7 @@ step_of : (input : Input) (s : NodeState) (t : NodeState) (b u : NodeState) (c :
 step_of input s t b u c e f g h d = record {
   done = ap (λ (x : NodeState). combined x c) (sym e) ∙ d.done ∙ ap settle f ∙ sym g;
   allowed = h (rw f at d.room);
-  keep = rw e at d.keep;
+  fits = rw e at d.fits;
 }
 
 pub submit_is_step : (c : Command) (s : NodeState) (t : Stepped) (d : Changed) → t ≡ record { base = s; state = submitted c s } → submit_refusal c s ≡ None → IsSettled t.base t.state d → IsStep (Submit c) s d
@@ -87,9 +89,9 @@ stays_lawful (Hear m) s h = rw (core.hear_step m s) (law.settle_lawful _ (core.h
 -- what an input changes can be taken on
 pub taken_on : (input : Input) (s : NodeState) (c : Changed) → IsStep input s c → CanBeTaken s c
 taken_on input s c d = record {
-  lawful = λ h. rw d.done (stays_lawful input s h);
-  room = rw d.done (has_room input s d.allowed);
-  keep = d.keep;
+  lawful = λ h. subst IsLawful (sym d.done) (stays_lawful input s h);
+  room = subst (λ (t : NodeState). next_number t < 2 ^ 64) (sym d.done) (has_room input s d.allowed);
+  fits = d.fits;
 }
 
 -- the state with it is kept
@@ -98,3 +100,8 @@ taken_kept s t k c d e kept = rw e record { lawful = d.lawful kept.lawful; room 
 
 pub held : (s : NodeState) (k : Kept) (q : RequestNo) (x : Option Reply) → IsKept s k → x ≡ kept_reply k q → is_some x ≡ has_request (decided_prefix s) q
 held s k q x kept e = ap is_some e ∙ replied_where s k kept q
+
+-- a started node is kept
+pub started_kept : (n p next : ℕ) (es : List Entry) (k : Kept) (t : NodeState) → IsAscending es → n ≤ 7 → next < 2 ^ 64 → k ≡ kept_of (decided_from 0 es) → t ≡ started n p es next → IsKept t k
+unfolding started
+started_kept n p next es k t a l m e f = core.start_kept n p next es k (restored n p es next) t (open_instances (restored n p es next)) a l m e refl f

@@ -1,5 +1,5 @@
 -- Rows with changed ones over them.
-use Rattle.std.proofs.Common.{◌≡◌, ◌≢◌, ◌+◌, ◌<◌, ◌≤◌, ℕ, arith, Bool, true, false, ltb, eqb, cond, ◌&&◌, ◌||◌, not, List, [], ◌∷◌, ◌++◌, ap, sym, ◌∙◌, refl, subst, Option, Some, None, option_map}
+use Rattle.std.proofs.Common.{◌≡◌, ◌≢◌, ◌+◌, ◌<◌, ◌≤◌, ℕ, arith, Bool, true, false, ltb, eqb, cond, ◌&&◌, ◌||◌, not, List, [], ◌∷◌, ◌++◌, map, ap, sym, ◌∙◌, refl, subst, Option, Some, None, option_map}
 use Rattle.std.specs.List.{list_any}
 use Rattle.std.specs.Option.{option_map_or}
 use Rattle.std.proofs.lemmas.Bool.{ltb-true, ltb-false, lt-ltb, le-ltb, ne_eqb, eq-eqb, eqb-true, eqb-false, false≢true}
@@ -11,9 +11,13 @@ use Rattle.rr_types.specs.Registry.{is_same_request}
 use Rattle.rr_types.specs.declared.fact.Fact.{Fact}
 use Rattle.rr_types.specs.Facts.{decision_of, instance_of, after_fact}
 use Rattle.rr_types.specs.Standings.{is_undecided}
-use Rattle.rr_model.specs.NodeState.{Row, row_of, put_row, is_decided, decided_command, undecided_from}
+use Rattle.rr_types.specs.declared.promise.Entry.{Entry}
+use Rattle.rr_types.specs.declared.fact.Fact.TheVariants.{Enter, Propose, Adopt, Decide}
+use Rattle.rr_types.specs.Promises.{IsAscending, AscendsFrom}
+use Rattle.rr_model.specs.NodeStep.{promised_row}
+use Rattle.rr_model.specs.NodeState.{NodeState, next_number, Row, row_of, put_row, is_decided, decided_command, undecided_from}
 use Rattle.rr_model.specs.NodeParts.{row_after, fresh_row, rows_after}
-use Rattle.rr_core.specs.Steps.{put_rows, has_decided, KeepsStanding, KeepsDecision, KeepDecisions, RowsAscendFrom}
+use Rattle.rr_core.specs.Steps.{put_rows, has_decided, KeepsStanding, KeepsDecision, KeepDecisions, RowsAscendFrom, Stepped, stepped, IsDecidedFact}
 
 -- the row put there is the one of its instance
 row_of_put : (r : Row) (rows : List Row) (i : ℕ) → row_of (put_row r rows) i ≡ cond (eqb r.instance i) (Some r) (row_of rows i)
@@ -297,3 +301,47 @@ rows_put k f st rows r h e = by (row_of rows (instance_of f)) refl
 pub put_last : (rs rows : List Row) (r : Row) → put_rows (rs ++ r ∷ []) rows ≡ put_rows rs (put_row r rows)
 put_last [] rows r = refl
 put_last (q ∷ rs) rows r = ap (put_row q) (put_last rs rows r)
+
+-- what is decided stays decided with one more changed row
+pub decided_stay : (rows : List Row) (r : Row) (q : RequestNo) → KeepsDecision rows r → list_any (has_decided q) rows ≡ true → list_any (has_decided q) (put_row r rows) ≡ true
+decided_stay rows r q k h = request_changed q (r ∷ []) rows (k, tt) ∙ rw h (ends (has_decided q r || false))
+  where
+    ends : (a : Bool) → (a || true) ≡ true
+    ends true = refl
+    ends false = refl
+
+-- a decision is decided by the rows after it
+decides : (k i : ℕ) (v : Command) (rows : List Row) → list_any (has_decided v.request) (rows_after k (Decide i v) rows) ≡ true
+decides k i v rows = by (row_of rows i) refl
+  where
+    itself : is_same_request v.request v.request ≡ true
+    itself = let a : eqb v.request.client v.request.client ≡ true = eq-eqb _ _ refl in let b : eqb v.request.seq v.request.seq ≡ true = eq-eqb _ _ refl in rw (a, b) refl
+    there : (r : Row) (os : List Row) → has_decided v.request r ≡ true → list_any (has_decided v.request) (put_row r os) ≡ true
+    there r [] h = rw h refl
+    there r (o ∷ os) h = more (there r os h) (ltb r.instance o.instance) (eqb r.instance o.instance)
+      where
+        more : list_any (has_decided v.request) (put_row r os) ≡ true → (a b : Bool) → list_any (has_decided v.request) (cond a (r ∷ o ∷ os) (cond b (r ∷ os) (o ∷ put_row r os))) ≡ true
+        more m true b = rw h refl
+        more m false true = rw h refl
+        more m false false = rw m (ends (has_decided v.request o))
+          where
+            ends : (a : Bool) → (a || true) ≡ true
+            ends true = refl
+            ends false = refl
+    by : (x : Option Row) → row_of rows i ≡ x → list_any (has_decided v.request) (rows_after k (Decide i v) rows) ≡ true
+    by None g = rw g (there _ rows itself)
+    by (Some o) g = rw g (there _ rows itself)
+
+pub decision_decides : (f : Fact) (s t : Stepped) → t ≡ stepped (λ (u : NodeState). record u { rows = rows_after (next_number u) f u.rows }) s → IsDecidedFact f t.state.rows
+decision_decides (Enter i e) s t h = tt
+decision_decides (Propose i r v) s t h = tt
+decision_decides (Adopt i r v) s t h = tt
+decision_decides (Decide i v) s t h = ap (λ (u : Stepped). list_any (has_decided v.request) u.state.rows) h ∙ decides (next_number s.state) i v s.state.rows
+
+-- the rows of a promise ascend
+promised_from : (low next : ℕ) (es : List Entry) → AscendsFrom low es → RowsAscendFrom low (map (promised_row next) es)
+promised_from low next [] h = tt
+promised_from low next (e ∷ es) h = (h.0, promised_from (e.instance + 1) next es h.1)
+
+pub promised_ascend : (next : ℕ) (es : List Entry) → IsAscending es → RowsAscendFrom 0 (map (λ e. promised_row next e) es)
+promised_ascend next es h = promised_from 0 next es h.ascends

@@ -1,12 +1,13 @@
-use Rattle.std.specs.Prelude.{◌≡◌, ℕ, ◌+◌, ◌<◌, Bool, false, not, List, [], ◌∷◌, ◌++◌, filter, ◌^◌, Option, None, Some, option_map}
+use Rattle.std.specs.Prelude.{◌≡◌, ℕ, ◌+◌, ◌<◌, Bool, true, false, not, List, [], ◌∷◌, ◌++◌, filter, ◌^◌, Option, None, Some, option_map}
 use Rattle.std.specs.List.{list_any}
 use Rattle.std.specs.Option.{option_map_or}
 use Rattle.rr_types.specs.declared.command.RequestNo.{RequestNo}
 use Rattle.rr_types.specs.declared.command.Command.{Command}
 use Rattle.rr_types.specs.declared.fact.Fact.{Fact}
 use Rattle.rr_types.specs.declared.promise.Standing.{Standing}
+use Rattle.rr_types.specs.declared.fact.Fact.TheVariants.{Enter, Propose, Adopt, Decide}
 use Rattle.rr_types.specs.Facts.{decision_of}
-use Rattle.rr_types.specs.Registry.{is_same_request}
+use Rattle.rr_types.specs.Registry.{is_same_request, has_request}
 use Rattle.rr_model.specs.NodeState.{NodeState, Row, Watch, Owed, row_of, put_row, decided_command, next_number}
 use Rattle.rr_model.specs.NodeDue.{settle}
 use Rattle.rr_core.specs.Lawful.{IsLawful}
@@ -47,7 +48,7 @@ abbrev pub combined : NodeState → Changed → NodeState
 combined s c = record s {
   rows = put_rows c.rows s.rows;
   staged = s.staged ++ c.staged;
-  pool = without_requests c.taken s.pool ++ c.pooled;
+  pool = without_requests c.taken (s.pool ++ c.pooled);
   suspects = c.suspects;
   watches = c.watches;
   waiting = s.waiting ++ c.waiting;
@@ -76,20 +77,45 @@ abbrev pub RowsAscendFrom : ℕ → List Row → Type 0
 RowsAscendFrom low [] = Unit {0}
 RowsAscendFrom low (r ∷ rs) = (low < r.instance + 1) × RowsAscendFrom (r.instance + 1) rs
 
+-- no command has a request number of those before it
+abbrev pub AreNew : List Command → List Command → Type 0
+AreNew before [] = Unit {0}
+AreNew before (c ∷ cs) = (has_request before c.request ≡ false) × AreNew (before ++ c ∷ []) cs
+
+-- none of these requests is one of those before it
+abbrev pub AreNewRequests : List RequestNo → List RequestNo → Type 0
+AreNewRequests before [] = Unit {0}
+AreNewRequests before (q ∷ qs) = (list_any (λ w. is_same_request w q) before ≡ false) × AreNewRequests (before ++ q ∷ []) qs
+
+-- a decision's request number is decided
+abbrev pub IsDecidedFact : Fact → List Row → Type 0
+IsDecidedFact (Enter i e) rows = Unit {0}
+IsDecidedFact (Propose i r v) rows = Unit {0}
+IsDecidedFact (Adopt i r v) rows = Unit {0}
+IsDecidedFact (Decide i v) rows = list_any (has_decided v.request) rows ≡ true
+
+-- what a step may change: decisions stay, what is taken out of the pool is decided, and what comes into the pool and
+-- waits is new
+pub record IsFitting (s : NodeState) (c : Changed) : Type 0 where
+  pub keep : KeepDecisions c.rows s.rows
+  pub taken : (q : RequestNo) → list_any (λ p. is_same_request p q) c.taken ≡ true → list_any (has_decided q) (put_rows c.rows s.rows) ≡ true
+  pub pooled : AreNew s.pool c.pooled
+  pub waiting : AreNewRequests s.waiting c.waiting
+
 -- what a step changes makes all that was due done, and the next fact has a number
 pub record IsSettled (base state : NodeState) (c : Changed) : Type 0 where
   pub done : combined base c ≡ settle state
   pub room : next_number (settle state) < 2 ^ 64
-  pub keep : KeepDecisions c.rows base.rows
+  pub fits : IsFitting base c
 
 -- what an input changes makes the node's step, and isn't refused
 pub record IsStep (input : Input) (s : NodeState) (c : Changed) : Type 0 where
   pub done : combined s c ≡ node_step input s
   pub allowed : refusal_of input s ≡ None
-  pub keep : KeepDecisions c.rows s.rows
+  pub fits : IsFitting s c
 
 -- the state with what a step changes stays lawful, and the next fact has a number
 pub record CanBeTaken (s : NodeState) (c : Changed) : Type 0 where
   pub lawful : IsLawful s → IsLawful (combined s c)
   pub room : next_number (combined s c) < 2 ^ 64
-  pub keep : KeepDecisions c.rows s.rows
+  pub fits : IsFitting s c

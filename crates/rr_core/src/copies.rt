@@ -9,6 +9,7 @@ use crate::state::State;
 use crate::unmarked::Unmarked;
 use rr_heartbeat::Watch;
 use rr_instance::{Backing, Row};
+use rr_list::{Pool, Waiting};
 use rr_round::Tally;
 use rr_types::{Entry, NodeId, NodeSet, Nodes, Promise, Refusal};
 use std::alloc::Global;
@@ -81,6 +82,7 @@ fn new_watches(alloc: Global, nodes: Nodes) -> Result<Vec<Watch>, Refusal>
 
 impl State {
     /// A node that knows what its facts promise, of which there are `next`, and nothing else.
+    #[tactic(auto, using(crate::proofs::OverLemmas::promised_ascend))]
     pub fn restored(
         alloc: Global,
         nodes: Nodes,
@@ -101,10 +103,10 @@ impl State {
             marked,
             marked_end: next,
             unmarked: Unmarked::new(alloc),
-            pool: Vec::new(alloc),
+            pool: Pool::new(alloc),
             suspects: NodeSet::empty(),
             watches,
-            waiting: Vec::new(alloc),
+            waiting: Waiting::new(alloc),
             owed: Vec::new(alloc),
         })
     }

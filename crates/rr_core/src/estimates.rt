@@ -6,6 +6,7 @@ ghost use Rattle.rr_core.specs.Steps.{without_requests};
 
 use crate::known::is_among;
 use crate::step::Step;
+use rr_list::Values;
 use rr_types::{Command, Estimate, Instance, RequestNo, Round, Standing};
 
 /// Whether a command is the estimate of an instance.
@@ -42,8 +43,8 @@ pub fn is_estimate_beside(
 
 /// The first command that is no estimate of one of these instances but one, and has none of the request numbers
 /// that were taken.
-#[tactic(auto, using(crate::proofs::PoolLemmas::free_passed, crate::proofs::PoolLemmas::free_taken, crate::proofs::PoolLemmas::free_here), unfolding(crate::specs::Places::first_free))]
-pub fn first_free(
+#[tactic(auto, unfolding(crate::specs::Places::first_free))]
+pub fn first_free_of(
     step: &Step<'_>,
     instances: &[Instance],
     instance: Instance,
@@ -53,10 +54,32 @@ pub fn first_free(
     ensures { result ≡ first_free step.now.state.rows instances.now instance (without_requests taken.now pool.now) }
 {
     for command in pool {
-        if is_among(taken, command.request) {
-            continue;
+        if !is_among(taken, command.request)
+            && !is_estimate_beside(step, instances, instance, command)
+        {
+            return Some(*command);
         }
-        if !is_estimate_beside(step, instances, instance, command) {
+    }
+    None
+}
+
+/// The same of the pool's commands.
+#[tactic(auto, unfolding(crate::specs::Places::first_free))]
+pub fn first_free_in(
+    step: &Step<'_>,
+    instances: &[Instance],
+    instance: Instance,
+    pool: Values<'_, Command>,
+    taken: &[RequestNo],
+) -> Option<Command>
+    ensures { result ≡ first_free step.now.state.rows instances.now instance (without_requests taken.now pool.entry) }
+{
+    let mut left = pool;
+    while let Some(command) = left.next() {
+        let command = &command;
+        if !is_among(taken, command.request)
+            && !is_estimate_beside(step, instances, instance, command)
+        {
             return Some(*command);
         }
     }

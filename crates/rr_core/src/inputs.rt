@@ -6,7 +6,7 @@ ghost use Rattle.rr_model.specs.NodeState.{next_number, decided_prefix, open_ins
 ghost use Rattle.rr_model.specs.NodeParts.{restate_all};
 ghost use Rattle.rr_model.specs.NodeDue.{settle};
 ghost use Rattle.rr_model.specs.NodeStep.{Submit, Suspect, Tick, Advance, Hear, refusal_of, started};
-ghost use Rattle.rr_core.specs.Steps.{combined, KeepDecisions, IsSettled, IsStep};
+ghost use Rattle.rr_core.specs.Steps.{combined, IsFitting, IsSettled, IsStep};
 
 use crate::state::State;
 use crate::step::{Changes, Step};
@@ -17,8 +17,8 @@ impl<'a> Step<'a> {
     /// All that is due is done: what the step has changed then, if the next fact has a number.
     #[tactic(auto, using(crate::proofs::InputSteps::settled))]
     pub fn finish(mut self, alloc: Global) -> Result<Changes, Refusal>
-        ensures ok { IfOk result (λ c. IsSettled self.base self.state c) }
-        ensures refused { IfErr result (λ e. (e ≡ Refusal.OutOfMemory) ⊎ ((e ≡ Refusal.TooLarge) × (2 ^ 64 ≤ next_number (settle self.state)))) }
+        ensures ok { IfOk result (λ c. IsSettled self.entry.base self.entry.state c) }
+        ensures refused { IfErr result (λ e. (e ≡ Refusal.OutOfMemory) ⊎ ((e ≡ Refusal.TooLarge) × (2 ^ 64 ≤ next_number (settle self.entry.state)))) }
     {
         match self.settle(alloc) {
             Ok(()) => (),
@@ -62,7 +62,7 @@ impl State {
     /// What the restatement of the open instances changes.
     fn restatement(&self, alloc: Global) -> Result<Changes, Refusal>
         ensures ok { IfOk result (λ c. combined self.now c ≡ restate_all (open_instances self.now) self.now) }
-        ensures keep { IfOk result (λ c. KeepDecisions c.rows self.now.rows) }
+        ensures fits { IfOk result (λ c. IsFitting self.now c) }
         ensures err { IfErr result (λ e. e ≡ Refusal.OutOfMemory) }
     {
         let mut step = match Step::new(alloc, self) {

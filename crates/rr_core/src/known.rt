@@ -9,7 +9,7 @@ ghost use Rattle.rr_core.specs.Steps.{RowsAscendFrom};
 
 use crate::state::State;
 use rr_instance::Row;
-use crate::{over, owing, rows};
+use crate::{over, rows};
 use rr_types::{Instance, RequestNo};
 
 impl State {
@@ -57,14 +57,14 @@ impl State {
     pub fn has_pooled(&self, request: RequestNo) -> bool
         ensures { result ≡ has_request self.now.pool request }
     {
-        owing::has_request(&self.pool, request)
+        self.pool.has(request)
     }
 
     /// Whether a request waits for its acknowledgement.
     pub fn is_waiting(&self, request: RequestNo) -> bool
         ensures { result ≡ is_waiting self.now request }
     {
-        is_among(&self.waiting, request)
+        self.waiting.has(request)
     }
 }
 

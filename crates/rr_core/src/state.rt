@@ -5,12 +5,13 @@ ghost use Rattle.std.specs.Prelude.{◌≡◌, IfOk};
 use crate::unmarked::Unmarked;
 use rr_heartbeat::Watch;
 use rr_instance::Row;
+use rr_list::{Pool, Waiting};
 use rr_mark::Owed;
-use rr_types::{Command, Entry, NodeId, NodeSet, Nodes, RequestNo};
+use rr_types::{Entry, NodeId, NodeSet, Nodes};
 use std::marker::Model;
 
 /// A node that is up.
-#[derive(Debug, Drop)]
+#[derive(Drop)]
 pub struct State {
     pub nodes: Nodes,
     pub node: NodeId,
@@ -18,10 +19,10 @@ pub struct State {
     pub marked: Vec<Entry>,
     pub marked_end: u64,
     pub unmarked: Unmarked,
-    pub pool: Vec<Command>,
+    pub pool: Pool,
     pub suspects: NodeSet,
     pub watches: Vec<Watch>,
-    pub waiting: Vec<RequestNo>,
+    pub waiting: Waiting,
     pub owed: Vec<Owed>,
 }
 
@@ -39,10 +40,10 @@ impl Model for State {
       marked_end = s.marked_end;
       running = s.unmarked.running;
       staged = s.unmarked.staged;
-      pool = s.pool.items;
+      pool = s.pool;
       suspects = s.suspects;
       watches = s.watches.items;
-      waiting = s.waiting.items;
+      waiting = s.waiting;
       owed = s.owed.items;
     } };
 

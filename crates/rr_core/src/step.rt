@@ -9,7 +9,7 @@ ghost use Rattle.rr_model.specs.NodeDetector.{all_ticked, heard_beat};
 ghost use Rattle.rr_model.specs.NodeParts.{owe, pool_add, stage, rows_after, pool_after};
 ghost use Rattle.rr_model.specs.NodeStep.{wait_for, is_waiting};
 ghost use Rattle.rr_core.specs.Places.{first_free};
-ghost use Rattle.rr_core.specs.Steps.{stepped, combined, KeepsDecision, KeepDecisions, KeepsStanding};
+ghost use Rattle.rr_core.specs.Steps.{stepped, combined, KeepsDecision, KeepsStanding, IsFitting, IsDecidedFact};
 
 use crate::known::is_among;
 use crate::state::State;
@@ -18,7 +18,8 @@ use rr_heartbeat::Watch;
 use rr_instance::{Backing, Row};
 use rr_mark::Owed;
 use rr_types::{
-    Body, Command, Fact, Instance, NodeId, NodeSet, Nodes, Refusal, RequestNo, Standing, WINDOW,
+    Body, Command, Fact, Instance, NodeId, NodeSet, Nodes, Op, Refusal, RequestNo, Standing,
+    WINDOW,
 };
 use std::alloc::Global;
 use std::marker::Model;
@@ -70,7 +71,7 @@ pub struct Step<'a> {
 }
 
 impl<'a> Model for Step<'a> {
-    ghost use Rattle.rr_core.specs.Steps.{Stepped, combined, KeepDecisions};
+    ghost use Rattle.rr_core.specs.Steps.{Stepped, combined, IsFitting};
 
     ghost Value = { Stepped };
 
@@ -85,7 +86,16 @@ impl<'a> Model for Step<'a> {
       owed = s.owed.items;
     }) } };
 
-    ghost invariant = { λ s. KeepDecisions s.rows.items s.base.now.rows };
+    ghost invariant = { λ s. IsFitting s.base.now (record {
+      rows = s.rows.items;
+      staged = s.staged.items;
+      taken = s.taken.items;
+      pooled = s.pooled.items;
+      suspects = s.suspects;
+      watches = s.watches.items;
+      waiting = s.waiting.items;
+      owed = s.owed.items;
+    }) };
 }
 
 impl<'a> Step<'a> {
@@ -111,8 +121,8 @@ impl<'a> Step<'a> {
 
     /// What the step has changed.
     pub fn into_changes(self) -> Changes
-        ensures value { combined self.base result ≡ self.state }
-        ensures keep { KeepDecisions result.rows self.base.rows }
+        ensures value { combined self.entry.base result ≡ self.entry.state }
+        ensures fits { IsFitting self.entry.base result }
     {
         let Step {
             base: _,
@@ -257,8 +267,8 @@ impl<'a> Step<'a> {
         ensures { result ≡ has_request self.now.state.pool request }
     {
         let base = self.base;
-        let is_left = base.has_pooled(request) && !is_among(&self.taken, request);
-        is_left || owing::has_request(&self.pooled, request)
+        let has_come = base.has_pooled(request) || owing::has_request(&self.pooled, request);
+        has_come && !is_among(&self.taken, request)
     }
 
     /// The first pool command that is no estimate of one of these instances but one.
@@ -267,14 +277,14 @@ impl<'a> Step<'a> {
         ensures { result ≡ first_free self.now.state.rows instances.now instance self.now.state.pool }
     {
         let base = self.base;
-        match estimates::first_free(self, instances, instance, &base.pool, &self.taken) {
+        match estimates::first_free_in(self, instances, instance, base.pool.iter(), &self.taken) {
             Some(command) => Some(command),
-            None => estimates::first_free(self, instances, instance, &self.pooled, &[]),
+            None => estimates::first_free_of(self, instances, instance, &self.pooled, &self.taken),
         }
     }
 
     /// The request waits for its acknowledgement, once.
-    #[tactic(auto, using(std::proofs::Common::append_assoc), unfolding(rr_model::specs::NodeStep::wait_for))]
+    #[tactic(auto, using(std::proofs::Common::append_assoc, crate::proofs::PoolLemmas::request_new), unfolding(rr_model::specs::NodeStep::wait_for))]
     pub fn wait_for(&mut self, request: RequestNo) -> Result<(), Refusal>
         ensures ok { OnOk result (self.new ≡ stepped (wait_for request) self.old) }
         ensures err { IfErr result (λ e. e ≡ Refusal.OutOfMemory) }
@@ -324,11 +334,13 @@ impl<'a> Step<'a> {
     }
 
     /// Adds a command to the pool, unless its request number is there or decided.
-    #[tactic(auto, using(std::proofs::Common::append_assoc), unfolding(rr_model::specs::NodeParts::pool_add))]
+    #[tactic(auto, using(crate::proofs::PoolLemmas::command_new, crate::proofs::PoolLemmas::pooled_last), unfolding(rr_model::specs::NodeParts::pool_add))]
     pub fn pool_add(&mut self, command: Command) -> Result<(), Refusal>
         ensures ok { OnOk result (self.new ≡ stepped (pool_add command) self.old) }
         ensures err { IfErr result (λ e. e ≡ Refusal.OutOfMemory) }
     {
+        // The check learns what a command is made of from the types of a function's variables.
+        let _parts: Option<Op> = None;
         if self.has_pooled(command.request) || self.is_decided_request(command.request) {
             return Ok(());
         }
@@ -337,6 +349,7 @@ impl<'a> Step<'a> {
     }
 
     /// This is the row of its instance from now on; a decision there stays.
+    #[tactic(auto, using(crate::proofs::OverLemmas::decided_stay))]
     pub fn put_row(&mut self, row: Row) -> Result<(), Refusal>
         requires { KeepsDecision self.old.state.rows row }
         ensures ok { OnOk result (self.new ≡ stepped (λ s. record s { rows = put_row row s.rows }) self.old) }
@@ -347,6 +360,7 @@ impl<'a> Step<'a> {
     }
 
     /// The row of a fact's instance is changed by it, where the instance then stands so.
+    #[tactic(auto, using(crate::proofs::OverLemmas::after_keeps, crate::proofs::OverLemmas::rows_put, crate::proofs::OverLemmas::rows_stay))]
     fn put_row_after(
         &mut self,
         fact: &Fact,
@@ -369,15 +383,15 @@ impl<'a> Step<'a> {
     }
 
     /// The request number of a decision is taken out of the pool.
-    #[tactic(auto, using(crate::proofs::PoolLemmas::pool_decided))]
+    #[tactic(auto, using(crate::proofs::PoolLemmas::without_one, crate::proofs::PoolLemmas::taken_more))]
     fn take_decided(&mut self, fact: &Fact) -> Result<(), Refusal>
+        requires { IsDecidedFact fact.now self.old.state.rows }
         ensures ok { OnOk result (self.new ≡ stepped (λ s. record s { pool = pool_after fact.now s.pool }) self.old) }
         ensures err { IfErr result (λ e. e ≡ Refusal.OutOfMemory) }
     {
         match fact {
             Fact::Decide(_, command) => {
                 self.taken.push(command.request)?;
-                owing::drop_request(&mut self.pooled, command.request);
                 Ok(())
             }
             Fact::Enter(..) | Fact::Propose(..) | Fact::Adopt(..) => Ok(()),
@@ -394,7 +408,7 @@ impl<'a> Step<'a> {
     }
 
     /// Stages a fact about an instance that then stands so; a decision there stays.
-    #[tactic(auto, unfolding(rr_model::specs::NodeParts::stage))]
+    #[tactic(auto, using(crate::proofs::OverLemmas::decision_decides), unfolding(rr_model::specs::NodeParts::stage))]
     pub fn stage(&mut self, fact: Fact, standing: Option<Standing>) -> Result<(), Refusal>
         requires after { standing ≡ after_fact (standing_at self.old.state (instance_of fact)) fact }
         requires keeps { KeepsStanding (standing_at self.old.state (instance_of fact)) standing }
