@@ -169,7 +169,7 @@ impl State {
             taken,
             pooled,
             suspects,
-            watches,
+            heartbeat,
             waiting,
             owed,
         } = changes;
@@ -201,7 +201,7 @@ impl State {
         self.rows = rows;
         take_all(&mut self.pool, &taken);
         self.suspects = suspects;
-        self.watches = watches;
+        self.heartbeat = heartbeat;
         Ok(())
     }
 }

@@ -1,13 +1,13 @@
 //! Estimates: of open instances, and the one with which an instance enters a round.
 
-ghost use Rattle.std.specs.Prelude.{◌≡◌, ◌<◌};
+ghost use Rattle.std.specs.Prelude.{◌≡◌};
 ghost use Rattle.rr_core.specs.Places.{is_estimate_of, is_estimate_beside, first_free};
 ghost use Rattle.rr_core.specs.Steps.{without_requests};
 
 use crate::known::is_among;
 use crate::step::Step;
 use rr_list::Values;
-use rr_types::{Command, Estimate, Instance, RequestNo, Round, Standing};
+use rr_types::{Command, Instance, RequestNo, Standing};
 
 /// Whether a command is the estimate of an instance.
 #[tactic(auto, unfolding(crate::specs::Places::is_estimate_of))]
@@ -84,15 +84,4 @@ pub fn first_free_in(
         }
     }
     None
-}
-
-/// The estimate with this stamp, which lies before the round.
-pub fn estimate_at(round: Round, stamp: u32, command: Command) -> Estimate
-    requires { stamp < round }
-    ensures { result ≡ record { round = round; stamp = stamp; command = command } }
-{
-    match Estimate::new(round, stamp, command) {
-        Some(estimate) => estimate,
-        None => unreachable!(),
-    }
 }

@@ -1,6 +1,6 @@
 //! What each input does at once, and the node's step: what the input does, and then all that is due.
 
-ghost use Rattle.std.specs.Prelude.{◌≡◌, ◌≤◌, ◌<◌, ◌&&◌, true, not, [], ◌∷◌, length, None, Some, IfErr, OnOk, if◌then◌else◌, ◌⊎◌};
+ghost use Rattle.std.specs.Prelude.{◌≡◌, ◌<◌, ◌&&◌, true, not, [], ◌∷◌, None, Some, IfErr, OnOk, if◌then◌else◌, ◌⊎◌};
 ghost use Rattle.std.specs.Option.{option_map_or};
 ghost use Rattle.rr_types.specs.declared.message.Body.TheVariants as say;
 ghost use Rattle.rr_types.specs.Standings.{round_of, stamp_of, proposal_of, is_undecided};
@@ -11,7 +11,6 @@ ghost use Rattle.rr_model.specs.NodeParts.{backing_at};
 ghost use Rattle.rr_model.specs.NodeStep.{wait_for, submitted, submit_refusal, is_list_full, is_behind, ask, ticked_on, advanced, advance_refusal, catch_up, acknowledge, take_proposal, take_estimate, answer, heard_body, heard};
 ghost use Rattle.rr_core.specs.Steps.{stepped};
 
-use crate::detector::{late_nodes, reduced};
 use crate::step::Step;
 use rr_types::{
     Body, Command, Estimate, Instance, Message, NodeId, Refusal, RequestNo, Round, coordinator,
@@ -90,12 +89,11 @@ impl<'a> Step<'a> {
     /// behind a question.
     #[tactic(auto, using(crate::proofs::InputLemmas::everyone_after_owe), unfolding(rr_model::specs::NodeStep::ticked_on))]
     pub fn ticked_on(&mut self, alloc: Global) -> Result<(), Refusal>
-        requires { length self.old.state.watches ≤ 7 }
         ensures ok { OnOk result (self.new ≡ stepped ticked_on self.old) }
         ensures err { IfErr result (λ e. e ≡ Refusal.OutOfMemory) }
     {
         self.tick_watches();
-        let late = late_nodes(self.node(), self.watches());
+        let late = self.late_nodes();
         let open = match self.open_instances(alloc) {
             Ok(open) => open,
             Err(refusal) => return Err(refusal),
@@ -367,7 +365,7 @@ impl<'a> Step<'a> {
                 Ok(())
             }
             Body::Suspects(set) => {
-                self.suspect(reduced(self.suspects(), from, set));
+                self.reduce(from, set);
                 Ok(())
             }
             Body::Ask(instance) => self.answer(instance, from),

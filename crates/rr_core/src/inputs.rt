@@ -1,6 +1,6 @@
 //! For each input what it changes: what the input does at once, and then all that is due.
 
-ghost use Rattle.std.specs.Prelude.{◌≡◌, ◌^◌, ◌<◌, ◌≤◌, ◌⊎◌, Some, length, IfOk, IfErr};
+ghost use Rattle.std.specs.Prelude.{◌≡◌, ◌^◌, ◌<◌, ◌≤◌, ◌⊎◌, Some, IfOk, IfErr};
 ghost use Rattle.rr_types.specs.Registry.{has_request};
 ghost use Rattle.rr_model.specs.NodeState.{next_number, decided_prefix, open_instances};
 ghost use Rattle.rr_model.specs.NodeParts.{restate_all};
@@ -65,10 +65,7 @@ impl State {
         ensures fits { IfOk result (λ c. IsFitting self.now c) }
         ensures err { IfErr result (λ e. e ≡ Refusal.OutOfMemory) }
     {
-        let mut step = match Step::new(alloc, self) {
-            Ok(step) => step,
-            Err(refusal) => return Err(refusal),
-        };
+        let mut step = Step::new(alloc, self);
         let open = match step.open_instances(alloc) {
             Ok(open) => open,
             Err(refusal) => return Err(refusal),
@@ -92,10 +89,7 @@ impl State {
         ensures refused { IfErr result (λ e. (e ≡ Refusal.OutOfMemory) ⊎ (refusal_of (Submit command) self.now ≡ Some e)) }
     {
         let asked = command;
-        let mut step = match Step::new(alloc, self) {
-            Ok(step) => step,
-            Err(refusal) => return Err(refusal),
-        };
+        let mut step = Step::new(alloc, self);
         if let Some(refusal) = step.submit_refusal(asked) {
             return Err(refusal);
         }
@@ -111,10 +105,7 @@ impl State {
         ensures ok { IfOk result (λ c. IsStep (Hear message.now) self.now c) }
         ensures refused { IfErr result (λ e. (e ≡ Refusal.OutOfMemory) ⊎ (refusal_of (Hear message.now) self.now ≡ Some e)) }
     {
-        let mut step = match Step::new(alloc, self) {
-            Ok(step) => step,
-            Err(refusal) => return Err(refusal),
-        };
+        let mut step = Step::new(alloc, self);
         match step.heard(alloc, message) {
             Ok(()) => step.finish(alloc),
             Err(refusal) => Err(refusal),
@@ -127,10 +118,7 @@ impl State {
         ensures ok { IfOk result (λ c. IsStep (Suspect suspects) self.now c) }
         ensures refused { IfErr result (λ e. (e ≡ Refusal.OutOfMemory) ⊎ (refusal_of (Suspect suspects) self.now ≡ Some e)) }
     {
-        let mut step = match Step::new(alloc, self) {
-            Ok(step) => step,
-            Err(refusal) => return Err(refusal),
-        };
+        let mut step = Step::new(alloc, self);
         step.suspect(suspects);
         step.finish(alloc)
     }
@@ -138,14 +126,10 @@ impl State {
     /// What a tick changes.
     #[tactic(auto, using(crate::proofs::InputSteps::tick_is_step, crate::proofs::InputSteps::tick_large))]
     pub fn tick_step(&self, alloc: Global) -> Result<Changes, Refusal>
-        requires { length self.now.watches ≤ 7 }
         ensures ok { IfOk result (λ c. IsStep Tick self.now c) }
         ensures refused { IfErr result (λ e. (e ≡ Refusal.OutOfMemory) ⊎ (refusal_of Tick self.now ≡ Some e)) }
     {
-        let mut step = match Step::new(alloc, self) {
-            Ok(step) => step,
-            Err(refusal) => return Err(refusal),
-        };
+        let mut step = Step::new(alloc, self);
         match step.ticked_on(alloc) {
             Ok(()) => step.finish(alloc),
             Err(refusal) => Err(refusal),
@@ -158,10 +142,7 @@ impl State {
         ensures ok { IfOk result (λ c. IsStep Advance self.now c) }
         ensures refused { IfErr result (λ e. (e ≡ Refusal.OutOfMemory) ⊎ (refusal_of Advance self.now ≡ Some e)) }
     {
-        let mut step = match Step::new(alloc, self) {
-            Ok(step) => step,
-            Err(refusal) => return Err(refusal),
-        };
+        let mut step = Step::new(alloc, self);
         match step.advanced(alloc) {
             Ok(()) => step.finish(alloc),
             Err(refusal) => Err(refusal),

@@ -7,7 +7,6 @@ mod cleared;
 mod copies;
 #[cfg(test)]
 mod core_tests;
-mod detector;
 mod due;
 mod estimates;
 mod group;

@@ -10,46 +10,9 @@ ghost use Rattle.rr_model.specs.NodeStep.{is_waiting, is_list_full, lowest_in_ro
 ghost use Rattle.rr_core.specs.Steps.{stepped};
 
 use crate::step::Step;
+use rr_instance::{decision_in, proposal_in, round_in, stamp_in};
 use rr_types::{Command, INSTANCES, Instance, Refusal, Round, Standing};
 use std::alloc::Global;
-
-/// The round of an instance that stands so; 0 where it has none.
-fn round_in(standing: Standing) -> u32
-    ensures value { result ≡ round_of (Some standing) }
-    ensures range { result ≤ 2147483647 }
-{
-    match standing {
-        Standing::Decided(_) => 0,
-        Standing::Open(open) => open.round().number(),
-    }
-}
-
-fn stamp_in(standing: Standing) -> u32
-    ensures { result ≡ stamp_of (Some standing) }
-{
-    match standing {
-        Standing::Decided(_) => 0,
-        Standing::Open(open) => open.stamp(),
-    }
-}
-
-fn proposal_in(standing: Standing) -> Option<Command>
-    ensures { result ≡ proposal_of (Some standing) }
-{
-    match standing {
-        Standing::Decided(_) => None,
-        Standing::Open(open) => open.proposal(),
-    }
-}
-
-fn decision_in(standing: Standing) -> Option<Command>
-    ensures { result ≡ decision_of (Some standing) }
-{
-    match standing {
-        Standing::Decided(command) => Some(command),
-        Standing::Open(_) => None,
-    }
-}
 
 impl<'a> Step<'a> {
     /// The round of an instance; 0 where it has none.

@@ -5,7 +5,7 @@ ghost use Rattle.std.specs.List.{list_any};
 ghost use Rattle.rr_model.specs.NodeState.{row_of, is_decided, undecided_from, lowest_undecided};
 ghost use Rattle.rr_core.specs.Steps.{put_rows, KeepDecisions, has_decided};
 
-use crate::rows::{find_row, has_decided_request, is_decided};
+use crate::rows::{find_row, has_decided_request};
 use crate::state::State;
 use rr_instance::Row;
 use rr_types::{Instance, Refusal, RequestNo};
@@ -28,7 +28,7 @@ fn is_decided_at(rows: &[Row], number: u32) -> bool
     ensures range { IsTrue result → number < 1048576 }
 {
     for row in rows {
-        if row.instance.number() == number && is_decided(row) {
+        if row.instance.number() == number && row.is_decided() {
             return true;
         }
     }
@@ -112,7 +112,7 @@ pub fn has_decided_above(rows: &[Row], first: Instance) -> bool
     ensures { result ≡ list_any (λ r. nat_lt first r.instance && is_decided r) rows.now }
 {
     for row in rows {
-        if first.number() < row.instance.number() && is_decided(row) {
+        if first.number() < row.instance.number() && row.is_decided() {
             return true;
         }
     }

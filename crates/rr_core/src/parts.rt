@@ -9,7 +9,7 @@ ghost use Rattle.rr_model.specs.NodeParts.{stage, free_command, enter, restate, 
 ghost use Rattle.rr_core.specs.Steps.{stepped};
 
 use crate::step::Step;
-use crate::staging;
+use rr_instance::{entered, with_adopted, with_proposal};
 use rr_types::{
     Body, Command, Estimate, Fact, Instance, Refusal, Round, Standing,
 };
@@ -22,7 +22,7 @@ impl<'a> Step<'a> {
         ensures ok { OnOk result (self.new ≡ stepped (stage (staged.Enter instance estimate)) self.old) }
         ensures err { IfErr result (λ e. e ≡ Refusal.OutOfMemory) }
     {
-        let standing = Some(staging::entered(&estimate));
+        let standing = Some(entered(&estimate));
         self.stage(Fact::Enter(instance, estimate), standing)
     }
 
@@ -37,7 +37,7 @@ impl<'a> Step<'a> {
         ensures err { IfErr result (λ e. e ≡ Refusal.OutOfMemory) }
     {
         let command = &command;
-        let standing = staging::with_proposal(self.standing(instance), *command);
+        let standing = with_proposal(self.standing(instance), *command);
         self.stage(Fact::Propose(instance, round, *command), standing)
     }
 
@@ -53,7 +53,7 @@ impl<'a> Step<'a> {
         ensures err { IfErr result (λ e. e ≡ Refusal.OutOfMemory) }
     {
         let command = &command;
-        let standing = staging::with_adopted(self.standing(instance), *command);
+        let standing = with_adopted(self.standing(instance), *command);
         self.stage(Fact::Adopt(instance, round, *command), standing)
     }
 

@@ -8,9 +8,8 @@ ghost use Rattle.rr_model.specs.NodeParts.{backing_at, leave_round, enter_with, 
 ghost use Rattle.rr_core.specs.Places.{owe_coordinator};
 ghost use Rattle.rr_core.specs.Steps.{stepped};
 
-use crate::estimates::estimate_at;
 use crate::step::Step;
-use rr_instance::Backing;
+use rr_instance::{Backing, estimate_at};
 use rr_types::{
     Body, Command, Estimate, Instance, OpenStanding, Refusal, Round, Standing, coordinator,
 };
@@ -24,12 +23,7 @@ impl<'a> Step<'a> {
     {
         match self.backing(instance) {
             Some(backing) => backing,
-            None => Backing {
-                entered: 0,
-                proposed: 0,
-                adopted: 0,
-                decided: 0,
-            },
+            None => Backing::none(),
         }
     }
 

@@ -3,11 +3,12 @@
 ghost use Rattle.std.specs.Prelude.{◌≡◌, IfOk};
 
 use crate::unmarked::Unmarked;
-use rr_heartbeat::Watch;
+use rr_heartbeat::Heartbeat;
 use rr_instance::Row;
 use rr_list::{Pool, Waiting};
 use rr_mark::Owed;
-use rr_types::{Entry, NodeId, NodeSet, Nodes};
+use rr_suspect::Suspects;
+use rr_types::{Entry, NodeId, Nodes};
 use std::marker::Model;
 
 /// A node that is up.
@@ -20,8 +21,8 @@ pub struct State {
     pub marked_end: u64,
     pub unmarked: Unmarked,
     pub pool: Pool,
-    pub suspects: NodeSet,
-    pub watches: Vec<Watch>,
+    pub suspects: Suspects,
+    pub heartbeat: Heartbeat,
     pub waiting: Waiting,
     pub owed: Vec<Owed>,
 }
@@ -42,7 +43,7 @@ impl Model for State {
       staged = s.unmarked.staged;
       pool = s.pool;
       suspects = s.suspects;
-      watches = s.watches.items;
+      watches = s.heartbeat;
       waiting = s.waiting;
       owed = s.owed.items;
     } };

@@ -5,7 +5,7 @@ ghost use Rattle.std.specs.List.{list_any};
 ghost use Rattle.rr_types.specs.Registry.{has_request};
 ghost use Rattle.rr_types.specs.Facts.{instance_of, after_fact, decision_of};
 ghost use Rattle.rr_model.specs.NodeState.{next_number, standing_at, row_of, put_row, is_decided, first_undecided, open_instances, is_open, is_decided_request, everyone, others};
-ghost use Rattle.rr_model.specs.NodeDetector.{all_ticked, heard_beat};
+ghost use Rattle.rr_model.specs.NodeDetector.{all_ticked, heard_beat, late_nodes, reduced};
 ghost use Rattle.rr_model.specs.NodeParts.{owe, pool_add, stage, rows_after, pool_after};
 ghost use Rattle.rr_model.specs.NodeStep.{wait_for, is_waiting};
 ghost use Rattle.rr_core.specs.Places.{first_free};
@@ -13,10 +13,11 @@ ghost use Rattle.rr_core.specs.Steps.{stepped, combined, KeepsDecision, KeepsSta
 
 use crate::known::is_among;
 use crate::state::State;
-use crate::{detector, estimates, over, owing, staging, unmarked};
-use rr_heartbeat::Watch;
-use rr_instance::{Backing, Row};
+use crate::{estimates, over, owing, staging, unmarked};
+use rr_heartbeat::Heartbeat;
+use rr_instance::{Backing, Row, instance_of};
 use rr_mark::Owed;
+use rr_suspect::Suspects;
 use rr_types::{
     Body, Command, Fact, Instance, NodeId, NodeSet, Nodes, Op, Refusal, RequestNo, Standing,
     WINDOW,
@@ -33,8 +34,8 @@ pub struct Changes {
     pub staged: Vec<Fact>,
     pub taken: Vec<RequestNo>,
     pub pooled: Vec<Command>,
-    pub suspects: NodeSet,
-    pub watches: Vec<Watch>,
+    pub suspects: Suspects,
+    pub heartbeat: Heartbeat,
     pub waiting: Vec<RequestNo>,
     pub owed: Vec<Owed>,
 }
@@ -50,7 +51,7 @@ impl Model for Changes {
       taken = c.taken.items;
       pooled = c.pooled.items;
       suspects = c.suspects;
-      watches = c.watches.items;
+      watches = c.heartbeat;
       waiting = c.waiting.items;
       owed = c.owed.items;
     } };
@@ -64,8 +65,8 @@ pub struct Step<'a> {
     staged: Vec<Fact>,
     taken: Vec<RequestNo>,
     pooled: Vec<Command>,
-    suspects: NodeSet,
-    watches: Vec<Watch>,
+    suspects: Suspects,
+    heartbeat: Heartbeat,
     waiting: Vec<RequestNo>,
     owed: Vec<Owed>,
 }
@@ -81,7 +82,7 @@ impl<'a> Model for Step<'a> {
       taken = s.taken.items;
       pooled = s.pooled.items;
       suspects = s.suspects;
-      watches = s.watches.items;
+      watches = s.heartbeat;
       waiting = s.waiting.items;
       owed = s.owed.items;
     }) } };
@@ -92,7 +93,7 @@ impl<'a> Model for Step<'a> {
       taken = s.taken.items;
       pooled = s.pooled.items;
       suspects = s.suspects;
-      watches = s.watches.items;
+      watches = s.heartbeat;
       waiting = s.waiting.items;
       owed = s.owed.items;
     }) };
@@ -101,22 +102,20 @@ impl<'a> Model for Step<'a> {
 impl<'a> Step<'a> {
     /// A step that has changed nothing yet.
     #[tactic(auto, using(crate::proofs::PoolLemmas::combined_none))]
-    pub fn new(alloc: Global, base: &'a State) -> Result<Step<'a>, Refusal>
-        ensures ok { IfOk result (λ s. s ≡ record { base = base.now; state = base.now }) }
-        ensures err { IfErr result (λ e. e ≡ Refusal.OutOfMemory) }
+    pub fn new(alloc: Global, base: &'a State) -> Step<'a>
+        ensures { result ≡ record { base = base.now; state = base.now } }
     {
-        let watches = Vec::from_slice(alloc, base.watches.as_slice())?;
-        Ok(Step {
+        Step {
             base,
             rows: Vec::new(alloc),
             staged: Vec::new(alloc),
             taken: Vec::new(alloc),
             pooled: Vec::new(alloc),
             suspects: base.suspects,
-            watches,
+            heartbeat: base.heartbeat,
             waiting: Vec::new(alloc),
             owed: Vec::new(alloc),
-        })
+        }
     }
 
     /// What the step has changed.
@@ -131,7 +130,7 @@ impl<'a> Step<'a> {
             taken,
             pooled,
             suspects,
-            watches,
+            heartbeat,
             waiting,
             owed,
         } = self;
@@ -141,7 +140,7 @@ impl<'a> Step<'a> {
             taken,
             pooled,
             suspects,
-            watches,
+            heartbeat,
             waiting,
             owed,
         }
@@ -167,14 +166,16 @@ impl<'a> Step<'a> {
     pub fn suspects(&self) -> NodeSet
         ensures { result ≡ self.now.state.suspects }
     {
-        self.suspects
+        self.suspects.output()
     }
 
-    /// What the heartbeat detector knows of each node.
-    pub fn watches(&self) -> &[Watch]
-        ensures { result.now ≡ self.now.state.watches }
+    /// The nodes that the heartbeat detector suspects; a node disregards itself.
+    #[tactic(auto, using(rr_heartbeat::proofs::BitLemmas::late_beside))]
+    pub fn late_nodes(&self) -> NodeSet
+        ensures { result ≡ late_nodes self.now.state.node self.now.state.watches }
     {
-        &self.watches
+        let base = self.base;
+        self.heartbeat.suspects().without(base.node)
     }
 
     /// The number of the next fact.
@@ -425,20 +426,27 @@ impl<'a> Step<'a> {
     pub fn suspect(&mut self, suspects: NodeSet)
         ensures { self.new ≡ stepped (λ s. record s { suspects = suspects }) self.old }
     {
-        self.suspects = suspects;
+        self.suspects = Suspects::new(suspects);
+    }
+
+    /// A node has told its suspects: these too, but not the node, which spoke.
+    pub fn reduce(&mut self, node: NodeId, set: NodeSet)
+        ensures { self.new ≡ stepped (λ s. record s { suspects = reduced s.suspects node set }) self.old }
+    {
+        self.suspects.receive(node, set);
     }
 
     /// A tick for the heartbeat detector.
     pub fn tick_watches(&mut self)
         ensures { self.new ≡ stepped (λ s. record s { watches = all_ticked s.watches }) self.old }
     {
-        detector::tick_each(&mut self.watches);
+        self.heartbeat.tick();
     }
 
     /// A beat of a node; one that isn't there changes nothing.
     pub fn beat(&mut self, node: NodeId)
         ensures { self.new ≡ stepped (λ s. record s { watches = heard_beat node s.watches }) self.old }
     {
-        detector::beat_one(&mut self.watches, node);
+        self.heartbeat.heard(node);
     }
 }

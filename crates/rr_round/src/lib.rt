@@ -5,3 +5,6 @@
 mod tally;
 
 pub use tally::{Tally, Vote};
+
+#[cfg(test)]
+mod tests;
