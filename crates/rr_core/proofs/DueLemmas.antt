@@ -9,23 +9,6 @@ use Rattle.rr_types.specs.Nodes.{has_member}
 use Rattle.rr_model.specs.NodeState.{NodeState, Vote}
 use Rattle.rr_model.specs.NodeDue.{Due, better, best_vote, due, due_at, first_due, carry_out, settle_within}
 
--- the vote at a place, and the best of those behind it
-pub best_more : (vs : List Vote) (k j : ℕ) (v : Vote) → j ≡ k + 1 → k < length vs → v ≡ get_or vs k v → Some (better v (best_vote (drop j vs))) ≡ best_vote (drop k vs)
-best_more vs k j v e l g =
-    rw e (sym (at_drop_more best_vote vs k v l ∙ ap (λ (w : Vote). Some (better w (best_vote (drop (k + 1) vs)))) (sym g)))
-
--- the numbers below n and n itself
-pub range_more : (n : ℕ) → range_with_len 0 (n + 1) ≡ range_with_len 0 n ++ n ∷ []
-range_more n = sym (map-id (range_with_len 0 (n + 1))) ∙ map-range_with_len_more (λ (x : ℕ). x) 0 n n (omega arith) ∙ ap (λ (l : List ℕ). l ++ n ∷ []) (map-id (range_with_len 0 n))
-
--- one number more may pass a test
-pub count_more : (p : ℕ → Bool) (n : ℕ) → length (filter p (range_with_len 0 (n + 1))) ≡ length (filter p (range_with_len 0 n)) + (if p n then 1 else 0)
-count_more p n = rw (range_more n, filter-append p (range_with_len 0 n) (n ∷ []), length-append) (last (p n))
-  where
-    last : (b : Bool) → length (filter p (range_with_len 0 n)) + length (cond b (n ∷ []) []) ≡ length (filter p (range_with_len 0 n)) + (if b then 1 else 0)
-    last true = refl
-    last false = refl
-
 -- nothing is due for an instance: the next ones are looked at
 pub first_due_more : (s : NodeState) (is : List ℕ) (k i : ℕ) → k < length is → i ≡ get_or is k i → due_at s i ≡ None → first_due s (drop k is) ≡ first_due s (drop (k + 1) is)
 first_due_more s is k i l e n =

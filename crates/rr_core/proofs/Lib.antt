@@ -1,7 +1,5 @@
-pub mod DetectorLemmas
 pub mod RowLemmas
 pub mod DueLemmas
-pub mod TallyLemmas
 pub mod InputLemmas
 pub mod OweLemmas
 pub mod RoundLemmas

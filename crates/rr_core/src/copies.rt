@@ -1,20 +1,15 @@
 //! Whole states: a copy of one, and the one that a promise restores.
 
-ghost use Rattle.std.specs.Prelude.{◌≡◌, map, replicate, IfOk, IfErr};
-ghost use Rattle.rr_model.specs.NodeDetector.{new_watch};
+ghost use Rattle.std.specs.Prelude.{◌≡◌, map, IfOk, IfErr};
 ghost use Rattle.rr_model.specs.NodeStep.{promised_row, restored};
 
-use crate::rows;
 use crate::state::State;
 use crate::unmarked::Unmarked;
-use rr_heartbeat::Watch;
-use rr_instance::{Backing, Row};
-use rr_round::Tally;
+use rr_heartbeat::Heartbeat;
+use rr_instance::Row;
+use rr_suspect::Suspects;
 use rr_types::{Entry, NodeId, NodeSet, Nodes, Promise, Refusal};
 use std::alloc::Global;
-
-/// How many ticks without a beat a detector bears at first.
-const FIRST_TIME_OUT: u32 = 4;
 
 /// A copy of rows.
 fn clone_rows(alloc: Global, rows: &[Row]) -> Result<Vec<Row>, Refusal>
@@ -23,32 +18,10 @@ fn clone_rows(alloc: Global, rows: &[Row]) -> Result<Vec<Row>, Refusal>
 {
     let mut copies = Vec::new(alloc);
     for row in rows {
-        let copy = rows::clone_row(alloc, row)?;
+        let copy = row.try_clone(alloc)?;
         copies.push(copy)?;
     }
     Ok(copies)
-}
-
-/// The row of an instance that a promise names: all its facts lie below this number.
-fn promised_row(alloc: Global, next: u64, entry: &Entry) -> Row
-    ensures { result ≡ promised_row next entry.now }
-{
-    let last = if next == 0 { 0 } else { (next - 1) as u128 };
-    Row {
-        instance: entry.instance,
-        standing: entry.standing,
-        backing: Backing {
-            entered: last,
-            proposed: last,
-            adopted: last,
-            decided: last,
-        },
-        tally: Tally {
-            estimates: Vec::new(alloc),
-            acks: NodeSet::empty(),
-            nacks: NodeSet::empty(),
-        },
-    }
 }
 
 /// The rows of the instances that a promise names.
@@ -58,25 +31,10 @@ fn promised_rows(alloc: Global, next: u64, entries: &[Entry]) -> Result<Vec<Row>
 {
     let mut promised = Vec::new(alloc);
     for entry in entries {
-        let row = promised_row(alloc, next, entry);
+        let row = Row::promised(alloc, next, entry);
         promised.push(row)?;
     }
     Ok(promised)
-}
-
-/// A fresh watch of each node.
-fn new_watches(alloc: Global, nodes: Nodes) -> Result<Vec<Watch>, Refusal>
-    ensures ok { IfOk result (λ v. v.items ≡ replicate nodes new_watch) }
-    ensures err { IfErr result (λ e. e ≡ Refusal.OutOfMemory) }
-{
-    let mut watches = Vec::new(alloc);
-    for _node in 0..nodes.count() {
-        watches.push(Watch {
-            ticks: 0,
-            time_out: FIRST_TIME_OUT,
-        })?;
-    }
-    Ok(watches)
 }
 
 impl State {
@@ -89,7 +47,6 @@ impl State {
         let marked = Vec::from_slice(alloc, self.marked.as_slice())?;
         let unmarked = self.unmarked.try_clone(alloc)?;
         let pool = Vec::from_slice(alloc, self.pool.as_slice())?;
-        let watches = Vec::from_slice(alloc, self.watches.as_slice())?;
         let waiting = Vec::from_slice(alloc, self.waiting.as_slice())?;
         let owed = Vec::from_slice(alloc, self.owed.as_slice())?;
         Ok(State {
@@ -101,7 +58,7 @@ impl State {
             unmarked,
             pool,
             suspects: self.suspects,
-            watches,
+            heartbeat: self.heartbeat,
             waiting,
             owed,
         })
@@ -120,7 +77,6 @@ impl State {
     {
         let marked = promise.into_entries();
         let rows = promised_rows(alloc, next, &marked)?;
-        let watches = new_watches(alloc, nodes)?;
         Ok(State {
             nodes,
             node,
@@ -129,8 +85,8 @@ impl State {
             marked_end: next,
             unmarked: Unmarked::new(alloc),
             pool: Vec::new(alloc),
-            suspects: NodeSet::empty(),
-            watches,
+            suspects: Suspects::new(NodeSet::empty()),
+            heartbeat: Heartbeat::new(nodes),
             waiting: Vec::new(alloc),
             owed: Vec::new(alloc),
         })

@@ -1,20 +1,15 @@
 //! What a node does of its own accord, one thing after another until nothing is due.
 
-ghost use Rattle.std.specs.Prelude.{◌≡◌, ◌<◌, length, filter, IfOk, IfErr, IfSome, OnOk, option_map, Some};
-ghost use Rattle.std.specs.List.{range_with_len};
-ghost use Rattle.rr_types.specs.Nodes.{has_member};
+ghost use Rattle.std.specs.Prelude.{◌≡◌, ◌<◌, IfOk, IfErr, IfSome, OnOk, option_map, Some};
 ghost use Rattle.rr_types.specs.Standings.{round_of};
 ghost use Rattle.rr_model.specs.NodeState.{standing_at};
-ghost use Rattle.rr_model.specs.NodeDue.{better, best_vote, pick, is_majority, due_of_coordinator, due_of_participant, due_of_row, due_at, first_due, due, carry_out, settle};
+ghost use Rattle.rr_model.specs.NodeDue.{due_of_coordinator, due_of_participant, due_of_row, due_at, first_due, due, carry_out, settle};
 ghost use Rattle.rr_core.specs.Dues.{meaning_of, MovesBelowLast, CanBeCarriedOut};
 
-use crate::detector::joined;
 use crate::rows::find_row;
 use crate::state::State;
-use rr_round::{Tally, Vote};
-use rr_types::{
-    Command, Instance, NodeSet, Nodes, Refusal, Round, Standing, coordinator, majority,
-};
+use rr_round::Tally;
+use rr_types::{Command, Instance, Refusal, Round, Standing, coordinator};
 use std::alloc::Global;
 
 /// The most turns until nothing is due.
@@ -33,76 +28,7 @@ pub enum Due {
     MoveOn(Instance),
 }
 
-/// The better of two votes: the larger stamp, and of equal stamps the one that stands first.
-fn better(vote: Vote, other: Option<Vote>) -> Vote
-    ensures { result ≡ better vote other }
-{
-    match other {
-        Some(other) if vote.stamp < other.stamp => other,
-        _ => vote,
-    }
-}
-
-/// The vote of largest stamp, of those the first.
-#[tactic(auto, using(crate::proofs::DueLemmas::best_more))]
-fn best_vote(votes: &[Vote]) -> Option<Vote>
-    ensures { result ≡ best_vote votes.now }
-{
-    let mut best = None;
-    let mut left = votes.len();
-    while left > 0 {
-        left -= 1;
-        best = Some(better(votes[left], best));
-    }
-    best
-}
-
-/// Where estimates of a majority are kept, the command of largest stamp, of those the lowest node's.
-pub fn pick(nodes: Nodes, tally: &Tally) -> Option<Command>
-    ensures { result ≡ pick nodes tally.now }
-{
-    if usize::from(majority(nodes)) <= tally.estimates.len() {
-        match best_vote(&tally.estimates) {
-            Some(vote) => Some(vote.command),
-            None => None,
-        }
-    } else {
-        None
-    }
-}
-
-/// How many of the nodes a set has.
-#[tactic(auto, using(crate::proofs::DueLemmas::count_more))]
-fn count_members(nodes: Nodes, set: NodeSet) -> u8
-    ensures { result ≡ length (filter (λ q. has_member set q) (range_with_len 0 nodes)) }
-{
-    let mut count = 0;
-    for index in 0..nodes.count() {
-        if has(set, index) {
-            count += 1;
-        }
-    }
-    count
-}
-
-fn has(set: NodeSet, index: u8) -> bool
-    requires { index < 7 }
-    ensures { result ≡ has_member set index }
-{
-    match rr_types::NodeId::at(index) {
-        Some(node) => set.contains(node),
-        None => unreachable!(),
-    }
-}
-
 impl State {
-    /// Whether the set has a majority of the nodes.
-    pub fn is_majority(&self, set: NodeSet) -> bool
-        ensures { result ≡ is_majority self.now set }
-    {
-        majority(self.nodes) <= count_members(self.nodes, set)
-    }
-
     fn due_of_coordinator(
         &self,
         instance: Instance,
@@ -114,16 +40,15 @@ impl State {
         ensures moves { IfSome result (MovesBelowLast round) }
     {
         match proposal {
-            None => match pick(self.nodes, tally) {
+            None => match tally.pick(self.nodes) {
                 Some(command) => Some(Due::Offer(instance, round, command)),
                 None => None,
             },
             Some(command) => {
-                if self.is_majority(tally.acks) {
+                if tally.is_acknowledged(self.nodes) {
                     return Some(Due::Conclude(instance, command));
                 }
-                let answered = joined(tally.acks, tally.nacks);
-                if self.is_majority(answered) && round.number() < rr_types::MAX_ROUND {
+                if tally.is_answered(self.nodes) && round.number() < rr_types::MAX_ROUND {
                     Some(Due::MoveOn(instance))
                 } else {
                     None
@@ -136,7 +61,10 @@ impl State {
         ensures value { option_map meaning_of result ≡ due_of_participant self.now instance round }
         ensures moves { IfSome result (MovesBelowLast round) }
     {
-        let is_suspected = self.suspects.contains(coordinator(round, self.nodes));
+        let is_suspected = self
+            .suspects
+            .output()
+            .contains(coordinator(round, self.nodes));
         if is_suspected && round.number() < rr_types::MAX_ROUND {
             Some(Due::MoveOn(instance))
         } else {

@@ -1,11 +1,11 @@
 //! Estimates: of open instances, and the one with which an instance enters a round.
 
-ghost use Rattle.std.specs.Prelude.{◌≡◌, ◌<◌};
+ghost use Rattle.std.specs.Prelude.{◌≡◌};
 ghost use Rattle.rr_core.specs.Places.{is_estimate_of, is_estimate_beside, first_free};
 
 use crate::rows;
 use rr_instance::Row;
-use rr_types::{Command, Estimate, Instance, Round, Standing};
+use rr_types::{Command, Instance, Standing};
 
 /// Whether a command is the estimate of an instance.
 #[tactic(auto, unfolding(crate::specs::Places::is_estimate_of))]
@@ -55,15 +55,4 @@ pub fn first_free(
         }
     }
     None
-}
-
-/// The estimate with this stamp, which lies before the round.
-pub fn estimate_at(round: Round, stamp: u32, command: Command) -> Estimate
-    requires { stamp < round }
-    ensures { result ≡ record { round = round; stamp = stamp; command = command } }
-{
-    match Estimate::new(round, stamp, command) {
-        Some(estimate) => estimate,
-        None => unreachable!(),
-    }
 }

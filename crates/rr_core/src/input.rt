@@ -1,6 +1,6 @@
 //! What each input does at once, and the node's step: what the input does, and then all that is due.
 
-ghost use Rattle.std.specs.Prelude.{◌≡◌, ◌≤◌, ◌<◌, ◌&&◌, not, [], ◌∷◌, length, None, Some, IfErr, OnOk, if◌then◌else◌, ◌⊎◌};
+ghost use Rattle.std.specs.Prelude.{◌≡◌, ◌<◌, ◌&&◌, not, [], ◌∷◌, None, Some, IfErr, OnOk, if◌then◌else◌, ◌⊎◌};
 ghost use Rattle.std.specs.Option.{option_map_or};
 ghost use Rattle.rr_types.specs.declared.message.Body.TheVariants as say;
 ghost use Rattle.rr_types.specs.Standings.{round_of, stamp_of, proposal_of, is_undecided};
@@ -9,7 +9,6 @@ ghost use Rattle.rr_model.specs.NodeState.{standing_at, first_undecided, others,
 ghost use Rattle.rr_model.specs.NodeParts.{backing_at};
 ghost use Rattle.rr_model.specs.NodeStep.{wait_for, submitted, submit_refusal, is_list_full, is_behind, ask, ticked_on, advanced, advance_refusal, catch_up, acknowledge, take_proposal, take_estimate, answer, heard_body, heard};
 
-use crate::detector::reduced;
 use crate::state::State;
 use rr_types::{
     Body, Command, Estimate, Instance, Message, NodeId, Refusal, RequestNo, Round, coordinator,
@@ -98,7 +97,6 @@ impl State {
     /// behind a question.
     #[tactic(auto, using(crate::proofs::InputLemmas::everyone_after_owe), unfolding(rr_model::specs::NodeStep::ticked_on))]
     pub fn ticked_on(&mut self, alloc: Global) -> Result<(), Refusal>
-        requires { length self.old.watches ≤ 7 }
         ensures ok { OnOk result (self.new ≡ ticked_on self.old) }
         ensures err { IfErr result (λ e. e ≡ Refusal.OutOfMemory) }
     {
@@ -374,8 +372,7 @@ impl State {
                 Ok(())
             }
             Body::Suspects(set) => {
-                let suspects = self.suspects;
-                self.suspects = reduced(suspects, from, set);
+                self.suspects.receive(from, set);
                 Ok(())
             }
             Body::Ask(instance) => self.answer(instance, from),

@@ -8,56 +8,17 @@ ghost use Rattle.rr_types.specs.Facts.{decision_of};
 ghost use Rattle.rr_model.specs.NodeState.{standing_at, is_decided, first_undecided, decided_from, decided_prefix};
 ghost use Rattle.rr_model.specs.NodeStep.{is_waiting, is_list_full, lowest_in_round, has_proposed};
 
-use crate::rows::is_decided;
 use crate::state::State;
-use rr_instance::Row;
+use rr_instance::{Row, decision_in, proposal_in, round_in, stamp_in};
 use rr_types::{Command, Entry, INSTANCES, Instance, Refusal, RequestNo, Round, Standing};
 use std::alloc::Global;
-
-/// The round of an instance that stands so; 0 where it has none.
-fn round_in(standing: Standing) -> u32
-    ensures value { result ≡ round_of (Some standing) }
-    ensures range { result ≤ 2147483647 }
-{
-    match standing {
-        Standing::Decided(_) => 0,
-        Standing::Open(open) => open.round().number(),
-    }
-}
-
-fn stamp_in(standing: Standing) -> u32
-    ensures { result ≡ stamp_of (Some standing) }
-{
-    match standing {
-        Standing::Decided(_) => 0,
-        Standing::Open(open) => open.stamp(),
-    }
-}
-
-fn proposal_in(standing: Standing) -> Option<Command>
-    ensures { result ≡ proposal_of (Some standing) }
-{
-    match standing {
-        Standing::Decided(_) => None,
-        Standing::Open(open) => open.proposal(),
-    }
-}
-
-fn decision_in(standing: Standing) -> Option<Command>
-    ensures { result ≡ decision_of (Some standing) }
-{
-    match standing {
-        Standing::Decided(command) => Some(command),
-        Standing::Open(_) => None,
-    }
-}
 
 /// Whether an instance above `first` has decided.
 fn has_decided_above(rows: &[Row], first: Instance) -> bool
     ensures { result ≡ list_any (λ r. nat_lt first r.instance && is_decided r) rows.now }
 {
     for row in rows {
-        if first.number() < row.instance.number() && is_decided(row) {
+        if first.number() < row.instance.number() && row.is_decided() {
             return true;
         }
     }

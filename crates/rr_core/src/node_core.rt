@@ -13,6 +13,7 @@ use crate::prefix::{command_at, prefix_count, registry_of_prefix};
 use crate::state::State;
 use rr_gate::{Opened, Synced};
 use rr_registry::{Entries, Registry};
+use rr_suspect::Suspects;
 use rr_types::{
     Command, Group, Instance, Message, NodeId, NodeSet, Nodes, Promise, Refusal, Reply, RequestNo,
 };
@@ -164,7 +165,7 @@ impl Core {
             Ok(state) => state,
             Err(refusal) => return Err(refusal),
         };
-        state.suspects = suspects;
+        state.suspects = Suspects::new(suspects);
         self.finish(state)
     }
 

@@ -10,7 +10,7 @@ ghost use Rattle.rr_model.specs.NodeParts.{owe, pool_add, stage, free_command, e
 
 use crate::state::State;
 use crate::{estimates, owing, rows, staging};
-use rr_instance::Backing;
+use rr_instance::{Backing, entered, with_adopted, with_proposal};
 use rr_types::{
     Body, Command, Estimate, Fact, Instance, NodeId, Refusal, RequestNo, Round, Standing, WINDOW,
 };
@@ -140,7 +140,7 @@ impl State {
         ensures ok { OnOk result (self.new ≡ stage (staged.Enter instance estimate) self.old) }
         ensures err { IfErr result (λ e. e ≡ Refusal.OutOfMemory) }
     {
-        let standing = Some(staging::entered(&estimate));
+        let standing = Some(entered(&estimate));
         self.stage(Fact::Enter(instance, estimate), standing)
     }
 
@@ -155,7 +155,7 @@ impl State {
         ensures err { IfErr result (λ e. e ≡ Refusal.OutOfMemory) }
     {
         let command = &command;
-        let standing = staging::with_proposal(self.standing(instance), *command);
+        let standing = with_proposal(self.standing(instance), *command);
         self.stage(Fact::Propose(instance, round, *command), standing)
     }
 
@@ -171,7 +171,7 @@ impl State {
         ensures err { IfErr result (λ e. e ≡ Refusal.OutOfMemory) }
     {
         let command = &command;
-        let standing = staging::with_adopted(self.standing(instance), *command);
+        let standing = with_adopted(self.standing(instance), *command);
         self.stage(Fact::Adopt(instance, round, *command), standing)
     }
 

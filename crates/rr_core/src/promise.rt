@@ -7,7 +7,7 @@ ghost use Rattle.rr_types.specs.Facts.{instance_of, after_fact};
 ghost use Rattle.rr_types.specs.Promises.{standing_in, set_entry, take_on, take_on_all};
 ghost use Rattle.rr_core.specs.Rounds.{IsInRound, AllInRound};
 
-use crate::staging::{entered, instance_of, with_adopted, with_proposal};
+use rr_instance::{entered, instance_of, with_adopted, with_proposal};
 use rr_types::{Entry, Fact, Instance, Refusal, Standing};
 
 /// Where an instance stands by the entries.

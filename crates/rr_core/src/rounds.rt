@@ -7,9 +7,8 @@ ghost use Rattle.rr_model.specs.NodeState.{standing_at};
 ghost use Rattle.rr_model.specs.NodeParts.{backing_at, leave_round, enter_with, entering_estimate, restate};
 ghost use Rattle.rr_core.specs.Places.{owe_coordinator};
 
-use crate::estimates::estimate_at;
 use crate::state::State;
-use rr_instance::Backing;
+use rr_instance::{Backing, estimate_at};
 use rr_types::{
     Body, Command, Estimate, Instance, OpenStanding, Refusal, Round, Standing, coordinator,
 };
@@ -23,12 +22,7 @@ impl State {
     {
         match self.backing(instance) {
             Some(backing) => backing,
-            None => Backing {
-                entered: 0,
-                proposed: 0,
-                adopted: 0,
-                decided: 0,
-            },
+            None => Backing::none(),
         }
     }
 

@@ -4,12 +4,11 @@ ghost use Rattle.std.specs.Prelude.{◌≡◌, ◌<◌, ◌≤◌, ◌==◌, IsT
 ghost use Rattle.std.specs.Option.{option_map_or};
 ghost use Rattle.std.specs.List.{list_any};
 ghost use Rattle.rr_types.specs.Registry.{is_same_request};
-ghost use Rattle.rr_model.specs.NodeState.{row_of, put_row, is_decided, undecided_from, lowest_undecided, decided_command};
+ghost use Rattle.rr_model.specs.NodeState.{row_of, put_row, undecided_from, lowest_undecided, decided_command};
 ghost use Rattle.rr_core.specs.Places.{rows_below, is_row_of};
 
 use rr_instance::{Backing, Row};
-use rr_round::Tally;
-use rr_types::{Command, Instance, Refusal, RequestNo, Standing};
+use rr_types::{Instance, Refusal, RequestNo, Standing};
 use std::alloc::Global;
 
 /// The row of an instance.
@@ -44,23 +43,6 @@ pub fn backing_in_rows(rows: &[Row], instance: Instance) -> Option<Backing>
     }
 }
 
-/// Whether the instance of a row has decided.
-pub fn is_decided(row: &Row) -> bool
-    ensures { result ≡ is_decided row.now }
-{
-    matches!(row.standing, Standing::Decided(_))
-}
-
-/// The command that the instance of a row has decided.
-pub fn decided_command(row: &Row) -> Option<Command>
-    ensures { result ≡ decided_command row.now }
-{
-    match row.standing {
-        Standing::Decided(command) => Some(command),
-        Standing::Open(_) => None,
-    }
-}
-
 /// The lowest undecided instance from `from` on.
 pub fn undecided_from(rows: &[Row], from: u32) -> u32
     requires { from ≤ 1048576 }
@@ -71,7 +53,7 @@ pub fn undecided_from(rows: &[Row], from: u32) -> u32
     let mut lowest = from;
     for row in rows {
         let number = row.instance.number();
-        if number == lowest && is_decided(row) {
+        if number == lowest && row.is_decided() {
             lowest += 1;
         } else if number >= lowest {
             break;
@@ -125,31 +107,13 @@ pub fn has_decided_request(rows: &[Row], request: RequestNo) -> bool
     ensures { result ≡ list_any (λ r. option_map_or (λ v. is_same_request v.request request) (decided_command r) false) rows.now }
 {
     for row in rows {
-        if let Some(command) = decided_command(row) {
+        if let Some(command) = row.decided_command() {
             if command.request.is_same(request) {
                 return true;
             }
         }
     }
     false
-}
-
-/// A copy of a row.
-pub fn clone_row(alloc: Global, row: &Row) -> Result<Row, Refusal>
-    ensures ok { IfOk result (λ r. r ≡ row.now) }
-    ensures err { IfErr result (λ e. e ≡ Refusal.OutOfMemory) }
-{
-    let estimates = Vec::from_slice(alloc, row.tally.estimates.as_slice())?;
-    Ok(Row {
-        instance: row.instance,
-        standing: row.standing,
-        backing: row.backing,
-        tally: Tally {
-            estimates,
-            acks: row.tally.acks,
-            nacks: row.tally.nacks,
-        },
-    })
 }
 
 /// How many rows at the front lie below an instance.

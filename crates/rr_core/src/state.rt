@@ -3,10 +3,11 @@
 ghost use Rattle.std.specs.Prelude.{◌≡◌, IfOk};
 
 use crate::unmarked::Unmarked;
-use rr_heartbeat::Watch;
+use rr_heartbeat::Heartbeat;
 use rr_instance::Row;
 use rr_mark::Owed;
-use rr_types::{Command, Entry, NodeId, NodeSet, Nodes, RequestNo};
+use rr_suspect::Suspects;
+use rr_types::{Command, Entry, NodeId, Nodes, RequestNo};
 use std::marker::Model;
 
 /// A node that is up.
@@ -19,8 +20,8 @@ pub struct State {
     pub marked_end: u64,
     pub unmarked: Unmarked,
     pub pool: Vec<Command>,
-    pub suspects: NodeSet,
-    pub watches: Vec<Watch>,
+    pub suspects: Suspects,
+    pub heartbeat: Heartbeat,
     pub waiting: Vec<RequestNo>,
     pub owed: Vec<Owed>,
 }
@@ -40,7 +41,7 @@ impl Model for State {
       staged = s.unmarked.staged;
       pool = s.pool.items;
       suspects = s.suspects;
-      watches = s.watches.items;
+      watches = s.heartbeat;
       waiting = s.waiting.items;
       owed = s.owed.items;
     } };

@@ -1,44 +1,12 @@
-//! What a coordinator keeps of the answers to its round.
+//! The answers to a round, in the row of its instance.
 
-ghost use Rattle.std.specs.Prelude.{◌≡◌, ◌≤◌, length, MatchOption, IfErr, OnOk};
-ghost use Rattle.std.specs.List.{insert};
-ghost use Rattle.rr_model.specs.NodeStep.{with_vote, count_estimate, count_ack, count_nack};
+ghost use Rattle.std.specs.Prelude.{◌≡◌, IfErr, OnOk};
+ghost use Rattle.rr_model.specs.NodeStep.{count_estimate, count_ack, count_nack};
 
-use crate::rows::{clone_row, find_row, put_row};
+use crate::rows::{find_row, put_row};
 use crate::state::State;
-use rr_instance::Row;
-use rr_round::{Tally, Vote};
 use rr_types::{Estimate, Instance, NodeId, Refusal};
 use std::alloc::Global;
-
-/// Where a vote goes in its place by senders; `None` where its sender has one.
-#[tactic(auto, using(crate::proofs::TallyLemmas::vote_there, crate::proofs::TallyLemmas::vote_before, crate::proofs::TallyLemmas::vote_behind, crate::proofs::TallyLemmas::vote_last))]
-fn vote_place(votes: &[Vote], vote: Vote) -> Option<usize>
-    ensures { MatchOption result (with_vote vote votes.now ≡ votes.now) (λ k. (k ≤ length votes.now) × (with_vote vote votes.now ≡ insert votes.now k vote)) }
-{
-    let sender = vote.sender.index();
-    for (at, other) in votes.iter().enumerate() {
-        let other = other.sender.index();
-        if sender == other {
-            return None;
-        }
-        if sender < other {
-            return Some(at);
-        }
-    }
-    Some(votes.len())
-}
-
-/// Keeps a vote in its place by senders; the first of a sender is kept.
-fn put_vote(votes: &mut Vec<Vote>, vote: Vote) -> Result<(), Refusal>
-    ensures ok { OnOk result (votes.new.items ≡ with_vote vote votes.old.items) }
-    ensures err { IfErr result (λ e. e ≡ Refusal.OutOfMemory) }
-{
-    if let Some(at) = vote_place(votes, vote) {
-        votes.insert(at, vote)?;
-    }
-    Ok(())
-}
 
 impl State {
     /// The coordinator keeps an estimate.
@@ -56,16 +24,11 @@ impl State {
         let Some(row) = find_row(&self.rows, instance) else {
             return Ok(());
         };
-        let mut row = match clone_row(alloc, row) {
+        let mut row = match row.try_clone(alloc) {
             Ok(row) => row,
             Err(refusal) => return Err(refusal),
         };
-        let vote = Vote {
-            sender,
-            stamp: estimate.stamp(),
-            command: estimate.command(),
-        };
-        match put_vote(&mut row.tally.estimates, vote) {
+        match row.tally.keep_estimate(sender, estimate) {
             Ok(()) => put_row(&mut self.rows, row),
             Err(refusal) => Err(refusal),
         }
@@ -85,31 +48,11 @@ impl State {
         let Some(row) = find_row(&self.rows, instance) else {
             return Ok(());
         };
-        let row = match clone_row(alloc, row) {
+        let mut row = match row.try_clone(alloc) {
             Ok(row) => row,
             Err(refusal) => return Err(refusal),
         };
-        let Row {
-            instance,
-            standing,
-            backing,
-            tally,
-        } = row;
-        let Tally {
-            estimates,
-            acks,
-            nacks,
-        } = tally;
-        let row = Row {
-            instance,
-            standing,
-            backing,
-            tally: Tally {
-                estimates,
-                acks: acks.with(sender),
-                nacks,
-            },
-        };
+        row.tally.keep_ack(sender);
         put_row(&mut self.rows, row)
     }
 
@@ -127,31 +70,11 @@ impl State {
         let Some(row) = find_row(&self.rows, instance) else {
             return Ok(());
         };
-        let row = match clone_row(alloc, row) {
+        let mut row = match row.try_clone(alloc) {
             Ok(row) => row,
             Err(refusal) => return Err(refusal),
         };
-        let Row {
-            instance,
-            standing,
-            backing,
-            tally,
-        } = row;
-        let Tally {
-            estimates,
-            acks,
-            nacks,
-        } = tally;
-        let row = Row {
-            instance,
-            standing,
-            backing,
-            tally: Tally {
-                estimates,
-                acks,
-                nacks: nacks.with(sender),
-            },
-        };
+        row.tally.keep_nack(sender);
         put_row(&mut self.rows, row)
     }
 }

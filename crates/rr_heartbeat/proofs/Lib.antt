@@ -1,0 +1,3 @@
+pub mod WatchLemmas
+pub mod BitLemmas
+pub mod RuleLemmas

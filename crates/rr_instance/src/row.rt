@@ -1,7 +1,15 @@
 //! The row of an instance.
 
+ghost use Rattle.std.specs.Prelude.{◌≡◌, IfOk, IfErr};
+ghost use Rattle.rr_types.specs.Facts.{instance_of};
+ghost use Rattle.rr_model.specs.NodeState.{is_decided, decided_command};
+ghost use Rattle.rr_model.specs.NodeParts.{backing_after, row_after, fresh_row};
+ghost use Rattle.rr_model.specs.NodeStep.{promised_row};
+
+use crate::standing::decision_in;
 use rr_round::Tally;
-use rr_types::{Instance, Standing};
+use rr_types::{Command, Entry, Fact, Instance, Refusal, Standing};
+use std::alloc::Global;
 use std::marker::Model;
 
 /// The numbers of the facts that back an instance's messages.
@@ -38,4 +46,129 @@ impl Model for Row {
     ghost Value = { model.Row };
 
     ghost view = { λ r. record { instance = r.instance; standing = r.standing; backing = r.backing; tally = r.tally } };
+}
+
+impl Backing {
+    /// No fact names the instance.
+    pub fn none() -> Backing
+        ensures { result ≡ record { entered = 0; proposed = 0; adopted = 0; decided = 0 } }
+    {
+        Backing {
+            entered: 0,
+            proposed: 0,
+            adopted: 0,
+            decided: 0,
+        }
+    }
+
+    /// The numbers after a fact with this number.
+    pub fn after(self, number: u128, fact: &Fact) -> Backing
+        ensures { result ≡ backing_after number fact.now self }
+    {
+        match fact {
+            Fact::Enter(..) => Backing {
+                entered: number,
+                proposed: 0,
+                adopted: 0,
+                decided: 0,
+            },
+            Fact::Propose(..) => Backing {
+                proposed: number,
+                ..self
+            },
+            Fact::Adopt(..) => Backing {
+                adopted: number,
+                ..self
+            },
+            Fact::Decide(..) => Backing {
+                decided: number,
+                ..self
+            },
+        }
+    }
+}
+
+impl Row {
+    /// The row of an instance that no fact named before.
+    pub fn fresh(alloc: Global, instance: Instance, standing: Standing) -> Row
+        ensures { result ≡ fresh_row instance standing }
+    {
+        Row {
+            instance,
+            standing,
+            backing: Backing::none(),
+            tally: Tally::new(alloc),
+        }
+    }
+
+    /// The row of an instance that a promise names: all its facts lie below this number.
+    pub fn promised(alloc: Global, next: u64, entry: &Entry) -> Row
+        ensures { result ≡ promised_row next entry.now }
+    {
+        let last = if next == 0 { 0 } else { (next - 1) as u128 };
+        Row {
+            instance: entry.instance,
+            standing: entry.standing,
+            backing: Backing {
+                entered: last,
+                proposed: last,
+                adopted: last,
+                decided: last,
+            },
+            tally: Tally::new(alloc),
+        }
+    }
+
+    /// A copy.
+    pub fn try_clone(&self, alloc: Global) -> Result<Row, Refusal>
+        ensures ok { IfOk result (λ r. r ≡ self.now) }
+        ensures err { IfErr result (λ e. e ≡ Refusal.OutOfMemory) }
+    {
+        let tally = self.tally.try_clone(alloc)?;
+        Ok(Row {
+            instance: self.instance,
+            standing: self.standing,
+            backing: self.backing,
+            tally,
+        })
+    }
+
+    /// Whether the instance has decided.
+    pub fn is_decided(&self) -> bool
+        ensures { result ≡ is_decided self.now }
+    {
+        matches!(self.standing, Standing::Decided(_))
+    }
+
+    /// The command that the instance has decided.
+    pub fn decided_command(&self) -> Option<Command>
+        ensures { result ≡ decided_command self.now }
+    {
+        decision_in(self.standing)
+    }
+
+    /// A fact with this number is about the instance, which then stands so. It needs no memory.
+    pub fn advance(&mut self, number: u128, fact: &Fact, standing: Standing)
+        ensures { self.new ≡ row_after number fact.now standing self.old }
+    {
+        let backing = self.backing.after(number, fact);
+        self.standing = standing;
+        self.backing = backing;
+        match fact {
+            Fact::Enter(..) | Fact::Decide(..) => self.tally.clear(),
+            Fact::Propose(..) | Fact::Adopt(..) => {}
+        }
+    }
+}
+
+/// The instance that a fact is about.
+pub fn instance_of(fact: &Fact) -> Instance
+    ensures { result ≡ instance_of fact.now }
+{
+    match fact {
+        Fact::Enter(instance, _) => *instance,
+        Fact::Propose(instance, _, _) => *instance,
+        Fact::Adopt(instance, _, _) => *instance,
+        Fact::Decide(instance, _) => *instance,
+    }
 }

@@ -1,6 +1,0 @@
-use Rattle.std.proofs.Common.{◌≡◌, ◌+◌, ◌^◌, ◌<◌, drop}
-use Rattle.rr_model.specs.NodeDetector.{late_from}
-use Rattle.rr_core.proofs.state.State.late_nodes.Given as goal
-
-abbrev pub invariant-loop-index : goal.invariant-loop-index
-invariant-loop-index l = (l.late < 2 ^ l.index) × (l.late + late_from l.self.node l.index (drop l.index l.watches) ≡ late_from l.self.node 0 l.watches)
