@@ -4,6 +4,7 @@
 
 mod arrivals;
 mod pool;
+mod rows;
 mod waiting;
 
 pub use arrivals::{Requested, Values};

@@ -1,4 +1,4 @@
-use Rattle.std.proofs.Common.{◌≡◌, ◌+◌, length, Bool, true, false, List, [], ◌∷◌, None, Some, Option, Ordering, is_some, refl, sym, ap, ◌∙◌, arith}
+use Rattle.std.proofs.Common.{◌≡◌, ◌+◌, length, Bool, true, false, cond, List, [], ◌∷◌, None, Some, Option, Ordering, is_some, refl, sym, ap, ◌∙◌, arith}
 use Rattle.std.specs.declared.cmp.Ordering.TheVariants.{Less, Equal, Greater}
 use Rattle.std.specs.Ordering.{is_eq}
 use Rattle.std.specs.Cmp.{IsTotalOrder}
@@ -14,6 +14,10 @@ use Rattle.rr_places.specs.Places.{filled, filled_cons, put_entry, held}
 abbrev pub joined : {V : Type 0} → Option (Option V) → Option V
 joined None = None
 joined (Some v) = v
+
+pub joined_cond : {V : Type 0} → (b : Bool) (v : Option V) (o : Option (Option V)) → joined (cond b (Some v) o) ≡ cond b v (joined o)
+joined_cond true v o = refl
+joined_cond false v o = refl
 
 module _ {K V : Type 0} where
   -- a place of another key changes no look-up

@@ -1,7 +1,7 @@
 //! Maps in which a key may have a place before it has a value. Making a place may need memory;
 //! giving a place a value, and taking it, needs none.
 
-ghost use Rattle.std.specs.Prelude.{◌≡◌, ◌+◌, length, None, Some, IsTrue, IsSome, MatchOption, OnOk};
+ghost use Rattle.std.specs.Prelude.{◌≡◌, ◌+◌, cond, length, None, Some, IsTrue, IsSome, MatchOption, OnOk};
 ghost use Rattle.std.specs.BTreeMap.{is_at};
 ghost use Rattle.std.specs.Map.{lookup};
 ghost use Rattle.std.proofs.lemmas.Map.Lookups.{CmpEqualImpliesEq};
@@ -64,6 +64,7 @@ pub fn put<K: Ord + Copy + Drop, V: Drop>(
     requires place { IsTrue (has_place K.cmp map.old.entries key) }
     requires exact { CmpEqualImpliesEq K.cmp }
     ensures filled { filled map.new.entries ≡ put_entry K.cmp (filled map.old.entries) key value }
+    ensures values { (q : K) → lookup (is_at (K.cmp q)) (filled map.new.entries) ≡ cond (is_at (K.cmp key) q) value (lookup (is_at (K.cmp q)) (filled map.old.entries)) }
     ensures count { length (filled map.new.entries) + held (lookup (is_at (K.cmp key)) (filled map.old.entries)) ≡ length (filled map.old.entries) + held value }
     ensures places { (q : K) → has_place K.cmp map.new.entries q ≡ has_place K.cmp map.old.entries q }
 {
