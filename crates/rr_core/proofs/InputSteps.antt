@@ -1,12 +1,12 @@
 -- What each input changes makes the node's step.
-use Rattle.std.proofs.Common.{◌≡◌, ◌^◌, ◌<◌, ◌≤◌, ℕ, Bool, true, false, cond, ltb, List, ap, sym, ◌∙◌, refl, subst, Option, Some, None, is_some}
+use Rattle.std.proofs.Common.{◌≡◌, ◌^◌, ◌<◌, ◌≤◌, ℕ, Bool, true, false, cond, ltb, ◌⊎◌, inl, inr, Result, Ok, Err, IfErr, List, ap, sym, ◌∙◌, refl, subst, Option, Some, None, is_some}
 use Rattle.std.proofs.lemmas.Bool.{ltb-true, false≢true}
 use Rattle.rr_types.specs.declared.command.Command.{Command}
 use Rattle.rr_types.specs.declared.message.Message.{Message}
 use Rattle.rr_types.specs.declared.promise.Entry.{Entry}
 use Rattle.rr_types.specs.Promises.{IsAscending}
 use Rattle.rr_types.specs.declared.refusal.Refusal.{Refusal}
-use Rattle.rr_types.specs.declared.refusal.Refusal.TheVariants.{TooLarge}
+use Rattle.rr_types.specs.declared.refusal.Refusal.TheVariants.{TooLarge, OutOfMemory}
 use Rattle.rr_model.specs.NodeState.{NodeState, next_number, open_instances, decided_from}
 use Rattle.rr_model.specs.NodeDue.{settle}
 use Rattle.rr_model.specs.NodeStep.{Input, Submit, Suspect, Tick, Advance, Hear, submitted, heard, ticked_on, advanced, node_step, submit_refusal, advance_refusal, input_refusal, refusal_of, restored, started}
@@ -105,3 +105,24 @@ held s k q x kept e = ap is_some e ∙ replied_where s k kept q
 pub started_kept : (n p next : ℕ) (es : List Entry) (k : Kept) (t : NodeState) → IsAscending es → n ≤ 7 → next < 2 ^ 64 → k ≡ kept_of (decided_from 0 es) → t ≡ started n p es next → IsKept t k
 unfolding started
 started_kept n p next es k t a l m e f = core.start_kept n p next es k (restored n p es next) t (open_instances (restored n p es next)) a l m e refl f
+
+-- why an input is refused for what it is
+pub submit_err : (c : Command) (s : NodeState) (t : Stepped) (r : Refusal) → t ≡ record { base = s; state = s } → Some r ≡ submit_refusal c t.state → (r ≡ OutOfMemory) ⊎ (refusal_of (Submit c) s ≡ Some r)
+submit_err c s t r e h = core.submit_err c s t.state r (ap (λ (u : Stepped). u.state) e) h
+
+pub advance_err : (s : NodeState) (t : Stepped) (r : Refusal) → t ≡ record { base = s; state = s } → (r ≡ OutOfMemory) ⊎ (advance_refusal t.state ≡ Some r) → (r ≡ OutOfMemory) ⊎ (refusal_of Advance s ≡ Some r)
+advance_err s t r e h = core.advance_err s t.state r (ap (λ (u : Stepped). u.state) e) h
+
+-- what is refused at the end of a step
+pub refused_of : (input : Input) (s u : NodeState) (r : Result Changed Refusal) → ((x : Refusal) → (x ≡ TooLarge) × (2 ^ 64 ≤ next_number (settle u)) → refusal_of input s ≡ Some x) → IfErr r (λ e. (e ≡ OutOfMemory) ⊎ ((e ≡ TooLarge) × (2 ^ 64 ≤ next_number (settle u)))) → IfErr r (λ e. (e ≡ OutOfMemory) ⊎ (refusal_of input s ≡ Some e))
+refused_of input s u (Ok c) f h = h
+refused_of input s u (Err e) f (inl m) = inl m
+refused_of input s u (Err e) f (inr l) = inr (f e l)
+
+-- what an input changes can be taken on by the state itself
+pub taken_at : (input : Input) (s t : NodeState) (c : Changed) → s ≡ t → IsStep input s c → CanBeTaken t c
+taken_at input s t c e d = subst (λ (u : NodeState). CanBeTaken u c) e (taken_on input s c d)
+
+pub none_of : (x : Option Refusal) → ((r : Refusal) → x ≡ Some r → ⊥) → x ≡ None
+none_of None h = refl
+none_of (Some r) h = absurd (h r refl)

@@ -17,3 +17,4 @@ pub mod DueLaws
 pub mod OverLemmas
 pub mod PoolLemmas
 pub mod InputSteps
+pub mod TailLemmas

@@ -1,8 +1,9 @@
 -- The lists of a state with what a step adds to them.
-use Rattle.std.proofs.Common.{◌≡◌, ◌+◌, ◌<◌, ℕ, arith, Bool, true, false, eqb, cond, ◌&&◌, ◌||◌, not, List, [], ◌∷◌, ◌++◌, ap, sym, ◌∙◌, refl, Option, Some, None, append-nil, append_assoc, get_or, drop, length, length-append}
+use Rattle.std.proofs.Common.{◌≡◌, ◌+◌, ◌<◌, ℕ, arith, Bool, true, false, eqb, cond, ◌&&◌, ◌||◌, not, List, [], ◌∷◌, ◌++◌, ap, sym, ◌∙◌, refl, Option, Some, None, append-nil, append_assoc, get_or, drop, take, length, length-append}
 use Rattle.std.specs.Prelude.{filter, find}
 use Rattle.std.specs.List.{list_any}
 use Rattle.std.proofs.lemmas.Bool.{ne_eqb, eq-eqb, eqb-true, eqb-false, false≢true}
+use Rattle.std.proofs.lemmas.List.{take_more}
 use Rattle.std.proofs.lemmas.List.Elements.{filter-append}
 use Rattle.std.proofs.lemmas.List.Folds.{list_any-append, find-append}
 use Rattle.rr_types.specs.declared.command.RequestNo.{RequestNo}
@@ -10,7 +11,7 @@ use Rattle.rr_types.specs.declared.command.Command.{Command}
 use Rattle.rr_types.specs.declared.fact.Fact.{Fact}
 use Rattle.rr_types.specs.Registry.{is_same_request, has_request}
 use Rattle.rr_model.specs.NodeState.{NodeState, Row}
-use Rattle.rr_core.specs.Places.{first_free, is_estimate_beside}
+use Rattle.rr_core.specs.Places.{first_free, is_estimate_beside, is_free}
 use Rattle.rr_core.specs.Steps.{Changed, combined, without_requests, AreNew, AreNewRequests}
 use Rattle.rr_core.proofs.SameLemmas.{request_is}
 
@@ -85,14 +86,22 @@ has_both q (x ∷ xs) ys = by (has_both q xs ys) (is_same_request x.request q)
 pub has_in_both : (taken : List RequestNo) (q : RequestNo) (cs ds : List Command) → has_request (without_requests taken (cs ++ ds)) q ≡ ((has_request cs q || has_request ds q) && not (list_any (λ p. is_same_request p q) taken))
 has_in_both taken q cs ds = has_left taken q (cs ++ ds) ∙ ap (λ (b : Bool). b && not (list_any (λ p. is_same_request p q) taken)) (has_both q cs ds)
 
--- a free command of the first commands, or else of the others
-pub free_in_base : (rows : List Row) (is : List ℕ) (i : ℕ) (taken : List RequestNo) (xs ys : List Command) (c : Command) → Some c ≡ first_free rows is i (without_requests taken xs) → Some c ≡ first_free rows is i (without_requests taken (xs ++ ys))
-unfolding first_free
-free_in_base rows is i taken xs ys c e = sym (ap (find (λ c. not (is_estimate_beside rows is i c))) (filter-append _ xs ys) ∙ find-append _ (without_requests taken xs) (without_requests taken ys) ∙ rw (sym e) refl)
+-- the first free command is the first of those that weren't taken
+free_is : (rows : List Row) (is : List ℕ) (i : ℕ) (taken : List RequestNo) (cs : List Command) → first_free rows is i (without_requests taken cs) ≡ find (is_free rows is i taken) cs
+unfolding first_free is_free
+free_is rows is i taken [] = refl
+free_is rows is i taken (c ∷ cs) = by (free_is rows is i taken cs) (list_any (λ q. is_same_request q c.request) taken)
+  where
+    by : find (λ d. not (is_estimate_beside rows is i d)) (without_requests taken cs) ≡ find (is_free rows is i taken) cs → (a : Bool) → find (λ d. not (is_estimate_beside rows is i d)) (cond (not a) (c ∷ without_requests taken cs) (without_requests taken cs)) ≡ cond (not a && not (is_estimate_beside rows is i c)) (Some c) (find (is_free rows is i taken) cs)
+    by more true = more
+    by more false = ap (λ (x : Option Command). cond (not (is_estimate_beside rows is i c)) (Some c) x) more
 
-pub free_in_pooled : (rows : List Row) (is : List ℕ) (i : ℕ) (taken : List RequestNo) (xs ys : List Command) → None ≡ first_free rows is i (without_requests taken xs) → first_free rows is i (without_requests taken (xs ++ ys)) ≡ first_free rows is i (without_requests taken ys)
-unfolding first_free
-free_in_pooled rows is i taken xs ys e = ap (find (λ c. not (is_estimate_beside rows is i c))) (filter-append _ xs ys) ∙ find-append _ (without_requests taken xs) (without_requests taken ys) ∙ rw (sym e) refl
+-- it is one of the first commands, or else of the others
+pub free_in_base : (rows : List Row) (is : List ℕ) (i : ℕ) (taken : List RequestNo) (xs ys : List Command) (c : Command) → Some c ≡ find (is_free rows is i taken) xs → Some c ≡ first_free rows is i (without_requests taken (xs ++ ys))
+free_in_base rows is i taken xs ys c e = sym (free_is rows is i taken (xs ++ ys) ∙ find-append _ xs ys ∙ rw (sym e) refl)
+
+pub free_in_pooled : (rows : List Row) (is : List ℕ) (i : ℕ) (taken : List RequestNo) (xs ys : List Command) (x : Option Command) → None ≡ find (is_free rows is i taken) xs → x ≡ find (is_free rows is i taken) ys → x ≡ first_free rows is i (without_requests taken (xs ++ ys))
+free_in_pooled rows is i taken xs ys x e f = f ∙ sym (free_is rows is i taken (xs ++ ys) ∙ find-append _ xs ys ∙ rw (sym e) refl)
 
 -- one more command is pooled
 pub pooled_last : (taken : List RequestNo) (cs ds : List Command) (c : Command) → list_any (λ p. is_same_request p c.request) taken ≡ false → without_requests taken (cs ++ (ds ++ c ∷ [])) ≡ without_requests taken (cs ++ ds) ++ c ∷ []
@@ -145,3 +154,8 @@ rest_requests before (x ∷ qs) q d l e n = rw e n.1
 pub first_rest : {X : Type 0} (before xs : List X) (x d : X) → 0 < length xs → x ≡ get_or xs 0 d → (before ++ x ∷ []) ++ drop 1 xs ≡ before ++ xs
 first_rest before [] x d l e = absurd (omega arith)
 first_rest before (y ∷ xs) x d l e = append_assoc before (x ∷ []) xs ∙ rw e refl
+
+-- one more request is taken out
+pub taken_step : (taken : List RequestNo) (cs pool after : List Command) (k : ℕ) (d : RequestNo) → k < length taken → pool ≡ without_requests (take k taken) cs → after ≡ filter (λ c. not (is_same_request c.request (get_or taken k d))) pool → after ≡ without_requests (take (k + 1) taken) cs
+taken_step taken cs pool after k d l e f =
+    f ∙ ap (filter (λ c. not (is_same_request c.request (get_or taken k d)))) e ∙ without_one (take k taken) (get_or taken k d) cs ∙ ap (λ (qs : List RequestNo). without_requests qs cs) (sym (take_more taken k d l))

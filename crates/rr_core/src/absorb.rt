@@ -124,7 +124,7 @@ fn arrive(
 }
 
 /// Commands with one of these request numbers leave the pool. It needs no memory.
-#[tactic(auto, using(crate::proofs::PoolLemmas::without_last))]
+#[tactic(auto, using(crate::proofs::PoolLemmas::none_taken))]
 fn take_all(pool: &mut Pool, taken: &[RequestNo])
     ensures { pool.new ≡ without_requests taken.now pool.old }
 {

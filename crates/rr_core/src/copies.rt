@@ -40,7 +40,6 @@ fn promised_rows(alloc: Global, next: u64, entries: &[Entry]) -> Result<Vec<Row>
 
 impl State {
     /// A node that knows what its facts promise, of which there are `next`, and nothing else.
-    #[tactic(auto, using(crate::proofs::OverLemmas::promised_ascend))]
     pub fn restored(
         alloc: Global,
         nodes: Nodes,

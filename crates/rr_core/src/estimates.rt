@@ -1,8 +1,7 @@
 //! Estimates: of open instances, and the one with which an instance enters a round.
 
-ghost use Rattle.std.specs.Prelude.{◌≡◌};
-ghost use Rattle.rr_core.specs.Places.{is_estimate_of, is_estimate_beside, first_free};
-ghost use Rattle.rr_core.specs.Steps.{without_requests};
+ghost use Rattle.std.specs.Prelude.{◌≡◌, find};
+ghost use Rattle.rr_core.specs.Places.{is_estimate_of, is_estimate_beside, is_free};
 
 use crate::known::is_among;
 use crate::step::Step;
@@ -41,45 +40,53 @@ pub fn is_estimate_beside(
     false
 }
 
-/// The first command that is no estimate of one of these instances but one, and has none of the request numbers
-/// that were taken.
-#[tactic(auto, unfolding(crate::specs::Places::first_free))]
+/// Whether a command has none of the request numbers that were taken, and is no estimate of one of these instances
+/// but one.
+#[tactic(auto, unfolding(crate::specs::Places::is_free))]
+fn is_free(
+    step: &Step<'_>,
+    instances: &[Instance],
+    instance: Instance,
+    taken: &[RequestNo],
+    command: &Command,
+) -> bool
+    ensures { result ≡ is_free step.now.state.rows instances.now instance taken.now command.now }
+{
+    !is_among(taken, command.request) && !is_estimate_beside(step, instances, instance, command)
+}
+
+/// The first free command of these.
 pub fn first_free_of(
     step: &Step<'_>,
     instances: &[Instance],
     instance: Instance,
-    pool: &[Command],
     taken: &[RequestNo],
+    pool: &[Command],
 ) -> Option<Command>
-    ensures { result ≡ first_free step.now.state.rows instances.now instance (without_requests taken.now pool.now) }
+    ensures { result ≡ find (is_free step.now.state.rows instances.now instance taken.now) pool.now }
 {
     for command in pool {
-        if !is_among(taken, command.request)
-            && !is_estimate_beside(step, instances, instance, command)
-        {
+        if is_free(step, instances, instance, taken, command) {
             return Some(*command);
         }
     }
     None
 }
 
-/// The same of the pool's commands.
-#[tactic(auto, unfolding(crate::specs::Places::first_free))]
+/// The first free command of the pool.
 pub fn first_free_in(
     step: &Step<'_>,
     instances: &[Instance],
     instance: Instance,
-    pool: Values<'_, Command>,
     taken: &[RequestNo],
+    pool: Values<'_, Command>,
 ) -> Option<Command>
-    ensures { result ≡ first_free step.now.state.rows instances.now instance (without_requests taken.now pool.entry) }
+    ensures { result ≡ find (is_free step.now.state.rows instances.now instance taken.now) pool.entry }
 {
     let mut left = pool;
     while let Some(command) = left.next() {
         let command = &command;
-        if !is_among(taken, command.request)
-            && !is_estimate_beside(step, instances, instance, command)
-        {
+        if is_free(step, instances, instance, taken, command) {
             return Some(*command);
         }
     }

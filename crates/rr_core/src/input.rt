@@ -222,7 +222,7 @@ impl<'a> Step<'a> {
         }
     }
 
-    #[tactic(auto, using(crate::proofs::InputLemmas::undecided_first), unfolding(rr_model::specs::NodeStep::heard_body))]
+    #[tactic(auto, using(crate::proofs::InputLemmas::undecided_first, crate::proofs::InputLemmas::pooled_undecided), unfolding(rr_model::specs::NodeStep::heard_body))]
     fn hear_estimate(
         &mut self,
         alloc: Global,
@@ -256,7 +256,7 @@ impl<'a> Step<'a> {
         }
     }
 
-    #[tactic(auto, using(crate::proofs::InputLemmas::undecided_first), unfolding(rr_model::specs::NodeStep::heard_body))]
+    #[tactic(auto, using(crate::proofs::InputLemmas::undecided_first, crate::proofs::InputLemmas::pooled_undecided), unfolding(rr_model::specs::NodeStep::heard_body))]
     fn hear_proposal(
         &mut self,
         alloc: Global,

@@ -77,7 +77,7 @@ impl State {
     }
 
     /// What a client's command changes. `is_held`: whether the decided prefix has its request number.
-    #[tactic(auto, using(crate::proofs::InputSteps::submit_is_step, crate::proofs::InputSteps::submit_large, crate::proofs::CoreLemmas::submit_refused))]
+    #[tactic(auto, using(crate::proofs::InputSteps::submit_is_step, crate::proofs::InputSteps::submit_large, crate::proofs::InputSteps::submit_err))]
     pub fn submit_step(
         &self,
         alloc: Global,
@@ -137,7 +137,7 @@ impl State {
     }
 
     /// What an advance changes.
-    #[tactic(auto, using(crate::proofs::InputSteps::advance_is_step, crate::proofs::InputSteps::advance_large, crate::proofs::CoreLemmas::advance_refused))]
+    #[tactic(auto, using(crate::proofs::InputSteps::advance_is_step, crate::proofs::InputSteps::advance_large, crate::proofs::InputSteps::advance_err))]
     pub fn advance_step(&self, alloc: Global) -> Result<Changes, Refusal>
         ensures ok { IfOk result (λ c. IsStep Advance self.now c) }
         ensures refused { IfErr result (λ e. (e ≡ Refusal.OutOfMemory) ⊎ (refusal_of Advance self.now ≡ Some e)) }

@@ -48,7 +48,6 @@ fn find_answered(waiting: &Waiting, registry: &Registry) -> Option<(RequestNo, R
 }
 
 /// Takes the oldest request that has a reply. It needs no memory.
-#[tactic(auto, using(crate::proofs::LeavingLemmas::found_left))]
 fn take_answered(waiting: &mut Waiting, registry: &Registry) -> Option<(RequestNo, Reply)>
     ensures { MatchOption result
         ((find (λ q. is_some (kept_reply registry.now q)) waiting.old ≡ None) × (waiting.new ≡ waiting.old))

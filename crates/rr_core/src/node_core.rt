@@ -95,7 +95,7 @@ impl Core {
 
     /// A client asks for a command. It is `ListFull` where the command is new and all instances are decided
     /// here, and `TooLarge` where a fact would have no number.
-    #[tactic(auto, using(crate::proofs::InputSteps::held, crate::proofs::InputSteps::taken_on))]
+    #[tactic(auto, using(crate::proofs::InputSteps::held))]
     pub fn submit(&mut self, command: Command) -> Result<(), Refusal>
         ensures ok { OnOk result (self.new ≡ node_step (Submit command) self.old) }
         ensures allowed { OnOk result (refusal_of (Submit command) self.old ≡ None) }
@@ -110,7 +110,6 @@ impl Core {
     }
 
     /// A message comes. It is `TooLarge` where a fact would have no number.
-    #[tactic(auto, using(crate::proofs::InputSteps::taken_on))]
     pub fn hear(&mut self, message: &Message) -> Result<(), Refusal>
         ensures ok { OnOk result (self.new ≡ node_step (Hear message.now) self.old) }
         ensures allowed { OnOk result (refusal_of (Hear message.now) self.old ≡ None) }
@@ -124,7 +123,6 @@ impl Core {
     }
 
     /// The suspects are set. It is `TooLarge` where a fact would have no number.
-    #[tactic(auto, using(crate::proofs::InputSteps::taken_on))]
     pub fn suspect(&mut self, suspects: NodeSet) -> Result<(), Refusal>
         ensures ok { OnOk result (self.new ≡ node_step (Suspect suspects) self.old) }
         ensures allowed { OnOk result (refusal_of (Suspect suspects) self.old ≡ None) }
@@ -139,7 +137,6 @@ impl Core {
 
     /// A tick: the heartbeat detector ticks, and the node restates where it stands. It is `TooLarge` where a
     /// fact would have no number.
-    #[tactic(auto, using(crate::proofs::InputSteps::taken_on))]
     pub fn tick(&mut self) -> Result<(), Refusal>
         ensures ok { OnOk result (self.new ≡ node_step Tick self.old) }
         ensures allowed { OnOk result (refusal_of Tick self.old ≡ None) }
@@ -154,7 +151,6 @@ impl Core {
 
     /// The lowest open instance that has a round enters the next one. It is `RoundsOut` where that is the last
     /// round already, and `TooLarge` where a fact would have no number.
-    #[tactic(auto, using(crate::proofs::InputSteps::taken_on))]
     pub fn advance(&mut self) -> Result<(), Refusal>
         ensures ok { OnOk result (self.new ≡ node_step Advance self.old) }
         ensures allowed { OnOk result (refusal_of Advance self.old ≡ None) }

@@ -83,7 +83,7 @@ impl<'a> Step<'a> {
     }
 
     /// The instance enters a round above its own, with its estimate, a free command of the pool or the one heard.
-    #[tactic(auto, unfolding(rr_model::specs::NodeParts::enter))]
+    #[tactic(auto, using(crate::proofs::InputLemmas::left_undecided), unfolding(rr_model::specs::NodeParts::enter))]
     pub fn enter(
         &mut self,
         alloc: Global,

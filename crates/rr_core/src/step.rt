@@ -278,9 +278,10 @@ impl<'a> Step<'a> {
         ensures { result ≡ first_free self.now.state.rows instances.now instance self.now.state.pool }
     {
         let base = self.base;
-        match estimates::first_free_in(self, instances, instance, base.pool.iter(), &self.taken) {
+        let taken = self.taken.as_slice();
+        match estimates::first_free_in(self, instances, instance, taken, base.pool.iter()) {
             Some(command) => Some(command),
-            None => estimates::first_free_of(self, instances, instance, &self.pooled, &self.taken),
+            None => estimates::first_free_of(self, instances, instance, taken, &self.pooled),
         }
     }
 

@@ -1,0 +1,6 @@
+use Rattle.rr_model.specs.NodeStep.{Submit}
+use Rattle.rr_core.proofs.InputSteps.{taken_at}
+use Rattle.rr_core.proofs.node_core.Core.submit.Goals as goal
+
+pub commit-requires : goal.commit-requires
+commit-requires c = taken_at (Submit c.args.command) c.self.inside.state c.args.self.now c.in-Ok.changes c.self.view_is c.in-Ok.ensures.ok
