@@ -204,6 +204,7 @@ undecided_skips over (r ∷ rs) from a h = by (λ i. undecided_skips over rs i a
     or_right : (x y : Bool) → y ≡ true → (x || y) ≡ true
     or_right true y e = refl
     or_right false y e = e
+
     by : ((i : ℕ) → undecided_from (undecided_from i rs) over ≡ undecided_from i over) → (x y z : Bool) → ltb r.instance from ≡ x → eqb r.instance from ≡ y → is_decided r ≡ z → undecided_from (undecided_from from (r ∷ rs)) over ≡ undecided_from from over
     by more true y z p q s = rw p (more from)
     by more false true true p q s =
@@ -248,6 +249,7 @@ lowest_open rows from j a e = by (is_decided_at j rows) refl
         more f g true y = f
         more f g false true = omega arith
         more f g false false = omega arith
+
     by : (b : Bool) → is_decided_at j rows ≡ b → is_decided_at j rows ≡ false
     by false h = h
     by true h =
@@ -316,6 +318,7 @@ decides k i v rows = by (row_of rows i) refl
   where
     itself : is_same_request v.request v.request ≡ true
     itself = let a : eqb v.request.client v.request.client ≡ true = eq-eqb _ _ refl in let b : eqb v.request.seq v.request.seq ≡ true = eq-eqb _ _ refl in rw (a, b) refl
+
     there : (r : Row) (os : List Row) → has_decided v.request r ≡ true → list_any (has_decided v.request) (put_row r os) ≡ true
     there r [] h = rw h refl
     there r (o ∷ os) h = more (there r os h) (ltb r.instance o.instance) (eqb r.instance o.instance)
@@ -328,6 +331,7 @@ decides k i v rows = by (row_of rows i) refl
             ends : (a : Bool) → (a || true) ≡ true
             ends true = refl
             ends false = refl
+
     by : (x : Option Row) → row_of rows i ≡ x → list_any (has_decided v.request) (rows_after k (Decide i v) rows) ≡ true
     by None g = rw g (there _ rows itself)
     by (Some o) g = rw g (there _ rows itself)

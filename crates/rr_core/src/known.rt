@@ -8,8 +8,8 @@ ghost use Rattle.rr_model.specs.NodeStep.{is_waiting};
 ghost use Rattle.rr_core.specs.Steps.{RowsAscendFrom};
 
 use crate::state::State;
-use rr_instance::Row;
 use crate::{over, rows};
+use rr_instance::Row;
 use rr_types::{Instance, RequestNo};
 
 impl State {

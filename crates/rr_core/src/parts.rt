@@ -10,9 +10,7 @@ ghost use Rattle.rr_core.specs.Steps.{stepped};
 
 use crate::step::Step;
 use rr_instance::{entered, with_adopted, with_proposal};
-use rr_types::{
-    Body, Command, Estimate, Fact, Instance, Refusal, Round, Standing,
-};
+use rr_types::{Body, Command, Estimate, Fact, Instance, Refusal, Round, Standing};
 use std::alloc::Global;
 
 impl<'a> Step<'a> {

@@ -19,8 +19,7 @@ use rr_instance::{Backing, Row, instance_of};
 use rr_mark::Owed;
 use rr_suspect::Suspects;
 use rr_types::{
-    Body, Command, Fact, Instance, NodeId, NodeSet, Nodes, Op, Refusal, RequestNo, Standing,
-    WINDOW,
+    Body, Command, Fact, Instance, NodeId, NodeSet, Nodes, Op, Refusal, RequestNo, Standing, WINDOW,
 };
 use std::alloc::Global;
 use std::marker::Model;
@@ -76,16 +75,19 @@ impl<'a> Model for Step<'a> {
 
     ghost Value = { Stepped };
 
-    ghost view = { λ s. record { base = s.base.now; state = combined s.base.now (record {
-      rows = s.rows.items;
-      staged = s.staged.items;
-      taken = s.taken.items;
-      pooled = s.pooled.items;
-      suspects = s.suspects;
-      watches = s.heartbeat;
-      waiting = s.waiting.items;
-      owed = s.owed.items;
-    }) } };
+    ghost view = { λ s. record {
+      base = s.base.now;
+      state = combined s.base.now (record {
+        rows = s.rows.items;
+        staged = s.staged.items;
+        taken = s.taken.items;
+        pooled = s.pooled.items;
+        suspects = s.suspects;
+        watches = s.heartbeat;
+        waiting = s.waiting.items;
+        owed = s.owed.items;
+      });
+    } };
 
     ghost invariant = { λ s. IsFitting s.base.now (record {
       rows = s.rows.items;
@@ -363,11 +365,7 @@ impl<'a> Step<'a> {
 
     /// The row of a fact's instance is changed by it, where the instance then stands so.
     #[tactic(auto, using(crate::proofs::OverLemmas::after_keeps, crate::proofs::OverLemmas::rows_put, crate::proofs::OverLemmas::rows_stay))]
-    fn put_row_after(
-        &mut self,
-        fact: &Fact,
-        standing: Option<Standing>,
-    ) -> Result<(), Refusal>
+    fn put_row_after(&mut self, fact: &Fact, standing: Option<Standing>) -> Result<(), Refusal>
         requires after { standing ≡ after_fact (standing_at self.old.state (instance_of fact.now)) fact.now }
         requires keeps { KeepsStanding (standing_at self.old.state (instance_of fact.now)) standing }
         ensures ok { OnOk result (self.new ≡ stepped (λ s. record s { rows = rows_after (next_number s) fact.now s.rows }) self.old) }
