@@ -1,9 +1,12 @@
 use Rattle.std.proofs.Common.{◌≡◌, ◌≢◌, ◌+◌, ◌<◌, ◌≤◌, ℕ, arith, Bool, true, false, ltb, eqb, ◌&&◌, ◌||◌, ◌++◌, if◌then◌else◌, not, cond, List, [], ◌∷◌, refl, sym, ap, ◌∙◌, Option, Some, None, option_map}
 use Rattle.std.proofs.lemmas.Bool.{ltb-true, ltb-false, lt-ltb, le-ltb, ne_eqb, eq-eqb, eqb-true, eqb-false, false≢true}
 use Rattle.rr_types.specs.declared.message.Body.{Body}
-use Rattle.rr_types.specs.Standings.{is_undecided}
+use Rattle.rr_types.specs.Standings.{is_undecided, round_of, stamp_of}
 use Rattle.rr_model.specs.NodeState.{NodeState, Row, everyone, others, is_decided_request, row_of, is_decided, undecided_from, first_undecided, standing_at}
-use Rattle.rr_model.specs.NodeParts.{owe, pool_add}
+use Rattle.rr_types.specs.declared.message.Body.TheVariants.{Nack}
+use Rattle.rr_types.specs.Rounds.{coordinator_of}
+use Rattle.rr_core.specs.Steps.{Stepped, stepped}
+use Rattle.rr_model.specs.NodeParts.{owe, pool_add, leave_round}
 use Rattle.rr_model.specs.NodeStep.{wait_for, is_waiting}
 use Rattle.rr_types.specs.declared.command.Command.{Command}
 use Rattle.rr_types.specs.declared.command.RequestNo.{RequestNo}
@@ -59,3 +62,20 @@ undecided_below i j (r ∷ rs) l u = undecided_by i j r rs (λ k m v. undecided_
 
 pub undecided_first : (s : NodeState) (i : ℕ) → is_undecided (standing_at s i) ≡ true → i < 1048576 → first_undecided s < 1048576
 undecided_first s i u l = let m : first_undecided s ≤ i = undecided_below i 0 s.rows (omega arith) u in omega arith
+
+-- a round that is left, and a command that is pooled, leave the standings alone
+pub left_undecided : (i : ℕ) (s t : Stepped) → t ≡ stepped (leave_round i) s → is_undecided (standing_at s.state i) ≡ true → is_undecided (standing_at t.state i) ≡ true
+unfolding owe
+left_undecided i s t e u = ap (λ (w : Stepped). is_undecided (standing_at w.state i)) e ∙ by (ltb (stamp_of (standing_at s.state i)) (round_of (standing_at s.state i)) && not (eqb (coordinator_of (round_of (standing_at s.state i)) s.state.nodes) s.state.node))
+  where
+    by : (b : Bool) → is_undecided (standing_at (cond b (owe (Nack i (round_of (standing_at s.state i))) None (coordinator_of (round_of (standing_at s.state i)) s.state.nodes ∷ []) s.state) s.state) i) ≡ true
+    by true = u
+    by false = u
+
+pub pooled_undecided : (c : Command) (i : ℕ) (s t : Stepped) → t ≡ stepped (pool_add c) s → is_undecided (standing_at s.state i) ≡ true → is_undecided (standing_at t.state i) ≡ true
+unfolding pool_add
+pooled_undecided c i s t e u = ap (λ (w : Stepped). is_undecided (standing_at w.state i)) e ∙ by (has_request s.state.pool c.request || is_decided_request s.state c.request)
+  where
+    by : (b : Bool) → is_undecided (standing_at (cond b s.state (record s.state { pool = s.state.pool ++ c ∷ [] })) i) ≡ true
+    by true = u
+    by false = u

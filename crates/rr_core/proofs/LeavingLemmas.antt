@@ -1,4 +1,4 @@
-use Rattle.std.proofs.Common.{◌≡◌, ◌+◌, ◌<◌, ◌≤◌, ℕ, suc, arith, Bool, true, false, cond, List, [], ◌∷◌, ◌++◌, length, get_or, take, drop, ap, sym, ◌∙◌, refl, append_assoc, Option, Some, None}
+use Rattle.std.proofs.Common.{◌≡◌, ◌+◌, ◌<◌, ◌≤◌, ℕ, suc, arith, Bool, true, false, cond, eqb, List, [], ◌∷◌, ◌++◌, length, get_or, take, drop, ap, sym, ◌∙◌, refl, append_assoc, Option, Some, None}
 use Rattle.std.specs.Prelude.{find}
 use Rattle.std.specs.List.{remove}
 use Rattle.std.proofs.lemmas.List.{drop_all, drop_more, take_more}
@@ -7,7 +7,11 @@ use Rattle.rr_types.specs.declared.command.RequestNo.{RequestNo}
 use Rattle.rr_types.specs.Registry.{has_request}
 use Rattle.rr_model.specs.NodeState.{Owed}
 use Rattle.rr_model.specs.NodeStep.{may_leave, without_first_leaving, without_first_held}
+use Rattle.rr_types.specs.Registry.{is_same_request}
+use Rattle.std.proofs.lemmas.Bool.{eq-eqb, false≢true}
+use Rattle.rr_list.specs.Arrived as listed
 use Rattle.rr_core.specs.Firsts.{without_first}
+use Rattle.rr_core.proofs.SameLemmas.{request_is}
 
 module _ {X : Type 0} (p : X → Bool) where
   at_place : (xs : List X) (k : ℕ) (x : X) → k < length xs → x ≡ get_or xs k x → drop k xs ≡ x ∷ drop (k + 1) xs
@@ -49,3 +53,25 @@ without_leaving m (o ∷ os) = ap (λ (r : List Owed). cond (may_leave m o) os (
 pub without_held : (held : List Command) (p : RequestNo → Bool) (qs : List RequestNo) → ((q : RequestNo) → p q ≡ has_request held q) → without_first p qs ≡ without_first_held held qs
 without_held held p [] h = refl
 without_held held p (q ∷ qs) h = rw (h q, without_held held p qs h) refl
+
+-- the request that was found is the first of its number
+pub found_left : (p : RequestNo → Bool) (qs : List RequestNo) (q : RequestNo) → find p qs ≡ Some q → listed.without_first (λ w. is_same_request w q) qs ≡ without_first p qs
+found_left p [] q h = refl
+found_left p (w ∷ qs) q h = by (found_left p qs q) (p w) (is_same_request w q) refl refl h
+  where
+    by : (find p qs ≡ Some q → listed.without_first (λ w. is_same_request w q) qs ≡ without_first p qs) → (a b : Bool) → p w ≡ a → is_same_request w q ≡ b → cond a (Some w) (find p qs) ≡ Some q → listed.without_first (λ w. is_same_request w q) (w ∷ qs) ≡ without_first p (w ∷ qs)
+    by more true true e f g = rw (e, f) refl
+    by more true false e f g = absurd (false≢true (sym f ∙ itself w q (cc)))
+      where
+        itself : (v u : RequestNo) → v ≡ u → is_same_request v u ≡ true
+        itself v u s = let a : eqb v.client u.client ≡ true = eq-eqb _ _ (ap (λ (x : RequestNo). x.client) s) in let b : eqb v.seq u.seq ≡ true = eq-eqb _ _ (ap (λ (x : RequestNo). x.seq) s) in rw (a, b) refl
+    by more false true e f g = absurd (false≢true (sym e ∙ ap p (request_is w q f) ∙ passes qs g))
+      where
+        passes : (vs : List RequestNo) → find p vs ≡ Some q → p q ≡ true
+        passes [] k = absurd (cc)
+        passes (v ∷ vs) k = on (passes vs) (p v) refl k
+          where
+            on : (find p vs ≡ Some q → p q ≡ true) → (c : Bool) → p v ≡ c → cond c (Some v) (find p vs) ≡ Some q → p q ≡ true
+            on rest true i j = (let same : v ≡ q = cc in ap p (sym same) ∙ i)
+            on rest false i j = rest j
+    by more false false e f g = rw (e, f) (ap (λ (r : List RequestNo). w ∷ r) (more g))

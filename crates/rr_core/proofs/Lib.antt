@@ -14,3 +14,7 @@ pub mod MarkLemmas
 pub mod QuietLaws
 pub mod PartLaws
 pub mod DueLaws
+pub mod OverLemmas
+pub mod PoolLemmas
+pub mod InputSteps
+pub mod TailLemmas

@@ -200,7 +200,7 @@ reply_has cs q = reply_after_has [] (firsts cs) q ∙ firsts_have [] cs q refl
 pub replied : (s : NodeState) (k : Kept) (q : RequestNo) → IsKept s k → kept_reply k q ≡ reply_of (decided_prefix s) q
 replied s k q kept = ap (λ (j : Kept). kept_reply j q) kept.kept ∙ reply-kept_of (decided_prefix s) q
 
-replied_where : (s : NodeState) (k : Kept) → IsKept s k → (q : RequestNo) → is_some (kept_reply k q) ≡ has_request (decided_prefix s) q
+pub replied_where : (s : NodeState) (k : Kept) → IsKept s k → (q : RequestNo) → is_some (kept_reply k q) ≡ has_request (decided_prefix s) q
 replied_where s k kept q = ap is_some (replied s k q kept) ∙ reply_has (decided_prefix s) q
 
 pub answered : (s : NodeState) (k : Kept) → IsKept s k → find (λ q. is_some (kept_reply k q)) s.waiting ≡ next_acknowledged s

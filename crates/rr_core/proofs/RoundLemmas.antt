@@ -8,6 +8,7 @@ use Rattle.rr_types.specs.declared.promise.Standing.TheVariants.{Open}
 use Rattle.rr_types.specs.Rounds.{OpenAt}
 use Rattle.rr_model.specs.NodeState.{NodeState, Row, everyone, others, next_number, standing_at, open_instances}
 use Rattle.rr_model.specs.NodeParts.{owe, stage, conclude, propose, restate, backing_at, free_command}
+use Rattle.rr_core.specs.Steps.{Stepped, stepped}
 use Rattle.rr_core.specs.Places.{first_free, is_estimate_beside, is_estimate_of, owe_coordinator}
 
 pub first_free_is : (s : NodeState) (i : ℕ) → first_free s.rows (open_instances s) i s.pool ≡ free_command s i
@@ -17,11 +18,11 @@ first_free_is s i = refl
 pub first_free_from : (s : NodeState) (i : ℕ) (rows : List Row) (instances : List ℕ) (pool : List Command) (x : Option Command) → rows ≡ s.rows → instances ≡ open_instances s → pool ≡ s.pool → x ≡ first_free rows instances i pool → x ≡ free_command s i
 first_free_from s i rows instances pool x e f g h = let k = first_free_is s i in cc
 
-pub conclude_from : (i : ℕ) (v : Command) (s t u : NodeState) (k : ℕ) → k ≡ next_number s → t ≡ stage (Decide i v) s → u ≡ owe (say.Decision i v) (Some k) (others t) t → u ≡ conclude i v s
+pub conclude_from : (i : ℕ) (v : Command) (s t u : Stepped) (k : ℕ) → k ≡ next_number s.state → t ≡ stepped (stage (Decide i v)) s → u ≡ stepped (λ w. owe (say.Decision i v) (Some k) (others w) w) t → u ≡ stepped (conclude i v) s
 unfolding conclude stage
 conclude_from i v s t u k n e f = f ∙ rw (e, n) refl
 
-pub propose_from : (i r : ℕ) (v : Command) (s t u : NodeState) (k : ℕ) → k ≡ next_number s → t ≡ stage (Propose i r v) s → u ≡ owe (say.Proposal i r v) (Some k) (everyone t) t → u ≡ propose i r v s
+pub propose_from : (i r : ℕ) (v : Command) (s t u : Stepped) (k : ℕ) → k ≡ next_number s.state → t ≡ stepped (stage (Propose i r v)) s → u ≡ stepped (λ w. owe (say.Proposal i r v) (Some k) (everyone w) w) t → u ≡ stepped (propose i r v) s
 unfolding propose stage
 propose_from i r v s t u k n e f = f ∙ rw (e, n) refl
 
@@ -43,5 +44,7 @@ unfolding restate owe_coordinator
 restate_is i o v s h n = rw (h, n) refl
 
 -- and one with a proposal
-pub restate_proposing : (i : ℕ) (o : OpenAt) (v : Command) (s t u : NodeState) (r k : ℕ) → standing_at s i ≡ Some (Open o) → Some v ≡ o.proposal → r ≡ o.round → k ≡ backing_at (λ b. b.proposed) s i → t ≡ owe_coordinator i o s → u ≡ owe (say.Proposal i r v) (Some k) (everyone t) t → u ≡ restate i s
-restate_proposing i o v s t u r k h n a b e f = f ∙ rw (e, b, a) (ap (λ m. owe (say.Proposal i o.round v) (Some (backing_at (λ b. b.proposed) s i)) (range_with_len 0 m) (owe_coordinator i o s)) (coordinator_nodes i o s) ∙ sym (restate_is i o v s h (sym n)))
+pub restate_proposing : (i : ℕ) (o : OpenAt) (v : Command) (s t u : Stepped) (r k : ℕ) → standing_at s.state i ≡ Some (Open o) → Some v ≡ o.proposal → r ≡ o.round → k ≡ backing_at (λ b. b.proposed) s.state i → t ≡ stepped (owe_coordinator i o) s → u ≡ stepped (λ w. owe (say.Proposal i r v) (Some k) (everyone w) w) t → u ≡ stepped (restate i) s
+restate_proposing i o v s t u r k h n a b e f =
+    let is : owe (say.Proposal i r v) (Some k) (everyone (owe_coordinator i o s.state)) (owe_coordinator i o s.state) ≡ restate i s.state = rw (b, a) (ap (λ m. owe (say.Proposal i o.round v) (Some (backing_at (λ b. b.proposed) s.state i)) (range_with_len 0 m) (owe_coordinator i o s.state)) (coordinator_nodes i o s.state) ∙ sym (restate_is i o v s.state h (sym n))) in
+    f ∙ rw e (ap (λ (w : NodeState). record { base = s.base; state = w }) is)

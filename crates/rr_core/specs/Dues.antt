@@ -1,5 +1,5 @@
-use Rattle.std.specs.Prelude.{◌≡◌, ℕ, ◌<◌}
-use Rattle.rr_types.specs.Standings.{round_of}
+use Rattle.std.specs.Prelude.{◌≡◌, ℕ, ◌<◌, true}
+use Rattle.rr_types.specs.Standings.{round_of, is_undecided}
 use Rattle.rr_model.specs.NodeState.{NodeState, standing_at}
 use Rattle.rr_model.specs.NodeDue as model
 use Rattle.rr_core.specs.declared.due.Due.{Due}
@@ -19,9 +19,9 @@ MovesBelowLast r (Offer i q v) = Unit {0}
 MovesBelowLast r (Conclude i v) = Unit {0}
 MovesBelowLast r (MoveOn i) = r < 2147483647
 
--- an instance that begins has no round, and one that moves on isn't in the last
+-- an instance that begins has no round, and one that moves on isn't in the last. None of them is decided
 abbrev pub CanBeCarriedOut : NodeState → Due → Type 0
-CanBeCarriedOut s (Begin i) = round_of (standing_at s i) ≡ 0
+CanBeCarriedOut s (Begin i) = (round_of (standing_at s i) ≡ 0) × (is_undecided (standing_at s i) ≡ true)
 CanBeCarriedOut s (Offer i r v) = Unit {0}
-CanBeCarriedOut s (Conclude i v) = Unit {0}
-CanBeCarriedOut s (MoveOn i) = round_of (standing_at s i) < 2147483647
+CanBeCarriedOut s (Conclude i v) = is_undecided (standing_at s i) ≡ true
+CanBeCarriedOut s (MoveOn i) = (round_of (standing_at s i) < 2147483647) × (is_undecided (standing_at s i) ≡ true)

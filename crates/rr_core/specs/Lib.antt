@@ -6,3 +6,4 @@ pub mod Rounds
 pub mod Lawful
 pub mod Kept
 pub mod Firsts
+pub mod Steps

@@ -1,7 +1,9 @@
 use Rattle.std.specs.Prelude.{ℕ, if◌then◌else◌, Some, [], ◌∷◌, Bool, false, not, ◌&&◌, ◌==◌, nat_lt, List, filter, find, Option, option_map}
 use Rattle.std.specs.Option.{option_map_or}
 use Rattle.std.specs.List.{list_any, prefix_len, slice_get, range_with_len}
+use Rattle.rr_types.specs.declared.command.RequestNo.{RequestNo}
 use Rattle.rr_types.specs.declared.command.Command.{Command}
+use Rattle.rr_types.specs.Registry.{is_same_request}
 use Rattle.rr_types.specs.declared.message.Body.{Body}
 use Rattle.rr_types.specs.declared.message.Body.TheVariants as say
 use Rattle.rr_types.specs.Rounds.{OpenAt, coordinator_of}
@@ -44,3 +46,7 @@ owe_coordinator i o s =
     if nat_lt o.stamp o.round
     then owe (say.Estimate i (record { round = o.round; stamp = o.stamp; command = o.estimate })) (Some (backing_at (λ b. b.entered) s i)) (coordinator_of o.round s.nodes ∷ []) s
     else owe (say.Ack i o.round) (Some (backing_at (λ b. b.adopted) s i)) (coordinator_of o.round s.nodes ∷ []) s
+
+-- whether a command has none of the request numbers that were taken, and is no estimate of one of these instances but i
+unfoldable pub is_free : List Row → List ℕ → ℕ → List RequestNo → Command → Bool
+is_free rows instances i taken c = not (list_any (λ q. is_same_request q c.request) taken) && not (is_estimate_beside rows instances i c)

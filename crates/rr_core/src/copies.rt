@@ -1,4 +1,4 @@
-//! Whole states: a copy of one, and the one that a promise restores.
+//! The state that a promise restores, and a copy of rows.
 
 ghost use Rattle.std.specs.Prelude.{◌≡◌, map, IfOk, IfErr};
 ghost use Rattle.rr_model.specs.NodeStep.{promised_row, restored};
@@ -7,12 +7,13 @@ use crate::state::State;
 use crate::unmarked::Unmarked;
 use rr_heartbeat::Heartbeat;
 use rr_instance::Row;
+use rr_list::{Pool, Waiting};
 use rr_suspect::Suspects;
 use rr_types::{Entry, NodeId, NodeSet, Nodes, Promise, Refusal};
 use std::alloc::Global;
 
 /// A copy of rows.
-fn clone_rows(alloc: Global, rows: &[Row]) -> Result<Vec<Row>, Refusal>
+pub fn clone_rows(alloc: Global, rows: &[Row]) -> Result<Vec<Row>, Refusal>
     ensures ok { IfOk result (λ v. v.items ≡ rows.now) }
     ensures err { IfErr result (λ e. e ≡ Refusal.OutOfMemory) }
 {
@@ -38,32 +39,6 @@ fn promised_rows(alloc: Global, next: u64, entries: &[Entry]) -> Result<Vec<Row>
 }
 
 impl State {
-    /// A copy of this state.
-    pub fn try_clone(&self, alloc: Global) -> Result<State, Refusal>
-        ensures ok { IfOk result (λ s. s ≡ self.now) }
-        ensures err { IfErr result (λ e. e ≡ Refusal.OutOfMemory) }
-    {
-        let rows = clone_rows(alloc, &self.rows)?;
-        let marked = Vec::from_slice(alloc, self.marked.as_slice())?;
-        let unmarked = self.unmarked.try_clone(alloc)?;
-        let pool = Vec::from_slice(alloc, self.pool.as_slice())?;
-        let waiting = Vec::from_slice(alloc, self.waiting.as_slice())?;
-        let owed = Vec::from_slice(alloc, self.owed.as_slice())?;
-        Ok(State {
-            nodes: self.nodes,
-            node: self.node,
-            rows,
-            marked,
-            marked_end: self.marked_end,
-            unmarked,
-            pool,
-            suspects: self.suspects,
-            heartbeat: self.heartbeat,
-            waiting,
-            owed,
-        })
-    }
-
     /// A node that knows what its facts promise, of which there are `next`, and nothing else.
     pub fn restored(
         alloc: Global,
@@ -84,10 +59,10 @@ impl State {
             marked,
             marked_end: next,
             unmarked: Unmarked::new(alloc),
-            pool: Vec::new(alloc),
+            pool: Pool::new(alloc),
             suspects: Suspects::new(NodeSet::empty()),
             heartbeat: Heartbeat::new(nodes),
-            waiting: Vec::new(alloc),
+            waiting: Waiting::new(alloc),
             owed: Vec::new(alloc),
         })
     }

@@ -1,36 +1,26 @@
 //! What each input does at once, and the node's step: what the input does, and then all that is due.
 
-ghost use Rattle.std.specs.Prelude.{◌≡◌, ◌<◌, ◌&&◌, not, [], ◌∷◌, None, Some, IfErr, OnOk, if◌then◌else◌, ◌⊎◌};
+ghost use Rattle.std.specs.Prelude.{◌≡◌, ◌<◌, ◌&&◌, true, not, [], ◌∷◌, None, Some, IfErr, OnOk, if◌then◌else◌, ◌⊎◌};
 ghost use Rattle.std.specs.Option.{option_map_or};
 ghost use Rattle.rr_types.specs.declared.message.Body.TheVariants as say;
 ghost use Rattle.rr_types.specs.Standings.{round_of, stamp_of, proposal_of, is_undecided};
 ghost use Rattle.rr_types.specs.Facts.{decision_of};
-ghost use Rattle.rr_model.specs.NodeState.{standing_at, first_undecided, others, is_open};
+ghost use Rattle.rr_types.specs.Registry.{has_request};
+ghost use Rattle.rr_model.specs.NodeState.{standing_at, first_undecided, others, is_open, decided_prefix};
 ghost use Rattle.rr_model.specs.NodeParts.{backing_at};
 ghost use Rattle.rr_model.specs.NodeStep.{wait_for, submitted, submit_refusal, is_list_full, is_behind, ask, ticked_on, advanced, advance_refusal, catch_up, acknowledge, take_proposal, take_estimate, answer, heard_body, heard};
+ghost use Rattle.rr_core.specs.Steps.{stepped};
 
-use crate::state::State;
+use crate::step::Step;
 use rr_types::{
     Body, Command, Estimate, Instance, Message, NodeId, Refusal, RequestNo, Round, coordinator,
 };
 use std::alloc::Global;
 
-impl State {
-    /// The request waits for its acknowledgement, once.
-    #[tactic(auto, unfolding(rr_model::specs::NodeStep::wait_for))]
-    pub fn wait_for(&mut self, request: RequestNo) -> Result<(), Refusal>
-        ensures ok { OnOk result (self.new ≡ wait_for request self.old) }
-        ensures err { IfErr result (λ e. e ≡ Refusal.OutOfMemory) }
-    {
-        if !self.is_waiting(request) {
-            self.waiting.push(request)?;
-        }
-        Ok(())
-    }
-
+impl<'a> Step<'a> {
     /// Why a submit is refused: a new request, with all instances decided here.
     pub fn submit_refusal(&self, command: Command) -> Option<Refusal>
-        ensures { result ≡ submit_refusal command self.now }
+        ensures { result ≡ submit_refusal command self.now.state }
     {
         if self.is_list_full()
             && !self.is_decided_request(command.request)
@@ -42,14 +32,16 @@ impl State {
         }
     }
 
-    /// A submit: a request that is new waits, is pooled and sent to each other node.
+    /// A submit: a request that is new waits, is pooled and sent to each other node. `is_held`: whether the
+    /// decided prefix holds it.
     #[tactic(auto, using(crate::proofs::InputLemmas::others_after_pool_add, crate::proofs::InputLemmas::others_after_wait_for), unfolding(rr_model::specs::NodeStep::submitted))]
-    pub fn submitted(&mut self, command: Command) -> Result<(), Refusal>
-        ensures ok { OnOk result (self.new ≡ submitted command self.old) }
+    pub fn submitted(&mut self, command: Command, is_held: bool) -> Result<(), Refusal>
+        requires { is_held ≡ has_request (decided_prefix self.old.state) command.request }
+        ensures ok { OnOk result (self.new ≡ stepped (submitted command) self.old) }
         ensures err { IfErr result (λ e. e ≡ Refusal.OutOfMemory) }
     {
         let request = command.request;
-        let is_known = self.is_in_prefix(request) || self.is_waiting(request);
+        let is_known = is_held || self.is_waiting(request);
         match self.wait_for(request) {
             Ok(()) => (),
             Err(refusal) => return Err(refusal),
@@ -66,8 +58,8 @@ impl State {
 
     /// The node asks another what the first undecided instance has decided.
     fn ask(&mut self, to: NodeId) -> Result<(), Refusal>
-        requires { first_undecided self.old < 1048576 }
-        ensures ok { OnOk result (self.new ≡ ask (to ∷ []) self.old) }
+        requires { first_undecided self.old.state < 1048576 }
+        ensures ok { OnOk result (self.new ≡ stepped (ask (to ∷ [])) self.old) }
         ensures err { IfErr result (λ e. e ≡ Refusal.OutOfMemory) }
     {
         match Instance::new(self.first_undecided()) {
@@ -78,7 +70,7 @@ impl State {
 
     /// Where the node is behind, it asks every other node.
     fn ask_if_behind(&mut self) -> Result<(), Refusal>
-        ensures ok { OnOk result (self.new ≡ (if not (is_list_full self.old) && is_behind self.old then ask (others self.old) self.old else self.old)) }
+        ensures ok { OnOk result (self.new ≡ stepped (λ s. if not (is_list_full s) && is_behind s then ask (others s) s else s) self.old) }
         ensures err { IfErr result (λ e. e ≡ Refusal.OutOfMemory) }
     {
         match Instance::new(self.first_undecided()) {
@@ -97,7 +89,7 @@ impl State {
     /// behind a question.
     #[tactic(auto, using(crate::proofs::InputLemmas::everyone_after_owe), unfolding(rr_model::specs::NodeStep::ticked_on))]
     pub fn ticked_on(&mut self, alloc: Global) -> Result<(), Refusal>
-        ensures ok { OnOk result (self.new ≡ ticked_on self.old) }
+        ensures ok { OnOk result (self.new ≡ stepped ticked_on self.old) }
         ensures err { IfErr result (λ e. e ≡ Refusal.OutOfMemory) }
     {
         self.tick_watches();
@@ -123,9 +115,9 @@ impl State {
     /// The lowest open instance that has a round enters the next one; in the last round it is refused.
     #[tactic(auto, unfolding(rr_model::specs::NodeStep::advanced))]
     pub fn advanced(&mut self, alloc: Global) -> Result<(), Refusal>
-        ensures ok { OnOk result (self.new ≡ advanced self.old) }
-        ensures allowed { OnOk result (advance_refusal self.old ≡ None) }
-        ensures err { IfErr result (λ e. (e ≡ Refusal.OutOfMemory) ⊎ (advance_refusal self.old ≡ Some e)) }
+        ensures ok { OnOk result (self.new ≡ stepped advanced self.old) }
+        ensures allowed { OnOk result (advance_refusal self.old.state ≡ None) }
+        ensures err { IfErr result (λ e. (e ≡ Refusal.OutOfMemory) ⊎ (advance_refusal self.old.state ≡ Some e)) }
     {
         match self.lowest_in_round(alloc) {
             Err(refusal) => Err(refusal),
@@ -148,7 +140,8 @@ impl State {
         round: Round,
         command: Command,
     ) -> Result<(), Refusal>
-        ensures ok { OnOk result (self.new ≡ catch_up instance round command self.old) }
+        requires { is_undecided (standing_at self.old.state instance) ≡ true }
+        ensures ok { OnOk result (self.new ≡ stepped (catch_up instance round command) self.old) }
         ensures err { IfErr result (λ e. e ≡ Refusal.OutOfMemory) }
     {
         if self.round(instance) < round.number() {
@@ -159,7 +152,7 @@ impl State {
     }
 
     fn acknowledge(&mut self, instance: Instance, round: Round, to: NodeId) -> Result<(), Refusal>
-        ensures ok { OnOk result (self.new ≡ acknowledge instance round to self.old) }
+        ensures ok { OnOk result (self.new ≡ stepped (acknowledge instance round to) self.old) }
         ensures err { IfErr result (λ e. e ≡ Refusal.OutOfMemory) }
     {
         let adopted = match self.backing(instance) {
@@ -178,7 +171,7 @@ impl State {
         command: Command,
         from: NodeId,
     ) -> Result<(), Refusal>
-        ensures ok { OnOk result (self.new ≡ take_proposal instance round command from self.old) }
+        ensures ok { OnOk result (self.new ≡ stepped (take_proposal instance round command from) self.old) }
         ensures err { IfErr result (λ e. e ≡ Refusal.OutOfMemory) }
     {
         if self.round(instance) != round.number() {
@@ -202,7 +195,7 @@ impl State {
         from: NodeId,
         estimate: Estimate,
     ) -> Result<(), Refusal>
-        ensures ok { OnOk result (self.new ≡ take_estimate instance from estimate self.old) }
+        ensures ok { OnOk result (self.new ≡ stepped (take_estimate instance from estimate) self.old) }
         ensures err { IfErr result (λ e. e ≡ Refusal.OutOfMemory) }
     {
         if self.round(instance) == estimate.round().number() {
@@ -214,7 +207,7 @@ impl State {
 
     /// A node that has decided the instance owes the decision.
     fn answer(&mut self, instance: Instance, to: NodeId) -> Result<(), Refusal>
-        ensures ok { OnOk result (self.new ≡ answer instance to self.old) }
+        ensures ok { OnOk result (self.new ≡ stepped (answer instance to) self.old) }
         ensures err { IfErr result (λ e. e ≡ Refusal.OutOfMemory) }
     {
         match self.decision(instance) {
@@ -229,7 +222,7 @@ impl State {
         }
     }
 
-    #[tactic(auto, using(crate::proofs::InputLemmas::undecided_first), unfolding(rr_model::specs::NodeStep::heard_body))]
+    #[tactic(auto, using(crate::proofs::InputLemmas::undecided_first, crate::proofs::InputLemmas::pooled_undecided), unfolding(rr_model::specs::NodeStep::heard_body))]
     fn hear_estimate(
         &mut self,
         alloc: Global,
@@ -237,7 +230,7 @@ impl State {
         instance: Instance,
         estimate: Estimate,
     ) -> Result<(), Refusal>
-        ensures ok { OnOk result (self.new ≡ heard_body from (say.Estimate instance estimate) self.old) }
+        ensures ok { OnOk result (self.new ≡ stepped (heard_body from (say.Estimate instance estimate)) self.old) }
         ensures err { IfErr result (λ e. e ≡ Refusal.OutOfMemory) }
     {
         if !self.is_undecided(instance) {
@@ -248,8 +241,8 @@ impl State {
         }
         let round = estimate.round();
         let command = estimate.command();
-        let nodes = self.nodes;
-        if coordinator(round, nodes).index() != self.node.index() {
+        let nodes = self.nodes();
+        if coordinator(round, nodes).index() != self.node().index() {
             return Ok(());
         }
         let pooled = command;
@@ -263,7 +256,7 @@ impl State {
         }
     }
 
-    #[tactic(auto, using(crate::proofs::InputLemmas::undecided_first), unfolding(rr_model::specs::NodeStep::heard_body))]
+    #[tactic(auto, using(crate::proofs::InputLemmas::undecided_first, crate::proofs::InputLemmas::pooled_undecided), unfolding(rr_model::specs::NodeStep::heard_body))]
     fn hear_proposal(
         &mut self,
         alloc: Global,
@@ -272,7 +265,7 @@ impl State {
         round: Round,
         command: Command,
     ) -> Result<(), Refusal>
-        ensures ok { OnOk result (self.new ≡ heard_body from (say.Proposal instance round command) self.old) }
+        ensures ok { OnOk result (self.new ≡ stepped (heard_body from (say.Proposal instance round command)) self.old) }
         ensures err { IfErr result (λ e. e ≡ Refusal.OutOfMemory) }
     {
         if !self.is_undecided(instance) {
@@ -281,7 +274,7 @@ impl State {
         if !self.is_open(instance) {
             return self.ask(from);
         }
-        let nodes = self.nodes;
+        let nodes = self.nodes();
         if coordinator(round, nodes).index() != from.index() {
             return Ok(());
         }
@@ -305,7 +298,7 @@ impl State {
         instance: Instance,
         round: Round,
     ) -> Result<(), Refusal>
-        ensures ok { OnOk result (self.new ≡ heard_body from (say.Ack instance round) self.old) }
+        ensures ok { OnOk result (self.new ≡ stepped (heard_body from (say.Ack instance round)) self.old) }
         ensures err { IfErr result (λ e. e ≡ Refusal.OutOfMemory) }
     {
         if self.is_open(instance) && self.has_proposed(instance, round) {
@@ -323,7 +316,7 @@ impl State {
         instance: Instance,
         round: Round,
     ) -> Result<(), Refusal>
-        ensures ok { OnOk result (self.new ≡ heard_body from (say.Nack instance round) self.old) }
+        ensures ok { OnOk result (self.new ≡ stepped (heard_body from (say.Nack instance round)) self.old) }
         ensures err { IfErr result (λ e. e ≡ Refusal.OutOfMemory) }
     {
         if self.is_open(instance) && self.has_proposed(instance, round) {
@@ -340,7 +333,7 @@ impl State {
         instance: Instance,
         command: Command,
     ) -> Result<(), Refusal>
-        ensures ok { OnOk result (self.new ≡ heard_body from (say.Decision instance command) self.old) }
+        ensures ok { OnOk result (self.new ≡ stepped (heard_body from (say.Decision instance command)) self.old) }
         ensures err { IfErr result (λ e. e ≡ Refusal.OutOfMemory) }
     {
         if self.is_undecided(instance) {
@@ -353,7 +346,7 @@ impl State {
     /// What a message says.
     #[tactic(auto, unfolding(rr_model::specs::NodeStep::heard_body))]
     fn hear_body(&mut self, alloc: Global, from: NodeId, body: Body) -> Result<(), Refusal>
-        ensures ok { OnOk result (self.new ≡ heard_body from body self.old) }
+        ensures ok { OnOk result (self.new ≡ stepped (heard_body from body) self.old) }
         ensures err { IfErr result (λ e. e ≡ Refusal.OutOfMemory) }
     {
         match body {
@@ -372,7 +365,7 @@ impl State {
                 Ok(())
             }
             Body::Suspects(set) => {
-                self.suspects.receive(from, set);
+                self.reduce(from, set);
                 Ok(())
             }
             Body::Ask(instance) => self.answer(instance, from),
@@ -381,10 +374,10 @@ impl State {
 
     /// A message; one for another node is dropped.
     pub fn heard(&mut self, alloc: Global, message: &Message) -> Result<(), Refusal>
-        ensures ok { OnOk result (self.new ≡ heard message.now self.old) }
+        ensures ok { OnOk result (self.new ≡ stepped (heard message.now) self.old) }
         ensures err { IfErr result (λ e. e ≡ Refusal.OutOfMemory) }
     {
-        if message.to.index() == self.node.index() {
+        if message.to.index() == self.node().index() {
             self.hear_body(alloc, message.from, message.body)
         } else {
             Ok(())

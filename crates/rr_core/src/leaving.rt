@@ -7,6 +7,7 @@ ghost use Rattle.rr_core.specs.Firsts.{without_first};
 
 use crate::cleared::{Cleared, Draft, Mark};
 use crate::state::State;
+use rr_list::Waiting;
 use rr_mark::Owed;
 use rr_registry::Registry;
 use rr_types::{Reply, RequestNo};
@@ -31,22 +32,35 @@ pub fn take_leaving(owed: &mut Vec<Owed>, mark: Mark) -> Option<Cleared>
     None
 }
 
-/// Takes the oldest request that has a reply. It needs no memory.
-#[tactic(auto, using(crate::proofs::LeavingLemmas::find_more, crate::proofs::LeavingLemmas::find_here, crate::proofs::LeavingLemmas::without_more, crate::proofs::LeavingLemmas::without_here, crate::proofs::LeavingLemmas::find_end))]
-fn take_answered(waiting: &mut Vec<RequestNo>, registry: &Registry) -> Option<(RequestNo, Reply)>
+/// The oldest request that has a reply.
+fn find_answered(waiting: &Waiting, registry: &Registry) -> Option<(RequestNo, Reply)>
     ensures { MatchOption result
-        ((find (λ q. is_some (kept_reply registry.now q)) waiting.old.items ≡ None) × (waiting.new.items ≡ waiting.old.items))
-        (λ a. (find (λ q. is_some (kept_reply registry.now q)) waiting.old.items ≡ Some a.0) × (kept_reply registry.now a.0 ≡ Some a.1)
-        × (waiting.new.items ≡ without_first (λ q. is_some (kept_reply registry.now q)) waiting.old.items)) }
+        (find (λ q. is_some (kept_reply registry.now q)) waiting.now ≡ None)
+        (λ a. (find (λ q. is_some (kept_reply registry.now q)) waiting.now ≡ Some a.0) × (kept_reply registry.now a.0 ≡ Some a.1)) }
 {
-    for at in 0..waiting.len() {
-        let request = waiting[at];
+    let mut left = waiting.iter();
+    while let Some(request) = left.next() {
         if let Some(reply) = registry.reply(request) {
-            waiting.remove(at);
             return Some((request, reply));
         }
     }
     None
+}
+
+/// Takes the oldest request that has a reply. It needs no memory.
+fn take_answered(waiting: &mut Waiting, registry: &Registry) -> Option<(RequestNo, Reply)>
+    ensures { MatchOption result
+        ((find (λ q. is_some (kept_reply registry.now q)) waiting.old ≡ None) × (waiting.new ≡ waiting.old))
+        (λ a. (find (λ q. is_some (kept_reply registry.now q)) waiting.old ≡ Some a.0) × (kept_reply registry.now a.0 ≡ Some a.1)
+        × (waiting.new ≡ without_first (λ q. is_some (kept_reply registry.now q)) waiting.old)) }
+{
+    match find_answered(waiting, registry) {
+        None => None,
+        Some((request, reply)) => {
+            waiting.remove(request);
+            Some((request, reply))
+        }
+    }
 }
 
 impl State {

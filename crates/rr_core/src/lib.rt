@@ -2,16 +2,19 @@
 //! and owes messages; whoever runs it flushes the facts and carries the messages.
 #![tactic(auto)]
 
+mod absorb;
 mod cleared;
 mod copies;
-mod detector;
 mod due;
 mod estimates;
 mod group;
 mod input;
+mod inputs;
+mod known;
 mod leaving;
 mod lookup;
 mod node_core;
+mod over;
 mod owing;
 mod parts;
 mod prefix;
@@ -21,6 +24,7 @@ mod rows;
 mod same;
 mod staging;
 mod state;
+mod step;
 mod tally;
 mod unmarked;
 

@@ -1,19 +1,18 @@
 //! The core of a node: a state machine without input and output.
 
 ghost use Rattle.std.specs.Prelude.{◌≡◌, ◌≢◌, ◌^◌, ◌<◌, ◌≤◌, ◌⊎◌, None, Some, [], length, slice_get, IfOk, IfErr, IsSome, MatchOption, OnOk, OnErr};
-ghost use Rattle.rr_model.specs.NodeState.{next_number, decided_prefix};
-ghost use Rattle.rr_model.specs.NodeDue.{settle};
+ghost use Rattle.rr_model.specs.NodeState.{decided_prefix};
 ghost use Rattle.rr_model.specs.NodeStep.{Submit, Suspect, Tick, Advance, Hear, node_step, refusal_of, group_taken, running_group, group_put_back, marked_running, next_leaving, message_left, next_acknowledged, acknowledged, started};
 ghost use Rattle.rr_types.specs.Registry.{registry_of, reply_of};
-ghost use Rattle.rr_core.specs.Lawful.{IsLawful};
+ghost use Rattle.rr_core.specs.Steps.{combined, CanBeTaken};
 
 use crate::cleared::{Cleared, Mark};
 use crate::leaving::take_leaving;
 use crate::prefix::{command_at, prefix_count, registry_of_prefix};
 use crate::state::State;
+use crate::step::Changes;
 use rr_gate::{Opened, Synced};
 use rr_registry::{Entries, Registry};
-use rr_suspect::Suspects;
 use rr_types::{
     Command, Group, Instance, Message, NodeId, NodeSet, Nodes, Promise, Refusal, Reply, RequestNo,
 };
@@ -43,7 +42,6 @@ impl Model for Core {
 impl Core {
     /// A node after its opening, which gave its promise and the number of its next fact: it owes the restatement
     /// of its open instances.
-    #[tactic(auto, unfolding(rr_model::specs::NodeStep::started))]
     pub(crate) fn start_at(
         alloc: Global,
         nodes: Nodes,
@@ -59,16 +57,8 @@ impl Core {
             Ok(registry) => registry,
             Err(refusal) => return Err(refusal),
         };
-        let mut state = match State::restored(alloc, nodes, node, promise, next) {
-            Ok(state) => state,
-            Err(refusal) => return Err(refusal),
-        };
-        let open = match state.open_instances(alloc) {
-            Ok(open) => open,
-            Err(refusal) => return Err(refusal),
-        };
-        match state.restate_all(&open) {
-            Ok(()) => Ok(Core {
+        match State::started(alloc, nodes, node, promise, next) {
+            Ok(state) => Ok(Core {
                 alloc,
                 state,
                 registry,
@@ -92,117 +82,83 @@ impl Core {
         Core::start_at(alloc, nodes, node, promise, opened.next())
     }
 
-    #[tactic(auto, using(crate::proofs::CoreLemmas::kept_settled))]
-    /// All that is due is done, and the state is kept if its next fact has a number.
-    fn finish(&mut self, mut state: State) -> Result<(), Refusal>
-        requires lawful { IsLawful state }
-        requires marked { state.marked ≡ self.old.marked }
-        ensures ok { OnOk result ((self.new ≡ settle state) × (next_number self.new < 2 ^ 64)) }
-        ensures refused { IfErr result (λ e. (e ≡ Refusal.OutOfMemory) ⊎ ((e ≡ Refusal.TooLarge) × (2 ^ 64 ≤ next_number (settle state)))) }
+    /// The core takes on what a step has changed.
+    #[tactic(auto, using(crate::proofs::InputSteps::taken_kept))]
+    fn commit(&mut self, changes: Changes) -> Result<(), Refusal>
+        requires { CanBeTaken self.old changes }
+        ensures ok { OnOk result (self.new ≡ combined self.old changes) }
+        ensures refused { IfErr result (λ e. e ≡ Refusal.OutOfMemory) }
         ensures err { OnErr result (self.new ≡ self.old) }
     {
-        match state.settle(self.alloc) {
-            Ok(()) => (),
-            Err(refusal) => return Err(refusal),
-        }
-        if state.next_number() > u128::from(u64::MAX) {
-            return Err(Refusal::TooLarge);
-        }
-        self.state = state;
-        Ok(())
+        self.state.absorb(self.alloc, changes)
     }
 
     /// A client asks for a command. It is `ListFull` where the command is new and all instances are decided
     /// here, and `TooLarge` where a fact would have no number.
-    #[tactic(auto, using(crate::proofs::CoreLemmas::submit_lawful, crate::proofs::CoreLemmas::submit_marked, crate::proofs::CoreLemmas::submit_step, crate::proofs::CoreLemmas::submit_allowed, crate::proofs::CoreLemmas::submit_refused, crate::proofs::CoreLemmas::submit_too_large))]
+    #[tactic(auto, using(crate::proofs::InputSteps::held))]
     pub fn submit(&mut self, command: Command) -> Result<(), Refusal>
         ensures ok { OnOk result (self.new ≡ node_step (Submit command) self.old) }
         ensures allowed { OnOk result (refusal_of (Submit command) self.old ≡ None) }
         ensures refused { IfErr result (λ e. (e ≡ Refusal.OutOfMemory) ⊎ (refusal_of (Submit command) self.old ≡ Some e)) }
         ensures err { OnErr result (self.new ≡ self.old) }
     {
-        let asked = command;
-        if let Some(refusal) = self.state.submit_refusal(asked) {
-            return Err(refusal);
-        }
-        let mut state = match self.state.try_clone(self.alloc) {
-            Ok(state) => state,
-            Err(refusal) => return Err(refusal),
-        };
-        match state.submitted(command) {
-            Ok(()) => self.finish(state),
+        let is_held = self.registry.reply(command.request).is_some();
+        match self.state.submit_step(self.alloc, command, is_held) {
+            Ok(changes) => self.commit(changes),
             Err(refusal) => Err(refusal),
         }
     }
 
     /// A message comes. It is `TooLarge` where a fact would have no number.
-    #[tactic(auto, using(crate::proofs::CoreLemmas::hear_lawful, crate::proofs::CoreLemmas::hear_marked, crate::proofs::CoreLemmas::hear_step, crate::proofs::CoreLemmas::hear_allowed, crate::proofs::CoreLemmas::hear_too_large))]
     pub fn hear(&mut self, message: &Message) -> Result<(), Refusal>
         ensures ok { OnOk result (self.new ≡ node_step (Hear message.now) self.old) }
         ensures allowed { OnOk result (refusal_of (Hear message.now) self.old ≡ None) }
         ensures refused { IfErr result (λ e. (e ≡ Refusal.OutOfMemory) ⊎ (refusal_of (Hear message.now) self.old ≡ Some e)) }
         ensures err { OnErr result (self.new ≡ self.old) }
     {
-        let mut state = match self.state.try_clone(self.alloc) {
-            Ok(state) => state,
-            Err(refusal) => return Err(refusal),
-        };
-        match state.heard(self.alloc, message) {
-            Ok(()) => self.finish(state),
+        match self.state.hear_step(self.alloc, message) {
+            Ok(changes) => self.commit(changes),
             Err(refusal) => Err(refusal),
         }
     }
 
     /// The suspects are set. It is `TooLarge` where a fact would have no number.
-    #[tactic(auto, using(crate::proofs::CoreLemmas::suspect_lawful, crate::proofs::CoreLemmas::suspect_step, crate::proofs::CoreLemmas::suspect_allowed, crate::proofs::CoreLemmas::suspect_too_large))]
     pub fn suspect(&mut self, suspects: NodeSet) -> Result<(), Refusal>
         ensures ok { OnOk result (self.new ≡ node_step (Suspect suspects) self.old) }
         ensures allowed { OnOk result (refusal_of (Suspect suspects) self.old ≡ None) }
         ensures refused { IfErr result (λ e. (e ≡ Refusal.OutOfMemory) ⊎ (refusal_of (Suspect suspects) self.old ≡ Some e)) }
         ensures err { OnErr result (self.new ≡ self.old) }
     {
-        let mut state = match self.state.try_clone(self.alloc) {
-            Ok(state) => state,
-            Err(refusal) => return Err(refusal),
-        };
-        state.suspects = Suspects::new(suspects);
-        self.finish(state)
+        match self.state.suspect_step(self.alloc, suspects) {
+            Ok(changes) => self.commit(changes),
+            Err(refusal) => Err(refusal),
+        }
     }
 
     /// A tick: the heartbeat detector ticks, and the node restates where it stands. It is `TooLarge` where a
     /// fact would have no number.
-    #[tactic(auto, using(crate::proofs::CoreLemmas::tick_lawful, crate::proofs::CoreLemmas::tick_marked, crate::proofs::CoreLemmas::tick_step, crate::proofs::CoreLemmas::tick_allowed, crate::proofs::CoreLemmas::tick_too_large))]
     pub fn tick(&mut self) -> Result<(), Refusal>
         ensures ok { OnOk result (self.new ≡ node_step Tick self.old) }
         ensures allowed { OnOk result (refusal_of Tick self.old ≡ None) }
         ensures refused { IfErr result (λ e. (e ≡ Refusal.OutOfMemory) ⊎ (refusal_of Tick self.old ≡ Some e)) }
         ensures err { OnErr result (self.new ≡ self.old) }
     {
-        let mut state = match self.state.try_clone(self.alloc) {
-            Ok(state) => state,
-            Err(refusal) => return Err(refusal),
-        };
-        match state.ticked_on(self.alloc) {
-            Ok(()) => self.finish(state),
+        match self.state.tick_step(self.alloc) {
+            Ok(changes) => self.commit(changes),
             Err(refusal) => Err(refusal),
         }
     }
 
     /// The lowest open instance that has a round enters the next one. It is `RoundsOut` where that is the last
     /// round already, and `TooLarge` where a fact would have no number.
-    #[tactic(auto, using(crate::proofs::CoreLemmas::advance_lawful, crate::proofs::CoreLemmas::advance_marked, crate::proofs::CoreLemmas::advance_step, crate::proofs::CoreLemmas::advance_allowed, crate::proofs::CoreLemmas::advance_refused, crate::proofs::CoreLemmas::advance_too_large))]
     pub fn advance(&mut self) -> Result<(), Refusal>
         ensures ok { OnOk result (self.new ≡ node_step Advance self.old) }
         ensures allowed { OnOk result (refusal_of Advance self.old ≡ None) }
         ensures refused { IfErr result (λ e. (e ≡ Refusal.OutOfMemory) ⊎ (refusal_of Advance self.old ≡ Some e)) }
         ensures err { OnErr result (self.new ≡ self.old) }
     {
-        let mut state = match self.state.try_clone(self.alloc) {
-            Ok(state) => state,
-            Err(refusal) => return Err(refusal),
-        };
-        match state.advanced(self.alloc) {
-            Ok(()) => self.finish(state),
+        match self.state.advance_step(self.alloc) {
+            Ok(changes) => self.commit(changes),
             Err(refusal) => Err(refusal),
         }
     }

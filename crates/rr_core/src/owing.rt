@@ -84,10 +84,3 @@ pub fn has_request(pool: &[Command], request: RequestNo) -> bool
     }
     false
 }
-
-/// Takes the commands with this request number out of the pool.
-pub fn drop_request(pool: &mut Vec<Command>, request: RequestNo)
-    ensures { pool.new.items ≡ filter (λ c. not (is_same_request c.request request)) pool.old.items }
-{
-    pool.retain(|command| !command.request.is_same(request));
-}

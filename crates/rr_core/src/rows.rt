@@ -1,15 +1,14 @@
 //! The rows of the instances that the facts name.
 
-ghost use Rattle.std.specs.Prelude.{◌≡◌, ◌<◌, ◌≤◌, ◌==◌, IsTrue, false, length, None, Some, MatchOption, option_map, IfOk, IfErr, OnOk};
+ghost use Rattle.std.specs.Prelude.{◌≡◌, ◌<◌, ◌≤◌, ◌==◌, IsTrue, false, length, None, Some, MatchOption, IfErr, OnOk};
 ghost use Rattle.std.specs.Option.{option_map_or};
 ghost use Rattle.std.specs.List.{list_any};
 ghost use Rattle.rr_types.specs.Registry.{is_same_request};
-ghost use Rattle.rr_model.specs.NodeState.{row_of, put_row, undecided_from, lowest_undecided, decided_command};
+ghost use Rattle.rr_model.specs.NodeState.{row_of, put_row, undecided_from, decided_command};
 ghost use Rattle.rr_core.specs.Places.{rows_below, is_row_of};
 
-use rr_instance::{Backing, Row};
-use rr_types::{Instance, Refusal, RequestNo, Standing};
-use std::alloc::Global;
+use rr_instance::Row;
+use rr_types::{Instance, Refusal, RequestNo};
 
 /// The row of an instance.
 pub fn find_row(rows: &[Row], instance: Instance) -> Option<&Row>
@@ -21,26 +20,6 @@ pub fn find_row(rows: &[Row], instance: Instance) -> Option<&Row>
         }
     }
     None
-}
-
-/// Where an instance stands.
-pub fn standing_in_rows(rows: &[Row], instance: Instance) -> Option<Standing>
-    ensures { result ≡ option_map (λ r. r.standing) (row_of rows.now instance) }
-{
-    match find_row(rows, instance) {
-        Some(row) => Some(row.standing),
-        None => None,
-    }
-}
-
-/// What backs the messages of an instance.
-pub fn backing_in_rows(rows: &[Row], instance: Instance) -> Option<Backing>
-    ensures { result ≡ option_map (λ r. r.backing) (row_of rows.now instance) }
-{
-    match find_row(rows, instance) {
-        Some(row) => Some(row.backing),
-        None => None,
-    }
 }
 
 /// The lowest undecided instance from `from` on.
@@ -60,46 +39,6 @@ pub fn undecided_from(rows: &[Row], from: u32) -> u32
         }
     }
     lowest
-}
-
-/// The `count` lowest undecided instances, ascending.
-#[tactic(auto, using(crate::proofs::RowLemmas::lowest_next, crate::proofs::RowLemmas::lowest_done, crate::proofs::RowLemmas::push_next))]
-pub fn lowest_undecided(alloc: Global, rows: &[Row], count: usize) -> Result<Vec<Instance>, Refusal>
-    ensures value { IfOk result (λ found. found.items ≡ lowest_undecided count 0 rows.now) }
-    ensures err { IfErr result (λ e. e ≡ Refusal.OutOfMemory) }
-{
-    let mut found = Vec::new(alloc);
-    let mut from = 0;
-    for _turn in 0..count {
-        match Instance::new(undecided_from(rows, from)) {
-            None => return Ok(found),
-            Some(instance) => {
-                found.push(instance)?;
-                from = instance.number() + 1;
-            }
-        }
-    }
-    Ok(found)
-}
-
-/// Whether an instance is one of the `count` lowest undecided ones.
-#[tactic(auto, using(crate::proofs::RowLemmas::lowest_next, crate::proofs::RowLemmas::lowest_end))]
-pub fn is_lowest_undecided(rows: &[Row], count: usize, instance: Instance) -> bool
-    ensures { result ≡ list_any (λ j. j == instance) (lowest_undecided count 0 rows.now) }
-{
-    let mut from = 0;
-    for _turn in 0..count {
-        match Instance::new(undecided_from(rows, from)) {
-            None => return false,
-            Some(lowest) => {
-                if lowest == instance {
-                    return true;
-                }
-                from = lowest.number() + 1;
-            }
-        }
-    }
-    false
 }
 
 /// Whether the instance of some row has decided a command with this request number.

@@ -5,13 +5,14 @@ ghost use Rattle.std.specs.Prelude.{◌≡◌, IfOk};
 use crate::unmarked::Unmarked;
 use rr_heartbeat::Heartbeat;
 use rr_instance::Row;
+use rr_list::{Pool, Waiting};
 use rr_mark::Owed;
 use rr_suspect::Suspects;
-use rr_types::{Command, Entry, NodeId, Nodes, RequestNo};
+use rr_types::{Entry, NodeId, Nodes};
 use std::marker::Model;
 
 /// A node that is up.
-#[derive(Debug, Drop)]
+#[derive(Drop)]
 pub struct State {
     pub nodes: Nodes,
     pub node: NodeId,
@@ -19,15 +20,16 @@ pub struct State {
     pub marked: Vec<Entry>,
     pub marked_end: u64,
     pub unmarked: Unmarked,
-    pub pool: Vec<Command>,
+    pub pool: Pool,
     pub suspects: Suspects,
     pub heartbeat: Heartbeat,
-    pub waiting: Vec<RequestNo>,
+    pub waiting: Waiting,
     pub owed: Vec<Owed>,
 }
 
 impl Model for State {
     ghost use Rattle.rr_model.specs.NodeState as model;
+    ghost use Rattle.rr_core.specs.Steps.{RowsAscendFrom};
 
     ghost Value = { model.NodeState };
 
@@ -39,10 +41,12 @@ impl Model for State {
       marked_end = s.marked_end;
       running = s.unmarked.running;
       staged = s.unmarked.staged;
-      pool = s.pool.items;
+      pool = s.pool;
       suspects = s.suspects;
       watches = s.heartbeat;
-      waiting = s.waiting.items;
+      waiting = s.waiting;
       owed = s.owed.items;
     } };
+
+    ghost invariant = { λ s. RowsAscendFrom 0 s.rows.items };
 }

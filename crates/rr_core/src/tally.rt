@@ -2,15 +2,15 @@
 
 ghost use Rattle.std.specs.Prelude.{◌≡◌, IfErr, OnOk};
 ghost use Rattle.rr_model.specs.NodeStep.{count_estimate, count_ack, count_nack};
+ghost use Rattle.rr_core.specs.Steps.{stepped};
 
-use crate::rows::{find_row, put_row};
-use crate::state::State;
+use crate::step::Step;
 use rr_types::{Estimate, Instance, NodeId, Refusal};
 use std::alloc::Global;
 
-impl State {
+impl<'a> Step<'a> {
     /// The coordinator keeps an estimate.
-    #[tactic(auto, unfolding(rr_model::specs::NodeStep::count_estimate))]
+    #[tactic(auto, using(crate::proofs::OverLemmas::keeps_standing), unfolding(rr_model::specs::NodeStep::count_estimate))]
     pub fn count_estimate(
         &mut self,
         alloc: Global,
@@ -18,10 +18,10 @@ impl State {
         sender: NodeId,
         estimate: Estimate,
     ) -> Result<(), Refusal>
-        ensures ok { OnOk result (self.new ≡ count_estimate instance sender estimate self.old) }
+        ensures ok { OnOk result (self.new ≡ stepped (count_estimate instance sender estimate) self.old) }
         ensures err { IfErr result (λ e. e ≡ Refusal.OutOfMemory) }
     {
-        let Some(row) = find_row(&self.rows, instance) else {
+        let Some(row) = self.row(instance) else {
             return Ok(());
         };
         let mut row = match row.try_clone(alloc) {
@@ -29,23 +29,23 @@ impl State {
             Err(refusal) => return Err(refusal),
         };
         match row.tally.keep_estimate(sender, estimate) {
-            Ok(()) => put_row(&mut self.rows, row),
+            Ok(()) => self.put_row(row),
             Err(refusal) => Err(refusal),
         }
     }
 
     /// The coordinator keeps an acknowledgement.
-    #[tactic(auto, unfolding(rr_model::specs::NodeStep::count_ack))]
+    #[tactic(auto, using(crate::proofs::OverLemmas::keeps_standing), unfolding(rr_model::specs::NodeStep::count_ack))]
     pub fn count_ack(
         &mut self,
         alloc: Global,
         instance: Instance,
         sender: NodeId,
     ) -> Result<(), Refusal>
-        ensures ok { OnOk result (self.new ≡ count_ack instance sender self.old) }
+        ensures ok { OnOk result (self.new ≡ stepped (count_ack instance sender) self.old) }
         ensures err { IfErr result (λ e. e ≡ Refusal.OutOfMemory) }
     {
-        let Some(row) = find_row(&self.rows, instance) else {
+        let Some(row) = self.row(instance) else {
             return Ok(());
         };
         let mut row = match row.try_clone(alloc) {
@@ -53,21 +53,21 @@ impl State {
             Err(refusal) => return Err(refusal),
         };
         row.tally.keep_ack(sender);
-        put_row(&mut self.rows, row)
+        self.put_row(row)
     }
 
     /// The coordinator keeps a refusal.
-    #[tactic(auto, unfolding(rr_model::specs::NodeStep::count_nack))]
+    #[tactic(auto, using(crate::proofs::OverLemmas::keeps_standing), unfolding(rr_model::specs::NodeStep::count_nack))]
     pub fn count_nack(
         &mut self,
         alloc: Global,
         instance: Instance,
         sender: NodeId,
     ) -> Result<(), Refusal>
-        ensures ok { OnOk result (self.new ≡ count_nack instance sender self.old) }
+        ensures ok { OnOk result (self.new ≡ stepped (count_nack instance sender) self.old) }
         ensures err { IfErr result (λ e. e ≡ Refusal.OutOfMemory) }
     {
-        let Some(row) = find_row(&self.rows, instance) else {
+        let Some(row) = self.row(instance) else {
             return Ok(());
         };
         let mut row = match row.try_clone(alloc) {
@@ -75,6 +75,6 @@ impl State {
             Err(refusal) => return Err(refusal),
         };
         row.tally.keep_nack(sender);
-        put_row(&mut self.rows, row)
+        self.put_row(row)
     }
 }

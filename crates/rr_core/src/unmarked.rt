@@ -26,7 +26,8 @@ impl Model for Unmarked {
     ghost invariant = { λ u. unwrap_or u.running 0 ≤ length u.facts.items };
 }
 
-fn push_fact(facts: &mut Vec<Fact>, fact: &Fact) -> Result<(), Refusal>
+/// Stages a fact last.
+pub fn push_fact(facts: &mut Vec<Fact>, fact: &Fact) -> Result<(), Refusal>
     ensures ok { OnOk result (facts.new.items ≡ facts.old.items ++ fact.now ∷ []) }
     ensures kept { OnErr result (facts.new.items ≡ facts.old.items) }
     ensures err { IfErr result (λ e. e ≡ Refusal.OutOfMemory) }
@@ -67,25 +68,16 @@ impl Unmarked {
         self.facts.len()
     }
 
-    /// Stages a fact last.
-    pub fn push(&mut self, fact: &Fact) -> Result<(), Refusal>
-        ensures ok { OnOk result (self.new ≡ record self.old { staged = self.old.staged ++ fact.now ∷ [] }) }
+    /// Stages facts last, all of them or, after an error, none.
+    pub fn push_all(&mut self, facts: &[Fact]) -> Result<(), Refusal>
+        ensures ok { OnOk result (self.new ≡ record self.old { staged = self.old.staged ++ facts.now }) }
         ensures kept { OnErr result (self.new ≡ self.old) }
         ensures err { IfErr result (λ e. e ≡ Refusal.OutOfMemory) }
     {
-        push_fact(&mut self.facts, fact)
-    }
-
-    /// A copy.
-    pub fn try_clone(&self, alloc: Global) -> Result<Unmarked, Refusal>
-        ensures ok { IfOk result (λ u. u ≡ self.now) }
-        ensures err { IfErr result (λ e. e ≡ Refusal.OutOfMemory) }
-    {
-        let facts = Vec::from_slice(alloc, self.facts.as_slice())?;
-        Ok(Unmarked {
-            facts,
-            running: self.running,
-        })
+        // The check learns what a fact is made of from the types of a function's variables.
+        let _parts: Option<(Command, Op)> = None;
+        self.facts.extend_from_slice(facts)?;
+        Ok(())
     }
 
     /// Whether a group runs.

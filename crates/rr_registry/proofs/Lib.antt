@@ -1,3 +1,2 @@
-pub mod PlaceLemmas
 pub mod TableLemmas
 pub mod KeptLemmas

@@ -10,7 +10,7 @@ use Rattle.rr_types.specs.declared.command.Command.{Command}
 use Rattle.rr_types.specs.Registry.{Bindings}
 use Rattle.rr_registry.specs.declared.tables.Tables.{Tables}
 use Rattle.rr_registry.specs.Kept.{Kept, request_cmp}
-use Rattle.rr_registry.specs.Places.{filled, has_place}
+use Rattle.rr_places.specs.Places.{filled, has_place}
 
 -- the bound names
 abbrev pub bindings_in : Tables → Bindings

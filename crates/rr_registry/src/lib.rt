@@ -4,7 +4,6 @@
 
 mod entries;
 mod holding;
-mod places;
 mod registry;
 mod tables;
 

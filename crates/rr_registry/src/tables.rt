@@ -8,12 +8,12 @@ ghost use Rattle.rr_types.specs.Registry.{holding_of, claim, by_owner, apply_op,
 ghost use Rattle.std.specs.BTreeMap.{insert_entry};
 ghost use Rattle.rr_types.specs.declared.command.RequestNo.{RequestNo};
 ghost use Rattle.rr_registry.specs.Kept.{request_cmp, kept_reply, applied, applied_all};
-ghost use Rattle.rr_registry.specs.Places.{held};
+ghost use Rattle.rr_places.specs.Places.{held};
 ghost use Rattle.rr_registry.specs.Tables.{unbind, bindings_in, kept_in, has_name_place, has_reply_place, has_op_place, has_places, name_of, IsCounted};
 
 use crate::entries::Entries;
 use crate::holding::Holding;
-use crate::places::{drop_free_place, make_place, put, value_at};
+use rr_places::{drop_free_place, make_place, put, value_at};
 use rr_types::{Command, Name, Op, Refusal, Reply, RequestNo, Value};
 use std::alloc::Global;
 use std::collections::BTreeMap;

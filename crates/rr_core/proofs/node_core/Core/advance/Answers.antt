@@ -1,7 +1,6 @@
-use Rattle.std.proofs.Common.{◌≡◌, ◌∙◌}
-use Rattle.rr_core.proofs.CoreLemmas.{advance_err}
+use Rattle.rr_model.specs.NodeStep.{Advance}
+use Rattle.rr_core.proofs.InputSteps.{taken_at}
 use Rattle.rr_core.proofs.node_core.Core.advance.Goals as goal
 
-pub returns-in-Err-advanced-clause-refused : goal.returns-in-Err-advanced-clause-refused
-returns-in-Err-advanced-clause-refused c =
-    advance_err c.args.self.now c.in-Ok.state c.in-Err-advanced.refusal (c.in-Ok.ensures.ok ∙ c.self.view_is) c.in-Err-advanced.ensures.err
+pub commit-requires : goal.commit-requires
+commit-requires c = taken_at Advance c.self.inside.state c.args.self.now c.in-Ok.changes c.self.view_is c.in-Ok.ensures.ok

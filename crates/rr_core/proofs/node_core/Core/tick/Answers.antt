@@ -1,0 +1,6 @@
+use Rattle.rr_model.specs.NodeStep.{Tick}
+use Rattle.rr_core.proofs.InputSteps.{taken_at}
+use Rattle.rr_core.proofs.node_core.Core.tick.Goals as goal
+
+pub commit-requires : goal.commit-requires
+commit-requires c = taken_at Tick c.self.inside.state c.args.self.now c.in-Ok.changes c.self.view_is c.in-Ok.ensures.ok

@@ -1,6 +1,0 @@
-use Rattle.std.proofs.Common.{◌≡◌, drop}
-use Rattle.rr_model.specs.NodeParts.{restate_all}
-use Rattle.rr_core.proofs.state.State.restate_all.Given as goal
-
-abbrev pub invariant-loop-instance : goal.invariant-loop-instance
-invariant-loop-instance l = restate_all (drop l.instance-index l.instances) l.self ≡ restate_all l.instances l.initial.self

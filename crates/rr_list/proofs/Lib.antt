@@ -1,0 +1,4 @@
+pub mod ArrivalLemmas
+pub mod PoolLemmas
+pub mod TableLemmas
+pub mod NotedLemmas

@@ -1,0 +1,12 @@
+//! The tables of a node's core: the instances and the promise of their marked facts, the commands that wait for
+//! an instance, and the requests that wait for their acknowledgement. No call costs more for what it leaves alone.
+#![tactic(auto)]
+
+mod arrivals;
+mod pool;
+mod rows;
+mod waiting;
+
+pub use arrivals::{Requested, Values};
+pub use pool::Pool;
+pub use waiting::Waiting;

@@ -1,0 +1,82 @@
+//! The commands that wait for an instance.
+
+ghost use Rattle.std.specs.Prelude.{◌≡◌, ◌∷◌, ◌++◌, [], List, false, not, filter, IfErr, OnOk, OnErr};
+ghost use Rattle.rr_types.specs.declared.command.Command.{Command};
+ghost use Rattle.rr_types.specs.Registry.{is_same_request, has_request};
+
+use crate::arrivals::{Arrivals, Values};
+use rr_types::{Command, Op, Refusal, RequestNo};
+use std::alloc::Global;
+use std::marker::Model;
+
+/// Commands in order of arrival, one a request number. Each call costs the logarithm of how many there are.
+#[derive(Drop)]
+pub struct Pool {
+    commands: Arrivals<Command>,
+}
+
+impl Model for Pool {
+    ghost use Rattle.std.specs.Prelude.{List};
+    ghost use Rattle.rr_types.specs.declared.command.Command.{Command};
+
+    ghost Value = { List Command };
+
+    ghost view = { λ p. p.commands };
+}
+
+impl Pool {
+    /// No command.
+    pub fn new(alloc: Global) -> Pool
+        ensures { result ≡ [] }
+    {
+        let _parts: Option<(Command, Op)> = None;
+        Pool {
+            commands: Arrivals::new(alloc),
+        }
+    }
+
+    /// Whether there is a command with this request number.
+    #[tactic(auto, using(crate::proofs::PoolLemmas::has_one))]
+    pub fn has(&self, request: RequestNo) -> bool
+        ensures { result ≡ has_request self.now request }
+    {
+        let _parts: Option<(Command, Op)> = None;
+        self.commands.has(request)
+    }
+
+    /// Puts a command last. After an error, which is `OutOfMemory`, nothing has changed.
+    #[tactic(auto, using(crate::proofs::PoolLemmas::has_one))]
+    pub fn push(&mut self, command: &Command) -> Result<(), Refusal>
+        requires { has_request self.old command.now.request ≡ false }
+        ensures ok { OnOk result (self.new ≡ self.old ++ command.now ∷ []) }
+        ensures kept { OnErr result (self.new ≡ self.old) }
+        ensures err { IfErr result (λ e. e ≡ Refusal.OutOfMemory) }
+    {
+        let _parts: Option<(Command, Op)> = None;
+        self.commands.push(*command)
+    }
+
+    /// Takes the last command away again. It needs no memory.
+    pub fn take_back(&mut self)
+        ensures { (cs : List Command) (c : Command) → self.old ≡ cs ++ c ∷ [] → self.new ≡ cs }
+    {
+        let _parts: Option<(Command, Op)> = None;
+        self.commands.take_back();
+    }
+
+    /// Takes the command with this request number away. It needs no memory.
+    pub fn remove(&mut self, request: RequestNo)
+        ensures { self.new ≡ filter (λ c. not (is_same_request c.request request)) self.old }
+    {
+        let _parts: Option<(Command, Op)> = None;
+        self.commands.remove(request);
+    }
+
+    /// The commands, oldest first.
+    pub fn iter(&self) -> Values<'_, Command>
+        ensures { result ≡ self.now }
+    {
+        let _parts: Option<(Command, Op)> = None;
+        self.commands.iter()
+    }
+}

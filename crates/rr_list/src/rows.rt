@@ -1,0 +1,285 @@
+//! The rows of the instances that the facts name, and what these have decided.
+
+ghost use Rattle.std.specs.Prelude.{◌≡◌, ◌<◌, ◌&&◌, ℕ, [], ◌∷◌, map, Some, None, nat_lt, IsTrue, IfOk, IfErr, OnOk, OnErr, MatchOption};
+ghost use Rattle.std.specs.List.{list_any, All};
+ghost use Rattle.std.specs.Ordering.{nat_cmp};
+ghost use Rattle.rr_types.specs.declared.command.RequestNo.{RequestNo};
+ghost use Rattle.rr_registry.specs.Kept.{request_cmp};
+ghost use Rattle.rr_model.specs.NodeState.{row_of, put_row, is_decided, decided_command};
+ghost use Rattle.rr_places.specs.Places.{filled, has_place};
+ghost use Rattle.rr_list.specs.Listed.{put_rows, KeepsDecisions};
+ghost use Rattle.rr_list.specs.Rowed.{rows_in, AreKeyed, AscendFrom, AreInstances, has_decided, has_request_place, HavePlaces, IsNoted};
+
+use rr_instance::Row;
+use rr_places::{drop_free_place, make_place, put, value_at, value_of};
+use rr_types::{Command, Instance, Op, Refusal, RequestNo, Standing};
+use std::alloc::Global;
+use std::collections::BTreeMap;
+use std::marker::Model;
+
+/// The rows, each at its instance; the requests that they have decided; and the number above the highest instance
+/// that has decided, or 0.
+#[derive(Drop)]
+pub(crate) struct Rows {
+    rows: BTreeMap<u32, Option<Row>>,
+    requests: BTreeMap<RequestNo, Option<()>>,
+    end: u32,
+}
+
+impl Model for Rows {
+    ghost use Rattle.std.specs.Prelude.{List};
+    ghost use Rattle.rr_model.specs.NodeState as model;
+    ghost use Rattle.rr_places.specs.Places.{filled};
+    ghost use Rattle.rr_list.specs.Rowed.{rows_in, IsTable};
+
+    ghost Value = { List model.Row };
+
+    ghost view = { λ t. rows_in (filled t.rows.entries) };
+
+    ghost invariant = { λ t. IsTable (filled t.rows.entries) (filled t.requests.entries) t.end };
+}
+
+/// The command that a row's instance has decided.
+pub(crate) fn decision_of(row: &Row) -> Option<Command>
+    ensures { result ≡ decided_command row.now }
+{
+    match row.standing {
+        Standing::Decided(command) => Some(command),
+        Standing::Open(_) => None,
+    }
+}
+
+/// Makes a place for the row of each of these instances.
+fn make_row_places(
+    map: &mut BTreeMap<u32, Option<Row>>,
+    rows: &[Row],
+) -> Result<(), Refusal>
+    ensures filled { filled map.new.entries ≡ filled map.old.entries }
+    ensures made { OnOk result (All (λ r. IsTrue (has_place nat_cmp map.new.entries r.instance)) rows.now) }
+    ensures instances { OnOk result (All (λ r. r.instance < 1048576) rows.now) }
+    ensures err { IfErr result (λ e. e ≡ Refusal.OutOfMemory) }
+{
+    for row in rows {
+        make_place(map, row.instance.number())?;
+    }
+    Ok(())
+}
+
+/// Makes a place for the request that a row has decided.
+fn make_request_place(
+    map: &mut BTreeMap<RequestNo, Option<()>>,
+    row: &Row,
+) -> Result<(), Refusal>
+    ensures filled { filled map.new.entries ≡ filled map.old.entries }
+    ensures made { OnOk result (IsTrue (has_request_place map.new.entries row.now)) }
+    ensures stay { (q : RequestNo) → IsTrue (has_place request_cmp map.old.entries q) → IsTrue (has_place request_cmp map.new.entries q) }
+    ensures err { IfErr result (λ e. e ≡ Refusal.OutOfMemory) }
+{
+    match decision_of(row) {
+        Some(command) => {
+            make_place(map, command.request)?;
+            Ok(())
+        }
+        None => Ok(()),
+    }
+}
+
+/// Makes a place for the request of each decision of these rows.
+fn make_request_places(
+    map: &mut BTreeMap<RequestNo, Option<()>>,
+    rows: &[Row],
+) -> Result<(), Refusal>
+    ensures filled { filled map.new.entries ≡ filled map.old.entries }
+    ensures made { OnOk result (All (λ r. IsTrue (has_request_place map.new.entries r)) rows.now) }
+    ensures stay { (q : RequestNo) → IsTrue (has_place request_cmp map.old.entries q) → IsTrue (has_place request_cmp map.new.entries q) }
+    ensures err { IfErr result (λ e. e ≡ Refusal.OutOfMemory) }
+{
+    for row in rows {
+        make_request_place(map, row)?;
+    }
+    Ok(())
+}
+
+/// Makes a place for each of these rows, and for the request of each of their decisions.
+fn make_places(
+    map: &mut BTreeMap<u32, Option<Row>>,
+    requests: &mut BTreeMap<RequestNo, Option<()>>,
+    rows: &[Row],
+) -> Result<(), Refusal>
+    ensures rows { filled map.new.entries ≡ filled map.old.entries }
+    ensures requests { filled requests.new.entries ≡ filled requests.old.entries }
+    ensures row_places { OnOk result (All (λ r. IsTrue (has_place nat_cmp map.new.entries r.instance)) rows.now) }
+    ensures request_places { OnOk result (All (λ r. IsTrue (has_request_place requests.new.entries r)) rows.now) }
+    ensures instances { OnOk result (All (λ r. r.instance < 1048576) rows.now) }
+    ensures err { IfErr result (λ e. e ≡ Refusal.OutOfMemory) }
+{
+    match make_row_places(map, rows) {
+        Ok(()) => make_request_places(requests, rows),
+        Err(refusal) => Err(refusal),
+    }
+}
+
+/// Takes away what places of these rows are free.
+fn drop_free_places(
+    map: &mut BTreeMap<u32, Option<Row>>,
+    requests: &mut BTreeMap<RequestNo, Option<()>>,
+    rows: &[Row],
+)
+    ensures rows { filled map.new.entries ≡ filled map.old.entries }
+    ensures requests { filled requests.new.entries ≡ filled requests.old.entries }
+{
+    let _parts: Option<(Command, Op, Standing)> = None;
+    for row in rows {
+        drop_free_place(map, &row.instance.number());
+        if let Some(command) = decision_of(row) {
+            drop_free_place(requests, &command.request);
+        }
+    }
+}
+
+/// Puts a row, whose instance has a place. It needs no memory.
+fn put_row(map: &mut BTreeMap<u32, Option<Row>>, row: Row)
+    requires place { IsTrue (has_place nat_cmp map.old.entries row.instance) }
+    requires keyed { AreKeyed (filled map.old.entries) }
+    ensures rows { rows_in (filled map.new.entries) ≡ put_row row (rows_in (filled map.old.entries)) }
+    ensures keyed { AreKeyed (filled map.new.entries) }
+    ensures places { (i : ℕ) → has_place nat_cmp map.new.entries i ≡ has_place nat_cmp map.old.entries i }
+{
+    let number = row.instance.number();
+    put(map, number, Some(row));
+}
+
+/// Puts rows whose instances have places. It needs no memory.
+fn put_all(map: &mut BTreeMap<u32, Option<Row>>, rows: Vec<Row>)
+    requires places { All (λ r. IsTrue (has_place nat_cmp map.old.entries r.instance)) rows.items }
+    requires keyed { AreKeyed (filled map.old.entries) }
+    ensures rows { rows_in (filled map.new.entries) ≡ put_rows (rows_in (filled map.old.entries)) rows.items }
+    ensures keyed { AreKeyed (filled map.new.entries) }
+{
+    for row in rows {
+        put_row(map, row);
+    }
+}
+
+/// The instances of these rows.
+fn instances_of(alloc: Global, rows: &[Row]) -> Result<Vec<Instance>, Refusal>
+    ensures ok { IfOk result (λ instances. instances.items ≡ map (λ r. r.instance) rows.now) }
+    ensures err { IfErr result (λ e. e ≡ Refusal.OutOfMemory) }
+{
+    let mut instances = Vec::new(alloc);
+    for row in rows {
+        instances.push(row.instance)?;
+    }
+    Ok(instances)
+}
+
+/// Takes what an instance has decided into the table: its request, which has a place, and the table's end, which
+/// it gives. It needs no memory.
+fn note_decision(
+    rows: &BTreeMap<u32, Option<Row>>,
+    requests: &mut BTreeMap<RequestNo, Option<()>>,
+    end: u32,
+    instance: Instance,
+) -> u32
+    requires keyed { AreKeyed (filled rows.now.entries) }
+    requires places { HavePlaces requests.old.entries (rows_in (filled rows.now.entries)) }
+    ensures noted { IsNoted (rows_in (filled rows.now.entries)) (instance ∷ []) (filled requests.old.entries) (filled requests.new.entries) end result }
+    ensures places { (q : RequestNo) → has_place request_cmp requests.new.entries q ≡ has_place request_cmp requests.old.entries q }
+{
+    let _parts: Option<(Command, Op, Standing)> = None;
+    let number = instance.number();
+    match value_of(rows, &number) {
+        None => end,
+        Some(row) => match decision_of(row) {
+            None => end,
+            Some(command) => {
+                put(requests, command.request, Some(()));
+                if end <= number { number + 1 } else { end }
+            }
+        },
+    }
+}
+
+/// The same for each of these instances.
+fn note_decisions(
+    rows: &BTreeMap<u32, Option<Row>>,
+    requests: &mut BTreeMap<RequestNo, Option<()>>,
+    end: u32,
+    instances: &[Instance],
+) -> u32
+    requires keyed { AreKeyed (filled rows.now.entries) }
+    requires places { HavePlaces requests.old.entries (rows_in (filled rows.now.entries)) }
+    ensures noted { IsNoted (rows_in (filled rows.now.entries)) instances.now (filled requests.old.entries) (filled requests.new.entries) end result }
+{
+    let mut higher = end;
+    for instance in instances {
+        higher = note_decision(rows, requests, higher, *instance);
+    }
+    higher
+}
+
+impl Rows {
+    /// No row.
+    pub(crate) fn new(alloc: Global) -> Rows
+        ensures { result ≡ [] }
+    {
+        Rows {
+            rows: BTreeMap::new(alloc),
+            requests: BTreeMap::new(alloc),
+            end: 0,
+        }
+    }
+
+    /// The row of the instance with this number, if it is one.
+    pub(crate) fn row(&self, number: u32) -> Option<&Row>
+        ensures row { MatchOption result (row_of self.now number ≡ None) (λ r. row_of self.now number ≡ Some r.now) }
+        ensures ascend { AscendFrom 0 self.now }
+        ensures instances { AreInstances self.now }
+    {
+        match value_of(&self.rows, &number) {
+            Some(row) => Some(row),
+            None => None,
+        }
+    }
+
+    /// Whether some instance has decided a command with this request number.
+    pub(crate) fn has_decided(&self, request: RequestNo) -> bool
+        ensures { result ≡ list_any (has_decided request) self.now }
+    {
+        value_at(&self.requests, &request).is_some()
+    }
+
+    /// Whether an instance above this one has decided.
+    pub(crate) fn has_decided_above(&self, instance: Instance) -> bool
+        ensures { result ≡ list_any (λ r. nat_lt instance r.instance && is_decided r) self.now }
+    {
+        if self.end == 0 {
+            return false;
+        }
+        instance.number() < self.end - 1
+    }
+
+    /// Puts these rows, all of them or, after an error, none. No decision may change.
+    pub(crate) fn absorb(&mut self, alloc: Global, rows: Vec<Row>) -> Result<(), Refusal>
+        requires { KeepsDecisions self.old (put_rows self.old rows.items) }
+        ensures ok { OnOk result (self.new ≡ put_rows self.old rows.items) }
+        ensures kept { OnErr result (self.new ≡ self.old) }
+        ensures err { IfErr result (λ e. e ≡ Refusal.OutOfMemory) }
+    {
+        let instances = match instances_of(alloc, &rows) {
+            Ok(instances) => instances,
+            Err(refusal) => return Err(refusal),
+        };
+        match make_places(&mut self.rows, &mut self.requests, &rows) {
+            Ok(()) => {
+                put_all(&mut self.rows, rows);
+                self.end = note_decisions(&self.rows, &mut self.requests, self.end, &instances);
+                Ok(())
+            }
+            Err(refusal) => {
+                drop_free_places(&mut self.rows, &mut self.requests, &rows);
+                Err(refusal)
+            }
+        }
+    }
+}

@@ -1,0 +1,7 @@
+//! Maps in which a key may have a place before it has a value: what needs memory comes first, and what is then
+//! written needs none.
+#![tactic(auto)]
+
+mod places;
+
+pub use places::{drop_free_place, make_place, put, value_at, value_of};
