@@ -1,11 +1,10 @@
 -- The table of instances: a promise restored, and the places of its marks.
-use Rattle.std.proofs.Common.{◌≡◌, ℕ, ◌+◌, ◌<◌, ◌≤◌, Bool, true, false, cond, ◌==◌, nat_lt, ◌||◌, List, [], ◌∷◌, ◌++◌, map, length, drop, get_or, Option, None, Some, option_map, IsTrue, refl, ap, sym, ◌∙◌, arith, subst, eqb-true, append_assoc, append-nil}
+use Rattle.std.proofs.Common.{◌≡◌, ℕ, ◌+◌, ◌<◌, ◌≤◌, Bool, true, false, ◌==◌, nat_lt, ◌||◌, List, [], ◌∷◌, ◌++◌, map, length, drop, get_or, IsTrue, refl, ap, sym, ◌∙◌, arith, subst, eqb-true, append_assoc, append-nil}
 use Rattle.std.specs.List.{list_any, All}
 use Rattle.std.proofs.lemmas.Bool.{ne_eqb, le-ltb}
 use Rattle.std.proofs.lemmas.List.{drop_all, drop_more}
 use Rattle.std.proofs.lemmas.List.Elements.{All-head, All-tail}
 use Rattle.std.proofs.lemmas.Option.{none-some}
-use Rattle.rr_types.specs.declared.command.Command.{Command}
 use Rattle.rr_types.specs.declared.promise.Entry.{Entry}
 use Rattle.rr_types.specs.declared.fact.Fact.{Fact}
 use Rattle.rr_types.specs.Promises.{AscendsFrom, set_entry, take_on_all}

@@ -1,10 +1,10 @@
 -- What instances have decided, taken into a table.
-use Rattle.std.proofs.Common.{◌≡◌, ℕ, suc, ◌+◌, ◌-◌, ◌<◌, ◌≤◌, Bool, true, false, cond, ◌==◌, nat_lt, ◌||◌, ◌&&◌, List, [], ◌∷◌, ◌++◌, map, length, take, get_or, Option, None, Some, option_map, is_some, IsTrue, refl, ap, sym, ◌∙◌, arith, subst, eqb-true}
+use Rattle.std.proofs.Common.{◌≡◌, ℕ, ◌+◌, ◌-◌, ◌<◌, ◌≤◌, Bool, true, false, cond, ◌==◌, nat_lt, ◌||◌, ◌&&◌, List, [], ◌∷◌, ◌++◌, map, length, take, get_or, Option, None, Some, option_map, is_some, IsTrue, refl, ap, sym, ◌∙◌, arith, subst, eqb-true}
 use Rattle.std.specs.Option.{option_map_or}
 use Rattle.std.specs.List.{list_any, All}
 use Rattle.std.specs.BTreeMap.{is_at}
 use Rattle.std.specs.Map.{lookup}
-use Rattle.std.proofs.lemmas.Bool.{ne_eqb, eq-eqb, lt-ltb, ltb-true, ltb-false, eqb-false}
+use Rattle.std.proofs.lemmas.Bool.{ne_eqb, lt-ltb, ltb-true, ltb-false, eqb-false}
 use Rattle.std.proofs.lemmas.List.{take_more}
 use Rattle.std.proofs.lemmas.List.Elements.{All-head, All-tail}
 use Rattle.std.proofs.lemmas.Option.{none-some, same_Some}
@@ -22,8 +22,8 @@ use Rattle.rr_model.proofs.SameCommands.{request_same, same_request}
 use Rattle.rr_places.specs.Places.{filled, has_place}
 use Rattle.rr_places.proofs.PlaceLemmas.{place_of_value}
 use Rattle.rr_list.specs.Listed.{put_rows, decision_at, KeepsDecisions}
-use Rattle.rr_list.specs.Rowed.{rows_in, AreKeyed, AscendFrom, AreInstances, has_decided, is_held, AreDecided, HoldsDecided, IsReached, IsAbove, has_request_place, HavePlaces, IsNoted, IsTable}
-use Rattle.rr_list.proofs.TableLemmas.{at_any, any_at, decision_some, none_below}
+use Rattle.rr_list.specs.Rowed.{rows_in, AreKeyed, AscendFrom, AreInstances, has_decided, is_held, AreDecided, HoldsDecided, IsReached, has_request_place, HavePlaces, IsNoted, IsTable}
+use Rattle.rr_list.proofs.TableLemmas.{at_any, any_at, decision_some}
 
 -- an instance that has decided has a row
 row_decided : (rows : List Row) (i : ℕ) (v : Command) → decision_at rows i ≡ Some v → (r : Row) × (row_of rows i ≡ Some r) × (decided_command r ≡ Some v)

@@ -1,10 +1,10 @@
 -- The lowest undecided instances, before and after rows were put.
-use Rattle.std.proofs.Common.{◌≡◌, ℕ, zero, suc, ◌+◌, ◌-◌, ◌<◌, ◌≤◌, Bool, true, false, cond, not, ◌==◌, nat_lt, ◌||◌, ◌&&◌, if◌then◌else◌, List, [], ◌∷◌, ◌++◌, map, filter, length, take, drop, get_or, Option, None, Some, option_map, is_some, IsTrue, refl, ap, sym, ◌∙◌, arith, subst, eqb-true, append_assoc, append-nil}
+use Rattle.std.proofs.Common.{◌≡◌, ℕ, zero, suc, ◌+◌, ◌-◌, ◌<◌, ◌≤◌, Bool, true, false, not, ◌==◌, nat_lt, ◌||◌, ◌&&◌, if◌then◌else◌, List, [], ◌∷◌, ◌++◌, map, filter, length, take, drop, get_or, Option, None, Some, option_map, is_some, refl, ap, sym, ◌∙◌, arith, subst, eqb-true, append_assoc, append-nil}
 use Rattle.std.specs.List.{list_any, All}
-use Rattle.std.proofs.lemmas.Bool.{ne_eqb, eq-eqb, lt-ltb, le-ltb, ltb-true, ltb-false, eqb-false}
-use Rattle.std.proofs.lemmas.List.{take_more, take_all, drop_more, drop_all}
+use Rattle.std.proofs.lemmas.Bool.{ne_eqb, lt-ltb, le-ltb, ltb-true, ltb-false, eqb-false}
+use Rattle.std.proofs.lemmas.List.{take_more, drop_more}
 use Rattle.std.proofs.lemmas.List.Elements.{All-head, All-tail}
-use Rattle.std.proofs.lemmas.Option.{none-some, same_Some}
+use Rattle.std.proofs.lemmas.Option.{none-some}
 use Rattle.rr_types.specs.declared.command.Command.{Command}
 use Rattle.rr_types.specs.declared.promise.Standing.{Standing}
 use Rattle.rr_types.specs.declared.promise.Standing.TheVariants.{Decided, Open}
@@ -13,11 +13,10 @@ use Rattle.rr_types.specs.Facts.{decision_of}
 use Rattle.rr_types.specs.Promises.{AscendsFrom}
 use Rattle.rr_model.specs.NodeState.{Row, row_of, put_row, is_decided, decided_command, undecided_from, lowest_undecided}
 use Rattle.rr_model.specs.NodeStep.{promised_row}
-use Rattle.rr_model.proofs.NodeRows.{row_of-put_row, row_of_instance}
 use Rattle.rr_list.specs.Listed.{put_rows, decision_at, KeepsDecisions}
-use Rattle.rr_list.specs.Rowed.{AscendFrom, AreInstances, is_undecided}
+use Rattle.rr_list.specs.Rowed.{AscendFrom, is_undecided}
 use Rattle.rr_list.specs.Opened.{open_in}
-use Rattle.rr_list.proofs.TableLemmas.{decision_none, decision_some, none_below}
+use Rattle.rr_list.proofs.TableLemmas.{decision_none, none_below}
 use Rattle.rr_list.proofs.NotedLemmas.{row_stays}
 
 -- a row has decided where it has a decision

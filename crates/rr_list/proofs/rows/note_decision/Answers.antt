@@ -1,4 +1,4 @@
-use Rattle.std.proofs.Common.{◌≡◌, ap, sym, ◌∙◌, arith, Some, None}
+use Rattle.std.proofs.Common.{ap, sym, ◌∙◌, arith}
 use Rattle.rr_places.specs.Places.{filled}
 use Rattle.rr_registry.proofs.TableLemmas.{exact_requests}
 use Rattle.rr_list.specs.Listed.{decision_at}

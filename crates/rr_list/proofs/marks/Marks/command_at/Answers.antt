@@ -1,4 +1,4 @@
-use Rattle.std.proofs.Common.{ap, sym, ◌∙◌, arith}
+use Rattle.std.proofs.Common.{sym, ◌∙◌, arith}
 use Rattle.rr_list.specs.Marked.{marked_in}
 use Rattle.rr_list.proofs.MarkLemmas.{command_in}
 use Rattle.rr_list.proofs.marks.Marks.command_at.Goals as goal

@@ -1,4 +1,4 @@
-use Rattle.std.proofs.Common.{ap, sym, ◌∙◌, arith, is_some}
+use Rattle.std.proofs.Common.{ap, ◌∙◌, arith, is_some}
 use Rattle.rr_types.specs.Promises.{take_on_all}
 use Rattle.rr_list.specs.Marked.{marked_in}
 use Rattle.rr_list.proofs.MarkLemmas.{decided_in, prefix_stays}

@@ -1,4 +1,4 @@
-use Rattle.std.proofs.Common.{ap, sym, ◌∙◌, arith, ◌+◌, ◌<◌}
+use Rattle.std.proofs.Common.{ap, ◌∙◌, arith}
 use Rattle.rr_places.specs.Places.{filled}
 use Rattle.rr_list.specs.Marked.{entries_in}
 use Rattle.rr_list.proofs.MarkLemmas.{set_entry_at, entered_at, ascend_set, instances_set}

@@ -1,7 +1,7 @@
 use Rattle.std.proofs.Common.{◌≡◌, ℕ, drop}
 use Rattle.rr_types.specs.Promises.{take_on_all}
 use Rattle.rr_list.specs.Listed.{AllInRound}
-use Rattle.rr_list.specs.Marked.{marked_in, has_mark_place, AreMarks, HaveMarkPlaces}
+use Rattle.rr_list.specs.Marked.{marked_in, has_mark_place, AreMarks}
 use Rattle.rr_list.proofs.marks.Marks.take_on_all.Given as goal
 
 -- what is left leads to what all the facts lead to

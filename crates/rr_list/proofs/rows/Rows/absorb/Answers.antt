@@ -1,4 +1,4 @@
-use Rattle.std.proofs.Common.{◌≡◌, ◌<◌, List, map, ap, sym, ◌∙◌, subst, IsTrue}
+use Rattle.std.proofs.Common.{◌<◌, List, map, ap, sym, ◌∙◌, subst, IsTrue}
 use Rattle.std.specs.List.{All}
 use Rattle.std.specs.Ordering.{nat_cmp}
 use Rattle.rr_model.specs.NodeState.{Row}

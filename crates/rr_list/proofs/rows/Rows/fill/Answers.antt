@@ -1,4 +1,4 @@
-use Rattle.std.proofs.Common.{◌≡◌, ap, sym, ◌∙◌, arith, length, ◌-◌}
+use Rattle.std.proofs.Common.{◌∙◌, arith, length, ◌-◌}
 use Rattle.rr_list.proofs.OpenLemmas.{fill_step, fill_few}
 use Rattle.rr_list.proofs.rows.Rows.fill.Goals as goal
 

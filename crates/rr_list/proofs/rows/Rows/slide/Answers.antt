@@ -1,4 +1,4 @@
-use Rattle.std.proofs.Common.{◌≡◌, ap, sym, ◌∙◌, arith, filter, length, ◌++◌, ◌-◌, ◌+◌, get_or}
+use Rattle.std.proofs.Common.{◌≡◌, ap, ◌∙◌, arith, filter, length, ◌++◌, ◌-◌, ◌+◌, get_or}
 use Rattle.rr_model.specs.NodeState.{lowest_undecided}
 use Rattle.rr_list.specs.Rowed.{is_undecided}
 use Rattle.rr_list.proofs.OpenLemmas.{slides, runs_short}

@@ -1,4 +1,4 @@
-use Rattle.std.proofs.Common.{◌≡◌, ap, sym, ◌∙◌, arith, ◌-◌, ◌+◌}
+use Rattle.std.proofs.Common.{◌≡◌, ap, ◌∙◌, arith, ◌-◌, ◌+◌}
 use Rattle.rr_model.specs.NodeState.{lowest_undecided}
 use Rattle.rr_list.proofs.OpenLemmas.{open_here, open_from, open_is}
 use Rattle.rr_list.proofs.rows.Rows.undecided_from.Goals as goal

@@ -1,4 +1,4 @@
-use Rattle.std.proofs.Common.{◌≡◌, ◌≤◌, ◌-◌, ℕ, drop, suc}
+use Rattle.std.proofs.Common.{◌≡◌, ◌≤◌, ◌-◌, ℕ, drop}
 use Rattle.rr_model.specs.NodeState.{lowest_undecided}
 use Rattle.rr_list.proofs.rows.Rows.undecided_from.Given as goal
 
