@@ -1,5 +1,5 @@
 -- Rows at their instances: what a look-up finds, and a row put.
-use Rattle.std.proofs.Common.{◌≡◌, ℕ, ◌+◌, ◌-◌, ◌<◌, ◌≤◌, Bool, true, false, cond, ◌==◌, nat_lt, ◌||◌, ◌&&◌, List, [], ◌∷◌, ◌++◌, Option, None, Some, option_map, is_some, refl, ap, sym, ◌∙◌, arith, subst, eqb-true}
+use Rattle.std.proofs.Common.{◌≡◌, ℕ, ◌+◌, ◌<◌, ◌≤◌, Bool, true, false, cond, ◌==◌, nat_lt, ◌||◌, List, [], ◌∷◌, None, Some, option_map, refl, ap, sym, ◌∙◌, arith, eqb-true}
 use Rattle.std.specs.Ordering.{is_eq, nat_cmp}
 use Rattle.std.specs.List.{list_any}
 use Rattle.std.specs.BTreeMap.{insert_entry, is_at}
@@ -7,10 +7,9 @@ use Rattle.std.specs.Map.{lookup}
 use Rattle.std.proofs.lemmas.Bool.{ne_eqb, eq-eqb}
 use Rattle.std.proofs.lemmas.Bool.Decides.{nat_tests}
 use Rattle.std.proofs.lemmas.Option.{none-some, same_Some}
-use Rattle.rr_types.specs.declared.command.Command.{Command}
 use Rattle.rr_types.specs.Facts.{decision_of}
 use Rattle.rr_model.specs.NodeState.{Row, row_of, put_row, decided_command}
-use Rattle.rr_list.specs.Listed.{put_rows, decision_at}
+use Rattle.rr_list.specs.Listed.{decision_at}
 use Rattle.rr_list.specs.Rowed.{rows_in, AreKeyed, AscendFrom}
 
 or_right : (a : Bool) {b : Bool} → b ≡ true → (a || b) ≡ true
@@ -22,7 +21,7 @@ or_left true b h t = cc
 or_left false b h t = t
 
 -- a number compares as equal where it is one
-eq_nat_cmp : (i j : ℕ) → is_eq (nat_cmp i j) ≡ (j == i)
+pub eq_nat_cmp : (i j : ℕ) → is_eq (nat_cmp i j) ≡ (j == i)
 eq_nat_cmp i j = grind (arith, nat_tests)
 
 row_by : (e : ℕ × Row) (es : List (ℕ × Row)) (i : ℕ) → e.0 ≡ e.1.instance → row_of (rows_in es) i ≡ lookup (is_at (nat_cmp i)) es → (b : Bool) → (e.1.instance == i) ≡ b → row_of (rows_in (e ∷ es)) i ≡ lookup (is_at (nat_cmp i)) (e ∷ es)

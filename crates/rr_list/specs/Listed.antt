@@ -1,4 +1,4 @@
-use Rattle.std.specs.Prelude.{◌≡◌, ℕ, ◌<◌, List, [], ◌∷◌, Option, None, Some, option_map}
+use Rattle.std.specs.Prelude.{◌≡◌, ℕ, List, [], ◌∷◌, Option, None, Some, option_map}
 use Rattle.rr_types.specs.declared.command.Command.{Command}
 use Rattle.rr_types.specs.declared.fact.Fact.{Fact}
 use Rattle.rr_types.specs.declared.fact.Fact.TheVariants.{Enter, Propose, Adopt, Decide}
@@ -6,7 +6,7 @@ use Rattle.rr_types.specs.declared.promise.Standing.{Standing}
 use Rattle.rr_types.specs.declared.promise.Entry.{Entry}
 use Rattle.rr_types.specs.Facts.{instance_of, decision_of}
 use Rattle.rr_types.specs.Standings.{round_of}
-use Rattle.rr_types.specs.Promises.{standing_in, take_on, take_on_all}
+use Rattle.rr_types.specs.Promises.{standing_in, take_on}
 use Rattle.rr_model.specs.NodeState.{Row, row_of, put_row}
 
 -- the instances that the facts name, by their rows, and the promise of the marked facts

@@ -1,4 +1,4 @@
-use Rattle.std.proofs.Common.{◌≡◌, ap, sym, ◌∙◌, subst, IsTrue, arith, take}
+use Rattle.std.proofs.Common.{◌∙◌}
 use Rattle.rr_places.specs.Places.{filled}
 use Rattle.rr_list.specs.Rowed.{rows_in}
 use Rattle.rr_list.proofs.NotedLemmas.{noted_more}

@@ -1,4 +1,4 @@
-use Rattle.std.proofs.Common.{ap, sym, ◌∙◌, ◌++◌, ◌∷◌, []}
+use Rattle.std.proofs.Common.{ap, ◌∙◌, ◌++◌, ◌∷◌, []}
 use Rattle.std.specs.List.{list_any}
 use Rattle.rr_list.proofs.ArrivalLemmas.{is_of, indexed_push, indexed_back, pushed}
 use Rattle.rr_list.proofs.arrivals.Arrivals.push.Goals as goal

@@ -1,4 +1,4 @@
-use Rattle.std.proofs.Common.{ap, sym, ◌∙◌, filter, not}
+use Rattle.std.proofs.Common.{ap, ◌∙◌, filter, not}
 use Rattle.rr_list.specs.Arrived.{without_first}
 use Rattle.rr_list.proofs.ArrivalLemmas.{is_of, indexed_remove, removed, not_there, first_is_all}
 use Rattle.rr_list.proofs.arrivals.Arrivals.remove.Goals as goal
