@@ -2,3 +2,6 @@ pub mod ArrivalLemmas
 pub mod PoolLemmas
 pub mod TableLemmas
 pub mod NotedLemmas
+pub mod MarkLemmas
+pub mod OpenLemmas
+pub mod ListedLemmas

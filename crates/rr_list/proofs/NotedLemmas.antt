@@ -87,28 +87,28 @@ pub above_is_decided : (es : List (ℕ × Row)) (requests : List (RequestNo × U
 above_is_decided es requests end i h p =
     same_bool (nat_lt i (end - 1)) (list_any (is_decided_above i) (rows_in es))
     (λ t.
-      let v = some_of (decision_at (rows_in es) (end - 1)) (h.reached p) in
-      let r = row_decided (rows_in es) (end - 1) v.0 v.1 in
-      let at : r.0.instance ≡ end - 1 = row_of_instance (rows_in es) (end - 1) r.0 r.1 in
-      at_any (is_decided_above i) (rows_in es) (end - 1) r.0 r.1 (rw (at, t) (is_decided_by r.0 r.0.standing refl v.0 r.2)))
+    let v = some_of (decision_at (rows_in es) (end - 1)) (h.reached p) in
+    let r = row_decided (rows_in es) (end - 1) v.0 v.1 in
+    let at : r.0.instance ≡ end - 1 = row_of_instance (rows_in es) (end - 1) r.0 r.1 in
+    at_any (is_decided_above i) (rows_in es) (end - 1) r.0 r.1 (rw (at, t) (is_decided_by r.0 r.0.standing refl v.0 r.2)))
     (λ t.
-      let r = any_at (is_decided_above i) 0 (rows_in es) h.ascend t in
-      let b = both (nat_lt i r.0.instance) (is_decided r.0) r.2 in
-      let v = decided_of r.0 r.0.standing refl b.1 in
-      let l = h.above r.0.instance v.0 (decision_some (rows_in es) r.0.instance r.0 r.1 ∙ v.1) in
-      let k = ltb-true _ _ b.0 in
-      lt-ltb _ _ (omega arith))
+    let r = any_at (is_decided_above i) 0 (rows_in es) h.ascend t in
+    let b = both (nat_lt i r.0.instance) (is_decided r.0) r.2 in
+    let v = decided_of r.0 r.0.standing refl b.1 in
+    let l = h.above r.0.instance v.0 (decision_some (rows_in es) r.0.instance r.0 r.1 ∙ v.1) in
+    let k = ltb-true _ _ b.0 in
+    lt-ltb _ _ (omega arith))
 
 -- with the end at 0 nothing has decided
 pub none_decided : (es : List (ℕ × Row)) (requests : List (RequestNo × Unit {0})) (end i : ℕ) → IsTable es requests end → end ≡ 0 → false ≡ list_any (is_decided_above i) (rows_in es)
 none_decided es requests end i h e =
     same_bool false (list_any (is_decided_above i) (rows_in es)) (λ t. cc)
     (λ t.
-      let r = any_at (is_decided_above i) 0 (rows_in es) h.ascend t in
-      let b = both (nat_lt i r.0.instance) (is_decided r.0) r.2 in
-      let v = decided_of r.0 r.0.standing refl b.1 in
-      let l = h.above r.0.instance v.0 (decision_some (rows_in es) r.0.instance r.0 r.1 ∙ v.1) in
-      absurd (omega (arith, e)))
+    let r = any_at (is_decided_above i) 0 (rows_in es) h.ascend t in
+    let b = both (nat_lt i r.0.instance) (is_decided r.0) r.2 in
+    let v = decided_of r.0 r.0.standing refl b.1 in
+    let l = h.above r.0.instance v.0 (decision_some (rows_in es) r.0.instance r.0 r.1 ∙ v.1) in
+    absurd (omega (arith, e)))
 
 only_one : (i j : ℕ) → list_any (λ k. k == j) (i ∷ []) ≡ true → i ≡ j
 only_one i j h = at (i == j) refl h
@@ -178,9 +178,9 @@ noted_push rows is i before between after end mid higher h k = record {
   decided = λ d. k.decided (h.decided d);
   grown = λ q d. k.grown q (h.grown q d);
   held = λ j v any d.
-    either (list_any (λ x. x == j) is) (list_any (λ x. x == j) (i ∷ [])) (sym (any_append (λ x. x == j) is i) ∙ any)
-    (λ a. let x = h.held j v a d in let l = k.risen in let m = x.1 in (k.grown v.request x.0, omega arith))
-    (λ a. k.held j v a d);
+      either (list_any (λ x. x == j) is) (list_any (λ x. x == j) (i ∷ [])) (sym (any_append (λ x. x == j) is i) ∙ any)
+      (λ a. let x = h.held j v a d in let l = k.risen in let m = x.1 in (k.grown v.request x.0, omega arith))
+      (λ a. k.held j v a d);
   risen = let l = h.risen in let m = k.risen in omega arith;
   reached = λ d. k.reached (h.reached d);
 }
@@ -224,7 +224,7 @@ stays_by row rows is i h = at (row.instance == i) refl h
     at true e x = cc
     at false e x = (row_of-put_row row rows i ∙ rw e, x)
 
-row_stays : (rows changes : List Row) (i : ℕ) → list_any (λ j. j == i) (map (λ (r : Row). r.instance) changes) ≡ false → row_of (put_rows rows changes) i ≡ row_of rows i
+pub row_stays : (rows changes : List Row) (i : ℕ) → list_any (λ j. j == i) (map (λ (r : Row). r.instance) changes) ≡ false → row_of (put_rows rows changes) i ≡ row_of rows i
 row_stays rows [] i h = refl
 row_stays rows (c ∷ cs) i h =
     let s = stays_by c rows (map (λ (r : Row). r.instance) cs) i h in
@@ -269,12 +269,12 @@ table_absorbed es new changes is requests after end higher h keyed rows e all ke
       instances = rw rows (instances_puts (rows_in es) changes h.instances all);
       decided = noted.decided (λ q t. let d = decided_any 0 (rows_in es) q h.ascend (h.decided q t) in any_decided (rows_in new) d.0 d.1 q (kept d.0 d.1 d.2) d.3);
       holds = λ i v d.
-        by_touch i (λ t. (noted.held i v t d).0)
-        (λ o. noted.grown v.request (h.holds i v (sym (ap (λ x. decision_of (option_map (λ (r : Row). r.standing) x)) (ap (λ z. row_of z i) rows ∙ row_stays (rows_in es) changes i o)) ∙ d)));
+          by_touch i (λ t. (noted.held i v t d).0)
+          (λ o. noted.grown v.request (h.holds i v (sym (ap (λ x. decision_of (option_map (λ (r : Row). r.standing) x)) (ap (λ z. row_of z i) rows ∙ row_stays (rows_in es) changes i o)) ∙ d)));
       reached = noted.reached (λ p. let v = some_of (decision_at (rows_in es) (end - 1)) (h.reached p) in ap (λ o. is_some o) (kept (end - 1) v.0 v.1));
       above = λ i v d.
-        by_touch i (λ t. (noted.held i v t d).1)
-        (λ o. let l = h.above i v (sym (ap (λ x. decision_of (option_map (λ (r : Row). r.standing) x)) (ap (λ z. row_of z i) rows ∙ row_stays (rows_in es) changes i o)) ∙ d) in let m = noted.risen in omega arith);
+          by_touch i (λ t. (noted.held i v t d).1)
+          (λ o. let l = h.above i v (sym (ap (λ x. decision_of (option_map (λ (r : Row). r.standing) x)) (ap (λ z. row_of z i) rows ∙ row_stays (rows_in es) changes i o)) ∙ d) in let m = noted.risen in omega arith);
     }
   where
     by_bool : {Z : Type 0} (b : Bool) → (b ≡ true → Z) → (b ≡ false → Z) → Z

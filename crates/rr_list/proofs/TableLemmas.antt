@@ -22,7 +22,7 @@ or_left true b h t = cc
 or_left false b h t = t
 
 -- a number compares as equal where it is one
-eq_nat_cmp : (i j : ℕ) → is_eq (nat_cmp i j) ≡ (j == i)
+pub eq_nat_cmp : (i j : ℕ) → is_eq (nat_cmp i j) ≡ (j == i)
 eq_nat_cmp i j = grind (arith, nat_tests)
 
 row_by : (e : ℕ × Row) (es : List (ℕ × Row)) (i : ℕ) → e.0 ≡ e.1.instance → row_of (rows_in es) i ≡ lookup (is_at (nat_cmp i)) es → (b : Bool) → (e.1.instance == i) ≡ b → row_of (rows_in (e ∷ es)) i ≡ lookup (is_at (nat_cmp i)) (e ∷ es)

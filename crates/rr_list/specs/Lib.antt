@@ -1,3 +1,5 @@
 pub mod Listed
 pub mod Arrived
 pub mod Rowed
+pub mod Marked
+pub mod Opened

@@ -1,4 +1,4 @@
-use Rattle.std.specs.Prelude.{◌≡◌, ℕ, ◌+◌, ◌-◌, ◌<◌, ◌≤◌, Bool, true, false, List, [], ◌∷◌, Option, None, Some, is_some, IsTrue, ◌==◌}
+use Rattle.std.specs.Prelude.{◌≡◌, ℕ, ◌+◌, ◌-◌, ◌<◌, ◌≤◌, Bool, true, false, List, [], ◌∷◌, Option, None, Some, is_some, not, IsTrue, ◌==◌}
 use Rattle.std.specs.Option.{option_map_or}
 use Rattle.std.specs.List.{list_any}
 use Rattle.std.specs.BTreeMap.{is_at}
@@ -69,6 +69,10 @@ pub record IsNoted (rows : List Row) (instances : List ℕ) (before after : List
   pub held : (i : ℕ) (v : Command) → list_any (λ j. j == i) instances ≡ true → decision_at rows i ≡ Some v → (is_held after v.request ≡ true) × (i < higher)
   pub risen : end ≤ higher
   pub reached : IsReached rows end → IsReached rows higher
+
+-- whether an instance hasn't decided
+abbrev pub is_undecided : List Row → ℕ → Bool
+is_undecided rows i = not (is_some (decision_at rows i))
 
 -- a table of rows with the requests that they have decided, and the end of the decided instances
 pub record IsTable (entries : List (ℕ × Row)) (requests : List (RequestNo × Unit {0})) (end : ℕ) : Type 0 where

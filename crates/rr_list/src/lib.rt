@@ -3,10 +3,15 @@
 #![tactic(auto)]
 
 mod arrivals;
+mod instances;
+mod marks;
+mod opening;
 mod pool;
 mod rows;
 mod waiting;
+mod window;
 
 pub use arrivals::{Requested, Values};
+pub use instances::Instances;
 pub use pool::Pool;
 pub use waiting::Waiting;

@@ -39,21 +39,8 @@ impl Model for Rows {
     ghost invariant = { λ t. IsTable (filled t.rows.entries) (filled t.requests.entries) t.end };
 }
 
-/// The command that a row's instance has decided.
-pub(crate) fn decision_of(row: &Row) -> Option<Command>
-    ensures { result ≡ decided_command row.now }
-{
-    match row.standing {
-        Standing::Decided(command) => Some(command),
-        Standing::Open(_) => None,
-    }
-}
-
 /// Makes a place for the row of each of these instances.
-fn make_row_places(
-    map: &mut BTreeMap<u32, Option<Row>>,
-    rows: &[Row],
-) -> Result<(), Refusal>
+fn make_row_places(map: &mut BTreeMap<u32, Option<Row>>, rows: &[Row]) -> Result<(), Refusal>
     ensures filled { filled map.new.entries ≡ filled map.old.entries }
     ensures made { OnOk result (All (λ r. IsTrue (has_place nat_cmp map.new.entries r.instance)) rows.now) }
     ensures instances { OnOk result (All (λ r. r.instance < 1048576) rows.now) }
@@ -66,16 +53,13 @@ fn make_row_places(
 }
 
 /// Makes a place for the request that a row has decided.
-fn make_request_place(
-    map: &mut BTreeMap<RequestNo, Option<()>>,
-    row: &Row,
-) -> Result<(), Refusal>
+fn make_request_place(map: &mut BTreeMap<RequestNo, Option<()>>, row: &Row) -> Result<(), Refusal>
     ensures filled { filled map.new.entries ≡ filled map.old.entries }
     ensures made { OnOk result (IsTrue (has_request_place map.new.entries row.now)) }
     ensures stay { (q : RequestNo) → IsTrue (has_place request_cmp map.old.entries q) → IsTrue (has_place request_cmp map.new.entries q) }
     ensures err { IfErr result (λ e. e ≡ Refusal.OutOfMemory) }
 {
-    match decision_of(row) {
+    match row.decided_command() {
         Some(command) => {
             make_place(map, command.request)?;
             Ok(())
@@ -131,7 +115,7 @@ fn drop_free_places(
     let _parts: Option<(Command, Op, Standing)> = None;
     for row in rows {
         drop_free_place(map, &row.instance.number());
-        if let Some(command) = decision_of(row) {
+        if let Some(command) = row.decided_command() {
             drop_free_place(requests, &command.request);
         }
     }
@@ -190,7 +174,7 @@ fn note_decision(
     let number = instance.number();
     match value_of(rows, &number) {
         None => end,
-        Some(row) => match decision_of(row) {
+        Some(row) => match row.decided_command() {
             None => end,
             Some(command) => {
                 put(requests, command.request, Some(()));
@@ -264,6 +248,8 @@ impl Rows {
         requires { KeepsDecisions self.old (put_rows self.old rows.items) }
         ensures ok { OnOk result (self.new ≡ put_rows self.old rows.items) }
         ensures kept { OnErr result (self.new ≡ self.old) }
+        ensures ascend { OnOk result (AscendFrom 0 self.new) }
+        ensures instances { OnOk result (AreInstances self.new) }
         ensures err { IfErr result (λ e. e ≡ Refusal.OutOfMemory) }
     {
         let instances = match instances_of(alloc, &rows) {

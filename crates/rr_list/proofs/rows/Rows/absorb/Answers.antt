@@ -4,8 +4,8 @@ use Rattle.std.specs.Ordering.{nat_cmp}
 use Rattle.rr_model.specs.NodeState.{Row}
 use Rattle.rr_places.specs.Places.{filled, has_place}
 use Rattle.rr_list.specs.Listed.{put_rows, KeepsDecisions}
-use Rattle.rr_list.specs.Rowed.{rows_in, HavePlaces, HoldsDecided, has_request_place, IsNoted}
-use Rattle.rr_list.proofs.NotedLemmas.{put_places, held_place, table_absorbed}
+use Rattle.rr_list.specs.Rowed.{rows_in, HavePlaces, HoldsDecided, has_request_place, IsNoted, AscendFrom, AreInstances}
+use Rattle.rr_list.proofs.NotedLemmas.{put_places, held_place, table_absorbed, ascend_puts, instances_puts}
 use Rattle.rr_list.proofs.rows.Rows.absorb.Goals as goal
 
 pub put_all-requires-clause-places : goal.put_all-requires-clause-places
@@ -19,7 +19,7 @@ note_decisions-self-inside-requires-clause-places c =
     let rows = c.put_all.ensures.rows ∙ ap (λ es. put_rows (rows_in es) c.args.rows.items) c.in-Ok-make_places.ensures.rows in
     subst (HavePlaces places) (sym rows)
     (put_places places before c.args.rows.items (held_place places before held)
-      (subst (All (λ (r : Row). IsTrue (has_request_place places r))) c.deref-2.ensures.value c.in-Ok-make_places.ensures.request_places))
+    (subst (All (λ (r : Row). IsTrue (has_request_place places r))) c.deref-2.ensures.value c.in-Ok-make_places.ensures.request_places))
 
 pub invariant_of-self : goal.invariant_of-self
 invariant_of-self c =
@@ -30,3 +30,15 @@ invariant_of-self c =
     (subst (All (λ (r : Row). r.instance < 1048576)) c.deref-2.ensures.value c.in-Ok-make_places.ensures.instances)
     (subst (λ before. KeepsDecisions before (put_rows before c.args.rows.items)) (sym c.self.view_is) c.requires)
     (subst (λ requests. IsNoted (rows_in (filled c.put_all.new.map.entries)) c.deref-in-Ok-make_places.result.now requests (filled c.note_decisions-self-inside.new.requests.entries) c.self.inside.end c.note_decisions-self-inside.result) c.in-Ok-make_places.ensures.requests c.note_decisions-self-inside.ensures.noted)
+
+pub returns-in-Ok-make_places-clause-ascend : goal.returns-in-Ok-make_places-clause-ascend
+returns-in-Ok-make_places-clause-ascend c =
+    let rows = c.put_all.ensures.rows ∙ ap (λ es. put_rows (rows_in es) c.args.rows.items) c.in-Ok-make_places.ensures.rows in
+    subst (AscendFrom 0) (sym rows) (ascend_puts (rows_in (filled c.self.inside.rows.entries)) c.args.rows.items c.self.invariant.ascend)
+
+pub returns-in-Ok-make_places-clause-instances : goal.returns-in-Ok-make_places-clause-instances
+returns-in-Ok-make_places-clause-instances c =
+    let rows = c.put_all.ensures.rows ∙ ap (λ es. put_rows (rows_in es) c.args.rows.items) c.in-Ok-make_places.ensures.rows in
+    subst AreInstances (sym rows)
+    (instances_puts (rows_in (filled c.self.inside.rows.entries)) c.args.rows.items c.self.invariant.instances
+    (subst (All (λ (r : Row). r.instance < 1048576)) c.deref-2.ensures.value c.in-Ok-make_places.ensures.instances))

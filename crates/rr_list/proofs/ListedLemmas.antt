@@ -1,0 +1,125 @@
+-- The table of instances: a promise restored, and the places of its marks.
+use Rattle.std.proofs.Common.{◌≡◌, ℕ, ◌+◌, ◌<◌, ◌≤◌, Bool, true, false, cond, ◌==◌, nat_lt, ◌||◌, List, [], ◌∷◌, ◌++◌, map, length, drop, get_or, Option, None, Some, option_map, IsTrue, refl, ap, sym, ◌∙◌, arith, subst, eqb-true, append_assoc, append-nil}
+use Rattle.std.specs.List.{list_any, All}
+use Rattle.std.proofs.lemmas.Bool.{ne_eqb, le-ltb}
+use Rattle.std.proofs.lemmas.List.{drop_all, drop_more}
+use Rattle.std.proofs.lemmas.List.Elements.{All-head, All-tail}
+use Rattle.std.proofs.lemmas.Option.{none-some}
+use Rattle.rr_types.specs.declared.command.Command.{Command}
+use Rattle.rr_types.specs.declared.promise.Entry.{Entry}
+use Rattle.rr_types.specs.declared.fact.Fact.{Fact}
+use Rattle.rr_types.specs.Promises.{AscendsFrom, set_entry, take_on_all}
+use Rattle.rr_model.specs.NodeState.{Row, row_of, decided_from}
+use Rattle.rr_list.specs.declared.marks.Marks.{Marks}
+use Rattle.rr_list.specs.Listed.{Listed, put_rows, KeepsDecisions, HaveRows}
+use Rattle.rr_list.specs.Rowed.{AscendFrom, AreInstances}
+use Rattle.rr_list.specs.Marked.{has_mark_place, marked_in, AreMarks, IsCounted, HaveMarkPlaces, set_all}
+use Rattle.rr_list.specs.Opened.{open_in, ArePlaced, IsListed}
+use Rattle.rr_list.proofs.NotedLemmas.{row_stays}
+
+pub set_all_more : (es xs : List Entry) (k : ℕ) (x : Entry) → k < length xs → x ≡ get_or xs k x → set_all es (drop k xs) ≡ set_all (set_entry x.instance x.standing es) (drop (k + 1) xs)
+set_all_more es xs k x l g = ap (set_all es) (drop_more xs k x l ∙ ap (λ (y : Entry). y ∷ drop (k + 1) xs) (sym g))
+
+pub set_all_end : (es xs : List Entry) (k : ℕ) → length xs ≤ k → set_all es (drop k xs) ≡ es
+set_all_end es xs k l = ap (set_all es) (drop_all k xs l)
+
+abbrev pub AreUnder : ℕ → List Entry → Type 0
+AreUnder low [] = Unit {0}
+AreUnder low (e ∷ es) = (e.instance < low) × AreUnder low es
+
+set_behind : (x : Entry) (es : List Entry) → AreUnder x.instance es → set_entry x.instance x.standing es ≡ es ++ x ∷ []
+set_behind x [] h = refl
+set_behind x (e ∷ es) h =
+    let k = h.0 in
+    let a : nat_lt x.instance e.instance ≡ false = le-ltb _ _ (omega arith) in
+    let b : (x.instance == e.instance) ≡ false = ne_eqb _ _ (λ y. omega (arith, y)) in
+    rw (a, b) (ap (λ z. e ∷ z) (set_behind x es h.1))
+
+under_push : (low : ℕ) (es : List Entry) (x : Entry) → AreUnder low es → x.instance < low → AreUnder low (es ++ x ∷ [])
+under_push low [] x h l = (l, tt)
+under_push low (e ∷ es) x h l = (h.0, under_push low es x h.1 l)
+
+under_more : (low high : ℕ) (es : List Entry) → low ≤ high → AreUnder low es → AreUnder high es
+under_more low high [] l h = tt
+under_more low high (e ∷ es) l h = let k = h.0 in (omega arith, under_more low high es l h.1)
+
+set_promise : (low : ℕ) (es xs : List Entry) → AscendsFrom low xs → AreUnder low es → set_all es xs ≡ es ++ xs
+set_promise low es [] h b = sym (append-nil es)
+set_promise low es (x ∷ xs) h b =
+    let l = h.0 in
+    let below : AreUnder x.instance es = under_more low x.instance es (omega arith) b in
+    ap (λ z. set_all z xs) (set_behind x es below)
+    ∙ set_promise (x.instance + 1) (es ++ x ∷ []) xs h.1 (under_push (x.instance + 1) es x (under_more x.instance (x.instance + 1) es (omega arith) below) (omega arith))
+    ∙ append_assoc es (x ∷ []) xs
+
+-- the entries of a promise set among none
+pub promise_set : (xs : List Entry) → AscendsFrom 0 xs → set_all [] xs ≡ xs
+promise_set xs h = set_promise 0 [] xs h tt
+
+by_bool : {Z : Type 0} (b : Bool) → (b ≡ true → Z) → (b ≡ false → Z) → Z
+by_bool true f g = f refl
+by_bool false f g = g refl
+
+place_of : (marks : Marks) (changes : List Row) (i : ℕ) → All (λ r. IsTrue (has_mark_place marks r.instance)) changes → list_any (λ j. j == i) (map (λ (r : Row). r.instance) changes) ≡ true → has_mark_place marks i ≡ true
+place_of marks [] i a h = cc
+place_of marks (c ∷ cs) i a h =
+    at (All-head (λ (r : Row). IsTrue (has_mark_place marks r.instance)) c cs a) (place_of marks cs i (All-tail (λ (r : Row). IsTrue (has_mark_place marks r.instance)) c cs a)) (c.instance == i) refl h
+  where
+    at : has_mark_place marks c.instance ≡ true → (list_any (λ j. j == i) (map (λ (r : Row). r.instance) cs) ≡ true → has_mark_place marks i ≡ true) → (b : Bool) → (c.instance == i) ≡ b → (b || list_any (λ j. j == i) (map (λ (r : Row). r.instance) cs)) ≡ true → has_mark_place marks i ≡ true
+    at p more true e t = subst (λ z. has_mark_place marks z ≡ true) (eqb-true c.instance i e) p
+    at p more false e t = more t
+
+-- the places of more rows
+pub placed_over : (rows changes : List Row) (before after : Marks) → ArePlaced rows before → ((i : ℕ) → IsTrue (has_mark_place before i) → IsTrue (has_mark_place after i)) → All (λ r. IsTrue (has_mark_place after r.instance)) changes → ArePlaced (put_rows rows changes) after
+placed_over rows changes before after h stay a i f =
+    by_bool (list_any (λ j. j == i) (map (λ (r : Row). r.instance) changes))
+    (λ t. let x = place_of after changes i a t in absurd (let y : true ≡ false = sym x ∙ f in cc))
+    (λ t. row_stays rows changes i t ∙ h i (by_bool (has_mark_place before i) (λ p. let x = stay i p in absurd (let y : true ≡ false = sym x ∙ f in cc)) (λ p. p)))
+
+-- with no rows nothing was decided
+pub nothing_kept : (rows : List Row) → KeepsDecisions [] rows
+nothing_kept rows i v d = absurd (none-some v d)
+
+-- the table with more places for its marks
+pub listed_made : (rows : List Row) (window : List ℕ) (before after : Marks) → IsListed rows window before → (AreMarks before → AreMarks after) → marked_in after ≡ marked_in before → after.prefix ≡ before.prefix → ((i : ℕ) → IsTrue (has_mark_place before i) → IsTrue (has_mark_place after i)) → IsListed rows window after
+listed_made rows window before after h marks same prefix stay = record {
+  shown = h.shown;
+  ascend = h.ascend;
+  instances = h.instances;
+  in_order = marks h.in_order;
+  counted = (let c = h.counted.count in let s = h.counted.small in record { count = prefix ∙ c ∙ ap (λ es. length (decided_from 0 es)) (sym same); small = omega (arith, prefix) });
+  placed = λ i f. h.placed i (by_bool (has_mark_place before i) (λ p. let x = stay i p in absurd (let y : true ≡ false = sym x ∙ f in cc)) (λ p. p));
+}
+
+-- the table after rows were put
+pub listed_absorbed : (rows after : List Row) (changes : List Row) (window shown : List ℕ) (before marks : Marks) → IsListed rows window before → after ≡ put_rows rows changes → AscendFrom 0 after → AreInstances after → shown ≡ open_in after → (AreMarks before → AreMarks marks) → marked_in marks ≡ marked_in before → marks.prefix ≡ before.prefix → ((i : ℕ) → IsTrue (has_mark_place before i) → IsTrue (has_mark_place marks i)) → All (λ r. IsTrue (has_mark_place marks r.instance)) changes → IsListed after shown marks
+listed_absorbed rows after changes window shown before marks h put ascend instances opened order same prefix stay made =
+    let m = listed_made rows window before marks h order same prefix stay in
+    record {
+      shown = opened;
+      ascend = ascend;
+      instances = instances;
+      in_order = m.in_order;
+      counted = m.counted;
+      placed = λ i f. ap (λ rs. row_of rs i) put ∙ placed_over rows changes before marks h.placed stay made i f;
+    }
+
+-- the table after facts were marked
+pub listed_marked : (rows : List Row) (window : List ℕ) (before after : Marks) → IsListed rows window before → AreMarks after → IsCounted after → ((i : ℕ) → has_mark_place after i ≡ has_mark_place before i) → IsListed rows window after
+listed_marked rows window before after h marks counted places = record {
+  shown = h.shown;
+  ascend = h.ascend;
+  instances = h.instances;
+  in_order = marks;
+  counted = counted;
+  placed = λ i f. h.placed i (sym (places i) ∙ f);
+}
+
+pub places_for : (rows : List Row) (marks : Marks) (facts : List Fact) → ArePlaced rows marks → HaveRows (take_on_all (marked_in marks) facts) rows → HaveMarkPlaces marks facts
+places_for rows marks facts h k i f = k i (h i f)
+
+abbrev pub listed : List Row → List Entry → Listed
+listed rows marked = record { rows = rows; marked = marked }
+
+pub listed_is : (rows after : List Row) (marked more : List Entry) → rows ≡ after → marked ≡ more → listed rows marked ≡ listed after more
+listed_is rows after marked more h k = ap (λ r. listed r marked) h ∙ ap (λ m. listed after m) k

@@ -1,0 +1,10 @@
+use Rattle.std.proofs.Common.{ap, ◌∙◌}
+use Rattle.rr_places.specs.Places.{filled}
+use Rattle.rr_list.specs.Marked.{entries_in, set_all}
+use Rattle.rr_list.proofs.ListedLemmas.{promise_set}
+use Rattle.rr_list.proofs.marks.Marks.restore.Goals as goal
+
+pub returns-in-Ok-clause-value : goal.returns-in-Ok-clause-value
+returns-in-Ok-clause-value c =
+    ap (λ m. entries_in (filled m.entries)) c.count_on.ensures.entries ∙ c.in-Ok.ensures.value
+    ∙ ap (λ es. set_all es c.args.promise.now) c.requires.empty.0 ∙ promise_set c.args.promise.now c.requires.ascending.ascends

@@ -1,0 +1,195 @@
+//! The table of instances.
+
+ghost use Rattle.std.specs.Prelude.{◌≡◌, ◌≤◌, ◌&&◌, ◌++◌, None, Some, map, length, slice_get, nat_lt, IfOk, IfErr, OnOk, OnErr, MatchOption};
+ghost use Rattle.std.specs.List.{list_any};
+ghost use Rattle.rr_types.specs.Promises.{IsAscending, take_on_all};
+ghost use Rattle.rr_model.specs.NodeState.{row_of, is_decided, undecided_from, decided_from};
+ghost use Rattle.rr_model.specs.NodeStep.{promised_row};
+ghost use Rattle.rr_list.specs.Listed.{put_rows, KeepsDecisions, KeepsPromised, HaveRows, AllInRound};
+ghost use Rattle.rr_list.specs.Rowed.{AscendFrom, has_decided};
+ghost use Rattle.rr_list.specs.Opened.{open_in};
+
+use crate::marks::Marks;
+use crate::rows::Rows;
+use crate::window::Window;
+use rr_instance::Row;
+use rr_types::{Command, Entry, Fact, Instance, Op, Refusal, RequestNo, Standing};
+use std::alloc::Global;
+use std::marker::Model;
+
+/// The instances that the facts name, each by its row, and the promise of the marked facts. A look-up costs the
+/// logarithm of how many there are, and a change as much for each row or fact of it, beside the instances that it
+/// opens or brings into the decided prefix.
+#[derive(Drop)]
+pub struct Instances {
+    rows: Rows,
+    window: Window,
+    marks: Marks,
+}
+
+impl Model for Instances {
+    ghost use Rattle.rr_list.specs.Listed.{Listed};
+    ghost use Rattle.rr_list.specs.Marked.{marked_in};
+    ghost use Rattle.rr_list.specs.Opened.{IsListed};
+
+    ghost Value = { Listed };
+
+    ghost view = { λ t. record { rows = t.rows; marked = marked_in t.marks } };
+
+    ghost invariant = { λ t. IsListed t.rows t.window t.marks };
+}
+
+/// The rows of a promise's entries.
+fn promised_rows(alloc: Global, next: u64, promise: &[Entry]) -> Result<Vec<Row>, Refusal>
+    ensures ok { IfOk result (λ rows. rows.items ≡ map (promised_row next) promise.now) }
+    ensures err { IfErr result (λ e. e ≡ Refusal.OutOfMemory) }
+{
+    let mut rows = Vec::new(alloc);
+    for entry in promise {
+        let row = Row::promised(alloc, next, entry);
+        rows.push(row)?;
+    }
+    Ok(rows)
+}
+
+impl Instances {
+    /// The table of a node that knows its promise and nothing else; `next` is the number of its next fact.
+    pub fn restored(alloc: Global, promise: &[Entry], next: u64) -> Result<Instances, Refusal>
+        requires { IsAscending promise.now }
+        ensures ok { IfOk result (λ t. t ≡ record { rows = map (promised_row next) promise.now; marked = promise.now }) }
+        ensures err { IfErr result (λ e. e ≡ Refusal.OutOfMemory) }
+    {
+        let promised = match promised_rows(alloc, next, promise) {
+            Ok(promised) => promised,
+            Err(refusal) => return Err(refusal),
+        };
+        let mut marks = Marks::new(alloc);
+        match marks.make_places(&promised) {
+            Ok(()) => (),
+            Err(refusal) => return Err(refusal),
+        }
+        match marks.restore(promise) {
+            Ok(()) => (),
+            Err(refusal) => return Err(refusal),
+        }
+        let mut rows = Rows::new(alloc);
+        match rows.absorb(alloc, promised) {
+            Ok(()) => {
+                let window = rows.fill(Window::new(), 0);
+                Ok(Instances {
+                    rows,
+                    window,
+                    marks,
+                })
+            }
+            Err(refusal) => Err(refusal),
+        }
+    }
+
+    /// The row of an instance.
+    pub fn row(&self, instance: Instance) -> Option<&Row>
+        ensures { MatchOption result (row_of self.now.rows instance ≡ None) (λ r. row_of self.now.rows instance ≡ Some r.now) }
+    {
+        match self.rows.row(instance.number()) {
+            Some(row) => Some(row),
+            None => None,
+        }
+    }
+
+    /// The open instances: the eight lowest undecided ones, ascending.
+    pub fn open(&self) -> &[Instance]
+        ensures value { result.now ≡ open_in self.now.rows }
+        ensures range { length result.now ≤ 8 }
+    {
+        let window = &self.window;
+        window.as_slice()
+    }
+
+    /// The lowest undecided instance from this one on; 1,048,576 where there is none. Beyond the open instances it
+    /// is looked for one after another.
+    pub fn undecided_from(&self, from: u32) -> u32
+        requires { from ≤ 1048576 }
+        ensures value { result ≡ undecided_from from self.now.rows }
+        ensures range { result ≤ 1048576 }
+        ensures above { from ≤ result }
+        ensures ascend { AscendFrom 0 self.now.rows }
+    {
+        self.rows.undecided_from(&self.window, from)
+    }
+
+    /// Whether some instance has decided a command with this request number.
+    pub fn has_decided(&self, request: RequestNo) -> bool
+        ensures { result ≡ list_any (has_decided request) self.now.rows }
+    {
+        self.rows.has_decided(request)
+    }
+
+    /// Whether an instance above this one has decided.
+    pub fn has_decided_above(&self, instance: Instance) -> bool
+        ensures { result ≡ list_any (λ r. nat_lt instance r.instance && is_decided r) self.now.rows }
+    {
+        self.rows.has_decided_above(instance)
+    }
+
+    /// Puts these rows, all of them or, after an error, none. No decision may change.
+    pub fn absorb(&mut self, alloc: Global, rows: Vec<Row>) -> Result<(), Refusal>
+        requires { KeepsDecisions self.old.rows (put_rows self.old.rows rows.items) }
+        ensures ok { OnOk result (self.new ≡ record self.old { rows = put_rows self.old.rows rows.items }) }
+        ensures kept { OnErr result (self.new ≡ self.old) }
+        ensures err { IfErr result (λ e. e ≡ Refusal.OutOfMemory) }
+    {
+        match self.marks.make_places(&rows) {
+            Ok(()) => (),
+            Err(refusal) => return Err(refusal),
+        }
+        match self.rows.absorb(alloc, rows) {
+            Ok(()) => {
+                self.window = self.rows.slide(&self.window);
+                Ok(())
+            }
+            Err(refusal) => Err(refusal),
+        }
+    }
+
+    /// How many commands the decided prefix has.
+    pub fn prefix_len(&self) -> usize
+        ensures { result ≡ length (decided_from 0 self.now.marked) }
+    {
+        self.marks.prefix_len()
+    }
+
+    /// The command at a place of the decided prefix.
+    pub fn command_at(&self, place: usize) -> Option<Command>
+        ensures { result ≡ slice_get (decided_from 0 self.now.marked) place }
+    {
+        self.marks.command_at(place)
+    }
+
+    /// The commands that come behind the decided prefix once these facts are marked. No decision may change.
+    pub fn commands_after(&self, alloc: Global, facts: &[Fact]) -> Result<Vec<Command>, Refusal>
+        requires { KeepsPromised self.now.marked (take_on_all self.now.marked facts.now) }
+        ensures ok { IfOk result (λ more. decided_from 0 (take_on_all self.now.marked facts.now) ≡ decided_from 0 self.now.marked ++ more.items) }
+        ensures err { IfErr result (λ e. e ≡ Refusal.OutOfMemory) }
+    {
+        self.marks.commands_after(alloc, facts)
+    }
+
+    /// Marks these facts, each of whose instances has a row. No decision may change. It needs no memory.
+    pub fn mark(&mut self, facts: &[Fact])
+        requires rounds { AllInRound self.old.marked facts.now }
+        requires keeps { KeepsPromised self.old.marked (take_on_all self.old.marked facts.now) }
+        requires rows { HaveRows (take_on_all self.old.marked facts.now) self.old.rows }
+        ensures { self.new ≡ record self.old { marked = take_on_all self.old.marked facts.now } }
+    {
+        self.marks.mark(facts);
+    }
+
+    /// The promise of the marked facts.
+    pub fn marked_entries(&self, alloc: Global) -> Result<Vec<Entry>, Refusal>
+        ensures ok { IfOk result (λ entries. entries.items ≡ self.now.marked) }
+        ensures ascending { IfOk result (λ entries. IsAscending entries.items) }
+        ensures err { IfErr result (λ e. e ≡ Refusal.OutOfMemory) }
+    {
+        self.marks.promise(alloc)
+    }
+}

@@ -1,0 +1,329 @@
+//! The promise of the marked facts, and its decided prefix.
+
+ghost use Rattle.std.specs.Prelude.{◌≡◌, ◌<◌, ◌≤◌, ◌++◌, ℕ, [], Some, None, length, slice_get, false, IsTrue, IfSome, IfOk, IfErr, OnOk};
+ghost use Rattle.std.specs.List.{All};
+ghost use Rattle.rr_types.specs.Facts.{instance_of, decision_of, after_fact};
+ghost use Rattle.rr_types.specs.Promises.{standing_in, set_entry, take_on, take_on_all, IsAscending};
+ghost use Rattle.rr_model.specs.NodeState.{decided_from};
+ghost use Rattle.rr_list.specs.Listed.{KeepsPromised, IsInRound, AllInRound};
+ghost use Rattle.rr_list.specs.Marked.{marked_in, has_mark_place, AreMarks, IsBegun, IsCounted, HaveMarkPlaces, set_all, decision_after, decided_by};
+
+use rr_instance::{Row, decision_in, entered, instance_of, with_adopted, with_proposal};
+use rr_places::{make_place, put, value_at};
+use rr_types::{Command, Entry, Fact, INSTANCES, Instance, Op, Refusal, Standing};
+use std::alloc::Global;
+use std::collections::BTreeMap;
+
+/// Where each instance stands by the marked facts, and how many commands the decided prefix has.
+#[derive(Drop)]
+pub(crate) struct Marks {
+    entries: BTreeMap<u32, Option<Entry>>,
+    prefix: u32,
+}
+
+/// Where an instance stands after a fact about it.
+fn after_fact(standing: Option<Standing>, fact: &Fact) -> Option<Standing>
+    requires { IsInRound standing fact.now }
+    ensures { result ≡ after_fact standing fact.now }
+{
+    match fact {
+        Fact::Enter(_, estimate) => Some(entered(estimate)),
+        Fact::Propose(_, _, command) => with_proposal(standing, *command),
+        Fact::Adopt(_, _, command) => with_adopted(standing, *command),
+        Fact::Decide(_, command) => Some(Standing::Decided(*command)),
+    }
+}
+
+impl Marks {
+    /// Nothing is marked.
+    pub(crate) fn new(alloc: Global) -> Marks
+        ensures value { marked_in result ≡ [] }
+        ensures marks { AreMarks result }
+        ensures counted { IsCounted result }
+    {
+        Marks {
+            entries: BTreeMap::new(alloc),
+            prefix: 0,
+        }
+    }
+
+    /// Where the instance with this number stands, if it is one.
+    pub(crate) fn standing(&self, number: u32) -> Option<Standing>
+        requires { AreMarks self.now }
+        ensures { result ≡ standing_in (marked_in self.now) number }
+    {
+        let _parts: Option<(Command, Op, Standing)> = None;
+        match value_at(&self.entries, &number) {
+            Some(entry) => Some(entry.standing),
+            None => None,
+        }
+    }
+
+    /// Makes a place for an instance.
+    pub(crate) fn make_place(&mut self, instance: Instance) -> Result<(), Refusal>
+        ensures value { marked_in self.new ≡ marked_in self.old }
+        ensures marks { AreMarks self.old → AreMarks self.new }
+        ensures prefix { self.new.prefix ≡ self.old.prefix }
+        ensures made { OnOk result (IsTrue (has_mark_place self.new instance)) }
+        ensures stay { (i : ℕ) → IsTrue (has_mark_place self.old i) → IsTrue (has_mark_place self.new i) }
+        ensures err { IfErr result (λ e. e ≡ Refusal.OutOfMemory) }
+    {
+        let _parts: Option<(Command, Op, Standing)> = None;
+        make_place(&mut self.entries, instance.number())?;
+        Ok(())
+    }
+
+    /// The same for the instance of each of these rows.
+    pub(crate) fn make_places(&mut self, rows: &[Row]) -> Result<(), Refusal>
+        ensures value { marked_in self.new ≡ marked_in self.old }
+        ensures marks { AreMarks self.old → AreMarks self.new }
+        ensures prefix { self.new.prefix ≡ self.old.prefix }
+        ensures made { OnOk result (All (λ r. IsTrue (has_mark_place self.new r.instance)) rows.now) }
+        ensures stay { (i : ℕ) → IsTrue (has_mark_place self.old i) → IsTrue (has_mark_place self.new i) }
+        ensures err { IfErr result (λ e. e ≡ Refusal.OutOfMemory) }
+    {
+        for row in rows {
+            self.make_place(row.instance)?;
+        }
+        Ok(())
+    }
+
+    /// Sets where an instance stands that has a place. It needs no memory.
+    pub(crate) fn set(&mut self, entry: &Entry)
+        requires marks { AreMarks self.old }
+        requires place { IsTrue (has_mark_place self.old entry.now.instance) }
+        ensures value { marked_in self.new ≡ set_entry entry.now.instance entry.now.standing (marked_in self.old) }
+        ensures marks { AreMarks self.new }
+        ensures prefix { self.new.prefix ≡ self.old.prefix }
+        ensures places { (i : ℕ) → has_mark_place self.new i ≡ has_mark_place self.old i }
+    {
+        let _parts: Option<(Command, Op, Standing)> = None;
+        let number = entry.instance.number();
+        put(&mut self.entries, number, Some(*entry));
+    }
+
+    /// Takes a fact on.
+    fn take_on(&mut self, fact: &Fact)
+        requires marks { AreMarks self.old }
+        requires round { IsInRound (standing_in (marked_in self.old) (instance_of fact.now)) fact.now }
+        requires place { has_mark_place self.old (instance_of fact.now) ≡ false → after_fact (standing_in (marked_in self.old) (instance_of fact.now)) fact.now ≡ None }
+        ensures value { marked_in self.new ≡ take_on (marked_in self.old) fact.now }
+        ensures marks { AreMarks self.new }
+        ensures prefix { self.new.prefix ≡ self.old.prefix }
+        ensures places { (i : ℕ) → has_mark_place self.new i ≡ has_mark_place self.old i }
+    {
+        let instance = instance_of(fact);
+        if let Some(standing) = after_fact(self.standing(instance.number()), fact) {
+            self.set(&Entry { instance, standing });
+        }
+    }
+
+    /// Takes facts on, oldest first.
+    #[tactic(auto, using(crate::proofs::MarkLemmas::take_on_more, crate::proofs::MarkLemmas::in_round_here, crate::proofs::MarkLemmas::in_round_more, crate::proofs::MarkLemmas::take_on_end))]
+    fn take_on_all(&mut self, facts: &[Fact])
+        requires marks { AreMarks self.old }
+        requires rounds { AllInRound (marked_in self.old) facts.now }
+        requires places { HaveMarkPlaces self.old facts.now }
+        ensures value { marked_in self.new ≡ take_on_all (marked_in self.old) facts.now }
+        ensures marks { AreMarks self.new }
+        ensures prefix { self.new.prefix ≡ self.old.prefix }
+        ensures places { (i : ℕ) → has_mark_place self.new i ≡ has_mark_place self.old i }
+    {
+        for fact in facts {
+            self.take_on(fact);
+        }
+    }
+
+    /// The command that the instance with this number has decided.
+    fn decision(&self, number: u32) -> Option<Command>
+        requires { AreMarks self.now }
+        ensures value { result ≡ decision_of (standing_in (marked_in self.now) number) }
+        ensures range { IfSome result (λ _. number < 1048576) }
+    {
+        match self.standing(number) {
+            Some(standing) => decision_in(standing),
+            None => None,
+        }
+    }
+
+    /// How many commands the decided prefix has, where each place below the present count is of it.
+    fn prefix_end(&self) -> u32
+        requires marks { AreMarks self.now }
+        requires begun { IsBegun self.now }
+        ensures value { result ≡ length (decided_from 0 (marked_in self.now)) }
+        ensures range { result ≤ 1048576 }
+    {
+        for place in self.prefix..INSTANCES {
+            if self.decision(place).is_none() {
+                return place;
+            }
+        }
+        INSTANCES
+    }
+
+    /// Counts the decided prefix on from the present count. It needs no memory.
+    pub(crate) fn count_on(&mut self)
+        requires marks { AreMarks self.old }
+        requires begun { IsBegun self.old }
+        ensures entries { self.new.entries ≡ self.old.entries }
+        ensures counted { IsCounted self.new }
+    {
+        self.prefix = self.prefix_end();
+    }
+
+    /// Marks facts, each of whose instances has a place. It needs no memory.
+    pub(crate) fn mark(&mut self, facts: &[Fact])
+        requires marks { AreMarks self.old }
+        requires counted { IsCounted self.old }
+        requires rounds { AllInRound (marked_in self.old) facts.now }
+        requires places { HaveMarkPlaces self.old facts.now }
+        requires keeps { KeepsPromised (marked_in self.old) (take_on_all (marked_in self.old) facts.now) }
+        ensures value { marked_in self.new ≡ take_on_all (marked_in self.old) facts.now }
+        ensures marks { AreMarks self.new }
+        ensures counted { IsCounted self.new }
+        ensures places { (i : ℕ) → has_mark_place self.new i ≡ has_mark_place self.old i }
+    {
+        self.take_on_all(facts);
+        self.count_on();
+    }
+
+    /// Marks the entries of a promise where nothing is marked. Where memory is refused, some are marked.
+    pub(crate) fn restore(&mut self, promise: &[Entry]) -> Result<(), Refusal>
+        requires marks { AreMarks self.old }
+        requires empty { (marked_in self.old ≡ []) × (self.old.prefix ≡ 0) }
+        requires ascending { IsAscending promise.now }
+        ensures value { OnOk result (marked_in self.new ≡ promise.now) }
+        ensures marks { AreMarks self.new }
+        ensures counted { OnOk result (IsCounted self.new) }
+        ensures stay { (i : ℕ) → IsTrue (has_mark_place self.old i) → IsTrue (has_mark_place self.new i) }
+        ensures err { IfErr result (λ e. e ≡ Refusal.OutOfMemory) }
+    {
+        match self.set_all(promise) {
+            Ok(()) => {
+                self.count_on();
+                Ok(())
+            }
+            Err(refusal) => Err(refusal),
+        }
+    }
+
+    /// Marks entries, one after another.
+    #[tactic(auto, using(crate::proofs::ListedLemmas::set_all_more, crate::proofs::ListedLemmas::set_all_end))]
+    fn set_all(&mut self, entries: &[Entry]) -> Result<(), Refusal>
+        requires { AreMarks self.old }
+        ensures value { OnOk result (marked_in self.new ≡ set_all (marked_in self.old) entries.now) }
+        ensures marks { AreMarks self.new }
+        ensures prefix { self.new.prefix ≡ self.old.prefix }
+        ensures stay { (i : ℕ) → IsTrue (has_mark_place self.old i) → IsTrue (has_mark_place self.new i) }
+        ensures err { IfErr result (λ e. e ≡ Refusal.OutOfMemory) }
+    {
+        for entry in entries {
+            self.make_place(entry.instance)?;
+            self.set(entry);
+        }
+        Ok(())
+    }
+
+    /// How many commands the decided prefix has.
+    pub(crate) fn prefix_len(&self) -> usize
+        requires { IsCounted self.now }
+        ensures { result ≡ length (decided_from 0 (marked_in self.now)) }
+    {
+        self.prefix as usize
+    }
+
+    /// The command at a place of the decided prefix.
+    pub(crate) fn command_at(&self, place: usize) -> Option<Command>
+        requires marks { AreMarks self.now }
+        requires counted { IsCounted self.now }
+        ensures { result ≡ slice_get (decided_from 0 (marked_in self.now)) place }
+    {
+        if place >= self.prefix as usize {
+            return None;
+        }
+        self.decision(place as u32)
+    }
+
+    /// The command that the instance with this number has decided once these facts are marked.
+    fn decision_after(&self, facts: &[Fact], number: u32) -> Option<Command>
+        requires marks { AreMarks self.now }
+        requires keeps { KeepsPromised (marked_in self.now) (take_on_all (marked_in self.now) facts.now) }
+        ensures value { result ≡ decision_of (standing_in (take_on_all (marked_in self.now) facts.now) number) }
+        ensures range { IfSome result (λ _. number < 1048576) }
+    {
+        if let Some(command) = self.decision(number) {
+            return Some(command);
+        }
+        decided_by(facts, number)
+    }
+
+    /// The commands that come behind the decided prefix once these facts are marked.
+    pub(crate) fn commands_after(
+        &self,
+        alloc: Global,
+        facts: &[Fact],
+    ) -> Result<Vec<Command>, Refusal>
+        requires marks { AreMarks self.now }
+        requires counted { IsCounted self.now }
+        requires keeps { KeepsPromised (marked_in self.now) (take_on_all (marked_in self.now) facts.now) }
+        ensures ok { IfOk result (λ more. decided_from 0 (take_on_all (marked_in self.now) facts.now) ≡ decided_from 0 (marked_in self.now) ++ more.items) }
+        ensures err { IfErr result (λ e. e ≡ Refusal.OutOfMemory) }
+    {
+        let _parts: Option<Op> = None;
+        let mut found = Vec::new(alloc);
+        for place in self.prefix..INSTANCES {
+            match self.decision_after(facts, place) {
+                Some(command) => found.push(command)?,
+                None => return Ok(found),
+            }
+        }
+        match self.decision_after(facts, INSTANCES) {
+            None => Ok(found),
+            Some(_) => unreachable!(),
+        }
+    }
+
+    /// The promise of the marked facts.
+    pub(crate) fn promise(&self, alloc: Global) -> Result<Vec<Entry>, Refusal>
+        requires { AreMarks self.now }
+        ensures ok { IfOk result (λ entries. entries.items ≡ marked_in self.now) }
+        ensures ascending { IfOk result (λ entries. IsAscending entries.items) }
+        ensures err { IfErr result (λ e. e ≡ Refusal.OutOfMemory) }
+    {
+        let _parts: Option<(Command, Op, Standing)> = None;
+        let mut promise = Vec::new(alloc);
+        let mut rest = self.entries.iter();
+        while let Some((_, place)) = rest.next() {
+            if let Some(entry) = place {
+                promise.push(*entry)?;
+            }
+        }
+        Ok(promise)
+    }
+}
+
+#[tactic(auto, using(crate::proofs::MarkLemmas::decided_more, crate::proofs::MarkLemmas::decided_end))]
+/// The command that facts have decided for the instance with this number.
+fn decided_by(facts: &[Fact], number: u32) -> Option<Command>
+    ensures value { result ≡ decided_by None number facts.now }
+    ensures range { IfSome result (λ _. number < 1048576) }
+{
+    let mut decided = None;
+    for fact in facts {
+        if instance_of(fact).number() == number {
+            decided = decision_after(decided, fact);
+        }
+    }
+    decided
+}
+
+/// The command that an instance has decided after a fact about it.
+fn decision_after(decided: Option<Command>, fact: &Fact) -> Option<Command>
+    ensures { result ≡ decision_after decided fact.now }
+{
+    match fact {
+        Fact::Enter(..) => None,
+        Fact::Propose(..) | Fact::Adopt(..) => decided,
+        Fact::Decide(_, command) => Some(*command),
+    }
+}

@@ -1,0 +1,109 @@
+//! The open instances: the eight lowest undecided ones.
+
+ghost use Rattle.std.specs.Prelude.{◌≡◌, ◌<◌, ◌≤◌, ◌-◌, ◌++◌, ◌∷◌, List, [], length, filter, is_some, IsTrue};
+ghost use Rattle.rr_model.specs.NodeState.{undecided_from, lowest_undecided};
+ghost use Rattle.rr_model.specs.NodeState as model;
+ghost use Rattle.rr_list.specs.Listed.{decision_at, KeepsDecisions};
+ghost use Rattle.rr_list.specs.Rowed.{AscendFrom, is_undecided};
+ghost use Rattle.rr_list.specs.Opened.{open_in};
+
+use crate::rows::Rows;
+use crate::window::Window;
+use rr_types::{INSTANCES, Instance, WINDOW};
+
+impl Rows {
+    /// Whether the instance with this number has decided.
+    pub(crate) fn is_decided(&self, number: u32) -> bool
+        ensures value { result ≡ is_some (decision_at self.now number) }
+        ensures range { IsTrue result → number < 1048576 }
+        ensures ascend { AscendFrom 0 self.now }
+    {
+        match self.row(number) {
+            Some(row) => row.decided_command().is_some(),
+            None => false,
+        }
+    }
+
+    /// The lowest undecided instance from this one on, found one after another.
+    pub(crate) fn search(&self, from: u32) -> u32
+        requires { from ≤ 1048576 }
+        ensures value { result ≡ undecided_from from self.now }
+        ensures range { result ≤ 1048576 }
+        ensures above { from ≤ result }
+    {
+        for number in from..INSTANCES {
+            if !self.is_decided(number) {
+                return number;
+            }
+        }
+        if self.is_decided(INSTANCES) {
+            unreachable!()
+        }
+        INSTANCES
+    }
+
+    /// Those of the instances that are undecided.
+    fn kept(&self, window: &Window) -> Window
+        ensures { result ≡ filter (is_undecided self.now) window.now }
+    {
+        let mut kept = Window::new();
+        for instance in window.as_slice() {
+            if !self.is_decided(instance.number()) {
+                kept.push(*instance);
+            }
+        }
+        kept
+    }
+
+    /// The instances, and behind them the lowest undecided ones from this one on, eight in all.
+    #[tactic(auto, using(crate::proofs::OpenLemmas::lowest_next, crate::proofs::OpenLemmas::lowest_done, crate::proofs::OpenLemmas::push_next))]
+    pub(crate) fn fill(&self, kept: Window, from: u32) -> Window
+        requires { from ≤ 1048576 }
+        ensures { result ≡ kept ++ lowest_undecided (8 - length kept) from self.now }
+    {
+        let mut lowest = kept;
+        let mut from = from;
+        let room = WINDOW - lowest.as_slice().len();
+        for _turn in 0..room {
+            match Instance::new(self.search(from)) {
+                None => return lowest,
+                Some(instance) => {
+                    lowest.push(instance);
+                    from = instance.number() + 1;
+                }
+            }
+        }
+        lowest
+    }
+
+    /// The open instances, where these were open before some more had decided.
+    pub(crate) fn slide(&self, window: &Window) -> Window
+        requires { AscendFrom 0 self.now }
+        ensures { (before : List model.Row) → AscendFrom 0 before → KeepsDecisions before self.now → window.now ≡ open_in before → result ≡ open_in self.now }
+    {
+        let kept = self.kept(window);
+        let instances = window.as_slice();
+        if instances.len() < WINDOW {
+            return kept;
+        }
+        self.fill(kept, instances[WINDOW - 1].number() + 1)
+    }
+
+    /// The lowest undecided instance from this one on. As long as it isn't above all these open instances, it is
+    /// one of them.
+    pub(crate) fn undecided_from(&self, window: &Window, from: u32) -> u32
+        requires range { from ≤ 1048576 }
+        requires shown { window.now ≡ open_in self.now }
+        requires ascend { AscendFrom 0 self.now }
+        ensures value { result ≡ undecided_from from self.now }
+        ensures range { result ≤ 1048576 }
+        ensures above { from ≤ result }
+    {
+        for instance in window.as_slice() {
+            if from <= instance.number() {
+                return instance.number();
+            }
+        }
+        self.search(from)
+    }
+}

@@ -1,0 +1,55 @@
+//! Up to eight instances, in order.
+
+ghost use Rattle.std.specs.Prelude.{◌≡◌, ◌<◌, ◌≤◌, ◌∷◌, ◌++◌, [], length};
+
+use rr_types::{Instance, WINDOW};
+use std::marker::Model;
+
+/// Up to eight instances, in order. No call needs memory.
+#[derive(Drop)]
+pub(crate) struct Window {
+    places: [Instance; 8],
+    count: usize,
+}
+
+impl Model for Window {
+    ghost use Rattle.std.specs.Prelude.{ℕ, List, take, ◌≤◌};
+
+    ghost Value = { List ℕ };
+
+    ghost view = { λ w. take w.count w.places };
+
+    ghost invariant = { λ w. w.count ≤ 8 };
+}
+
+impl Window {
+    /// No instance.
+    pub(crate) fn new() -> Window
+        ensures { result ≡ [] }
+    {
+        match Instance::new(0) {
+            Some(first) => Window {
+                places: [first; WINDOW],
+                count: 0,
+            },
+            None => unreachable!(),
+        }
+    }
+
+    /// The instances.
+    pub(crate) fn as_slice(&self) -> &[Instance]
+        ensures value { result.now ≡ self.now }
+        ensures range { length result.now ≤ 8 }
+    {
+        &self.places[..self.count]
+    }
+
+    /// Puts an instance last.
+    pub(crate) fn push(&mut self, instance: Instance)
+        requires { length self.old < 8 }
+        ensures { self.new ≡ self.old ++ instance ∷ [] }
+    {
+        self.places[self.count] = instance;
+        self.count += 1;
+    }
+}
