@@ -1,5 +1,6 @@
 -- Rows with changed ones over them.
-use Rattle.std.proofs.Common.{◌≡◌, ◌≢◌, ◌+◌, ◌<◌, ◌≤◌, ℕ, arith, Bool, true, false, ltb, eqb, cond, ◌&&◌, ◌||◌, not, List, [], ◌∷◌, ◌++◌, map, ap, sym, ◌∙◌, refl, subst, Option, Some, None, option_map}
+use Rattle.std.proofs.Common.{◌≡◌, ◌≢◌, ◌+◌, ◌<◌, ◌≤◌, ℕ, arith, Bool, true, false, ltb, eqb, cond, ◌&&◌, ◌||◌, not, List, [], ◌∷◌, ◌++◌, reverse, ap, sym, ◌∙◌, refl, subst, Option, Some, None, option_map}
+use Rattle.std.proofs.lemmas.List.{reverse-append}
 use Rattle.std.specs.List.{list_any}
 use Rattle.std.specs.Option.{option_map_or}
 use Rattle.std.proofs.lemmas.Bool.{ltb-true, ltb-false, lt-ltb, le-ltb, ne_eqb, eq-eqb, eqb-true, eqb-false, false≢true}
@@ -11,13 +12,12 @@ use Rattle.rr_types.specs.Registry.{is_same_request}
 use Rattle.rr_types.specs.declared.fact.Fact.{Fact}
 use Rattle.rr_types.specs.Facts.{decision_of, instance_of, after_fact}
 use Rattle.rr_types.specs.Standings.{is_undecided}
-use Rattle.rr_types.specs.declared.promise.Entry.{Entry}
 use Rattle.rr_types.specs.declared.fact.Fact.TheVariants.{Enter, Propose, Adopt, Decide}
-use Rattle.rr_types.specs.Promises.{IsAscending, AscendsFrom}
-use Rattle.rr_model.specs.NodeStep.{promised_row}
 use Rattle.rr_model.specs.NodeState.{NodeState, next_number, Row, row_of, put_row, is_decided, decided_command, undecided_from}
 use Rattle.rr_model.specs.NodeParts.{row_after, fresh_row, rows_after}
-use Rattle.rr_core.specs.Steps.{put_rows, has_decided, KeepsStanding, KeepsDecision, KeepDecisions, RowsAscendFrom, Stepped, stepped, IsDecidedFact}
+use Rattle.rr_list.specs.Rowed.{AscendFrom}
+use Rattle.rr_list.specs.Listed as listed
+use Rattle.rr_core.specs.Steps.{put_rows, has_decided, KeepsStanding, KeepsDecision, KeepDecisions, Stepped, stepped, IsDecidedFact}
 
 -- the row put there is the one of its instance
 row_of_put : (r : Row) (rows : List Row) (i : ℕ) → row_of (put_row r rows) i ≡ cond (eqb r.instance i) (Some r) (row_of rows i)
@@ -133,11 +133,11 @@ module _ (f : ℕ → Bool) where
   passes_changed = any_changed passes passes_kept
 
 -- the rows ascend with changed ones
-put_ascends : (low : ℕ) (r : Row) (rows : List Row) → low ≤ r.instance → RowsAscendFrom low rows → RowsAscendFrom low (put_row r rows)
+put_ascends : (low : ℕ) (r : Row) (rows : List Row) → low ≤ r.instance → AscendFrom low rows → AscendFrom low (put_row r rows)
 put_ascends low r [] l h = (omega arith, tt)
 put_ascends low r (o ∷ os) l h = by (λ m. put_ascends (o.instance + 1) r os m h.1) (ltb r.instance o.instance) (eqb r.instance o.instance) refl refl
   where
-    by : (o.instance + 1 ≤ r.instance → RowsAscendFrom (o.instance + 1) (put_row r os)) → (a b : Bool) → ltb r.instance o.instance ≡ a → eqb r.instance o.instance ≡ b → RowsAscendFrom low (put_row r (o ∷ os))
+    by : (o.instance + 1 ≤ r.instance → AscendFrom (o.instance + 1) (put_row r os)) → (a b : Bool) → ltb r.instance o.instance ≡ a → eqb r.instance o.instance ≡ b → AscendFrom low (put_row r (o ∷ os))
     by more true b p q = let less : r.instance < o.instance = ltb-true _ _ p in rw p (omega arith, (omega arith, h.1))
     by more false true p q = let same : r.instance ≡ o.instance = eqb-true _ _ q in rw (p, q) (omega arith, rw same h.1)
     by more false false p q =
@@ -145,7 +145,7 @@ put_ascends low r (o ∷ os) l h = by (λ m. put_ascends (o.instance + 1) r os m
         let apart : r.instance ≢ o.instance = eqb-false _ _ q in
         rw (p, q) (h.0, more (omega (arith, apart)))
 
-pub changed_ascend : (rs rows : List Row) → RowsAscendFrom 0 rows → RowsAscendFrom 0 (put_rows rs rows)
+pub changed_ascend : (rs rows : List Row) → AscendFrom 0 rows → AscendFrom 0 (put_rows rs rows)
 changed_ascend [] rows h = h
 changed_ascend (r ∷ rs) rows h = put_ascends 0 r (put_rows rs rows) (omega arith) (changed_ascend rs rows h)
 
@@ -154,14 +154,14 @@ abbrev pub is_decided_at : ℕ → List Row → Bool
 is_decided_at j rows = list_any (λ r. eqb r.instance j && is_decided r) rows
 
 -- an instance below the rows isn't decided by them
-below_rows : (low j : ℕ) (rows : List Row) → RowsAscendFrom low rows → j < low → is_decided_at j rows ≡ false
+below_rows : (low j : ℕ) (rows : List Row) → AscendFrom low rows → j < low → is_decided_at j rows ≡ false
 below_rows low j [] h l = refl
 below_rows low j (r ∷ rs) h l =
     let off : eqb r.instance j ≡ false = ne_eqb _ _ (λ same. omega (arith, same)) in
     rw off (below_rows (r.instance + 1) j rs h.1 (omega arith))
 
 -- the lowest undecided instance is above a decided one
-pub decided_passed : (low j : ℕ) (rows : List Row) → RowsAscendFrom low rows → is_decided_at j rows ≡ true → undecided_from j rows ≡ undecided_from (j + 1) rows
+pub decided_passed : (low j : ℕ) (rows : List Row) → AscendFrom low rows → is_decided_at j rows ≡ true → undecided_from j rows ≡ undecided_from (j + 1) rows
 decided_passed low j [] h d = absurd (false≢true d)
 decided_passed low j (r ∷ rs) h d = by (λ e. decided_passed (r.instance + 1) j rs h.1 e) (ltb r.instance j) (eqb r.instance j) (is_decided r) (ltb r.instance (j + 1)) (is_decided_at j rs) refl refl refl refl refl d
   where
@@ -197,7 +197,7 @@ undecided_stays j (r ∷ rs) h = by (λ e. undecided_stays j rs e) (ltb r.instan
     by more false false c p q s v = rw (p, q) refl
 
 -- what other rows have decided is passed by rows that have decided it too
-pub undecided_skips : (over rows : List Row) (from : ℕ) → RowsAscendFrom 0 over → ((j : ℕ) → is_decided_at j rows ≡ true → is_decided_at j over ≡ true) → undecided_from (undecided_from from rows) over ≡ undecided_from from over
+pub undecided_skips : (over rows : List Row) (from : ℕ) → AscendFrom 0 over → ((j : ℕ) → is_decided_at j rows ≡ true → is_decided_at j over ≡ true) → undecided_from (undecided_from from rows) over ≡ undecided_from from over
 undecided_skips over [] from a h = refl
 undecided_skips over (r ∷ rs) from a h = by (λ i. undecided_skips over rs i a (λ j e. h j (or_right _ _ e))) (ltb r.instance from) (eqb r.instance from) (is_decided r) refl refl refl
   where
@@ -228,17 +228,17 @@ below_too rs rows k j e = over_decides rs rows j k ∙ by (is_decided_at j rs) (
     by false b f = f
 
 -- the lowest undecided instance by the rows below comes first
-pub from_base : (rs rows : List Row) (from lowest : ℕ) → RowsAscendFrom 0 rows → KeepDecisions rs rows → lowest ≡ undecided_from from rows → undecided_from lowest (put_rows rs rows) ≡ undecided_from from (put_rows rs rows)
+pub from_base : (rs rows : List Row) (from lowest : ℕ) → AscendFrom 0 rows → KeepDecisions rs rows → lowest ≡ undecided_from from rows → undecided_from lowest (put_rows rs rows) ≡ undecided_from from (put_rows rs rows)
 from_base rs rows from lowest a k e = ap (λ (i : ℕ). undecided_from i (put_rows rs rows)) e ∙ undecided_skips (put_rows rs rows) rows from (changed_ascend rs rows a) (below_too rs rows k)
 
 -- where a changed row has decided it, the next one by the rows below does
-pub next_base : (rs rows : List Row) (j lowest : ℕ) → RowsAscendFrom 0 rows → KeepDecisions rs rows → is_decided_at j rs ≡ true → lowest ≡ undecided_from (j + 1) rows → undecided_from lowest (put_rows rs rows) ≡ undecided_from j (put_rows rs rows)
+pub next_base : (rs rows : List Row) (j lowest : ℕ) → AscendFrom 0 rows → KeepDecisions rs rows → is_decided_at j rs ≡ true → lowest ≡ undecided_from (j + 1) rows → undecided_from lowest (put_rows rs rows) ≡ undecided_from j (put_rows rs rows)
 next_base rs rows j lowest a k d e =
     let there : is_decided_at j (put_rows rs rows) ≡ true = over_decides rs rows j k ∙ rw d refl in
     from_base rs rows (j + 1) lowest a k e ∙ sym (decided_passed 0 j (put_rows rs rows) (changed_ascend rs rows a) there)
 
 -- the lowest undecided instance is undecided
-pub lowest_open : (rows : List Row) (from j : ℕ) → RowsAscendFrom 0 rows → j ≡ undecided_from from rows → is_decided_at j rows ≡ false
+pub lowest_open : (rows : List Row) (from j : ℕ) → AscendFrom 0 rows → j ≡ undecided_from from rows → is_decided_at j rows ≡ false
 lowest_open rows from j a e = by (is_decided_at j rows) refl
   where
     above : (i : ℕ) (os : List Row) → i ≤ undecided_from i os
@@ -342,10 +342,24 @@ decision_decides (Propose i r v) s t h = tt
 decision_decides (Adopt i r v) s t h = tt
 decision_decides (Decide i v) s t h = ap (λ (u : Stepped). list_any (has_decided v.request) u.state.rows) h ∙ decides (next_number s.state) i v s.state.rows
 
--- the rows of a promise ascend
-promised_from : (low next : ℕ) (es : List Entry) → AscendsFrom low es → RowsAscendFrom low (map (promised_row next) es)
-promised_from low next [] h = tt
-promised_from low next (e ∷ es) h = (h.0, promised_from (e.instance + 1) next es h.1)
+-- the changed rows, the oldest first, put one after another
+listed_last : (rows rs : List Row) (r : Row) → listed.put_rows rows (rs ++ r ∷ []) ≡ put_row r (listed.put_rows rows rs)
+listed_last rows [] r = refl
+listed_last rows (q ∷ rs) r = listed_last (put_row q rows) rs r
 
-pub promised_ascend : (next : ℕ) (es : List Entry) → IsAscending es → RowsAscendFrom 0 (map (λ e. promised_row next e) es)
-promised_ascend next es h = promised_from 0 next es h.ascends
+pub put_reversed : (rs rows : List Row) → listed.put_rows rows (reverse rs) ≡ put_rows rs rows
+put_reversed [] rows = refl
+put_reversed (r ∷ rs) rows = ap (listed.put_rows rows) (reverse-append (r ∷ []) rs) ∙ listed_last rows (reverse rs) r ∙ ap (put_row r) (put_reversed rs rows)
+
+-- where each changed row leaves a decision alone, all decisions stay
+decisions_stay : (rs rows : List Row) → KeepDecisions rs rows → listed.KeepsDecisions rows (put_rows rs rows)
+decisions_stay [] rows k i v e = e
+decisions_stay (r ∷ rs) rows k i v e =
+    ap (λ (x : Option Row). decision_of (option_map (λ (o : Row). o.standing) x)) (row_of_put r (put_rows rs rows) i) ∙ by (decisions_stay rs rows k.1 i v e) (eqb r.instance i) refl
+  where
+    by : listed.decision_at (put_rows rs rows) i ≡ Some v → (b : Bool) → eqb r.instance i ≡ b → decision_of (option_map (λ (o : Row). o.standing) (cond b (Some r) (row_of (put_rows rs rows) i))) ≡ Some v
+    by before true f = k.0 v (ap (λ (j : ℕ). listed.decision_at (put_rows rs rows) j) (eqb-true _ _ f) ∙ before)
+    by before false f = before
+
+pub reversed_stay : (rs rows after : List Row) → after ≡ reverse rs → KeepDecisions rs rows → listed.KeepsDecisions rows (listed.put_rows rows after)
+reversed_stay rs rows after e k = subst (listed.KeepsDecisions rows) (sym (ap (listed.put_rows rows) e ∙ put_reversed rs rows)) (decisions_stay rs rows k)

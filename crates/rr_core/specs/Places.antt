@@ -12,14 +12,6 @@ use Rattle.rr_types.specs.Standings.{estimate_of}
 use Rattle.rr_model.specs.NodeState.{NodeState, Row, Owed, row_of}
 use Rattle.rr_model.specs.NodeParts.{owe, backing_at}
 
--- how many rows at the front lie below instance i
-unfoldable pub rows_below : ℕ → List Row → ℕ
-rows_below i rows = prefix_len (λ r. nat_lt r.instance i) rows
-
--- whether the row at place n is the one of instance i
-unfoldable pub is_row_of : ℕ → List Row → ℕ → Bool
-is_row_of i rows n = option_map_or (λ (r : Row). r.instance == i) (slice_get rows n) false
-
 -- a body that one node owes another
 abbrev pub message_to : ℕ → ℕ → Body → Option ℕ → Owed
 message_to from to body backing = record { message = record { from = from; to = to; body = body }; backing = backing }

@@ -72,11 +72,6 @@ KeepDecisions (r ∷ rs) rows = KeepsDecision (put_rows rs rows) r × KeepDecisi
 abbrev pub has_decided : RequestNo → Row → Bool
 has_decided q r = option_map_or (λ v. is_same_request v.request q) (decided_command r) false
 
--- each row's instance lies above the one before it, the first above or at the bound
-abbrev pub RowsAscendFrom : ℕ → List Row → Type 0
-RowsAscendFrom low [] = Unit {0}
-RowsAscendFrom low (r ∷ rs) = (low < r.instance + 1) × RowsAscendFrom (r.instance + 1) rs
-
 -- no command has a request number of those before it
 abbrev pub AreNew : List Command → List Command → Type 0
 AreNew before [] = Unit {0}

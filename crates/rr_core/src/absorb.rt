@@ -1,32 +1,16 @@
 //! Taking on what a step has changed: all of it, or after an error nothing.
 
-ghost use Rattle.std.specs.Prelude.{◌≡◌, ◌≤◌, ◌-◌, ◌++◌, length, take, List, IfOk, IfErr, OnOk, OnErr};
+ghost use Rattle.std.specs.Prelude.{◌≡◌, ◌≤◌, ◌-◌, ◌++◌, length, take, List, IfErr, OnOk, OnErr};
 ghost use Rattle.rr_types.specs.declared.command.Command.{Command};
 ghost use Rattle.rr_types.specs.declared.command.RequestNo.{RequestNo};
-ghost use Rattle.rr_core.specs.Steps.{combined, put_rows, without_requests, AreNew, AreNewRequests, IsFitting};
+ghost use Rattle.rr_core.specs.Steps.{combined, without_requests, AreNew, AreNewRequests, IsFitting};
 
 use crate::state::State;
 use crate::step::Changes;
-use crate::{copies, rows};
-use rr_instance::Row;
 use rr_list::{Pool, Waiting};
 use rr_mark::Owed;
 use rr_types::{Body, Command, Message, Op, Refusal, RequestNo};
 use std::alloc::Global;
-
-/// Rows with the changed ones, of which the newest stands first.
-#[tactic(auto, using(crate::proofs::OverLemmas::put_last))]
-fn rows_with(alloc: Global, base: &[Row], changed: Vec<Row>) -> Result<Vec<Row>, Refusal>
-    ensures ok { IfOk result (λ v. v.items ≡ put_rows changed.items base.now) }
-    ensures err { IfErr result (λ e. e ≡ Refusal.OutOfMemory) }
-{
-    let mut changed = changed;
-    let mut all = copies::clone_rows(alloc, base)?;
-    while let Some(row) = changed.pop() {
-        rows::put_row(&mut all, row)?;
-    }
-    Ok(all)
-}
 
 /// Commands come into the pool, all of them or, after an error, none.
 #[tactic(auto, using(crate::proofs::PoolLemmas::first_new, crate::proofs::PoolLemmas::rest_new, crate::proofs::PoolLemmas::first_rest))]
@@ -156,7 +140,7 @@ fn owe_less(owed: &mut Vec<Owed>, more: &[Owed])
 
 impl State {
     /// Takes on what a step has changed. After an error, which is `OutOfMemory`, nothing has changed.
-    #[tactic(auto, using(crate::proofs::OverLemmas::changed_ascend))]
+    #[tactic(auto, using(crate::proofs::OverLemmas::put_reversed, crate::proofs::OverLemmas::reversed_stay))]
     pub fn absorb(&mut self, alloc: Global, changes: Changes) -> Result<(), Refusal>
         requires { IsFitting self.old changes }
         ensures ok { OnOk result (self.new ≡ combined self.old changes) }
@@ -173,10 +157,6 @@ impl State {
             waiting,
             owed,
         } = changes;
-        let rows = match rows_with(alloc, &self.rows, rows) {
-            Ok(rows) => rows,
-            Err(refusal) => return Err(refusal),
-        };
         match arrive(&mut self.pool, &mut self.waiting, &pooled, &waiting) {
             Ok(()) => (),
             Err(refusal) => return Err(refusal),
@@ -198,7 +178,18 @@ impl State {
                 return Err(refusal);
             }
         }
-        self.rows = rows;
+        let mut rows = rows;
+        rows.reverse();
+        match self.instances.absorb(alloc, rows) {
+            Ok(()) => (),
+            Err(refusal) => {
+                self.unmarked.take_back(&staged);
+                owe_less(&mut self.owed, &owed);
+                unpool_all(&mut self.pool, &pooled);
+                unwait_all(&mut self.waiting, &waiting);
+                return Err(refusal);
+            }
+        }
         take_all(&mut self.pool, &taken);
         self.suspects = suspects;
         self.heartbeat = heartbeat;

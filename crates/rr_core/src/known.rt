@@ -5,10 +5,9 @@ ghost use Rattle.std.specs.List.{list_any};
 ghost use Rattle.rr_types.specs.Registry.{has_request, is_same_request};
 ghost use Rattle.rr_model.specs.NodeState.{next_number, row_of, is_decided, is_decided_request, undecided_from};
 ghost use Rattle.rr_model.specs.NodeStep.{is_waiting};
-ghost use Rattle.rr_core.specs.Steps.{RowsAscendFrom};
+ghost use Rattle.rr_list.specs.Rowed.{AscendFrom};
 
 use crate::state::State;
-use crate::{over, rows};
 use rr_instance::Row;
 use rr_types::{Instance, RequestNo};
 
@@ -25,7 +24,7 @@ impl State {
     pub fn row(&self, instance: Instance) -> Option<&Row>
         ensures { MatchOption result (row_of self.now.rows instance ≡ None) (λ r. row_of self.now.rows instance ≡ Some r.now) }
     {
-        rows::find_row(&self.rows, instance)
+        self.instances.row(instance)
     }
 
     /// The lowest undecided instance from `from` on; the rows ascend.
@@ -34,23 +33,23 @@ impl State {
         ensures value { result ≡ undecided_from from self.now.rows }
         ensures range { result ≤ 1048576 }
         ensures above { from ≤ result }
-        ensures ascend { RowsAscendFrom 0 self.now.rows }
+        ensures ascend { AscendFrom 0 self.now.rows }
     {
-        rows::undecided_from(&self.rows, from)
+        self.instances.undecided_from(from)
     }
 
     /// Whether some instance has decided a command with this request number.
     pub fn is_decided_request(&self, request: RequestNo) -> bool
         ensures { result ≡ is_decided_request self.now request }
     {
-        rows::has_decided_request(&self.rows, request)
+        self.instances.has_decided(request)
     }
 
     /// Whether a later instance than `first` has decided.
     pub fn has_decided_above(&self, first: Instance) -> bool
         ensures { result ≡ list_any (λ r. nat_lt first r.instance && is_decided r) self.now.rows }
     {
-        over::has_decided_above(&self.rows, first)
+        self.instances.has_decided_above(first)
     }
 
     /// Whether the pool has a command with this request number.

@@ -4,8 +4,7 @@ ghost use Rattle.std.specs.Prelude.{◌≡◌, IfOk};
 
 use crate::unmarked::Unmarked;
 use rr_heartbeat::Heartbeat;
-use rr_instance::Row;
-use rr_list::{Pool, Waiting};
+use rr_list::{Instances, Pool, Waiting};
 use rr_mark::Owed;
 use rr_suspect::Suspects;
 use rr_types::{Entry, NodeId, Nodes};
@@ -16,7 +15,7 @@ use std::marker::Model;
 pub struct State {
     pub nodes: Nodes,
     pub node: NodeId,
-    pub rows: Vec<Row>,
+    pub instances: Instances,
     pub marked: Vec<Entry>,
     pub marked_end: u64,
     pub unmarked: Unmarked,
@@ -29,14 +28,13 @@ pub struct State {
 
 impl Model for State {
     ghost use Rattle.rr_model.specs.NodeState as model;
-    ghost use Rattle.rr_core.specs.Steps.{RowsAscendFrom};
 
     ghost Value = { model.NodeState };
 
     ghost view = { λ s. record {
       nodes = s.nodes;
       node = s.node;
-      rows = s.rows.items;
+      rows = s.instances.rows;
       marked = s.marked.items;
       marked_end = s.marked_end;
       running = s.unmarked.running;
@@ -47,6 +45,4 @@ impl Model for State {
       waiting = s.waiting;
       owed = s.owed.items;
     } };
-
-    ghost invariant = { λ s. RowsAscendFrom 0 s.rows.items };
 }

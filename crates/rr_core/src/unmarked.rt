@@ -1,7 +1,7 @@
 //! The facts that aren't marked yet. Those of the running group keep their places, so that it can be put back
 //! without memory.
 
-ghost use Rattle.std.specs.Prelude.{◌≡◌, ◌+◌, ◌≤◌, ◌++◌, [], ◌∷◌, None, Some, length, take, drop, is_some, IfOk, IfErr, OnOk, OnErr};
+ghost use Rattle.std.specs.Prelude.{◌≡◌, ◌+◌, ◌-◌, ◌≤◌, ◌++◌, [], ◌∷◌, None, Some, length, take, drop, is_some, IfOk, IfErr, OnOk, OnErr};
 ghost use Rattle.std.specs.Option.{option_map_or};
 
 use rr_types::{Command, Fact, Op, Refusal};
@@ -78,6 +78,17 @@ impl Unmarked {
         let _parts: Option<(Command, Op)> = None;
         self.facts.extend_from_slice(facts)?;
         Ok(())
+    }
+
+    /// The last staged facts go again, as many as these. It needs no memory.
+    pub fn take_back(&mut self, facts: &[Fact])
+        requires { length facts.now ≤ length self.old.staged }
+        ensures { self.new ≡ record self.old { staged = take (length self.old.staged - length facts.now) self.old.staged } }
+    {
+        // The check learns what a fact is made of from the types of a function's variables.
+        let _parts: Option<(Command, Op)> = None;
+        let count = self.facts.len() - facts.len();
+        self.facts.truncate(count);
     }
 
     /// Whether a group runs.

@@ -1,6 +1,7 @@
 use Rattle.std.proofs.Common.{◌≡◌, ◌≤◌, ◌-◌, false}
 use Rattle.rr_model.specs.NodeState.{undecided_from}
-use Rattle.rr_core.specs.Steps.{put_rows, RowsAscendFrom}
+use Rattle.rr_list.specs.Rowed.{AscendFrom}
+use Rattle.rr_core.specs.Steps.{put_rows}
 use Rattle.rr_core.proofs.OverLemmas.{is_decided_at}
 use Rattle.rr_core.proofs.over.undecided_over.Given as goal
 
@@ -9,7 +10,7 @@ invariant-loop-lowest l = record {
   range : l.lowest ≤ 1048576;
   above : l.from ≤ l.lowest;
   same : undecided_from l.lowest (put_rows l.changed l.base.rows) ≡ undecided_from l.from (put_rows l.changed l.base.rows);
-  ascend : RowsAscendFrom 0 l.base.rows;
+  ascend : AscendFrom 0 l.base.rows;
   stands : is_decided_at l.lowest l.base.rows ≡ false;
 }
 
