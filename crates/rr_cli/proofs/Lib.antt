@@ -1,1 +1,3 @@
-mod EndLemmas
+pub mod EndLemmas
+pub mod ShowLemmas
+pub mod WordLemmas

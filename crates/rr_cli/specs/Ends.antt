@@ -12,6 +12,11 @@ use Rattle.rr_text.specs.ScheduleTexts.{schedule_text}
 use Rattle.rr_text.specs.ReportTexts.{report_text}
 use Rattle.rr_sim.specs.Clusters.{IsReportOf}
 use Rattle.rr_sim.specs.Headline.{IsRunOfTheWorld, AgreesWithOneList}
+use Rattle.rr_disk.specs.declared.area.Area.{Area}
+use Rattle.rr_slots.specs.declared.inspection.AreaReport.{AreaReport}
+use Rattle.rr_slots.specs.Inspect.{Tells, Breaks, inspected}
+use Rattle.rr_cli.specs.Areas.{areas_text}
+use Rattle.rr_cli.specs.Lines.{Task, Simulate, Show}
 use Rattle.rr_cli.specs.Refusals.{status_of}
 
 -- the bytes are the text of a schedule, and the other text is that of the report of its run, which is a run of the
@@ -50,6 +55,14 @@ pub data EndsOnInput (input : Option (List ℕ)) (status : ℕ) (old new : Optio
   read : (bytes : List ℕ) → AreAllOf input bytes → EndsOn bytes status old new → EndsOnInput input status old new
   unread : IsStreamStatus status → Keeps old new → EndsOnInput input status old new
 
+-- a run on a folder: standard output has got the text on its areas, or failed in it, or an area is broken or a device
+-- or memory failed and it has got nothing
+pub data EndsOnFolder (status : ℕ) (old new : Option (List ℕ)) : Type 0 where
+  told : (first second : List ℕ) (of_first of_second : Option AreaReport) → inspected first second ≡ Tells of_first of_second → status ≡ 0 → Appends old new (areas_text of_first of_second) → EndsOnFolder status old new
+  untold : (first second : List ℕ) (of_first of_second : Option AreaReport) → inspected first second ≡ Tells of_first of_second → IsStreamStatus status → AppendsFront old new (areas_text of_first of_second) → EndsOnFolder status old new
+  broken : (first second : List ℕ) (area : Area) (offset : ℕ) → inspected first second ≡ Breaks area offset → status ≡ 4 → Keeps old new → EndsOnFolder status old new
+  failed : IsStreamStatus status → Keeps old new → EndsOnFolder status old new
+
 -- words that ask for help or the version
 abbrev pub IsRequest : ErrorKind → Type 0
 IsRequest kind = (kind ≡ DisplayHelp) ⊎ (kind ≡ DisplayVersion)
@@ -59,10 +72,12 @@ abbrev pub IsMistake : ErrorKind → Type 0
 IsMistake kind = (kind ≢ DisplayHelp) × (kind ≢ DisplayVersion)
 
 -- a run by words: what they ask for, what is wrong with them, or no memory even to read them
-pub data EndsBy (faults : Kinds) (file : Option Text) (input : Option (List ℕ)) (status : ℕ) (old new : Option (List ℕ)) : Type 0 where
-  mistaken : (kind : ErrorKind) → IsAmong kind faults → IsMistake kind → status ≡ 2 → Keeps old new → EndsBy faults file input status old new
-  shown : (kind : ErrorKind) → IsAmong kind faults → IsRequest kind → status ≡ 0 → EndsBy faults file input status old new
-  unshown : (kind : ErrorKind) → IsAmong kind faults → IsRequest kind → IsStreamStatus status → EndsBy faults file input status old new
-  out_of_memory : status ≡ 6 → Keeps old new → EndsBy faults file input status old new
-  by_standard_input : faults ≡ [] → file ≡ None → EndsOnInput input status old new → EndsBy faults file input status old new
-  by_file : (path : Text) → faults ≡ [] → file ≡ Some path → EndsOnInput None status old new → EndsBy faults file input status old new
+pub data EndsBy (faults : Kinds) (task : Task) (input : Option (List ℕ)) (status : ℕ) (old new : Option (List ℕ)) : Type 0 where
+  mistaken : (kind : ErrorKind) → IsAmong kind faults → IsMistake kind → status ≡ 2 → Keeps old new → EndsBy faults task input status old new
+  shown : (kind : ErrorKind) → IsAmong kind faults → IsRequest kind → status ≡ 0 → EndsBy faults task input status old new
+  unshown : (kind : ErrorKind) → IsAmong kind faults → IsRequest kind → IsStreamStatus status → EndsBy faults task input status old new
+  out_of_memory : status ≡ 6 → Keeps old new → EndsBy faults task input status old new
+  by_standard_input : faults ≡ [] → task ≡ Simulate None → EndsOnInput input status old new → EndsBy faults task input status old new
+  by_file : (path : Text) → faults ≡ [] → task ≡ Simulate (Some path) → EndsOnInput None status old new → EndsBy faults task input status old new
+  by_folder : (path : Text) → faults ≡ [] → task ≡ Show (Some path) → EndsOnFolder status old new → EndsBy faults task input status old new
+  without_folder : faults ≡ [] → task ≡ Show None → status ≡ 2 → Keeps old new → EndsBy faults task input status old new

@@ -1,3 +1,4 @@
+pub mod Areas
 pub mod Ends
 pub mod Lines
 pub mod Refusals

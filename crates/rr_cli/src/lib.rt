@@ -3,13 +3,15 @@
 
 mod program;
 mod refusals;
+mod show;
 mod streams;
 mod words;
 
 pub use program::{execute, report_on};
 pub use refusals::{print_refusal, status};
+pub use show::show_disk;
 pub use streams::end_without_words;
-pub use words::file_named;
+pub use words::{Task, read_words};
 
 #[cfg(test)]
 mod tests;

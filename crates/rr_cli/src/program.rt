@@ -1,13 +1,14 @@
 //! The program: what it reads, what it prints and how it ends.
 
-ghost use Rattle.std.specs.Prelude.{◌≡◌, IfOk, IsSome, map};
+ghost use Rattle.std.specs.Prelude.{◌≡◌, ◌≢◌, IfOk, None, map};
 ghost use Rattle.std.specs.Io.KnownBytes.{Keeps};
-ghost use Rattle.rr_cli.specs.Lines.{faults_of, file_of};
+ghost use Rattle.rr_cli.specs.Lines.{Simulate, faults_of, task_of};
 ghost use Rattle.rr_cli.specs.Ends.{IsReportOn, EndsOnInput, EndsBy};
 
 use crate::refusals::end_by_refusal;
+use crate::show::{end_without_folder, show_folder};
 use crate::streams::{end_by_stream, print_all, read_all};
-use crate::words::{end_by_words, file_named};
+use crate::words::{Task, end_by_words, read_words};
 use rr_sim::{Schedule, simulate};
 use rr_types::Refusal;
 use std::alloc::Global;
@@ -55,9 +56,9 @@ fn simulate_input<I: Read, O: Write, E: Write>(
 
 /// Runs the program `rr` by these words, of which the first is its name, and gives its exit status.
 ///
-/// `rr sim [FILE]` reads a schedule from FILE, or else from `input`, and prints its report on `out`. What goes
-/// wrong is told on `err`. The statuses: 0 done, 2 wrong words, 3 no schedule, 4 a damaged area, 5 a device, a
-/// file or a stream, 6 memory, 7 an audit.
+/// `rr sim [FILE]` reads a schedule from FILE, or else from `input`, and prints its report on `out`. `rr show DIR`
+/// prints what the areas hold of the disk in the folder DIR. What goes wrong is told on `err`. The statuses: 0
+/// done, 2 wrong words, 3 no schedule, 4 a damaged area, 5 a device, a file or a stream, 6 memory, 7 an audit.
 pub fn execute<R: Files + AllocGlobal, S: AsStr, I: Read, O: Write, E: Write>(
     rt: &R,
     words: &[S],
@@ -65,17 +66,21 @@ pub fn execute<R: Files + AllocGlobal, S: AsStr, I: Read, O: Write, E: Write>(
     out: &mut O,
     err: &mut E,
 ) -> u8
-    ensures ends { EndsBy (faults_of (map S.text words.now)) (file_of (map S.text words.now))
+    ensures ends { EndsBy (faults_of (map S.text words.now)) (task_of (map S.text words.now))
         (I.remaining input.old) result (O.contents out.old) (O.contents out.new) }
     ensures quiet { result ≡ 0 → Keeps (E.contents err.old) (E.contents err.new) }
-    ensures untouched { IsSome (file_of (map S.text words.now)) → I.remaining input.new ≡ I.remaining input.old }
+    ensures untouched { task_of (map S.text words.now) ≢ Simulate None → I.remaining input.new ≡ I.remaining input.old }
 {
-    match file_named(rt.alloc(), words) {
-        Ok(None) => simulate_input(rt.alloc(), "standard input", input, out, err),
-        Ok(Some(path)) => match fs::open(rt, path) {
+    match read_words(rt.alloc(), words) {
+        Ok(Task::Simulate(None)) => {
+            simulate_input(rt.alloc(), "standard input", input, out, err)
+        }
+        Ok(Task::Simulate(Some(path))) => match fs::open(rt, path) {
             Ok(mut file) => simulate_input(rt.alloc(), path, &mut file, out, err),
             Err(failure) => end_by_stream(err, path, &failure),
         },
+        Ok(Task::Show(Some(folder))) => show_folder(rt, folder, out, err),
+        Ok(Task::Show(None)) => end_without_folder(err),
         Err(error) => end_by_words(out, err, &error),
     }
 }

@@ -4,7 +4,7 @@ ghost use Rattle.std.specs.Prelude.{◌≡◌, ◌≢◌, ◌⊎◌, IfOk, map, 
 ghost use Rattle.std.specs.Io.KnownBytes.{Keeps};
 ghost use Rattle.clap.specs.Words.{app_of, kind_of};
 ghost use Rattle.clap.specs.Kinds.{FailsBy};
-ghost use Rattle.rr_cli.specs.Lines.{rr_line, faults_of, file_of};
+ghost use Rattle.rr_cli.specs.Lines.{rr_line, faults_of, task_of, task_in};
 ghost use Rattle.rr_cli.specs.Ends.{IsStreamStatus, IsRequest, IsMistake};
 
 use crate::refusals::end_by_refusal;
@@ -24,26 +24,45 @@ fn command_line<'a>(alloc: Global) -> Result<Command<'a>, AllocError>
     let sim = Command::new(alloc, "sim")
         .about("Runs a schedule and prints its report")
         .arg(file)?;
+    let folder = Arg::new(alloc, "DIR")
+        .help("The folder of the node")
+        .required(true);
+    let show = Command::new(alloc, "show")
+        .about("Tells what the areas of a node's disk hold")
+        .arg(folder)?;
     Command::new(alloc, "rr")
         .version("0.1.0")
         .about("A replicated name registry that recovers from crashes")
         .arg_required_else_help(true)
         .subcommand_required(true)
-        .subcommand(sim)
+        .subcommand(sim)?
+        .subcommand(show)
 }
 
-/// The file that the words of `rr sim [FILE]` name, if they name one. The first word is the program's name.
+/// What words ask for.
+#[derive(Clone, Copy, Debug, PartialEq, Eq)]
+pub enum Task<'a> {
+    /// `rr sim [FILE]`: the report of the schedule in this file, or else in standard input.
+    Simulate(Option<&'a str>),
+    /// `rr show DIR`: what the areas hold of the disk in this folder.
+    Show(Option<&'a str>),
+}
+
+/// What the words ask for. The first word is the program's name.
 ///
 /// # Errors
 /// What `clap` answers to words that are no command, and to words that ask for help or the version.
-pub fn file_named<'a, S: AsStr>(alloc: Global, words: &'a [S]) -> Result<Option<&'a str>, Error>
-    ensures file { IfOk result (λ f. option_map (λ s. s.now) f ≡ file_of (map S.text words.entry.now)) }
+pub fn read_words<'a, S: AsStr>(alloc: Global, words: &'a [S]) -> Result<Task<'a>, Error>
+    ensures task { IfOk result (λ a. task_in a ≡ task_of (map S.text words.entry.now)) }
     ensures faults { FailsBy (faults_of (map S.text words.entry.now)) result }
 {
     let matches = command_line(alloc)?.try_get_matches_from(words)?;
+    if let Some(show) = matches.subcommand_matches("show") {
+        return Ok(Task::Show(show.get_str("DIR")));
+    }
     match matches.subcommand() {
-        Some((_, sim)) => Ok(sim.get_str("FILE")),
-        None => Ok(None),
+        Some((_, sim)) => Ok(Task::Simulate(sim.get_str("FILE"))),
+        None => Ok(Task::Simulate(None)),
     }
 }
 

@@ -2,5 +2,6 @@ pub mod Areas
 pub mod Counts
 pub mod Crash
 pub mod Failing
+pub mod Files
 pub mod Memory
 pub mod Strips

@@ -1,5 +1,5 @@
 //! Disks of two areas: what their device calls do, how often they were made and how often they failed, and
-//! what a crash may leave. A disk in memory, and a disk whose calls fail on demand.
+//! what a crash may leave. A disk in memory, a disk of two files, and a disk whose calls fail on demand.
 //!
 //! After a write its range is loose: until the next sync, a crash may leave any bytes there. A sync makes
 //! nothing loose and the present lengths safe. A crash leaves of each area a length between the safe and the
@@ -11,6 +11,7 @@ mod cell;
 mod cells;
 mod disk;
 mod failing;
+mod file;
 mod memory;
 mod strip;
 
@@ -18,7 +19,10 @@ pub use area::Area;
 pub use cell::Cell;
 pub use disk::Disk;
 pub use failing::FailingDisk;
+pub use file::FileDisk;
 pub use memory::MemDisk;
 
+#[cfg(test)]
+mod file_tests;
 #[cfg(test)]
 mod tests;

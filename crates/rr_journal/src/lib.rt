@@ -8,7 +8,7 @@ mod journal;
 mod opening;
 mod promised;
 
-pub use content::Content;
+pub use content::{Content, Halt, OPEN_GATE, frame_behind, read_groups};
 pub use image::{Image, read_image};
 pub use journal::Journal;
 pub use opening::{Opening, Progress};

@@ -1,30 +1,41 @@
-use Rattle.std.proofs.Common.{rules, ◌≡◌, map, None, Some, inl, inr}
+use Rattle.std.proofs.Common.{◌≡◌, ◌∙◌, sym, ap, map, None, Some, inl, inr}
 use Rattle.std.proofs.KnownBytes.{Keeps-refl}
 use Rattle.clap.specs.Words.{kind_of}
-use Rattle.rr_cli.specs.Lines.{file_of}
-use Rattle.rr_cli.specs.Ends.{unread, mistaken, shown, unshown, out_of_memory, by_standard_input, by_file}
+use Rattle.rr_cli.specs.declared.words.Task.TheVariants as read
+use Rattle.rr_cli.specs.Lines.{Simulate, Show, task_of, task_in}
+use Rattle.rr_cli.specs.Ends.{unread, mistaken, shown, unshown, out_of_memory, by_standard_input, by_file, by_folder}
 use Rattle.rr_cli.proofs.EndLemmas.{of_any_input, kind_cases}
 use Rattle.rr_cli.proofs.program.execute.Goals as goal
 
--- src/program.rt:61:1
-pub returns-in-Ok-None-clause-ends : goal.returns-in-Ok-None-clause-ends
-returns-in-Ok-None-clause-ends g c =
-    let none : file_of (map g.S.AsStr.text c.args.words.now) ≡ None = search rules in
-    by_standard_input c.in-Ok-None.ensures.faults none c.simulate_input.ensures.ends
+-- src/program.rt:62:1
+pub returns-in-Ok-Simulate-None-clause-ends : goal.returns-in-Ok-Simulate-None-clause-ends
+returns-in-Ok-Simulate-None-clause-ends g c =
+    let w = c.in-Ok-Simulate-None in
+    let task : task_of (map g.S.AsStr.text c.args.words.now) ≡ Simulate None = sym w.ensures.task ∙ ap task_in w.field-0-is ∙ ap (λ file. task_in (read.Simulate file)) w.field-0-0-is in
+    by_standard_input w.ensures.faults task c.simulate_input.ensures.ends
 
--- src/program.rt:61:1
+-- src/program.rt:62:1
 pub returns-in-Ok-clause-ends : goal.returns-in-Ok-clause-ends
 returns-in-Ok-clause-ends g c =
-    let path : file_of (map g.S.AsStr.text c.args.words.now) ≡ Some c.in-Ok-Some.path.now = search rules in
-    by_file c.in-Ok-Some.path.now c.in-Ok-Some.ensures.faults path (of_any_input _ _ _ _ c.simulate_input-in-Ok.ensures.ends)
+    let w = c.in-Ok-Simulate-Some in
+    let task : task_of (map g.S.AsStr.text c.args.words.now) ≡ Simulate (Some w.path.now) = sym w.ensures.task ∙ ap task_in w.field-0-is ∙ ap (λ file. task_in (read.Simulate file)) w.field-0-0-is in
+    by_file w.path.now w.ensures.faults task (of_any_input _ _ _ _ c.simulate_input-in-Ok.ensures.ends)
 
--- src/program.rt:61:1
+-- src/program.rt:62:1
 pub returns-in-Err-open-clause-ends : goal.returns-in-Err-open-clause-ends
 returns-in-Err-open-clause-ends g c =
-    let path : file_of (map g.S.AsStr.text c.args.words.now) ≡ Some c.in-Ok-Some.path.now = search rules in
-    by_file c.in-Ok-Some.path.now c.in-Ok-Some.ensures.faults path (unread c.end_by_stream.ensures.status (Keeps-refl (g.O.Write.contents c.args.out.now)))
+    let w = c.in-Ok-Simulate-Some in
+    let task : task_of (map g.S.AsStr.text c.args.words.now) ≡ Simulate (Some w.path.now) = sym w.ensures.task ∙ ap task_in w.field-0-is ∙ ap (λ file. task_in (read.Simulate file)) w.field-0-0-is in
+    by_file w.path.now w.ensures.faults task (unread c.end_by_stream.ensures.status (Keeps-refl (g.O.Write.contents c.args.out.now)))
 
--- src/program.rt:61:1
+-- src/program.rt:62:1
+pub returns-in-Ok-Show-Some-clause-ends : goal.returns-in-Ok-Show-Some-clause-ends
+returns-in-Ok-Show-Some-clause-ends g c =
+    let w = c.in-Ok-Show-Some in
+    let task : task_of (map g.S.AsStr.text c.args.words.now) ≡ Show (Some w.folder.now) = sym w.ensures.task ∙ ap task_in w.field-0-is ∙ ap (λ folder. task_in (read.Show folder)) w.field-0-0-is in
+    by_folder w.folder.now w.ensures.faults task c.show_folder.ensures.ends
+
+-- src/program.rt:62:1
 pub returns-in-Err-clause-ends : goal.returns-in-Err-clause-ends
 returns-in-Err-clause-ends g c =
     elim (c.in-Err.ensures.faults) [

@@ -1,0 +1,88 @@
+-- Lemmas on how a run on a folder ends.
+use Rattle.std.proofs.Common.{◌≡◌, ◌⊎◌, ℕ, List, [], ◌∷◌, ◌++◌, Option, None, Result, Ok, Err, refl, ap, inl, inr, codes, append_assoc}
+use Rattle.std.specs.Prelude.{decimal}
+use Rattle.std.specs.Prelude.{Vec}
+use Rattle.std.specs.declared.alloc.Global.{Global}
+use Rattle.std.specs.Io.KnownBytes.{Appends, Keeps}
+use Rattle.rr_types.specs.declared.refusal.Refusal.{Refusal}
+use Rattle.rr_types.specs.declared.refusal.Refusal.TheVariants as refusals
+use Rattle.rr_disk.specs.declared.area.Area.{Area}
+use Rattle.rr_slots.specs.declared.inspection.AreaReport.{AreaReport}
+use Rattle.rr_slots.specs.Inspect.{Inspects, IsTold, inspected}
+use Rattle.rr_slots.proofs.InspectLaws.{seen_by}
+use Rattle.rr_text.specs.ReportTexts.{line}
+use Rattle.rr_cli.specs.Areas.{area_words, areas_text, IsShown}
+use Rattle.rr_cli.specs.Ends.{AppendsFront, IsStreamStatus, EndsOnFolder, told, untold, broken, failed}
+use Rattle.rr_cli.specs.Refusals.{status_of}
+
+-- some areas were shown so, or the device refused
+abbrev pub ShowsSome : Result (Vec ℕ Global) Refusal → Type 0
+ShowsSome result = ((first : List ℕ) × (second : List ℕ) × IsShown result (inspected first second)) ⊎ (result ≡ Err refusals.Device)
+
+abbrev answered : Option AreaReport → Option AreaReport → Result (Option AreaReport × Option AreaReport) Refusal
+answered first second = Ok (first, second)
+
+abbrev refused : Refusal → Result (Option AreaReport × Option AreaReport) Refusal
+refused e = Err e
+
+-- the text on what an inspection told is the text on some areas
+pub text_shown : {D : Type 0} (of_read : D → Area → ℕ → ℕ → Result (Vec ℕ Global) Refusal → D → Type 0) (old new : D) (first second : Option AreaReport) (text : Vec ℕ Global)
+    → Inspects of_read old (Ok (first, second)) new → text.items ≡ areas_text first second → ShowsSome (Ok text)
+text_shown of_read old new first second text seen is = by_seen (seen_by of_read old new (answered first second) seen)
+  where
+    by_seen : ((a : List ℕ) × (b : List ℕ) × IsTold (answered first second) (inspected a b)) ⊎ (answered first second ≡ refused refusals.Device) → ShowsSome (Ok text)
+    by_seen (inl (a, b, tells)) = inl (a, b, (first, second, tells, is))
+    by_seen (inr device) = absurd cc
+
+-- the refusal of an inspection is handed on
+pub refusal_shown : {D : Type 0} (of_read : D → Area → ℕ → ℕ → Result (Vec ℕ Global) Refusal → D → Type 0) (old new : D) (e : Refusal) → Inspects of_read old (Err e) new → ShowsSome (Err e)
+refusal_shown of_read old new e seen = by_seen (seen_by of_read old new (refused e) seen)
+  where
+    by_seen : ((a : List ℕ) × (b : List ℕ) × IsTold (refused e) (inspected a b)) ⊎ (refused e ≡ refused refusals.Device) → ShowsSome (Err e)
+    by_seen (inl seen) = inl seen
+    by_seen (inr device) = let is : e ≡ refusals.Device = cc in rw is (inr refl)
+
+pub no_memory_shown : ShowsSome (Err refusals.OutOfMemory)
+no_memory_shown = inl ([], [], tt)
+
+-- all of the text was printed
+pub text_ends : (text : Vec ℕ Global) (old new : Option (List ℕ)) → ShowsSome (Ok text) → Appends old new text.items → EndsOnFolder 0 old new
+text_ends text old new (inl (a, b, (first, second, tells, is))) appends = told a b first second tells refl (rw is at appends)
+text_ends text old new (inr device) appends = absurd cc
+
+-- a front of the text was printed
+pub front_ends : (text : Vec ℕ Global) (status : ℕ) (old new : Option (List ℕ)) → ShowsSome (Ok text) → IsStreamStatus status → AppendsFront old new text.items → EndsOnFolder status old new
+front_ends text status old new (inl (a, b, (first, second, tells, is))) fails front = untold a b first second tells fails (rw is at front)
+front_ends text status old new (inr device) fails front = absurd cc
+
+abbrev the_err : Refusal → Result (Vec ℕ Global) Refusal
+the_err e = Err e
+
+err_is : (e d : Refusal) → the_err e ≡ the_err d → e ≡ d
+err_is e d is = cc
+
+-- nothing was printed
+pub refusal_ends : (e : Refusal) (status : ℕ) (old new : Option (List ℕ)) → ShowsSome (Err e) → status ≡ status_of e → Keeps old new → EndsOnFolder status old new
+refusal_ends e status old new (inr device) is keeps = let same : e ≡ refusals.Device = err_is e refusals.Device device in failed (inl (rw same at is)) keeps
+refusal_ends refusals.OutOfMemory status old new (inl seen) is keeps = failed (inr is) keeps
+refusal_ends (refusals.Damaged number offset) status old new (inl (a, b, (area, named, breaks))) is keeps = broken a b area offset breaks is keeps
+refusal_ends refusals.Device status old new (inl (a, b, none)) is keeps = absurd none
+refusal_ends refusals.Failed status old new (inl (a, b, none)) is keeps = absurd none
+refusal_ends refusals.Down status old new (inl (a, b, none)) is keeps = absurd none
+refusal_ends refusals.BadNodes status old new (inl (a, b, none)) is keeps = absurd none
+refusal_ends refusals.BadName status old new (inl (a, b, none)) is keeps = absurd none
+refusal_ends refusals.BadValue status old new (inl (a, b, none)) is keeps = absurd none
+refusal_ends refusals.ListFull status old new (inl (a, b, none)) is keeps = absurd none
+refusal_ends refusals.RoundsOut status old new (inl (a, b, none)) is keeps = absurd none
+refusal_ends (refusals.Malformed offset) status old new (inl (a, b, none)) is keeps = absurd none
+refusal_ends refusals.StrangeMark status old new (inl (a, b, none)) is keeps = absurd none
+refusal_ends refusals.Busy status old new (inl (a, b, none)) is keeps = absurd none
+refusal_ends (refusals.BadEvent line) status old new (inl (a, b, none)) is keeps = absurd none
+refusal_ends refusals.SeatsTaken status old new (inl (a, b, none)) is keeps = absurd none
+refusal_ends refusals.TooLarge status old new (inl (a, b, none)) is keeps = absurd none
+refusal_ends (refusals.AuditNo index) status old new (inl (a, b, none)) is keeps = absurd none
+refusal_ends refusals.NoGuard status old new (inl (a, b, none)) is keeps = absurd none
+
+-- the line on an area that isn't formatted
+pub unformatted_line : (n : ℕ) → line (area_words n None) ≡ codes "area " ++ (decimal n ++ (32 ∷ codes "unformatted" ++ 10 ∷ []))
+unformatted_line n = ap (λ text. codes "area " ++ text) (append_assoc (decimal n) (32 ∷ codes "unformatted") (10 ∷ []))

@@ -1,0 +1,50 @@
+-- What words ask for, by what was read of their subcommand.
+use Rattle.std.proofs.Common.{◌≡◌, Bool, true, false, refl, ap, codes, List, Option, None, Some, option_map, IsSome}
+use Rattle.std.specs.Prelude.{Box}
+use Rattle.std.specs.Box.{box_value}
+use Rattle.std.specs.Option.{option_map_or}
+use Rattle.std.specs.Str.{bytes_eq}
+use Rattle.std.proofs.lemmas.Slice.Eq.{bytes_eq-Decides}
+use Rattle.clap.specs.Words.{Row, Text, first_of, is_simple, is_simple_and_free}
+use Rattle.clap.specs.Simple.{subcommand_rows}
+use Rattle.clap.specs.declared.parser.matches.SubCommand.{SubCommand}
+use Rattle.clap.specs.declared.parser.matches.ArgMatches.TheViews.{out-SubCommand}
+use Rattle.clap.proofs.OnLiterals.{clap_on_literals}
+use Rattle.rr_cli.specs.Lines.{Simulate, Show, rr_line, task_by}
+
+pub is_simple_line : is_simple rr_line ≡ true
+unfolding clap_on_literals
+is_simple_line = refl
+
+pub is_free_line : is_simple_and_free rr_line ≡ true
+unfolding clap_on_literals
+is_free_line = refl
+
+-- the name beside the rows of a subcommand is its name
+pub named : {Z : Type 0} (sub : Option (Box SubCommand Z)) → option_map (λ (p : Text × List Row). p.0) (subcommand_rows sub) ≡ option_map (λ b. (out-SubCommand (box_value b)).name.now) sub
+named None = refl
+named (Some b) = refl
+
+-- the subcommand show, with these rows
+pub task_shown : (found : Option (Text × List Row)) (rows : List Row) → option_map (λ (p : Text × List Row). p.0) found ≡ Some (codes "show") → option_map (λ (p : Text × List Row). p.1) found ≡ Some rows
+    → Show (first_of (codes "DIR") rows) ≡ option_map_or task_by found (Simulate None)
+task_shown None rows name is = absurd cc
+task_shown (Some (text, own)) rows name is =
+    let same : text ≡ codes "show" = cc in
+    let all : own ≡ rows = cc in
+    rw (same, all) refl
+
+-- another subcommand, with these rows
+pub task_simulated : (found : Option (Text × List Row)) (rows : List Row) → (option_map (λ (p : Text × List Row). p.0) found ≡ Some (codes "show") → ⊥) → Some rows ≡ option_map (λ (p : Text × List Row). p.1) found
+    → Simulate (first_of (codes "FILE") rows) ≡ option_map_or task_by found (Simulate None)
+task_simulated None rows other is = absurd cc
+task_simulated (Some (text, own)) rows other is = by_name (bytes_eq text (codes "show")) refl
+  where
+    by_name : (b : Bool) → bytes_eq text (codes "show") ≡ b → Simulate (first_of (codes "FILE") rows) ≡ option_map_or task_by (Some (text, own)) (Simulate None)
+    by_name true e = absurd (other (ap (λ (t : Text). Some t) ((bytes_eq-Decides text (codes "show")).0 e)))
+    by_name false e = let all : own ≡ rows = cc in rw (e, all) refl
+
+-- what is no value isn't there
+pub not_there : {A : Type 0} (found : Option A) → ((x : A) → found ≡ Some x → ⊥) → IsSome found → ⊥
+not_there None other there = absurd cc
+not_there (Some x) other there = other x refl

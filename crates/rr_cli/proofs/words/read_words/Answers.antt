@@ -1,0 +1,47 @@
+use Rattle.std.proofs.Common.{ap, refl, sym, codes, map, List, Option, Some, option_map, ◌≡◌, ◌∙◌}
+use Rattle.clap.specs.Words.{App, Row, Text, app_of, found_of, is_simple, is_simple_and_free, rows_of, subcommand_of, subcommand_rows_of}
+use Rattle.clap.specs.Faults.{fault_of}
+use Rattle.clap.specs.declared.parser.matches.ArgMatches.TheViews.{out-ArgMatches}
+use Rattle.clap.proofs.WalkLemmas.{first_value-rows}
+use Rattle.rr_cli.specs.Lines.{Simulate, Show, rr_line}
+use Rattle.rr_cli.proofs.WordLemmas.{is_simple_line, is_free_line, named, task_shown, task_simulated, not_there}
+use Rattle.rr_cli.proofs.words.read_words.Goals as goal
+
+abbrev name_of : Option (Text × List Row) → Option Text
+name_of found = option_map (λ (p : Text × List Row). p.0) found
+
+abbrev arguments_of : Option (Text × List Row) → Option (List Row)
+arguments_of found = option_map (λ (p : Text × List Row). p.1) found
+
+pub returns-in-Some-clause-task : goal.returns-in-Some-clause-task
+returns-in-Some-clause-task g c =
+    let line_is : app_of c.in_ok-command_line.field-0 ≡ rr_line = c.in_ok-command_line.ensures in
+    let words = map g.S.AsStr.text c.args.words.now in
+    let m = c.in_ok-matches.matches in
+    let below : subcommand_rows_of m ≡ subcommand_of rr_line words = (c.in_ok-matches.ensures.matches (ap is_simple line_is ∙ is_simple_line)).1 ∙ ap (λ (a : App). subcommand_of a words) line_is in
+    let name : name_of (subcommand_of rr_line words) ≡ Some (codes "show") = sym (ap name_of below) ∙ named (out-ArgMatches m).subcommand ∙ c.in-Some.ensures.found.0 refl in
+    let rows : arguments_of (subcommand_of rr_line words) ≡ Some (rows_of (found_of c.in-Some.show.now)) = sym (ap arguments_of below) ∙ c.in-Some.ensures.rows in
+    ap Show (c.get_str.ensures ∙ first_value-rows (found_of c.in-Some.show.now) (codes "DIR")) ∙ task_shown (subcommand_of rr_line words) (rows_of (found_of c.in-Some.show.now)) name rows
+
+pub returns-in-Some-clause-faults : goal.returns-in-Some-clause-faults
+returns-in-Some-clause-faults g c =
+    let line_is : app_of c.in_ok-command_line.field-0 ≡ rr_line = c.in_ok-command_line.ensures in
+    let words = map g.S.AsStr.text c.args.words.now in
+    sym (ap (λ (a : App). fault_of a words) line_is) ∙ c.in_ok-matches.ensures.kinds (ap is_simple_and_free line_is ∙ is_free_line)
+
+pub returns-in-Some-subcommand-clause-task : goal.returns-in-Some-subcommand-clause-task
+returns-in-Some-subcommand-clause-task g c =
+    let line_is : app_of c.in_ok-command_line.field-0 ≡ rr_line = c.in_ok-command_line.ensures in
+    let words = map g.S.AsStr.text c.args.words.now in
+    let m = c.in_ok-matches.matches in
+    let below : subcommand_rows_of m ≡ subcommand_of rr_line words = (c.in_ok-matches.ensures.matches (ap is_simple line_is ∙ is_simple_line)).1 ∙ ap (λ (a : App). subcommand_of a words) line_is in
+    let sim = c.in-Some-subcommand.sim.now in
+    let other : name_of (subcommand_of rr_line words) ≡ Some (codes "show") → ⊥ = λ e. not_there c.subcommand_matches.result c.in_default.not-Some (c.subcommand_matches.ensures.found.1 (sym (named (out-ArgMatches m).subcommand) ∙ ap name_of below ∙ e)) in
+    ap Simulate (c.get_str-in-Some-subcommand.ensures ∙ first_value-rows (found_of sim) (codes "FILE"))
+    ∙ task_simulated (subcommand_of rr_line words) (rows_of (found_of sim)) other (c.in-Some-subcommand.ensures.rows ∙ ap arguments_of below)
+
+pub returns-in-Some-subcommand-clause-faults : goal.returns-in-Some-subcommand-clause-faults
+returns-in-Some-subcommand-clause-faults g c =
+    let line_is : app_of c.in_ok-command_line.field-0 ≡ rr_line = c.in_ok-command_line.ensures in
+    let words = map g.S.AsStr.text c.args.words.now in
+    sym (ap (λ (a : App). fault_of a words) line_is) ∙ c.in_ok-matches.ensures.kinds (ap is_simple_and_free line_is ∙ is_free_line)

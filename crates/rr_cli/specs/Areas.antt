@@ -1,0 +1,23 @@
+-- How the areas of a disk are told.
+use Rattle.std.specs.Prelude.{◌≡◌, ℕ, List, ◌∷◌, [], ◌++◌, codes, decimal, Option, None, Some, Result, Ok, Err, Vec}
+use Rattle.std.specs.declared.alloc.Global.{Global}
+use Rattle.rr_types.specs.declared.refusal.Refusal.{Refusal}
+use Rattle.rr_text.specs.ReportTexts.{line}
+use Rattle.rr_slots.specs.declared.inspection.AreaReport.{AreaReport}
+use Rattle.rr_slots.specs.Inspect.{Inspected, Tells, IsTold}
+
+-- the words on an area of this number: whether it is formatted, and then its epoch, its node of so many, the number of
+-- its next fact, and how many commands have decided
+abbrev pub area_words : ℕ → Option AreaReport → List (List ℕ)
+area_words number None = codes "area" ∷ decimal number ∷ codes "unformatted" ∷ []
+area_words number (Some r) =
+    codes "area" ∷ decimal number ∷ codes "epoch" ∷ decimal r.epoch ∷ codes "node" ∷ decimal r.node ∷ codes "of" ∷ decimal r.nodes ∷ codes "facts" ∷ decimal r.next ∷ codes "decided" ∷ decimal r.decided ∷ []
+
+-- the text on both areas, a line each
+abbrev pub areas_text : Option AreaReport → Option AreaReport → List ℕ
+areas_text first second = line (area_words 0 first) ++ line (area_words 1 second)
+
+-- what was answered for the text on both areas: the text, or the place where one is broken; or memory ran out
+abbrev pub IsShown : Result (Vec ℕ Global) Refusal → Inspected → Type 0
+IsShown (Ok text) seen = (first : Option AreaReport) × (second : Option AreaReport) × (seen ≡ Tells first second) × (text.items ≡ areas_text first second)
+IsShown (Err e) seen = IsTold (Err e) seen

@@ -1,0 +1,121 @@
+//! The areas of a disk, told as text.
+
+ghost use Rattle.std.specs.Prelude.{◌≡◌, ◌⊎◌, ℕ, ◌^◌, ◌<◌, List, length, Err, IfOk, OnOk};
+ghost use Rattle.std.specs.Io.KnownBytes.{Appends, Keeps};
+ghost use Rattle.rr_types.specs.declared.refusal.Refusal.TheVariants.{Device};
+ghost use Rattle.rr_text.specs.ReportTexts.{line};
+ghost use Rattle.rr_disk.specs.Areas.{bytes_of};
+ghost use Rattle.rr_slots.specs.Inspect.{inspected};
+ghost use Rattle.rr_cli.specs.Areas.{area_words, areas_text, IsShown};
+ghost use Rattle.rr_cli.specs.Ends.{EndsOnFolder};
+
+use crate::refusals::end_by_refusal;
+use crate::streams::{end_by_stream, print_all};
+use rr_disk::{Disk, FileDisk};
+use rr_slots::{AreaReport, inspect};
+use rr_types::Refusal;
+use std::alloc::{AllocError, Global};
+use std::io;
+use std::io::Write;
+use std::rt::Files;
+
+// Prints the line on an area.
+fn print_area<W: Write>(out: &mut W, area: u8, told: Option<AreaReport>) -> io::Result<()>
+    ensures { OnOk result (Appends (W.contents out.old) (W.contents out.new) (line (area_words area told))) }
+{
+    match told {
+        None => {
+            let state = "unformatted";
+            writeln!(out, "area {area} {state}")
+        }
+        Some(told) => {
+            let epoch = told.epoch;
+            let node = told.node.index();
+            let nodes = told.nodes.count();
+            let next = told.next;
+            let decided = told.decided;
+            writeln!(
+                out,
+                "area {area} epoch {epoch} node {node} of {nodes} facts {next} decided {decided}"
+            )
+        }
+    }
+}
+
+// The text on both areas.
+fn text_of(
+    alloc: Global,
+    first: Option<AreaReport>,
+    second: Option<AreaReport>,
+) -> Result<Vec<u8>, AllocError>
+    ensures { IfOk result (λ text. text.items ≡ areas_text first second) }
+{
+    let mut text = Vec::new(alloc);
+    if print_area(&mut text, 0, first).is_err() {
+        return Err(AllocError);
+    }
+    if print_area(&mut text, 1, second).is_err() {
+        return Err(AllocError);
+    }
+    Ok(text)
+}
+
+/// What the areas of a disk hold, as text: a line for each, `area A unformatted` or
+/// `area A epoch E node P of N facts F decided D`. Nothing is written to the disk.
+///
+/// # Errors
+/// `OutOfMemory`, `Device`; `Damaged` where an area is broken.
+pub fn show_disk<D: Disk>(alloc: Global, disk: &mut D) -> Result<Vec<u8>, Refusal>
+    ensures told { D.tells disk.old → length (D.areas disk.old).first.cells < 2 ^ 64 → length (D.areas disk.old).second.cells < 2 ^ 64
+        → IsShown result (inspected (bytes_of (D.areas disk.old).first) (bytes_of (D.areas disk.old).second)) ⊎ (result ≡ Err Device) }
+    ensures some { ((first : List ℕ) × (second : List ℕ) × IsShown result (inspected first second)) ⊎ (result ≡ Err Device) }
+    ensures same { D.tells disk.old → D.areas disk.new ≡ D.areas disk.old }
+{
+    match inspect(alloc, disk) {
+        Ok((first, second)) => match text_of(alloc, first, second) {
+            Ok(text) => Ok(text),
+            Err(_) => Err(Refusal::OutOfMemory),
+        },
+        Err(refusal) => Err(refusal),
+    }
+}
+
+// The text on the areas of the disk in a folder, which is opened and not made.
+fn folder_text<R: Files + AllocGlobal>(rt: &R, folder: &str) -> Result<Vec<u8>, Refusal>
+    ensures { ((first : List ℕ) × (second : List ℕ) × IsShown result (inspected first second)) ⊎ (result ≡ Err Device) }
+{
+    match FileDisk::open(rt, folder, false) {
+        Ok(disk) => {
+            let mut disk = disk;
+            show_disk(rt.alloc(), &mut disk)
+        }
+        Err(refusal) => Err(refusal),
+    }
+}
+
+// Prints what the areas hold of the disk in a folder.
+pub(crate) fn show_folder<R: Files + AllocGlobal, O: Write, E: Write>(
+    rt: &R,
+    folder: &str,
+    out: &mut O,
+    err: &mut E,
+) -> u8
+    ensures ends { EndsOnFolder result (O.contents out.old) (O.contents out.new) }
+    ensures quiet { result ≡ 0 → Keeps (E.contents err.old) (E.contents err.new) }
+{
+    match folder_text(rt, folder) {
+        Ok(text) => match print_all(out, text.as_slice()) {
+            Ok(()) => 0,
+            Err(failure) => end_by_stream(err, "standard output", &failure),
+        },
+        Err(refusal) => end_by_refusal(err, &refusal),
+    }
+}
+
+// Ends where no folder is named, which the command line doesn't let through.
+pub(crate) fn end_without_folder<E: Write>(err: &mut E) -> u8
+    ensures { result ≡ 2 }
+{
+    let _ = writeln!(err, "rr: show: no DIR");
+    2
+}
