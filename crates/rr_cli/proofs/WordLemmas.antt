@@ -10,7 +10,7 @@ use Rattle.clap.specs.Simple.{subcommand_rows}
 use Rattle.clap.specs.declared.parser.matches.SubCommand.{SubCommand}
 use Rattle.clap.specs.declared.parser.matches.ArgMatches.TheViews.{out-SubCommand}
 use Rattle.clap.proofs.OnLiterals.{clap_on_literals}
-use Rattle.rr_cli.specs.Lines.{Simulate, Show, rr_line, task_by}
+use Rattle.rr_cli.specs.Lines.{Simulate, Show, Draw, rr_line, task_by}
 
 pub is_simple_line : is_simple rr_line ≡ true
 unfolding clap_on_literals
@@ -34,15 +34,26 @@ task_shown (Some (text, own)) rows name is =
     let all : own ≡ rows = cc in
     rw (same, all) refl
 
+-- the subcommand random, with these rows
+pub task_drawn : (found : Option (Text × List Row)) (rows : List Row) → option_map (λ (p : Text × List Row). p.0) found ≡ Some (codes "random") → option_map (λ (p : Text × List Row). p.1) found ≡ Some rows
+    → Draw (first_of (codes "SEED") rows) (first_of (codes "STEPS") rows) (first_of (codes "NODES") rows) ≡ option_map_or task_by found (Simulate None)
+task_drawn None rows name is = absurd cc
+task_drawn (Some (text, own)) rows name is =
+    let same : text ≡ codes "random" = cc in
+    let all : own ≡ rows = cc in
+    rw (same, all) refl
+
 -- another subcommand, with these rows
-pub task_simulated : (found : Option (Text × List Row)) (rows : List Row) → (option_map (λ (p : Text × List Row). p.0) found ≡ Some (codes "show") → ⊥) → Some rows ≡ option_map (λ (p : Text × List Row). p.1) found
+pub task_simulated : (found : Option (Text × List Row)) (rows : List Row) → (option_map (λ (p : Text × List Row). p.0) found ≡ Some (codes "show") → ⊥)
+    → (option_map (λ (p : Text × List Row). p.0) found ≡ Some (codes "random") → ⊥) → Some rows ≡ option_map (λ (p : Text × List Row). p.1) found
     → Simulate (first_of (codes "FILE") rows) ≡ option_map_or task_by found (Simulate None)
-task_simulated None rows other is = absurd cc
-task_simulated (Some (text, own)) rows other is = by_name (bytes_eq text (codes "show")) refl
+task_simulated None rows other another is = absurd cc
+task_simulated (Some (text, own)) rows other another is = by_name (bytes_eq text (codes "show")) refl (bytes_eq text (codes "random")) refl
   where
-    by_name : (b : Bool) → bytes_eq text (codes "show") ≡ b → Simulate (first_of (codes "FILE") rows) ≡ option_map_or task_by (Some (text, own)) (Simulate None)
-    by_name true e = absurd (other (ap (λ (t : Text). Some t) ((bytes_eq-Decides text (codes "show")).0 e)))
-    by_name false e = let all : own ≡ rows = cc in rw (e, all) refl
+    by_name : (b : Bool) → bytes_eq text (codes "show") ≡ b → (d : Bool) → bytes_eq text (codes "random") ≡ d → Simulate (first_of (codes "FILE") rows) ≡ option_map_or task_by (Some (text, own)) (Simulate None)
+    by_name true e d f = absurd (other (ap (λ (t : Text). Some t) ((bytes_eq-Decides text (codes "show")).0 e)))
+    by_name false e true f = absurd (another (ap (λ (t : Text). Some t) ((bytes_eq-Decides text (codes "random")).0 f)))
+    by_name false e false f = let all : own ≡ rows = cc in rw (e, f, all) refl
 
 -- what is no value isn't there
 pub not_there : {A : Type 0} (found : Option A) → ((x : A) → found ≡ Some x → ⊥) → IsSome found → ⊥

@@ -16,7 +16,8 @@ use Rattle.rr_disk.specs.declared.area.Area.{Area}
 use Rattle.rr_slots.specs.declared.inspection.AreaReport.{AreaReport}
 use Rattle.rr_slots.specs.Inspect.{Tells, Breaks, inspected}
 use Rattle.rr_cli.specs.Areas.{areas_text}
-use Rattle.rr_cli.specs.Lines.{Task, Simulate, Show}
+use Rattle.rr_cli.specs.Draws.{AreNumbers, IsRandomRun}
+use Rattle.rr_cli.specs.Lines.{Task, Simulate, Show, Draw}
 use Rattle.rr_cli.specs.Refusals.{status_of}
 
 -- the bytes are the text of a schedule, and the other text is that of the report of its run, which is a run of the
@@ -63,6 +64,19 @@ pub data EndsOnFolder (status : ℕ) (old new : Option (List ℕ)) : Type 0 wher
   broken : (first second : List ℕ) (area : Area) (offset : ℕ) → inspected first second ≡ Breaks area offset → status ≡ 4 → Keeps old new → EndsOnFolder status old new
   failed : IsStreamStatus status → Keeps old new → EndsOnFolder status old new
 
+-- a run on the numbers of a random schedule: standard output has got the text of its run, or failed in it, or memory
+-- was wanting and it has got nothing
+pub data EndsOnDraw (n seed steps : ℕ) (status : ℕ) (old new : Option (List ℕ)) : Type 0 where
+  drawn : (text : List ℕ) → IsRandomRun n seed steps text → status ≡ 0 → Appends old new text → EndsOnDraw n seed steps status old new
+  undrawn : (text : List ℕ) → IsRandomRun n seed steps text → IsStreamStatus status → AppendsFront old new text → EndsOnDraw n seed steps status old new
+  cut_off : (refusal : Refusal) → status ≡ status_of refusal → Keeps old new → EndsOnDraw n seed steps status old new
+
+-- a run on the words of a random schedule: by the numbers that they write, or they write none and standard output has
+-- got nothing
+pub data EndsOnWords (of_seed of_steps of_nodes : Text) (status : ℕ) (old new : Option (List ℕ)) : Type 0 where
+  numbered : (seed steps nodes : ℕ) → AreNumbers of_seed of_steps of_nodes seed steps nodes → EndsOnDraw nodes seed steps status old new → EndsOnWords of_seed of_steps of_nodes status old new
+  unnumbered : ((seed steps nodes : ℕ) → AreNumbers of_seed of_steps of_nodes seed steps nodes → ⊥) → status ≡ 2 → Keeps old new → EndsOnWords of_seed of_steps of_nodes status old new
+
 -- words that ask for help or the version
 abbrev pub IsRequest : ErrorKind → Type 0
 IsRequest kind = (kind ≡ DisplayHelp) ⊎ (kind ≡ DisplayVersion)
@@ -81,3 +95,5 @@ pub data EndsBy (faults : Kinds) (task : Task) (input : Option (List ℕ)) (stat
   by_file : (path : Text) → faults ≡ [] → task ≡ Simulate (Some path) → EndsOnInput None status old new → EndsBy faults task input status old new
   by_folder : (path : Text) → faults ≡ [] → task ≡ Show (Some path) → EndsOnFolder status old new → EndsBy faults task input status old new
   without_folder : faults ≡ [] → task ≡ Show None → status ≡ 2 → Keeps old new → EndsBy faults task input status old new
+  by_numbers : (of_seed of_steps of_nodes : Text) → faults ≡ [] → task ≡ Draw (Some of_seed) (Some of_steps) (Some of_nodes) → EndsOnWords of_seed of_steps of_nodes status old new → EndsBy faults task input status old new
+  without_numbers : (of_seed of_steps of_nodes : Option Text) → faults ≡ [] → task ≡ Draw of_seed of_steps of_nodes → ((s k n : Text) → task ≡ Draw (Some s) (Some k) (Some n) → ⊥) → status ≡ 2 → Keeps old new → EndsBy faults task input status old new

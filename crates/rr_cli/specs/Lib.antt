@@ -2,3 +2,4 @@ pub mod Areas
 pub mod Ends
 pub mod Lines
 pub mod Refusals
+pub mod Draws

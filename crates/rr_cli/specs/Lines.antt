@@ -1,11 +1,13 @@
 -- The command line of rr.
-use Rattle.std.specs.Prelude.{List, true, Option, None, codes, if◌then◌else◌, option_map}
+use Rattle.std.specs.Prelude.{ℕ, List, true, Option, None, Some, codes, if◌then◌else◌, option_map}
 use Rattle.std.specs.Option.{option_map_or}
 use Rattle.std.specs.Str.{bytes_eq}
 use Rattle.clap.specs.Words.{App, Row, Text, first_of, new_app, new_rule, subcommand_of, with_rule, with_subcommand}
+use Rattle.clap.specs.Walk.{Rule}
 use Rattle.clap.specs.Kinds.{Kinds}
 use Rattle.clap.specs.Faults.{fault_of}
 use Rattle.clap.specs.Simple.{on_top}
+use Rattle.clap.specs.declared.builder.value_parser.ValueParser.TheVariants.{Unsigned}
 use Rattle.rr_cli.specs.declared.words.Task as code
 use Rattle.rr_cli.specs.declared.words.Task.TheVariants as read
 
@@ -17,27 +19,41 @@ sim_line = with_rule (new_app (codes "sim")) (new_rule (codes "FILE"))
 abbrev pub show_line : App
 show_line = with_rule (new_app (codes "show")) (record (new_rule (codes "DIR")) { required = true })
 
+-- an option that has to be there, with a number in a range
+abbrev pub number_rule : Text → Text → ℕ → ℕ → Rule
+number_rule id long least most = record (new_rule id) { long = Some long; required = true; parser = Some (Unsigned least most) }
+
+-- the subcommand random, with a seed, a number of steps and a number of nodes
+abbrev pub random_line : App
+random_line =
+    with_rule (with_rule (with_rule (new_app (codes "random")) (number_rule (codes "SEED") (codes "seed") 0 18446744073709551615)) (number_rule (codes "STEPS") (codes "steps") 0 999930)) (number_rule (codes "NODES") (codes "nodes") 1 7)
+
 -- a command with a version, which needs a subcommand
 abbrev pub rr_settings : App → App
 rr_settings = on_top (λ s. record s { has_version = true; arg_required_else_help = true; subcommand_required = true })
 
 -- the command line of rr
 abbrev pub rr_line : App
-rr_line = with_subcommand (with_subcommand (rr_settings (new_app (codes "rr"))) sim_line.top) show_line.top
+rr_line = with_subcommand (with_subcommand (with_subcommand (rr_settings (new_app (codes "rr"))) sim_line.top) show_line.top) random_line.top
 
 -- what is wrong with the words, or asks for help or the version; nothing where they are a command
 abbrev pub faults_of : List Text → Kinds
 faults_of words = fault_of rr_line words
 
 -- what a command asks for: the report of the schedule in this file or else in standard input; or the areas of the
--- disk in this folder, which only words that are wrong leave out
+-- disk in this folder; or a random schedule by this seed, number of steps and number of nodes; only words that are
+-- wrong leave those out
 pub data Task : Type 0 where
   Simulate : Option Text → Task
   Show : Option Text → Task
+  Draw : Option Text → Option Text → Option Text → Task
 
 -- what a subcommand of this name and these arguments asks for
 abbrev pub task_by : Text × List Row → Task
-task_by p = if bytes_eq p.0 (codes "show") then Show (first_of (codes "DIR") p.1) else Simulate (first_of (codes "FILE") p.1)
+task_by p =
+    if bytes_eq p.0 (codes "show") then Show (first_of (codes "DIR") p.1)
+    else (if bytes_eq p.0 (codes "random") then Draw (first_of (codes "SEED") p.1) (first_of (codes "STEPS") p.1) (first_of (codes "NODES") p.1)
+    else Simulate (first_of (codes "FILE") p.1))
 
 -- what the words ask for
 abbrev pub task_of : List Text → Task
@@ -47,3 +63,4 @@ task_of words = option_map_or task_by (subcommand_of rr_line words) (Simulate No
 abbrev pub task_in : code.Task → Task
 task_in (read.Simulate file) = Simulate (option_map (λ s. s.now) file)
 task_in (read.Show folder) = Show (option_map (λ s. s.now) folder)
+task_in (read.Draw seed steps nodes) = Draw (option_map (λ s. s.now) seed) (option_map (λ s. s.now) steps) (option_map (λ s. s.now) nodes)

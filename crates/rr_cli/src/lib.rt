@@ -1,12 +1,14 @@
 //! The program `rr`, from its words and standard input to its exit status.
 #![tactic(auto)]
 
+mod draw;
 mod program;
 mod refusals;
 mod show;
 mod streams;
 mod words;
 
+pub use draw::random_run;
 pub use program::{execute, report_on};
 pub use refusals::{print_refusal, status};
 pub use show::show_disk;

@@ -5,6 +5,7 @@ ghost use Rattle.std.specs.Io.KnownBytes.{Keeps};
 ghost use Rattle.rr_cli.specs.Lines.{Simulate, faults_of, task_of};
 ghost use Rattle.rr_cli.specs.Ends.{IsReportOn, EndsOnInput, EndsBy};
 
+use crate::draw::{draw_by_words, end_without_numbers};
 use crate::refusals::end_by_refusal;
 use crate::show::{end_without_folder, show_folder};
 use crate::streams::{end_by_stream, print_all, read_all};
@@ -57,7 +58,8 @@ fn simulate_input<I: Read, O: Write, E: Write>(
 /// Runs the program `rr` by these words, of which the first is its name, and gives its exit status.
 ///
 /// `rr sim [FILE]` reads a schedule from FILE, or else from `input`, and prints its report on `out`. `rr show DIR`
-/// prints what the areas hold of the disk in the folder DIR. What goes wrong is told on `err`. The statuses: 0
+/// prints what the areas hold of the disk in the folder DIR. `rr random --seed SEED --steps STEPS --nodes NODES` prints
+/// a random schedule, a line `report` and the report of its run. What goes wrong is told on `err`. The statuses: 0
 /// done, 2 wrong words, 3 no schedule, 4 a damaged area, 5 a device, a file or a stream, 6 memory, 7 an audit.
 pub fn execute<R: Files + AllocGlobal, S: AsStr, I: Read, O: Write, E: Write>(
     rt: &R,
@@ -81,6 +83,17 @@ pub fn execute<R: Files + AllocGlobal, S: AsStr, I: Read, O: Write, E: Write>(
         },
         Ok(Task::Show(Some(folder))) => show_folder(rt, folder, out, err),
         Ok(Task::Show(None)) => end_without_folder(err),
+        Ok(Task::Draw(Some(seed), Some(steps), Some(nodes))) => draw_by_words(
+            rt.alloc(),
+            seed,
+            steps,
+            nodes,
+            out,
+            err,
+        ),
+        Ok(Task::Draw(None, _, _)) => end_without_numbers(err),
+        Ok(Task::Draw(_, None, _)) => end_without_numbers(err),
+        Ok(Task::Draw(_, _, None)) => end_without_numbers(err),
         Err(error) => end_by_words(out, err, &error),
     }
 }

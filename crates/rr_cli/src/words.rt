@@ -1,16 +1,19 @@
 //! What the words of a command ask for.
 
-ghost use Rattle.std.specs.Prelude.{◌≡◌, ◌≢◌, ◌⊎◌, IfOk, map, option_map};
+ghost use Rattle.std.specs.Prelude.{◌≡◌, ◌≢◌, ◌⊎◌, false, IfOk, map, option_map};
 ghost use Rattle.std.specs.Io.KnownBytes.{Keeps};
-ghost use Rattle.clap.specs.Words.{app_of, kind_of};
+ghost use Rattle.clap.specs.Words.{app_of, kind_of, rule_of};
+ghost use Rattle.clap.specs.declared.builder.command.Command.TheViews.{out-Command};
 ghost use Rattle.clap.specs.Kinds.{FailsBy};
-ghost use Rattle.rr_cli.specs.Lines.{rr_line, faults_of, task_of, task_in};
+ghost use Rattle.rr_cli.specs.Lines.{rr_line, number_rule, random_line, faults_of, task_of, task_in};
 ghost use Rattle.rr_cli.specs.Ends.{IsStreamStatus, IsRequest, IsMistake};
 
 use crate::refusals::end_by_refusal;
 use crate::streams::end_by_stream;
+use clap::builder::ValueParser;
 use clap::error::ErrorKind;
 use clap::{Arg, Command, Error};
+use rr_sim::MAX_STEPS;
 use rr_types::Refusal;
 use std::alloc::{AllocError, Global};
 use std::convert::AsStr;
@@ -30,13 +33,56 @@ fn command_line<'a>(alloc: Global) -> Result<Command<'a>, AllocError>
     let show = Command::new(alloc, "show")
         .about("Tells what the areas of a node's disk hold")
         .arg(folder)?;
+    let random = random_line(alloc)?;
     Command::new(alloc, "rr")
         .version("0.1.0")
         .about("A replicated name registry that recovers from crashes")
         .arg_required_else_help(true)
         .subcommand_required(true)
         .subcommand(sim)?
-        .subcommand(show)
+        .subcommand(show)?
+        .subcommand(random)
+}
+
+// An option that has to be there, with a number in a range.
+fn number_arg<'a>(
+    alloc: Global,
+    id: &'a str,
+    long: &'a str,
+    help: &'a str,
+    least: u64,
+    most: u64,
+) -> Arg<'a>
+    ensures rule { rule_of result ≡ number_rule id.entry.now long.entry.now least most }
+    ensures local { result.global ≡ false }
+{
+    Arg::new(alloc, id)
+        .long(long)
+        .help(help)
+        .required(true)
+        .value_parser(ValueParser::unsigned(least, most))
+}
+
+// The command line of `rr random`.
+fn random_line<'a>(alloc: Global) -> Result<Command<'a>, AllocError>
+    ensures line { IfOk result (λ c. app_of c ≡ random_line) }
+    ensures local { IfOk result (λ c. (out-Command c).has_globals ≡ false) }
+{
+    let seed = number_arg(alloc, "SEED", "seed", "The generator's seed", 0, u64::MAX);
+    let steps = number_arg(
+        alloc,
+        "STEPS",
+        "steps",
+        "How many steps follow the openings",
+        0,
+        MAX_STEPS as u64,
+    );
+    let nodes = number_arg(alloc, "NODES", "nodes", "How many nodes there are", 1, 7);
+    Command::new(alloc, "random")
+        .about("Draws a random schedule, prints it and the report of its run")
+        .arg(seed)?
+        .arg(steps)?
+        .arg(nodes)
 }
 
 /// What words ask for.
@@ -46,6 +92,8 @@ pub enum Task<'a> {
     Simulate(Option<&'a str>),
     /// `rr show DIR`: what the areas hold of the disk in this folder.
     Show(Option<&'a str>),
+    /// `rr random --seed SEED --steps STEPS --nodes NODES`: a random schedule and the report of its run.
+    Draw(Option<&'a str>, Option<&'a str>, Option<&'a str>),
 }
 
 /// What the words ask for. The first word is the program's name.
@@ -59,6 +107,13 @@ pub fn read_words<'a, S: AsStr>(alloc: Global, words: &'a [S]) -> Result<Task<'a
     let matches = command_line(alloc)?.try_get_matches_from(words)?;
     if let Some(show) = matches.subcommand_matches("show") {
         return Ok(Task::Show(show.get_str("DIR")));
+    }
+    if let Some(random) = matches.subcommand_matches("random") {
+        return Ok(Task::Draw(
+            random.get_str("SEED"),
+            random.get_str("STEPS"),
+            random.get_str("NODES"),
+        ));
     }
     match matches.subcommand() {
         Some((_, sim)) => Ok(Task::Simulate(sim.get_str("FILE"))),

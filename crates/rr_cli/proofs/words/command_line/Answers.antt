@@ -48,4 +48,6 @@ returns c =
     ∙ ap rr_settings c.new-5.ensures.app))) in
     let with_sim : app_of c.in_ok-subcommand.field-0 ≡ with_subcommand (rr_settings (new_app (codes "rr"))) sim_line.top = c.in_ok-subcommand.ensures.shape sim_local
     ∙ ap₂ with_subcommand top_is (ap (λ (a : App). a.top) sim_is) in
-    IfOk-weaker c.subcommand-2.result _ _ (λ r added. added.shape show_local ∙ ap₂ with_subcommand with_sim (ap (λ (a : App). a.top) show_is)) c.subcommand-2.ensures
+    let with_show : app_of c.in_ok-subcommand-2.field-0 ≡ with_subcommand (with_subcommand (rr_settings (new_app (codes "rr"))) sim_line.top) show_line.top = c.in_ok-subcommand-2.ensures.shape show_local
+    ∙ ap₂ with_subcommand with_sim (ap (λ (a : App). a.top) show_is) in
+    IfOk-weaker c.subcommand-3.result _ _ (λ r added. added.shape c.in_ok-random.ensures.local ∙ ap₂ with_subcommand with_show (ap (λ (a : App). a.top) c.in_ok-random.ensures.line)) c.subcommand-3.ensures
