@@ -1,5 +1,6 @@
 //! Runs of the program over memory.
 
+mod drawn;
 mod rows;
 mod shown;
 
