@@ -1,50 +1,102 @@
-//! How long it takes to open an area of groups: `bench_opening KILOBYTES`.
+//! How long it takes to open what nodes wrote: `bench_opening WORD..` opens for each word, where it is a number, an
+//! area of groups of so many kilobytes that it makes in memory, and else the disk of the files `a0` and `a1` in the
+//! folder of that name, of node 0 of 1.
 //!
-//! Standard output has what was done, standard error the time of the opening.
+//! Standard output has what was opened, standard error the microseconds of each opening.
 #![tactic(auto)]
 
 mod area;
 
 use crate::area::filled;
-use anyhow::{Context, Result};
+use anyhow::Result;
+use rr_disk::{Area, Disk, FileDisk};
 use rr_journal::{Image, read_image};
+use rr_slots::Slots;
 use rr_types::{Command, NodeId, Nodes, Op, Refusal, Standing};
 use std::alloc::Global;
 use std::env;
 use std::time::Instant;
 
-/// The first word behind the program's name, as a number.
-fn size(rt: &HostRuntime) -> Result<u64> {
-    let mut words = env::args(rt)?;
-    let word = words.nth(1).context("give a number of kilobytes")?;
-    Ok(word.parse::<u64>().context("a number of kilobytes")?)
+/// What an opening found.
+#[derive(Clone, Copy, Debug)]
+struct Found {
+    facts: u64,
+    instances: usize,
 }
 
-/// How many facts an area of node 0 of 1 holds, and how many instances it speaks of.
-fn opened(alloc: Global, area: &[u8]) -> Result<(u64, usize), Refusal> {
+/// What an area of node 0 of 1 holds.
+fn opened(alloc: Global, area: &[u8]) -> Result<Found, Refusal> {
     // The check learns what a content is made of from the types of a function's variables.
     let _parts: Option<(Command, Op, Standing)> = None;
     let nodes = Nodes::new(1)?;
     let node = NodeId::new(nodes, 0).ok_or(Refusal::BadNodes)?;
     match read_image(alloc, nodes, node, area, &[])? {
-        Image::Unformatted => Ok((0, 0)),
+        Image::Unformatted => Ok(Found {
+            facts: 0,
+            instances: 0,
+        }),
         Image::Active(_, content) => {
             let facts = content.next();
-            Ok((facts, content.into_promise().entries().len()))
+            let instances = content.into_promise().entries().len();
+            Ok(Found { facts, instances })
         }
     }
 }
 
-fn main(rt: HostRuntime) -> Result<()> {
-    let kilobytes = size(&rt)?;
+/// Makes an area of so many kilobytes, and opens it.
+fn open_memory(rt: &HostRuntime, kilobytes: u64) -> Result<()> {
     let area = filled(rt.alloc(), kilobytes.saturating_mul(1024))?;
-    let start = Instant::now(&rt)?;
-    let (facts, instances) = opened(rt.alloc(), &area)?;
-    let taken = start.elapsed(&rt)?.as_micros();
+    let start = Instant::now(rt)?;
+    let Found { facts, instances } = opened(rt.alloc(), &area)?;
+    let taken = start.elapsed(rt)?.as_micros();
     println!(rt;
         "{} bytes, {facts} facts, {instances} instances",
         area.len()
     )?;
     eprintln!(rt; "{taken}")?;
+    Ok(())
+}
+
+/// What the disk of a node 0 of 1 holds in its active area.
+fn opened_disk<D: Disk + Drop>(alloc: Global, disk: D) -> Result<(Found, Area), Refusal> {
+    let _parts: Option<(Command, Op, Standing)> = None;
+    let nodes = Nodes::new(1)?;
+    let node = NodeId::new(nodes, 0).ok_or(Refusal::BadNodes)?;
+    match Slots::open(alloc, nodes, node, disk) {
+        Ok((slots, promise, facts)) => {
+            let instances = promise.entries().len();
+            let area = slots.active();
+            drop(slots.into_disk());
+            Ok((Found { facts, instances }, area))
+        }
+        Err((refusal, _)) => Err(refusal),
+    }
+}
+
+/// Opens the disk in a folder.
+fn open_folder(rt: &HostRuntime, folder: &str) -> Result<()> {
+    let disk = FileDisk::open(rt, folder, false)?;
+    let bytes = disk.len(Area::First).saturating_add(disk.len(Area::Second));
+    let start = Instant::now(rt)?;
+    let (Found { facts, instances }, area) = opened_disk(rt.alloc(), disk)?;
+    let taken = start.elapsed(rt)?.as_micros();
+    let number = match area {
+        Area::First => 0,
+        Area::Second => 1,
+    };
+    println!(rt;
+        "{bytes} bytes in both areas, area {number} active, {facts} facts, {instances} instances"
+    )?;
+    eprintln!(rt; "{taken}")?;
+    Ok(())
+}
+
+fn main(rt: HostRuntime) -> Result<()> {
+    for word in env::args(&rt)?.skip(1) {
+        match word.parse::<u64>() {
+            Ok(kilobytes) => open_memory(&rt, kilobytes)?,
+            Err(_) => open_folder(&rt, word.as_str())?,
+        }
+    }
     Ok(())
 }

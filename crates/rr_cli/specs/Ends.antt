@@ -6,9 +6,10 @@ use Rattle.clap.specs.Words.{Text}
 use Rattle.clap.specs.declared.error.kind.ErrorKind.{ErrorKind}
 use Rattle.clap.specs.declared.error.kind.ErrorKind.TheVariants.{DisplayHelp, DisplayVersion}
 use Rattle.rr_types.specs.declared.refusal.Refusal.{Refusal}
-use Rattle.rr_text.specs.Scheduled.{Scheduled, IsSchedule}
+use Rattle.rr_text.specs.Lines.{IsFault}
+use Rattle.rr_text.specs.Scheduled.{Scheduled, IsSchedule, IsEvent}
 use Rattle.rr_text.specs.Reported.{Reported}
-use Rattle.rr_text.specs.ScheduleTexts.{schedule_text}
+use Rattle.rr_text.specs.ScheduleTexts.{schedule_text, event_line}
 use Rattle.rr_text.specs.ReportTexts.{report_text}
 use Rattle.rr_sim.specs.Clusters.{IsReportOf}
 use Rattle.rr_sim.specs.Headline.{IsRunOfTheWorld, AgreesWithOneList}
@@ -40,11 +41,12 @@ AppendsFront old new text = (front : List ℕ) × (rest : List ℕ) × (text ≡
 abbrev pub IsStreamStatus : ℕ → Type 0
 IsStreamStatus status = (status ≡ 5) ⊎ (status ≡ 6)
 
--- a run on these bytes: standard output has got the report, or failed in it, or a refusal came and it has got nothing
+-- a run on these bytes: standard output has got the report, or failed in it, or the bytes are no schedule or memory was
+-- wanting and it has got nothing
 pub data EndsOn (bytes : List ℕ) (status : ℕ) (old new : Option (List ℕ)) : Type 0 where
   reported : (text : List ℕ) → IsReportOn bytes text → status ≡ 0 → Appends old new text → EndsOn bytes status old new
   unwritten : (text : List ℕ) → IsReportOn bytes text → IsStreamStatus status → AppendsFront old new text → EndsOn bytes status old new
-  refused : (refusal : Refusal) → status ≡ status_of refusal → Keeps old new → EndsOn bytes status old new
+  refused : (refusal : Refusal) → IsFault IsEvent event_line bytes refusal → status ≡ status_of refusal → Keeps old new → EndsOn bytes status old new
 
 -- the bytes are all that a reader had, where that is known
 abbrev pub AreAllOf : Option (List ℕ) → List ℕ → Type 0
@@ -69,7 +71,7 @@ pub data EndsOnFolder (status : ℕ) (old new : Option (List ℕ)) : Type 0 wher
 pub data EndsOnDraw (n seed steps : ℕ) (status : ℕ) (old new : Option (List ℕ)) : Type 0 where
   drawn : (text : List ℕ) → IsRandomRun n seed steps text → status ≡ 0 → Appends old new text → EndsOnDraw n seed steps status old new
   undrawn : (text : List ℕ) → IsRandomRun n seed steps text → IsStreamStatus status → AppendsFront old new text → EndsOnDraw n seed steps status old new
-  cut_off : (refusal : Refusal) → status ≡ status_of refusal → Keeps old new → EndsOnDraw n seed steps status old new
+  cut_off : status ≡ 6 → Keeps old new → EndsOnDraw n seed steps status old new
 
 -- a run on the words of a random schedule: by the numbers that they write, or they write none and standard output has
 -- got nothing

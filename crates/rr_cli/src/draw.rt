@@ -1,6 +1,6 @@
 //! Random schedules, drawn by the numbers that words name, run and told as text.
 
-ghost use Rattle.std.specs.Prelude.{◌≡◌, ◌≤◌, ℕ, List, None, IfOk, IfSome};
+ghost use Rattle.std.specs.Prelude.{◌≡◌, ◌≤◌, ℕ, List, None, IfOk, IfErr, IfSome};
 ghost use Rattle.std.specs.Io.KnownBytes.{Keeps};
 ghost use Rattle.rr_cli.specs.Draws.{IsNumberIn, AreNumbers, IsRandomRun};
 ghost use Rattle.rr_cli.specs.Ends.{EndsOnDraw, EndsOnWords};
@@ -23,10 +23,11 @@ pub(crate) struct Draw {
 /// The text of a random schedule, a line `report`, and the text of the report of its run.
 ///
 /// # Errors
-/// `OutOfMemory`, and what ends the run.
+/// `OutOfMemory`.
 pub fn random_run(alloc: Global, nodes: Nodes, seed: u64, steps: u32) -> Result<Vec<u8>, Refusal>
     requires { steps ≤ 999930 }
-    ensures { IfOk result (λ text. IsRandomRun nodes seed steps text.items) }
+    ensures ok { IfOk result (λ text. IsRandomRun nodes seed steps text.items) }
+    ensures err { IfErr result (λ e. e ≡ Refusal.OutOfMemory) }
 {
     let schedule = random(alloc, nodes, seed, steps)?;
     let report = simulate(alloc, nodes.count(), &schedule)?;

@@ -1,7 +1,10 @@
 //! The program: what it reads, what it prints and how it ends.
 
-ghost use Rattle.std.specs.Prelude.{◌≡◌, ◌≢◌, IfOk, None, map};
+ghost use Rattle.std.specs.Prelude.{◌≡◌, ◌≢◌, IfOk, IfErr, None, map};
 ghost use Rattle.std.specs.Io.KnownBytes.{Keeps};
+ghost use Rattle.rr_text.specs.Lines.{IsFault};
+ghost use Rattle.rr_text.specs.Scheduled.{IsEvent};
+ghost use Rattle.rr_text.specs.ScheduleTexts.{event_line};
 ghost use Rattle.rr_cli.specs.Lines.{Simulate, faults_of, task_of};
 ghost use Rattle.rr_cli.specs.Ends.{IsReportOn, EndsOnInput, EndsBy};
 
@@ -21,9 +24,10 @@ use std::rt::Files;
 /// The text of the report on the schedule that the bytes are.
 ///
 /// # Errors
-/// `BadNodes` and `BadEvent` for bytes that are no schedule, and what ends the run.
+/// `BadNodes` and `BadEvent` for bytes that are no schedule; `OutOfMemory`.
 pub fn report_on(alloc: Global, bytes: &[u8]) -> Result<Vec<u8>, Refusal>
-    ensures { IfOk result (λ text. IsReportOn bytes.now text.items) }
+    ensures ok { IfOk result (λ text. IsReportOn bytes.now text.items) }
+    ensures fault { IfErr result (λ e. IsFault IsEvent event_line bytes.now e) }
 {
     let schedule = Schedule::parse(alloc, bytes)?;
     let report = simulate(alloc, schedule.nodes().count(), &schedule)?;

@@ -2,9 +2,9 @@
 
 ghost use Rattle.std.specs.Prelude.{◌≡◌, OnOk};
 ghost use Rattle.std.specs.Io.KnownBytes.{Appends};
-ghost use Rattle.rr_text.specs.ReportTexts.{refusal_name};
 ghost use Rattle.rr_cli.specs.Refusals.{status_of, refusal_line};
 
+use rr_text::text_report::refusal_name;
 use rr_types::Refusal;
 use std::io;
 use std::io::Write;
@@ -23,32 +23,6 @@ pub fn status(refusal: &Refusal) -> u8
     }
 }
 
-// The name alone, without the numbers behind it.
-fn name(refusal: &Refusal) -> &'static str
-    ensures { result.now ≡ refusal_name refusal.now }
-{
-    match refusal {
-        Refusal::OutOfMemory => "OutOfMemory",
-        Refusal::Device => "Device",
-        Refusal::Damaged { .. } => "Damaged",
-        Refusal::Failed => "Failed",
-        Refusal::Down => "Down",
-        Refusal::BadNodes => "BadNodes",
-        Refusal::BadName => "BadName",
-        Refusal::BadValue => "BadValue",
-        Refusal::ListFull => "ListFull",
-        Refusal::RoundsOut => "RoundsOut",
-        Refusal::Malformed(_) => "Malformed",
-        Refusal::StrangeMark => "StrangeMark",
-        Refusal::Busy => "Busy",
-        Refusal::BadEvent(_) => "BadEvent",
-        Refusal::SeatsTaken => "SeatsTaken",
-        Refusal::TooLarge => "TooLarge",
-        Refusal::AuditNo(_) => "AuditNo",
-        Refusal::NoGuard => "NoGuard",
-    }
-}
-
 /// Prints the line of a refusal, as `rr: 14 BadEvent 7`.
 ///
 /// # Errors
@@ -57,7 +31,7 @@ pub fn print_refusal<W: Write>(err: &mut W, refusal: &Refusal) -> io::Result<()>
     ensures { OnOk result (Appends (W.contents err.old) (W.contents err.new) (refusal_line refusal.now)) }
 {
     let number = refusal.number();
-    let name = name(refusal);
+    let name = refusal_name(refusal);
     match refusal {
         Refusal::Damaged { area, offset } => writeln!(err, "rr: {number} {name} {area} {offset}"),
         Refusal::Malformed(at) | Refusal::BadEvent(at) | Refusal::AuditNo(at) => {

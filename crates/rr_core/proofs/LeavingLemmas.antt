@@ -1,7 +1,5 @@
-use Rattle.std.proofs.Common.{◌≡◌, ◌+◌, ◌<◌, ◌≤◌, ℕ, suc, arith, Bool, true, false, cond, eqb, List, [], ◌∷◌, ◌++◌, length, get_or, take, drop, ap, sym, ◌∙◌, refl, append_assoc, Option, Some, None}
+use Rattle.std.proofs.Common.{◌≡◌, ℕ, Bool, true, false, cond, eqb, List, [], ◌∷◌, ap, sym, ◌∙◌, refl, Option, Some, None}
 use Rattle.std.specs.Prelude.{find}
-use Rattle.std.specs.List.{remove}
-use Rattle.std.proofs.lemmas.List.{drop_all, drop_more, take_more}
 use Rattle.rr_types.specs.declared.command.Command.{Command}
 use Rattle.rr_types.specs.declared.command.RequestNo.{RequestNo}
 use Rattle.rr_types.specs.Registry.{has_request}
@@ -9,36 +7,9 @@ use Rattle.rr_model.specs.NodeState.{Owed}
 use Rattle.rr_model.specs.NodeStep.{may_leave, without_first_leaving, without_first_held}
 use Rattle.rr_types.specs.Registry.{is_same_request}
 use Rattle.std.proofs.lemmas.Bool.{eq-eqb, false≢true}
-use Rattle.rr_list.specs.Arrived as listed
-use Rattle.rr_core.specs.Firsts.{without_first}
-use Rattle.rr_core.proofs.SameLemmas.{request_is}
-
-module _ {X : Type 0} (p : X → Bool) where
-  at_place : (xs : List X) (k : ℕ) (x : X) → k < length xs → x ≡ get_or xs k x → drop k xs ≡ x ∷ drop (k + 1) xs
-  at_place xs k x l g = drop_more xs k x l ∙ ap (λ (y : X). y ∷ drop (k + 1) xs) (sym g)
-
-  -- the element there doesn't pass: the search goes on
-  pub find_more : (xs : List X) (k : ℕ) (x : X) → k < length xs → x ≡ get_or xs k x → p x ≡ false → find p (drop k xs) ≡ find p (drop (k + 1) xs)
-  find_more xs k x l g e = ap (find p) (at_place xs k x l g) ∙ ap (λ (b : Bool). cond b (Some x) (find p (drop (k + 1) xs))) e
-
-  -- it passes
-  pub find_here : (xs : List X) (k : ℕ) (x : X) → k < length xs → x ≡ get_or xs k x → p x ≡ true → find p (drop k xs) ≡ Some x
-  find_here xs k x l g e = ap (find p) (at_place xs k x l g) ∙ ap (λ (b : Bool). cond b (Some x) (find p (drop (k + 1) xs))) e
-
-  -- no element is left
-  pub find_end : (xs : List X) (k : ℕ) → length xs ≤ k → find p (drop k xs) ≡ None
-  find_end xs k l = ap (find p) (drop_all k xs l)
-
-  pub without_more : (xs : List X) (k : ℕ) (x : X) → k < length xs → x ≡ get_or xs k x → p x ≡ false → take k xs ++ without_first p (drop k xs) ≡ take (k + 1) xs ++ without_first p (drop (k + 1) xs)
-  without_more xs k x l g e =
-      let on : without_first p (drop k xs) ≡ x ∷ without_first p (drop (k + 1) xs) = ap (without_first p) (at_place xs k x l g) ∙ ap (λ (b : Bool). cond b (drop (k + 1) xs) (x ∷ without_first p (drop (k + 1) xs))) e in
-      let front : take (k + 1) xs ≡ take k xs ++ x ∷ [] = take_more xs k x l ∙ ap (λ (y : X). take k xs ++ y ∷ []) (sym g) in
-      ap (λ (r : List X). take k xs ++ r) on ∙ sym (append_assoc (take k xs) (x ∷ []) (without_first p (drop (k + 1) xs))) ∙ ap (λ (f : List X). f ++ without_first p (drop (k + 1) xs)) (sym front)
-
-  pub without_here : (xs : List X) (k : ℕ) (x : X) → k < length xs → x ≡ get_or xs k x → p x ≡ true → take k xs ++ without_first p (drop k xs) ≡ remove xs k
-  without_here xs k x l g e =
-      let on : without_first p (drop k xs) ≡ drop (k + 1) xs = ap (without_first p) (at_place xs k x l g) ∙ ap (λ (b : Bool). cond b (drop (k + 1) xs) (x ∷ without_first p (drop (k + 1) xs))) e in
-      ap (λ (r : List X). take k xs ++ r) on ∙ (let plus : k + 1 ≡ suc k = omega arith in ap (λ (n : ℕ). take k xs ++ drop n xs) plus)
+use Rattle.rr_list.specs.Arrived.{without_first}
+use Rattle.rr_mark.specs.Marks as mark
+use Rattle.rr_staged.proofs.SameLemmas.{request_is}
 
 -- tests that agree find the same
 pub find_same : {X : Type 0} (p q : X → Bool) (xs : List X) → ((x : X) → p x ≡ q x) → find p xs ≡ find q xs
@@ -46,7 +17,7 @@ find_same p q [] h = refl
 find_same p q (x ∷ xs) h = rw (h x, find_same p q xs h) refl
 
 -- the definitions' words for what is left
-pub without_leaving : (m : ℕ) (os : List Owed) → without_first (may_leave m) os ≡ without_first_leaving m os
+pub without_leaving : (m : ℕ) (os : List Owed) → mark.without_first (may_leave m) os ≡ without_first_leaving m os
 without_leaving m [] = refl
 without_leaving m (o ∷ os) = ap (λ (r : List Owed). cond (may_leave m o) os (o ∷ r)) (without_leaving m os)
 
@@ -55,11 +26,11 @@ without_held held p [] h = refl
 without_held held p (q ∷ qs) h = rw (h q, without_held held p qs h) refl
 
 -- the request that was found is the first of its number
-pub found_left : (p : RequestNo → Bool) (qs : List RequestNo) (q : RequestNo) → find p qs ≡ Some q → listed.without_first (λ w. is_same_request w q) qs ≡ without_first p qs
+pub found_left : (p : RequestNo → Bool) (qs : List RequestNo) (q : RequestNo) → find p qs ≡ Some q → without_first (λ w. is_same_request w q) qs ≡ without_first p qs
 found_left p [] q h = refl
 found_left p (w ∷ qs) q h = by (found_left p qs q) (p w) (is_same_request w q) refl refl h
   where
-    by : (find p qs ≡ Some q → listed.without_first (λ w. is_same_request w q) qs ≡ without_first p qs) → (a b : Bool) → p w ≡ a → is_same_request w q ≡ b → cond a (Some w) (find p qs) ≡ Some q → listed.without_first (λ w. is_same_request w q) (w ∷ qs) ≡ without_first p (w ∷ qs)
+    by : (find p qs ≡ Some q → without_first (λ w. is_same_request w q) qs ≡ without_first p qs) → (a b : Bool) → p w ≡ a → is_same_request w q ≡ b → cond a (Some w) (find p qs) ≡ Some q → without_first (λ w. is_same_request w q) (w ∷ qs) ≡ without_first p (w ∷ qs)
     by more true true e f g = rw (e, f) refl
     by more true false e f g = absurd (false≢true (sym f ∙ itself w q (cc)))
       where

@@ -1,30 +1,35 @@
-use Rattle.std.proofs.Common.{◌≡◌, ◌≢◌, ◌+◌, ◌-◌, ◌^◌, ◌<◌, ◌≤◌, ℕ, zero, suc, arith, min, Bool, true, false, cond, ◌&&◌, ◌==◌, ltb, eqb, List, [], ◌∷◌, ◌++◌, length, take, drop, ap, sym, ◌∙◌, refl, subst, Option, Some, None, is_some, option_map, not, IsTrue, ◌↔◌, MatchOption, rules, IfSome, IsSome, Result, Ok, Err, IfOk, OnOk, OnErr}
-use Rattle.std.specs.Prelude.{find}
+use Rattle.std.proofs.Common.{◌≡◌, ◌≢◌, ◌+◌, ◌-◌, ◌^◌, ◌<◌, ◌≤◌, ℕ, arith, min, Bool, true, false, cond, ◌&&◌, ◌==◌, List, [], ◌∷◌, ◌++◌, length, take, drop, ap, sym, ◌∙◌, refl, subst, Option, Some, None, is_some, option_map, IsTrue, ◌↔◌, MatchOption, rules, IfSome, IsSome, Result, Ok, Err, IfOk, OnOk, OnErr}
+use Rattle.std.specs.Prelude.{find, slice_get}
 use Rattle.std.specs.Option.{option_map_or}
-use Rattle.std.proofs.lemmas.List.{take-append-drop, length-take, length-drop, length-append}
-use Rattle.std.proofs.lemmas.Bool.{false≢true, eqb-true, eqb-false, ltb-true, ltb-false}
+use Rattle.std.proofs.lemmas.List.{take-append-drop, take_more, length-take, length-drop, length-append}
+use Rattle.std.proofs.lemmas.Bool.{false≢true, eqb-true}
+use Rattle.std.proofs.lemmas.Option.{none-some, slice_get_within, get_or_from_slice_get}
 use Rattle.rr_types.specs.declared.command.RequestNo.{RequestNo}
 use Rattle.rr_types.specs.declared.command.Command.{Command}
 use Rattle.rr_types.specs.declared.command.Reply.{Reply}
 use Rattle.rr_types.specs.declared.fact.Fact.{Fact}
 use Rattle.rr_types.specs.declared.fact.Fact.TheVariants.{Enter, Propose, Adopt, Decide}
 use Rattle.rr_types.specs.declared.promise.Standing.{Standing}
+use Rattle.rr_types.specs.declared.promise.Standing.TheVariants.{Decided, Open}
 use Rattle.rr_types.specs.declared.promise.Entry.{Entry}
 use Rattle.rr_types.specs.declared.refusal.Refusal.{Refusal}
 use Rattle.rr_types.specs.Registry.{has_request, is_same_request, Bindings, apply, firsts, firsts_beside, reply_after, registry_of, reply_of}
 use Rattle.rr_types.specs.Groups.{Grouped}
-use Rattle.rr_types.specs.Facts.{instance_of, after_fact}
-use Rattle.rr_types.specs.Promises.{IsAscending, AscendsFrom, standing_in, set_entry, set_standing, take_on, take_on_all, all_fit}
-use Rattle.rr_types.specs.Standings.{fits, is_undecided, round_of, stamp_of}
+use Rattle.rr_types.specs.Facts.{instance_of, after_fact, decision_of}
+use Rattle.rr_types.specs.Promises.{standing_in, take_on, take_on_all, all_fit}
+use Rattle.rr_types.specs.Standings.{fits, is_undecided, round_of}
 use Rattle.rr_registry.specs.Kept.{Kept, kept_of, kept_reply}
 use Rattle.rr_registry.proofs.KeptLemmas.{reply-kept_of, bindings-kept_of}
-use Rattle.rr_model.specs.NodeState.{NodeState, next_number, decided_prefix, decided_from, standing_at}
+use Rattle.rr_model.specs.NodeState.{NodeState, Row, decided_prefix, decided_from, standing_at}
 use Rattle.rr_model.specs.NodeStep.{group_taken, group_put_back, marked_running, running_group, message_left, next_acknowledged, acknowledged}
-use Rattle.rr_core.specs.Rounds.{IsInRound, AllInRound}
-use Rattle.rr_core.specs.Firsts.{without_first}
+use Rattle.rr_model.proofs.Fits.{take_both, fit_first, fit_later}
+use Rattle.rr_model.proofs.Promised.{standing_in-take_on}
+use Rattle.rr_list.specs.Arrived.{without_first}
+use Rattle.rr_list.specs.Listed.{IsInRound, AllInRound, KeepsPromised, HaveRows}
+use Rattle.rr_list.proofs.MarkLemmas.{ascend_all, none_before}
 use Rattle.rr_core.specs.Lawful.{IsLawful, unmarked_facts}
 use Rattle.rr_core.specs.Kept.{IsKept}
-use Rattle.rr_core.proofs.SameLemmas.{and_left, and_right, request_is}
+use Rattle.rr_staged.proofs.SameLemmas.{and_left, and_right, request_is}
 use Rattle.rr_core.proofs.LeavingLemmas.{find_same, without_held}
 
 -- facts that moved between the running group and those staged are the same facts
@@ -34,7 +39,6 @@ lawful_moved s running staged e few h = record {
   fits = ap (all_fit s.nodes s.node s.marked) e ∙ h.fits;
   stands = λ i. h.stands i ∙ ap (λ fs. standing_in (take_on_all s.marked fs) i) (sym e);
   few = few;
-  watched = h.watched;
 }
 
 -- a taken group
@@ -84,24 +88,51 @@ fits_in_round n p st (Propose i r v) h = tt
 fits_in_round n p st (Adopt i r v) h = eqb-true _ _ (and_right _ _ (and_left (is_undecided st && round_of st == r) _ h))
 fits_in_round n p st (Decide i v) h = tt
 
--- the front of facts that fit
-fit_front : (n p : ℕ) (es : List Entry) (fs gs : List Fact) → all_fit n p es (fs ++ gs) ≡ true → AllInRound es fs
-fit_front n p es [] gs h = tt
-fit_front n p es (f ∷ fs) gs h = (fits_in_round n p (standing_in es (instance_of f)) f (and_left _ _ h), fit_front n p (take_on es f) fs gs (and_right _ _ h))
+-- so each of facts that fit is
+all_in_round : (n p : ℕ) (es : List Entry) (fs : List Fact) → all_fit n p es fs ≡ true → AllInRound es fs
+all_in_round n p es [] h = tt
+all_in_round n p es (f ∷ fs) h = (fits_in_round n p (standing_in es (instance_of f)) f (and_left _ _ h), all_in_round n p (take_on es f) fs (and_right _ _ h))
 
--- the facts behind them
-fit_back : (n p : ℕ) (es : List Entry) (fs gs : List Fact) → all_fit n p es (fs ++ gs) ≡ true → all_fit n p (take_on_all es fs) gs ≡ true
-fit_back n p es [] gs h = h
-fit_back n p es (f ∷ fs) gs h = fit_back n p (take_on es f) fs gs (and_right _ _ h)
+-- a fact that fits finds its instance undecided
+undecided_where_fits : (n p : ℕ) (st : Option Standing) (f : Fact) → fits n p st f ≡ true → is_undecided st ≡ true
+undecided_where_fits n p st (Enter i e) h = and_left _ _ (and_left _ _ h)
+undecided_where_fits n p st (Propose i r v) h = and_left _ _ (and_left _ _ (and_left _ _ h))
+undecided_where_fits n p st (Adopt i r v) h = and_left _ _ (and_left _ _ h)
+undecided_where_fits n p st (Decide i v) h = h
 
--- facts taken on one part after another
-take_on_both : (es : List Entry) (fs gs : List Fact) → take_on_all es (fs ++ gs) ≡ take_on_all (take_on_all es fs) gs
-take_on_both es [] gs = refl
-take_on_both es (f ∷ fs) gs = take_on_both (take_on es f) fs gs
+none_decided : (st : Option Standing) (v : Command) → is_undecided st ≡ true → decision_of st ≡ Some v → ⊥
+none_decided None v h d = none-some v d
+none_decided (Some (Decided w)) v h d = false≢true h
+none_decided (Some (Open o)) v h d = none-some v d
 
--- the running facts can be taken on
+-- and leaves the others as they are
+decision_stays : (es : List Entry) (f : Fact) (i : ℕ) (v : Command) → is_undecided (standing_in es (instance_of f)) ≡ true → decision_of (standing_in es i) ≡ Some v → decision_of (standing_in (take_on es f) i) ≡ Some v
+decision_stays es f i v h d = ap decision_of (standing_in-take_on es f i) ∙ by (instance_of f == i) refl
+  where
+    by : (b : Bool) → (instance_of f == i) ≡ b → decision_of (cond b (after_fact (standing_in es i) f) (standing_in es i)) ≡ Some v
+    by true e = absurd (none_decided (standing_in es i) v (subst (λ (j : ℕ). is_undecided (standing_in es j) ≡ true) (eqb-true _ _ e) h) d)
+    by false e = d
+
+all_stay : (n p : ℕ) (es : List Entry) (fs : List Fact) → all_fit n p es fs ≡ true → KeepsPromised es (take_on_all es fs)
+all_stay n p es [] h i v d = d
+all_stay n p es (f ∷ fs) h i v d = all_stay n p (take_on es f) fs (and_right _ _ h) i v (decision_stays es f i v (undecided_where_fits n p (standing_in es (instance_of f)) f (and_left _ _ h)) d)
+
+-- the running facts fit what is marked
+running_fit : (s : NodeState) → IsLawful s → all_fit s.nodes s.node s.marked (option_map_or (λ facts. facts) s.running []) ≡ true
+running_fit s h = fit_first s.nodes s.node s.marked (option_map_or (λ facts. facts) s.running []) s.staged h.fits
+
+-- so they can be marked: each Adopt is of the present round, no decision changes, and each instance has its row
 pub in_round : (s : NodeState) → IsLawful s → AllInRound s.marked (option_map_or (λ facts. facts) s.running [])
-in_round s h = fit_front s.nodes s.node s.marked (option_map_or (λ facts. facts) s.running []) s.staged h.fits
+in_round s h = all_in_round s.nodes s.node s.marked (option_map_or (λ facts. facts) s.running []) (running_fit s h)
+
+pub decisions_stay : (s : NodeState) → IsLawful s → KeepsPromised s.marked (take_on_all s.marked (option_map_or (λ facts. facts) s.running []))
+decisions_stay s h = all_stay s.nodes s.node s.marked (option_map_or (λ facts. facts) s.running []) (running_fit s h)
+
+pub have_rows : (s : NodeState) → IsLawful s → HaveRows (take_on_all s.marked (option_map_or (λ facts. facts) s.running [])) s.rows
+have_rows s h i none =
+    let running : List Fact = option_map_or (λ facts. facts) s.running [] in
+    none_before (take_on_all s.marked running) s.staged i
+    (ap (λ (es : List Entry). standing_in es i) (take_both s.marked running s.staged) ∙ sym (h.stands i) ∙ ap (λ (o : Option Row). option_map (λ r. r.standing) o) none)
 
 abbrev grouped : ℕ → List Fact → Grouped
 grouped n facts = record { serial = n; facts = facts }
@@ -117,26 +148,21 @@ pub runs_if : (b : Bool) (s : NodeState) (g : Grouped) → (IsTrue b ↔ (runnin
 runs_if true s g h e = let t : IsTrue true = search rules in runs s g (h.0 t)
 runs_if false s g h e = absurd (false≢true e)
 
--- entries with another standing of an instance ascend
-set_ascends : (low i : ℕ) (st : Standing) (es : List Entry) → low ≤ i → AscendsFrom low es → AscendsFrom low (set_entry i st es)
-set_ascends low i st [] l h = (omega arith, tt)
-set_ascends low i st (e ∷ es) l h = by (λ m. set_ascends (e.instance + 1) i st es m h.1) (ltb i e.instance) (eqb i e.instance) refl refl
+-- the facts of the running group fit the marked ones
+group_fit : (s : NodeState) (g : Grouped) → IsLawful s → running_group s ≡ Some g → all_fit s.nodes s.node s.marked g.facts ≡ true
+group_fit s g h e = by s.running refl
   where
-    by : (e.instance + 1 ≤ i → AscendsFrom (e.instance + 1) (set_entry i st es)) → (a b : Bool) → ltb i e.instance ≡ a → eqb i e.instance ≡ b → AscendsFrom low (set_entry i st (e ∷ es))
-    by more true b p q = let less : i < e.instance = ltb-true _ _ p in rw p (omega arith, (omega arith, h.1))
-    by more false true p q = let same : i ≡ e.instance = eqb-true _ _ q in rw (p, q) (omega arith, rw same h.1)
-    by more false false p q =
-        let above : e.instance ≤ i = ltb-false _ _ p in
-        let apart : i ≢ e.instance = eqb-false _ _ q in
-        rw (p, q) (h.0, more (omega (arith, apart)))
+    by : (o : Option (List Fact)) → s.running ≡ o → all_fit s.nodes s.node s.marked g.facts ≡ true
+    by None f = absurd (let none : option_map (grouped s.marked_end) None ≡ Some g = ap (λ (o : Option (List Fact)). option_map (grouped s.marked_end) o) (sym f) ∙ e in cc)
+    by (Some facts) f =
+        let own : option_map (grouped s.marked_end) (Some facts) ≡ Some g = ap (λ (o : Option (List Fact)). option_map (grouped s.marked_end) o) (sym f) ∙ e in
+        let same : grouped s.marked_end facts ≡ g = cc in
+        let fit : all_fit s.nodes s.node s.marked facts ≡ true = subst (λ (o : Option (List Fact)). all_fit s.nodes s.node s.marked (option_map_or (λ facts. facts) o []) ≡ true) f (running_fit s h) in
+        subst (λ (x : Grouped). all_fit s.nodes s.node s.marked x.facts ≡ true) same fit
 
-standing_ascends : (i : ℕ) (st : Option Standing) (es : List Entry) → AscendsFrom 0 es → AscendsFrom 0 (set_standing i st es)
-standing_ascends i None es h = h
-standing_ascends i (Some st) es h = set_ascends 0 i st es (omega arith) h
-
-ascends_all : (es : List Entry) (fs : List Fact) → AscendsFrom 0 es → AscendsFrom 0 (take_on_all es fs)
-ascends_all es [] h = h
-ascends_all es (f ∷ fs) h = ascends_all (take_on es f) fs (standing_ascends (instance_of f) (after_fact (standing_in es (instance_of f)) f) es h)
+pub fit_if : (b : Bool) (s t : NodeState) (k : Kept) (g : Grouped) → s ≡ t → IsKept s k → (IsTrue b ↔ (running_group s ≡ Some g)) → b ≡ true → all_fit t.nodes t.node t.marked g.facts ≡ true
+fit_if true s t k g e kept h x = let own : IsTrue true = search rules in subst (λ (u : NodeState). all_fit u.nodes u.node u.marked g.facts ≡ true) e (group_fit s g kept.lawful (h.0 own))
+fit_if false s t k g e kept h x = absurd (false≢true x)
 
 -- a marked group
 marked_some : (s : NodeState) (k : Kept) (facts : List Fact) → s.running ≡ Some facts → IsKept s k → (j : Kept) → j ≡ kept_of (decided_from 0 (take_on_all s.marked facts)) → IsKept (record s { running = None; marked = take_on_all s.marked facts; marked_end = s.marked_end + length facts }) j
@@ -146,31 +172,30 @@ marked_some s k facts e kept j r =
     let before : s.marked_end + length facts + length s.staged < 2 ^ 64 = subst (λ (o : Option (List Fact)). s.marked_end + option_map_or length o 0 + length s.staged < 2 ^ 64) e kept.room in
     record {
       lawful = record {
-        ascends = record { ascends = ascends_all s.marked facts kept.lawful.ascends.ascends };
-        fits = fit_back s.nodes s.node s.marked facts s.staged fit;
-        stands = λ i. stands i ∙ ap (λ es. standing_in es i) (take_on_both s.marked facts s.staged);
+        ascends = record { ascends = ascend_all s.marked facts kept.lawful.ascends.ascends };
+        fits = fit_later s.nodes s.node s.marked facts s.staged fit;
+        stands = λ i. stands i ∙ ap (λ es. standing_in es i) (sym (take_both s.marked facts s.staged));
         few = tt;
-        watched = kept.lawful.watched;
       };
       room = omega arith;
       kept = r;
     }
 
-pub marked_kept : (s t : NodeState) (j k : Kept) (entries : List Entry) → IsKept s j → IsSome s.running → entries ≡ take_on_all s.marked (option_map_or (λ facts. facts) s.running []) → k ≡ kept_of (decided_from 0 entries) → t ≡ marked_running s → IsKept t k
+pub marked_kept : (s t : NodeState) (j k : Kept) (more : List Command) → IsKept s j → IsSome s.running → decided_from 0 (take_on_all s.marked (option_map_or (λ facts. facts) s.running [])) ≡ decided_prefix s ++ more → k ≡ kept_of (decided_prefix s ++ more) → t ≡ marked_running s → IsKept t k
 unfolding marked_running
-marked_kept s t j k entries kept runs e r g = by s.running refl
+marked_kept s t j k more kept runs e r g = by s.running refl
   where
     by : (o : Option (List Fact)) → s.running ≡ o → IsKept t k
     by None f = absurd (false≢true (ap is_some (sym f) ∙ runs))
     by (Some facts) f =
-        let same : entries ≡ take_on_all s.marked facts = e ∙ ap (λ (o : Option (List Fact)). take_on_all s.marked (option_map_or (λ facts. facts) o [])) f in
+        let after : decided_from 0 (take_on_all s.marked facts) ≡ decided_prefix s ++ more = ap (λ (o : Option (List Fact)). decided_from 0 (take_on_all s.marked (option_map_or (λ facts. facts) o []))) (sym f) ∙ e in
         let make : List Fact → NodeState = (λ facts. record s { running = None; marked = take_on_all s.marked facts; marked_end = s.marked_end + length facts }) in
         let is : t ≡ make facts = g ∙ ap (λ (o : Option (List Fact)). option_map_or make o s) f in
-        rw is (marked_some s j facts f kept k (r ∙ ap (λ es. kept_of (decided_from 0 es)) same))
+        rw is (marked_some s j facts f kept k (r ∙ ap kept_of (sym after)))
 
 pub left_kept : (s : NodeState) (k : Kept) → IsKept s k → IsKept (message_left s) k
 left_kept s k kept = record {
-  lawful = record { ascends = kept.lawful.ascends; fits = kept.lawful.fits; stands = kept.lawful.stands; few = kept.lawful.few; watched = kept.lawful.watched };
+  lawful = record { ascends = kept.lawful.ascends; fits = kept.lawful.fits; stands = kept.lawful.stands; few = kept.lawful.few };
   room = kept.room;
   kept = kept.kept;
 }
@@ -214,7 +239,7 @@ bindings_are s k kept = ap (λ (j : Kept). j.bindings) kept.kept ∙ bindings-ke
 
 pub acknowledged_kept : (s : NodeState) (k : Kept) → IsKept s k → IsKept (acknowledged s) k
 acknowledged_kept s k kept = record {
-  lawful = record { ascends = kept.lawful.ascends; fits = kept.lawful.fits; stands = kept.lawful.stands; few = kept.lawful.few; watched = kept.lawful.watched };
+  lawful = record { ascends = kept.lawful.ascends; fits = kept.lawful.fits; stands = kept.lawful.stands; few = kept.lawful.few };
   room = kept.room;
   kept = kept.kept;
 }
@@ -230,3 +255,7 @@ acked_kept s t k (Some a) kept h = rw (h.2 ∙ unanswered s k kept) (acknowledge
 pub acked : (s t u : NodeState) (k : Kept) (r : Option (RequestNo × Reply)) → s ≡ u → IsKept s k → IsAcked s t k r → MatchOption r ((next_acknowledged u ≡ None) × (t ≡ u)) (λ a. (next_acknowledged u ≡ Some a.0) × (reply_of (decided_prefix u) a.0 ≡ Some a.1) × (t ≡ acknowledged u))
 acked s t u k None e kept h = rw (sym e) (sym (answered s k kept) ∙ h.0, h.1)
 acked s t u k (Some a) e kept h = rw (sym e) (sym (answered s k kept) ∙ h.0, sym (replied s k a.0 kept) ∙ h.1, h.2 ∙ unanswered s k kept)
+
+-- the front of a list with its next element
+pub take_next : {X : Type 0} (xs : List X) (i : ℕ) (x : X) → Some x ≡ slice_get xs i → take (i + 1) xs ≡ take i xs ++ x ∷ []
+take_next xs i x h = take_more xs i x (slice_get_within xs i x (sym h)) ∙ ap (λ (y : _). take i xs ++ y ∷ []) (get_or_from_slice_get xs i x x (sym h))

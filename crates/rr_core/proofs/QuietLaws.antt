@@ -1,4 +1,4 @@
-use Rattle.std.proofs.Common.{◌≡◌, ◌≢◌, ◌+◌, ◌<◌, ◌≤◌, ℕ, arith, Bool, true, false, cond, ◌&&◌, ◌||◌, ◌==◌, ltb, eqb, List, [], ◌∷◌, ◌++◌, length, ap, sym, ◌∙◌, refl, subst, append_assoc, Option, Some, None, option_map, if◌then◌else◌}
+use Rattle.std.proofs.Common.{◌≡◌, ◌≢◌, ◌+◌, ◌<◌, ◌≤◌, ℕ, arith, Bool, true, false, cond, ◌&&◌, ◌||◌, ◌==◌, ltb, eqb, List, [], ◌∷◌, ◌++◌, ap, sym, ◌∙◌, refl, subst, append_assoc, Option, Some, None, option_map, if◌then◌else◌}
 use Rattle.std.specs.Option.{option_map_or}
 use Rattle.std.proofs.lemmas.Bool.{false≢true, eqb-true, eqb-false, eq-eqb, ne_eqb, ltb-true, ltb-false}
 use Rattle.rr_types.specs.declared.command.Command.{Command}
@@ -27,7 +27,6 @@ pub record IsQuiet (s t : NodeState) : Type 0 where
   pub ends : t.marked_end ≡ s.marked_end
   pub running : t.running ≡ s.running
   pub staged : t.staged ≡ s.staged
-  pub watches : length t.watches ≡ length s.watches
 
 -- a step that stages lawful facts alone, and leaves the promise as it is
 pub record IsStep (s t : NodeState) : Type 0 where
@@ -41,7 +40,7 @@ pub step_then : (s t u : NodeState) → IsStep s t → IsStep t u → IsStep s u
 step_then s t u a b = record { lawful = λ h. b.lawful (a.lawful h); marked = b.marked ∙ a.marked }
 
 pub quiet_none : (s : NodeState) → IsQuiet s s
-quiet_none s = record { nodes = refl; node = refl; stands = λ i. refl; marked = refl; ends = refl; running = refl; staged = refl; watches = refl }
+quiet_none s = record { nodes = refl; node = refl; stands = λ i. refl; marked = refl; ends = refl; running = refl; staged = refl }
 
 pub quiet_then : (s t u : NodeState) → IsQuiet s t → IsQuiet t u → IsQuiet s u
 quiet_then s t u a b = record {
@@ -52,7 +51,6 @@ quiet_then s t u a b = record {
   ends = b.ends ∙ a.ends;
   running = b.running ∙ a.running;
   staged = b.staged ∙ a.staged;
-  watches = b.watches ∙ a.watches;
 }
 
 pub quiet_step : (s t : NodeState) → IsQuiet s t → IsStep s t
@@ -62,7 +60,6 @@ quiet_step s t q = record {
     fits = rw (q.nodes, q.node, q.marked, q.running, q.staged) h.fits;
     stands = λ i. q.stands i ∙ rw (q.marked, q.running, q.staged) (h.stands i);
     few = rw q.running h.few;
-    watched = rw q.watches h.watched;
   };
   marked = q.marked;
 }
@@ -70,23 +67,23 @@ quiet_step s t q = record {
 -- owing, pooling and waiting are quiet
 pub owe_quiet : (body : Body) (backing : Option ℕ) (to : List ℕ) (s : NodeState) → IsQuiet s (owe body backing to s)
 unfolding owe
-owe_quiet body backing to s = record { nodes = refl; node = refl; stands = λ i. refl; marked = refl; ends = refl; running = refl; staged = refl; watches = refl }
+owe_quiet body backing to s = record { nodes = refl; node = refl; stands = λ i. refl; marked = refl; ends = refl; running = refl; staged = refl }
 
 pub pool_quiet : (c : Command) (s : NodeState) → IsQuiet s (pool_add c s)
 unfolding pool_add
 pool_quiet c s = by (has_request s.pool c.request || is_decided_request s c.request)
   where
     by : (b : Bool) → IsQuiet s (if b then s else record s { pool = s.pool ++ c ∷ [] })
-    by true = record { nodes = refl; node = refl; stands = λ i. refl; marked = refl; ends = refl; running = refl; staged = refl; watches = refl }
-    by false = record { nodes = refl; node = refl; stands = λ i. refl; marked = refl; ends = refl; running = refl; staged = refl; watches = refl }
+    by true = record { nodes = refl; node = refl; stands = λ i. refl; marked = refl; ends = refl; running = refl; staged = refl }
+    by false = record { nodes = refl; node = refl; stands = λ i. refl; marked = refl; ends = refl; running = refl; staged = refl }
 
 pub wait_quiet : (q : RequestNo) (s : NodeState) → IsQuiet s (wait_for q s)
 unfolding wait_for
 wait_quiet q s = by (is_waiting s q)
   where
     by : (b : Bool) → IsQuiet s (if b then s else record s { waiting = s.waiting ++ q ∷ [] })
-    by true = record { nodes = refl; node = refl; stands = λ i. refl; marked = refl; ends = refl; running = refl; staged = refl; watches = refl }
-    by false = record { nodes = refl; node = refl; stands = λ i. refl; marked = refl; ends = refl; running = refl; staged = refl; watches = refl }
+    by true = record { nodes = refl; node = refl; stands = λ i. refl; marked = refl; ends = refl; running = refl; staged = refl }
+    by false = record { nodes = refl; node = refl; stands = λ i. refl; marked = refl; ends = refl; running = refl; staged = refl }
 
 -- the row of an instance once one is put
 pub row-put : (row : Row) (rows : List Row) (i : ℕ) → row_of (put_row row rows) i ≡ cond (eqb row.instance i) (Some row) (row_of rows i)
@@ -198,7 +195,6 @@ stage_step f s fit = record {
             ∙ ap (λ (o : Option Standing). moved f (standing_in (take_on_all s.marked (unmarked_facts s)) (instance_of f)) i o) (h.stands i)
             ∙ sym (ap (λ (fs : List Fact). standing_in (take_on_all s.marked fs) i) all ∙ ap (λ (es : List Entry). standing_in es i) (take_on-push s.marked (unmarked_facts s) f) ∙ taken-standing (take_on_all s.marked (unmarked_facts s)) f i);
         few = h.few;
-        watched = h.watched;
       });
   marked = refl;
 }

@@ -1,7 +1,6 @@
-use Rattle.std.proofs.Common.{◌≡◌, ◌≢◌, ◌+◌, ◌<◌, ◌≤◌, ℕ, zero, suc, arith, Bool, true, false, cond, ◌&&◌, ◌||◌, not, ◌==◌, ltb, eqb, nat_lt, List, [], ◌∷◌, length, map, ap, sym, ◌∙◌, refl, subst, Option, Some, None, is_some, option_map, if◌then◌else◌}
+use Rattle.std.proofs.Common.{◌≡◌, ◌≢◌, ◌+◌, ◌<◌, ◌≤◌, ℕ, arith, Bool, true, false, cond, ◌&&◌, ◌||◌, not, ◌==◌, ltb, eqb, nat_lt, List, [], ◌∷◌, ap, sym, ◌∙◌, refl, subst, Option, Some, None, is_some, option_map, if◌then◌else◌}
 use Rattle.std.specs.Prelude.{find}
 use Rattle.std.specs.Option.{option_map_or}
-use Rattle.std.proofs.lemmas.List.{length-map}
 use Rattle.std.proofs.lemmas.Bool.{false≢true, eqb-true, ltb-true, lt-ltb}
 use Rattle.rr_types.specs.declared.command.Command.{Command}
 use Rattle.rr_types.specs.declared.message.Message.{Message}
@@ -16,13 +15,13 @@ use Rattle.rr_types.specs.Rounds.{Estimated, coordinator_of}
 use Rattle.rr_types.specs.Nodes.{with_member}
 use Rattle.rr_types.specs.Standings.{is_undecided, round_of, stamp_of, fits}
 use Rattle.rr_types.specs.Facts.{decision_of}
-use Rattle.rr_model.specs.NodeState.{NodeState, Row, Tally, Watch, row_of, put_row, standing_at, open_instances, is_open, first_undecided, everyone, others, decided_prefix}
-use Rattle.rr_model.specs.NodeDetector.{all_ticked, heard_beat, late_nodes, ticked}
+use Rattle.rr_model.specs.NodeState.{NodeState, Row, Tally, row_of, put_row, standing_at, open_instances, is_open, first_undecided, everyone, others, decided_prefix}
+use Rattle.rr_model.specs.NodeDetector.{all_ticked, late_nodes}
 use Rattle.rr_model.specs.NodeParts.{owe, pool_add, stage, backing_at, enter, restate_all, conclude}
 use Rattle.rr_model.specs.NodeDue.{settle}
 use Rattle.rr_model.specs.NodeStep.{is_waiting, wait_for, submitted, is_list_full, is_behind, ask, ticked_on, lowest_in_round, advanced, change_tally, count_estimate, count_ack, count_nack, with_vote, catch_up, acknowledge, take_proposal, take_estimate, has_proposed, answer, heard_body, heard}
 use Rattle.rr_core.specs.Lawful.{IsLawful}
-use Rattle.rr_core.proofs.SameLemmas.{both}
+use Rattle.rr_staged.proofs.SameLemmas.{both}
 use Rattle.rr_core.proofs.DueLaws.{settle_step}
 use Rattle.rr_core.proofs.PartLaws.{conclude_step, enter_step, restate_all_quiet}
 use Rattle.rr_core.proofs.QuietLaws.{IsQuiet, IsStep, step_none, step_then, quiet_none, quiet_then, quiet_step, owe_quiet, pool_quiet, wait_quiet, stage_step, standing_of_rows, put-standing, row_of-instance}
@@ -63,7 +62,7 @@ abbrev ticking : NodeState → NodeState
 ticking s = record s { watches = all_ticked s.watches }
 
 ticking_quiet : (s : NodeState) → IsQuiet s (ticking s)
-ticking_quiet s = record { nodes = refl; node = refl; stands = λ i. refl; marked = refl; ends = refl; running = refl; staged = refl; watches = length-map s.watches ticked }
+ticking_quiet s = record { nodes = refl; node = refl; stands = λ i. refl; marked = refl; ends = refl; running = refl; staged = refl }
 
 ticked_quiet : (s : NodeState) → IsQuiet s (ticked_on s)
 unfolding ticked_on
@@ -128,7 +127,6 @@ tally_quiet i change s = by (row_of s.rows i) refl
       ends = refl;
       running = refl;
       staged = refl;
-      watches = refl;
       stands = λ j. put-standing (record row { tally = change row.tally }) s.rows i j row.standing (row_of-instance s.rows i row h) refl ∙ stays row h j (eqb i j) refl;
     }
 
@@ -208,11 +206,6 @@ hear_proposal_step q i r v s = by (is_undecided (standing_at s i)) (is_open s i)
         let still : is_undecided (standing_at t i) ≡ true = ap is_undecided ((pool_quiet v s).stands i) ∙ u in
         step_then s t _ (quiet_step s t (pool_quiet v s)) (step_then t (catch_up i r v t) _ (catch_step i r v t still) (take_proposal_step i r v q (catch_up i r v t)))
 
-beat_length : (q : ℕ) (ws : List Watch) → length (heard_beat q ws) ≡ length ws
-beat_length q [] = refl
-beat_length zero (w ∷ ws) = refl
-beat_length (suc q) (w ∷ ws) = ap suc (beat_length q ws)
-
 body_step : (q : ℕ) (body : Body) (s : NodeState) → IsStep s (heard_body q body s)
 unfolding heard_body
 body_step q (Estimate i e) s = hear_estimate_step q i e s
@@ -233,8 +226,8 @@ body_step q (Nack i r) s = by (is_open s i && has_proposed i r s)
     by : (b : Bool) → IsStep s (if b then count_nack i q s else s)
     by true = quiet_step s _ (nack_quiet i q s)
     by false = step_none s
-body_step q Beat s = quiet_step s _ (record { nodes = refl; node = refl; stands = λ i. refl; marked = refl; ends = refl; running = refl; staged = refl; watches = beat_length q s.watches })
-body_step q (Suspects set) s = quiet_step s _ (record { nodes = refl; node = refl; stands = λ i. refl; marked = refl; ends = refl; running = refl; staged = refl; watches = refl })
+body_step q Beat s = quiet_step s _ (record { nodes = refl; node = refl; stands = λ i. refl; marked = refl; ends = refl; running = refl; staged = refl })
+body_step q (Suspects set) s = quiet_step s _ (record { nodes = refl; node = refl; stands = λ i. refl; marked = refl; ends = refl; running = refl; staged = refl })
 body_step q (Ask i) s = quiet_step s _ (answer_quiet i q s)
 
 heard_step : (m : Message) (s : NodeState) → IsStep s (heard m s)

@@ -15,4 +15,3 @@ pub record IsLawful (s : NodeState) : Type 0 where
   pub fits : all_fit s.nodes s.node s.marked (unmarked_facts s) ≡ true
   pub stands : (i : ℕ) → standing_at s i ≡ standing_in (take_on_all s.marked (unmarked_facts s)) i
   pub few : IfSome s.running (λ facts. (1 ≤ length facts) × (length facts ≤ 64))
-  pub watched : length s.watches ≤ 7

@@ -1,90 +1,88 @@
 //! The group of facts that is being flushed: taking it, putting it back, and marking it.
 
-ghost use Rattle.std.specs.Prelude.{◌≡◌, ◌≢◌, ◌+◌, ◌^◌, ◌<◌, ◌≤◌, ◌↔◌, ◌⊎◌, [], None, Some, length, IsTrue, IsSome, IfOk, IfErr, OnOk, OnErr, MatchOption};
+ghost use Rattle.std.specs.Prelude.{◌≡◌, ◌≢◌, ◌+◌, ◌^◌, ◌<◌, ◌≤◌, ◌++◌, ◌↔◌, ◌⊎◌, [], None, Some, length, IsTrue, IsSome, IfOk, IfErr, OnOk, OnErr, MatchOption};
 ghost use Rattle.std.specs.Option.{option_map_or};
 ghost use Rattle.rr_types.specs.Promises.{take_on_all};
-ghost use Rattle.rr_model.specs.NodeState.{next_number};
+ghost use Rattle.rr_model.specs.NodeState.{next_number, decided_from, decided_prefix};
 ghost use Rattle.rr_model.specs.NodeStep.{group_taken, running_group, group_put_back, marked_running};
-ghost use Rattle.rr_core.specs.Rounds.{AllInRound};
+ghost use Rattle.rr_core.specs.Lawful.{IsLawful};
 
-use crate::promise::take_on_all;
-use crate::same::are_same_facts;
-use crate::state::State;
-use rr_types::{Entry, GROUP, Group, Refusal};
+use rr_gate::Synced;
+use rr_mark::Mark;
+use rr_staged::are_same_facts;
+use rr_step::State;
+use rr_types::{Command, GROUP, Group, Refusal};
 use std::alloc::Global;
 
-impl State {
-    /// The oldest staged facts, at most 64, become the running group. While one runs it is `Busy`.
-    #[tactic(auto, unfolding(rr_model::specs::NodeStep::group_taken))]
-    pub fn take_group(&mut self, alloc: Global) -> Result<Option<Group>, Refusal>
-        requires { next_number self.old < 2 ^ 64 }
-        ensures none { IfOk result (λ g. g ≡ None → (self.new ≡ self.old) × (self.old.staged ≡ [])) }
-        ensures some { IfOk result (λ g. IsSome g → (self.new ≡ group_taken self.old) × (g ≡ running_group self.new)) }
-        ensures there { IfOk result (λ g. IsSome g → self.old.staged ≢ []) }
-        ensures free { OnOk result (self.old.running ≡ None) }
-        ensures err { OnErr result (self.new ≡ self.old) }
-        ensures refused { IfErr result (λ e. (e ≡ Refusal.OutOfMemory) ⊎ ((e ≡ Refusal.Busy) × IsSome self.old.running)) }
-    {
-        if self.unmarked.is_running() {
-            return Err(Refusal::Busy);
+/// The oldest staged facts, at most 64, become the running group. While one runs it is `Busy`.
+#[tactic(auto, unfolding(rr_model::specs::NodeStep::group_taken))]
+pub fn take_group(state: &mut State, alloc: Global) -> Result<Option<Group>, Refusal>
+    requires { next_number state.old < 2 ^ 64 }
+    ensures none { IfOk result (λ g. g ≡ None → (state.new ≡ state.old) × (state.old.staged ≡ [])) }
+    ensures some { IfOk result (λ g. IsSome g → (state.new ≡ group_taken state.old) × (g ≡ running_group state.new)) }
+    ensures there { IfOk result (λ g. IsSome g → state.old.staged ≢ []) }
+    ensures free { OnOk result (state.old.running ≡ None) }
+    ensures err { OnErr result (state.new ≡ state.old) }
+    ensures refused { IfErr result (λ e. (e ≡ Refusal.OutOfMemory) ⊎ ((e ≡ Refusal.Busy) × IsSome state.old.running)) }
+{
+    if state.unmarked.is_running() {
+        return Err(Refusal::Busy);
+    }
+    if state.unmarked.count() == 0 {
+        return Ok(None);
+    }
+    let facts = match state.unmarked.front(alloc, GROUP) {
+        Ok(facts) => facts,
+        Err(refusal) => return Err(refusal),
+    };
+    match Group::new(state.mark.end(), facts) {
+        Ok(group) => {
+            state.unmarked.run(GROUP);
+            Ok(Some(group))
         }
-        if self.unmarked.count() == 0 {
-            return Ok(None);
-        }
-        let facts = match self.unmarked.front(alloc, GROUP) {
-            Ok(facts) => facts,
-            Err(refusal) => return Err(refusal),
-        };
-        match Group::new(self.marked_end, facts) {
-            Ok(group) => {
-                self.unmarked.run(GROUP);
-                Ok(Some(group))
-            }
-            Err(_) => unreachable!(),
-        }
+        Err(_) => unreachable!(),
     }
+}
 
-    /// Whether a group is the running one, by its number and its facts.
-    pub fn is_running_group(&self, group: &Group) -> bool
-        ensures { IsTrue result ↔ (running_group self.now ≡ Some group.now) }
-    {
-        self.unmarked.is_running()
-            && group.serial() == self.marked_end
-            && are_same_facts(self.unmarked.running(), group.facts())
-    }
+/// Whether a group is the running one, by its number and its facts.
+pub fn is_running_group(state: &State, group: &Group) -> bool
+    ensures { IsTrue result ↔ (running_group state.now ≡ Some group.now) }
+{
+    state.unmarked.is_running()
+        && group.serial() == state.mark.end()
+        && are_same_facts(state.unmarked.running(), group.facts())
+}
 
-    /// The running group is staged again. It needs no memory.
-    #[tactic(auto, unfolding(rr_model::specs::NodeStep::group_put_back))]
-    pub fn put_back(&mut self)
-        ensures { self.new ≡ group_put_back self.old }
-    {
-        self.unmarked.put_back();
-    }
+/// The running group is staged again. It needs no memory.
+#[tactic(auto, unfolding(rr_model::specs::NodeStep::group_put_back))]
+pub fn put_back(state: &mut State)
+    ensures { state.new ≡ group_put_back state.old }
+{
+    state.unmarked.put_back();
+}
 
-    /// The entries of the promise once the running group is marked.
-    pub fn entries_after(&self, alloc: Global) -> Result<Vec<Entry>, Refusal>
-        requires { AllInRound self.now.marked (option_map_or (λ facts. facts) self.now.running []) }
-        ensures ok { IfOk result (λ entries. entries.items ≡ take_on_all self.now.marked (option_map_or (λ facts. facts) self.now.running [])) }
-        ensures err { IfErr result (λ e. e ≡ Refusal.OutOfMemory) }
-    {
-        let mut entries = Vec::from_slice(alloc, self.marked.as_slice())?;
-        match take_on_all(&mut entries, self.unmarked.running()) {
-            Ok(()) => Ok(entries),
-            Err(refusal) => Err(refusal),
-        }
-    }
+/// The commands that come behind the decided prefix once the running group is marked.
+#[tactic(auto, using(crate::proofs::MarkLemmas::decisions_stay))]
+pub fn commands_after(state: &State, alloc: Global) -> Result<Vec<Command>, Refusal>
+    requires { IsLawful state.now }
+    ensures ok { IfOk result (λ more. decided_from 0 (take_on_all state.now.marked (option_map_or (λ facts. facts) state.now.running [])) ≡ decided_prefix state.now ++ more.items) }
+    ensures err { IfErr result (λ e. e ≡ Refusal.OutOfMemory) }
+{
+    state
+        .instances
+        .commands_after(alloc, state.unmarked.running())
+}
 
-    /// The running group is marked; these are the entries of the promise after it. It needs no memory.
-    #[tactic(auto, unfolding(rr_model::specs::NodeStep::marked_running))]
-    pub fn mark_running(&mut self, entries: Vec<Entry>)
-        requires entries { entries.items ≡ take_on_all self.old.marked (option_map_or (λ facts. facts) self.old.running []) }
-        requires runs { IsSome self.old.running }
-        requires room { next_number self.old < 2 ^ 64 }
-        ensures { self.new ≡ marked_running self.old }
-    {
-        let count = self.unmarked.running().len();
-        self.marked_end += count as u64;
-        self.marked = entries;
-        self.unmarked.drop_running();
-    }
+/// The running group is marked, since it is synced. It needs no memory.
+#[tactic(auto, using(crate::proofs::GroupLemmas::marked_by, crate::proofs::MarkLemmas::in_round, crate::proofs::MarkLemmas::decisions_stay, crate::proofs::MarkLemmas::have_rows), unfolding(rr_model::specs::NodeStep::marked_running))]
+pub fn mark_running(state: &mut State, synced: &Synced)
+    requires lawful { IsLawful state.old }
+    requires own { synced.now.node ≡ state.old.node }
+    requires runs { running_group state.old ≡ Some synced.now.group }
+    ensures { state.new ≡ marked_running state.old }
+{
+    let facts = state.unmarked.running();
+    state.instances.mark(facts);
+    state.mark = Mark::synced(synced);
+    state.unmarked.drop_running();
 }

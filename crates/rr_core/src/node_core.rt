@@ -1,18 +1,22 @@
 //! The core of a node: a state machine without input and output.
 
-ghost use Rattle.std.specs.Prelude.{◌≡◌, ◌≢◌, ◌^◌, ◌<◌, ◌≤◌, ◌⊎◌, None, Some, [], length, slice_get, IfOk, IfErr, IsSome, MatchOption, OnOk, OnErr};
+ghost use Rattle.std.specs.Prelude.{◌≡◌, ◌≢◌, ◌^◌, ◌<◌, ◌≤◌, ◌⊎◌, true, None, Some, [], length, slice_get, IfOk, IfErr, IfSome, IsSome, MatchOption, OnOk, OnErr};
 ghost use Rattle.rr_model.specs.NodeState.{decided_prefix};
 ghost use Rattle.rr_model.specs.NodeStep.{Submit, Suspect, Tick, Advance, Hear, node_step, refusal_of, group_taken, running_group, group_put_back, marked_running, next_leaving, message_left, next_acknowledged, acknowledged, started};
+ghost use Rattle.rr_types.specs.Promises.{all_fit};
 ghost use Rattle.rr_types.specs.Registry.{registry_of, reply_of};
-ghost use Rattle.rr_core.specs.Steps.{combined, CanBeTaken};
+ghost use Rattle.rr_mark.specs.Marks.{IsFreeOrBacked};
+ghost use Rattle.rr_step.specs.Steps.{combined};
+ghost use Rattle.rr_core.specs.Taken.{CanBeTaken};
 
-use crate::cleared::{Cleared, Mark};
-use crate::leaving::take_leaving;
-use crate::prefix::{command_at, prefix_count, registry_of_prefix};
-use crate::state::State;
-use crate::step::Changes;
+use crate::group::{commands_after, is_running_group, mark_running, put_back, take_group};
+use crate::leaving::{take_acknowledged, take_leaving};
+use crate::prefix::registry_of_prefix;
 use rr_gate::{Opened, Synced};
+use rr_input::{advance_step, hear_step, started, submit_step, suspect_step, tick_step};
+use rr_mark::Cleared;
 use rr_registry::{Entries, Registry};
+use rr_step::{Changes, State};
 use rr_types::{
     Command, Group, Instance, Message, NodeId, NodeSet, Nodes, Promise, Refusal, Reply, RequestNo,
 };
@@ -42,32 +46,6 @@ impl Model for Core {
 impl Core {
     /// A node after its opening, which gave its promise and the number of its next fact: it owes the restatement
     /// of its open instances.
-    pub(crate) fn start_at(
-        alloc: Global,
-        nodes: Nodes,
-        node: NodeId,
-        promise: Promise,
-        next: u64,
-    ) -> Result<Core, Refusal>
-        ensures ok { IfOk result (λ core. core ≡ started nodes node promise next) }
-        ensures err { IfErr result (λ e. e ≡ Refusal.OutOfMemory) }
-    {
-        let _count = nodes.count();
-        let registry = match registry_of_prefix(alloc, promise.entries()) {
-            Ok(registry) => registry,
-            Err(refusal) => return Err(refusal),
-        };
-        match State::started(alloc, nodes, node, promise, next) {
-            Ok(state) => Ok(Core {
-                alloc,
-                state,
-                registry,
-            }),
-            Err(refusal) => Err(refusal),
-        }
-    }
-
-    /// A node after its opening: `start_at` with the number of the opening's next fact.
     pub fn start(
         alloc: Global,
         nodes: Nodes,
@@ -79,11 +57,24 @@ impl Core {
         ensures ok { IfOk result (λ core. core ≡ started nodes node promise opened.now.next) }
         ensures err { IfErr result (λ e. e ≡ Refusal.OutOfMemory) }
     {
-        Core::start_at(alloc, nodes, node, promise, opened.next())
+        let _entries = promise.entries();
+        let _next = opened.next();
+        let state = match started(alloc, nodes, node, promise, opened) {
+            Ok(state) => state,
+            Err(refusal) => return Err(refusal),
+        };
+        match registry_of_prefix(&state, alloc) {
+            Ok(registry) => Ok(Core {
+                alloc,
+                state,
+                registry,
+            }),
+            Err(refusal) => Err(refusal),
+        }
     }
 
     /// The core takes on what a step has changed.
-    #[tactic(auto, using(crate::proofs::InputSteps::taken_kept))]
+    #[tactic(auto, using(crate::proofs::TakenLemmas::taken_kept))]
     fn commit(&mut self, changes: Changes) -> Result<(), Refusal>
         requires { CanBeTaken self.old changes }
         ensures ok { OnOk result (self.new ≡ combined self.old changes) }
@@ -95,7 +86,7 @@ impl Core {
 
     /// A client asks for a command. It is `ListFull` where the command is new and all instances are decided
     /// here, and `TooLarge` where a fact would have no number.
-    #[tactic(auto, using(crate::proofs::InputSteps::held))]
+    #[tactic(auto, using(crate::proofs::TakenLemmas::held))]
     pub fn submit(&mut self, command: Command) -> Result<(), Refusal>
         ensures ok { OnOk result (self.new ≡ node_step (Submit command) self.old) }
         ensures allowed { OnOk result (refusal_of (Submit command) self.old ≡ None) }
@@ -103,7 +94,7 @@ impl Core {
         ensures err { OnErr result (self.new ≡ self.old) }
     {
         let is_held = self.registry.reply(command.request).is_some();
-        match self.state.submit_step(self.alloc, command, is_held) {
+        match submit_step(&self.state, self.alloc, command, is_held) {
             Ok(changes) => self.commit(changes),
             Err(refusal) => Err(refusal),
         }
@@ -116,7 +107,7 @@ impl Core {
         ensures refused { IfErr result (λ e. (e ≡ Refusal.OutOfMemory) ⊎ (refusal_of (Hear message.now) self.old ≡ Some e)) }
         ensures err { OnErr result (self.new ≡ self.old) }
     {
-        match self.state.hear_step(self.alloc, message) {
+        match hear_step(&self.state, self.alloc, message) {
             Ok(changes) => self.commit(changes),
             Err(refusal) => Err(refusal),
         }
@@ -129,7 +120,7 @@ impl Core {
         ensures refused { IfErr result (λ e. (e ≡ Refusal.OutOfMemory) ⊎ (refusal_of (Suspect suspects) self.old ≡ Some e)) }
         ensures err { OnErr result (self.new ≡ self.old) }
     {
-        match self.state.suspect_step(self.alloc, suspects) {
+        match suspect_step(&self.state, self.alloc, suspects) {
             Ok(changes) => self.commit(changes),
             Err(refusal) => Err(refusal),
         }
@@ -143,7 +134,7 @@ impl Core {
         ensures refused { IfErr result (λ e. (e ≡ Refusal.OutOfMemory) ⊎ (refusal_of Tick self.old ≡ Some e)) }
         ensures err { OnErr result (self.new ≡ self.old) }
     {
-        match self.state.tick_step(self.alloc) {
+        match tick_step(&self.state, self.alloc) {
             Ok(changes) => self.commit(changes),
             Err(refusal) => Err(refusal),
         }
@@ -157,7 +148,7 @@ impl Core {
         ensures refused { IfErr result (λ e. (e ≡ Refusal.OutOfMemory) ⊎ (refusal_of Advance self.old ≡ Some e)) }
         ensures err { OnErr result (self.new ≡ self.old) }
     {
-        match self.state.advance_step(self.alloc) {
+        match advance_step(&self.state, self.alloc) {
             Ok(changes) => self.commit(changes),
             Err(refusal) => Err(refusal),
         }
@@ -173,7 +164,7 @@ impl Core {
         ensures err { OnErr result (self.new ≡ self.old) }
         ensures refused { IfErr result (λ e. (e ≡ Refusal.OutOfMemory) ⊎ ((e ≡ Refusal.Busy) × IsSome self.old.running)) }
     {
-        self.state.take_group(self.alloc)
+        take_group(&mut self.state, self.alloc)
     }
 
     /// The running group is staged again, as before it was taken. It takes no memory. Another group is
@@ -184,42 +175,46 @@ impl Core {
         ensures strange { IfErr result (λ back. (back.0 ≡ Refusal.StrangeMark) × (back.1 ≡ group) × (running_group self.old ≢ Some group)) }
         ensures err { OnErr result (self.new ≡ self.old) }
     {
-        if !self.state.is_running_group(&group) {
+        if !is_running_group(&self.state, &group) {
             return Err((Refusal::StrangeMark, group));
         }
-        self.state.put_back();
+        put_back(&mut self.state);
         Ok(())
     }
 
-    /// The running group is marked: its facts are promised for good. Another group is `StrangeMark`.
-    #[tactic(auto, using(crate::proofs::MarkLemmas::in_round, crate::proofs::MarkLemmas::runs))]
-    pub(crate) fn mark_group(&mut self, group: &Group) -> Result<(), Refusal>
+    /// The running group, synced, is marked: its facts, which fit those marked before, are promised for good. Another
+    /// group is `StrangeMark`.
+    #[tactic(auto, using(crate::proofs::MarkLemmas::runs))]
+    pub(crate) fn mark_group(&mut self, synced: &Synced) -> Result<(), Refusal>
+        requires { synced.now.node ≡ self.old.node }
         ensures ok { OnOk result (self.new ≡ marked_running self.old) }
-        ensures own { OnOk result (running_group self.old ≡ Some group.now) }
-        ensures refused { IfErr result (λ e. (e ≡ Refusal.OutOfMemory) ⊎ ((e ≡ Refusal.StrangeMark) × (running_group self.old ≢ Some group.now))) }
+        ensures own { OnOk result (running_group self.old ≡ Some synced.now.group) }
+        ensures fits { OnOk result (all_fit self.old.nodes self.old.node self.old.marked synced.now.group.facts ≡ true) }
+        ensures refused { IfErr result (λ e. (e ≡ Refusal.OutOfMemory) ⊎ ((e ≡ Refusal.StrangeMark) × (running_group self.old ≢ Some synced.now.group))) }
         ensures err { OnErr result (self.new ≡ self.old) }
     {
-        if !self.state.is_running_group(group) {
+        if !is_running_group(&self.state, synced.group()) {
             return Err(Refusal::StrangeMark);
         }
-        let entries = match self.state.entries_after(self.alloc) {
-            Ok(entries) => entries,
+        let more = match commands_after(&self.state, self.alloc) {
+            Ok(more) => more,
             Err(refusal) => return Err(refusal),
         };
-        let registry = match registry_of_prefix(self.alloc, &entries) {
-            Ok(registry) => registry,
-            Err(refusal) => return Err(refusal),
-        };
-        self.state.mark_running(entries);
-        self.registry = registry;
-        Ok(())
+        match self.registry.apply_all(&more) {
+            Ok(()) => {
+                mark_running(&mut self.state, synced);
+                Ok(())
+            }
+            Err(refusal) => Err(refusal),
+        }
     }
 
-    /// A synced group is marked. One that isn't this node's running group is `StrangeMark`. It is handed back
-    /// where it isn't marked.
+    /// A synced group is marked; its facts fit those marked before. One that isn't this node's running group is
+    /// `StrangeMark`. It is handed back where it isn't marked.
     pub fn mark(&mut self, synced: Synced) -> Result<(), (Refusal, Synced)>
         ensures ok { OnOk result (self.new ≡ marked_running self.old) }
         ensures own { OnOk result ((synced.node ≡ self.old.node) × (running_group self.old ≡ Some synced.group)) }
+        ensures fits { OnOk result (all_fit self.old.nodes self.old.node self.old.marked synced.group.facts ≡ true) }
         ensures back { IfErr result (λ back. back.1 ≡ synced) }
         ensures refused { IfErr result (λ back. (back.0 ≡ Refusal.OutOfMemory) ⊎ ((back.0 ≡ Refusal.StrangeMark) × ((synced.node ≢ self.old.node) ⊎ (running_group self.old ≢ Some synced.group)))) }
         ensures err { OnErr result (self.new ≡ self.old) }
@@ -227,7 +222,7 @@ impl Core {
         if synced.node().index() != self.node().index() {
             return Err((Refusal::StrangeMark, synced));
         }
-        match self.mark_group(synced.group()) {
+        match self.mark_group(&synced) {
             Ok(()) => {
                 drop(synced.into_group());
                 Ok(())
@@ -241,20 +236,20 @@ impl Core {
         ensures ok { IfOk result (λ promise. promise ≡ self.now.marked) }
         ensures err { IfErr result (λ e. e ≡ Refusal.OutOfMemory) }
     {
-        let entries = Vec::from_slice(alloc, self.state.marked.as_slice())?;
+        let entries = self.state.instances.marked_entries(alloc)?;
         Ok(Promise::new(entries))
     }
 
     /// The oldest owed message that may leave: it is free, or the fact that backs it is marked. It takes no
     /// memory.
-    #[tactic(auto, using(crate::proofs::LeavingLemmas::without_leaving, crate::proofs::MarkLemmas::left_kept))]
+    #[tactic(auto, using(crate::proofs::MarkLemmas::left_kept))]
     pub fn next_message(&mut self) -> Option<Cleared>
-        ensures { MatchOption result
+        ensures taken { MatchOption result
             ((next_leaving self.old ≡ None) × (self.new ≡ self.old))
             (λ m. (next_leaving self.old ≡ Some m) × (self.new ≡ message_left self.old)) }
+        ensures backed { IfSome result (IsFreeOrBacked (record { node = self.old.node; end = self.old.marked_end }) self.old.owed) }
     {
-        let mark = Mark::at(self.state.marked_end);
-        take_leaving(&mut self.state.owed, mark)
+        take_leaving(&mut self.state)
     }
 
     /// The oldest waiting request that the decided prefix holds, with its reply there. It takes no memory.
@@ -263,7 +258,7 @@ impl Core {
             ((next_acknowledged self.old ≡ None) × (self.new ≡ self.old))
             (λ a. (next_acknowledged self.old ≡ Some a.0) × (reply_of (decided_prefix self.old) a.0 ≡ Some a.1) × (self.new ≡ acknowledged self.old)) }
     {
-        self.state.take_answered(&self.registry)
+        take_acknowledged(&mut self.state, &self.registry)
     }
 
     /// How many nodes there are.
@@ -284,21 +279,21 @@ impl Core {
     pub fn facts(&self) -> u64
         ensures { result ≡ self.now.marked_end }
     {
-        self.state.marked_end
+        self.state.mark.end()
     }
 
     /// How many commands the decided prefix has.
     pub fn decided_count(&self) -> usize
         ensures { result ≡ length (decided_prefix self.now) }
     {
-        prefix_count(&self.state.marked)
+        self.state.instances.prefix_len()
     }
 
     /// The command at a place of the decided prefix. It takes no memory.
     pub fn decided(&self, place: Instance) -> Option<Command>
         ensures { result ≡ slice_get (decided_prefix self.now) place }
     {
-        command_at(&self.state.marked, place.number() as usize)
+        self.state.instances.command_at(place.number() as usize)
     }
 
     /// The bound names of the decided prefix, in byte order, each with its holding.

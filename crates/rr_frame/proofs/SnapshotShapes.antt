@@ -92,7 +92,7 @@ entries_stand n p low (suc k) bytes x e =
     let made : List Entry × List ℕ = (a.0.0 ∷ b.0.0, b.0.1) in
     subst (λ (y : List Entry × List ℕ). Stand n p low (suc k) y.0) (ok_is made x b.2) (record { count = ap suc second.count; ascending = (omega (arith, first.0), second.ascending); proposals = and_from _ _ first.1 second.proposals })
 
-contents_stand : (n p : ℕ) (bytes : List ℕ) (y : (ℕ × List Entry) × List ℕ) → contents_at n p bytes ≡ Ok y → IsContents n p y.0.0 y.0.1
+pub contents_stand : (n p : ℕ) (bytes : List ℕ) (y : (ℕ × List Entry) × List ℕ) → contents_at n p bytes ≡ Ok y → IsContents n p y.0.0 y.0.1
 unfolding contents_at
 contents_stand n p bytes y e =
     let x = bind_ok (number_at 8 bytes) _ y e in

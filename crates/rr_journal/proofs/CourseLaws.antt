@@ -1,5 +1,5 @@
 -- An opening stays on its course: it finds what stands on the disk, and makes the device calls which that asks for.
-use Rattle.std.proofs.Common.{◌≡◌, ◌≢◌, ◌⊎◌, inl, inr, ℕ, suc, Bool, true, false, if◌then◌else◌, ◌+◌, ◌-◌, ◌^◌, ◌<◌, ◌≤◌, min, List, [], ◌∷◌, ◌++◌, length, map, take, drop, Ok, Err, refl, sym, ap, subst, ◌∙◌, arith}
+use Rattle.std.proofs.Common.{◌≡◌, ◌≢◌, ◌⊎◌, inl, inr, ℕ, suc, Bool, true, false, ◌+◌, ◌-◌, ◌^◌, ◌<◌, ◌≤◌, min, List, [], ◌∷◌, ◌++◌, length, map, take, drop, Ok, Err, refl, sym, ap, subst, ◌∙◌, arith}
 use Rattle.std.proofs.lemmas.List.{take-map}
 use Rattle.std.proofs.Math.Nat.{min-le_left}
 use Rattle.rr_types.specs.declared.promise.Entry.{Entry}
@@ -16,7 +16,7 @@ use Rattle.rr_journal.specs.declared.opening.Opening.{Opening}
 use Rattle.rr_journal.specs.declared.opening.Progress.TheVariants as progress
 use Rattle.rr_journal.specs.declared.opening.Phase as code
 use Rattle.rr_journal.specs.declared.opening.Phase.TheVariants as at
-use Rattle.rr_journal.specs.Calls.{Call, Write, Sync, after_call, append_calls, format_calls, must_close}
+use Rattle.rr_journal.specs.Calls.{Call, after_call, rewrite_calls, format_calls, must_close}
 use Rattle.rr_journal.specs.Ends.{area_number}
 use Rattle.rr_journal.specs.Image.{Found, Unformatted, Broken, Active, found}
 use Rattle.rr_journal.specs.Openings.{Phase, Settling, ReadingFirst, ReadingSecond, Formatting, After, Goes, Opens, Stops, due_call, after_found, after_opening_call}
@@ -24,6 +24,7 @@ use Rattle.rr_journal.specs.OpeningCourse.{calls_left, whole_read, found_from, c
 use Rattle.rr_journal.specs.OpeningTable.{IsReadBy, IsLeftBy, first_snapshot}
 use Rattle.rr_journal.specs.Phases.{phase_of, TakesMemory}
 use Rattle.rr_journal.proofs.OpeningLaws.{bytes_firm}
+use Rattle.rr_journal.proofs.StageLaws.{some_left}
 
 -- a sync leaves what a read gives
 pub read_settled : (extent : Extent) → whole_read (settled extent) ≡ whole_read extent
@@ -44,8 +45,7 @@ OnCourse n p old new phase (Stops e) = end_by (found_from n p phase old) ≡ Sto
 formatting_left : (n p : ℕ) (first : List ℕ) (both : Areas) → calls_from n p (Formatting (format_calls n p first)) both ≡ format_calls n p first
 formatting_left n p first both = by (must_close first)
   where
-    by : (closes : Bool) → calls_from n p (Formatting ((if closes then Write First 0 (0 ∷ []) ∷ Sync ∷ [] else []) ++ append_calls First 0 (snapshot_bytes (first_snapshot n p)))) both
-        ≡ (if closes then Write First 0 (0 ∷ []) ∷ Sync ∷ [] else []) ++ append_calls First 0 (snapshot_bytes (first_snapshot n p))
+    by : (closes : Bool) → calls_from n p (Formatting (rewrite_calls First closes (snapshot_bytes (first_snapshot n p)))) both ≡ rewrite_calls First closes (snapshot_bytes (first_snapshot n p))
     by true = refl
     by false = refl
 
@@ -143,12 +143,7 @@ pub one_left : (phase : code.Phase) → 1 ≤ calls_left (phase_of phase)
 one_left at.Settling = omega arith
 one_left at.ReadingFirst = omega arith
 one_left (at.ReadingSecond first) = omega arith
-one_left (at.Closing body) = omega arith
-one_left (at.SettlingClosed body) = omega arith
-one_left (at.WritingBody body) = omega arith
-one_left at.SettlingBody = omega arith
-one_left at.OpeningGate = omega arith
-one_left at.SettlingGate = omega arith
+one_left (at.Formatting stage body) = some_left First body.items stage
 
 pub one_from : (n p : ℕ) (phase : Phase) (both : Areas) → 1 ≤ length (calls_from n p phase both)
 one_from n p Settling both = omega arith

@@ -10,6 +10,8 @@ pub mod OpeningEnds
 pub mod OpeningLaws
 pub mod OtherLaws
 pub mod PlaceLemmas
+pub mod PromisedLaws
 pub mod ReadingLaws
 pub mod SnapshotSize
+pub mod StageLaws
 pub mod TakeLemmas

@@ -1,5 +1,5 @@
 -- An opening ends: each device call leaves fewer, and what holds of each step holds of all of them.
-use Rattle.std.proofs.Common.{◌≡◌, ℕ, ◌<◌, ◌≤◌, inl, inr, Bool, true, false, if◌then◌else◌, List, [], ◌∷◌, ◌++◌, length, sym, ap, subst, ◌∙◌, arith}
+use Rattle.std.proofs.Common.{◌≡◌, ℕ, ◌<◌, ◌≤◌, inl, inr, Bool, true, false, List, [], ◌∷◌, length, sym, ap, subst, ◌∙◌, arith}
 use Rattle.rr_types.specs.declared.fact.Fact.{Fact}
 use Rattle.rr_disk.specs.declared.area.Area.TheVariants.{First}
 use Rattle.rr_disk.specs.Areas.{Areas}
@@ -7,7 +7,7 @@ use Rattle.rr_disk.specs.Crash.{Images}
 use Rattle.rr_frame.specs.SnapshotFormat.{snapshot_bytes}
 use Rattle.rr_gate.specs.Moments.{EachHolds}
 use Rattle.rr_journal.specs.declared.opening.Opening.{Opening}
-use Rattle.rr_journal.specs.Calls.{Write, Sync, append_calls, format_calls, must_close}
+use Rattle.rr_journal.specs.Calls.{rewrite_calls, format_calls, must_close}
 use Rattle.rr_journal.specs.Image.{Found, Unformatted, Broken, Active, found}
 use Rattle.rr_journal.specs.Journals.{Holds}
 use Rattle.rr_journal.specs.Openings.{Phase, Settling, ReadingFirst, ReadingSecond, Formatting, After, Goes, Opens, Stops, after_found, after_opening_call}
@@ -25,7 +25,7 @@ calls_behind (Stops refusal) = 0
 format_count : (n p : ℕ) (first : List ℕ) → length (format_calls n p first) ≤ 6
 format_count n p first = by (must_close first)
   where
-    by : (closes : Bool) → length ((if closes then Write First 0 (0 ∷ []) ∷ Sync ∷ [] else []) ++ append_calls First 0 (snapshot_bytes (first_snapshot n p))) ≤ 6
+    by : (closes : Bool) → length (rewrite_calls First closes (snapshot_bytes (first_snapshot n p))) ≤ 6
     by true = omega arith
     by false = omega arith
 

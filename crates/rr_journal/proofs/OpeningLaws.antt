@@ -1,5 +1,5 @@
 -- From one phase of an opening to the next, and what a crash may leave behind a device call of it.
-use Rattle.std.proofs.Common.{◌≡◌, ℕ, ◌-◌, ◌^◌, ◌<◌, ◌≤◌, ◌⊎◌, inl, inr, true, false, List, [], ◌∷◌, ◌++◌, map, length, refl, sym, ap, subst, ◌∙◌, arith}
+use Rattle.std.proofs.Common.{◌≡◌, ℕ, ◌-◌, ◌^◌, ◌<◌, ◌≤◌, ◌⊎◌, inl, inr, Bool, true, false, Option, None, Some, List, [], ◌∷◌, ◌++◌, map, length, refl, sym, ap, subst, ◌∙◌, arith}
 use Rattle.std.proofs.lemmas.List.{append-nil, length-map}
 use Rattle.rr_types.specs.declared.fact.Fact.{Fact}
 use Rattle.rr_types.specs.declared.promise.Entry.{Entry}
@@ -16,15 +16,19 @@ use Rattle.rr_gate.proofs.Table.{due_holds, out_holds, safe_holds, set_holds, to
 use Rattle.rr_journal.specs.declared.journal.Journal.{Journal}
 use Rattle.rr_journal.specs.declared.opening.Phase.{Phase}
 use Rattle.rr_journal.specs.declared.opening.Phase.TheVariants as at
-use Rattle.rr_journal.specs.Calls.{Write, after_call, must_close}
+use Rattle.rr_journal.specs.declared.stage.Stage.{Stage}
+use Rattle.rr_journal.specs.declared.stage.Stage.TheVariants.{Closing, SettlingClosed, WritingBody, SettlingBody, OpeningGate, SettlingGate}
+use Rattle.rr_journal.specs.Calls.{Call, Write, after_call, must_close}
 use Rattle.rr_journal.specs.Image.{Content, Found, Unformatted, Active, found}
 use Rattle.rr_journal.specs.Journals.{StandsFor, Holds, IsOver}
-use Rattle.rr_journal.specs.Openings.{formatted, due_call}
+use Rattle.rr_journal.specs.Openings.{Formatting, formatted, due_call}
 use Rattle.rr_journal.specs.Phases.{phase_of}
-use Rattle.rr_journal.specs.OpeningTable.{IsReadBy, IsLeftBy, Rests, first_snapshot, formatting, IsBlank, Formats, gate_written, Closes, OpensWith, IsKept}
+use Rattle.rr_journal.specs.OpeningTable.{IsReadBy, IsLeftBy, Rests, first_snapshot, formatting, IsBlank, Formats, gate_written, Closes, IsFormatting, OpensWith, IsKept}
+use Rattle.rr_journal.specs.Stages.{first_stage, call_at, calls_from, stage_behind}
 use Rattle.rr_journal.proofs.FlushLaws.{opened}
 use Rattle.rr_journal.proofs.FormatLaws.{short_blank, close_short, open_at_front, blanks, both_blank, still_held, holds_formatted, found_formatted, format_grounded, gate_closed, closed_fresh, close_grounded}
 use Rattle.rr_journal.proofs.ImageLaws.{read_whole}
+use Rattle.rr_journal.proofs.StageLaws.{due_at}
 
 pub bytes_firm : (bytes : List ℕ) → map (λ cell. cell.byte) (map firm_cell bytes) ≡ bytes
 bytes_firm [] = refl
@@ -114,6 +118,11 @@ module _ (n p : ℕ) (facts : List Fact) (both : Areas) (rests : Rests n p facts
         stands = record { grounded = format_grounded n p rests.start facts spelt blank rests.holds front.0 front.1; stands = rests.stands };
       }
 
+  -- so it is in the first stage
+  pub first_due : (closes : Bool) → closes ≡ must_close rests.start.of_first → found n p rests.start.of_first rests.start.of_second ≡ Unformatted → IsLawfulSnapshot (first_snapshot n p) → IsFormatting n p facts (first_stage closes) both
+  first_due true is blank spelt = closing_due blank spelt (sym is)
+  first_due false is blank spelt = body_is_due blank spelt (sym is)
+
 -- ---- what a crash may leave
 
 -- the group of no facts adds none
@@ -147,34 +156,63 @@ closing_images n p facts start fresh due extent torn images is =
 pub written_torn : (start : Images) → Torn 0 1 (at_rest start.of_first) (written 0 (0 ∷ []) (at_rest start.of_first))
 written_torn start = torn_written 0 (0 ∷ []) (at_rest start.of_first) (omega arith)
 
-module _ (n p : ℕ) (facts : List Fact) (old new : Areas) where
-  -- a device call that succeeded keeps the facts
-  pub kept : (phase : Phase) → OpensWith n p facts phase old → new ≡ after_call (due_call (phase_of phase)) old → IsKept (Holds n p) facts old new
-  kept at.Settling opens after = inr (rest_held n p facts opens.start new (after ∙ opens.stands) opens.holds)
-  kept at.ReadingFirst opens after = inl after
-  kept (at.ReadingSecond first) opens after = inl after
-  kept (at.Closing body) opens after =
-      let next = closing n p facts old new [] opens.1 after in
-      inr (λ images is. closing_images n p facts next.start next.fresh next.due (written 0 (0 ∷ []) (at_rest next.start.of_first)) (written_torn next.start) images (subst (λ (b : Areas). IsCrashImage b images) next.stands is))
-  kept (at.SettlingClosed body) opens after = let next = closed n p facts old new [] opens.1 after in inr (due_holds (Holds n p) (formatting n p) next.start facts new next.stands)
-  kept (at.WritingBody body) opens after = let next = body_written_on n p facts old new [] body.items opens.0 opens.1 after in inr (out_holds (Holds n p) (formatting n p) next.start facts new next.stands)
-  kept at.SettlingBody opens after = let next = body_settled n p facts old new [] opens after in inr (safe_holds (Holds n p) (formatting n p) next.start facts new next.stands)
-  kept at.OpeningGate opens after = let next = gate_opened_on n p facts old new [] opens after in inr (either_held (Holds n p) facts new (set_holds (Holds n p) (formatting n p) next.start facts new next.stands))
-  kept at.SettlingGate opens after = let end = gate_settled n p facts old new [] opens after in inr (rest_held n p facts end.0 new end.1 end.2)
+module _ (n p : ℕ) (facts : List Fact) where
+  -- both areas behind a device call of formatting: in the next stage, or with area 0 active
+  abbrev pub IsFormatted : Areas → Option Stage → Type 0
+  IsFormatted both (Some stage) = IsFormatting n p facts stage both
+  IsFormatted both None = (start : Images) × (both ≡ restarted start) × Holds n p start facts × (found n p start.of_first start.of_second ≡ Active First formatted)
 
-  -- and so does one that failed
-  pub kept_failed : (phase : Phase) → OpensWith n p facts phase old → IsLeftBy (due_call (phase_of phase)) old new → IsKept (Holds n p) facts old new
-  kept_failed at.Settling opens left = inl left
-  kept_failed at.ReadingFirst opens left = inl left
-  kept_failed (at.ReadingSecond first) opens left = inl left
-  kept_failed (at.Closing body) opens left =
-      let closes = opens.1 in
-      let was : extent_of old First ≡ at_rest closes.start.of_first = ap (λ (b : Areas). extent_of b First) closes.stands in
-      let torn : Torn 0 1 (at_rest closes.start.of_first) (extent_of new First) = subst (λ (e : Extent). Torn 0 1 e (extent_of new First)) was left.0 in
-      inr (λ images is. closing_images n p facts closes.start closes.fresh closes.due (extent_of new First) torn images
-      (subst (λ (b : Areas). IsCrashImage b images) (left.1 ∙ ap (λ (b : Areas). replaced b First (extent_of new First)) closes.stands) is))
-  kept_failed (at.SettlingClosed body) opens left = inl left
-  kept_failed (at.WritingBody body) opens left = inr (body_refused (Holds n p) (formatting n p) opens.1.start facts old new (length body.items) opens.1.stands (inr left))
-  kept_failed at.SettlingBody opens left = inl left
-  kept_failed at.OpeningGate opens left = inr (either_held (Holds n p) facts new (gate_refused (Holds n p) (formatting n p) opens.start facts old new opens.stands (inr left)))
-  kept_failed at.SettlingGate opens left = inl left
+  pub formats_on : (stage : Stage) (old new : Areas) → IsFormatting n p facts stage old → new ≡ after_call (call_at First (formatting n p).body stage) old → IsFormatted new (stage_behind stage)
+  formats_on Closing old new here after = closing n p facts old new [] here after
+  formats_on SettlingClosed old new here after = closed n p facts old new [] here after
+  formats_on WritingBody old new here after = body_written_on n p facts old new [] (formatting n p).body refl here after
+  formats_on SettlingBody old new here after = body_settled n p facts old new [] here after
+  formats_on OpeningGate old new here after = gate_opened_on n p facts old new [] here after
+  formats_on SettlingGate old new here after = gate_settled n p facts old new [] here after
+
+  -- in each stage every crash leaves the facts
+  formats_held : (stage : Stage) (both : Areas) → IsFormatting n p facts stage both → EachHolds (Holds n p) both facts
+  formats_held Closing both here = rest_held n p facts here.start both here.stands here.fresh.holds
+  formats_held SettlingClosed both here =
+      λ images is. closing_images n p facts here.start here.fresh here.due (written 0 (0 ∷ []) (at_rest here.start.of_first)) (written_torn here.start) images (subst (λ (b : Areas). IsCrashImage b images) here.stands is)
+  formats_held WritingBody both here = due_holds (Holds n p) (formatting n p) here.start facts both here.stands
+  formats_held SettlingBody both here = out_holds (Holds n p) (formatting n p) here.start facts both here.stands
+  formats_held OpeningGate both here = safe_holds (Holds n p) (formatting n p) here.start facts both here.stands
+  formats_held SettlingGate both here = either_held (Holds n p) facts both (set_holds (Holds n p) (formatting n p) here.start facts both here.stands)
+
+  formatted_held : (next : Option Stage) (both : Areas) → IsFormatted both next → EachHolds (Holds n p) both facts
+  formatted_held (Some stage) both here = formats_held stage both here
+  formatted_held None both here = rest_held n p facts here.0 both here.1 here.2
+
+  -- also where a device call has failed
+  formats_failed : (stage : Stage) (body : List ℕ) (old new : Areas) → IsFormatting n p facts stage old → IsLeftBy (call_at First body stage) old new → IsKept (Holds n p) facts old new
+  formats_failed Closing body old new here left =
+      let was : extent_of old First ≡ at_rest here.start.of_first = ap (λ (b : Areas). extent_of b First) here.stands in
+      let torn : Torn 0 1 (at_rest here.start.of_first) (extent_of new First) = subst (λ (e : Extent). Torn 0 1 e (extent_of new First)) was left.0 in
+      inr (λ images is. closing_images n p facts here.start here.fresh here.due (extent_of new First) torn images
+      (subst (λ (b : Areas). IsCrashImage b images) (left.1 ∙ ap (λ (b : Areas). replaced b First (extent_of new First)) here.stands) is))
+  formats_failed SettlingClosed body old new here left = inl left
+  formats_failed WritingBody body old new here left = inr (body_refused (Holds n p) (formatting n p) here.start facts old new (length body) here.stands (inr left))
+  formats_failed SettlingBody body old new here left = inl left
+  formats_failed OpeningGate body old new here left = inr (either_held (Holds n p) facts new (gate_refused (Holds n p) (formatting n p) here.start facts old new here.stands (inr left)))
+  formats_failed SettlingGate body old new here left = inl left
+
+  -- what is left behind a device call of formatting, of a body that is the first snapshot's frame
+  pub formats_behind : (stage : Stage) (body : List ℕ) (old new : Areas) → body ≡ (formatting n p).body → IsFormatting n p facts stage old → new ≡ after_call (due_call (Formatting (calls_from First body stage))) old
+      → IsFormatted new (stage_behind stage)
+  formats_behind stage body old new is here after = formats_on stage old new here (after ∙ ap (λ (c : Call). after_call c old) (due_at body stage) ∙ ap (λ (b : List ℕ). after_call (call_at First b stage) old) is)
+
+  module _ (old new : Areas) where
+    -- a device call that succeeded keeps the facts
+    pub kept : (phase : Phase) → OpensWith n p facts phase old → new ≡ after_call (due_call (phase_of phase)) old → IsKept (Holds n p) facts old new
+    kept at.Settling opens after = inr (rest_held n p facts opens.start new (after ∙ opens.stands) opens.holds)
+    kept at.ReadingFirst opens after = inl after
+    kept (at.ReadingSecond first) opens after = inl after
+    kept (at.Formatting stage body) opens after = inr (formatted_held (stage_behind stage) new (formats_behind stage body.items old new opens.0 opens.1 after))
+
+    -- and so does one that failed
+    pub kept_failed : (phase : Phase) → OpensWith n p facts phase old → IsLeftBy (due_call (phase_of phase)) old new → IsKept (Holds n p) facts old new
+    kept_failed at.Settling opens left = inl left
+    kept_failed at.ReadingFirst opens left = inl left
+    kept_failed (at.ReadingSecond first) opens left = inl left
+    kept_failed (at.Formatting stage body) opens left = formats_failed stage body.items old new opens.1 (subst (λ (c : Call). IsLeftBy c old new) (due_at body.items stage) left)

@@ -6,12 +6,15 @@ use Rattle.rr_disk.specs.Areas.{Extent, Areas, bytes_of, read_of, settled}
 use Rattle.rr_journal.specs.declared.opening.Fronts.{Fronts}
 use Rattle.rr_journal.specs.declared.opening.Phase.{Phase}
 use Rattle.rr_journal.specs.declared.opening.Phase.TheVariants as at
+use Rattle.rr_journal.specs.declared.stage.Stage.{Stage}
+use Rattle.rr_journal.specs.declared.stage.Stage.TheVariants.{Closing, SettlingClosed, WritingBody, SettlingBody, OpeningGate, SettlingGate}
 use Rattle.rr_journal.specs.Calls.{after_call, must_close}
 use Rattle.rr_journal.specs.Image.{Found, Unformatted, Broken, Active, found}
 use Rattle.rr_journal.specs.Openings as openings
 use Rattle.rr_journal.specs.Openings.{Settling, ReadingFirst, ReadingSecond, Formatting, After, Goes, Opens, Stops, due_call, after_found, after_opening_call}
 use Rattle.rr_journal.specs.Phases.{phase_of}
 use Rattle.rr_journal.specs.OpeningTable.{IsReadBy}
+use Rattle.rr_journal.specs.Stages.{calls_from}
 use Rattle.rr_journal.specs.OtherAreas.{other_area, closes_in, front_beside, KnowsFronts, KnowsRead}
 
 -- the first byte decides: a read of the whole area shows it
@@ -47,12 +50,15 @@ pub still_noted : (fronts : Fronts) (old new : Areas) (read : List ℕ) (phase :
 still_noted fronts old new read at.Settling reads reads_on knows is after = tt
 still_noted fronts old new read at.ReadingFirst reads reads_on knows is after = absurd (reads refl)
 still_noted fronts old new read (at.ReadingSecond first) reads reads_on knows is after = absurd (reads_on first.items refl)
-still_noted fronts old new read (at.Closing body) reads reads_on knows is after = knows ∙ ap (λ (b : Areas). closes_in b Second) (sym after)
-still_noted fronts old new read (at.SettlingClosed body) reads reads_on knows is after = knows ∙ sym (settled_closes old.second) ∙ ap (λ (b : Areas). closes_in b Second) (sym after)
-still_noted fronts old new read (at.WritingBody body) reads reads_on knows is after = knows ∙ ap (λ (b : Areas). closes_in b Second) (sym after)
-still_noted fronts old new read at.SettlingBody reads reads_on knows is after = knows ∙ sym (settled_closes old.second) ∙ ap (λ (b : Areas). closes_in b Second) (sym after)
-still_noted fronts old new read at.OpeningGate reads reads_on knows is after = knows ∙ ap (λ (b : Areas). closes_in b Second) (sym after)
-still_noted fronts old new read at.SettlingGate reads reads_on knows is after = knows ∙ sym (settled_closes old.second) ∙ ap (λ (b : Areas). closes_in b Second) (sym after)
+still_noted fronts old new read (at.Formatting stage body) reads reads_on knows is after = by stage after
+  where
+    by : (stage : Stage) → new ≡ after_call (due_call (Formatting (calls_from First body.items stage))) old → fronts.second ≡ closes_in new Second
+    by Closing after = knows ∙ ap (λ (b : Areas). closes_in b Second) (sym after)
+    by SettlingClosed after = knows ∙ sym (settled_closes old.second) ∙ ap (λ (b : Areas). closes_in b Second) (sym after)
+    by WritingBody after = knows ∙ ap (λ (b : Areas). closes_in b Second) (sym after)
+    by SettlingBody after = knows ∙ sym (settled_closes old.second) ∙ ap (λ (b : Areas). closes_in b Second) (sym after)
+    by OpeningGate after = knows ∙ ap (λ (b : Areas). closes_in b Second) (sym after)
+    by SettlingGate after = knows ∙ sym (settled_closes old.second) ∙ ap (λ (b : Areas). closes_in b Second) (sym after)
 
 -- what comes behind a device call knows it too
 abbrev pub AfterKnows : Fronts → Areas → After → Type 0

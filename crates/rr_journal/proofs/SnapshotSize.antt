@@ -1,8 +1,8 @@
--- The size of an empty snapshot.
+-- The size of an empty snapshot, and that it is one.
 use Rattle.std.proofs.Common.{◌≡◌, ℕ, ◌<◌, List, [], length, arith, ap, length-append}
-use Rattle.std.specs.List.{flat_map}
+use Rattle.std.specs.List.{flat_map, list_all}
 use Rattle.rr_types.specs.declared.promise.Entry.{Entry}
-use Rattle.rr_frame.specs.Snapshots.{Snapped}
+use Rattle.rr_frame.specs.Snapshots.{Snapped, IsSnapshot, proposes_lawfully}
 use Rattle.rr_frame.specs.SnapshotFormat.{snapshot_bytes, entry_bytes, owner_bytes, contents_bytes}
 use Rattle.rr_frame.proofs.FieldLaws.{length-number_bytes}
 
@@ -15,3 +15,12 @@ length-snapshot_bytes s e =
 -- so it fits the length of a frame
 pub snapshot_fits : (s : Snapped) (bytes : List ℕ) → bytes ≡ snapshot_bytes s → s.entries ≡ [] → length bytes < 4294967296
 snapshot_fits s bytes b e = let size = length-snapshot_bytes s e in let same = ap length b in omega arith
+
+-- and each node has one
+pub is_snapshot : (n p : ℕ) (es : List Entry) → p < n → es ≡ [] → IsSnapshot (record { node = p; nodes = n; epoch = 1; next = 0; entries = es })
+is_snapshot n p es exists none = record {
+  node = exists;
+  epoch = omega arith;
+  empty = λ start. none;
+  proposals = ap (λ (es : List Entry). list_all (λ (e : Entry). proposes_lawfully n p e.standing) es) none;
+}

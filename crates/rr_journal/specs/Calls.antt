@@ -44,8 +44,10 @@ abbrev pub must_close : List ℕ → Bool
 must_close [] = true
 must_close (gate ∷ bytes) = gate == 165
 
+-- the calls that write an area anew with a snapshot of these bytes, by whether it has to be closed first
+abbrev pub rewrite_calls : Area → Bool → List ℕ → List Call
+rewrite_calls area closes payload = (if closes then Write area 0 (0 ∷ []) ∷ Sync ∷ [] else []) ++ append_calls area 0 payload
+
 -- the calls that format area 0 with an empty snapshot of epoch 1 for node p of n
 abbrev pub format_calls : ℕ → ℕ → List ℕ → List Call
-format_calls n p first =
-    (if must_close first then Write First 0 (0 ∷ []) ∷ Sync ∷ [] else [])
-    ++ append_calls First 0 (snapshot_bytes (record { node = p; nodes = n; epoch = 1; next = 0; entries = [] }))
+format_calls n p first = rewrite_calls First (must_close first) (snapshot_bytes (record { node = p; nodes = n; epoch = 1; next = 0; entries = [] }))

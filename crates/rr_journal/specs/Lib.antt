@@ -11,3 +11,4 @@ pub mod OpeningTable
 pub mod OtherAreas
 pub mod Phases
 pub mod Places
+pub mod Stages

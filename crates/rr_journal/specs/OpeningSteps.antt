@@ -1,9 +1,10 @@
 -- What a step of an opening answers.
-use Rattle.std.specs.Prelude.{◌≡◌, ◌⊎◌, ℕ, List, Result, Ok, Err, Vec, false}
+use Rattle.std.specs.Prelude.{◌≡◌, ◌⊎◌, ℕ, ◌+◌, List, Result, Ok, Err, Vec, false}
 use Rattle.std.specs.declared.alloc.Global.{Global}
 use Rattle.rr_types.specs.declared.refusal.Refusal.{Refusal}
 use Rattle.rr_types.specs.declared.refusal.Refusal.TheVariants.{OutOfMemory}
 use Rattle.rr_disk.specs.declared.area.Area.{Area}
+use Rattle.rr_frame.specs.Snapshots.{IsSnapshot}
 use Rattle.rr_journal.specs.declared.opening.Opening as code
 use Rattle.rr_journal.specs.declared.opening.Progress as code_2
 use Rattle.rr_journal.specs.declared.opening.Progress.TheVariants as progress
@@ -22,3 +23,8 @@ module _ {D : Type 0} (of_read : D → Area → ℕ → ℕ → Result (Vec ℕ 
   Steps o (Err (e, disk)) = Refused of_read of_write of_sync (due_call (phase_of o.phase)) o.disk e disk
       ⊎ ((v : Vec ℕ Global) × Done of_read of_write of_sync (due_call (phase_of o.phase)) o.disk v disk
       × (((e ≡ OutOfMemory) × TakesMemory (phase_of o.phase)) ⊎ (after_opening_call o.nodes o.node v.items (phase_of o.phase) ≡ Stops e)))
+
+-- where an opening ends, a snapshot of the next epoch can hold the promise
+abbrev pub MaySnap : {D : Type 0} → code_2.Progress D → Type 0
+MaySnap (progress.More next) = Unit {0}
+MaySnap (progress.Done journal promise number) = IsSnapshot (record { node = journal.node; nodes = journal.nodes; epoch = journal.epoch + 1; next = number; entries = promise })

@@ -15,6 +15,8 @@ use Rattle.rr_journal.specs.declared.opening.Next as code_2
 use Rattle.rr_journal.specs.declared.opening.Next.TheVariants as next
 use Rattle.rr_journal.specs.declared.opening.Progress as code_3
 use Rattle.rr_journal.specs.declared.opening.Progress.TheVariants as progress
+use Rattle.rr_journal.specs.declared.stage.Stage.{Stage}
+use Rattle.rr_journal.specs.declared.stage.Stage.TheVariants as due
 use Rattle.rr_journal.specs.Calls.{Call, Read, Write, Sync, after_call, frame_bytes, must_close}
 use Rattle.rr_journal.specs.Image.{Unformatted, Active, found}
 use Rattle.rr_journal.specs.Journals.{Holds}
@@ -75,17 +77,21 @@ pub record Closes (moment : Images → Areas) (n p : ℕ) (facts : List Fact) (b
 abbrev pub gate_written : Images → Areas
 gate_written start = after_call (Write First 0 (0 ∷ [])) (restarted start)
 
+-- both areas in a stage of formatting
+abbrev pub IsFormatting : ℕ → ℕ → List Fact → Stage → Areas → Type 0
+IsFormatting n p facts due.Closing both = Closes restarted n p facts both
+IsFormatting n p facts due.SettlingClosed both = Closes gate_written n p facts both
+IsFormatting n p facts due.WritingBody both = Formats body_due n p facts both
+IsFormatting n p facts due.SettlingBody both = Formats body_out n p facts both
+IsFormatting n p facts due.OpeningGate both = Formats body_safe n p facts both
+IsFormatting n p facts due.SettlingGate both = Formats gate_set n p facts both
+
 -- an opening in this phase, of a disk that holds these facts
 abbrev pub OpensWith : ℕ → ℕ → List Fact → code.Phase → Areas → Type 0
 OpensWith n p facts at.Settling both = Rests n p facts (synced both)
 OpensWith n p facts at.ReadingFirst both = Rests n p facts both
 OpensWith n p facts (at.ReadingSecond first) both = (rests : Rests n p facts both) × (first.items ≡ rests.start.of_first)
-OpensWith n p facts (at.Closing body) both = (body.items ≡ (formatting n p).body) × Closes restarted n p facts both
-OpensWith n p facts (at.SettlingClosed body) both = (body.items ≡ (formatting n p).body) × Closes gate_written n p facts both
-OpensWith n p facts (at.WritingBody body) both = (body.items ≡ (formatting n p).body) × Formats body_due n p facts both
-OpensWith n p facts at.SettlingBody both = Formats body_out n p facts both
-OpensWith n p facts at.OpeningGate both = Formats body_safe n p facts both
-OpensWith n p facts at.SettlingGate both = Formats gate_set n p facts both
+OpensWith n p facts (at.Formatting stage body) both = (body.items ≡ (formatting n p).body) × IsFormatting n p facts stage both
 
 -- what comes behind a device call of such an opening: such a phase, or a content of the facts
 abbrev pub GoesOnWith : ℕ → ℕ → List Fact → code_2.Next → Areas → Type 0

@@ -1,5 +1,5 @@
 -- The phases of the code, and what a step of an opening answers.
-use Rattle.std.specs.Prelude.{◌≡◌, ◌⊎◌, List, [], ◌∷◌, Result, Ok, Err}
+use Rattle.std.specs.Prelude.{◌≡◌, ◌⊎◌, Result, Ok, Err}
 use Rattle.rr_types.specs.declared.refusal.Refusal.{Refusal}
 use Rattle.rr_types.specs.declared.refusal.Refusal.TheVariants.{OutOfMemory}
 use Rattle.rr_disk.specs.declared.area.Area.TheVariants.{First}
@@ -7,24 +7,15 @@ use Rattle.rr_journal.specs.declared.opening.Phase as code
 use Rattle.rr_journal.specs.declared.opening.Phase.TheVariants as at
 use Rattle.rr_journal.specs.declared.opening.Next as next
 use Rattle.rr_journal.specs.declared.opening.Next.TheVariants as next_is
-use Rattle.rr_journal.specs.Calls.{Call, Write, Sync}
 use Rattle.rr_journal.specs.Openings.{Phase, Settling, ReadingFirst, ReadingSecond, Formatting, After, Goes, Opens, Stops}
-
--- the device calls behind the writing of the body
-abbrev pub behind_body : List Call
-behind_body = Sync ∷ Write First 0 (165 ∷ []) ∷ Sync ∷ []
+use Rattle.rr_journal.specs.Stages.{calls_from}
 
 -- a phase of the code, as contracts see it
 abbrev pub phase_of : code.Phase → Phase
 phase_of at.Settling = Settling
 phase_of at.ReadingFirst = ReadingFirst
 phase_of (at.ReadingSecond first) = ReadingSecond first.items
-phase_of (at.Closing body) = Formatting (Write First 0 (0 ∷ []) ∷ Sync ∷ Write First 1 body.items ∷ behind_body)
-phase_of (at.SettlingClosed body) = Formatting (Sync ∷ Write First 1 body.items ∷ behind_body)
-phase_of (at.WritingBody body) = Formatting (Write First 1 body.items ∷ behind_body)
-phase_of at.SettlingBody = Formatting behind_body
-phase_of at.OpeningGate = Formatting (Write First 0 (165 ∷ []) ∷ Sync ∷ [])
-phase_of at.SettlingGate = Formatting (Sync ∷ [])
+phase_of (at.Formatting stage body) = Formatting (calls_from First body.items stage)
 
 -- what is found by the reads takes memory; nothing else behind a device call does
 abbrev pub TakesMemory : Phase → Type 0

@@ -7,11 +7,13 @@ mod image;
 mod journal;
 mod opening;
 mod promised;
+mod stage;
 
 pub use content::{Content, Halt, OPEN_GATE, frame_behind, read_groups};
 pub use image::{Image, read_image};
 pub use journal::{Journal, frame};
 pub use opening::{Opening, Progress};
+pub use stage::Stage;
 
 #[cfg(test)]
 mod sweeps;

@@ -1,8 +1,9 @@
 //! The opening of a journal, one device call a step.
 
-ghost use Rattle.std.specs.Prelude.{◌≡◌, ◌≢◌, ◌⊎◌, ◌+◌, ◌<◌, ◌≤◌, ◌^◌, [], List, length, Some, Ok, Err, OnOk, OnErr, IfOk, IfErr};
+ghost use Rattle.std.specs.Prelude.{◌≡◌, ◌≢◌, ◌⊎◌, ℕ, ◌+◌, ◌<◌, ◌≤◌, ◌^◌, [], List, length, Some, Ok, Err, OnOk, OnErr, IfOk, IfErr};
 ghost use Rattle.rr_types.specs.declared.fact.Fact.{Fact};
 ghost use Rattle.rr_types.specs.declared.refusal.Refusal.TheVariants.{OutOfMemory, Device};
+ghost use Rattle.rr_disk.specs.declared.area.Area.TheVariants.{First};
 ghost use Rattle.rr_disk.specs.Areas.{Areas};
 ghost use Rattle.rr_disk.specs.Counts.{counted, Grew};
 ghost use Rattle.rr_disk.specs.Failing.{FailingRead, FailingWrite, FailingSync};
@@ -10,17 +11,20 @@ ghost use Rattle.rr_frame.specs.SnapshotFormat.{snapshot_bytes, IsLawfulSnapshot
 ghost use Rattle.rr_journal.specs.Calls.{must_close, frame_bytes, after_call};
 ghost use Rattle.rr_journal.specs.CrashedDisks.{MayStand, EachHoldsSome, SomeHolds, IsOpenWithOneOf, IsReading, AddsNone, AddsBlankAlone};
 ghost use Rattle.rr_journal.specs.Image.{Unformatted, found};
-ghost use Rattle.rr_journal.specs.Openings.{Settling, ReadingSecond, Done, Refused, due_call, after_found, after_opening_call};
+ghost use Rattle.rr_journal.specs.Openings.{Settling, ReadingSecond, Formatting, Done, Refused, due_call, after_found, after_opening_call};
 ghost use Rattle.rr_journal.specs.Phases.{phase_of, Follows};
 ghost use Rattle.rr_journal.specs.OpeningCourse.{calls_left, found_from, calls_from, EndsBy, StaysOnCourse, IsRefused, IsUntouched, IsAsBefore, IsDone};
-ghost use Rattle.rr_journal.specs.OpeningSteps.{Steps};
-ghost use Rattle.rr_journal.specs.OpeningTable.{IsReadBy, IsLeftBy, Rests, contents, OpensWith, GoesOnWith, ComesTo, IsKept, disk_after};
+ghost use Rattle.rr_journal.specs.OpeningSteps.{Steps, MaySnap};
+ghost use Rattle.rr_journal.specs.OpeningTable.{IsReadBy, IsLeftBy, Rests, contents, formatting, IsFormatting, OpensWith, GoesOnWith, ComesTo, IsKept, disk_after};
 ghost use Rattle.rr_journal.specs.OpenDisks.{IsOpenWith, IsReady, disk_behind};
 ghost use Rattle.rr_journal.specs.Journals.{Holds};
+ghost use Rattle.rr_journal.specs.Stages.{calls_from as stage_calls};
 ghost use Rattle.rr_journal.specs.OtherAreas.{front_beside, KnowsFronts, KnowsRead, KnowsOther, IsOtherKnown};
 
+use crate::content::OPEN_GATE;
 use crate::image::{Image, read_image};
 use crate::journal::{Journal, frame};
+use crate::stage::Stage;
 use rr_disk::{Area, Disk, FailingDisk};
 use rr_frame::{Snapshot, encode_snapshot};
 use rr_types::{NodeId, Nodes, Promise, Refusal};
@@ -29,22 +33,15 @@ use std::alloc::Global;
 /// The place of the last gate of a freshly formatted area: behind a snapshot of 23 bytes.
 const FIRST_GATE: u64 = 28;
 
-/// An open gate.
-const OPEN_GATE: u8 = 0xA5;
-
 /// How far an opening has come: the device call that is due.
 #[derive(Debug, Drop)]
 enum Phase {
     Settling,
     ReadingFirst,
+    /// With the bytes of area 0.
     ReadingSecond(Vec<u8>),
-    /// No area is formatted; the first gate is closed before anything stands behind it.
-    Closing(Vec<u8>),
-    SettlingClosed(Vec<u8>),
-    WritingBody(Vec<u8>),
-    SettlingBody,
-    OpeningGate,
-    SettlingGate,
+    /// No area is formatted: this is written behind the first gate of area 0.
+    Formatting(Stage, Vec<u8>),
 }
 
 /// Whether each area has to be closed before it is written anew, as far as an opening has read them.
@@ -121,9 +118,10 @@ impl<D: Disk> Opening<D> {
         disk
     }
 
-    /// Makes the next device call. A refused opening hands its disk back.
+    /// Makes the next device call, where the node is one of its nodes. A refused opening hands its disk back.
     /// Errors: `OutOfMemory`, `Device`; `Damaged`, of a disk that holds no facts.
     pub fn step(self, alloc: Global) -> Result<Progress<D>, (Refusal, D)>
+        requires { self.node < self.nodes }
         ensures exact { Steps D.read_gives D.write_gives D.sync_gives self result }
         ensures call { D.calls (disk_after result) ≡ counted (D.calls self.disk) }
         ensures faults { D.faults self.disk ≤ D.faults (disk_after result) }
@@ -139,6 +137,7 @@ impl<D: Disk> Opening<D> {
         ensures kept { D.tells self.disk → (facts : List Fact) → OpensWith self.nodes self.node facts self.phase (D.areas self.disk)
             → IsKept (Holds self.nodes self.node) facts (D.areas self.disk) (D.areas (disk_after result)) }
         ensures fronts { D.tells self.disk → KnowsFronts (phase_of self.phase) self.fronts (D.areas self.disk) → IfOk result (λ progress. KnowsOther D.areas progress) }
+        ensures snapshot { IfOk result (λ progress. MaySnap progress) }
     {
         let Opening {
             mut disk,
@@ -178,6 +177,7 @@ impl<D: Disk> Opening<D> {
     /// number of the next fact. A refused opening hands its disk back.
     /// Errors: as of `step`.
     pub fn finish(self, alloc: Global) -> Result<(Journal<D>, Promise, u64), (Refusal, D)>
+        requires { self.node < self.nodes }
         ensures calls { D.calls (disk_behind result) ≤ D.calls self.disk + calls_left (phase_of self.phase) }
         ensures faults { D.faults self.disk ≤ D.faults (disk_behind result) }
         ensures cause { IfErr result (λ r. IsRefused D.faults self.disk r) }
@@ -210,8 +210,8 @@ impl<D: Disk> Opening<D> {
 }
 
 impl<D: Disk> Journal<D> {
-    /// Opens a node's disk by all steps of an `Opening`: the journal, the promise of the facts that it holds,
-    /// and the number of the next fact. A refused opening hands its disk back.
+    /// Opens the disk of one of the nodes by all steps of an `Opening`: the journal, the promise of the facts that
+    /// it holds, and the number of the next fact. A refused opening hands its disk back.
     /// Errors: `OutOfMemory`, `Device`; `Damaged`, of a disk that holds no facts.
     pub fn open(
         alloc: Global,
@@ -219,6 +219,7 @@ impl<D: Disk> Journal<D> {
         node: NodeId,
         disk: D,
     ) -> Result<(Journal<D>, Promise, u64), (Refusal, D)>
+        requires { node < nodes }
         ensures calls { D.calls (disk_behind result) ≤ D.calls disk + 9 }
         ensures faults { D.faults disk ≤ D.faults (disk_behind result) }
         ensures cause { IfErr result (λ r. IsRefused D.faults disk r) }
@@ -282,13 +283,32 @@ fn call<D: Disk>(alloc: Global, disk: &mut D, phase: &Phase) -> Result<Vec<u8>, 
     ensures left { D.tells disk.old → OnErr result (IsLeftBy (due_call (phase_of phase.now)) (D.areas disk.old) (D.areas disk.new)) }
 {
     match phase {
+        Phase::Settling => done(alloc, disk.sync()),
         Phase::ReadingFirst => disk.read(alloc, Area::First, 0, u64::MAX),
         Phase::ReadingSecond(_) => disk.read(alloc, Area::Second, 0, u64::MAX),
-        Phase::Closing(_) => done(alloc, disk.write_at(Area::First, 0, &[0])),
-        Phase::WritingBody(body) => done(alloc, disk.write_at(Area::First, 1, body)),
-        Phase::OpeningGate => done(alloc, disk.write_at(Area::First, 0, &[OPEN_GATE])),
-        Phase::Settling | Phase::SettlingClosed(_) | Phase::SettlingBody | Phase::SettlingGate =>
-            done(alloc, disk.sync()),
+        Phase::Formatting(stage, body) => format(alloc, disk, *stage, body),
+    }
+}
+
+/// Makes the device call of formatting that is due.
+fn format<D: Disk>(
+    alloc: Global,
+    disk: &mut D,
+    stage: Stage,
+    body: &[u8],
+) -> Result<Vec<u8>, Refusal>
+    ensures done { IfOk result (λ v. Done D.read_gives D.write_gives D.sync_gives (due_call (Formatting (stage_calls First body.now stage))) disk.old v disk.new) }
+    ensures refused { IfErr result (λ e. Refused D.read_gives D.write_gives D.sync_gives (due_call (Formatting (stage_calls First body.now stage))) disk.old e disk.new) }
+    ensures cause { IfErr result (λ e. (e ≡ Device) × Grew (D.faults disk.old) (D.faults disk.new)) }
+    ensures counts { (D.calls disk.new ≡ counted (D.calls disk.old)) × (D.faults disk.old ≤ D.faults disk.new) }
+    ensures tells { D.tells disk.old → D.tells disk.new }
+    ensures areas { D.tells disk.old → OnOk result (D.areas disk.new ≡ after_call (due_call (Formatting (stage_calls First body.now stage))) (D.areas disk.old)) }
+    ensures read { D.tells disk.old → IfOk result (λ v. IsReadBy (due_call (Formatting (stage_calls First body.now stage))) (D.areas disk.old) v.items) }
+    ensures left { D.tells disk.old → OnErr result (IsLeftBy (due_call (Formatting (stage_calls First body.now stage))) (D.areas disk.old) (D.areas disk.new)) }
+{
+    match stage.call(disk, Area::First, body) {
+        Ok(()) => Ok(Vec::new(alloc)),
+        Err(refusal) => Err(refusal),
     }
 }
 
@@ -328,6 +348,7 @@ fn go_on(
     phase: Phase,
     read: Vec<u8>,
 ) -> Result<Next, Refusal>
+    requires { node < nodes }
     ensures exact { Follows result (phase_of phase) (after_opening_call nodes node read.items (phase_of phase)) }
     ensures table { (facts : List Fact) (old new : Areas) → OpensWith nodes node facts phase old → IsReadBy (due_call (phase_of phase)) old read.items
         → new ≡ after_call (due_call (phase_of phase)) old → IfOk result (λ next. GoesOnWith nodes node facts next new) }
@@ -338,18 +359,19 @@ fn go_on(
         Phase::Settling => Ok(Next::Phase(Phase::ReadingFirst)),
         Phase::ReadingFirst => Ok(Next::Phase(Phase::ReadingSecond(read))),
         Phase::ReadingSecond(first) => with_areas(alloc, nodes, node, &first, &read),
-        Phase::Closing(body) => Ok(Next::Phase(Phase::SettlingClosed(body))),
-        Phase::SettlingClosed(body) => Ok(Next::Phase(Phase::WritingBody(body))),
-        Phase::WritingBody(_) => Ok(Next::Phase(Phase::SettlingBody)),
-        Phase::SettlingBody => Ok(Next::Phase(Phase::OpeningGate)),
-        Phase::OpeningGate => Ok(Next::Phase(Phase::SettlingGate)),
-        Phase::SettlingGate => Ok(Next::Open(
-            Area::First,
-            1,
-            FIRST_GATE,
-            Promise::new(Vec::new(alloc)),
-            0,
-        )),
+        Phase::Formatting(stage, body) => Ok(format_on(alloc, stage, body)),
+    }
+}
+
+/// What comes behind a device call of formatting that succeeded.
+fn format_on(alloc: Global, stage: Stage, body: Vec<u8>) -> Next
+    ensures exact { (n p : ℕ) (read : List ℕ) → Follows (Ok result) (Formatting (stage_calls First body.items stage)) (after_opening_call n p read (Formatting (stage_calls First body.items stage))) }
+    ensures table { (n p : ℕ) (facts : List Fact) (old new : Areas) → body.items ≡ (formatting n p).body → IsFormatting n p facts stage old
+        → new ≡ after_call (due_call (Formatting (stage_calls First body.items stage))) old → GoesOnWith n p facts result new }
+{
+    match stage.next() {
+        Some(stage) => Next::Phase(Phase::Formatting(stage, body)),
+        None => Next::Open(Area::First, 1, FIRST_GATE, Promise::new(Vec::new(alloc)), 0),
     }
 }
 
@@ -361,6 +383,7 @@ fn with_areas(
     first: &[u8],
     second: &[u8],
 ) -> Result<Next, Refusal>
+    requires { node < nodes }
     ensures exact { Follows result (ReadingSecond first.now) (after_found nodes node first.now (found nodes node first.now second.now)) }
     ensures table { (facts : List Fact) (both : Areas) (rests : Rests nodes node facts both) → first.now ≡ rests.start.of_first → second.now ≡ rests.start.of_second
         → IfOk result (λ next. GoesOnWith nodes node facts next both) }
@@ -377,11 +400,8 @@ fn with_areas(
         }
         Ok(Image::Unformatted) => {
             let body = first_body(alloc, nodes, node)?;
-            if must_close(first) {
-                Ok(Next::Phase(Phase::Closing(body)))
-            } else {
-                Ok(Next::Phase(Phase::WritingBody(body)))
-            }
+            let stage = Stage::first(must_close(first));
+            Ok(Next::Phase(Phase::Formatting(stage, body)))
         }
     }
 }
@@ -398,6 +418,7 @@ fn must_close(area: &[u8]) -> bool
 
 /// The frame of an empty snapshot of epoch 1, behind its gate.
 fn first_body(alloc: Global, nodes: Nodes, node: NodeId) -> Result<Vec<u8>, Refusal>
+    requires { node < nodes }
     ensures ok { IfOk result (λ body. body.items ≡ frame_bytes (snapshot_bytes (record { node = node; nodes = nodes; epoch = 1; next = 0; entries = [] }))) }
     ensures lawful { OnOk result (IsLawfulSnapshot (record { node = node; nodes = nodes; epoch = 1; next = 0; entries = [] })) }
     ensures err { IfErr result (λ e. e ≡ OutOfMemory) }
@@ -407,6 +428,6 @@ fn first_body(alloc: Global, nodes: Nodes, node: NodeId) -> Result<Vec<u8>, Refu
             let payload = encode_snapshot(alloc, &snapshot)?;
             frame(alloc, payload)
         }
-        Err(_) => Err(Refusal::OutOfMemory),
+        Err(_) => unreachable!(),
     }
 }

@@ -3,7 +3,7 @@
 //! One run decided one command; the other then switched to a snapshot, which stands in area 1.
 
 use super::*;
-use crate::tests::{AREA, opened};
+use crate::tests::{AREA, more, opened};
 use rr_disk::{Area, Disk, MemDisk};
 use rr_frame::{Reader, decode_group, decode_snapshot, encode_group, encode_snapshot};
 use rr_types::{
@@ -159,11 +159,7 @@ fn an_unformatted_area_is_formatted_anew(rt: HostRuntime) -> Result<(), Fail> {
     let node = NodeId::new(nodes, 0).ok_or("a node")?;
     let mut opening = Opening::start(nodes, node, disk);
     for _ in 0..6 {
-        match opening.step(alloc) {
-            Ok(Progress::More(next)) => opening = next,
-            Ok(Progress::Done(_, _, _)) => return Err("an opening of seven calls".into()),
-            Err((refusal, _)) => return Err(refusal.into()),
-        }
+        opening = more(alloc, opening)?;
     }
     let mut disk = opening.into_disk();
     let bytes = disk.read(alloc, Area::First, 0, u64::MAX)?;

@@ -1,5 +1,7 @@
 //! Openings of areas and of disks, with each answer by hand.
 
+ghost use Rattle.std.specs.Prelude.{◌<◌, IfOk};
+
 use super::*;
 use rr_disk::{Area, Disk, FailingDisk, MemDisk};
 use rr_types::{
@@ -174,6 +176,18 @@ fn a_disk_is_opened_twice(rt: HostRuntime) -> Result<(), Fail> {
     Ok(())
 }
 
+/// The opening behind a device call that isn't its last.
+pub fn more<D: Disk + Drop>(alloc: Global, opening: Opening<D>) -> Result<Opening<D>, Fail>
+    requires { opening.node < opening.nodes }
+    ensures { IfOk result (λ next. next.node < next.nodes) }
+{
+    match opening.step(alloc) {
+        Ok(Progress::More(next)) => Ok(next),
+        Ok(Progress::Done(_, _, _)) => Err("an opening that goes on".into()),
+        Err((refusal, _)) => Err(refusal.into()),
+    }
+}
+
 /// A refused opening hands the disk back, which can be opened then: an empty one by nine device calls.
 #[test]
 fn a_refused_opening_is_repeated(rt: HostRuntime) -> Result<(), Fail> {
@@ -189,11 +203,7 @@ fn a_refused_opening_is_repeated(rt: HostRuntime) -> Result<(), Fail> {
     assert_eq!(rt; disk.below().len(Area::First), 0);
     let mut opening = Opening::start(nodes, node, disk);
     for _ in 0..8 {
-        match opening.step(alloc) {
-            Ok(Progress::More(next)) => opening = next,
-            Ok(Progress::Done(_, _, _)) => return Err("an opening of nine calls".into()),
-            Err((refusal, _)) => return Err(refusal.into()),
-        }
+        opening = more(alloc, opening)?;
     }
     let (journal, promise, number) = opening.finish(alloc).map_err(|refused| refused.0)?;
     assert_eq!(rt; (number, promise.entries().len()), (0, 0));

@@ -1,8 +1,8 @@
 //! What a node owes, in order.
 
-ghost use Rattle.std.specs.Prelude.{◌≡◌, ◌≤◌, ◌-◌, ◌++◌, take, [], ◌∷◌, None, Some, true, false, All, IsTrue, length, find, option_map, MatchOption, IfErr, OnOk, OnErr};
+ghost use Rattle.std.specs.Prelude.{◌≡◌, ◌≤◌, ◌-◌, ◌++◌, take, [], ◌∷◌, None, Some, true, false, All, IsTrue, length, find, option_map, MatchOption, IfSome, IfErr, OnOk, OnErr};
 ghost use Rattle.rr_model.specs.NodeStep.{may_leave};
-ghost use Rattle.rr_mark.specs.Marks.{is_free, without_first, IsOwn};
+ghost use Rattle.rr_mark.specs.Marks.{is_free, without_first, IsOwn, IsFreeOrBacked};
 
 use crate::cleared::{Cleared, Draft};
 use crate::mark::Mark;
@@ -31,13 +31,14 @@ impl Model for Outbox {
 }
 
 /// The oldest that may leave is taken.
-#[tactic(auto, using(crate::proofs::OutboxLemmas::find_more, crate::proofs::OutboxLemmas::find_here, crate::proofs::OutboxLemmas::without_more, crate::proofs::OutboxLemmas::without_here, crate::proofs::OutboxLemmas::find_end, crate::proofs::OutboxLemmas::own_at, crate::proofs::OutboxLemmas::own_without))]
+#[tactic(auto, using(crate::proofs::OutboxLemmas::find_more, crate::proofs::OutboxLemmas::find_here, crate::proofs::OutboxLemmas::without_more, crate::proofs::OutboxLemmas::without_here, crate::proofs::OutboxLemmas::find_end, crate::proofs::OutboxLemmas::own_at, crate::proofs::OutboxLemmas::own_without, crate::proofs::OutboxLemmas::backed_at))]
 fn take_leaving(owed: &mut VecDeque<Owed>, mark: &Mark) -> Option<Cleared>
     requires { All (IsOwn mark.now.node) owed.old.items }
     ensures own { All (IsOwn mark.now.node) owed.new.items }
     ensures taken { MatchOption result
         ((find (may_leave mark.now.end) owed.old.items ≡ None) × (owed.new.items ≡ owed.old.items))
         (λ m. (option_map (λ o. o.message) (find (may_leave mark.now.end) owed.old.items) ≡ Some m) × (owed.new.items ≡ without_first (may_leave mark.now.end) owed.old.items)) }
+    ensures backed { IfSome result (IsFreeOrBacked mark.now owed.old.items) }
 {
     for at in 0..owed.len() {
         let first = owed[at];
@@ -100,30 +101,7 @@ impl Outbox {
         }
     }
 
-    /// Whose it is.
-    pub fn node(&self) -> NodeId
-        ensures { result ≡ self.now.node }
-    {
-        self.node
-    }
-
-    /// The node owes another a body, which the fact with this number backs; without one it is free.
-    pub fn owe(&mut self, to: NodeId, body: &Body, backing: Option<u128>) -> Result<(), Refusal>
-        requires { backing ≡ None → IsTrue (is_free body.now) }
-        ensures ok { OnOk result (self.new ≡ record self.old { owed = self.old.owed ++ record { message = record { from = self.old.node; to = to; body = body.now }; backing = backing } ∷ [] }) }
-        ensures kept { OnErr result (self.new ≡ self.old) }
-        ensures err { IfErr result (λ e. e ≡ Refusal.OutOfMemory) }
-    {
-        let message = Message {
-            from: self.node,
-            to,
-            body: *body,
-        };
-        self.owed.push_back(Owed { message, backing })?;
-        Ok(())
-    }
-
-    /// The node owes these messages too, all of them or, after an error, none.
+    /// The node owes these messages, all of them or, after an error, none.
     #[tactic(auto, using(crate::proofs::OutboxLemmas::own_both))]
     pub fn owe_all(&mut self, more: &[Owed]) -> Result<(), Refusal>
         requires { All (IsOwn self.old.node) more.now }
@@ -143,20 +121,15 @@ impl Outbox {
         self.owed.truncate(self.owed.len() - count);
     }
 
-    /// Takes the oldest message that may leave by a mark of this node. It needs no memory.
+    /// Takes the oldest message that may leave by a mark of this node: it is free, or the mark covers the fact that
+    /// backs it. It needs no memory.
     pub fn take_leaving(&mut self, mark: &Mark) -> Option<Cleared>
         requires { mark.now.node ≡ self.old.node }
-        ensures { MatchOption result
+        ensures taken { MatchOption result
             ((find (may_leave mark.now.end) self.old.owed ≡ None) × (self.new ≡ self.old))
             (λ m. (option_map (λ o. o.message) (find (may_leave mark.now.end) self.old.owed) ≡ Some m) × (self.new ≡ record self.old { owed = without_first (may_leave mark.now.end) self.old.owed })) }
+        ensures backed { IfSome result (IsFreeOrBacked mark.now self.old.owed) }
     {
         take_leaving(&mut self.owed, mark)
-    }
-
-    /// How many messages are owed.
-    pub fn count(&self) -> usize
-        ensures { result ≡ length self.now.owed }
-    {
-        self.owed.len()
     }
 }

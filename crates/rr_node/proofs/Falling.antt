@@ -12,6 +12,7 @@ use Rattle.rr_model.proofs.NodeInWorld.{goes_down_in_world}
 use Rattle.rr_disk.specs.declared.area.Area.{Area}
 use Rattle.rr_disk.specs.declared.area.Area.TheVariants.{First}
 use Rattle.rr_disk.specs.Areas.{Extent, Areas, Torn, extent_of, replaced, at_rest}
+use Rattle.rr_disk.specs.Counts.{counted}
 use Rattle.rr_disk.specs.Crash.{Images, IsCrashImage, restarted, crash_images}
 use Rattle.rr_frame.specs.GroupFormat.{group_bytes, IsLawfulGroup}
 use Rattle.rr_frame.specs.SnapshotFormat.{snapshot_bytes, IsLawfulSnapshot}
@@ -24,9 +25,9 @@ use Rattle.rr_journal.specs.OpeningTable.{IsLeftBy, formatting, first_snapshot}
 use Rattle.rr_journal.proofs.FlushLaws.{length-frame}
 use Rattle.rr_journal.proofs.OpeningLaws.{either_held, closing_images}
 use Rattle.rr_journal.proofs.SnapshotSize.{length-snapshot_bytes}
-use Rattle.rr_slots.specs.declared.switch.Stage as slots
-use Rattle.rr_slots.specs.declared.switch.Stage.TheVariants as step
-use Rattle.rr_slots.specs.Switches.{call_at, calls_from}
+use Rattle.rr_journal.specs.declared.stage.Stage as slots
+use Rattle.rr_journal.specs.declared.stage.Stage.TheVariants as step
+use Rattle.rr_journal.specs.Stages.{call_at, calls_from}
 use Rattle.rr_slots.specs.SwitchTable as table
 use Rattle.rr_slots.specs.SwitchTable.{IsAtStage}
 use Rattle.rr_slots.proofs.SwitchLaws.{held_failed}
@@ -42,9 +43,9 @@ use Rattle.rr_node.proofs.Holding.{seat_holds, stage_holds}
 use Rattle.rr_node.proofs.Spelling.{body_fits, first_body_fits, snapped_body_fits}
 use Rattle.rr_node.proofs.Going.{IsQuiet, stays, falls, given}
 
--- a seat of these parts
-abbrev pub seated : ℕ → ℕ → Areas → Doing → Seat
-seated n p areas doing = record { nodes = n; node = p; doing = doing; areas = areas }
+-- a seat of these parts, behind k device calls
+abbrev pub seated : ℕ → ℕ → ℕ → Areas → Doing → Seat
+seated n p k areas doing = record { nodes = n; node = p; doing = doing; areas = areas; calls = k }
 
 -- a node that does nothing
 pub data IsIdle : Doing → Type 0 where
@@ -55,24 +56,24 @@ pub idle_does : (n p : ℕ) (w : World) (both : Areas) (doing : Doing) → IsIdl
 idle_does n p w both doing stopped down each = (down, each)
 idle_does n p w both doing faulted down each = (down, each)
 
-pub idle_seat : (n p m q : ℕ) (w : World) (areas : Areas) (doing : Doing) → IsIdle doing → p < n → m ≡ n → q ≡ p → AreInOrder areas → IsDown p w → EachHoldsSome n p w areas → InStep n p (seated m q areas doing) w
-idle_seat n p m q w areas doing idle exists nodes node order down each = record { exists = exists; nodes = nodes; node = node; in_order = order; doing = idle_does n p w areas doing idle down each }
+pub idle_seat : (n p m q k : ℕ) (w : World) (areas : Areas) (doing : Doing) → IsIdle doing → p < n → m ≡ n → q ≡ p → AreInOrder areas → IsDown p w → EachHoldsSome n p w areas → InStep n p (seated m q k areas doing) w
+idle_seat n p m q k w areas doing idle exists nodes node order down each = record { exists = exists; nodes = nodes; node = node; in_order = order; doing = idle_does n p w areas doing idle down each }
 
 -- ---- going down
 
 -- a node that is up goes down, and its disk is left so
-pub serving_falls : (n p m q : ℕ) (May : List Step → Type 0) (w : World) (answer : Result Outcome Refusal) (old areas : Areas) (s : NodeState) (journal : Journaled) (flush : Flush) (doing : Doing) → May (GoDown p ∷ []) → IsIdle doing
-    → m ≡ n → q ≡ p → IsServing n p w old s journal flush → AreInOrder areas → EachHoldsSome n p w areas → IsQuiet p answer → GoesOn n p May w answer (seated m q areas doing)
-serving_falls n p m q May w answer old areas s journal flush doing may idle nodes node serves order each quiet =
+pub serving_falls : (n p m q k : ℕ) (May : List Step → Type 0) (w : World) (answer : Result Outcome Refusal) (old areas : Areas) (s : NodeState) (journal : Journaled) (flush : Flush) (doing : Doing) → May (GoDown p ∷ []) → IsIdle doing
+    → m ≡ n → q ≡ p → IsServing n p w old s journal flush → AreInOrder areas → EachHoldsSome n p w areas → IsQuiet p answer → GoesOn n p May w answer (seated m q k areas doing)
+serving_falls n p m q k May w answer old areas s journal flush doing may idle nodes node serves order each quiet =
     let down = goes_down_in_world (is_settled flush) n p serves.facts serves.heard s w serves.in_world in
-    falls n p May w answer (seated m q areas doing) may down.0
-    (idle_seat n p m q (after_steps w (GoDown p ∷ [])) areas doing idle serves.in_world.exists nodes node order (record { down = down.1.down; heard = down.1.heard }) each) quiet
+    falls n p May w answer (seated m q k areas doing) may down.0
+    (idle_seat n p m q k (after_steps w (GoDown p ∷ [])) areas doing idle serves.in_world.exists nodes node order (record { down = down.1.down; heard = down.1.heard }) each) quiet
 
 -- one that is down stays so
-pub down_falls : (n p m q : ℕ) (May : List Step → Type 0) (w : World) (answer : Result Outcome Refusal) (areas : Areas) (doing : Doing) → May [] → IsIdle doing
-    → p < n → m ≡ n → q ≡ p → IsDown p w → AreInOrder areas → EachHoldsSome n p w areas → IsQuiet p answer → GoesOn n p May w answer (seated m q areas doing)
-down_falls n p m q May w answer areas doing may idle exists nodes node down order each quiet =
-    stays n p May w answer (seated m q areas doing) may (idle_seat n p m q w areas doing idle exists nodes node order down each) quiet
+pub down_falls : (n p m q k : ℕ) (May : List Step → Type 0) (w : World) (answer : Result Outcome Refusal) (areas : Areas) (doing : Doing) → May [] → IsIdle doing
+    → p < n → m ≡ n → q ≡ p → IsDown p w → AreInOrder areas → EachHoldsSome n p w areas → IsQuiet p answer → GoesOn n p May w answer (seated m q k areas doing)
+down_falls n p m q k May w answer areas doing may idle exists nodes node down order each quiet =
+    stays n p May w answer (seated m q k areas doing) may (idle_seat n p m q k w areas doing idle exists nodes node order down each) quiet
 
 -- ---- crashes
 
@@ -86,16 +87,16 @@ opening_down n p w both opening.ReadingFirst opens = opens.0
 opening_down n p w both (opening.ReadingSecond first) opens = opens.0
 opening_down n p w both (opening.Formatting calls) opens = opens.0
 
-crash_by : (n p m q : ℕ) (w : World) (old areas : Areas) (doing : Doing) → p < n → m ≡ n → q ≡ p → DoesSo n p w old doing → AreInOrder areas → EachHoldsSome n p w areas → GoesOn n p (MayFall p) w (Ok Quiet) (seated m q areas Stopped)
-crash_by n p m q w old areas Stopped exists nodes node does order each = down_falls n p m q (MayFall p) w (Ok Quiet) areas Stopped (inl refl) stopped exists nodes node does.0 order each (record { unsent = refl; untold = refl })
-crash_by n p m q w old areas Faulted exists nodes node does order each = down_falls n p m q (MayFall p) w (Ok Quiet) areas Stopped (inl refl) stopped exists nodes node does.0 order each (record { unsent = refl; untold = refl })
-crash_by n p m q w old areas (Opening phase) exists nodes node does order each = down_falls n p m q (MayFall p) w (Ok Quiet) areas Stopped (inl refl) stopped exists nodes node (opening_down n p w old phase does) order each (record { unsent = refl; untold = refl })
-crash_by n p m q w old areas (Serving s journal flush) exists nodes node does order each = serving_falls n p m q (MayFall p) w (Ok Quiet) old areas s journal flush Stopped (inr refl) stopped nodes node does order each (record { unsent = refl; untold = refl })
+crash_by : (n p m q k : ℕ) (w : World) (old areas : Areas) (doing : Doing) → p < n → m ≡ n → q ≡ p → DoesSo n p w old doing → AreInOrder areas → EachHoldsSome n p w areas → GoesOn n p (MayFall p) w (Ok Quiet) (seated m q k areas Stopped)
+crash_by n p m q k w old areas Stopped exists nodes node does order each = down_falls n p m q k (MayFall p) w (Ok Quiet) areas Stopped (inl refl) stopped exists nodes node does.0 order each (record { unsent = refl; untold = refl })
+crash_by n p m q k w old areas Faulted exists nodes node does order each = down_falls n p m q k (MayFall p) w (Ok Quiet) areas Stopped (inl refl) stopped exists nodes node does.0 order each (record { unsent = refl; untold = refl })
+crash_by n p m q k w old areas (Opening phase) exists nodes node does order each = down_falls n p m q k (MayFall p) w (Ok Quiet) areas Stopped (inl refl) stopped exists nodes node (opening_down n p w old phase does) order each (record { unsent = refl; untold = refl })
+crash_by n p m q k w old areas (Serving s journal flush) exists nodes node does order each = serving_falls n p m q k (MayFall p) w (Ok Quiet) old areas s journal flush Stopped (inr refl) stopped nodes node does order each (record { unsent = refl; untold = refl })
 
 pub crashes_in_step : (n p : ℕ) → CrashesInStep n p
 crashes_in_step n p cut_first cut_second fill seat w fit h =
     let images = crash_images cut_first cut_second fill seat.areas in
-    crash_by n p seat.nodes seat.node w seat.areas (restarted images) seat.doing h.exists h.nodes h.node h.doing (crash_in_order cut_first cut_second fill seat.areas fit h.in_order)
+    crash_by n p seat.nodes seat.node seat.calls w seat.areas (restarted images) seat.doing h.exists h.nodes h.node h.doing (crash_in_order cut_first cut_second fill seat.areas fit h.in_order)
     (crash_holds n p w seat.areas images (crash_image cut_first cut_second fill seat.areas fit h.in_order) (seat_holds n p seat w h))
 
 -- ---- failing device calls
@@ -243,26 +244,26 @@ module _ (leaves : Call → Areas → Areas) (fails : IsFailure leaves) (n p : �
       )
 
   -- the next device call of a node fails
-  fail_by : (m q : ℕ) (areas : Areas) (doing : Doing) → InStep n p (seated m q areas doing) w
-      → GoesOn n p (MayFall p) w (fail_doing leaves doing (seated m q areas doing)).0 (fail_doing leaves doing (seated m q areas doing)).1
-  fail_by m q areas Stopped h = stays n p (MayFall p) w (Err because.Down) (seated m q areas Stopped) (inl refl) h (record { unsent = refl; untold = refl })
-  fail_by m q areas Faulted h = stays n p (MayFall p) w (Err because.Failed) (seated m q areas Faulted) (inl refl) h (record { unsent = refl; untold = refl })
-  fail_by m q areas (Opening phase) h =
-      let left = opening_fails areas phase h.in_order h.doing (seat_holds n p (seated m q areas (Opening phase)) w h) in
-      down_falls n p m q (MayFall p) w (Err because.Device) (leaves (due_call phase) areas) Faulted (inl refl) faulted h.exists h.nodes h.node (opening_down n p w areas phase h.doing) left.0 left.1 (record { unsent = refl; untold = refl })
-  fail_by m q areas (Serving s journal Resting) h = stays n p (MayFall p) w (Ok Quiet) (seated m q areas (Serving s journal Resting)) (inl refl) h (record { unsent = refl; untold = refl })
-  fail_by m q areas (Serving s journal Flushed) h = stays n p (MayFall p) w (Ok Quiet) (seated m q areas (Serving s journal Flushed)) (inl refl) h (record { unsent = refl; untold = refl })
-  fail_by m q areas (Serving s journal (Switching [])) h = stays n p (MayFall p) w (Ok Quiet) (seated m q areas (Serving s journal (Switching []))) (inl refl) h (record { unsent = refl; untold = refl })
-  fail_by m q areas (Serving s journal (Switching (call ∷ calls))) h =
+  fail_by : (m q k : ℕ) (areas : Areas) (doing : Doing) → InStep n p (seated m q k areas doing) w
+      → GoesOn n p (MayFall p) w (fail_doing leaves doing (seated m q k areas doing)).0 (fail_doing leaves doing (seated m q k areas doing)).1
+  fail_by m q k areas Stopped h = stays n p (MayFall p) w (Err because.Down) (seated m q k areas Stopped) (inl refl) h (record { unsent = refl; untold = refl })
+  fail_by m q k areas Faulted h = stays n p (MayFall p) w (Err because.Failed) (seated m q k areas Faulted) (inl refl) h (record { unsent = refl; untold = refl })
+  fail_by m q k areas (Opening phase) h =
+      let left = opening_fails areas phase h.in_order h.doing (seat_holds n p (seated m q k areas (Opening phase)) w h) in
+      down_falls n p m q (counted k) (MayFall p) w (Err because.Device) (leaves (due_call phase) areas) Faulted (inl refl) faulted h.exists h.nodes h.node (opening_down n p w areas phase h.doing) left.0 left.1 (record { unsent = refl; untold = refl })
+  fail_by m q k areas (Serving s journal Resting) h = stays n p (MayFall p) w (Ok Quiet) (seated m q k areas (Serving s journal Resting)) (inl refl) h (record { unsent = refl; untold = refl })
+  fail_by m q k areas (Serving s journal Flushed) h = stays n p (MayFall p) w (Ok Quiet) (seated m q k areas (Serving s journal Flushed)) (inl refl) h (record { unsent = refl; untold = refl })
+  fail_by m q k areas (Serving s journal (Switching [])) h = stays n p (MayFall p) w (Ok Quiet) (seated m q k areas (Serving s journal (Switching []))) (inl refl) h (record { unsent = refl; untold = refl })
+  fail_by m q k areas (Serving s journal (Switching (call ∷ calls))) h =
       let left = switch_fails areas s journal call calls h.in_order h.doing in
-      serving_falls n p m q (MayFall p) w (Err because.Device) areas (leaves call areas) s journal (Switching (call ∷ calls)) Faulted (inr refl) faulted h.nodes h.node h.doing left.0 left.1 (record { unsent = refl; untold = refl })
-  fail_by m q areas (Serving s journal (Writing [])) h = stays n p (MayFall p) w (Ok Quiet) (seated m q areas (Serving s journal (Writing []))) (inl refl) h (record { unsent = refl; untold = refl })
-  fail_by m q areas (Serving s journal (Writing (call ∷ calls))) h =
+      serving_falls n p m q (counted k) (MayFall p) w (Err because.Device) areas (leaves call areas) s journal (Switching (call ∷ calls)) Faulted (inr refl) faulted h.nodes h.node h.doing left.0 left.1 (record { unsent = refl; untold = refl })
+  fail_by m q k areas (Serving s journal (Writing [])) h = stays n p (MayFall p) w (Ok Quiet) (seated m q k areas (Serving s journal (Writing []))) (inl refl) h (record { unsent = refl; untold = refl })
+  fail_by m q k areas (Serving s journal (Writing (call ∷ calls))) h =
       let left = flush_fails areas s journal call calls h.in_order h.doing in
-      serving_falls n p m q (MayFall p) w (Err because.Device) areas (leaves call areas) s journal (Writing (call ∷ calls)) Faulted (inr refl) faulted h.nodes h.node h.doing left.0 left.1 (record { unsent = refl; untold = refl })
+      serving_falls n p m q (counted k) (MayFall p) w (Err because.Device) areas (leaves call areas) s journal (Writing (call ∷ calls)) Faulted (inr refl) faulted h.nodes h.node h.doing left.0 left.1 (record { unsent = refl; untold = refl })
 
 pub fails_in_step : (n p : ℕ) → FailsInStep n p
 fails_in_step n p fill seat next w answer fit h (inl is) =
-    given n p (MayFall p) w answer next (fail_doing (after_failing fill) seat.doing seat) is (fail_by (after_failing fill) (failure fill fit) n p w seat.nodes seat.node seat.areas seat.doing h)
+    given n p (MayFall p) w answer next (fail_doing (after_failing fill) seat.doing seat) is (fail_by (after_failing fill) (failure fill fit) n p w seat.nodes seat.node seat.calls seat.areas seat.doing h)
 fails_in_step n p fill seat next w answer fit h (inr is) =
-    given n p (MayFall p) w answer next (fail_doing after_starved seat.doing seat) is (fail_by after_starved starvation n p w seat.nodes seat.node seat.areas seat.doing h)
+    given n p (MayFall p) w answer next (fail_doing after_starved seat.doing seat) is (fail_by after_starved starvation n p w seat.nodes seat.node seat.calls seat.areas seat.doing h)

@@ -14,6 +14,7 @@ use Rattle.rr_model.specs.NodeInWorld.{IsInWorld, group_of}
 use Rattle.rr_model.proofs.NodeInWorld.{reached_in_world, reached_marks, settles_in_world}
 use Rattle.rr_model.proofs.NodeReached.{reached_still}
 use Rattle.rr_disk.specs.Areas.{Areas, synced}
+use Rattle.rr_disk.specs.Counts.{counted}
 use Rattle.rr_disk.specs.Crash.{Images}
 use Rattle.rr_frame.specs.GroupFormat.{group_bytes, IsLawfulGroup}
 use Rattle.rr_gate.specs.Flushes as gate
@@ -29,7 +30,8 @@ use Rattle.rr_node.specs.Seats.{Flush, Resting, Writing, Flushed, Switching, Jou
 use Rattle.rr_node.specs.Worlds.{Moment, BodyDue, BodyOut, BodySafe, GateSet, calls_at, areas_at, flush_of, AreInOrder, journal_at, IsServing, InStep}
 use Rattle.rr_node.specs.Runs.{MayBe, IsSpelt, GoesOn}
 use Rattle.rr_node.proofs.InOrder.{call_in_order}
-use Rattle.rr_node.proofs.Flushing.{runs_is, own_group, serial_kept, flush_grounded, flushed_over}
+use Rattle.rr_core.proofs.GroupLemmas.{runs_is}
+use Rattle.rr_node.proofs.Flushing.{own_group, serial_kept, flush_grounded, flushed_over}
 use Rattle.rr_node.proofs.FlushCalls.{call_of, call_small, goes_out, goes_safe, goes_set}
 use Rattle.rr_node.proofs.Going.{goes_quietly}
 use Rattle.rr_node.proofs.Falling.{seated, faulted, serving_falls, small_flush, starvation, flush_fails, switch_fails}
@@ -49,7 +51,7 @@ taken_with s journal seat empty fits =
     if empty then (Ok Quiet, seat)
     else (if fits then goes_on Quiet (Serving (group_taken s) journal (Writing (append_calls journal.area journal.gate (payload_of s)))) seat else refuse because.TooLarge seat)
 
-module _ (n p : ℕ) (w : World) (both : Areas) (s : NodeState) (journal : Journaled) where
+module _ (n p k : ℕ) (w : World) (both : Areas) (s : NodeState) (journal : Journaled) where
   -- the oldest staged facts run from now on
   taken : IsServing n p w both s journal Resting → IsLawfulGroup (record { serial = s.marked_end; facts = take 64 s.staged }) → journal.gate + 6 + length (payload_of s) < 2 ^ 32
       → IsServing n p w both (group_taken s) journal (Writing (append_calls journal.area journal.gate (payload_of s)))
@@ -75,23 +77,23 @@ module _ (n p : ℕ) (w : World) (both : Areas) (s : NodeState) (journal : Journ
         };
       }
 
-  takes : (h : InStep n p (seated n p both (Serving s journal Resting)) w) (empty fits : Bool) → nat_lt (journal.gate + 6 + length (payload_of s)) (2 ^ 32) ≡ fits
-      → (let x = taken_with s journal (seated n p both (Serving s journal Resting)) empty fits in IsSpelt x.1.doing → GoesOn n p (MayBe p at.Take) w x.0 x.1)
-  takes h true fits is spelt = does_nothing n p w at.Take (seated n p both (Serving s journal Resting)) h
-  takes h false false is spelt = refuses n p w at.Take (seated n p both (Serving s journal Resting)) because.TooLarge h
+  takes : (h : InStep n p (seated n p k both (Serving s journal Resting)) w) (empty fits : Bool) → nat_lt (journal.gate + 6 + length (payload_of s)) (2 ^ 32) ≡ fits
+      → (let x = taken_with s journal (seated n p k both (Serving s journal Resting)) empty fits in IsSpelt x.1.doing → GoesOn n p (MayBe p at.Take) w x.0 x.1)
+  takes h true fits is spelt = does_nothing n p w at.Take (seated n p k both (Serving s journal Resting)) h
+  takes h false false is spelt = refuses n p w at.Take (seated n p k both (Serving s journal Resting)) because.TooLarge h
   takes h false true is spelt =
       let lawful : IsLawfulGroup (record { serial = s.marked_end; facts = take 64 s.staged }) = subst (λ (o : Option groups.Grouped). IfSome o IsLawfulGroup) (taken_runs s) spelt in
       let small : journal.gate + 6 + length (payload_of s) < 2 ^ 32 = ltb-true _ _ is in
       let next : Flush = Writing (append_calls journal.area journal.gate (payload_of s)) in
-      goes_quietly n p (MayBe p at.Take) w (Ok Quiet) (seated n p both (Serving (group_taken s) journal next)) [] tt refl tt tt
+      goes_quietly n p (MayBe p at.Take) w (Ok Quiet) (seated n p k both (Serving (group_taken s) journal next)) [] tt refl tt tt
       (record { exists = h.exists; nodes = refl; node = refl; in_order = h.in_order; doing = taken h.doing lawful small }) refl refl (record { unsent = refl; untold = refl })
 
-  pub takes_in_step : (flush : Flush) → InStep n p (seated n p both (Serving s journal flush)) w
-      → (let x = take_up s journal flush (seated n p both (Serving s journal flush)) in IsSpelt x.1.doing → GoesOn n p (MayBe p at.Take) w x.0 x.1)
+  pub takes_in_step : (flush : Flush) → InStep n p (seated n p k both (Serving s journal flush)) w
+      → (let x = take_up s journal flush (seated n p k both (Serving s journal flush)) in IsSpelt x.1.doing → GoesOn n p (MayBe p at.Take) w x.0 x.1)
   takes_in_step Resting h = takes h (length s.staged == 0) (nat_lt (journal.gate + 6 + length (payload_of s)) (2 ^ 32)) refl
-  takes_in_step (Writing calls) h = λ spelt. refuses n p w at.Take (seated n p both (Serving s journal (Writing calls))) because.Busy h
-  takes_in_step (Switching calls) h = λ spelt. refuses n p w at.Take (seated n p both (Serving s journal (Switching calls))) because.Busy h
-  takes_in_step Flushed h = λ spelt. refuses n p w at.Take (seated n p both (Serving s journal Flushed)) because.Busy h
+  takes_in_step (Writing calls) h = λ spelt. refuses n p w at.Take (seated n p k both (Serving s journal (Writing calls))) because.Busy h
+  takes_in_step (Switching calls) h = λ spelt. refuses n p w at.Take (seated n p k both (Serving s journal (Switching calls))) because.Busy h
+  takes_in_step Flushed h = λ spelt. refuses n p w at.Take (seated n p k both (Serving s journal Flushed)) because.Busy h
 
   -- ---- the marking
 
@@ -110,17 +112,17 @@ module _ (n p : ℕ) (w : World) (both : Areas) (s : NodeState) (journal : Journ
     flushes = (marked_rests serves.flushes.0 serves.flushes.1, serves.flushes.2);
   }
 
-  pub marks_in_step : (flush : Flush) → InStep n p (seated n p both (Serving s journal flush)) w → (let x = mark_up s journal flush (seated n p both (Serving s journal flush)) in GoesOn n p (MayBe p at.Mark) w x.0 x.1)
-  marks_in_step Resting h = does_nothing n p w at.Mark (seated n p both (Serving s journal Resting)) h
-  marks_in_step (Writing calls) h = does_nothing n p w at.Mark (seated n p both (Serving s journal (Writing calls))) h
-  marks_in_step (Switching calls) h = does_nothing n p w at.Mark (seated n p both (Serving s journal (Switching calls))) h
+  pub marks_in_step : (flush : Flush) → InStep n p (seated n p k both (Serving s journal flush)) w → (let x = mark_up s journal flush (seated n p k both (Serving s journal flush)) in GoesOn n p (MayBe p at.Mark) w x.0 x.1)
+  marks_in_step Resting h = does_nothing n p w at.Mark (seated n p k both (Serving s journal Resting)) h
+  marks_in_step (Writing calls) h = does_nothing n p w at.Mark (seated n p k both (Serving s journal (Writing calls))) h
+  marks_in_step (Switching calls) h = does_nothing n p w at.Mark (seated n p k both (Serving s journal (Switching calls))) h
   marks_in_step Flushed h =
-      goes_quietly n p (MayBe p at.Mark) w (Ok Quiet) (seated n p both (Serving (marked_running s) journal Resting)) [] tt refl tt tt
+      goes_quietly n p (MayBe p at.Mark) w (Ok Quiet) (seated n p k both (Serving (marked_running s) journal Resting)) [] tt refl tt tt
       (record { exists = h.exists; nodes = refl; node = refl; in_order = h.in_order; doing = marked h.doing }) refl refl (record { unsent = refl; untold = refl })
 
 -- ---- the device calls
 
-module _ (n p : ℕ) (w : World) (both : Areas) (s : NodeState) (journal : Journaled) (exists : p < n) where
+module _ (n p k : ℕ) (w : World) (both : Areas) (s : NodeState) (journal : Journaled) (exists : p < n) where
   -- where the journal appends behind the flush
   journal_is : (group : groups.Grouped) (kept : List Fact) → running_group s ≡ Some group → group.serial ≡ length kept
       → once_flushed (flush_of n p journal group) (journal_at n p journal (length kept)) ≡ journal_at n p (journal_behind s journal) (length (kept ++ group.facts))
@@ -181,7 +183,7 @@ module _ (n p : ℕ) (w : World) (both : Areas) (s : NodeState) (journal : Journ
         flushes = (f.group.facts, runs, to_group (Holds n p) (flush_of n p journal f.group) serves.start (w.kept p) both (synced both) (record { grounded = ground; stands = is }) refl);
       }
 
-  module _ (calls : List Call) (h : InStep n p (seated n p both (Serving s journal (Writing calls))) w) where
+  module _ (calls : List Call) (h : InStep n p (seated n p k both (Serving s journal (Writing calls))) w) where
     -- the group and where the flush began
     abbrev its_group : groups.Grouped
     its_group = h.doing.flushes.group
@@ -199,14 +201,14 @@ module _ (n p : ℕ) (w : World) (both : Areas) (s : NodeState) (journal : Journ
     ordered moment = call_in_order (call_of its_flush moment) both (call_small its_flush moment (small_flush n p journal its_group h.doing.flushes.lawful h.doing.flushes.small)) h.in_order
 
     -- on to the next moment
-    to : (next : Moment) (areas : Areas) → AreInOrder areas → areas ≡ areas_at next its_flush h.doing.start → GoesOn n p (MayBe p at.Device) w (Ok Quiet) (seated n p areas (Serving s journal (Writing (calls_at its_flush next))))
+    to : (next : Moment) (areas : Areas) → AreInOrder areas → areas ≡ areas_at next its_flush h.doing.start → GoesOn n p (MayBe p at.Device) w (Ok Quiet) (seated n p (counted k) areas (Serving s journal (Writing (calls_at its_flush next))))
     to next areas order stands =
-        goes_quietly n p (MayBe p at.Device) w (Ok Quiet) (seated n p areas (Serving s journal (Writing (calls_at its_flush next)))) [] tt (nothing p at.Device) tt tt
+        goes_quietly n p (MayBe p at.Device) w (Ok Quiet) (seated n p (counted k) areas (Serving s journal (Writing (calls_at its_flush next)))) [] tt (nothing p at.Device) tt tt
         (record { exists = exists; nodes = refl; node = refl; in_order = order; doing = moved areas its_group next calls h.doing refl stands }) refl refl (record { unsent = refl; untold = refl })
 
     -- a device call of the flush at each of its moments
     call_in_step : (moment : Moment) → both ≡ areas_at moment its_flush h.doing.start
-        → (let x = flush_on s journal (seated n p both (Serving s journal (Writing calls))) (Writing (calls_at its_flush moment)) in GoesOn n p (MayBe p at.Device) w x.0 x.1)
+        → (let x = flush_on s journal (seated n p k both (Serving s journal (Writing calls))) (Writing (calls_at its_flush moment)) in GoesOn n p (MayBe p at.Device) w x.0 x.1)
     call_in_step BodyDue is = to BodyOut (after_call (call_of its_flush BodyDue) both) (ordered BodyDue) (goes_out (Holds n p) its_flush h.doing.start (w.kept p) ground both (after_call (call_of its_flush BodyDue) both) is refl)
     call_in_step BodyOut is = to BodySafe (synced both) (ordered BodyOut) (goes_safe (Holds n p) its_flush h.doing.start (w.kept p) ground both (synced both) is refl)
     call_in_step BodySafe is = to GateSet (after_call (call_of its_flush BodySafe) both) (ordered BodySafe) (goes_set (Holds n p) its_flush h.doing.start (w.kept p) ground both (after_call (call_of its_flush BodySafe) both) is refl)
@@ -215,34 +217,34 @@ module _ (n p : ℕ) (w : World) (both : Areas) (s : NodeState) (journal : Journ
         let count = length h.doing.flushes.group.facts in
         let runs = (runs_is s serves.flushes.group serves.flushes.runs).0 in
         let came = settles_in_world n p serves.facts serves.heard s w serves.flushes.group.facts runs serves.in_world in
-        goes_quietly n p (MayBe p at.Device) w (Ok Quiet) (seated n p (synced both) (Serving s (journal_behind s journal) Flushed)) (Settle p count ∷ []) tt (inr (inl (count, refl))) came.0 (refl, tt)
+        goes_quietly n p (MayBe p at.Device) w (Ok Quiet) (seated n p (counted k) (synced both) (Serving s (journal_behind s journal) Flushed)) (Settle p count ∷ []) tt (inr (inl (count, refl))) came.0 (refl, tt)
         (record { exists = exists; nodes = refl; node = refl; in_order = ordered GateSet; doing = settles calls h.doing is }) refl refl (record { unsent = refl; untold = refl })
 
-    calls_in_step : (let x = flush_on s journal (seated n p both (Serving s journal (Writing calls))) (Writing calls) in GoesOn n p (MayBe p at.Device) w x.0 x.1)
+    calls_in_step : (let x = flush_on s journal (seated n p k both (Serving s journal (Writing calls))) (Writing calls) in GoesOn n p (MayBe p at.Device) w x.0 x.1)
     calls_in_step =
-        subst (λ (cs : List Call). (let x = flush_on s journal (seated n p both (Serving s journal (Writing calls))) (Writing cs) in GoesOn n p (MayBe p at.Device) w x.0 x.1)) (sym h.doing.flushes.calls_left)
+        subst (λ (cs : List Call). (let x = flush_on s journal (seated n p k both (Serving s journal (Writing calls))) (Writing cs) in GoesOn n p (MayBe p at.Device) w x.0 x.1)) (sym h.doing.flushes.calls_left)
         (call_in_step h.doing.flushes.moment h.doing.flushes.stands)
 
   -- the next device call of a node that is up
-  pub device_in_step : (flush : Flush) → InStep n p (seated n p both (Serving s journal flush)) w → (let x = flush_on s journal (seated n p both (Serving s journal flush)) flush in GoesOn n p (MayBe p at.Device) w x.0 x.1)
-  device_in_step Resting h = does_nothing n p w at.Device (seated n p both (Serving s journal Resting)) h
-  device_in_step Flushed h = does_nothing n p w at.Device (seated n p both (Serving s journal Flushed)) h
+  pub device_in_step : (flush : Flush) → InStep n p (seated n p k both (Serving s journal flush)) w → (let x = flush_on s journal (seated n p k both (Serving s journal flush)) flush in GoesOn n p (MayBe p at.Device) w x.0 x.1)
+  device_in_step Resting h = does_nothing n p w at.Device (seated n p k both (Serving s journal Resting)) h
+  device_in_step Flushed h = does_nothing n p w at.Device (seated n p k both (Serving s journal Flushed)) h
   device_in_step (Writing calls) h = calls_in_step calls h
-  device_in_step (Switching calls) h = switches_on n p w both s journal calls h
+  device_in_step (Switching calls) h = switches_on n p k w both s journal calls h
 
   -- and where memory is wanting for it
-  pub starves_in_step : (flush : Flush) → InStep n p (seated n p both (Serving s journal flush)) w → (let x = starve_flush flush (seated n p both (Serving s journal flush)) in GoesOn n p (MayBe p at.Device) w x.0 x.1)
-  starves_in_step Resting h = refuses n p w at.Device (seated n p both (Serving s journal Resting)) because.OutOfMemory h
-  starves_in_step Flushed h = refuses n p w at.Device (seated n p both (Serving s journal Flushed)) because.OutOfMemory h
-  starves_in_step (Writing []) h = refuses n p w at.Device (seated n p both (Serving s journal (Writing []))) because.OutOfMemory h
-  starves_in_step (Writing (Read area ∷ calls)) h = refuses n p w at.Device (seated n p both (Serving s journal (Writing (Read area ∷ calls)))) because.OutOfMemory h
+  pub starves_in_step : (flush : Flush) → InStep n p (seated n p k both (Serving s journal flush)) w → (let x = starve_flush flush (seated n p k both (Serving s journal flush)) in GoesOn n p (MayBe p at.Device) w x.0 x.1)
+  starves_in_step Resting h = refuses n p w at.Device (seated n p k both (Serving s journal Resting)) because.OutOfMemory h
+  starves_in_step Flushed h = refuses n p w at.Device (seated n p k both (Serving s journal Flushed)) because.OutOfMemory h
+  starves_in_step (Writing []) h = refuses n p w at.Device (seated n p k both (Serving s journal (Writing []))) because.OutOfMemory h
+  starves_in_step (Writing (Read area ∷ calls)) h = refuses n p w at.Device (seated n p k both (Serving s journal (Writing (Read area ∷ calls)))) because.OutOfMemory h
   starves_in_step (Writing (Write area from bytes ∷ calls)) h =
       let left = flush_fails after_starved starvation n p w both s journal (Write area from bytes) calls h.in_order h.doing in
-      serving_falls n p n p (MayBe p at.Device) w (Err because.Device) both (after_starved (Write area from bytes) both) s journal (Writing (Write area from bytes ∷ calls)) Faulted (inl (inr refl)) faulted refl refl h.doing left.0 left.1 (record { unsent = refl; untold = refl })
-  starves_in_step (Switching []) h = refuses n p w at.Device (seated n p both (Serving s journal (Switching []))) because.OutOfMemory h
-  starves_in_step (Switching (Read area ∷ calls)) h = refuses n p w at.Device (seated n p both (Serving s journal (Switching (Read area ∷ calls)))) because.OutOfMemory h
+      serving_falls n p n p (counted k) (MayBe p at.Device) w (Err because.Device) both (after_starved (Write area from bytes) both) s journal (Writing (Write area from bytes ∷ calls)) Faulted (inl (inr refl)) faulted refl refl h.doing left.0 left.1 (record { unsent = refl; untold = refl })
+  starves_in_step (Switching []) h = refuses n p w at.Device (seated n p k both (Serving s journal (Switching []))) because.OutOfMemory h
+  starves_in_step (Switching (Read area ∷ calls)) h = refuses n p w at.Device (seated n p k both (Serving s journal (Switching (Read area ∷ calls)))) because.OutOfMemory h
   starves_in_step (Switching (Write area from bytes ∷ calls)) h =
       let left = switch_fails after_starved starvation n p w both s journal (Write area from bytes) calls h.in_order h.doing in
-      serving_falls n p n p (MayBe p at.Device) w (Err because.Device) both (after_starved (Write area from bytes) both) s journal (Switching (Write area from bytes ∷ calls)) Faulted (inl (inr refl)) faulted refl refl h.doing left.0 left.1 (record { unsent = refl; untold = refl })
-  starves_in_step (Switching (Sync ∷ calls)) h = refuses n p w at.Device (seated n p both (Serving s journal (Switching (Sync ∷ calls)))) because.OutOfMemory h
-  starves_in_step (Writing (Sync ∷ calls)) h = refuses n p w at.Device (seated n p both (Serving s journal (Writing (Sync ∷ calls)))) because.OutOfMemory h
+      serving_falls n p n p (counted k) (MayBe p at.Device) w (Err because.Device) both (after_starved (Write area from bytes) both) s journal (Switching (Write area from bytes ∷ calls)) Faulted (inl (inr refl)) faulted refl refl h.doing left.0 left.1 (record { unsent = refl; untold = refl })
+  starves_in_step (Switching (Sync ∷ calls)) h = refuses n p w at.Device (seated n p k both (Serving s journal (Switching (Sync ∷ calls)))) because.OutOfMemory h
+  starves_in_step (Writing (Sync ∷ calls)) h = refuses n p w at.Device (seated n p k both (Serving s journal (Writing (Sync ∷ calls)))) because.OutOfMemory h

@@ -21,6 +21,7 @@ use Rattle.rr_gate.specs.Moments.{with_group, EachHolds, EachHoldsEither, IsGrou
 use Rattle.rr_gate.proofs.Table.{due_holds, out_holds, safe_holds, set_holds}
 use Rattle.rr_journal.specs.Journals.{Holds, IsOver, once_flushed}
 use Rattle.rr_journal.proofs.FlushLaws.{grounded, over_after}
+use Rattle.rr_core.proofs.GroupLemmas.{runs_is}
 use Rattle.rr_node.specs.Seats.{Journaled}
 use Rattle.rr_node.specs.Worlds.{Moment, BodyDue, BodyOut, BodySafe, GateSet, areas_at, flush_of, HoldsSome, journal_at}
 use Rattle.rr_node.proofs.InOrder.{rest_image}
@@ -56,16 +57,6 @@ each_either n p kept group behind staged both is holds images left = by (holds i
 pub rest_holds : (n p : ℕ) (facts : List Fact) (start : Images) (both : Areas) → both ≡ restarted start → Holds n p start facts → EachHolds (Holds n p) both facts
 rest_holds n p facts start both stands holds images is =
     subst (λ (x : Images). Holds n p x facts) (rest_image start images (subst (λ (b : Areas). IsCrashImage b images) stands is)) holds
-
--- what runs, by its group
-runs_by : (marked : ℕ) (running : Option (List Fact)) (group : Grouped) → option_map (λ (facts : List Fact). record { serial = marked; facts = facts }) running ≡ Some group → (running ≡ Some group.facts) × (group.serial ≡ marked)
-runs_by marked None group e = absurd cc
-runs_by marked (Some fs) group e =
-    let is : record { serial = marked; facts = fs } ≡ group = cc in
-    (ap (λ (g : Grouped). Some g.facts) is, ap (λ (g : Grouped). g.serial) (sym is))
-
-pub runs_is : (s : NodeState) (group : Grouped) → running_group s ≡ Some group → (s.running ≡ Some group.facts) × (group.serial ≡ s.marked_end)
-runs_is s group e = runs_by s.marked_end s.running group e
 
 module _ (n p : ℕ) (w : World) (facts : List Fact) (h : Heard) (s : NodeState) (group : Grouped) (reached : IsReached n p facts h s) (world : IsInWorld false n p facts h s w) (runs : running_group s ≡ Some group) where
   -- the facts of the group are those of the running group

@@ -1,6 +1,7 @@
 -- Whether an area looks formatted, as device calls go by, and what is known of that at the end of an opening.
 use Rattle.std.proofs.Common.{◌≡◌, ◌≢◌, ℕ, zero, suc, ◌<◌, ◌≤◌, true, List, [], ◌∷◌, length, get_or, refl, sym, ap, subst, ◌∙◌, arith}
 use Rattle.std.proofs.lemmas.Bool.{eqb-true}
+use Rattle.rr_types.specs.declared.promise.Entry.{Entry}
 use Rattle.rr_disk.specs.declared.area.Area.{Area}
 use Rattle.rr_disk.specs.declared.area.Area.TheVariants.{First, Second}
 use Rattle.rr_disk.specs.declared.cell.Cell.{Cell}
@@ -9,11 +10,12 @@ use Rattle.rr_disk.specs.Crash.{Images, restarted}
 use Rattle.rr_gate.specs.Moments.{image_of}
 use Rattle.rr_journal.specs.declared.journal.Journal.{Journal}
 use Rattle.rr_journal.specs.Calls.{Call, Read, Write, Sync, after_call, must_close}
-use Rattle.rr_journal.specs.Image.{Content, Active, found}
+use Rattle.rr_journal.specs.Image.{Content}
 use Rattle.rr_journal.specs.OtherAreas.{other_area, closes_in, IsOtherKnown}
 use Rattle.rr_journal.proofs.FoundLaws.{is_found}
 use Rattle.rr_journal.proofs.OtherLaws.{settled_closes}
 use Rattle.rr_slots.proofs.BesideLaws.{active_closes}
+use Rattle.rr_recover.specs.Recoveries.{StandsFor}
 use Rattle.rr_node.specs.Views.{NodeDisk, areas_in, IsAppending}
 
 -- a write behind the first byte leaves it
@@ -80,20 +82,13 @@ not_first [] gate closes there shut = absurd (omega arith)
 not_first (b ∷ bytes) zero closes there shut = absurd (shut (eqb-true b 165 closes))
 not_first (b ∷ bytes) (suc k) closes there shut = omega arith
 
--- an opening ended with the active content of a disk at rest
-pub record Ends (n p : ℕ) (j : Journal NodeDisk) (number : ℕ) : Type 0 where
-  pub start : Images
-  pub content : Content
-  pub stands : j.disk.below.areas ≡ restarted start
-  pub active : found n p start.of_first start.of_second ≡ Active j.area content
-  pub gate : content.gate ≡ j.gate
-  pub next : content.next ≡ number
-
-pub ends_appending : (n p : ℕ) (j : Journal NodeDisk) (number : ℕ) → Ends n p j number → IsAppending j
-ends_appending n p j number ends =
-    let is = is_found n p ends.start j.area ends.content ends.active in
-    let closes = active_closes n p ends.start j.area ends.content ends.active in
+-- at the end of an opening the areas append behind the first gate of the active area, which looks formatted
+pub ends_appending : (j : Journal NodeDisk) (promise : List Entry) → StandsFor areas_in promise j → IsAppending j
+ends_appending j promise (start, stands, active) =
+    let content : Content = record { epoch = j.epoch; promise = promise; next = j.next; gate = j.gate } in
+    let is = is_found j.nodes j.node start j.area content active in
+    let closes = active_closes j.nodes j.node start j.area content active in
     record {
-      behind = omega (arith, ends.gate, not_first (image_of ends.start j.area) ends.content.gate closes is.there is.closed);
-      formatted = ap (λ (b : Areas). closes_in b j.area) ends.stands ∙ restarted_closes ends.start j.area ∙ closes;
+      behind = not_first (image_of start j.area) j.gate closes is.there is.closed;
+      formatted = ap (λ (b : Areas). closes_in b j.area) stands ∙ restarted_closes start j.area ∙ closes;
     }

@@ -1,4 +1,4 @@
-mod AwaitingLaws
+mod CallLaws
 mod DiskLaws
 mod FrontLaws
 mod OpeningLaws

@@ -14,6 +14,7 @@ use Rattle.rr_disk.specs.declared.area.Area.{Area}
 use Rattle.rr_disk.specs.declared.area.Area.TheVariants.{First, Second}
 use Rattle.rr_disk.specs.declared.cell.Cell.{Cell}
 use Rattle.rr_disk.specs.Areas.{Areas, extent_of, read_of, synced}
+use Rattle.rr_disk.specs.Counts.{counted}
 use Rattle.rr_disk.specs.Crash.{Images, restarted}
 use Rattle.rr_frame.specs.SnapshotFormat.{IsLawfulSnapshot, snapshot_bytes}
 use Rattle.rr_journal.specs.Calls.{Call, Write, Sync, after_call, append_calls, must_close, format_calls}
@@ -37,10 +38,10 @@ snapshot_lawful : (n p : ℕ) → p < n → n ≤ 7 → IsLawfulSnapshot (first_
 snapshot_lawful n p exists few = record { node = exists; nodes = few; epoch = (omega arith, omega arith); next = omega arith; empty = λ none. refl; ascending = tt; entries = tt }
 
 -- a device call of an opening that ends with this content of its facts: the node restarts
-module _ (n p : ℕ) (w : World) (areas : Areas) (doing : Doing) (exists : p < n) (order : AreInOrder areas) (down : IsDown p w) (count : ℕ) (there : count ≤ length (w.staged p))
+module _ (n p k : ℕ) (w : World) (areas : Areas) (doing : Doing) (exists : p < n) (order : AreInOrder areas) (down : IsDown p w) (count : ℕ) (there : count ≤ length (w.staged p))
     (start : Images) (stands : areas ≡ restarted start) (holds : Holds n p start (w.kept p ++ take count (w.staged p))) where
   restarts_at : (area : Area) (epoch gate : ℕ) → (let c : Content = record { epoch = epoch; promise = promise_of (w.kept p ++ take count (w.staged p)); next = length (w.kept p ++ take count (w.staged p)); gate = gate } in
-      found n p start.of_first start.of_second ≡ Active area c → GoesOn n p (MayBe p at.Device) w (serves area c (seated n p areas doing)).0 (serves area c (seated n p areas doing)).1)
+      found n p start.of_first start.of_second ≡ Active area c → GoesOn n p (MayBe p at.Device) w (serves area c (seated n p k areas doing)).0 (serves area c (seated n p k areas doing)).1)
   restarts_at area epoch gate is =
       let came = restarts_in_world n p (w.kept p) (w.staged p) count w exists (record { down = down.down; keeps = refl; stages = refl; heard = down.heard }) there holds.fit in
       let v : World = after_steps w (Restart p count ∷ []) in
@@ -49,7 +50,7 @@ module _ (n p : ℕ) (w : World) (areas : Areas) (doing : Doing) (exists : p < n
       let journal : Journaled = record { area = area; gate = gate; epoch = epoch } in
       let c : Content = record { epoch = epoch; promise = promise_of (w.kept p ++ take count (w.staged p)); next = length (w.kept p ++ take count (w.staged p)); gate = gate } in
       let over : IsOver (journal_at n p journal (length (w.kept p ++ take count (w.staged p)))) start (w.kept p ++ take count (w.staged p)) = record { holds = holds; active = is } in
-      goes n p (MayBe p at.Device) w (serves area c (seated n p areas doing)).0 (serves area c (seated n p areas doing)).1 (Restart p count ∷ []) tt (inr (inr (count, refl))) came.0 (refl, tt)
+      goes n p (MayBe p at.Device) w (serves area c (seated n p k areas doing)).0 (serves area c (seated n p k areas doing)).1 (Restart p count ∷ []) tt (inr (inr (count, refl))) came.0 (refl, tt)
       (record {
         exists = exists;
         nodes = refl;
@@ -67,18 +68,18 @@ module _ (n p : ℕ) (w : World) (areas : Areas) (doing : Doing) (exists : p < n
       })
       (sym (append-nil w.wire)) came.2 (λ m held. absurd (no_member m held))
 
-  pub restarts : (area : Area) (c : Content) → found n p start.of_first start.of_second ≡ Active area c → GoesOn n p (MayBe p at.Device) w (serves area c (seated n p areas doing)).0 (serves area c (seated n p areas doing)).1
+  pub restarts : (area : Area) (c : Content) → found n p start.of_first start.of_second ≡ Active area c → GoesOn n p (MayBe p at.Device) w (serves area c (seated n p k areas doing)).0 (serves area c (seated n p k areas doing)).1
   restarts area c is =
       let own : StandsFor (Active area c) (w.kept p ++ take count (w.staged p)) = subst (λ (f : Found). StandsFor f (w.kept p ++ take count (w.staged p))) is holds.stands in
       let d : Content = record { epoch = c.epoch; promise = promise_of (w.kept p ++ take count (w.staged p)); next = length (w.kept p ++ take count (w.staged p)); gate = c.gate } in
       let same : d ≡ c = (λ i. record { epoch = c.epoch; promise = sym own.0 i; next = sym own.1 i; gate = c.gate }) in
-      subst (λ (x : Content). GoesOn n p (MayBe p at.Device) w (serves area x (seated n p areas doing)).0 (serves area x (seated n p areas doing)).1) same (restarts_at area c.epoch c.gate (is ∙ ap (Active area) (sym same)))
+      subst (λ (x : Content). GoesOn n p (MayBe p at.Device) w (serves area x (seated n p k areas doing)).0 (serves area x (seated n p k areas doing)).1) same (restarts_at area c.epoch c.gate (is ∙ ap (Active area) (sym same)))
 
-module _ (n p : ℕ) (few : n ≤ 7) (w : World) (areas : Areas) where
+module _ (n p k : ℕ) (few : n ≤ 7) (w : World) (areas : Areas) where
   -- an opening goes on quietly to a phase of its facts
-  moves : (new : Areas) (phase : opening.Phase) → p < n → AreInOrder new → IsOpening n p w new phase → GoesOn n p (MayBe p at.Device) w (Ok Quiet) (seated n p new (Opening phase))
+  moves : (new : Areas) (phase : opening.Phase) → p < n → AreInOrder new → IsOpening n p w new phase → GoesOn n p (MayBe p at.Device) w (Ok Quiet) (seated n p (counted k) new (Opening phase))
   moves new phase exists order opens =
-      stays n p (MayBe p at.Device) w (Ok Quiet) (seated n p new (Opening phase)) (inl (inl refl)) (record { exists = exists; nodes = refl; node = refl; in_order = order; doing = opens }) (record { unsent = refl; untold = refl })
+      stays n p (MayBe p at.Device) w (Ok Quiet) (seated n p (counted k) new (Opening phase)) (inl (inl refl)) (record { exists = exists; nodes = refl; node = refl; in_order = order; doing = opens }) (record { unsent = refl; untold = refl })
 
   -- behind its sync a disk rests with the facts of its bytes
   rests_synced : AreInOrder areas → EachHoldsSome n p w areas → OpensSome n p w (synced areas) opening.ReadingFirst
@@ -122,33 +123,33 @@ module _ (n p : ℕ) (few : n ≤ 7) (w : World) (areas : Areas) where
 
   -- what both reads found
   finds : (first : List ℕ) (some : OpensSome n p w areas (opening.ReadingSecond first)) → p < n → AreInOrder areas → IsDown p w → (f : Found) → found n p first (read_of 0 (2 ^ 64 - 1) (extent_of areas Second)) ≡ f
-      → (let x = opens_on (seated n p areas (Opening (opening.ReadingSecond first))) (after_found n p first f) in GoesOn n p (MayBe p at.Device) w x.0 x.1)
+      → (let x = opens_on (seated n p (counted k) areas (Opening (opening.ReadingSecond first))) (after_found n p first f) in GoesOn n p (MayBe p at.Device) w x.0 x.1)
   finds first some exists order down f is = by f (sym here ∙ is)
     where
       here : found n p first (read_of 0 (2 ^ 64 - 1) (extent_of areas Second)) ≡ found n p some.opens.0.start.of_first some.opens.0.start.of_second
       here = ap (λ (b : List ℕ). found n p b (read_of 0 (2 ^ 64 - 1) (extent_of areas Second))) some.opens.1 ∙ ap (λ (b : List ℕ). found n p some.opens.0.start.of_first b) (read_second (w.kept p ++ take some.count (w.staged p)) some.opens.0)
 
       by : (f : Found) → found n p some.opens.0.start.of_first some.opens.0.start.of_second ≡ f
-          → (let x = opens_on (seated n p areas (Opening (opening.ReadingSecond first))) (after_found n p first f) in GoesOn n p (MayBe p at.Device) w x.0 x.1)
+          → (let x = opens_on (seated n p (counted k) areas (Opening (opening.ReadingSecond first))) (after_found n p first f) in GoesOn n p (MayBe p at.Device) w x.0 x.1)
       by Unformatted e =
           moves areas (opening.Formatting (format_calls n p first)) exists order
           (down, record { count = some.count; there = some.there; opens = formats (w.kept p ++ take some.count (w.staged p)) first some.opens.0 exists some.opens.1 e })
       by (Broken area offset) e = absurd (subst (λ (f : Found). StandsFor f (w.kept p ++ take some.count (w.staged p))) e some.opens.0.holds.stands)
-      by (Active area c) e = restarts n p w areas (Opening (opening.ReadingSecond first)) exists order down some.count some.there some.opens.0.start some.opens.0.stands some.opens.0.holds area c e
+      by (Active area c) e = restarts n p (counted k) w areas (Opening (opening.ReadingSecond first)) exists order down some.count some.there some.opens.0.start some.opens.0.stands some.opens.0.holds area c e
 
   -- a stage of formatting goes on to the next, or the opening ends
   formats_on : (count : ℕ) → count ≤ length (w.staged p) → p < n → AreInOrder areas → IsDown p w → (stage : Stage) → StandsAt n p (w.kept p ++ take count (w.staged p)) areas stage
-      → (let x = open_on (seated n p areas (Opening (opening.Formatting (calls_of_stage n p stage)))) (opening.Formatting (calls_of_stage n p stage)) in GoesOn n p (MayBe p at.Device) w x.0 x.1)
+      → (let x = open_on (seated n p k areas (Opening (opening.Formatting (calls_of_stage n p stage)))) (opening.Formatting (calls_of_stage n p stage)) in GoesOn n p (MayBe p at.Device) w x.0 x.1)
   formats_on count there exists order down stage stands = by stage stands
     where
-      to : (next : Stage) (new : Areas) → AreInOrder new → StandsAt n p (w.kept p ++ take count (w.staged p)) new next → GoesOn n p (MayBe p at.Device) w (Ok Quiet) (seated n p new (Opening (opening.Formatting (calls_of_stage n p next))))
+      to : (next : Stage) (new : Areas) → AreInOrder new → StandsAt n p (w.kept p ++ take count (w.staged p)) new next → GoesOn n p (MayBe p at.Device) w (Ok Quiet) (seated n p (counted k) new (Opening (opening.Formatting (calls_of_stage n p next))))
       to next new kept stands = moves new (opening.Formatting (calls_of_stage n p next)) exists kept (down, record { count = count; there = there; opens = (next, refl, stands) })
 
       ordered : (stage : Stage) → AreInOrder (after_call (call_of_stage n p stage) areas)
       ordered stage = call_in_order (call_of_stage n p stage) areas (stage_small n p stage) order
 
       by : (stage : Stage) → StandsAt n p (w.kept p ++ take count (w.staged p)) areas stage
-          → (let x = open_on (seated n p areas (Opening (opening.Formatting (calls_of_stage n p stage)))) (opening.Formatting (calls_of_stage n p stage)) in GoesOn n p (MayBe p at.Device) w x.0 x.1)
+          → (let x = open_on (seated n p k areas (Opening (opening.Formatting (calls_of_stage n p stage)))) (opening.Formatting (calls_of_stage n p stage)) in GoesOn n p (MayBe p at.Device) w x.0 x.1)
       by Closing stands = to Closed (after_call (call_of_stage n p Closing) areas) (ordered Closing) (closing n p (w.kept p ++ take count (w.staged p)) areas (after_call (call_of_stage n p Closing) areas) [] stands refl)
       by Closed stands = to (Flushing BodyDue) (synced areas) (ordered Closed) (closed n p (w.kept p ++ take count (w.staged p)) areas (synced areas) [] stands refl)
       by (Flushing BodyDue) stands =
@@ -160,10 +161,10 @@ module _ (n p : ℕ) (few : n ≤ 7) (w : World) (areas : Areas) where
           (gate_opened_on n p (w.kept p ++ take count (w.staged p)) areas (after_call (call_of_stage n p (Flushing BodySafe)) areas) [] stands refl)
       by (Flushing GateSet) stands =
           let end = gate_settled n p (w.kept p ++ take count (w.staged p)) areas (synced areas) [] stands refl in
-          restarts n p w (synced areas) (Opening (opening.Formatting (calls_of_stage n p (Flushing GateSet)))) exists (ordered (Flushing GateSet)) down count there end.0 end.1 end.2 First formatted end.3
+          restarts n p (counted k) w (synced areas) (Opening (opening.Formatting (calls_of_stage n p (Flushing GateSet)))) exists (ordered (Flushing GateSet)) down count there end.0 end.1 end.2 First formatted end.3
 
   -- a device call of an opening
-  pub opens_in_step : (phase : opening.Phase) → InStep n p (seated n p areas (Opening phase)) w → (let x = open_on (seated n p areas (Opening phase)) phase in GoesOn n p (MayBe p at.Device) w x.0 x.1)
+  pub opens_in_step : (phase : opening.Phase) → InStep n p (seated n p k areas (Opening phase)) w → (let x = open_on (seated n p k areas (Opening phase)) phase in GoesOn n p (MayBe p at.Device) w x.0 x.1)
   opens_in_step opening.Settling h = moves (synced areas) opening.ReadingFirst h.exists (synced_in_order areas h.in_order) (h.doing.0, rests_synced h.in_order h.doing.1)
   opens_in_step opening.ReadingFirst h =
       let some = h.doing.1 in
@@ -172,5 +173,5 @@ module _ (n p : ℕ) (few : n ≤ 7) (w : World) (areas : Areas) where
   opens_in_step (opening.ReadingSecond first) h = finds first h.doing.1 h.exists h.in_order h.doing.0 (found n p first (read_of 0 (2 ^ 64 - 1) (extent_of areas Second))) refl
   opens_in_step (opening.Formatting calls) h =
       let some = h.doing.1 in
-      subst (λ (cs : List Call). (let x = open_on (seated n p areas (Opening (opening.Formatting cs))) (opening.Formatting cs) in GoesOn n p (MayBe p at.Device) w x.0 x.1)) (sym some.opens.1)
+      subst (λ (cs : List Call). (let x = open_on (seated n p k areas (Opening (opening.Formatting cs))) (opening.Formatting cs) in GoesOn n p (MayBe p at.Device) w x.0 x.1)) (sym some.opens.1)
       (formats_on some.count some.there h.exists h.in_order h.doing.0 some.opens.0 some.opens.2)

@@ -8,6 +8,7 @@ use Rattle.rr_types.specs.declared.fact.Fact.{Fact}
 use Rattle.rr_types.specs.declared.refusal.Refusal.{Refusal}
 use Rattle.rr_types.specs.declared.refusal.Refusal.TheVariants as because
 use Rattle.rr_types.specs.Groups.{Grouped}
+use Rattle.rr_types.specs.Promises.{all_fit}
 use Rattle.rr_types.specs.declared.promise.Entry.{Entry}
 use Rattle.rr_types.specs.Registry.{Bindings, registry_of}
 use Rattle.rr_model.specs.NodeState.{NodeState, decided_prefix}
@@ -16,18 +17,19 @@ use Rattle.rr_model.specs.NodeStays.{StaysMarked}
 use Rattle.rr_model.proofs.NodeSteady.{input_stays, started_stays}
 use Rattle.rr_disk.specs.declared.area.Area.{Area}
 use Rattle.rr_disk.specs.Areas.{Areas, synced}
-use Rattle.rr_disk.specs.Counts.{Grew}
+use Rattle.rr_disk.specs.Counts.{counted, Grew}
 use Rattle.rr_disk.specs.Failing.{FailingWrite, FailingSync}
 use Rattle.rr_disk.specs.Memory.{MemoryWrite, MemorySync}
 use Rattle.rr_frame.specs.Numbers.{number_bytes}
 use Rattle.rr_frame.specs.GroupFormat.{group_bytes, IsLawfulGroup}
-use Rattle.rr_frame.specs.Snapshots.{Snapped}
+use Rattle.rr_frame.specs.Snapshots.{Snapped, IsSnapshot}
 use Rattle.rr_frame.specs.SnapshotFormat.{snapshot_bytes, IsLawfulSnapshot}
 use Rattle.rr_frame.proofs.FieldLaws.{length-number_bytes}
 use Rattle.rr_gate.specs.Flushes as gate
 use Rattle.rr_journal.specs.declared.journal.Journal.{Journal}
 use Rattle.rr_journal.specs.Calls.{Call, Write, Sync, frame_bytes, append_calls, after_call, after_starved, after_failing}
 use Rattle.rr_journal.specs.OtherAreas.{other_area, closes_in, IsOtherKnown}
+use Rattle.rr_journal.proofs.PromisedLaws.{none_taken, facts_stand}
 use Rattle.rr_node.proofs.FrontLaws.{Reaches, KeepsFronts, sync_keeps, write_keeps, appends_on, knows_on}
 use Rattle.rr_node.proofs.DiskLaws.{passed_on, synced_by, starved_by, write_fails}
 use Rattle.rr_node.specs.declared.doing.Doing.TheVariants as does
@@ -38,7 +40,7 @@ use Rattle.rr_node.specs.declared.event.NodeEvent.TheVariants as at
 use Rattle.rr_node.specs.declared.event.Outcome.TheVariants.{Quiet, Opened}
 use Rattle.rr_node.specs.Seats as seats
 use Rattle.rr_node.specs.Seats.{Seat, Answer, Journaled, Fails, goes_on, refuse, told, take_up, payload_of, journal_behind}
-use Rattle.rr_node.specs.Views.{NodeDisk, areas_in, IsBeside, journaled_of, flush_of, seat_of, IsJobOf, IsFlushOf, IsServing, CarriesOn, CarriesFailing, Serves, quiet}
+use Rattle.rr_node.specs.Views.{NodeDisk, areas_in, IsBeside, journaled_of, flush_of, seat_of, IsJobOf, IsFlushOf, MaySnap, IsServing, IsOpened, CarriesOn, CarriesFailing, Serves, quiet}
 
 -- where the same group runs, a flush stays of it
 flush_stays : (s t : NodeState) (j : Journal NodeDisk) (f : Flush) → StaysMarked s t → IsFlushOf s j f → IsFlushOf t j f
@@ -62,6 +64,55 @@ flush_stays s t j f same h = by f h
     by (flush.Flushed kept) h = (h.0 ∙ sym same.node, group ∙ h.1, h.2, h.3)
     by (flush.Switching job) h = record { area = h.area; epoch = h.epoch; body = h.body ∙ ap (λ (x : Snapped). frame_bytes (snapshot_bytes x)) (sym snapshot); lawful = subst IsLawfulSnapshot (sym snapshot) h.lawful; next = h.next ∙ sym same.marked_end; rests = same.running ∙ h.rests }
 
+-- where the same facts are marked, a snapshot can hold them
+snaps_stay : (s t : NodeState) → StaysMarked s t → MaySnap s → MaySnap t
+snaps_stay s t same h =
+    let snapshot : record { node = t.node; nodes = t.nodes; epoch = 1; next = t.marked_end; entries = t.marked } ≡ record { node = s.node; nodes = s.nodes; epoch = 1; next = s.marked_end; entries = s.marked } =
+    λ i. record { node = same.node i; nodes = same.nodes i; epoch = 1; next = same.marked_end i; entries = same.marked i } in
+    subst IsSnapshot (sym snapshot) h
+
+taken_snaps : (s : NodeState) → MaySnap s → MaySnap (group_taken s)
+unfolding group_taken
+taken_snaps s h = record { node = h.node; epoch = h.epoch; empty = h.empty; proposals = h.proposals }
+
+-- and so it can with the facts of the running group, which fit them
+marked_snaps : (s : NodeState) (g : Grouped) → running_group s ≡ Some g → all_fit s.nodes s.node s.marked g.facts ≡ true → MaySnap s → MaySnap (marked_running s)
+unfolding marked_running
+marked_snaps s g e fit h = by s.running refl
+  where
+    by : (o : Option (List Fact)) → s.running ≡ o → MaySnap (marked_running s)
+    by None runs = absurd (none (rw runs at e))
+      where
+        none : (option_map (λ (facts : List Fact). record { serial = s.marked_end; facts = facts }) None ≡ Some g) → ⊥
+        none x = cc
+    by (Some facts) runs =
+        let group : record { serial = s.marked_end; facts = facts } ≡ g = grouped facts (rw runs at e) in
+        let fits : all_fit s.nodes s.node s.marked facts ≡ true = ap (λ (x : Grouped). all_fit s.nodes s.node s.marked x.facts) group ∙ fit in
+        rw runs (record {
+          node = h.node;
+          epoch = h.epoch;
+          empty = λ start. none_taken s.marked_end s.marked facts h.empty start;
+          proposals = facts_stand s.nodes s.node s.marked facts fits h.proposals;
+        })
+      where
+        grouped : (facts : List Fact) → option_map (λ (facts : List Fact). record { serial = s.marked_end; facts = facts }) (Some facts) ≡ Some g → record { serial = s.marked_end; facts = facts } ≡ g
+        grouped facts x = cc
+
+-- a node that is up is the one that its core says
+pub own_serving : (n p : ℕ) (s : Serving) → IsServing n p s → IsServing s.core.nodes s.core.node s
+own_serving n p s h = record {
+  nodes = refl;
+  node = refl;
+  journal_nodes = h.journal_nodes ∙ sym h.nodes;
+  journal_node = h.journal_node ∙ sym h.node;
+  sound = h.sound;
+  calm = h.calm;
+  flush = h.flush;
+  appending = h.appending;
+  beside = h.beside;
+  snaps = h.snaps;
+}
+
 serving_stays : (n p : ℕ) (s t : NodeState) (j : Journal NodeDisk) (f : Flush) → StaysMarked s t → IsServing n p (record { core = s; slots = j; flush = f }) → IsServing n p (record { core = t; slots = j; flush = f })
 serving_stays n p s t j f same h = record {
   nodes = same.nodes ∙ h.nodes;
@@ -73,6 +124,7 @@ serving_stays n p s t j f same h = record {
   flush = flush_stays s t j f same h.flush;
   appending = h.appending;
   beside = h.beside;
+  snaps = snaps_stay s t same h.snaps;
 }
 
 -- what an input to the core answered, and the core after it
@@ -115,12 +167,12 @@ marked_rests s g e = by s.running refl
         grouped : (facts : List Fact) → option_map (λ (facts : List Fact). record { serial = s.marked_end; facts = facts }) (Some facts) ≡ Some g → record { serial = s.marked_end; facts = facts } ≡ g
         grouped facts x = cc
 
-pub mark_done : (s t : NodeState) (j : Journal NodeDisk) (kept : gate.Kept) → t ≡ marked_running s → CarriesOn at.Mark (record { core = s; slots = j; flush = flush.Flushed kept }) (Ok Quiet) (does.Serving (record { core = t; slots = j; flush = flush.Resting }))
-mark_done s t j kept e n p h =
+pub mark_done : (s t : NodeState) (j : Journal NodeDisk) (kept : gate.Kept) → t ≡ marked_running s → all_fit s.nodes s.node s.marked kept.group.facts ≡ true → CarriesOn at.Mark (record { core = s; slots = j; flush = flush.Flushed kept }) (Ok Quiet) (does.Serving (record { core = t; slots = j; flush = flush.Resting }))
+mark_done s t j kept e fit n p h =
     let rests = marked_rests s kept.group h.flush.1 in
     rw e (
       inl refl,
-      record { nodes = rests.1 ∙ h.nodes; node = rests.2 ∙ h.node; journal_nodes = h.journal_nodes; journal_node = h.journal_node; sound = h.sound; calm = h.calm; flush = (rests.0, h.flush.2, h.flush.3 ∙ sym rests.3); appending = h.appending; beside = h.beside },
+      record { nodes = rests.1 ∙ h.nodes; node = rests.2 ∙ h.node; journal_nodes = h.journal_nodes; journal_node = h.journal_node; sound = h.sound; calm = h.calm; flush = (rests.0, h.flush.2, h.flush.3 ∙ sym rests.3); appending = h.appending; beside = h.beside; snaps = marked_snaps s kept.group h.flush.1 fit h.snaps },
     )
 
 pub frame_long : (payload : List ℕ) → length (frame_bytes payload) ≡ 5 + length payload
@@ -142,8 +194,8 @@ pub gate_done : (s : NodeState) (j k : Journal NodeDisk) (job : gate.Flush) (kep
     → CarriesOn at.Device (record { core = s; slots = j; flush = flush.GateSet job }) (Ok Quiet) (does.Serving (record { core = s; slots = k; flush = flush.Flushed kept }))
 gate_done s j k job kept next is ended count gave n p h =
     let left = synced_by j.disk k.disk h.calm gave in
-    let own : Path Seat (seat_of n p (does.Serving (record { core = s; slots = k; flush = flush.Flushed kept }))) (record { nodes = n; node = p; doing = seats.Serving s (journal_behind s (journaled_of j)) seats.Flushed; areas = synced j.disk.below.areas }) =
-    rw (left.1, ap (λ (x : Journal NodeDisk). x.area) ended, ap (λ (x : Journal NodeDisk). x.gate) ended, ap (λ (x : Journal NodeDisk). x.epoch) ended, behind s j job h.flush) refl in
+    let own : Path Seat (seat_of n p (does.Serving (record { core = s; slots = k; flush = flush.Flushed kept }))) (record { nodes = n; node = p; doing = seats.Serving s (journal_behind s (journaled_of j)) seats.Flushed; areas = synced j.disk.below.areas; calls = counted j.disk.calls }) =
+    rw (left.1, left.3, ap (λ (x : Journal NodeDisk). x.area) ended, ap (λ (x : Journal NodeDisk). x.gate) ended, ap (λ (x : Journal NodeDisk). x.epoch) ended, behind s j job h.flush) refl in
     let keeps = sync_keeps j.disk.below.areas j.area in (
       inl (ap (λ (x : Seat). pair x) own),
       record {
@@ -164,6 +216,7 @@ gate_done s j k job kept next is ended count gave n p h =
           formatted = ap (λ (x : Journal NodeDisk). closes_in k.disk.below.areas x.area) ended ∙ ap (λ (b : Areas). closes_in b j.area) left.1 ∙ keeps.0 ∙ h.appending.formatted;
         };
         beside = ap (λ (x : Journal NodeDisk). x.closes_other) ended ∙ h.beside ∙ sym keeps.1 ∙ ap (λ (b : Areas). closes_in b (other_area j.area)) (sym left.1) ∙ ap (λ (x : Journal NodeDisk). closes_in k.disk.below.areas (other_area x.area)) (sym ended);
+        snaps = h.snaps;
       },
     )
   where
@@ -214,6 +267,7 @@ begin_done s t j k group job some taken runs rests lawful small busy is n p h =
         flush = record { node = h.journal_node ∙ sym (nodes_stay.1 ∙ h.node); area = refl; gate = refl; body = refl; group = group_is; lawful = lawful; next = h.flush.2 ∙ sym nodes_stay.2 };
         appending = record { behind = h.appending.behind; formatted = h.appending.formatted };
         beside = h.beside;
+        snaps = taken_snaps s h.snaps;
       },
     )
   where
@@ -254,14 +308,21 @@ begin_refused s t u j k group e some taken runs rests back same why n p h = rw (
     by (inr (inr (inr large))) = inl (rw large.0 (sym (step large.1)))
 
 -- an opening ended, and the node serves
-pub serve_done : (n p : ℕ) (j : Journal NodeDisk) (promise : List Entry) (number decided : ℕ) (core : NodeState) (names : Bindings) (s : Serving) → core ≡ started n p promise number
-    → decided ≡ length (decided_prefix core) → names ≡ registry_of (decided_prefix core) → s ≡ record { core = core; slots = j; flush = flush.Resting } → Serves n p j promise number (Ok (Opened number decided names)) (does.Serving s)
-serve_done n p j promise number decided core names s is count bound own h next =
-    let same : StaysMarked (restored n p promise number) (started n p promise number) = started_stays n p promise number in
+serves_with : (n p : ℕ) (j : Journal NodeDisk) (promise : List Entry) (decided : ℕ) (core : NodeState) (names : Bindings) (s : Serving) → core ≡ started n p promise j.next → IsOpened n p j → IsSnapshot (record { node = p; nodes = n; epoch = 1; next = j.next; entries = promise })
+    → decided ≡ length (decided_prefix core) → names ≡ registry_of (decided_prefix core) → s ≡ record { core = core; slots = j; flush = flush.Resting }
+    → (let given : Answer = (Ok (Opened j.next decided names), seat_of n p (does.Serving s)) in given ≡ seats.serves j.area (record { epoch = j.epoch; promise = promise; next = j.next; gate = j.gate }) (seat_of n p (does.Stopped j.disk))) × IsServing n p s
+serves_with n p j promise decided core names s is h snaps count bound own =
+    let same : StaysMarked (restored n p promise j.next) (started n p promise j.next) = started_stays n p promise j.next in
     rw (own, bound, count, is) (
-      inl refl,
-      record { nodes = same.nodes; node = same.node; journal_nodes = h.nodes; journal_node = h.node; sound = h.sound; calm = h.calm; flush = (same.running, h.rests, next ∙ sym same.marked_end); appending = h.appending; beside = h.beside },
+      refl,
+      record { nodes = same.nodes; node = same.node; journal_nodes = h.nodes; journal_node = h.node; sound = h.sound; calm = h.calm; flush = (same.running, h.rests, sym same.marked_end); appending = h.appending; beside = h.beside; snaps = snaps_stay (restored n p promise j.next) (started n p promise j.next) same snaps },
     )
+
+pub serve_done : (n p : ℕ) (j : Journal NodeDisk) (decided : ℕ) (core : NodeState) (names : Bindings) (s : Serving)
+    → decided ≡ length (decided_prefix core) → names ≡ registry_of (decided_prefix core) → s ≡ record { core = core; slots = j; flush = flush.Resting } → Serves n p core j (Ok (Opened j.next decided names)) (does.Serving s)
+serve_done n p j decided core names s count bound own h is snaps =
+    let done = serves_with n p j core.marked decided core names s is h snaps count bound own in
+    (inl done.0, done.1)
 
 -- beside this flush it is known whether the other area has to be closed
 abbrev IsOtherKnownThen : Flush → Journal NodeDisk → Type 0
@@ -302,14 +363,14 @@ beside_flush (flush.Switching job) k calls is known = absurd (cc)
 
 -- a flush goes on behind a device call
 pub flush_goes : (s : NodeState) (j k : Journal NodeDisk) (f g : Flush) (call next : Call) (calls : List Call) → flush_of f ≡ seats.Writing (call ∷ next ∷ calls) → flush_of g ≡ seats.Writing (next ∷ calls)
-    → k ≡ record j { disk = k.disk } → (j.disk.due ≡ None → (k.disk.due ≡ None) × (k.disk.below.areas ≡ after_call call j.disk.below.areas) × Reaches call j.disk.below.areas) → (IsFlushOf s j f → IsFlushOf s k g)
+    → k ≡ record j { disk = k.disk } → (j.disk.due ≡ None → (k.disk.due ≡ None) × (k.disk.below.areas ≡ after_call call j.disk.below.areas) × Reaches call j.disk.below.areas × (k.disk.calls ≡ counted j.disk.calls)) → (IsFlushOf s j f → IsFlushOf s k g)
     → CarriesOn at.Device (record { core = s; slots = j; flush = f }) (Ok Quiet) (does.Serving (record { core = s; slots = k; flush = g }))
 flush_goes s j k f g call next calls is rest same gave keeps n p h =
     let left = gave h.calm in
     let old : Seat = seat_of n p (does.Serving (record { core = s; slots = j; flush = f })) in
     let here : seats.flush_on s (journaled_of j) old (flush_of f) ≡ seats.flush_on s (journaled_of j) old (seats.Writing (call ∷ next ∷ calls)) = ap (seats.flush_on s (journaled_of j) old) is in
     let own : Path Answer (Ok Quiet, seat_of n p (does.Serving (record { core = s; slots = k; flush = g }))) (seats.flush_on s (journaled_of j) old (seats.Writing (call ∷ next ∷ calls))) =
-    rw (rest, left.1, ap (λ (x : Journal NodeDisk). x.area) same, ap (λ (x : Journal NodeDisk). x.gate) same, ap (λ (x : Journal NodeDisk). x.epoch) same) refl in
+    rw (rest, left.1, left.3, ap (λ (x : Journal NodeDisk). x.area) same, ap (λ (x : Journal NodeDisk). x.gate) same, ap (λ (x : Journal NodeDisk). x.epoch) same) refl in
     let fronts = flush_keeps s j f call next calls is h.flush h.appending.behind left.2 in (
       inl (own ∙ sym here),
       record {
@@ -322,6 +383,7 @@ flush_goes s j k f g call next calls is rest same gave keeps n p h =
         flush = keeps h.flush;
         appending = appends_on j k same (ap (λ (b : Areas). closes_in b j.area) left.1 ∙ fronts.0.0) h.appending;
         beside = beside_flush g k (next ∷ calls) rest (knows_on j k same (ap (λ (b : Areas). closes_in b (other_area j.area)) left.1 ∙ fronts.0.1) (fronts.1 h.beside));
+        snaps = h.snaps;
       },
     )
 
@@ -343,7 +405,7 @@ write_refused s j k f e area from bytes calls is (inr gave) n p h =
     let left = starved_by j.disk k.disk area from bytes h.calm gave.3 in
     let old : Seat = seat_of n p (does.Serving (record { core = s; slots = j; flush = f })) in
     let here : seats.starve_flush (flush_of f) old ≡ seats.starve_flush (seats.Writing (Write area from bytes ∷ calls)) old = ap (λ (x : seats.Flush). seats.starve_flush x old) is in
-    let own : Path Answer (Err e, seat_of n p (does.Faulted k.disk)) (seats.starve_flush (seats.Writing (Write area from bytes ∷ calls)) old) = rw (gave.0, left.1) refl in
+    let own : Path Answer (Err e, seat_of n p (does.Faulted k.disk)) (seats.starve_flush (seats.Writing (Write area from bytes ∷ calls)) old) = rw (gave.0, left.1, left.2) refl in
     (inr (own ∙ sym here), left.0)
 
 pub sync_refused : (s : NodeState) (j k : Journal NodeDisk) (f : Flush) (e : Refusal) → IsRefused (λ old r new. FailingSync MemorySync old r new) j k e → CarriesOn at.Device (record { core = s; slots = j; flush = f }) (Err e) (does.Faulted k.disk)
@@ -356,12 +418,12 @@ pub write_failing : (n p : ℕ) (fill : List ℕ) (s : NodeState) (j armed k : J
     → CarriesFailing n p fill (does.Serving (record { core = s; slots = j; flush = f })) (Err because.Device) (does.Faulted k.disk)
 write_failing n p fill s j armed k f e area from bytes calls is arms refused h = by (subst (λ (x : Journal NodeDisk). IsRefused (λ old r new. FailingWrite MemoryWrite old area from bytes r new) x k e) arms refused)
   where
-    ends : (x : seats.Flush) → flush_of f ≡ x → (left : (k.disk.below.areas ≡ after_failing fill (Write area from bytes) j.disk.below.areas) ⊎ (k.disk.below.areas ≡ after_starved (Write area from bytes) j.disk.below.areas)) → x ≡ seats.Writing (Write area from bytes ∷ calls)
+    ends : (x : seats.Flush) → flush_of f ≡ x → (left : (k.disk.below.areas ≡ after_failing fill (Write area from bytes) j.disk.below.areas) ⊎ (k.disk.below.areas ≡ after_starved (Write area from bytes) j.disk.below.areas)) → k.disk.calls ≡ counted j.disk.calls → x ≡ seats.Writing (Write area from bytes ∷ calls)
         → Fails fill (seat_of n p (does.Serving (record { core = s; slots = j; flush = f }))) (Err because.Device) (seat_of n p (does.Faulted k.disk))
-    ends x g (inl left) e = inl (rw left (sym (ap (λ (y : seats.Flush). seats.fail_flush (after_failing fill) y (seat_of n p (does.Serving (record { core = s; slots = j; flush = f })))) (g ∙ e))))
-    ends x g (inr left) e = inr (rw left (sym (ap (λ (y : seats.Flush). seats.fail_flush after_starved y (seat_of n p (does.Serving (record { core = s; slots = j; flush = f })))) (g ∙ e))))
+    ends x g (inl left) count e = inl (rw (left, count) (sym (ap (λ (y : seats.Flush). seats.fail_flush (after_failing fill) y (seat_of n p (does.Serving (record { core = s; slots = j; flush = f })))) (g ∙ e))))
+    ends x g (inr left) count e = inr (rw (left, count) (sym (ap (λ (y : seats.Flush). seats.fail_flush after_starved y (seat_of n p (does.Serving (record { core = s; slots = j; flush = f })))) (g ∙ e))))
 
     by : IsRefused (λ old r new. FailingWrite MemoryWrite old area from bytes r new) (record j { disk = record j.disk { due = Some fill } }) k e
         → Fails fill (seat_of n p (does.Serving (record { core = s; slots = j; flush = f }))) (Err because.Device) (seat_of n p (does.Faulted k.disk)) × (k.disk.due ≡ None)
     by (inl failed) = absurd (false≢true (sym h.sound ∙ failed.1))
-    by (inr gave) = let left = write_fails fill area from bytes j.disk k.disk (Err because.Device) gave.3 in (ends (flush_of f) refl left.1 is, left.0)
+    by (inr gave) = let left = write_fails fill area from bytes j.disk k.disk (Err because.Device) gave.3 in (ends (flush_of f) refl left.1 left.2 is, left.0)

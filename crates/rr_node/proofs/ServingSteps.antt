@@ -113,18 +113,18 @@ told_keeps p w s input =
     ap (λ (v : World). v.kept p) (after_steps-append w (step_of_input p input) (map (Stage p) (facts_of_input s input)))
     ∙ ap (λ (k : ℕ → List Fact). k p) (stages_keep p (after_steps w (step_of_input p input)) (facts_of_input s input) ∙ input_keeps p w input)
 
-module _ (n p : ℕ) (w : World) (both : Areas) (s : NodeState) (journal : Journaled) (flush : Flush) (h : InStep n p (seated n p both (Serving s journal flush)) w) where
+module _ (n p k : ℕ) (w : World) (both : Areas) (s : NodeState) (journal : Journaled) (flush : Flush) (h : InStep n p (seated n p k both (Serving s journal flush)) w) where
   -- an input that isn't refused is a run of steps
   pub told_in_step : (event : node.NodeEvent) (input : Input) → MayBe p event (steps_of_event p s (Told input)) → IsProperEvent n (Told input) → worldly.MayCome w p s (Told input)
-      → (let x = told input s journal flush (seated n p both (Serving s journal flush)) in GoesOn n p (MayBe p event) w x.0 x.1)
+      → (let x = told input s journal flush (seated n p k both (Serving s journal flush)) in GoesOn n p (MayBe p event) w x.0 x.1)
   told_in_step event input may proper comes = by (refusal_of input s)
     where
-      by : (o : Option Refusal) → (let x = option_map_or (λ e. refuse e (seated n p both (Serving s journal flush))) o (goes_on outcome.Quiet (Serving (node_step input s) journal flush) (seated n p both (Serving s journal flush))) in GoesOn n p (MayBe p event) w x.0 x.1)
-      by (Some e) = refuses n p w event (seated n p both (Serving s journal flush)) e h
+      by : (o : Option Refusal) → (let x = option_map_or (λ e. refuse e (seated n p k both (Serving s journal flush))) o (goes_on outcome.Quiet (Serving (node_step input s) journal flush) (seated n p k both (Serving s journal flush))) in GoesOn n p (MayBe p event) w x.0 x.1)
+      by (Some e) = refuses n p w event (seated n p k both (Serving s journal flush)) e h
       by None =
           let says = event_says p s (Told input) w in
           let same = input_stays input s in
-          goes n p (MayBe p event) w (Ok outcome.Quiet) (seated n p both (Serving (node_step input s) journal flush)) (steps_of_event p s (Told input)) tt may
+          goes n p (MayBe p event) w (Ok outcome.Quiet) (seated n p k both (Serving (node_step input s) journal flush)) (steps_of_event p s (Told input)) tt may
           (event_runs n p w both s journal flush h.doing (Told input) proper tt comes) (event_at p s (Told input))
           (record {
             exists = h.exists;
@@ -136,40 +136,40 @@ module _ (n p : ℕ) (w : World) (both : Areas) (s : NodeState) (journal : Journ
           says.0 says.1 (λ m held. absurd (no_member m held))
 
   -- a submit, a message, and the node's own affairs
-  pub submits : (c : Command) → (let x = told (Submit c) s journal flush (seated n p both (Serving s journal flush)) in GoesOn n p (MayBe p (at.Submit c)) w x.0 x.1)
+  pub submits : (c : Command) → (let x = told (Submit c) s journal flush (seated n p k both (Serving s journal flush)) in GoesOn n p (MayBe p (at.Submit c)) w x.0 x.1)
   submits c = told_in_step (at.Submit c) (Submit c) (inr (facts_of_input s (Submit c), refl)) tt tt
 
-  pub hears : (m : Message) → Contains w.wire m → m.to ≡ p → m.from < n → NamesRounds m.body → (let x = told (Hear m) s journal flush (seated n p both (Serving s journal flush)) in GoesOn n p (MayBe p (at.Hear m)) w x.0 x.1)
+  pub hears : (m : Message) → Contains w.wire m → m.to ≡ p → m.from < n → NamesRounds m.body → (let x = told (Hear m) s journal flush (seated n p k both (Serving s journal flush)) in GoesOn n p (MayBe p (at.Hear m)) w x.0 x.1)
   hears m sent here from names =
       told_in_step (at.Hear m) (Hear m)
       (inr (facts_of_input s (Hear m), ap (λ (b : Bool). (if b then world.Hear p m ∷ [] else []) ++ map (Stage p) (facts_of_input s (Hear m))) (eq-eqb m.to p here)))
       (from, names) (λ to. sent)
 
-  pub suspects : (set : ℕ) → (let x = told (Suspect set) s journal flush (seated n p both (Serving s journal flush)) in GoesOn n p (MayBe p (at.Suspect set)) w x.0 x.1)
+  pub suspects : (set : ℕ) → (let x = told (Suspect set) s journal flush (seated n p k both (Serving s journal flush)) in GoesOn n p (MayBe p (at.Suspect set)) w x.0 x.1)
   suspects set = told_in_step (at.Suspect set) (Suspect set) (facts_of_input s (Suspect set), refl) tt tt
 
-  pub ticks : (let x = told Tick s journal flush (seated n p both (Serving s journal flush)) in GoesOn n p (MayBe p at.Tick) w x.0 x.1)
+  pub ticks : (let x = told Tick s journal flush (seated n p k both (Serving s journal flush)) in GoesOn n p (MayBe p at.Tick) w x.0 x.1)
   ticks = told_in_step at.Tick Tick (facts_of_input s Tick, refl) tt tt
 
-  pub advances : (let x = told Advance s journal flush (seated n p both (Serving s journal flush)) in GoesOn n p (MayBe p at.Advance) w x.0 x.1)
+  pub advances : (let x = told Advance s journal flush (seated n p k both (Serving s journal flush)) in GoesOn n p (MayBe p at.Advance) w x.0 x.1)
   advances = told_in_step at.Advance Advance (facts_of_input s Advance, refl) tt tt
 
   -- ---- what leaves the node
 
   -- a message
-  pub sends : (let x = send_off s journal flush (seated n p both (Serving s journal flush)) in GoesOn n p (MayBe p at.Send) w x.0 x.1)
+  pub sends : (let x = send_off s journal flush (seated n p k both (Serving s journal flush)) in GoesOn n p (MayBe p at.Send) w x.0 x.1)
   sends = by (next_leaving s) refl
     where
       by : (o : Option Message) → next_leaving s ≡ o
-          → (let x = option_map_or (λ m. goes_on (outcome.Left m) (Serving (message_left s) journal flush) (seated n p both (Serving s journal flush))) o (Ok outcome.Quiet, seated n p both (Serving s journal flush)) in GoesOn n p (MayBe p at.Send) w x.0 x.1)
-      by None is = does_nothing n p w at.Send (seated n p both (Serving s journal flush)) h
+          → (let x = option_map_or (λ m. goes_on (outcome.Left m) (Serving (message_left s) journal flush) (seated n p k both (Serving s journal flush))) o (Ok outcome.Quiet, seated n p k both (Serving s journal flush)) in GoesOn n p (MayBe p at.Send) w x.0 x.1)
+      by None is = does_nothing n p w at.Send (seated n p k both (Serving s journal flush)) h
       by (Some m) is =
           let serves : IsServing n p w both s journal flush = h.doing in
           let comes = reached_may_leave n p serves.facts serves.heard s serves.reached w in
           let names = reached_names_rounds n p serves.facts serves.heard s serves.reached m is in
           let steps : steps_of_event p s Left ≡ Send p m ∷ [] = ap (λ (o : Option Message). option_map_or (λ x. Send p x ∷ []) o []) is in
           let kept : (after_steps w (steps_of_event p s Left)).kept p ≡ w.kept p = ap (λ (ss : List Step). (after_steps w ss).kept p) steps in
-          goes n p (MayBe p at.Send) w (Ok (outcome.Left m)) (seated n p both (Serving (message_left s) journal flush)) (Send p m ∷ []) tt (inr (m, refl))
+          goes n p (MayBe p at.Send) w (Ok (outcome.Left m)) (seated n p k both (Serving (message_left s) journal flush)) (Send p m ∷ []) tt (inr (m, refl))
           (subst (λ (ss : List Step). IsRunFrom n w ss) steps (event_runs n p w both s journal flush h.doing Left tt tt comes)) (refl, tt)
           (record {
             exists = h.exists;
@@ -190,15 +190,15 @@ module _ (n p : ℕ) (w : World) (both : Areas) (s : NodeState) (journal : Journ
               by_case (inr same) = same
 
   -- a reply
-  pub replies : (let x = reply_off s journal flush (seated n p both (Serving s journal flush)) in GoesOn n p (MayBe p at.Acknowledge) w x.0 x.1)
+  pub replies : (let x = reply_off s journal flush (seated n p k both (Serving s journal flush)) in GoesOn n p (MayBe p at.Acknowledge) w x.0 x.1)
   replies = by (next_acknowledged s) refl
     where
       replied : (q : RequestNo) (o : Option Reply) → steps_of_event p s Answered ≡ option_map_or (λ (reply : Reply). world.Acknowledge p q reply ∷ []) o []
-          → (let x = option_map_or (λ reply. goes_on (outcome.Replied q reply) (Serving (acknowledged s) journal flush) (seated n p both (Serving s journal flush))) o (Ok outcome.Quiet, seated n p both (Serving s journal flush)) in GoesOn n p (MayBe p at.Acknowledge) w x.0 x.1)
-      replied q None steps = does_nothing n p w at.Acknowledge (seated n p both (Serving s journal flush)) h
+          → (let x = option_map_or (λ reply. goes_on (outcome.Replied q reply) (Serving (acknowledged s) journal flush) (seated n p k both (Serving s journal flush))) o (Ok outcome.Quiet, seated n p k both (Serving s journal flush)) in GoesOn n p (MayBe p at.Acknowledge) w x.0 x.1)
+      replied q None steps = does_nothing n p w at.Acknowledge (seated n p k both (Serving s journal flush)) h
       replied q (Some reply) steps =
           let kept : (after_steps w (steps_of_event p s Answered)).kept p ≡ w.kept p = ap (λ (ss : List Step). (after_steps w ss).kept p) steps in
-          goes n p (MayBe p at.Acknowledge) w (Ok (outcome.Replied q reply)) (seated n p both (Serving (acknowledged s) journal flush)) (world.Acknowledge p q reply ∷ []) tt (inr (q, reply, refl))
+          goes n p (MayBe p at.Acknowledge) w (Ok (outcome.Replied q reply)) (seated n p k both (Serving (acknowledged s) journal flush)) (world.Acknowledge p q reply ∷ []) tt (inr (q, reply, refl))
           (subst (λ (ss : List Step). IsRunFrom n w ss) steps (event_runs n p w both s journal flush h.doing Answered tt tt tt)) (refl, tt)
           (record {
             exists = h.exists;
@@ -211,6 +211,6 @@ module _ (n p : ℕ) (w : World) (both : Areas) (s : NodeState) (journal : Journ
           (sym (append-nil w.wire)) refl (λ m held. absurd (no_member m held))
 
       by : (o : Option RequestNo) → next_acknowledged s ≡ o
-          → (let x = option_map_or (λ q. option_map_or (λ reply. goes_on (outcome.Replied q reply) (Serving (acknowledged s) journal flush) (seated n p both (Serving s journal flush))) (reply_of (decided_prefix s) q) (Ok outcome.Quiet, seated n p both (Serving s journal flush))) o (Ok outcome.Quiet, seated n p both (Serving s journal flush)) in GoesOn n p (MayBe p at.Acknowledge) w x.0 x.1)
-      by None is = does_nothing n p w at.Acknowledge (seated n p both (Serving s journal flush)) h
+          → (let x = option_map_or (λ q. option_map_or (λ reply. goes_on (outcome.Replied q reply) (Serving (acknowledged s) journal flush) (seated n p k both (Serving s journal flush))) (reply_of (decided_prefix s) q) (Ok outcome.Quiet, seated n p k both (Serving s journal flush))) o (Ok outcome.Quiet, seated n p k both (Serving s journal flush)) in GoesOn n p (MayBe p at.Acknowledge) w x.0 x.1)
+      by None is = does_nothing n p w at.Acknowledge (seated n p k both (Serving s journal flush)) h
       by (Some q) is = replied q (reply_of (decided_prefix s) q) (ap (λ (o : Option RequestNo). option_map_or (λ r. option_map_or (λ reply. world.Acknowledge p r reply ∷ []) (reply_of (decided_prefix s) r) []) o []) is)

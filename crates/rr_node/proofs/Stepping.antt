@@ -4,6 +4,7 @@ use Rattle.rr_types.specs.declared.refusal.Refusal.{Refusal}
 use Rattle.rr_types.specs.declared.refusal.Refusal.TheVariants as because
 use Rattle.rr_model.specs.World.{World}
 use Rattle.rr_disk.specs.Areas.{Areas, synced}
+use Rattle.rr_disk.specs.Counts.{counted}
 use Rattle.rr_disk.specs.Crash.{Images}
 use Rattle.rr_journal.specs.Calls.{Call, Read, Write, Sync, after_starved}
 use Rattle.rr_journal.specs.Openings as opening
@@ -25,58 +26,58 @@ use Rattle.rr_node.proofs.ServingSteps.{nothing, refuses, submits, hears, suspec
 use Rattle.rr_node.proofs.SwitchSteps.{snaps_in_step}
 use Rattle.rr_node.proofs.FlushSteps.{takes_in_step, marks_in_step, device_in_step, starves_in_step}
 
-module _ (n p : ℕ) (few : n ≤ 7) (w : World) (areas : Areas) where
+module _ (n p k : ℕ) (few : n ≤ 7) (w : World) (areas : Areas) where
   -- an idle node is only started
-  idle_in_step : (doing : Doing) (e : Refusal) → IsDown p w → InStep n p (seated n p areas doing) w → (event : NodeEvent) → (let x = wait event (seated n p areas doing) e in GoesOn n p (MayBe p event) w x.0 x.1)
+  idle_in_step : (doing : Doing) (e : Refusal) → IsDown p w → InStep n p (seated n p k areas doing) w → (event : NodeEvent) → (let x = wait event (seated n p k areas doing) e in GoesOn n p (MayBe p event) w x.0 x.1)
   idle_in_step doing e down h at.Restart =
-      stays n p (MayBe p at.Restart) w (Ok Quiet) (seated n p areas (Opening opening.Settling)) refl
-      (record { exists = h.exists; nodes = refl; node = refl; in_order = h.in_order; doing = (down, seat_holds n p (seated n p areas doing) w h) }) (record { unsent = refl; untold = refl })
-  idle_in_step doing e down h (at.Submit c) = refuses n p w (at.Submit c) (seated n p areas doing) e h
-  idle_in_step doing e down h (at.Hear m) = refuses n p w (at.Hear m) (seated n p areas doing) e h
-  idle_in_step doing e down h (at.Suspect set) = refuses n p w (at.Suspect set) (seated n p areas doing) e h
-  idle_in_step doing e down h at.Tick = refuses n p w at.Tick (seated n p areas doing) e h
-  idle_in_step doing e down h at.Advance = refuses n p w at.Advance (seated n p areas doing) e h
-  idle_in_step doing e down h at.Take = refuses n p w at.Take (seated n p areas doing) e h
-  idle_in_step doing e down h at.Device = refuses n p w at.Device (seated n p areas doing) e h
-  idle_in_step doing e down h at.Mark = refuses n p w at.Mark (seated n p areas doing) e h
-  idle_in_step doing e down h at.Send = refuses n p w at.Send (seated n p areas doing) e h
-  idle_in_step doing e down h at.Acknowledge = refuses n p w at.Acknowledge (seated n p areas doing) e h
-  idle_in_step doing e down h at.Snap = refuses n p w at.Snap (seated n p areas doing) e h
+      stays n p (MayBe p at.Restart) w (Ok Quiet) (seated n p k areas (Opening opening.Settling)) refl
+      (record { exists = h.exists; nodes = refl; node = refl; in_order = h.in_order; doing = (down, seat_holds n p (seated n p k areas doing) w h) }) (record { unsent = refl; untold = refl })
+  idle_in_step doing e down h (at.Submit c) = refuses n p w (at.Submit c) (seated n p k areas doing) e h
+  idle_in_step doing e down h (at.Hear m) = refuses n p w (at.Hear m) (seated n p k areas doing) e h
+  idle_in_step doing e down h (at.Suspect set) = refuses n p w (at.Suspect set) (seated n p k areas doing) e h
+  idle_in_step doing e down h at.Tick = refuses n p w at.Tick (seated n p k areas doing) e h
+  idle_in_step doing e down h at.Advance = refuses n p w at.Advance (seated n p k areas doing) e h
+  idle_in_step doing e down h at.Take = refuses n p w at.Take (seated n p k areas doing) e h
+  idle_in_step doing e down h at.Device = refuses n p w at.Device (seated n p k areas doing) e h
+  idle_in_step doing e down h at.Mark = refuses n p w at.Mark (seated n p k areas doing) e h
+  idle_in_step doing e down h at.Send = refuses n p w at.Send (seated n p k areas doing) e h
+  idle_in_step doing e down h at.Acknowledge = refuses n p w at.Acknowledge (seated n p k areas doing) e h
+  idle_in_step doing e down h at.Snap = refuses n p w at.Snap (seated n p k areas doing) e h
 
   -- one that opens makes its device calls
-  opening_in_step : (phase : opening.Phase) → InStep n p (seated n p areas (Opening phase)) w → (event : NodeEvent) → (let x = await_opening phase (seated n p areas (Opening phase)) event in GoesOn n p (MayBe p event) w x.0 x.1)
-  opening_in_step phase h at.Device = opens_in_step n p few w areas phase h
-  opening_in_step phase h at.Restart = refuses n p w at.Restart (seated n p areas (Opening phase)) because.Busy h
-  opening_in_step phase h (at.Submit c) = refuses n p w (at.Submit c) (seated n p areas (Opening phase)) because.Down h
-  opening_in_step phase h (at.Hear m) = refuses n p w (at.Hear m) (seated n p areas (Opening phase)) because.Down h
-  opening_in_step phase h (at.Suspect set) = refuses n p w (at.Suspect set) (seated n p areas (Opening phase)) because.Down h
-  opening_in_step phase h at.Tick = refuses n p w at.Tick (seated n p areas (Opening phase)) because.Down h
-  opening_in_step phase h at.Advance = refuses n p w at.Advance (seated n p areas (Opening phase)) because.Down h
-  opening_in_step phase h at.Take = refuses n p w at.Take (seated n p areas (Opening phase)) because.Down h
-  opening_in_step phase h at.Mark = refuses n p w at.Mark (seated n p areas (Opening phase)) because.Down h
-  opening_in_step phase h at.Send = refuses n p w at.Send (seated n p areas (Opening phase)) because.Down h
-  opening_in_step phase h at.Acknowledge = refuses n p w at.Acknowledge (seated n p areas (Opening phase)) because.Down h
-  opening_in_step phase h at.Snap = refuses n p w at.Snap (seated n p areas (Opening phase)) because.Down h
+  opening_in_step : (phase : opening.Phase) → InStep n p (seated n p k areas (Opening phase)) w → (event : NodeEvent) → (let x = await_opening phase (seated n p k areas (Opening phase)) event in GoesOn n p (MayBe p event) w x.0 x.1)
+  opening_in_step phase h at.Device = opens_in_step n p k few w areas phase h
+  opening_in_step phase h at.Restart = refuses n p w at.Restart (seated n p k areas (Opening phase)) because.Busy h
+  opening_in_step phase h (at.Submit c) = refuses n p w (at.Submit c) (seated n p k areas (Opening phase)) because.Down h
+  opening_in_step phase h (at.Hear m) = refuses n p w (at.Hear m) (seated n p k areas (Opening phase)) because.Down h
+  opening_in_step phase h (at.Suspect set) = refuses n p w (at.Suspect set) (seated n p k areas (Opening phase)) because.Down h
+  opening_in_step phase h at.Tick = refuses n p w at.Tick (seated n p k areas (Opening phase)) because.Down h
+  opening_in_step phase h at.Advance = refuses n p w at.Advance (seated n p k areas (Opening phase)) because.Down h
+  opening_in_step phase h at.Take = refuses n p w at.Take (seated n p k areas (Opening phase)) because.Down h
+  opening_in_step phase h at.Mark = refuses n p w at.Mark (seated n p k areas (Opening phase)) because.Down h
+  opening_in_step phase h at.Send = refuses n p w at.Send (seated n p k areas (Opening phase)) because.Down h
+  opening_in_step phase h at.Acknowledge = refuses n p w at.Acknowledge (seated n p k areas (Opening phase)) because.Down h
+  opening_in_step phase h at.Snap = refuses n p w at.Snap (seated n p k areas (Opening phase)) because.Down h
 
   -- one that is up does as it is told
-  serving_in_step : (s : NodeState) (journal : Journaled) (flush : Flush) → InStep n p (seated n p areas (Serving s journal flush)) w → (event : NodeEvent) → MayCome n p w event
-      → (let x = serve s journal flush (seated n p areas (Serving s journal flush)) event in IsSpelt x.1.doing → GoesOn n p (MayBe p event) w x.0 x.1)
-  serving_in_step s journal flush h (at.Submit c) comes = λ spelt. submits n p w areas s journal flush h c
-  serving_in_step s journal flush h (at.Hear m) comes = λ spelt. hears n p w areas s journal flush h m comes.0 comes.1 comes.2 comes.3
-  serving_in_step s journal flush h (at.Suspect set) comes = λ spelt. suspects n p w areas s journal flush h set
-  serving_in_step s journal flush h at.Tick comes = λ spelt. ticks n p w areas s journal flush h
-  serving_in_step s journal flush h at.Advance comes = λ spelt. advances n p w areas s journal flush h
-  serving_in_step s journal flush h at.Take comes = takes_in_step n p w areas s journal flush h
-  serving_in_step s journal flush h at.Device comes = λ spelt. device_in_step n p w areas s journal h.exists flush h
-  serving_in_step s journal flush h at.Mark comes = λ spelt. marks_in_step n p w areas s journal flush h
-  serving_in_step s journal flush h at.Send comes = λ spelt. sends n p w areas s journal flush h
-  serving_in_step s journal flush h at.Acknowledge comes = λ spelt. replies n p w areas s journal flush h
-  serving_in_step s journal flush h at.Snap comes = snaps_in_step n p w areas s journal flush h
-  serving_in_step s journal flush h at.Restart comes = λ spelt. refuses n p w at.Restart (seated n p areas (Serving s journal flush)) because.Busy h
+  serving_in_step : (s : NodeState) (journal : Journaled) (flush : Flush) → InStep n p (seated n p k areas (Serving s journal flush)) w → (event : NodeEvent) → MayCome n p w event
+      → (let x = serve s journal flush (seated n p k areas (Serving s journal flush)) event in IsSpelt x.1.doing → GoesOn n p (MayBe p event) w x.0 x.1)
+  serving_in_step s journal flush h (at.Submit c) comes = λ spelt. submits n p k w areas s journal flush h c
+  serving_in_step s journal flush h (at.Hear m) comes = λ spelt. hears n p k w areas s journal flush h m comes.0 comes.1 comes.2 comes.3
+  serving_in_step s journal flush h (at.Suspect set) comes = λ spelt. suspects n p k w areas s journal flush h set
+  serving_in_step s journal flush h at.Tick comes = λ spelt. ticks n p k w areas s journal flush h
+  serving_in_step s journal flush h at.Advance comes = λ spelt. advances n p k w areas s journal flush h
+  serving_in_step s journal flush h at.Take comes = takes_in_step n p k w areas s journal flush h
+  serving_in_step s journal flush h at.Device comes = λ spelt. device_in_step n p k w areas s journal h.exists flush h
+  serving_in_step s journal flush h at.Mark comes = λ spelt. marks_in_step n p k w areas s journal flush h
+  serving_in_step s journal flush h at.Send comes = λ spelt. sends n p k w areas s journal flush h
+  serving_in_step s journal flush h at.Acknowledge comes = λ spelt. replies n p k w areas s journal flush h
+  serving_in_step s journal flush h at.Snap comes = snaps_in_step n p k w areas s journal flush h
+  serving_in_step s journal flush h at.Restart comes = λ spelt. refuses n p w at.Restart (seated n p k areas (Serving s journal flush)) because.Busy h
 
   -- where memory is there
-  doing_in_step : (doing : Doing) → InStep n p (seated n p areas doing) w → (event : NodeEvent) → MayCome n p w event
-      → (let x = by_doing event (seated n p areas doing) doing in IsSpelt x.1.doing → GoesOn n p (MayBe p event) w x.0 x.1)
+  doing_in_step : (doing : Doing) → InStep n p (seated n p k areas doing) w → (event : NodeEvent) → MayCome n p w event
+      → (let x = by_doing event (seated n p k areas doing) doing in IsSpelt x.1.doing → GoesOn n p (MayBe p event) w x.0 x.1)
   doing_in_step Stopped h event comes = λ spelt. idle_in_step Stopped because.Down h.doing.0 h event
   doing_in_step Faulted h event comes = λ spelt. idle_in_step Faulted because.Failed h.doing.0 h event
   doing_in_step (Opening phase) h event comes = λ spelt. opening_in_step phase h event
@@ -87,53 +88,72 @@ module _ (n p : ℕ) (few : n ≤ 7) (w : World) (areas : Areas) where
   synced_holds order each images left = subst (λ (x : Images). HoldsSome n p (w.kept p) (w.staged p) x) (rest_image (contents areas) images left) (each (contents areas) (own_image areas order))
 
   -- an opening for whose device call memory is wanting ends
-  opening_starves : (phase : opening.Phase) → InStep n p (seated n p areas (Opening phase)) w → (call : Call) → due_call phase ≡ call
-      → (let x = starve_opening call (seated n p areas (Opening phase)) in GoesOn n p (MayBe p at.Device) w x.0 x.1)
+  opening_starves : (phase : opening.Phase) → InStep n p (seated n p k areas (Opening phase)) w → (call : Call) → due_call phase ≡ call
+      → (let x = starve_opening call (seated n p k areas (Opening phase)) in GoesOn n p (MayBe p at.Device) w x.0 x.1)
   opening_starves phase h (Read area) is =
-      down_falls n p n p (MayBe p at.Device) w (Err because.OutOfMemory) areas Stopped (nothing p at.Device) stopped h.exists refl refl (opening_down n p w areas phase h.doing) h.in_order
-      (seat_holds n p (seated n p areas (Opening phase)) w h) (record { unsent = refl; untold = refl })
+      down_falls n p n p (counted k) (MayBe p at.Device) w (Err because.OutOfMemory) areas Stopped (nothing p at.Device) stopped h.exists refl refl (opening_down n p w areas phase h.doing) h.in_order
+      (seat_holds n p (seated n p k areas (Opening phase)) w h) (record { unsent = refl; untold = refl })
   opening_starves phase h (Write area from bytes) is =
       let left = subst (λ (c : Call). AreInOrder (after_starved c areas) × EachHoldsSome n p w (after_starved c areas)) is
-      (opening_fails after_starved starvation n p w areas phase h.in_order h.doing (seat_holds n p (seated n p areas (Opening phase)) w h)) in
-      down_falls n p n p (MayBe p at.Device) w (Err because.Device) (after_starved (Write area from bytes) areas) Faulted (nothing p at.Device) faulted h.exists refl refl (opening_down n p w areas phase h.doing) left.0 left.1 (record { unsent = refl; untold = refl })
+      (opening_fails after_starved starvation n p w areas phase h.in_order h.doing (seat_holds n p (seated n p k areas (Opening phase)) w h)) in
+      down_falls n p n p (counted k) (MayBe p at.Device) w (Err because.Device) (after_starved (Write area from bytes) areas) Faulted (nothing p at.Device) faulted h.exists refl refl (opening_down n p w areas phase h.doing) left.0 left.1 (record { unsent = refl; untold = refl })
   opening_starves phase h Sync is =
-      down_falls n p n p (MayBe p at.Device) w (Err because.OutOfMemory) (synced areas) Stopped (nothing p at.Device) stopped h.exists refl refl (opening_down n p w areas phase h.doing) (synced_in_order areas h.in_order)
-      (synced_holds h.in_order (seat_holds n p (seated n p areas (Opening phase)) w h)) (record { unsent = refl; untold = refl })
+      down_falls n p n p (counted k) (MayBe p at.Device) w (Err because.OutOfMemory) (synced areas) Stopped (nothing p at.Device) stopped h.exists refl refl (opening_down n p w areas phase h.doing) (synced_in_order areas h.in_order)
+      (synced_holds h.in_order (seat_holds n p (seated n p k areas (Opening phase)) w h)) (record { unsent = refl; untold = refl })
 
-  device_starves : (doing : Doing) → InStep n p (seated n p areas doing) w → (let x = starve_device doing (seated n p areas doing) in GoesOn n p (MayBe p at.Device) w x.0 x.1)
-  device_starves Stopped h = refuses n p w at.Device (seated n p areas Stopped) because.OutOfMemory h
-  device_starves Faulted h = refuses n p w at.Device (seated n p areas Faulted) because.OutOfMemory h
+  device_starves : (doing : Doing) → InStep n p (seated n p k areas doing) w → (let x = starve_device doing (seated n p k areas doing) in GoesOn n p (MayBe p at.Device) w x.0 x.1)
+  device_starves Stopped h = refuses n p w at.Device (seated n p k areas Stopped) because.OutOfMemory h
+  device_starves Faulted h = refuses n p w at.Device (seated n p k areas Faulted) because.OutOfMemory h
   device_starves (Opening phase) h = opening_starves phase h (due_call phase) refl
-  device_starves (Serving s journal flush) h = starves_in_step n p w areas s journal h.exists flush h
+  device_starves (Serving s journal flush) h = starves_in_step n p k w areas s journal h.exists flush h
+
+  -- sending, acknowledging and a restart take no memory
+  sends_starved : (doing : Doing) → InStep n p (seated n p k areas doing) w → (let x = by_doing at.Send (seated n p k areas doing) doing in GoesOn n p (MayBe p at.Send) w x.0 x.1)
+  sends_starved Stopped h = idle_in_step Stopped because.Down h.doing.0 h at.Send
+  sends_starved Faulted h = idle_in_step Faulted because.Failed h.doing.0 h at.Send
+  sends_starved (Opening phase) h = opening_in_step phase h at.Send
+  sends_starved (Serving s journal flush) h = sends n p k w areas s journal flush h
+
+  replies_starved : (doing : Doing) → InStep n p (seated n p k areas doing) w → (let x = by_doing at.Acknowledge (seated n p k areas doing) doing in GoesOn n p (MayBe p at.Acknowledge) w x.0 x.1)
+  replies_starved Stopped h = idle_in_step Stopped because.Down h.doing.0 h at.Acknowledge
+  replies_starved Faulted h = idle_in_step Faulted because.Failed h.doing.0 h at.Acknowledge
+  replies_starved (Opening phase) h = opening_in_step phase h at.Acknowledge
+  replies_starved (Serving s journal flush) h = replies n p k w areas s journal flush h
+
+  restarts_starved : (doing : Doing) → InStep n p (seated n p k areas doing) w → (let x = by_doing at.Restart (seated n p k areas doing) doing in GoesOn n p (MayBe p at.Restart) w x.0 x.1)
+  restarts_starved Stopped h = idle_in_step Stopped because.Down h.doing.0 h at.Restart
+  restarts_starved Faulted h = idle_in_step Faulted because.Failed h.doing.0 h at.Restart
+  restarts_starved (Opening phase) h = opening_in_step phase h at.Restart
+  restarts_starved (Serving s journal flush) h = refuses n p w at.Restart (seated n p k areas (Serving s journal flush)) because.Busy h
 
   -- where memory is wanting
-  starves : (doing : Doing) → InStep n p (seated n p areas doing) w → (event : NodeEvent) → (let x = starve event (seated n p areas doing) in GoesOn n p (MayBe p event) w x.0 x.1)
-  starves doing h (at.Submit c) = refuses n p w (at.Submit c) (seated n p areas doing) because.OutOfMemory h
-  starves doing h (at.Hear m) = refuses n p w (at.Hear m) (seated n p areas doing) because.OutOfMemory h
-  starves doing h (at.Suspect set) = refuses n p w (at.Suspect set) (seated n p areas doing) because.OutOfMemory h
-  starves doing h at.Tick = refuses n p w at.Tick (seated n p areas doing) because.OutOfMemory h
-  starves doing h at.Advance = refuses n p w at.Advance (seated n p areas doing) because.OutOfMemory h
-  starves doing h at.Take = refuses n p w at.Take (seated n p areas doing) because.OutOfMemory h
+  starves : (doing : Doing) → InStep n p (seated n p k areas doing) w → (event : NodeEvent) → (let x = starve event (seated n p k areas doing) in GoesOn n p (MayBe p event) w x.0 x.1)
+  starves doing h (at.Submit c) = refuses n p w (at.Submit c) (seated n p k areas doing) because.OutOfMemory h
+  starves doing h (at.Hear m) = refuses n p w (at.Hear m) (seated n p k areas doing) because.OutOfMemory h
+  starves doing h (at.Suspect set) = refuses n p w (at.Suspect set) (seated n p k areas doing) because.OutOfMemory h
+  starves doing h at.Tick = refuses n p w at.Tick (seated n p k areas doing) because.OutOfMemory h
+  starves doing h at.Advance = refuses n p w at.Advance (seated n p k areas doing) because.OutOfMemory h
+  starves doing h at.Take = refuses n p w at.Take (seated n p k areas doing) because.OutOfMemory h
   starves doing h at.Device = device_starves doing h
-  starves doing h at.Mark = refuses n p w at.Mark (seated n p areas doing) because.OutOfMemory h
-  starves doing h at.Send = refuses n p w at.Send (seated n p areas doing) because.OutOfMemory h
-  starves doing h at.Acknowledge = refuses n p w at.Acknowledge (seated n p areas doing) because.OutOfMemory h
-  starves doing h at.Snap = refuses n p w at.Snap (seated n p areas doing) because.OutOfMemory h
-  starves doing h at.Restart = refuses n p w at.Restart (seated n p areas doing) because.OutOfMemory h
+  starves doing h at.Mark = refuses n p w at.Mark (seated n p k areas doing) because.OutOfMemory h
+  starves doing h at.Send = sends_starved doing h
+  starves doing h at.Acknowledge = replies_starved doing h
+  starves doing h at.Snap = refuses n p w at.Snap (seated n p k areas doing) because.OutOfMemory h
+  starves doing h at.Restart = restarts_starved doing h
 
 pub steps_in_step : (n p : ℕ) → n ≤ 7 → StepsInStep n p
 steps_in_step n p few event seat next w answer h comes gives spelt = by gives
   where
-    same : seat ≡ seated n p seat.areas seat.doing
-    same = λ i. record { nodes = h.nodes i; node = h.node i; doing = seat.doing; areas = seat.areas }
+    same : seat ≡ seated n p seat.calls seat.areas seat.doing
+    same = λ i. record { nodes = h.nodes i; node = h.node i; doing = seat.doing; areas = seat.areas; calls = seat.calls }
 
-    here : InStep n p (seated n p seat.areas seat.doing) w
+    here : InStep n p (seated n p seat.calls seat.areas seat.doing) w
     here = record { exists = h.exists; nodes = refl; node = refl; in_order = h.in_order; doing = h.doing }
 
     by : Gives event seat answer next → GoesOn n p (MayBe p event) w answer next
     by (inl is) =
         let own = is ∙ ap (λ (x : Seat). by_doing event x seat.doing) same in
-        given n p (MayBe p event) w answer next (by_doing event (seated n p seat.areas seat.doing) seat.doing) own
-        (doing_in_step n p few w seat.areas seat.doing here event comes (subst (λ (a : Answer). IsSpelt a.1.doing) own spelt))
+        given n p (MayBe p event) w answer next (by_doing event (seated n p seat.calls seat.areas seat.doing) seat.doing) own
+        (doing_in_step n p seat.calls few w seat.areas seat.doing here event comes (subst (λ (a : Answer). IsSpelt a.1.doing) own spelt))
     by (inr is) =
-        given n p (MayBe p event) w answer next (starve event (seated n p seat.areas seat.doing)) (is ∙ ap (starve event) same) (starves n p few w seat.areas seat.doing here event)
+        given n p (MayBe p event) w answer next (starve event (seated n p seat.calls seat.areas seat.doing)) (is ∙ ap (starve event) same) (starves n p seat.calls few w seat.areas seat.doing here event)

@@ -14,6 +14,7 @@ use Rattle.rr_model.proofs.NodeReached.{reached_itself}
 use Rattle.rr_disk.specs.declared.area.Area.{Area}
 use Rattle.rr_disk.specs.declared.area.Area.TheVariants.{First, Second}
 use Rattle.rr_disk.specs.Areas.{Areas, extent_of, bytes_of, synced}
+use Rattle.rr_disk.specs.Counts.{counted}
 use Rattle.rr_disk.specs.Crash.{Images, restarted}
 use Rattle.rr_frame.specs.Snapshots.{Snapped}
 use Rattle.rr_frame.specs.SnapshotFormat.{snapshot_bytes, IsLawfulSnapshot}
@@ -25,9 +26,10 @@ use Rattle.rr_journal.specs.OtherAreas.{other_area, closes_in}
 use Rattle.rr_journal.proofs.FlushLaws.{length-frame}
 use Rattle.rr_journal.proofs.FormatLaws.{open_at_front}
 use Rattle.rr_journal.proofs.OpeningLaws.{bytes_firm}
-use Rattle.rr_slots.specs.declared.switch.Stage as slots
-use Rattle.rr_slots.specs.declared.switch.Stage.TheVariants as step
-use Rattle.rr_slots.specs.Switches.{call_at, stage_behind, calls_from, switch_calls}
+use Rattle.rr_journal.specs.declared.stage.Stage as slots
+use Rattle.rr_journal.specs.declared.stage.Stage.TheVariants as step
+use Rattle.rr_journal.specs.Stages.{call_at, stage_behind, calls_from}
+use Rattle.rr_slots.specs.Switches.{switch_calls}
 use Rattle.rr_slots.specs.SwitchTable.{IsAtStage}
 use Rattle.rr_slots.proofs.SwitchLaws.{Behind, body_is_due, goes}
 use Rattle.rr_node.specs.declared.event.NodeEvent.TheVariants as at
@@ -40,7 +42,7 @@ use Rattle.rr_node.proofs.Going.{stays}
 use Rattle.rr_node.proofs.Falling.{seated, switch_body, switch_small}
 use Rattle.rr_node.proofs.ServingSteps.{nothing, refuses, does_nothing}
 
-module _ (n p : ℕ) (w : World) (both : Areas) (s : NodeState) (journal : Journaled) where
+module _ (n p k : ℕ) (w : World) (both : Areas) (s : NodeState) (journal : Journaled) where
   -- the snapshot that it makes is of its kept facts
   snapshot_is : (facts : List Fact) (h : Heard) → IsReached n p facts h s → IsInWorld false n p facts h s w → snapshot_of s journal ≡ snapshot_over n p journal (w.kept p)
   snapshot_is facts h reached world =
@@ -51,7 +53,7 @@ module _ (n p : ℕ) (w : World) (both : Areas) (s : NodeState) (journal : Journ
 
   -- ---- the device calls
 
-  module _ (calls : List Call) (h : InStep n p (seated n p both (Serving s journal (Switching calls))) w) where
+  module _ (calls : List Call) (h : InStep n p (seated n p k both (Serving s journal (Switching calls))) w) where
     abbrev body : List ℕ
     body = frame_bytes (snapshot_bytes (snapshot_over n p journal (w.kept p)))
 
@@ -66,11 +68,11 @@ module _ (n p : ℕ) (w : World) (both : Areas) (s : NodeState) (journal : Journ
 
     -- on to the next stage
     to : (stage : slots.Stage) (areas : Areas) → AreInOrder areas → (on : (start : Images) × IsOver slots_at start (w.kept p) × IsAtStage stage (switch_at n p journal (w.kept p) stage) start (w.kept p) areas)
-        → GoesOn n p (MayBe p at.Device) w (Ok Quiet) (seated n p areas (Serving s journal (Switching (calls_from other body stage))))
+        → GoesOn n p (MayBe p at.Device) w (Ok Quiet) (seated n p (counted k) areas (Serving s journal (Switching (calls_from other body stage))))
     to stage areas order on =
         let serves = h.doing in
         let f = h.doing.flushes in
-        stays n p (MayBe p at.Device) w (Ok Quiet) (seated n p areas (Serving s journal (Switching (calls_from other body stage)))) (nothing p at.Device)
+        stays n p (MayBe p at.Device) w (Ok Quiet) (seated n p (counted k) areas (Serving s journal (Switching (calls_from other body stage)))) (nothing p at.Device)
         (record {
           exists = h.exists;
           nodes = refl;
@@ -90,12 +92,12 @@ module _ (n p : ℕ) (w : World) (both : Areas) (s : NodeState) (journal : Journ
 
     -- behind the last one the other area is active
     ends : (areas : Areas) → AreInOrder areas → (end : Images) → areas ≡ restarted end → IsOver (journal_at n p (record { area = other; gate = length body; epoch = journal.epoch + 1 }) (length (w.kept p))) end (w.kept p)
-        → GoesOn n p (MayBe p at.Device) w (Ok Quiet) (seated n p areas (Serving s (journal_switched s journal) Resting))
+        → GoesOn n p (MayBe p at.Device) w (Ok Quiet) (seated n p (counted k) areas (Serving s (journal_switched s journal) Resting))
     ends areas order end stands over =
         let serves = h.doing in
         let snapshot = snapshot_is serves.facts serves.heard serves.reached serves.in_world in
         let gate : length body ≡ 5 + length (snapshot_bytes (snapshot_of s journal)) = length-frame (snapshot_bytes (snapshot_over n p journal (w.kept p))) ∙ ap (λ (x : Snapped). 5 + length (snapshot_bytes x)) (sym snapshot) in
-        stays n p (MayBe p at.Device) w (Ok Quiet) (seated n p areas (Serving s (journal_switched s journal) Resting)) (nothing p at.Device)
+        stays n p (MayBe p at.Device) w (Ok Quiet) (seated n p (counted k) areas (Serving s (journal_switched s journal) Resting)) (nothing p at.Device)
         (record {
           exists = h.exists;
           nodes = refl;
@@ -119,7 +121,7 @@ module _ (n p : ℕ) (w : World) (both : Areas) (s : NodeState) (journal : Journ
         goes slots_at (w.kept p) (length (w.kept p)) h.doing.flushes.spelt (omega (arith, h.doing.flushes.small)) stage h.doing.start both (after_call (call_at other body stage) both) h.doing.over stands refl
 
     switch_by : (stage : slots.Stage) → IsAtStage stage (switch_at n p journal (w.kept p) stage) h.doing.start (w.kept p) both
-        → (let x = flush_on s journal (seated n p both (Serving s journal (Switching calls))) (Switching (calls_from other body stage)) in GoesOn n p (MayBe p at.Device) w x.0 x.1)
+        → (let x = flush_on s journal (seated n p k both (Serving s journal (Switching calls))) (Switching (calls_from other body stage)) in GoesOn n p (MayBe p at.Device) w x.0 x.1)
     switch_by step.Closing stands = to step.SettlingClosed (after_call (call_at other body step.Closing) both) (ordered step.Closing) (leads step.Closing stands)
     switch_by step.SettlingClosed stands = to step.WritingBody (after_call (call_at other body step.SettlingClosed) both) (ordered step.SettlingClosed) (leads step.SettlingClosed stands)
     switch_by step.WritingBody stands = to step.SettlingBody (after_call (call_at other body step.WritingBody) both) (ordered step.WritingBody) (leads step.WritingBody stands)
@@ -130,9 +132,9 @@ module _ (n p : ℕ) (w : World) (both : Areas) (s : NodeState) (journal : Journ
         ends (synced both) (ordered step.SettlingGate) end.0 end.1 (record { holds = end.2.over.holds; active = end.2.over.active })
 
     -- the next device call of a switch
-    pub switches_on : (let x = flush_on s journal (seated n p both (Serving s journal (Switching calls))) (Switching calls) in GoesOn n p (MayBe p at.Device) w x.0 x.1)
+    pub switches_on : (let x = flush_on s journal (seated n p k both (Serving s journal (Switching calls))) (Switching calls) in GoesOn n p (MayBe p at.Device) w x.0 x.1)
     switches_on =
-        subst (λ (cs : List Call). (let x = flush_on s journal (seated n p both (Serving s journal (Switching calls))) (Switching cs) in GoesOn n p (MayBe p at.Device) w x.0 x.1)) (sym h.doing.flushes.calls_left)
+        subst (λ (cs : List Call). (let x = flush_on s journal (seated n p k both (Serving s journal (Switching calls))) (Switching cs) in GoesOn n p (MayBe p at.Device) w x.0 x.1)) (sym h.doing.flushes.calls_left)
         (switch_by h.doing.flushes.stage h.doing.flushes.stands)
 
   -- ---- the beginning
@@ -171,9 +173,9 @@ module _ (n p : ℕ) (w : World) (both : Areas) (s : NodeState) (journal : Journ
       if fits then goes_on Quiet (Serving s journal (Switching (switch_calls (other_area journal.area) (closes_in seat.areas (other_area journal.area)) (snapshot_bytes (snapshot_of s journal))))) seat
       else refuse because.TooLarge seat
 
-  snaps : (h : InStep n p (seated n p both (Serving s journal Resting)) w) (fits : Bool) → may_snap s journal ≡ fits
-      → (let x = snapped_with (seated n p both (Serving s journal Resting)) fits in IsSpelt x.1.doing → GoesOn n p (MayBe p at.Snap) w x.0 x.1)
-  snaps h false is spelt = refuses n p w at.Snap (seated n p both (Serving s journal Resting)) because.TooLarge h
+  snaps : (h : InStep n p (seated n p k both (Serving s journal Resting)) w) (fits : Bool) → may_snap s journal ≡ fits
+      → (let x = snapped_with (seated n p k both (Serving s journal Resting)) fits in IsSpelt x.1.doing → GoesOn n p (MayBe p at.Snap) w x.0 x.1)
+  snaps h false is spelt = refuses n p w at.Snap (seated n p k both (Serving s journal Resting)) because.TooLarge h
   snaps h true is spelt =
       let serves = h.doing in
       let same = snapshot_is serves.facts serves.heard serves.reached serves.in_world in
@@ -182,7 +184,7 @@ module _ (n p : ℕ) (w : World) (both : Areas) (s : NodeState) (journal : Journ
       let own_spelt : IsLawfulSnapshot (snapshot_over n p journal (w.kept p)) = subst IsLawfulSnapshot same spelt in
       let first = begins (w.kept p) serves.start serves.flushes.1 serves.over own_spelt own_small in
       let calls : List Call = switch_calls (other_area journal.area) (closes_in both (other_area journal.area)) (snapshot_bytes (snapshot_of s journal)) in
-      stays n p (MayBe p at.Snap) w (Ok Quiet) (seated n p both (Serving s journal (Switching calls))) (nothing p at.Snap)
+      stays n p (MayBe p at.Snap) w (Ok Quiet) (seated n p k both (Serving s journal (Switching calls))) (nothing p at.Snap)
       (record {
         exists = h.exists;
         nodes = refl;
@@ -207,9 +209,9 @@ module _ (n p : ℕ) (w : World) (both : Areas) (s : NodeState) (journal : Journ
       })
       (record { unsent = refl; untold = refl })
 
-  pub snaps_in_step : (flush : Flush) → InStep n p (seated n p both (Serving s journal flush)) w
-      → (let x = snap_up s journal flush (seated n p both (Serving s journal flush)) in IsSpelt x.1.doing → GoesOn n p (MayBe p at.Snap) w x.0 x.1)
+  pub snaps_in_step : (flush : Flush) → InStep n p (seated n p k both (Serving s journal flush)) w
+      → (let x = snap_up s journal flush (seated n p k both (Serving s journal flush)) in IsSpelt x.1.doing → GoesOn n p (MayBe p at.Snap) w x.0 x.1)
   snaps_in_step Resting h = snaps h (may_snap s journal) refl
-  snaps_in_step (Writing calls) h = λ spelt. refuses n p w at.Snap (seated n p both (Serving s journal (Writing calls))) because.Busy h
-  snaps_in_step Flushed h = λ spelt. refuses n p w at.Snap (seated n p both (Serving s journal Flushed)) because.Busy h
-  snaps_in_step (Switching calls) h = λ spelt. refuses n p w at.Snap (seated n p both (Serving s journal (Switching calls))) because.Busy h
+  snaps_in_step (Writing calls) h = λ spelt. refuses n p w at.Snap (seated n p k both (Serving s journal (Writing calls))) because.Busy h
+  snaps_in_step Flushed h = λ spelt. refuses n p w at.Snap (seated n p k both (Serving s journal Flushed)) because.Busy h
+  snaps_in_step (Switching calls) h = λ spelt. refuses n p w at.Snap (seated n p k both (Serving s journal (Switching calls))) because.Busy h

@@ -7,19 +7,20 @@ use Rattle.rr_types.specs.declared.promise.Entry.{Entry}
 use Rattle.rr_model.specs.NodeState.{NodeState}
 use Rattle.rr_disk.specs.declared.area.Area.{Area}
 use Rattle.rr_disk.specs.Areas.{Areas, synced}
-use Rattle.rr_disk.specs.Counts.{Grew}
+use Rattle.rr_disk.specs.Counts.{counted, Grew}
 use Rattle.rr_disk.specs.Failing.{FailingWrite, FailingSync}
 use Rattle.rr_disk.specs.Memory.{MemoryWrite, MemorySync}
-use Rattle.rr_frame.specs.Snapshots.{Snapped}
+use Rattle.rr_frame.specs.Snapshots.{Snapped, IsSnapshot}
 use Rattle.rr_frame.specs.SnapshotFormat.{snapshot_bytes, IsLawfulSnapshot}
 use Rattle.rr_journal.specs.declared.journal.Journal.{Journal}
 use Rattle.rr_journal.specs.Calls.{Call, Read, Write, Sync, frame_bytes, after_call, after_failing, after_starved}
 use Rattle.rr_journal.specs.OtherAreas.{other_area, closes_in}
-use Rattle.rr_slots.specs.declared.switch.Stage.{Stage}
-use Rattle.rr_slots.specs.declared.switch.Stage.TheVariants.{Closing, SettlingClosed, WritingBody, SettlingBody, OpeningGate, SettlingGate}
+use Rattle.rr_journal.specs.declared.stage.Stage.{Stage}
+use Rattle.rr_journal.specs.declared.stage.Stage.TheVariants.{Closing, SettlingClosed, WritingBody, SettlingBody, OpeningGate, SettlingGate}
 use Rattle.rr_slots.specs.declared.switch.Switching.TheVariants as switching
 use Rattle.rr_slots.specs.Switches as slots
-use Rattle.rr_slots.specs.Switches.{Switch, first_stage, call_at, due_call, calls_from, switch_calls, stage_behind, switched, Gave}
+use Rattle.rr_journal.specs.Stages.{first_stage, call_at, calls_from, stage_behind, Gave}
+use Rattle.rr_slots.specs.Switches.{Switch, due_call, switch_calls, switched}
 use Rattle.rr_slots.specs.SwitchTable.{GoesOn}
 use Rattle.rr_node.specs.declared.doing.Doing.TheVariants as does
 use Rattle.rr_node.specs.declared.serving.Flush.TheVariants as flush
@@ -107,6 +108,7 @@ switch_goes s j k job next went made n p h = (
     appending = appends_on j k same keeps h.appending;
     beside = λ last. ap (λ (x : Switch). closes_in k.disk.below.areas x.area) is ∙ ap (λ (b : Areas). closes_in b job.area) left.1
         ∙ ap (λ (x : Stage). closes_in (after_call (call_at job.area job.body x) j.disk.below.areas) job.area) (opens_before job.stage next.stage went.0 last) ∙ opened_closes j.disk.below.areas job.area;
+    snaps = h.snaps;
   },
 )
   where
@@ -116,7 +118,7 @@ switch_goes s j k job next went made n p h = (
     same : k ≡ record j { disk = k.disk }
     same = went.2
 
-    left : (k.disk.due ≡ None) × (k.disk.below.areas ≡ after_call (due_call job) j.disk.below.areas) × Reaches (due_call job) j.disk.below.areas
+    left : (k.disk.due ≡ None) × (k.disk.below.areas ≡ after_call (due_call job) j.disk.below.areas) × Reaches (due_call job) j.disk.below.areas × (k.disk.calls ≡ counted j.disk.calls)
     left = gave_by (due_call job) j.disk k.disk h.calm made
 
     due : IsDue job.area job.body job.stage next.stage
@@ -132,7 +134,7 @@ switch_goes s j k job next went made n p h = (
     rest = ap (λ (x : Switch). calls_from x.area x.body next.stage) is ∙ due.behind
 
     own : Path Answer (Ok Quiet, seat_of n p (does.Serving (record { core = s; slots = k; flush = flush.Switching next }))) (seats.flush_on s (journaled_of j) old (seats.Switching (due_call job ∷ due.call ∷ due.calls)))
-    own = rw (rest, left.1, ap (λ (x : Journal NodeDisk). x.area) same, ap (λ (x : Journal NodeDisk). x.gate) same, ap (λ (x : Journal NodeDisk). x.epoch) same) refl
+    own = rw (rest, left.1, left.3, ap (λ (x : Journal NodeDisk). x.area) same, ap (λ (x : Journal NodeDisk). x.gate) same, ap (λ (x : Journal NodeDisk). x.epoch) same) refl
 
     keeps : closes_in k.disk.below.areas j.area ≡ closes_in j.disk.below.areas j.area
     keeps = ap (λ (b : Areas). closes_in b j.area) left.1 ∙ ap (λ (a : Area). closes_in (after_call (call_at a job.body job.stage) j.disk.below.areas) j.area) h.flush.area ∙ call_keeps j.disk.below.areas j.area job.body job.stage
@@ -157,6 +159,7 @@ switch_ends s j k job went made n p h = (
     beside = ap (λ (x : Journal NodeDisk). x.closes_other) same ∙ sym (ap (λ (x : Journal NodeDisk). closes_in k.disk.below.areas (other_area x.area)) same ∙ ap (λ (b : Areas). closes_in b (other_area job.area)) areas
         ∙ ap (λ (a : Area). closes_in (synced j.disk.below.areas) (other_area a)) h.flush.area ∙ ap (closes_in (synced j.disk.below.areas)) (other_other j.area)
         ∙ (sync_keeps j.disk.below.areas j.area).0 ∙ h.appending.formatted);
+    snaps = h.snaps;
   },
 )
   where
@@ -166,7 +169,7 @@ switch_ends s j k job went made n p h = (
     last : job.stage ≡ SettlingGate
     last = last_stage job.stage went.0
 
-    left : (k.disk.due ≡ None) × (k.disk.below.areas ≡ after_call (due_call job) j.disk.below.areas) × Reaches (due_call job) j.disk.below.areas
+    left : (k.disk.due ≡ None) × (k.disk.below.areas ≡ after_call (due_call job) j.disk.below.areas) × Reaches (due_call job) j.disk.below.areas × (k.disk.calls ≡ counted j.disk.calls)
     left = gave_by (due_call job) j.disk k.disk h.calm made
 
     areas : k.disk.below.areas ≡ synced j.disk.below.areas
@@ -185,7 +188,7 @@ switch_ends s j k job went made n p h = (
     appends = ap journaled_of same ∙ (λ i. record { area = h.flush.area i; gate = long i; epoch = h.flush.epoch i })
 
     own : Path Answer (Ok Quiet, seat_of n p (does.Serving (record { core = s; slots = k; flush = flush.Resting }))) (seats.flush_on s (journaled_of j) old (seats.Switching (Sync ∷ [])))
-    own = λ i. (Ok Quiet, record { nodes = n; node = p; doing = seats.Serving s (appends i) seats.Resting; areas = areas i })
+    own = λ i. (Ok Quiet, record { nodes = n; node = p; doing = seats.Serving s (appends i) seats.Resting; areas = areas i; calls = left.3 i })
 
 -- what a step of a switch was refused for
 abbrev pub IsRefusedBy : Switch → Journal NodeDisk → Journal NodeDisk → Refusal → Type 0
@@ -208,7 +211,7 @@ switch_refused s j k job e (inr gave) n p h = by (due_call job) refl gave.3
     by (Read area) is made = absurd made
     by (Write area from bytes) is made =
         let left = starved_by j.disk k.disk area from bytes h.calm made in
-        let own : Path Answer (Err e, seat_of n p (does.Faulted k.disk)) (seats.starve_call (Write area from bytes) old) = rw (gave.0, left.1) refl in
+        let own : Path Answer (Err e, seat_of n p (does.Faulted k.disk)) (seats.starve_call (Write area from bytes) old) = rw (gave.0, left.1, left.2) refl in
         (inr (own ∙ sym (here (Write area from bytes) is)), left.0)
     by Sync is made = absurd (false≢true (passed_on j.disk.due _ _ h.calm made).0.0)
 
@@ -223,13 +226,13 @@ switch_failing n p fill s j armed k job e arms refused h = by (subst (λ (x : Jo
     here : (leaves : Call → Areas → Areas) → seats.fail_flush leaves (seats.Switching (calls_from job.area job.body job.stage)) old ≡ seats.fall leaves (due_call job) old
     here leaves = ap (λ (calls : List Call). seats.fail_flush leaves (seats.Switching calls) old) (some_due job.area job.body job.stage).1
 
-    ends : (k.disk.below.areas ≡ after_failing fill (due_call job) j.disk.below.areas) ⊎ (k.disk.below.areas ≡ after_starved (due_call job) j.disk.below.areas) → Fails fill old (Err because.Device) (seat_of n p (does.Faulted k.disk))
-    ends (inl left) = inl (rw left (sym (here (after_failing fill))))
-    ends (inr left) = inr (rw left (sym (here after_starved)))
+    ends : (k.disk.below.areas ≡ after_failing fill (due_call job) j.disk.below.areas) ⊎ (k.disk.below.areas ≡ after_starved (due_call job) j.disk.below.areas) → k.disk.calls ≡ counted j.disk.calls → Fails fill old (Err because.Device) (seat_of n p (does.Faulted k.disk))
+    ends (inl left) count = inl (rw (left, count) (sym (here (after_failing fill))))
+    ends (inr left) count = inr (rw (left, count) (sym (here after_starved)))
 
     by : IsRefusedBy job (record j { disk = record j.disk { due = Some fill } }) k e → Fails fill old (Err because.Device) (seat_of n p (does.Faulted k.disk)) × (k.disk.due ≡ None)
     by (inl failed) = absurd (false≢true (sym h.sound ∙ failed.1))
-    by (inr gave) = let left = gave_failing fill (due_call job) j.disk k.disk gave.3 in (ends left.1, left.0)
+    by (inr gave) = let left = gave_failing fill (due_call job) j.disk k.disk gave.3 in (ends left.1 left.2, left.0)
 
 -- the snapshot of the marked facts is the one that the areas make of them
 snapshot_is : (s : NodeState) (j : Journal NodeDisk) (n p : ℕ) → IsServing n p (record { core = s; slots = j; flush = flush.Resting }) → slots.snapshot_of j s.marked ≡ snapshot_of s (journaled_of j)
@@ -237,6 +240,11 @@ snapshot_is s j n p h =
     let node : j.node ≡ s.node = h.journal_node ∙ sym h.node in
     let nodes : j.nodes ≡ s.nodes = h.journal_nodes ∙ sym h.nodes in
     λ i. record { node = node i; nodes = nodes i; epoch = j.epoch + 1; next = h.flush.2 i; entries = s.marked }
+
+-- a snapshot can hold their promise
+pub may_begin : (s : NodeState) (j : Journal NodeDisk) (promise : List Entry) (n p : ℕ) → promise ≡ s.marked → IsServing n p (record { core = s; slots = j; flush = flush.Resting }) → IsSnapshot (slots.snapshot_of j promise)
+may_begin s j promise n p marked h =
+    subst IsSnapshot (sym (ap (slots.snapshot_of j) marked ∙ snapshot_is s j n p h)) (record { node = h.snaps.node; epoch = omega arith; empty = h.snaps.empty; proposals = h.snaps.proposals })
 
 calls_begin : (area : Area) (closes : Bool) (payload : List ℕ) → calls_from area (frame_bytes payload) (first_stage closes) ≡ switch_calls area closes payload
 calls_begin area true payload = refl
@@ -277,6 +285,7 @@ switch_begun s j k promise job marked epoch lawful short busy is n p h = (
       formatted = ap (λ (x : Journal NodeDisk). closes_in x.disk.below.areas x.area) busy ∙ h.appending.formatted;
     };
     beside = λ last. absurd (not_last j.closes_other (ap (λ (x : Switch). x.stage) (sym is) ∙ last));
+    snaps = h.snaps;
   },
 )
   where

@@ -8,6 +8,7 @@ use Rattle.rr_model.specs.NodeState.{NodeState, decided_prefix}
 use Rattle.rr_model.specs.NodeStep.{Input, Submit, Hear, Suspect, Tick, Advance, node_step, refusal_of, group_taken, marked_running, running_group, next_leaving, message_left, next_acknowledged, acknowledged, started}
 use Rattle.rr_disk.specs.declared.area.Area.{Area}
 use Rattle.rr_disk.specs.Areas.{Areas, extent_of, read_of, at_rest}
+use Rattle.rr_disk.specs.Counts.{counted}
 use Rattle.rr_disk.specs.Crash.{crash_images, restarted}
 use Rattle.rr_frame.specs.GroupFormat.{group_bytes}
 use Rattle.rr_frame.specs.Snapshots.{Snapped}
@@ -42,16 +43,25 @@ pub data Doing : Type 0 where
   Opening : Phase → Doing
   Serving : NodeState → Journaled → Flush → Doing
 
--- a node and its disk: how many nodes there are, which it is, what it does, and what its areas hold
+-- a node and its disk: how many nodes there are, which it is, what it does, what its areas hold, and how many device calls were made
 pub record Seat : Type 0 where
   pub nodes : ℕ
   pub node : ℕ
   pub doing : Doing
   pub areas : Areas
+  pub calls : ℕ
 
 -- node p of n, which was never started, over an empty disk
 abbrev pub new_seat : ℕ → ℕ → Seat
-new_seat n p = record { nodes = n; node = p; doing = Stopped; areas = record { first = at_rest []; second = at_rest [] } }
+new_seat n p = record { nodes = n; node = p; doing = Stopped; areas = record { first = at_rest []; second = at_rest [] }; calls = 0 }
+
+-- the seat after one more device call, which left the areas so
+abbrev pub called : Areas → Seat → Seat
+called both seat = record seat { areas = both; calls = counted seat.calls }
+
+-- at most one device call was made
+abbrev pub AtMostOneCall : Seat → Seat → Type 0
+AtMostOneCall old new = (new.calls ≡ old.calls) ⊎ (new.calls ≡ counted old.calls)
 
 -- what an event answers, and the node after it
 abbrev pub Answer : Type 0
@@ -86,7 +96,7 @@ opens_on seat (Stops e) = (Err e, record seat { doing = Stopped })
 -- the next device call of an opening
 abbrev pub open_on : Seat → Phase → Answer
 open_on seat phase =
-    opens_on (record seat { areas = after_call (due_call phase) seat.areas }) (after_opening_call seat.nodes seat.node (read_by (due_call phase) seat.areas) phase)
+    opens_on (called (after_call (due_call phase) seat.areas) seat) (after_opening_call seat.nodes seat.node (read_by (due_call phase) seat.areas) phase)
 
 -- where the journal appends once the running group is on the disk
 abbrev pub journal_behind : NodeState → Journaled → Journaled
@@ -105,11 +115,11 @@ abbrev pub flush_on : NodeState → Journaled → Seat → Flush → Answer
 flush_on s journal seat Resting = (Ok Quiet, seat)
 flush_on s journal seat Flushed = (Ok Quiet, seat)
 flush_on s journal seat (Writing []) = (Ok Quiet, seat)
-flush_on s journal seat (Writing (call ∷ [])) = goes_on Quiet (Serving s (journal_behind s journal) Flushed) (record seat { areas = after_call call seat.areas })
-flush_on s journal seat (Writing (call ∷ next ∷ calls)) = goes_on Quiet (Serving s journal (Writing (next ∷ calls))) (record seat { areas = after_call call seat.areas })
+flush_on s journal seat (Writing (call ∷ [])) = goes_on Quiet (Serving s (journal_behind s journal) Flushed) (called (after_call call seat.areas) seat)
+flush_on s journal seat (Writing (call ∷ next ∷ calls)) = goes_on Quiet (Serving s journal (Writing (next ∷ calls))) (called (after_call call seat.areas) seat)
 flush_on s journal seat (Switching []) = (Ok Quiet, seat)
-flush_on s journal seat (Switching (call ∷ [])) = goes_on Quiet (Serving s (journal_switched s journal) Resting) (record seat { areas = after_call call seat.areas })
-flush_on s journal seat (Switching (call ∷ next ∷ calls)) = goes_on Quiet (Serving s journal (Switching (next ∷ calls))) (record seat { areas = after_call call seat.areas })
+flush_on s journal seat (Switching (call ∷ [])) = goes_on Quiet (Serving s (journal_switched s journal) Resting) (called (after_call call seat.areas) seat)
+flush_on s journal seat (Switching (call ∷ next ∷ calls)) = goes_on Quiet (Serving s journal (Switching (next ∷ calls))) (called (after_call call seat.areas) seat)
 
 -- an input to a serving node
 abbrev pub told : Input → NodeState → Journaled → Flush → Seat → Answer
@@ -221,14 +231,14 @@ seat_step event seat = by_doing event seat seat.doing
 
 -- a device call of an opening for which memory was wanting, or what comes behind it: a write fails, and else the opening ends
 abbrev pub starve_opening : Call → Seat → Answer
-starve_opening (Read area) seat = (Err because.OutOfMemory, record seat { doing = Stopped })
-starve_opening (Write area at bytes) seat = (Err because.Device, record seat { doing = Faulted; areas = after_starved (Write area at bytes) seat.areas })
-starve_opening Sync seat = (Err because.OutOfMemory, record seat { doing = Stopped; areas = after_call Sync seat.areas })
+starve_opening (Read area) seat = (Err because.OutOfMemory, record (called seat.areas seat) { doing = Stopped })
+starve_opening (Write area at bytes) seat = (Err because.Device, record (called (after_starved (Write area at bytes) seat.areas) seat) { doing = Faulted })
+starve_opening Sync seat = (Err because.OutOfMemory, record (called (after_call Sync seat.areas) seat) { doing = Stopped })
 
 -- a device call of a job for which memory was wanting: a write fails
 abbrev pub starve_call : Call → Seat → Answer
 starve_call (Read area) seat = refuse because.OutOfMemory seat
-starve_call (Write area at bytes) seat = (Err because.Device, record seat { doing = Faulted; areas = after_starved (Write area at bytes) seat.areas })
+starve_call (Write area at bytes) seat = (Err because.Device, record (called (after_starved (Write area at bytes) seat.areas) seat) { doing = Faulted })
 starve_call Sync seat = refuse because.OutOfMemory seat
 
 -- a job for which memory was wanting
@@ -247,7 +257,8 @@ starve_device Faulted seat = refuse because.OutOfMemory seat
 starve_device (Opening phase) seat = starve_opening (due_call phase) seat
 starve_device (Serving s journal flush) seat = starve_flush flush seat
 
--- an event where memory is wanting for it: a device call fails or ends an opening, any other call changes nothing
+-- an event where memory is wanting for it: a device call fails or ends an opening, and what takes memory changes nothing else;
+-- sending, acknowledging and a restart take none
 abbrev pub starve : NodeEvent → Seat → Answer
 starve (at.Submit c) seat = refuse because.OutOfMemory seat
 starve (at.Hear m) seat = refuse because.OutOfMemory seat
@@ -257,10 +268,10 @@ starve at.Advance seat = refuse because.OutOfMemory seat
 starve at.Take seat = refuse because.OutOfMemory seat
 starve at.Device seat = starve_device seat.doing seat
 starve at.Mark seat = refuse because.OutOfMemory seat
-starve at.Send seat = refuse because.OutOfMemory seat
-starve at.Acknowledge seat = refuse because.OutOfMemory seat
+starve at.Send seat = seat_step at.Send seat
+starve at.Acknowledge seat = seat_step at.Acknowledge seat
 starve at.Snap seat = refuse because.OutOfMemory seat
-starve at.Restart seat = refuse because.OutOfMemory seat
+starve at.Restart seat = seat_step at.Restart seat
 
 -- what a node may answer to an event, and be after it: what it answers where memory is there, or where it is wanting
 abbrev pub Gives : NodeEvent → Seat → Result Outcome Refusal → Seat → Type 0
@@ -268,7 +279,7 @@ Gives event seat result next = ((result, next) ≡ seat_step event seat) ⊎ ((r
 
 -- a device call that fails and leaves the areas so: the node has failed
 abbrev pub fall : (Call → Areas → Areas) → Call → Seat → Answer
-fall leaves call seat = (Err because.Device, record seat { doing = Faulted; areas = leaves call seat.areas })
+fall leaves call seat = (Err because.Device, record (called (leaves call seat.areas) seat) { doing = Faulted })
 
 -- the next device call of a job fails; where none is due nothing happens
 abbrev pub fail_flush : (Call → Areas → Areas) → Flush → Seat → Answer

@@ -1,28 +1,23 @@
 -- How the code's node stands for a seat, and what keeps its parts together.
-use Rattle.std.specs.Prelude.{◌≡◌, ◌⊎◌, ℕ, ◌+◌, ◌<◌, ◌^◌, true, false, length, List, [], ◌∷◌, Option, None, Some, Result, Ok, Err}
-use Rattle.rr_types.specs.declared.fact.Fact.{Fact}
-use Rattle.rr_types.specs.declared.promise.Entry.{Entry}
+use Rattle.std.specs.Prelude.{◌≡◌, ◌⊎◌, ℕ, ◌+◌, ◌<◌, true, false, length, List, [], ◌∷◌, Option, None, Some, Result, Ok, Err}
 use Rattle.rr_types.specs.declared.refusal.Refusal.{Refusal}
 use Rattle.rr_types.specs.declared.refusal.Refusal.TheVariants.{OutOfMemory}
 use Rattle.rr_model.specs.NodeState.{NodeState}
-use Rattle.rr_model.specs.NodeStep.{running_group}
+use Rattle.rr_model.specs.NodeStep.{running_group, started}
 use Rattle.rr_disk.specs.Areas.{Areas}
-use Rattle.rr_disk.specs.Crash.{Images, IsCrashImage, restarted}
 use Rattle.rr_disk.specs.Failing.{FailingState}
 use Rattle.rr_disk.specs.Memory.{MemoryState}
 use Rattle.rr_frame.specs.GroupFormat.{group_bytes, IsLawfulGroup}
+use Rattle.rr_frame.specs.Snapshots.{IsSnapshot}
 use Rattle.rr_frame.specs.SnapshotFormat.{snapshot_bytes, IsLawfulSnapshot}
 use Rattle.rr_gate.specs.Flushes as gate
 use Rattle.rr_journal.specs.declared.journal.Journal.{Journal}
 use Rattle.rr_journal.specs.Calls.{Write, Sync, frame_bytes}
-use Rattle.rr_journal.specs.declared.opening.Phase as opening
-use Rattle.rr_journal.specs.declared.opening.Phase.TheVariants as phase
-use Rattle.rr_journal.specs.Journals.{Holds}
-use Rattle.rr_journal.specs.OpeningTable.{OpensWith}
-use Rattle.rr_journal.specs.OtherAreas.{other_area, closes_in, IsOtherKnown, KnowsFronts}
+use Rattle.rr_journal.specs.OtherAreas.{other_area, closes_in, IsOtherKnown}
 use Rattle.rr_journal.specs.Phases.{phase_of}
-use Rattle.rr_slots.specs.declared.switch.Stage.TheVariants as stage
-use Rattle.rr_slots.specs.Switches.{Switch, calls_from}
+use Rattle.rr_journal.specs.declared.stage.Stage.TheVariants as stage
+use Rattle.rr_journal.specs.Stages.{calls_from}
+use Rattle.rr_slots.specs.Switches.{Switch}
 use Rattle.rr_node.specs.declared.doing.Doing as code
 use Rattle.rr_node.specs.declared.doing.Doing.TheVariants as does
 use Rattle.rr_node.specs.declared.serving.Serving.{Serving}
@@ -70,6 +65,13 @@ areas_of (does.Faulted disk) = disk.below.areas
 areas_of (does.Opening opening) = opening.disk.below.areas
 areas_of (does.Serving s) = s.slots.disk.below.areas
 
+-- how many device calls its disk was asked for
+abbrev pub calls_of : code.Doing → ℕ
+calls_of (does.Stopped disk) = disk.calls
+calls_of (does.Faulted disk) = disk.calls
+calls_of (does.Opening opening) = opening.disk.calls
+calls_of (does.Serving s) = s.slots.disk.calls
+
 -- the failure that is due at its disk
 abbrev pub due_of : code.Doing → Option (List ℕ)
 due_of (does.Stopped disk) = disk.due
@@ -79,7 +81,7 @@ due_of (does.Serving s) = s.slots.disk.due
 
 -- a node of so many that does this
 abbrev pub seat_of : ℕ → ℕ → code.Doing → Seat
-seat_of n p doing = record { nodes = n; node = p; doing = doing_of doing; areas = areas_of doing }
+seat_of n p doing = record { nodes = n; node = p; doing = doing_of doing; areas = areas_of doing; calls = calls_of doing }
 
 -- a job is of the core's running group, which has a spelling, and writes its frame where the journal appends
 pub record IsJobOf (s : NodeState) (j : Journal NodeDisk) (job : gate.Flush) : Type 0 where
@@ -125,7 +127,11 @@ pub record IsAppending (j : Journal NodeDisk) : Type 0 where
   pub behind : 0 < j.gate
   pub formatted : closes_in j.disk.below.areas j.area ≡ true
 
--- a node that is up is node p of n over its own journal, which hasn't failed, and no failure is due
+-- a snapshot of a node can hold its marked facts
+abbrev pub MaySnap : NodeState → Type 0
+MaySnap s = IsSnapshot (record { node = s.node; nodes = s.nodes; epoch = 1; next = s.marked_end; entries = s.marked })
+
+-- a node that is up is node p of n over its own journal, which hasn't failed, no failure is due, and a snapshot can hold its marked facts
 pub record IsServing (n p : ℕ) (s : Serving) : Type 0 where
   pub nodes : s.core.nodes ≡ n
   pub node : s.core.node ≡ p
@@ -136,35 +142,13 @@ pub record IsServing (n p : ℕ) (s : Serving) : Type 0 where
   pub flush : IsFlushOf s.core s.slots s.flush
   pub appending : IsAppending s.slots
   pub beside : IsBeside s.flush s.slots
-
--- nothing is loose in either area, of fewer than 2^64 bytes each
-pub record IsAtRest (both : Areas) : Type 0 where
-  pub start : Images
-  pub stands : both ≡ restarted start
-  pub first_fits : length start.of_first < 2 ^ 64
-  pub second_fits : length start.of_second < 2 ^ 64
-
--- an opening knows what stands on its disk: from its sync on nothing is loose, area 0 is what it has read, and a disk that it formats holds no facts
-abbrev pub IsAwaiting : ℕ → ℕ → opening.Phase → Areas → Type 0
-IsAwaiting n p phase.Settling both = (length both.first.cells < 2 ^ 64) × (length both.second.cells < 2 ^ 64)
-IsAwaiting n p phase.ReadingFirst both = IsAtRest both
-IsAwaiting n p (phase.ReadingSecond first) both = (rests : IsAtRest both) × (first.items ≡ rests.start.of_first)
-IsAwaiting n p (phase.Closing body) both = OpensWith n p [] (phase.Closing body) both
-IsAwaiting n p (phase.SettlingClosed body) both = OpensWith n p [] (phase.SettlingClosed body) both
-IsAwaiting n p (phase.WritingBody body) both = OpensWith n p [] (phase.WritingBody body) both
-IsAwaiting n p phase.SettlingBody both = OpensWith n p [] phase.SettlingBody both
-IsAwaiting n p phase.OpeningGate both = OpensWith n p [] phase.OpeningGate both
-IsAwaiting n p phase.SettlingGate both = OpensWith n p [] phase.SettlingGate both
-
--- whatever a crash may leave of these areas holds so many facts
-abbrev pub HoldSoMany : ℕ → ℕ → Areas → ℕ → Type 0
-HoldSoMany n p both count = (images : Images) → IsCrashImage both images → (facts : List Fact) → Holds n p images facts → length facts ≡ count
+  pub snaps : MaySnap s.core
 
 -- what holds of node p of n between events: no failure is due
 abbrev pub IsSteady : ℕ → ℕ → code.Doing → Type 0
 IsSteady n p (does.Stopped disk) = disk.due ≡ None
 IsSteady n p (does.Faulted disk) = disk.due ≡ None
-IsSteady n p (does.Opening o) = (o.nodes ≡ n) × (o.node ≡ p) × (o.disk.due ≡ None) × IsAwaiting n p o.phase o.disk.below.areas × KnowsFronts (phase_of o.phase) o.fronts o.disk.below.areas
+IsSteady n p (does.Opening o) = (o.nodes ≡ n) × (o.node ≡ p) × (o.disk.due ≡ None)
 IsSteady n p (does.Serving s) = IsServing n p s
 
 -- from one steady doing an event leads, with this answer, to another as the definitions say
@@ -189,13 +173,14 @@ pub record IsOpened (n p : ℕ) (j : Journal NodeDisk) : Type 0 where
 abbrev pub CarriesFailing : ℕ → ℕ → List ℕ → code.Doing → Result Outcome Refusal → code.Doing → Type 0
 CarriesFailing n p fill old answer new = IsSteady n p old → Fails fill (seat_of n p old) answer (seat_of n p new) × IsSteady n p new
 
--- an opening of node p of n ended with this journal, promise and number: the node serves, or memory was wanting and it is down
-abbrev pub Serves : ℕ → ℕ → Journal NodeDisk → List Entry → ℕ → Result Outcome Refusal → code.Doing → Type 0
-Serves n p j promise number answer new =
+-- an opening of node p of n ended with this core, just started, and these areas: the node serves, or memory was wanting and it is down
+abbrev pub Serves : ℕ → ℕ → NodeState → Journal NodeDisk → Result Outcome Refusal → code.Doing → Type 0
+Serves n p core j answer new =
     IsOpened n p j
-    → j.next ≡ number
+    → core ≡ started n p core.marked j.next
+    → IsSnapshot (record { node = p; nodes = n; epoch = 1; next = j.next; entries = core.marked })
     → (let given : Answer = (answer, seat_of n p new) in
-    (given ≡ serves j.area (record { epoch = j.epoch; promise = promise; next = number; gate = j.gate }) (seat_of n p (does.Stopped j.disk)))
+    (given ≡ serves j.area (record { epoch = j.epoch; promise = core.marked; next = j.next; gate = j.gate }) (seat_of n p (does.Stopped j.disk)))
     ⊎ (given ≡ (Err OutOfMemory, seat_of n p (does.Stopped j.disk))))
     × IsSteady n p new
 

@@ -23,8 +23,9 @@ use Rattle.rr_journal.specs.Journals.{Holds, IsOver}
 use Rattle.rr_journal.specs.Openings as opening
 use Rattle.rr_journal.specs.OtherAreas.{other_area}
 use Rattle.rr_journal.specs.OpeningTable.{Rests, formatting, Formats, gate_written, Closes}
-use Rattle.rr_slots.specs.declared.switch.Stage as slots
-use Rattle.rr_slots.specs.Switches.{Switch, calls_from}
+use Rattle.rr_journal.specs.declared.stage.Stage as slots
+use Rattle.rr_journal.specs.Stages.{calls_from}
+use Rattle.rr_slots.specs.Switches.{Switch}
 use Rattle.rr_slots.specs.SwitchTable.{IsAtStage}
 use Rattle.rr_node.specs.Seats.{Flush, Resting, Writing, Flushed, Switching, Journaled, Doing, Stopped, Faulted, Opening, Serving, Seat}
 

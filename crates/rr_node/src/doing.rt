@@ -1,21 +1,20 @@
 //! What a node does: nothing, an opening, or its service.
 
-ghost use Rattle.std.specs.Prelude.{◌≡◌, ◌↔◌, None, IsTrue, IfOk, IfErr};
+ghost use Rattle.std.specs.Prelude.{◌≡◌, ◌<◌, ◌↔◌, ℕ, None, IsTrue, IfOk, IfErr};
 ghost use Rattle.rr_types.specs.Registry.{registry_of};
 ghost use Rattle.rr_model.specs.NodeState.{decided_prefix};
 ghost use Rattle.rr_types.specs.declared.refusal.Refusal.TheVariants.{OutOfMemory, Device};
 ghost use Rattle.rr_journal.specs.Openings.{Settling};
 ghost use Rattle.rr_node.specs.Seats as seats;
-ghost use Rattle.rr_node.specs.Views.{Carries, CarriesFailing, Serves, IsSteady, HoldSoMany, areas_of, doing_of, due_of};
+ghost use Rattle.rr_node.specs.Views.{Carries, CarriesFailing, Serves, IsSteady, areas_of, calls_of, doing_of, due_of};
 
 use crate::event::{BoundNames, NodeEvent, Outcome};
 use crate::serving::Serving;
 use rr_core::Core;
-use rr_disk::{Area, Disk, FailingDisk, MemDisk};
-use rr_gate::Opened;
-use rr_journal::{Journal, Opening, Progress};
+use rr_disk::{FailingDisk, MemDisk};
+use rr_recover::{Opening, Progress};
 use rr_slots::Slots;
-use rr_types::{NodeId, Nodes, Promise, Refusal};
+use rr_types::{NodeId, Nodes, Refusal};
 use std::alloc::Global;
 
 /// A node's disk: in memory, with calls that fail on demand.
@@ -38,6 +37,7 @@ impl Doing {
     pub fn into_disk(self) -> NodeDisk
         ensures areas { result.below.areas ≡ areas_of self }
         ensures due { result.due ≡ due_of self }
+        ensures calls { result.calls ≡ calls_of self }
     {
         match self {
             Doing::Stopped(disk) => disk,
@@ -56,7 +56,8 @@ pub fn go_on(
     doing: Doing,
     event: NodeEvent,
 ) -> (Doing, Result<Outcome, Refusal>)
-    requires { IsSteady nodes node doing }
+    requires steady { IsSteady nodes node doing }
+    requires exists { node < nodes }
     ensures { Carries nodes node event doing result.1 result.0 }
 {
     match doing {
@@ -69,7 +70,7 @@ pub fn go_on(
             _ => (Doing::Faulted(disk), Err(Refusal::Failed)),
         },
         Doing::Opening(opening) => match event {
-            NodeEvent::Device => open_on(alloc, nodes, node, opening),
+            NodeEvent::Device => open_on(alloc, opening),
             NodeEvent::Restart => (Doing::Opening(opening), Err(Refusal::Busy)),
             _ => (Doing::Opening(opening), Err(Refusal::Down)),
         },
@@ -79,13 +80,12 @@ pub fn go_on(
 
 /// An opening of the disk begins.
 fn restart(nodes: Nodes, node: NodeId, disk: NodeDisk) -> Doing
+    requires { node < nodes }
     ensures doing { doing_of result ≡ seats.Opening Settling }
     ensures areas { areas_of result ≡ disk.below.areas }
+    ensures calls { calls_of result ≡ disk.calls }
     ensures steady { disk.due ≡ None → IsSteady nodes node result }
 {
-    // The lengths have numbers of 64 bits.
-    let _first = disk.len(Area::First);
-    let _second = disk.len(Area::Second);
     Doing::Opening(Opening::start(nodes, node, disk))
 }
 
@@ -112,20 +112,12 @@ pub fn fail(
 }
 
 /// The next device call of an opening.
-fn open_on(
-    alloc: Global,
-    nodes: Nodes,
-    node: NodeId,
-    opening: Opening<NodeDisk>,
-) -> (Doing, Result<Outcome, Refusal>)
-    requires { IsSteady nodes node (Doing.Opening opening) }
-    ensures { Carries nodes node NodeEvent.Device (Doing.Opening opening) result.1 result.0 }
+fn open_on(alloc: Global, opening: Opening<NodeDisk>) -> (Doing, Result<Outcome, Refusal>)
+    ensures { (n p : ℕ) → Carries n p NodeEvent.Device (Doing.Opening opening) result.1 result.0 }
 {
     match opening.step(alloc) {
         Ok(Progress::More(opening)) => (Doing::Opening(opening), Ok(Outcome::Quiet)),
-        Ok(Progress::Done(journal, promise, number)) => serve(
-            alloc, nodes, node, journal, promise, number,
-        ),
+        Ok(Progress::Done(core, slots)) => serve(alloc, core, slots),
         Err((refusal, disk)) => {
             if is_device(refusal) {
                 (Doing::Faulted(disk), Err(refusal))
@@ -144,30 +136,19 @@ fn is_device(refusal: Refusal) -> bool
 }
 
 /// The node starts to serve.
-fn serve(
-    alloc: Global,
-    nodes: Nodes,
-    node: NodeId,
-    journal: Journal<NodeDisk>,
-    promise: Promise,
-    number: u64,
-) -> (Doing, Result<Outcome, Refusal>)
-    requires { HoldSoMany nodes node journal.disk.below.areas number }
-    ensures { Serves nodes node journal promise number result.1 result.0 }
+fn serve(alloc: Global, core: Core, slots: Slots<NodeDisk>) -> (Doing, Result<Outcome, Refusal>)
+    ensures { (n p : ℕ) → Serves n p core slots result.1 result.0 }
 {
-    let opened = Opened::new(&journal, nodes, node, number);
-    match Core::start(alloc, nodes, node, promise, &opened) {
-        Ok(core) => match bound_names(alloc, &core) {
-            Ok(names) => {
-                let decided = core.decided_count() as u64;
-                (
-                    Doing::Serving(Serving::new(core, Slots::new(journal))),
-                    Ok(Outcome::Opened(number, decided, names)),
-                )
-            }
-            Err(refusal) => (Doing::Stopped(journal.into_disk()), Err(refusal)),
-        },
-        Err(refusal) => (Doing::Stopped(journal.into_disk()), Err(refusal)),
+    match bound_names(alloc, &core) {
+        Ok(names) => {
+            let number = slots.facts();
+            let decided = core.decided_count() as u64;
+            (
+                Doing::Serving(Serving::new(core, slots)),
+                Ok(Outcome::Opened(number, decided, names)),
+            )
+        }
+        Err(refusal) => (Doing::Stopped(slots.into_disk()), Err(refusal)),
     }
 }
 

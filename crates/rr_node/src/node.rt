@@ -1,8 +1,8 @@
 //! A node over its disk.
 
-ghost use Rattle.std.specs.Prelude.{◌≡◌};
+ghost use Rattle.std.specs.Prelude.{◌≡◌, ◌≢◌, ◌<◌};
 ghost use Rattle.rr_node.specs.Runs.{IsSpelt};
-ghost use Rattle.rr_node.specs.Seats.{Gives, Fails, new_seat, crashed};
+ghost use Rattle.rr_node.specs.Seats.{Stopped, Gives, Fails, AtMostOneCall, crashed};
 
 use crate::doing::{Doing, fail, go_on};
 use crate::event::{NodeEvent, Outcome};
@@ -20,6 +20,7 @@ pub struct Node {
 }
 
 impl Model for Node {
+    ghost use Rattle.std.specs.Prelude.{◌<◌};
     ghost use Rattle.rr_node.specs.Seats.{Seat};
     ghost use Rattle.rr_node.specs.Views.{seat_of, IsSteady};
 
@@ -27,7 +28,7 @@ impl Model for Node {
 
     ghost view = { λ n. seat_of n.nodes n.node n.doing };
 
-    ghost invariant = { λ n. IsSteady n.nodes n.node n.doing };
+    ghost invariant = { λ n. (n.node < n.nodes) × IsSteady n.nodes n.node n.doing };
 }
 
 impl Drop for Node {
@@ -43,22 +44,26 @@ impl Drop for Node {
 }
 
 impl Node {
-    /// A node that was never started, over an empty disk.
-    pub fn new(alloc: Global, nodes: Nodes, node: NodeId) -> Node
-        ensures { result ≡ new_seat nodes node }
+    /// One of the nodes, which was never started, over its disk. Device calls are counted from here on.
+    pub fn new(nodes: Nodes, node: NodeId, disk: MemDisk) -> Node
+        requires { node < nodes }
+        ensures { result ≡ record { nodes = nodes; node = node; doing = Stopped; areas = disk.areas; calls = 0 } }
     {
         Node {
             nodes,
             node,
-            doing: Doing::Stopped(FailingDisk::new(MemDisk::new(alloc))),
+            doing: Doing::Stopped(FailingDisk::new(disk)),
         }
     }
 
-    /// An event at the node, with at most one device call. A refused event leaves the node as it was, but for a
-    /// device call: an opening that is refused ends, and a node whose flush fails has failed.
+    /// An event at the node, with at most one device call, and none but by a `Device` event. A refused event leaves
+    /// the node as it was, but for a device call: an opening that is refused ends, and a node whose flush fails has
+    /// failed.
     /// Errors: `OutOfMemory`, `Device`, `Damaged`, `Failed`, `Down`, `ListFull`, `RoundsOut`, `Busy`, `TooLarge`.
     pub fn step(&mut self, alloc: Global, event: NodeEvent) -> Result<Outcome, Refusal>
         ensures gives { Gives event self.old result self.new }
+        ensures one_call { AtMostOneCall self.old self.new }
+        ensures no_call { event ≢ NodeEvent.Device → self.new.calls ≡ self.old.calls }
         ensures spelt { IsSpelt self.new.doing }
     {
         let doing = mem::replace(
@@ -75,6 +80,7 @@ impl Node {
     /// device call is due nothing happens.
     pub fn fail(&mut self, alloc: Global, fill: Vec<u8>) -> Result<Outcome, Refusal>
         ensures fails { Fails fill.items self.old result self.new }
+        ensures one_call { AtMostOneCall self.old self.new }
         ensures spelt { IsSpelt self.new.doing }
     {
         let doing = mem::replace(
@@ -87,9 +93,10 @@ impl Node {
     }
 
     /// The node crashes: each area keeps a length from its safe to its present one, the cut where that lies between,
-    /// and loose bytes take those of the fill in turn.
+    /// and loose bytes take those of the fill in turn. It is no device call.
     pub fn crash(&mut self, alloc: Global, cut_first: u32, cut_second: u32, fill: &[u8])
-        ensures { self.new ≡ crashed cut_first cut_second fill.now self.old }
+        ensures left { self.new ≡ crashed cut_first cut_second fill.now self.old }
+        ensures no_call { self.new.calls ≡ self.old.calls }
     {
         let doing = mem::replace(
             &mut self.doing,
@@ -102,7 +109,8 @@ impl Node {
 
     /// The node's disk, of which whatever ran over it is given up.
     pub fn into_disk(mut self, alloc: Global) -> FailingDisk<MemDisk>
-        ensures { result.below.areas ≡ self.areas }
+        ensures areas { result.below.areas ≡ self.areas }
+        ensures calls { result.calls ≡ self.calls }
     {
         let down = Doing::Stopped(FailingDisk::new(MemDisk::new(alloc)));
         mem::replace(&mut self.doing, down).into_disk()

@@ -3,7 +3,7 @@
 ghost use Rattle.std.specs.Prelude.{◌≡◌, ℕ, Ok, Err, Some};
 ghost use Rattle.rr_model.specs.NodeState.{NodeState};
 ghost use Rattle.rr_model.specs.NodeStep.{running_group, group_put_back};
-ghost use Rattle.rr_node.specs.Views.{CarriesOn, CarriesFailing, quiet};
+ghost use Rattle.rr_node.specs.Views.{IsServing, CarriesOn, CarriesFailing, quiet};
 
 use crate::doing::{Doing, NodeDisk};
 use crate::event::{NodeEvent, Outcome};
@@ -74,6 +74,7 @@ impl Serving {
 
     /// An event at a node that is up, and what it does afterwards.
     pub fn go_on(self, alloc: Global, event: NodeEvent) -> (Doing, Result<Outcome, Refusal>)
+        requires { IsServing self.core.nodes self.core.node self }
         ensures { CarriesOn event self result.1 result.0 }
     {
         let Serving {
@@ -382,6 +383,7 @@ fn snap(
     slots: Slots<NodeDisk>,
     flush: Flush,
 ) -> (Doing, Result<Outcome, Refusal>)
+    requires { IsServing core.nodes core.node (record { core = core; slots = slots; flush = flush }) }
     ensures { CarriesOn NodeEvent.Snap (record { core = core; slots = slots; flush = flush }) result.1 result.0 }
 {
     match flush {
@@ -396,6 +398,7 @@ fn begin_switch(
     core: Core,
     mut slots: Slots<NodeDisk>,
 ) -> (Doing, Result<Outcome, Refusal>)
+    requires { IsServing core.nodes core.node (record { core = core; slots = slots; flush = Flush.Resting }) }
     ensures { CarriesOn NodeEvent.Snap (record { core = core; slots = slots; flush = Flush.Resting }) result.1 result.0 }
 {
     let promise = match core.marked_promise(alloc) {

@@ -5,5 +5,6 @@ pub mod ClusterLaws
 pub mod HeadlineLaws
 pub mod NodeLaws
 pub mod RefusedLaws
+mod ScheduleLaws
 mod DrawingLemmas
 pub mod FailingLaws

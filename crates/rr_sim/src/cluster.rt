@@ -4,6 +4,7 @@ ghost use Rattle.std.specs.Prelude.{◌≡◌, ◌⊎◌, ◌++◌, length, opti
 ghost use Rattle.rr_sim.specs.Clusters.{shown, note_of, new_cluster, at_node, fail_at, hear_at, crash_at, IsEither, Steps, IsSpeltAt, IsSpeltBehind};
 ghost use Rattle.rr_node.specs.Runs.{sent_by};
 
+use rr_disk::MemDisk;
 use rr_node::{Node, NodeEvent, Outcome};
 use rr_registry::Holding;
 use rr_text::{Binding, BoundNames, Event, ReportLine};
@@ -131,7 +132,7 @@ impl Cluster {
         let mut seats = Vec::new(alloc);
         for index in 0..nodes.count() {
             let node = NodeId::new(nodes, index).unwrap();
-            seats.push(Node::new(alloc, nodes, node))?;
+            seats.push(Node::new(nodes, node, MemDisk::new(alloc)))?;
         }
         Ok(Cluster {
             seats,

@@ -16,7 +16,8 @@ use std::alloc::Global;
 
 /// Runs a schedule on `nodes` nodes that are all down at first, over empty disks, and reports what comes of it.
 /// Errors: `BadNodes` outside 1 to 7; `BadEvent` of the line of the first event whose node isn't there;
-/// `OutOfMemory` where the wire or the report can't grow.
+/// `OutOfMemory` where the wire or the report can't grow. On as many nodes as the schedule has it is `OutOfMemory` alone.
+#[tactic(auto, using(crate::proofs::ScheduleLaws::no_fault))]
 pub fn simulate(alloc: Global, nodes: u8, schedule: &Schedule) -> Result<Report, Refusal>
     ensures bad_nodes { IsErrOf result Refusal.BadNodes ↔ ((nodes < 1) ⊎ (7 < nodes)) }
     ensures bad_event { (line : ℕ) → IsErrOf result (Refusal.BadEvent line)
@@ -24,6 +25,7 @@ pub fn simulate(alloc: Global, nodes: u8, schedule: &Schedule) -> Result<Report,
     ensures report { IfOk result (λ report. IsReportOf nodes schedule.now.events report) }
     ensures world { IfOk result (λ report. IsRunOfTheWorld nodes schedule.now.events report) }
     ensures one_list { IfOk result (λ report. AgreesWithOneList schedule.now.events report) }
+    ensures own { nodes ≡ schedule.now.nodes → IfErr result (λ e. e ≡ Refusal.OutOfMemory) }
     ensures else_memory { IfErr result (λ e. (e ≡ Refusal.OutOfMemory) ⊎ (e ≡ Refusal.BadNodes) ⊎ ((line : ℕ) × (e ≡ Refusal.BadEvent line))) }
 {
     let events = schedule.events();
@@ -38,8 +40,14 @@ pub fn simulate(alloc: Global, nodes: u8, schedule: &Schedule) -> Result<Report,
 
 /// Runs a schedule as `simulate` does, and gives the nodes behind its last event, with their disks.
 /// Errors as of `simulate`.
+#[tactic(auto, using(crate::proofs::ScheduleLaws::no_fault))]
 pub fn nodes_after(alloc: Global, nodes: u8, schedule: &Schedule) -> Result<Vec<Node>, Refusal>
-    ensures { IfOk result (λ seats. (end : cluster.Cluster) × Leads 2 schedule.now.events (new_cluster nodes) end × (seats.items ≡ end.seats)) }
+    ensures bad_nodes { IsErrOf result Refusal.BadNodes ↔ ((nodes < 1) ⊎ (7 < nodes)) }
+    ensures bad_event { (line : ℕ) → IsErrOf result (Refusal.BadEvent line)
+        ↔ ((1 ≤ nodes) × (nodes ≤ 7) × (first_fault nodes 2 schedule.now.events ≡ Some line)) }
+    ensures nodes { IfOk result (λ seats. (end : cluster.Cluster) × Leads 2 schedule.now.events (new_cluster nodes) end × (seats.items ≡ end.seats)) }
+    ensures own { nodes ≡ schedule.now.nodes → IfErr result (λ e. e ≡ Refusal.OutOfMemory) }
+    ensures else_memory { IfErr result (λ e. (e ≡ Refusal.OutOfMemory) ⊎ (e ≡ Refusal.BadNodes) ⊎ ((line : ℕ) × (e ≡ Refusal.BadEvent line))) }
 {
     let events = schedule.events();
     match Nodes::new(nodes) {

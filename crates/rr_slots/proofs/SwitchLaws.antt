@@ -23,11 +23,12 @@ use Rattle.rr_journal.specs.OtherAreas.{other_area}
 use Rattle.rr_journal.proofs.FlushLaws.{opened, length-frame}
 use Rattle.rr_journal.proofs.FormatLaws.{closed_blank, open_at_front}
 use Rattle.rr_journal.proofs.OpeningLaws.{either_held, rest_held}
-use Rattle.rr_slots.specs.declared.switch.Stage.{Stage}
-use Rattle.rr_slots.specs.declared.switch.Stage.TheVariants.{Closing, SettlingClosed, WritingBody, SettlingBody, OpeningGate, SettlingGate}
+use Rattle.rr_journal.specs.declared.stage.Stage.{Stage}
+use Rattle.rr_journal.specs.declared.stage.Stage.TheVariants.{Closing, SettlingClosed, WritingBody, SettlingBody, OpeningGate, SettlingGate}
 use Rattle.rr_slots.specs.declared.switch.Switching as code
 use Rattle.rr_slots.specs.declared.switch.Switching.TheVariants as switching
-use Rattle.rr_slots.specs.Switches.{Switch, snapshot_of, first_stage, call_at, due_call, stage_behind, switched}
+use Rattle.rr_journal.specs.Stages.{first_stage, call_at, stage_behind}
+use Rattle.rr_slots.specs.Switches.{Switch, snapshot_of, due_call, switched}
 use Rattle.rr_slots.specs.SwitchTable.{GoesOn, IsSlotsOver, flush_of, IsSwitchOf, IsAtStage, IsSwitching, StandsBehind}
 use Rattle.rr_slots.proofs.BesideLaws.{active_closes, blank_beside}
 use Rattle.rr_slots.proofs.GroundLaws.{content_of, snap_of, held_beside, closing_images, found_snapped, held_snapped, grounded}

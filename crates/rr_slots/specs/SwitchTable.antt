@@ -11,11 +11,12 @@ use Rattle.rr_journal.specs.declared.journal.Journal.{Journal}
 use Rattle.rr_journal.specs.Calls.{Write, after_call, frame_bytes, must_close}
 use Rattle.rr_journal.specs.Journals.{Holds, IsOver}
 use Rattle.rr_journal.specs.OtherAreas.{other_area}
-use Rattle.rr_slots.specs.declared.switch.Stage.{Stage}
-use Rattle.rr_slots.specs.declared.switch.Stage.TheVariants.{Closing, SettlingClosed, WritingBody, SettlingBody, OpeningGate, SettlingGate}
+use Rattle.rr_journal.specs.declared.stage.Stage.{Stage}
+use Rattle.rr_journal.specs.declared.stage.Stage.TheVariants.{Closing, SettlingClosed, WritingBody, SettlingBody, OpeningGate, SettlingGate}
 use Rattle.rr_slots.specs.declared.switch.Switching as code
 use Rattle.rr_slots.specs.declared.switch.Switching.TheVariants as switching
-use Rattle.rr_slots.specs.Switches.{Switch, snapshot_of, stage_behind, switched}
+use Rattle.rr_journal.specs.Stages.{stage_behind}
+use Rattle.rr_slots.specs.Switches.{Switch, snapshot_of, switched}
 
 -- a device call led to the next stage, or to the end of the switch; of the areas only the disk has changed else
 abbrev pub GoesOn : {D : Type 0} → Switch → Journal D → code.Switching → Journal D → Type 0

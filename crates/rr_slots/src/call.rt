@@ -5,16 +5,14 @@ ghost use Rattle.rr_types.specs.declared.refusal.Refusal.TheVariants.{Device, Fa
 ghost use Rattle.rr_disk.specs.Counts.{counted, Grew};
 ghost use Rattle.rr_journal.specs.Calls.{after_call};
 ghost use Rattle.rr_journal.specs.OpeningTable.{IsLeftBy};
-ghost use Rattle.rr_slots.specs.Switches.{due_call, Gave};
+ghost use Rattle.rr_journal.specs.Stages.{Gave};
+ghost use Rattle.rr_slots.specs.Switches.{due_call};
 
 use crate::slots::Slots;
-use crate::switch::{Stage, SwitchJob};
+use crate::switch::SwitchJob;
 use rr_disk::Disk;
 use rr_gate::Host;
 use rr_types::Refusal;
-
-/// An open gate. Every other byte is a closed one.
-const OPEN_GATE: u8 = 0xA5;
 
 /// Makes the device call that is due in a switch. Errors: `Failed` of areas of which a call has failed, and
 /// nothing has changed then; `Device`, of which they take note.
@@ -34,13 +32,7 @@ pub fn make<D: Disk>(slots: &mut Slots<D>, job: &SwitchJob) -> Result<(), Refusa
     if slots.has_failed() {
         return Err(Refusal::Failed);
     }
-    let called = match job.stage() {
-        Stage::Closing => slots.lend().write_at(job.area(), 0, &[0]),
-        Stage::WritingBody => slots.lend().write_at(job.area(), 1, job.body()),
-        Stage::OpeningGate => slots.lend().write_at(job.area(), 0, &[OPEN_GATE]),
-        Stage::SettlingClosed | Stage::SettlingBody | Stage::SettlingGate => slots.lend().sync(),
-    };
-    match called {
+    match job.stage().call(slots.lend(), job.area(), job.body()) {
         Ok(()) => Ok(()),
         Err(e) => {
             slots.note_failure();

@@ -6,6 +6,7 @@ ghost use Rattle.rr_types.specs.declared.refusal.Refusal.TheVariants.{OutOfMemor
 ghost use Rattle.rr_types.specs.Promises.{promise_of, all_fit};
 ghost use Rattle.rr_disk.specs.Crash.{Images, restarted};
 ghost use Rattle.rr_frame.specs.GroupFormat.{group_bytes, IsLawfulGroup};
+ghost use Rattle.rr_frame.specs.Snapshots.{IsSnapshot};
 ghost use Rattle.rr_frame.specs.SnapshotFormat.{snapshot_bytes, IsLawfulSnapshot};
 ghost use Rattle.rr_gate.specs.Moments.{IsAt, body_due, with_group};
 ghost use Rattle.rr_journal.specs.Calls.{frame_bytes};
@@ -17,7 +18,8 @@ ghost use Rattle.rr_journal.specs.Openings.{Settling};
 ghost use Rattle.rr_journal.specs.OpenDisks.{IsOpenWith, IsReady, disk_behind};
 ghost use Rattle.rr_journal.specs.OpeningTable.{contents, IsKept};
 ghost use Rattle.rr_journal.specs.OtherAreas.{other_area, IsOtherKnown};
-ghost use Rattle.rr_slots.specs.Switches.{snapshot_of, first_stage};
+ghost use Rattle.rr_journal.specs.Stages.{first_stage};
+ghost use Rattle.rr_slots.specs.Switches.{snapshot_of};
 ghost use Rattle.rr_slots.specs.SwitchTable.{IsSlotsOver, IsSwitching};
 
 use crate::switch::SwitchJob;
@@ -55,8 +57,8 @@ impl<D: Disk> Slots<D> {
         Slots { journal }
     }
 
-    /// Opens a node's disk by all steps of an opening: the areas, the promise of the facts that they hold, and the
-    /// number of the next fact. A refused opening hands its disk back.
+    /// Opens the disk of one of the nodes by all steps of an opening: the areas, the promise of the facts that they
+    /// hold, and the number of the next fact. A refused opening hands its disk back.
     /// Errors: `OutOfMemory`; `Device`, where a device call failed; `Damaged`, of a disk that holds no facts.
     pub fn open(
         alloc: Global,
@@ -64,6 +66,7 @@ impl<D: Disk> Slots<D> {
         node: NodeId,
         disk: D,
     ) -> Result<(Slots<D>, Promise, u64), (Refusal, D)>
+        requires { node < nodes }
         ensures calls { D.calls (disk_behind result) ≤ D.calls disk + 9 }
         ensures faults { D.faults disk ≤ D.faults (disk_behind result) }
         ensures cause { IfErr result (λ r. IsRefused D.faults disk r) }
@@ -132,12 +135,13 @@ impl<D: Disk> Slots<D> {
         self.journal.begin(alloc, group)
     }
 
-    /// Begins a switch to a snapshot of this promise of the synced facts in the area that isn't active.
+    /// Begins a switch to a snapshot of this promise of the synced facts in the area that isn't active. The promise
+    /// is one that a snapshot of the node can hold, as the promise of its facts is.
     /// Errors: `Failed` after a device failure, `Busy` while a job runs, `TooLarge` where the snapshot would pass
-    /// byte 4,294,967,295 of the area or its epoch 2^64 - 1, `OutOfMemory`; the last also of a promise that no
-    /// facts of the node make. Nothing has changed then.
+    /// byte 4,294,967,295 of the area or its epoch 2^64 - 1, `OutOfMemory`. Nothing has changed then.
     #[tactic(auto, using(crate::proofs::SwitchLaws::begins_of))]
     pub fn begin_snapshot(&mut self, alloc: Global, promise: Promise) -> Result<SwitchJob, Refusal>
+        requires { IsSnapshot (snapshot_of self.old promise) }
         ensures ok { IfOk result (λ job. (self.old.failed ≡ false) × (self.old.busy ≡ false) × (self.old.epoch + 1 < 2 ^ 64)
             × (6 + length (snapshot_bytes (snapshot_of self.old promise)) < 2 ^ 32) × (self.new ≡ record self.old { busy = true })
             × (job ≡ record {
@@ -202,14 +206,16 @@ fn snapshot_frame(
     next: u64,
     promise: Promise,
 ) -> Result<Vec<u8>, Refusal>
+    requires { IsSnapshot (record { node = node; nodes = nodes; epoch = epoch; next = next; entries = promise }) }
     ensures ok { IfOk result (λ body. (body.items ≡ frame_bytes (snapshot_bytes (record { node = node; nodes = nodes; epoch = epoch; next = next; entries = promise })))
         × (6 + length (snapshot_bytes (record { node = node; nodes = nodes; epoch = epoch; next = next; entries = promise })) < 2 ^ 32)) }
     ensures lawful { OnOk result (IsLawfulSnapshot (record { node = node; nodes = nodes; epoch = epoch; next = next; entries = promise })) }
     ensures err { IfErr result (λ e. (e ≡ OutOfMemory)
         ⊎ ((e ≡ TooLarge) × (2 ^ 32 ≤ 6 + length (snapshot_bytes (record { node = node; nodes = nodes; epoch = epoch; next = next; entries = promise }))))) }
 {
-    let Ok(snapshot) = Snapshot::new(nodes, node, epoch, next, promise) else {
-        return Err(Refusal::OutOfMemory);
+    let snapshot = match Snapshot::new(nodes, node, epoch, next, promise) {
+        Ok(snapshot) => snapshot,
+        Err(_) => unreachable!(),
     };
     let payload = encode_snapshot(alloc, &snapshot)?;
     if payload.len() > LARGEST_PAYLOAD {

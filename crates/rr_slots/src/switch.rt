@@ -1,4 +1,4 @@
-//! The job of a switch, and its stages.
+//! The job of a switch.
 
 ghost use Rattle.std.specs.Prelude.{◌≡◌, ◌⊎◌, ℕ, ◌+◌, ◌≤◌, List, true, false, Some, IfOk, IfErr, OnOk, Ok, Err};
 ghost use Rattle.rr_types.specs.declared.fact.Fact.{Fact};
@@ -6,31 +6,16 @@ ghost use Rattle.rr_types.specs.declared.refusal.Refusal.TheVariants.{Device, Fa
 ghost use Rattle.rr_disk.specs.Counts.{counted, Grew};
 ghost use Rattle.rr_gate.specs.Moments.{EachHolds};
 ghost use Rattle.rr_journal.specs.Journals.{Holds};
-ghost use Rattle.rr_slots.specs.Switches.{first_stage, due_call, stage_behind, Gave};
+ghost use Rattle.rr_journal.specs.Stages.{first_stage, stage_behind, Gave};
+ghost use Rattle.rr_slots.specs.Switches.{due_call};
 ghost use Rattle.rr_slots.specs.SwitchTable.{GoesOn, IsSwitching, StandsBehind};
 
 use crate::call::make;
 use crate::slots::Slots;
 use rr_disk::{Area, Disk};
+use rr_journal::Stage;
 use rr_types::{NodeId, Nodes, Refusal};
 use std::marker::Model;
-
-/// How far a switch has come: the device call that is due.
-#[derive(Clone, Copy, Debug)]
-pub enum Stage {
-    /// A closed gate will be written at the front of the area.
-    Closing,
-    /// A sync will make that safe.
-    SettlingClosed,
-    /// The snapshot's frame will be written behind the closed gate.
-    WritingBody,
-    /// A sync will make that safe.
-    SettlingBody,
-    /// The gate will be opened.
-    OpeningGate,
-    /// A sync will make that safe, and the area active.
-    SettlingGate,
-}
 
 /// A switch to a snapshot in the area that isn't active, of six device calls, or of four where that area begins
 /// with a closed gate. A step spends it, whatever it answers; `abandon` spends it when its node has crashed or
@@ -75,11 +60,6 @@ impl SwitchJob {
     ) -> SwitchJob
         ensures { result ≡ record { nodes = nodes; node = node; area = area; epoch = epoch; next = next; body = body.items; stage = first_stage closes } }
     {
-        let stage = if closes {
-            Stage::Closing
-        } else {
-            Stage::WritingBody
-        };
         SwitchJob {
             nodes,
             node,
@@ -87,7 +67,7 @@ impl SwitchJob {
             epoch,
             next,
             body,
-            stage,
+            stage: Stage::first(closes),
         }
     }
 
@@ -181,13 +161,9 @@ impl SwitchJob {
         ensures goes { GoesOn self slots.old result slots.new }
         ensures disk { slots.new.disk ≡ slots.old.disk }
     {
-        match self.stage {
-            Stage::Closing => Switching::More(self.at(Stage::SettlingClosed)),
-            Stage::SettlingClosed => Switching::More(self.at(Stage::WritingBody)),
-            Stage::WritingBody => Switching::More(self.at(Stage::SettlingBody)),
-            Stage::SettlingBody => Switching::More(self.at(Stage::OpeningGate)),
-            Stage::OpeningGate => Switching::More(self.at(Stage::SettlingGate)),
-            Stage::SettlingGate => {
+        match self.stage.next() {
+            Some(stage) => Switching::More(self.at(stage)),
+            None => {
                 slots.note_switch(self.area, self.epoch, self.body.len() as u64);
                 self.abandon();
                 Switching::Done

@@ -1,12 +1,18 @@
 //! Switches from one area to the other, and back.
 
+ghost use Rattle.std.specs.Prelude.{IfOk};
+ghost use Rattle.rr_frame.specs.Snapshots.{IsSnapshot};
+ghost use Rattle.rr_slots.specs.Switches.{snapshot_of};
+
 use crate::{Slots, SwitchJob, Switching};
 use rr_disk::{Area, Disk, MemDisk};
 use rr_types::{NodeId, Nodes, Promise};
 use std::alloc::Global;
 use std::test::Fail;
 
-fn opened(alloc: Global, disk: MemDisk) -> Result<(Slots<MemDisk>, Promise), Fail> {
+fn opened(alloc: Global, disk: MemDisk) -> Result<(Slots<MemDisk>, Promise), Fail>
+    ensures { IfOk result (λ r. IsSnapshot (snapshot_of r.0 r.1)) }
+{
     let nodes = Nodes::new(1)?;
     let node = NodeId::new(nodes, 0).ok_or("a node")?;
     match Slots::open(alloc, nodes, node, disk) {
@@ -32,7 +38,9 @@ fn ended(job: SwitchJob, slots: &mut Slots<MemDisk>) -> Result<(), Fail> {
     }
 }
 
-fn switched(alloc: Global, slots: &mut Slots<MemDisk>, promise: Promise) -> Result<(), Fail> {
+fn switched(alloc: Global, slots: &mut Slots<MemDisk>, promise: Promise) -> Result<(), Fail>
+    requires { IsSnapshot (snapshot_of slots.old promise) }
+{
     let job = slots.begin_snapshot(alloc, promise)?;
     let job = made(job, slots)?;
     let job = made(job, slots)?;

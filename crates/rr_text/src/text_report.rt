@@ -150,28 +150,28 @@ fn push_registry(out: &mut Vec<u8>, decided: u64, bindings: &[Binding]) -> Resul
 }
 
 /// The name of a refusal, without what it says beside.
-fn refusal_name(refusal: &Refusal) -> &'static [u8]
+pub fn refusal_name(refusal: &Refusal) -> &'static str
     ensures { result.now ≡ refusal_name refusal.now }
 {
     match refusal {
-        Refusal::OutOfMemory => b"OutOfMemory",
-        Refusal::Device => b"Device",
-        Refusal::Damaged { .. } => b"Damaged",
-        Refusal::Failed => b"Failed",
-        Refusal::Down => b"Down",
-        Refusal::BadNodes => b"BadNodes",
-        Refusal::BadName => b"BadName",
-        Refusal::BadValue => b"BadValue",
-        Refusal::ListFull => b"ListFull",
-        Refusal::RoundsOut => b"RoundsOut",
-        Refusal::Malformed(_) => b"Malformed",
-        Refusal::StrangeMark => b"StrangeMark",
-        Refusal::Busy => b"Busy",
-        Refusal::BadEvent(_) => b"BadEvent",
-        Refusal::SeatsTaken => b"SeatsTaken",
-        Refusal::TooLarge => b"TooLarge",
-        Refusal::AuditNo(_) => b"AuditNo",
-        Refusal::NoGuard => b"NoGuard",
+        Refusal::OutOfMemory => "OutOfMemory",
+        Refusal::Device => "Device",
+        Refusal::Damaged { .. } => "Damaged",
+        Refusal::Failed => "Failed",
+        Refusal::Down => "Down",
+        Refusal::BadNodes => "BadNodes",
+        Refusal::BadName => "BadName",
+        Refusal::BadValue => "BadValue",
+        Refusal::ListFull => "ListFull",
+        Refusal::RoundsOut => "RoundsOut",
+        Refusal::Malformed(_) => "Malformed",
+        Refusal::StrangeMark => "StrangeMark",
+        Refusal::Busy => "Busy",
+        Refusal::BadEvent(_) => "BadEvent",
+        Refusal::SeatsTaken => "SeatsTaken",
+        Refusal::TooLarge => "TooLarge",
+        Refusal::AuditNo(_) => "AuditNo",
+        Refusal::NoGuard => "NoGuard",
     }
 }
 
@@ -214,7 +214,7 @@ pub fn push_report_words(out: &mut Vec<u8>, report_line: &ReportLine) -> Result<
             push_bytes(out, b"refuse")?;
             push_number_word(out, *line)?;
             push_number_word(out, u64::from(refusal.number()))?;
-            push_word(out, refusal_name(refusal))
+            push_word(out, refusal_name(refusal).as_bytes())
         }
     }
 }

@@ -4,14 +4,14 @@
 //! `sweep` how many crashes in the switch with which it ends kept what it was of.
 #![tactic(auto)]
 
+mod areas;
 mod sweep;
 
 ghost use Rattle.std.specs.Prelude.{◌≡◌, IfOk};
 ghost use Rattle.rr_cli.specs.Ends.{IsReportOn};
 
+use crate::areas::areas_behind;
 use rr_cli::report_on;
-use rr_disk::{Area, Disk};
-use rr_sim::nodes_after;
 use rr_tape::Tape;
 use rr_text::Schedule;
 use rr_types::Refusal;
@@ -57,20 +57,9 @@ fn run(rt: &HostRuntime, path: &str, bytes: &[u8]) -> io::Result<()> {
     }
 }
 
-/// The bytes of both areas of node 0 behind the schedule.
+/// The bytes of both areas of node 0 behind the schedule of these bytes.
 fn areas_after(alloc: Global, bytes: &[u8]) -> Result<[Vec<u8>; 2], Refusal> {
-    let schedule = Schedule::parse(alloc, bytes)?;
-    let mut nodes = nodes_after(alloc, schedule.nodes().count(), &schedule)?;
-    nodes.truncate(1);
-    match nodes.pop() {
-        None => Err(Refusal::BadNodes),
-        Some(node) => {
-            let mut disk = node.into_disk(alloc);
-            let first = disk.read(alloc, Area::First, 0, u64::MAX)?;
-            let second = disk.read(alloc, Area::Second, 0, u64::MAX)?;
-            Ok([first, second])
-        }
-    }
+    areas_behind(alloc, &Schedule::parse(alloc, bytes)?)
 }
 
 fn print_areas(rt: &HostRuntime, path: &str, bytes: &[u8]) -> io::Result<()> {

@@ -1,5 +1,5 @@
 use Rattle.rr_model.specs.NodeStep.{Hear}
-use Rattle.rr_core.proofs.InputSteps.{taken_at}
+use Rattle.rr_core.proofs.TakenLemmas.{taken_at}
 use Rattle.rr_core.proofs.node_core.Core.hear.Goals as goal
 
 pub commit-requires : goal.commit-requires

@@ -1,5 +1,5 @@
 use Rattle.rr_model.specs.NodeStep.{Suspect}
-use Rattle.rr_core.proofs.InputSteps.{taken_at}
+use Rattle.rr_core.proofs.TakenLemmas.{taken_at}
 use Rattle.rr_core.proofs.node_core.Core.suspect.Goals as goal
 
 pub commit-requires : goal.commit-requires

@@ -1,10 +1,11 @@
-use Rattle.std.proofs.Common.{◌≡◌, ◌≤◌, inl, Ok, refl, sym, ap, subst, ◌∙◌, arith}
+use Rattle.std.proofs.Common.{◌≡◌, ◌≤◌, ℕ, ◌+◌, inl, Ok, refl, sym, ap, subst, ◌∙◌, arith}
 use Rattle.rr_journal.specs.declared.opening.Progress.{Progress}
 use Rattle.rr_journal.specs.Journals.{Holds}
 use Rattle.rr_journal.specs.Phases.{phase_of}
 use Rattle.rr_disk.specs.Counts.{counted}
 use Rattle.rr_journal.specs.OpeningCourse.{StaysOnCourse, IsUntouched, end_by}
-use Rattle.rr_journal.specs.OpeningSteps.{Steps}
+use Rattle.rr_frame.specs.Snapshots.{IsSnapshot}
+use Rattle.rr_journal.specs.OpeningSteps.{Steps, MaySnap}
 use Rattle.rr_journal.proofs.CourseLaws.{has_begun, runs_on, still_before, last_left, last_from, all_done, refused_at, ends_refused}
 use Rattle.rr_journal.specs.OpeningTable.{ComesTo, IsKept, disk_after}
 use Rattle.rr_journal.specs.OtherAreas.{KnowsOther}
@@ -65,7 +66,17 @@ pub returns-in-Ok-Done-clause-journal : goal.returns-in-Ok-Done-clause-journal
 returns-in-Ok-Done-clause-journal g c =
     let came = c.loop-refused.invariant.0 in
     let exact = subst (λ (x : Progress g.row.D.Denot). Steps g.D.Disk.read_gives g.D.Disk.write_gives g.D.Disk.sync_gives c.loop-refused.opening (Ok x)) c.in-Ok-Done.field-0-is c.in-Ok-Done.ensures.exact in
-    (ap (λ j. j.nodes) exact.3 ∙ came.same_nodes, ap (λ j. j.node) exact.3 ∙ came.same_node, ap (λ j. j.next) exact.3, ap (λ j. j.failed) exact.3, ap (λ j. j.busy) exact.3)
+    let nodes : c.in-Ok-Done.journal.nodes ≡ c.args.self.nodes = ap (λ j. j.nodes) exact.3 ∙ came.same_nodes in
+    let node : c.in-Ok-Done.journal.node ≡ c.args.self.node = ap (λ j. j.node) exact.3 ∙ came.same_node in
+    let snapshot = subst (λ (x : Progress g.row.D.Denot). MaySnap {D = g.row.D.Denot} x) c.in-Ok-Done.field-0-is c.in-Ok-Done.ensures.snapshot in (
+      nodes,
+      node,
+      ap (λ j. j.next) exact.3,
+      ap (λ j. j.failed) exact.3,
+      ap (λ j. j.busy) exact.3,
+      subst (λ (k : ℕ). IsSnapshot (record { node = k; nodes = c.args.self.nodes; epoch = c.in-Ok-Done.journal.epoch + 1; next = c.in-Ok-Done.number; entries = c.in-Ok-Done.promise })) node
+          (subst (λ (k : ℕ). IsSnapshot (record { node = c.in-Ok-Done.journal.node; nodes = k; epoch = c.in-Ok-Done.journal.epoch + 1; next = c.in-Ok-Done.number; entries = c.in-Ok-Done.promise })) nodes snapshot),
+    )
 
 pub returns-in-Ok-Done-clause-table : goal.returns-in-Ok-Done-clause-table
 returns-in-Ok-Done-clause-table g c tells facts opens =

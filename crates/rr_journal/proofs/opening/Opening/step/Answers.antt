@@ -1,6 +1,8 @@
-use Rattle.std.proofs.Common.{◌≡◌, inr, refl, sym, subst, ◌∙◌, Ok, ℕ, length, false, Vec, Global}
+use Rattle.std.proofs.Common.{◌≡◌, ◌+◌, inr, refl, sym, subst, ◌∙◌, Ok, ℕ, length, false, Vec, Global}
 use Rattle.rr_types.specs.Promises.{promise_of}
 use Rattle.rr_disk.specs.Crash.{Images, restarted}
+use Rattle.rr_frame.specs.Snapshots.{IsSnapshot}
+use Rattle.rr_journal.specs.Image.{Content}
 use Rattle.rr_journal.specs.declared.journal.Journal.{Journal}
 use Rattle.rr_journal.specs.declared.opening.Next.{Next}
 use Rattle.rr_journal.specs.declared.opening.Progress.TheVariants as progress
@@ -16,6 +18,7 @@ use Rattle.rr_journal.proofs.OpeningLaws.{kept, kept_failed, opened_over}
 use Rattle.rr_journal.specs.OpeningTable.{IsReadBy}
 use Rattle.rr_journal.specs.OtherAreas.{front_beside, closes_in, other_area, KnowsRead, IsOtherKnown}
 use Rattle.rr_journal.proofs.OtherLaws.{AfterKnows, goes_on_knowing}
+use Rattle.rr_journal.proofs.PromisedLaws.{opens_promised, promised_snapshot}
 use Rattle.rr_journal.proofs.opening.Opening.step.Goals as goal
 
 pub returns-in-Err-clause-kept : goal.returns-in-Err-clause-kept
@@ -157,3 +160,13 @@ returns-in-Ok-Open-clause-images g c tells stands reading =
     (λ (j : Journal g.row.D.Denot). AddsNone (g.D.Disk.areas c.args.self.disk) (g.D.Disk.areas j.disk))
     (sym c.new.ensures)
     (untouched_adds (phase_of c.args.self.phase) _ _ stands reading (untouched_by (phase_of c.args.self.phase) _ _ (c.in-Ok.ensures.areas tells)))
+
+pub returns-in-Ok-Open-clause-snapshot : goal.returns-in-Ok-Open-clause-snapshot
+returns-in-Ok-Open-clause-snapshot g c =
+    let content : Content = record { epoch = c.in-Ok-Open.epoch; promise = c.in-Ok-Open.promise; next = c.in-Ok-Open.next; gate = c.in-Ok-Open.gate } in
+    let follows = subst (λ (x : Next). Follows (Ok x) (phase_of c.args.self.phase) (after_opening_call c.args.self.nodes c.args.self.node c.in-Ok.read.items (phase_of c.args.self.phase))) c.in-Ok-Open.field-0-is c.in-Ok-Open.ensures.exact in
+    subst
+    (λ (j : Journal g.row.D.Denot). IsSnapshot (record { node = j.node; nodes = j.nodes; epoch = j.epoch + 1; next = c.in-Ok-Open.next; entries = c.in-Ok-Open.promise }))
+    (sym c.new.ensures)
+    (promised_snapshot c.args.self.nodes c.args.self.node c.in-Ok-Open.epoch content c.requires
+    (opens_promised c.args.self.nodes c.args.self.node c.in-Ok.read.items (phase_of c.args.self.phase) c.in-Ok-Open.area content follows))

@@ -1,0 +1,17 @@
+use Rattle.std.specs.Prelude.{◌≡◌, ◌<◌, ◌^◌, None}
+use Rattle.rr_model.specs.NodeState.{NodeState, next_number}
+use Rattle.rr_model.specs.NodeDue.{settle}
+use Rattle.rr_model.specs.NodeStep.{Input, node_step, refusal_of}
+use Rattle.rr_step.specs.Steps.{Changed, combined, IsFitting}
+
+-- what a step changes makes all that was due done, and the next fact has a number
+pub record IsSettled (base state : NodeState) (c : Changed) : Type 0 where
+  pub done : combined base c ≡ settle state
+  pub room : next_number (settle state) < 2 ^ 64
+  pub fits : IsFitting base c
+
+-- what an input changes makes the node's step, and isn't refused
+pub record IsStep (input : Input) (s : NodeState) (c : Changed) : Type 0 where
+  pub done : combined s c ≡ node_step input s
+  pub allowed : refusal_of input s ≡ None
+  pub fits : IsFitting s c

@@ -1,0 +1,2 @@
+mod KnowingLaws
+mod StepLaws

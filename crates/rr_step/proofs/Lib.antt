@@ -1,0 +1,5 @@
+pub mod RowLemmas
+pub mod OweLemmas
+pub mod OverLemmas
+pub mod PoolLemmas
+pub mod TailLemmas

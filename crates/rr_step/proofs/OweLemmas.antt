@@ -1,0 +1,51 @@
+-- Messages to one more node.
+use Rattle.std.proofs.Common.{◌≡◌, ◌≢◌, ℕ, zero, suc, ◌+◌, Bool, true, false, cond, eqb, List, [], ◌∷◌, ◌++◌, Option, None, sym, ap, ◌∙◌, refl, arith, append_assoc, append-nil}
+use Rattle.std.specs.Prelude.{not, All, IsTrue}
+use Rattle.std.specs.List.{range_with_len}
+use Rattle.std.proofs.lemmas.Bool.{ne_eqb, eq-eqb}
+use Rattle.std.proofs.lemmas.List.{map-append}
+use Rattle.std.proofs.lemmas.List.Elements.{filter-append, All-append, All-map}
+use Rattle.rr_types.specs.declared.message.Body.{Body}
+use Rattle.rr_model.specs.NodeState.{Owed}
+use Rattle.rr_model.specs.NodeParts.{messages_to}
+use Rattle.rr_mark.specs.Marks.{is_free, IsOwn}
+use Rattle.rr_step.specs.Places.{message_to, nodes_beside}
+
+range_push : (a n : ℕ) → range_with_len a (suc n) ≡ range_with_len a n ++ (a + n) ∷ []
+range_push a zero = let e : a + 0 ≡ a = omega arith in rw e
+range_push a (suc n) = let e : a + 1 + n ≡ a + suc n = omega arith in ap (λ (t : List ℕ). a ∷ t) (range_push (a + 1) n ∙ rw e)
+
+-- the numbers below n + 1
+range_more : (n : ℕ) → range_with_len 0 (n + 1) ≡ range_with_len 0 n ++ n ∷ []
+range_more n = let e : n + 1 ≡ suc n = omega arith in let f : 0 + n ≡ n = omega arith in rw e (range_push 0 n ∙ rw f)
+
+-- messages to more nodes come behind
+behind : (owed : List Owed) (from : ℕ) (body : Body) (backing : Option ℕ) (xs ys : List ℕ) → owed ++ messages_to from body backing (xs ++ ys) ≡ (owed ++ messages_to from body backing xs) ++ messages_to from body backing ys
+behind owed from body backing xs ys = ap (λ t. owed ++ t) (map-append (λ to. message_to from to body backing) xs ys) ∙ sym (append_assoc owed _ _)
+
+-- a body to everyone below n + 1: to everyone below n, and then to n
+pub everyone_more : (owed : List Owed) (from n : ℕ) (body : Body) (backing : Option ℕ) → owed ++ messages_to from body backing (range_with_len 0 (n + 1)) ≡ (owed ++ messages_to from body backing (range_with_len 0 n)) ++ message_to from n body backing ∷ []
+everyone_more owed from n body backing = rw (range_more n) (behind owed from body backing (range_with_len 0 n) (n ∷ []))
+
+beside_more : (node n : ℕ) (b : Bool) → eqb n node ≡ b → nodes_beside node (n + 1) ≡ nodes_beside node n ++ cond b [] (n ∷ [])
+unfolding nodes_beside
+beside_more node n true e = rw (range_more n) (filter-append (λ q. not (eqb q node)) (range_with_len 0 n) (n ∷ []) ∙ rw e)
+beside_more node n false e = rw (range_more n) (filter-append (λ q. not (eqb q node)) (range_with_len 0 n) (n ∷ []) ∙ rw e)
+
+pub beside_none : (owed : List Owed) (node : ℕ) (body : Body) (backing : Option ℕ) → owed ++ messages_to node body backing (nodes_beside node 0) ≡ owed
+unfolding nodes_beside
+beside_none owed node body backing = append-nil owed
+
+pub beside_itself : (node n : ℕ) → n ≡ node → nodes_beside node (n + 1) ≡ nodes_beside node n
+beside_itself node n e = beside_more node n true (eq-eqb n node e) ∙ append-nil _
+
+-- a body to the others below n + 1: to those below n, and then to n
+pub beside_another : (owed : List Owed) (node n : ℕ) (body : Body) (backing : Option ℕ) → n ≢ node → owed ++ messages_to node body backing (nodes_beside node (n + 1)) ≡ (owed ++ messages_to node body backing (nodes_beside node n)) ++ message_to node n body backing ∷ []
+beside_another owed node n body backing ne = rw (beside_more node n false (ne_eqb n node ne)) (behind owed node body backing (nodes_beside node n) (n ∷ []))
+
+-- more messages of the node's own
+pub own_more : (node : ℕ) (owed : List Owed) (body : Body) (backing : Option ℕ) (to : List ℕ) → (backing ≡ None → IsTrue (is_free body)) → All (IsOwn node) owed → All (IsOwn node) (owed ++ messages_to node body backing to)
+own_more node owed body backing to free own = All-append (IsOwn node) owed (messages_to node body backing to) own (All-map (IsOwn node) (λ q. message_to node q body backing) to (λ k d l. (refl, free)))
+
+pub own_last : (node : ℕ) (owed : List Owed) (to : ℕ) (body : Body) (backing : Option ℕ) → (backing ≡ None → IsTrue (is_free body)) → All (IsOwn node) owed → All (IsOwn node) (owed ++ message_to node to body backing ∷ [])
+own_last node owed to body backing free own = own_more node owed body backing (to ∷ []) free own

@@ -1,0 +1,34 @@
+use Rattle.std.specs.Prelude.{ℕ, Bool, false, not, ◌&&◌, ◌==◌, List, filter, find, Option, option_map}
+use Rattle.std.specs.Option.{option_map_or}
+use Rattle.std.specs.List.{list_any, range_with_len}
+use Rattle.rr_types.specs.declared.command.RequestNo.{RequestNo}
+use Rattle.rr_types.specs.declared.command.Command.{Command}
+use Rattle.rr_types.specs.Registry.{is_same_request}
+use Rattle.rr_types.specs.declared.message.Body.{Body}
+use Rattle.rr_types.specs.Commands.{is_same_command}
+use Rattle.rr_types.specs.Standings.{estimate_of}
+use Rattle.rr_model.specs.NodeState.{Row, Owed, row_of}
+
+-- a body that one node owes another
+abbrev pub message_to : ℕ → ℕ → Body → Option ℕ → Owed
+message_to from to body backing = record { message = record { from = from; to = to; body = body }; backing = backing }
+
+-- the nodes below n but one, ascending
+unfoldable pub nodes_beside : ℕ → ℕ → List ℕ
+nodes_beside node n = filter (λ q. not (q == node)) (range_with_len 0 n)
+
+-- whether a command is the estimate of instance i
+unfoldable pub is_estimate_of : List Row → ℕ → Command → Bool
+is_estimate_of rows i c = option_map_or (λ v. is_same_command v c) (estimate_of (option_map (λ r. r.standing) (row_of rows i))) false
+
+-- whether a command is the estimate of one of these instances but i
+unfoldable pub is_estimate_beside : List Row → List ℕ → ℕ → Command → Bool
+is_estimate_beside rows instances i c = list_any (λ j. not (j == i) && is_estimate_of rows j c) instances
+
+-- the first command that is no estimate of one of these instances but i
+unfoldable pub first_free : List Row → List ℕ → ℕ → List Command → Option Command
+first_free rows instances i pool = find (λ c. not (is_estimate_beside rows instances i c)) pool
+
+-- whether a command has none of the request numbers that were taken, and is no estimate of one of these instances but i
+unfoldable pub is_free : List Row → List ℕ → ℕ → List RequestNo → Command → Bool
+is_free rows instances i taken c = not (list_any (λ q. is_same_request q c.request) taken) && not (is_estimate_beside rows instances i c)

@@ -1,0 +1,94 @@
+//! Estimates: of open instances, and the one with which an instance enters a round.
+
+ghost use Rattle.std.specs.Prelude.{◌≡◌, find};
+ghost use Rattle.rr_step.specs.Places.{is_estimate_of, is_estimate_beside, is_free};
+
+use crate::known::is_among;
+use crate::step::Step;
+use rr_list::Values;
+use rr_types::{Command, Instance, RequestNo, Standing};
+
+/// Whether a command is the estimate of an instance.
+#[tactic(auto, unfolding(crate::specs::Places::is_estimate_of))]
+pub fn is_estimate_of(step: &Step<'_>, instance: Instance, command: &Command) -> bool
+    ensures { result ≡ is_estimate_of step.now.state.rows instance command.now }
+{
+    match step.standing(instance) {
+        None => false,
+        Some(standing) => match standing {
+            Standing::Decided(_) => false,
+            Standing::Open(at) => at.estimate().is_same(command),
+        },
+    }
+}
+
+/// Whether a command is the estimate of one of these instances but one.
+#[tactic(auto, unfolding(crate::specs::Places::is_estimate_beside))]
+pub fn is_estimate_beside(
+    step: &Step<'_>,
+    instances: &[Instance],
+    instance: Instance,
+    command: &Command,
+) -> bool
+    ensures { result ≡ is_estimate_beside step.now.state.rows instances.now instance command.now }
+{
+    for other in instances {
+        if *other != instance && is_estimate_of(step, *other, command) {
+            return true;
+        }
+    }
+    false
+}
+
+/// Whether a command has none of the request numbers that were taken, and is no estimate of one of these instances
+/// but one.
+#[tactic(auto, unfolding(crate::specs::Places::is_free))]
+fn is_free(
+    step: &Step<'_>,
+    instances: &[Instance],
+    instance: Instance,
+    taken: &[RequestNo],
+    command: &Command,
+) -> bool
+    ensures { result ≡ is_free step.now.state.rows instances.now instance taken.now command.now }
+{
+    !is_among(taken, command.request) && !is_estimate_beside(step, instances, instance, command)
+}
+
+/// The first free command of these.
+pub fn first_free_of(
+    step: &Step<'_>,
+    instances: &[Instance],
+    instance: Instance,
+    taken: &[RequestNo],
+    pool: &[Command],
+) -> Option<Command>
+    ensures { result ≡ find (is_free step.now.state.rows instances.now instance taken.now) pool.now }
+{
+    for command in pool {
+        if is_free(step, instances, instance, taken, command) {
+            return Some(*command);
+        }
+    }
+    None
+}
+
+/// The first free command of the pool.
+pub fn first_free_in(
+    step: &Step<'_>,
+    instances: &[Instance],
+    instance: Instance,
+    taken: &[RequestNo],
+    pool: Values<'_, Command>,
+) -> Option<Command>
+    ensures { result ≡ find (is_free step.now.state.rows instances.now instance taken.now) pool.entry }
+{
+    let mut left = pool;
+    while let Some(command) = left.next() {
+        let command = &command;
+        if is_free(step, instances, instance, taken, command) {
+            return Some(*command);
+        }
+    }
+    None
+}

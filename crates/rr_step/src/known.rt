@@ -1,0 +1,80 @@
+//! What a state says of instances, request numbers and commands.
+
+ghost use Rattle.std.specs.Prelude.{◌≡◌, ◌≤◌, ◌<◌, ◌^◌, ◌&&◌, nat_lt, None, Some, MatchOption};
+ghost use Rattle.std.specs.List.{list_any};
+ghost use Rattle.rr_types.specs.Registry.{has_request, is_same_request};
+ghost use Rattle.rr_model.specs.NodeState.{next_number, row_of, is_decided, is_decided_request, undecided_from};
+ghost use Rattle.rr_model.specs.NodeStep.{is_waiting};
+ghost use Rattle.rr_list.specs.Rowed.{AscendFrom};
+
+use crate::state::State;
+use rr_instance::Row;
+use rr_types::{Instance, RequestNo};
+
+impl State {
+    /// The number of the next fact.
+    pub(crate) fn next_number(&self) -> u128
+        ensures value { result ≡ next_number self.now }
+        ensures room { result < 2 ^ 65 }
+    {
+        self.mark.end() as u128 + self.unmarked.count() as u128
+    }
+
+    /// The row of an instance.
+    pub(crate) fn row(&self, instance: Instance) -> Option<&Row>
+        ensures { MatchOption result (row_of self.now.rows instance ≡ None) (λ r. row_of self.now.rows instance ≡ Some r.now) }
+    {
+        self.instances.row(instance)
+    }
+
+    /// The lowest undecided instance from `from` on; the rows ascend.
+    pub(crate) fn undecided_from(&self, from: u32) -> u32
+        requires { from ≤ 1048576 }
+        ensures value { result ≡ undecided_from from self.now.rows }
+        ensures range { result ≤ 1048576 }
+        ensures above { from ≤ result }
+        ensures ascend { AscendFrom 0 self.now.rows }
+    {
+        self.instances.undecided_from(from)
+    }
+
+    /// Whether some instance has decided a command with this request number.
+    pub(crate) fn is_decided_request(&self, request: RequestNo) -> bool
+        ensures { result ≡ is_decided_request self.now request }
+    {
+        self.instances.has_decided(request)
+    }
+
+    /// Whether a later instance than `first` has decided.
+    pub(crate) fn has_decided_above(&self, first: Instance) -> bool
+        ensures { result ≡ list_any (λ r. nat_lt first r.instance && is_decided r) self.now.rows }
+    {
+        self.instances.has_decided_above(first)
+    }
+
+    /// Whether the pool has a command with this request number.
+    pub(crate) fn has_pooled(&self, request: RequestNo) -> bool
+        ensures { result ≡ has_request self.now.pool request }
+    {
+        self.pool.has(request)
+    }
+
+    /// Whether a request waits for its acknowledgement.
+    pub(crate) fn is_waiting(&self, request: RequestNo) -> bool
+        ensures { result ≡ is_waiting self.now request }
+    {
+        self.waiting.has(request)
+    }
+}
+
+/// Whether a request number is one of these.
+pub fn is_among(requests: &[RequestNo], request: RequestNo) -> bool
+    ensures { result ≡ list_any (λ q. is_same_request q request) requests.now }
+{
+    for one in requests {
+        if one.is_same(request) {
+            return true;
+        }
+    }
+    false
+}

@@ -1,0 +1,129 @@
+//! The rows of a state with the rows that a step has changed, of which the newest stands first.
+
+ghost use Rattle.std.specs.Prelude.{◌≡◌, ◌≤◌, ◌<◌, ◌&&◌, ◌==◌, nat_lt, IsTrue, None, Some, MatchOption, IfOk, IfErr};
+ghost use Rattle.std.specs.List.{list_any};
+ghost use Rattle.rr_model.specs.NodeState.{row_of, is_decided, undecided_from, lowest_undecided};
+ghost use Rattle.rr_list.specs.Rowed.{has_decided};
+ghost use Rattle.rr_step.specs.Steps.{put_rows, KeepDecisions};
+
+use crate::rows::{find_row, has_decided_request};
+use crate::state::State;
+use rr_instance::Row;
+use rr_types::{Instance, Refusal, RequestNo};
+use std::alloc::Global;
+
+/// The row of an instance.
+#[tactic(auto, using(crate::proofs::OverLemmas::row_changed, crate::proofs::OverLemmas::row_same))]
+pub fn row_over<'a>(base: &'a State, changed: &'a [Row], instance: Instance) -> Option<&'a Row>
+    ensures { MatchOption result (row_of (put_rows changed.now base.now.rows) instance ≡ None) (λ r. row_of (put_rows changed.now base.now.rows) instance ≡ Some r.now) }
+{
+    match find_row(changed, instance) {
+        Some(row) => Some(row),
+        None => base.row(instance),
+    }
+}
+
+/// Whether a row of this instance has decided.
+fn is_decided_at(rows: &[Row], number: u32) -> bool
+    ensures value { result ≡ list_any (λ r. r.instance == number && is_decided r) rows.now }
+    ensures range { IsTrue result → number < 1048576 }
+{
+    for row in rows {
+        if row.instance.number() == number && row.is_decided() {
+            return true;
+        }
+    }
+    false
+}
+
+/// The lowest undecided instance from `from` on.
+#[tactic(auto, using(crate::proofs::OverLemmas::from_base, crate::proofs::OverLemmas::lowest_open, crate::proofs::OverLemmas::next_base, crate::proofs::OverLemmas::none_between))]
+pub fn undecided_over(base: &State, changed: &[Row], from: u32) -> u32
+    requires range { from ≤ 1048576 }
+    requires keep { KeepDecisions changed.now base.now.rows }
+    ensures value { result ≡ undecided_from from (put_rows changed.now base.now.rows) }
+    ensures range { result ≤ 1048576 }
+    ensures above { from ≤ result }
+{
+    let mut lowest = base.undecided_from(from);
+    while is_decided_at(changed, lowest) {
+        lowest = base.undecided_from(lowest + 1);
+    }
+    lowest
+}
+
+/// The `count` lowest undecided instances, ascending.
+#[tactic(auto, using(crate::proofs::RowLemmas::lowest_next, crate::proofs::RowLemmas::lowest_done, crate::proofs::RowLemmas::push_next))]
+pub fn lowest_over(
+    alloc: Global,
+    base: &State,
+    changed: &[Row],
+    count: usize,
+) -> Result<Vec<Instance>, Refusal>
+    requires { KeepDecisions changed.now base.now.rows }
+    ensures value { IfOk result (λ found. found.items ≡ lowest_undecided count 0 (put_rows changed.now base.now.rows)) }
+    ensures err { IfErr result (λ e. e ≡ Refusal.OutOfMemory) }
+{
+    let mut found = Vec::new(alloc);
+    let mut from = 0;
+    for _turn in 0..count {
+        match Instance::new(undecided_over(base, changed, from)) {
+            None => return Ok(found),
+            Some(instance) => {
+                found.push(instance)?;
+                from = instance.number() + 1;
+            }
+        }
+    }
+    Ok(found)
+}
+
+/// Whether an instance is one of the `count` lowest undecided ones.
+#[tactic(auto, using(crate::proofs::RowLemmas::lowest_next, crate::proofs::RowLemmas::lowest_end))]
+pub fn is_lowest_over(base: &State, changed: &[Row], count: usize, instance: Instance) -> bool
+    requires { KeepDecisions changed.now base.now.rows }
+    ensures { result ≡ list_any (λ j. j == instance) (lowest_undecided count 0 (put_rows changed.now base.now.rows)) }
+{
+    let mut from = 0;
+    for _turn in 0..count {
+        match Instance::new(undecided_over(base, changed, from)) {
+            None => return false,
+            Some(lowest) => {
+                if lowest == instance {
+                    return true;
+                }
+                from = lowest.number() + 1;
+            }
+        }
+    }
+    false
+}
+
+/// Whether an instance has decided a command with this request number.
+#[tactic(auto, using(crate::proofs::OverLemmas::request_changed))]
+pub fn is_decided_request_over(base: &State, changed: &[Row], request: RequestNo) -> bool
+    requires { KeepDecisions changed.now base.now.rows }
+    ensures { result ≡ list_any (has_decided request) (put_rows changed.now base.now.rows) }
+{
+    has_decided_request(changed, request) || base.is_decided_request(request)
+}
+
+/// Whether a row of an instance above `first` has decided.
+pub fn has_decided_above(rows: &[Row], first: Instance) -> bool
+    ensures { result ≡ list_any (λ r. nat_lt first r.instance && is_decided r) rows.now }
+{
+    for row in rows {
+        if first.number() < row.instance.number() && row.is_decided() {
+            return true;
+        }
+    }
+    false
+}
+
+/// Whether an instance above `first` has decided.
+pub fn has_decided_above_over(base: &State, changed: &[Row], first: Instance) -> bool
+    requires { KeepDecisions changed.now base.now.rows }
+    ensures { result ≡ list_any (λ r. nat_lt first r.instance && is_decided r) (put_rows changed.now base.now.rows) }
+{
+    has_decided_above(changed, first) || base.has_decided_above(first)
+}

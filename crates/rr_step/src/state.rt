@@ -1,0 +1,48 @@
+//! What a node that is up knows, as plain data.
+
+use rr_heartbeat::Heartbeat;
+use rr_list::{Instances, Pool, Waiting};
+use rr_mark::{Mark, Outbox};
+use rr_staged::Unmarked;
+use rr_suspect::Suspects;
+use rr_types::{NodeId, Nodes};
+use std::marker::Model;
+
+/// A node that is up. Its mark and the messages that it owes are its own.
+#[derive(Drop)]
+pub struct State {
+    pub nodes: Nodes,
+    pub node: NodeId,
+    pub instances: Instances,
+    pub mark: Mark,
+    pub unmarked: Unmarked,
+    pub pool: Pool,
+    pub suspects: Suspects,
+    pub heartbeat: Heartbeat,
+    pub waiting: Waiting,
+    pub owed: Outbox,
+}
+
+impl Model for State {
+    ghost use Rattle.std.specs.Prelude.{◌≡◌};
+    ghost use Rattle.rr_model.specs.NodeState as model;
+
+    ghost Value = { model.NodeState };
+
+    ghost view = { λ s. record {
+      nodes = s.nodes;
+      node = s.node;
+      rows = s.instances.rows;
+      marked = s.instances.marked;
+      marked_end = s.mark.end;
+      running = s.unmarked.running;
+      staged = s.unmarked.staged;
+      pool = s.pool;
+      suspects = s.suspects;
+      watches = s.heartbeat;
+      waiting = s.waiting;
+      owed = s.owed.owed;
+    } };
+
+    ghost invariant = { λ s. (s.mark.node ≡ s.node) × (s.owed.node ≡ s.node) };
+}

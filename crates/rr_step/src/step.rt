@@ -1,0 +1,458 @@
+//! A step of a node: what the node was before, borrowed, and beside it what the step has changed.
+
+ghost use Rattle.std.specs.Prelude.{◌≡◌, ◌++◌, ◌∷◌, [], ◌^◌, ◌<◌, ◌&&◌, nat_lt, None, Some, IsTrue, option_map, MatchOption, IfOk, IfErr, OnOk};
+ghost use Rattle.std.specs.List.{list_any};
+ghost use Rattle.rr_types.specs.Registry.{has_request};
+ghost use Rattle.rr_types.specs.Facts.{instance_of, after_fact, decision_of};
+ghost use Rattle.rr_model.specs.NodeState.{next_number, standing_at, row_of, put_row, is_decided, first_undecided, open_instances, is_open, is_decided_request, everyone, others};
+ghost use Rattle.rr_model.specs.NodeDetector.{all_ticked, heard_beat, late_nodes, reduced};
+ghost use Rattle.rr_model.specs.NodeParts.{owe, pool_add, stage, rows_after, pool_after};
+ghost use Rattle.rr_model.specs.NodeStep.{wait_for, is_waiting};
+ghost use Rattle.rr_mark.specs.Marks.{is_free};
+ghost use Rattle.rr_step.specs.Places.{first_free};
+ghost use Rattle.rr_step.specs.Steps.{stepped, combined, KeepsDecision, KeepsStanding, IsFitting, IsDecidedFact};
+
+use crate::known::is_among;
+use crate::state::State;
+use crate::{estimates, over, owing, staging};
+use rr_heartbeat::Heartbeat;
+use rr_instance::{Backing, Row, instance_of};
+use rr_mark::Owed;
+use rr_suspect::Suspects;
+use rr_types::{
+    Body, Command, Fact, Instance, NodeId, NodeSet, Nodes, Op, Refusal, RequestNo, Standing, WINDOW,
+};
+use std::alloc::Global;
+use std::marker::Model;
+
+/// What a step has changed: rows, of which the newest stands first; staged facts; the request numbers that
+/// decisions took out of the pool, and commands pooled; the suspects and the watches; requests that wait; messages
+/// owed.
+#[derive(Debug, Drop)]
+pub struct Changes {
+    pub rows: Vec<Row>,
+    pub staged: Vec<Fact>,
+    pub taken: Vec<RequestNo>,
+    pub pooled: Vec<Command>,
+    pub suspects: Suspects,
+    pub heartbeat: Heartbeat,
+    pub waiting: Vec<RequestNo>,
+    pub owed: Vec<Owed>,
+}
+
+impl Model for Changes {
+    ghost use Rattle.rr_step.specs.Steps.{Changed};
+
+    ghost Value = { Changed };
+
+    ghost view = { λ c. record {
+      rows = c.rows.items;
+      staged = c.staged.items;
+      taken = c.taken.items;
+      pooled = c.pooled.items;
+      suspects = c.suspects;
+      watches = c.heartbeat;
+      waiting = c.waiting.items;
+      owed = c.owed.items;
+    } };
+}
+
+/// A node within a step. Where the step is refused it is dropped, and the node is as it was.
+#[derive(Drop)]
+pub struct Step<'a> {
+    base: &'a State,
+    rows: Vec<Row>,
+    staged: Vec<Fact>,
+    taken: Vec<RequestNo>,
+    pooled: Vec<Command>,
+    suspects: Suspects,
+    heartbeat: Heartbeat,
+    waiting: Vec<RequestNo>,
+    owed: Vec<Owed>,
+}
+
+impl<'a> Model for Step<'a> {
+    ghost use Rattle.rr_step.specs.Steps.{Stepped, combined, IsFitting};
+
+    ghost Value = { Stepped };
+
+    ghost view = { λ s. record {
+      base = s.base.now;
+      state = combined s.base.now (record {
+        rows = s.rows.items;
+        staged = s.staged.items;
+        taken = s.taken.items;
+        pooled = s.pooled.items;
+        suspects = s.suspects;
+        watches = s.heartbeat;
+        waiting = s.waiting.items;
+        owed = s.owed.items;
+      });
+    } };
+
+    ghost invariant = { λ s. IsFitting s.base.now (record {
+      rows = s.rows.items;
+      staged = s.staged.items;
+      taken = s.taken.items;
+      pooled = s.pooled.items;
+      suspects = s.suspects;
+      watches = s.heartbeat;
+      waiting = s.waiting.items;
+      owed = s.owed.items;
+    }) };
+}
+
+impl<'a> Step<'a> {
+    /// A step that has changed nothing yet.
+    #[tactic(auto, using(crate::proofs::PoolLemmas::combined_none))]
+    pub fn new(alloc: Global, base: &'a State) -> Step<'a>
+        ensures { result ≡ record { base = base.now; state = base.now } }
+    {
+        Step {
+            base,
+            rows: Vec::new(alloc),
+            staged: Vec::new(alloc),
+            taken: Vec::new(alloc),
+            pooled: Vec::new(alloc),
+            suspects: base.suspects,
+            heartbeat: base.heartbeat,
+            waiting: Vec::new(alloc),
+            owed: Vec::new(alloc),
+        }
+    }
+
+    /// What the step has changed.
+    pub fn into_changes(self) -> Changes
+        ensures value { combined self.entry.base result ≡ self.entry.state }
+        ensures fits { IsFitting self.entry.base result }
+    {
+        let Step {
+            base: _,
+            rows,
+            staged,
+            taken,
+            pooled,
+            suspects,
+            heartbeat,
+            waiting,
+            owed,
+        } = self;
+        Changes {
+            rows,
+            staged,
+            taken,
+            pooled,
+            suspects,
+            heartbeat,
+            waiting,
+            owed,
+        }
+    }
+
+    /// How many nodes there are.
+    pub fn nodes(&self) -> Nodes
+        ensures { result ≡ self.now.state.nodes }
+    {
+        let base = self.base;
+        base.nodes
+    }
+
+    /// Which node this is.
+    pub fn node(&self) -> NodeId
+        ensures { result ≡ self.now.state.node }
+    {
+        let base = self.base;
+        base.node
+    }
+
+    /// The nodes that the completeness reduction suspects.
+    pub fn suspects(&self) -> NodeSet
+        ensures { result ≡ self.now.state.suspects }
+    {
+        self.suspects.output()
+    }
+
+    /// The nodes that the heartbeat detector suspects; a node disregards itself.
+    #[tactic(auto, using(rr_heartbeat::proofs::BitLemmas::late_beside))]
+    pub fn late_nodes(&self) -> NodeSet
+        ensures { result ≡ late_nodes self.now.state.node self.now.state.watches }
+    {
+        let base = self.base;
+        self.heartbeat.suspects().without(base.node)
+    }
+
+    /// The number of the next fact.
+    #[tactic(auto, using(crate::proofs::PoolLemmas::count_both))]
+    pub fn next_number(&self) -> u128
+        ensures value { result ≡ next_number self.now.state }
+        ensures room { result < 2 ^ 67 }
+    {
+        let base = self.base;
+        base.next_number() + self.staged.len() as u128
+    }
+
+    /// The row of an instance.
+    pub fn row(&self, instance: Instance) -> Option<&Row>
+        ensures { MatchOption result (row_of self.now.state.rows instance ≡ None) (λ r. row_of self.now.state.rows instance ≡ Some r.now) }
+    {
+        over::row_over(self.base, &self.rows, instance)
+    }
+
+    /// Where an instance stands by all facts.
+    pub fn standing(&self, instance: Instance) -> Option<Standing>
+        ensures { result ≡ standing_at self.now.state instance }
+    {
+        match self.row(instance) {
+            Some(row) => Some(row.standing),
+            None => None,
+        }
+    }
+
+    /// The numbers that back the messages of an instance that a fact names.
+    pub fn backing(&self, instance: Instance) -> Option<Backing>
+        ensures { result ≡ option_map (λ r. r.backing) (row_of self.now.state.rows instance) }
+    {
+        match self.row(instance) {
+            Some(row) => Some(row.backing),
+            None => None,
+        }
+    }
+
+    /// The lowest undecided instance; 1,048,576 where all are decided.
+    pub fn first_undecided(&self) -> u32
+        ensures { result ≡ first_undecided self.now.state }
+    {
+        over::undecided_over(self.base, &self.rows, 0)
+    }
+
+    /// The open instances, ascending.
+    #[tactic(auto, unfolding(rr_model::specs::NodeState::open_instances))]
+    pub fn open_instances(&self, alloc: Global) -> Result<Vec<Instance>, Refusal>
+        ensures value { IfOk result (λ found. found.items ≡ open_instances self.now.state) }
+        ensures err { IfErr result (λ e. e ≡ Refusal.OutOfMemory) }
+    {
+        over::lowest_over(alloc, self.base, &self.rows, WINDOW)
+    }
+
+    /// Whether an instance is open.
+    #[tactic(auto, unfolding(rr_model::specs::NodeState::open_instances))]
+    pub fn is_open(&self, instance: Instance) -> bool
+        ensures { result ≡ is_open self.now.state instance }
+    {
+        over::is_lowest_over(self.base, &self.rows, WINDOW, instance)
+    }
+
+    /// Whether some instance has decided a command with this request number.
+    pub fn is_decided_request(&self, request: RequestNo) -> bool
+        ensures { result ≡ is_decided_request self.now.state request }
+    {
+        over::is_decided_request_over(self.base, &self.rows, request)
+    }
+
+    /// Whether a later instance than `first` has decided.
+    pub fn has_decided_above(&self, first: Instance) -> bool
+        ensures { result ≡ list_any (λ r. nat_lt first r.instance && is_decided r) self.now.state.rows }
+    {
+        over::has_decided_above_over(self.base, &self.rows, first)
+    }
+
+    /// Whether a request waits for its acknowledgement.
+    #[tactic(auto, using(crate::proofs::PoolLemmas::waiting_in_both))]
+    pub fn is_waiting(&self, request: RequestNo) -> bool
+        ensures { result ≡ is_waiting self.now.state request }
+    {
+        let base = self.base;
+        base.is_waiting(request) || is_among(&self.waiting, request)
+    }
+
+    /// Whether the pool has a command with this request number.
+    #[tactic(auto, using(crate::proofs::PoolLemmas::has_in_both))]
+    fn has_pooled(&self, request: RequestNo) -> bool
+        ensures { result ≡ has_request self.now.state.pool request }
+    {
+        let base = self.base;
+        let has_come = base.has_pooled(request) || owing::has_request(&self.pooled, request);
+        has_come && !is_among(&self.taken, request)
+    }
+
+    /// The first pool command that is no estimate of one of these instances but one.
+    #[tactic(auto, using(crate::proofs::PoolLemmas::free_in_base, crate::proofs::PoolLemmas::free_in_pooled))]
+    pub fn first_free(&self, instances: &[Instance], instance: Instance) -> Option<Command>
+        ensures { result ≡ first_free self.now.state.rows instances.now instance self.now.state.pool }
+    {
+        let base = self.base;
+        let taken = self.taken.as_slice();
+        match estimates::first_free_in(self, instances, instance, taken, base.pool.iter()) {
+            Some(command) => Some(command),
+            None => estimates::first_free_of(self, instances, instance, taken, &self.pooled),
+        }
+    }
+
+    /// The request waits for its acknowledgement, once.
+    #[tactic(auto, using(std::proofs::Common::append_assoc, crate::proofs::PoolLemmas::request_new), unfolding(rr_model::specs::NodeStep::wait_for))]
+    pub fn wait_for(&mut self, request: RequestNo) -> Result<(), Refusal>
+        ensures ok { OnOk result (self.new ≡ stepped (wait_for request) self.old) }
+        ensures err { IfErr result (λ e. e ≡ Refusal.OutOfMemory) }
+    {
+        if !self.is_waiting(request) {
+            self.waiting.push(request)?;
+        }
+        Ok(())
+    }
+
+    /// The node owes a message to one node; where no fact backs it, it is free.
+    #[tactic(auto, using(std::proofs::Common::append_assoc), unfolding(rr_model::specs::NodeParts::owe))]
+    pub fn owe(&mut self, body: Body, backing: Option<u128>, to: NodeId) -> Result<(), Refusal>
+        requires { backing ≡ None → IsTrue (is_free body) }
+        ensures ok { OnOk result (self.new ≡ stepped (owe body backing (to ∷ [])) self.old) }
+        ensures err { IfErr result (λ e. e ≡ Refusal.OutOfMemory) }
+    {
+        let base = self.base;
+        let from = base.node;
+        let owed = &mut self.owed;
+        owing::push_to(owed, from, to, &body, backing)
+    }
+
+    /// The node owes a message to every node, itself included, ascending; where no fact backs it, it is free.
+    #[tactic(auto, using(std::proofs::Common::append_assoc), unfolding(rr_model::specs::NodeParts::owe))]
+    pub fn owe_everyone(&mut self, body: Body, backing: Option<u128>) -> Result<(), Refusal>
+        requires { backing ≡ None → IsTrue (is_free body) }
+        ensures ok { OnOk result (self.new ≡ stepped (λ s. owe body backing (everyone s) s) self.old) }
+        ensures err { IfErr result (λ e. e ≡ Refusal.OutOfMemory) }
+    {
+        let base = self.base;
+        let from = base.node;
+        let nodes = base.nodes;
+        let owed = &mut self.owed;
+        owing::push_to_everyone(owed, nodes, from, &body, backing)
+    }
+
+    /// The node owes a message to each other node, ascending; where no fact backs it, it is free.
+    #[tactic(auto, using(std::proofs::Common::append_assoc), unfolding(rr_model::specs::NodeParts::owe, crate::specs::Places::nodes_beside))]
+    pub fn owe_others(&mut self, body: Body, backing: Option<u128>) -> Result<(), Refusal>
+        requires { backing ≡ None → IsTrue (is_free body) }
+        ensures ok { OnOk result (self.new ≡ stepped (λ s. owe body backing (others s) s) self.old) }
+        ensures err { IfErr result (λ e. e ≡ Refusal.OutOfMemory) }
+    {
+        let base = self.base;
+        let from = base.node;
+        let nodes = base.nodes;
+        let owed = &mut self.owed;
+        owing::push_to_others(owed, nodes, from, &body, backing)
+    }
+
+    /// Adds a command to the pool, unless its request number is there or decided.
+    #[tactic(auto, using(crate::proofs::PoolLemmas::command_new, crate::proofs::PoolLemmas::pooled_last), unfolding(rr_model::specs::NodeParts::pool_add))]
+    pub fn pool_add(&mut self, command: Command) -> Result<(), Refusal>
+        ensures ok { OnOk result (self.new ≡ stepped (pool_add command) self.old) }
+        ensures err { IfErr result (λ e. e ≡ Refusal.OutOfMemory) }
+    {
+        // The check learns what a command is made of from the types of a function's variables.
+        let _parts: Option<Op> = None;
+        if self.has_pooled(command.request) || self.is_decided_request(command.request) {
+            return Ok(());
+        }
+        self.pooled.push(command)?;
+        Ok(())
+    }
+
+    /// This is the row of its instance from now on; a decision there stays.
+    #[tactic(auto, using(crate::proofs::OverLemmas::decided_stay))]
+    pub(crate) fn put_row(&mut self, row: Row) -> Result<(), Refusal>
+        requires { KeepsDecision self.old.state.rows row }
+        ensures ok { OnOk result (self.new ≡ stepped (λ s. record s { rows = put_row row s.rows }) self.old) }
+        ensures err { IfErr result (λ e. e ≡ Refusal.OutOfMemory) }
+    {
+        self.rows.insert(0, row)?;
+        Ok(())
+    }
+
+    /// The row of a fact's instance is changed by it, where the instance then stands so.
+    #[tactic(auto, using(crate::proofs::OverLemmas::after_keeps, crate::proofs::OverLemmas::rows_put, crate::proofs::OverLemmas::rows_stay))]
+    fn put_row_after(&mut self, fact: &Fact, standing: Option<Standing>) -> Result<(), Refusal>
+        requires after { standing ≡ after_fact (standing_at self.old.state (instance_of fact.now)) fact.now }
+        requires keeps { KeepsStanding (standing_at self.old.state (instance_of fact.now)) standing }
+        ensures ok { OnOk result (self.new ≡ stepped (λ s. record s { rows = rows_after (next_number s) fact.now s.rows }) self.old) }
+        ensures err { IfErr result (λ e. e ≡ Refusal.OutOfMemory) }
+    {
+        let number = self.next_number();
+        match standing {
+            None => Ok(()),
+            Some(standing) => {
+                let alloc = *self.rows.allocator();
+                let row = staging::row_changed(alloc, self, number, fact, standing)?;
+                self.put_row(row)
+            }
+        }
+    }
+
+    /// The request number of a decision is taken out of the pool.
+    #[tactic(auto, using(crate::proofs::PoolLemmas::without_one, crate::proofs::PoolLemmas::taken_more))]
+    fn take_decided(&mut self, fact: &Fact) -> Result<(), Refusal>
+        requires { IsDecidedFact fact.now self.old.state.rows }
+        ensures ok { OnOk result (self.new ≡ stepped (λ s. record s { pool = pool_after fact.now s.pool }) self.old) }
+        ensures err { IfErr result (λ e. e ≡ Refusal.OutOfMemory) }
+    {
+        match fact {
+            Fact::Decide(_, command) => {
+                self.taken.push(command.request)?;
+                Ok(())
+            }
+            Fact::Enter(..) | Fact::Propose(..) | Fact::Adopt(..) => Ok(()),
+        }
+    }
+
+    /// A fact is staged last.
+    #[tactic(auto, using(std::proofs::Common::append_assoc))]
+    fn push_staged(&mut self, fact: &Fact) -> Result<(), Refusal>
+        ensures ok { OnOk result (self.new ≡ stepped (λ s. record s { staged = s.staged ++ fact.now ∷ [] }) self.old) }
+        ensures err { IfErr result (λ e. e ≡ Refusal.OutOfMemory) }
+    {
+        // The check learns what a fact is made of from the types of a function's variables.
+        let _parts: Option<(Command, Op)> = None;
+        self.staged.push(*fact)?;
+        Ok(())
+    }
+
+    /// Stages a fact about an instance that then stands so; a decision there stays.
+    #[tactic(auto, using(crate::proofs::OverLemmas::decision_decides), unfolding(rr_model::specs::NodeParts::stage))]
+    pub fn stage(&mut self, fact: Fact, standing: Option<Standing>) -> Result<(), Refusal>
+        requires after { standing ≡ after_fact (standing_at self.old.state (instance_of fact)) fact }
+        requires keeps { KeepsStanding (standing_at self.old.state (instance_of fact)) standing }
+        ensures ok { OnOk result (self.new ≡ stepped (stage fact) self.old) }
+        ensures err { IfErr result (λ e. e ≡ Refusal.OutOfMemory) }
+    {
+        let fact = &fact;
+        self.put_row_after(fact, standing)?;
+        self.take_decided(fact)?;
+        self.push_staged(fact)
+    }
+
+    /// These are the suspects from now on.
+    pub fn suspect(&mut self, suspects: NodeSet)
+        ensures { self.new ≡ stepped (λ s. record s { suspects = suspects }) self.old }
+    {
+        self.suspects = Suspects::new(suspects);
+    }
+
+    /// A node has told its suspects: these too, but not the node, which spoke.
+    pub fn reduce(&mut self, node: NodeId, set: NodeSet)
+        ensures { self.new ≡ stepped (λ s. record s { suspects = reduced s.suspects node set }) self.old }
+    {
+        self.suspects.receive(node, set);
+    }
+
+    /// A tick for the heartbeat detector.
+    pub fn tick_watches(&mut self)
+        ensures { self.new ≡ stepped (λ s. record s { watches = all_ticked s.watches }) self.old }
+    {
+        self.heartbeat.tick();
+    }
+
+    /// A beat of a node; one that isn't there changes nothing.
+    pub fn beat(&mut self, node: NodeId)
+        ensures { self.new ≡ stepped (λ s. record s { watches = heard_beat node s.watches }) self.old }
+    {
+        self.heartbeat.heard(node);
+    }
+}

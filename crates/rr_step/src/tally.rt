@@ -1,0 +1,80 @@
+//! The answers to a round, in the row of its instance.
+
+ghost use Rattle.std.specs.Prelude.{◌≡◌, IfErr, OnOk};
+ghost use Rattle.rr_model.specs.NodeStep.{count_estimate, count_ack, count_nack};
+ghost use Rattle.rr_step.specs.Steps.{stepped};
+
+use crate::step::Step;
+use rr_types::{Estimate, Instance, NodeId, Refusal};
+use std::alloc::Global;
+
+impl<'a> Step<'a> {
+    /// The coordinator keeps an estimate.
+    #[tactic(auto, using(crate::proofs::OverLemmas::keeps_standing), unfolding(rr_model::specs::NodeStep::count_estimate))]
+    pub fn count_estimate(
+        &mut self,
+        alloc: Global,
+        instance: Instance,
+        sender: NodeId,
+        estimate: Estimate,
+    ) -> Result<(), Refusal>
+        ensures ok { OnOk result (self.new ≡ stepped (count_estimate instance sender estimate) self.old) }
+        ensures err { IfErr result (λ e. e ≡ Refusal.OutOfMemory) }
+    {
+        let Some(row) = self.row(instance) else {
+            return Ok(());
+        };
+        let mut row = match row.try_clone(alloc) {
+            Ok(row) => row,
+            Err(refusal) => return Err(refusal),
+        };
+        match row.tally.keep_estimate(sender, estimate) {
+            Ok(()) => self.put_row(row),
+            Err(refusal) => Err(refusal),
+        }
+    }
+
+    /// The coordinator keeps an acknowledgement.
+    #[tactic(auto, using(crate::proofs::OverLemmas::keeps_standing), unfolding(rr_model::specs::NodeStep::count_ack))]
+    pub fn count_ack(
+        &mut self,
+        alloc: Global,
+        instance: Instance,
+        sender: NodeId,
+    ) -> Result<(), Refusal>
+        ensures ok { OnOk result (self.new ≡ stepped (count_ack instance sender) self.old) }
+        ensures err { IfErr result (λ e. e ≡ Refusal.OutOfMemory) }
+    {
+        let Some(row) = self.row(instance) else {
+            return Ok(());
+        };
+        let mut row = match row.try_clone(alloc) {
+            Ok(row) => row,
+            Err(refusal) => return Err(refusal),
+        };
+        row.tally.keep_ack(sender);
+        self.put_row(row)
+    }
+
+    /// The coordinator keeps a refusal.
+    #[tactic(auto, using(crate::proofs::OverLemmas::keeps_standing), unfolding(rr_model::specs::NodeStep::count_nack))]
+    pub fn count_nack(
+        &mut self,
+        alloc: Global,
+        instance: Instance,
+        sender: NodeId,
+    ) -> Result<(), Refusal>
+        ensures ok { OnOk result (self.new ≡ stepped (count_nack instance sender) self.old) }
+        ensures err { IfErr result (λ e. e ≡ Refusal.OutOfMemory) }
+    {
+        let Some(row) = self.row(instance) else {
+            return Ok(());
+        };
+        let mut row = match row.try_clone(alloc) {
+            Ok(row) => row,
+            Err(refusal) => return Err(refusal),
+        };
+        row.tally.keep_nack(sender);
+        self.put_row(row)
+    }
+}
