@@ -57,6 +57,7 @@ impl Core {
         ensures ok { IfOk result (λ core. core ≡ started nodes node promise opened.now.next) }
         ensures err { IfErr result (λ e. e ≡ Refusal.OutOfMemory) }
     {
+        // That a promise ascends and that a fact's number has 64 bits is told by these calls alone.
         let _entries = promise.entries();
         let _next = opened.next();
         let state = match started(alloc, nodes, node, promise, opened) {

@@ -1,10 +1,12 @@
 //! Says of each text that it is given by name whether it is printed as it was read, or what it is refused with:
 //! of tapes, whose names end in `.tape`, and of schedules. Behind the word `run` it prints the report of each
 //! schedule, behind the word `areas` the bytes that the areas of node 0 hold at its end, and behind the word
-//! `sweep` how many crashes in the switch with which it ends kept what it was of.
+//! `sweep` how many crashes in the switch with which it ends kept what it was of. At the word `full-list` it says
+//! what a node answers all of whose instances are decided.
 #![tactic(auto)]
 
 mod areas;
+mod full_list;
 mod sweep;
 
 ghost use Rattle.std.specs.Prelude.{◌≡◌, IfOk};
@@ -84,6 +86,7 @@ fn main(rt: HostRuntime) -> io::Result<()> {
             "run" => task = Task::Run,
             "areas" => task = Task::Areas,
             "sweep" => task = Task::Sweep,
+            "full-list" => full_list::full_list(&rt)?,
             path => {
                 let bytes = fs::read(&rt, path)?;
                 match task {
