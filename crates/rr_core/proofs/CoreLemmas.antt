@@ -1,5 +1,5 @@
 -- States that stay lawful, and a started node, which is kept.
-use Rattle.std.proofs.Common.{◌≡◌, ◌+◌, ◌^◌, ◌<◌, ℕ, arith, Bool, true, false, eqb, List, [], ◌∷◌, map, ap, sym, ◌∙◌, refl, option_map}
+use Rattle.std.proofs.Common.{◌≡◌, ◌+◌, ◌^◌, ◌<◌, ℕ, arith, Bool, true, false, eqb, List, [], ◌∷◌, map, ap, refl, option_map}
 use Rattle.rr_types.specs.declared.command.Command.{Command}
 use Rattle.rr_types.specs.declared.message.Message.{Message}
 use Rattle.rr_types.specs.declared.promise.Entry.{Entry}

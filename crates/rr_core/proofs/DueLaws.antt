@@ -1,17 +1,16 @@
-use Rattle.std.proofs.Common.{◌≡◌, ◌≢◌, ◌+◌, ◌^◌, ◌<◌, ◌≤◌, ℕ, zero, suc, arith, Bool, true, false, cond, ◌&&◌, ◌||◌, not, ◌==◌, ltb, eqb, nat_lt, List, [], ◌∷◌, ◌++◌, length, ap, sym, ◌∙◌, refl, subst, Option, Some, None, is_some, is_none, option_map, if◌then◌else◌}
+use Rattle.std.proofs.Common.{◌≡◌, ◌+◌, ◌^◌, ℕ, zero, suc, arith, Bool, true, false, ◌&&◌, ◌==◌, nat_lt, List, [], ◌∷◌, ap, refl, Option, Some, None, is_some, is_none, option_map, if◌then◌else◌}
 use Rattle.std.specs.Option.{option_map_or}
-use Rattle.std.proofs.lemmas.Bool.{false≢true, eqb-true}
+use Rattle.std.proofs.lemmas.Bool.{eqb-true}
 use Rattle.rr_types.specs.declared.command.Command.{Command}
 use Rattle.rr_types.specs.declared.promise.Standing.{Standing}
 use Rattle.rr_types.specs.declared.promise.Standing.TheVariants.{Decided, Open}
-use Rattle.rr_types.specs.Rounds.{OpenAt, coordinator_of}
+use Rattle.rr_types.specs.Rounds.{coordinator_of}
 use Rattle.rr_types.specs.Nodes.{has_member}
 use Rattle.rr_types.specs.Standings.{is_undecided, round_of, proposal_of}
 use Rattle.rr_model.specs.NodeState.{NodeState, Row, Tally, row_of, standing_at, open_instances}
 use Rattle.rr_model.specs.NodeDetector.{joined}
 use Rattle.rr_model.specs.NodeParts.{free_command}
 use Rattle.rr_model.specs.NodeDue.{Due, Begin, Offer, Conclude, MoveOn, pick, is_majority, due_of_coordinator, due_of_participant, due_of_row, due_at, first_due, due, carry_out, settle_within, settle}
-use Rattle.rr_core.specs.Lawful.{IsLawful}
 use Rattle.rr_core.proofs.QuietLaws.{IsStep, step_none, step_then}
 use Rattle.rr_core.proofs.PartLaws.{conclude_step, propose_step, enter_step}
 

@@ -2,6 +2,7 @@ pub mod GroupLemmas
 pub mod StepLaws
 pub mod CoreLemmas
 pub mod LeavingLemmas
+pub mod SearchLemmas
 pub mod MarkLemmas
 pub mod QuietLaws
 pub mod PartLaws

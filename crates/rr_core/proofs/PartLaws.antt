@@ -1,20 +1,16 @@
-use Rattle.std.proofs.Common.{◌≡◌, ◌≢◌, ◌+◌, ◌^◌, ◌<◌, ◌≤◌, ℕ, zero, suc, arith, Bool, true, false, cond, ◌&&◌, ◌||◌, not, ◌==◌, ltb, eqb, nat_lt, List, [], ◌∷◌, ◌++◌, length, ap, sym, ◌∙◌, refl, subst, Option, Some, None, is_some, is_none, option_map, if◌then◌else◌}
+use Rattle.std.proofs.Common.{◌≡◌, ◌<◌, ℕ, Bool, true, false, ◌&&◌, not, ◌==◌, ltb, nat_lt, List, [], ◌∷◌, ap, sym, ◌∙◌, refl, subst, Option, Some, None, is_none, if◌then◌else◌}
 use Rattle.std.specs.Option.{option_map_or}
-use Rattle.std.proofs.lemmas.Bool.{false≢true, eqb-true, eqb-false, eq-eqb, ne_eqb, ltb-true, ltb-false, lt-ltb}
+use Rattle.std.proofs.lemmas.Bool.{false≢true, eq-eqb, lt-ltb}
 use Rattle.rr_types.specs.declared.command.Command.{Command}
-use Rattle.rr_types.specs.declared.message.Body.{Body}
 use Rattle.rr_types.specs.declared.message.Body.TheVariants as say
-use Rattle.rr_types.specs.declared.fact.Fact.{Fact}
-use Rattle.rr_types.specs.declared.fact.Fact.TheVariants.{Enter, Propose, Adopt, Decide}
+use Rattle.rr_types.specs.declared.fact.Fact.TheVariants.{Enter, Propose, Decide}
 use Rattle.rr_types.specs.declared.promise.Standing.{Standing}
 use Rattle.rr_types.specs.declared.promise.Standing.TheVariants.{Decided, Open}
-use Rattle.rr_types.specs.Commands.{is_same_command}
 use Rattle.rr_types.specs.Rounds.{Estimated, coordinator_of}
-use Rattle.rr_types.specs.Standings.{fits, is_undecided, round_of, stamp_of, estimate_of, proposal_of, carries_on}
-use Rattle.rr_model.specs.NodeState.{NodeState, Row, row_of, standing_at, next_number, everyone, others}
+use Rattle.rr_types.specs.Standings.{fits, is_undecided, round_of, stamp_of, proposal_of, carries_on}
+use Rattle.rr_model.specs.NodeState.{NodeState, standing_at, next_number, everyone, others}
 use Rattle.rr_model.specs.NodeParts.{owe, backing_at, stage, enter, enter_with, entering_estimate, leave_round, free_command, restate, restate_all, conclude, propose}
-use Rattle.rr_core.specs.Lawful.{IsLawful}
-use Rattle.rr_staged.proofs.SameLemmas.{and_left, and_right, both, command_same}
+use Rattle.rr_staged.proofs.SameLemmas.{both, command_same}
 use Rattle.rr_core.proofs.QuietLaws.{IsQuiet, IsStep, step_none, step_then, quiet_none, quiet_then, quiet_step, owe_quiet, stage_step}
 
 -- a decision is staged

@@ -1,11 +1,10 @@
-use Rattle.std.proofs.Common.{◌≡◌, ◌≢◌, ◌+◌, ◌<◌, ◌≤◌, ℕ, arith, Bool, true, false, cond, ◌&&◌, ◌||◌, not, ◌==◌, ltb, eqb, nat_lt, List, [], ◌∷◌, ap, sym, ◌∙◌, refl, subst, Option, Some, None, is_some, option_map, if◌then◌else◌}
+use Rattle.std.proofs.Common.{◌≡◌, ◌+◌, ◌<◌, ℕ, arith, Bool, true, false, cond, ◌&&◌, ◌||◌, not, ◌==◌, eqb, nat_lt, List, [], ◌∷◌, ap, sym, ◌∙◌, refl, Option, Some, None, option_map, if◌then◌else◌}
 use Rattle.std.specs.Prelude.{find}
 use Rattle.std.specs.Option.{option_map_or}
-use Rattle.std.proofs.lemmas.Bool.{false≢true, eqb-true, ltb-true, lt-ltb}
+use Rattle.std.proofs.lemmas.Bool.{eqb-true, ltb-true}
 use Rattle.rr_types.specs.declared.command.Command.{Command}
 use Rattle.rr_types.specs.declared.message.Message.{Message}
 use Rattle.rr_types.specs.declared.message.Body.{Body}
-use Rattle.rr_types.specs.declared.message.Body.TheVariants as say
 use Rattle.rr_types.specs.declared.message.Body.TheVariants.{Estimate, Proposal, Ack, Decision, Request, Nack, Beat, Suspects, Ask}
 use Rattle.rr_types.specs.declared.fact.Fact.TheVariants.{Adopt}
 use Rattle.rr_types.specs.declared.promise.Standing.{Standing}
@@ -13,7 +12,7 @@ use Rattle.rr_types.specs.declared.promise.Standing.TheVariants.{Decided, Open}
 use Rattle.rr_types.specs.Registry.{has_request}
 use Rattle.rr_types.specs.Rounds.{Estimated, coordinator_of}
 use Rattle.rr_types.specs.Nodes.{with_member}
-use Rattle.rr_types.specs.Standings.{is_undecided, round_of, stamp_of, fits}
+use Rattle.rr_types.specs.Standings.{is_undecided, round_of, stamp_of}
 use Rattle.rr_types.specs.Facts.{decision_of}
 use Rattle.rr_model.specs.NodeState.{NodeState, Row, Tally, row_of, put_row, standing_at, open_instances, is_open, first_undecided, everyone, others, decided_prefix}
 use Rattle.rr_model.specs.NodeDetector.{all_ticked, late_nodes}

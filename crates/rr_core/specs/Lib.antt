@@ -1,3 +1,4 @@
 pub mod Lawful
 pub mod Kept
+pub mod Searched
 pub mod Taken

@@ -1,16 +1,52 @@
 //! What leaves a node: the oldest message that may, and the oldest acknowledgement.
 
 ghost use Rattle.std.specs.Prelude.{◌≡◌, None, Some, is_some, find, MatchOption, IfSome};
+ghost use Rattle.std.specs.List.{list_any};
 ghost use Rattle.rr_model.specs.NodeStep.{next_leaving, message_left};
 ghost use Rattle.rr_registry.specs.Kept.{kept_reply};
 ghost use Rattle.rr_list.specs.Arrived.{without_first};
 ghost use Rattle.rr_mark.specs.Marks.{IsFreeOrBacked};
+ghost use Rattle.rr_core.specs.Kept.{IsKept};
+ghost use Rattle.rr_core.specs.Searched.{IsSearched};
 
 use rr_list::Waiting;
 use rr_mark::Cleared;
 use rr_registry::Registry;
 use rr_step::State;
 use rr_types::{Reply, RequestNo};
+
+/// How many commands of the decided prefix were searched for waiting requests and have none. It is stale once a
+/// request waits again that was decided before.
+#[derive(Clone, Copy, Debug)]
+pub struct Searched {
+    pub count: usize,
+    pub is_stale: bool,
+}
+
+/// Searches on up to the first command whose request waits. Over all calls each command is looked up once.
+fn search_on(state: &State, searched: Searched) -> Searched
+    requires { IsSearched searched.count searched.is_stale state.now }
+    ensures { IsSearched result.count result.is_stale state.now }
+{
+    let end = state.instances.prefix_len();
+    let mut count = searched.count;
+    while count < end {
+        match state.instances.command_at(count) {
+            Some(command) if !state.waiting.has(command.request) => count += 1,
+            _ => return Searched { count, ..searched },
+        }
+    }
+    Searched { count, ..searched }
+}
+
+/// Whether one of these requests has a reply.
+pub fn is_any_answered(requests: &[RequestNo], registry: &Registry) -> bool
+    ensures { result ≡ list_any (λ q. is_some (kept_reply registry.now q)) requests.now }
+{
+    requests
+        .iter()
+        .any(|request| registry.reply(*request).is_some())
+}
 
 /// The oldest request that has a reply.
 fn find_answered(waiting: &Waiting, registry: &Registry) -> Option<(RequestNo, Reply)>
@@ -54,15 +90,31 @@ pub fn take_leaving(state: &mut State) -> Option<Cleared>
     state.owed.take_leaving(&state.mark)
 }
 
-/// Takes the oldest waiting request that has a reply.
-pub fn take_acknowledged(state: &mut State, registry: &Registry) -> Option<(RequestNo, Reply)>
-    ensures { MatchOption result
+/// Takes the oldest waiting request that has a reply. Where all of the decided prefix was searched, there is none.
+pub fn take_acknowledged(
+    state: &mut State,
+    registry: &Registry,
+    searched: &mut Searched,
+) -> Option<(RequestNo, Reply)>
+    requires kept { IsKept state.old registry.now }
+    requires before { IsSearched searched.old.count searched.old.is_stale state.old }
+    ensures taken { MatchOption result
         ((find (λ q. is_some (kept_reply registry.now q)) state.old.waiting ≡ None) × (state.new ≡ state.old))
         (λ a. (find (λ q. is_some (kept_reply registry.now q)) state.old.waiting ≡ Some a.0) × (kept_reply registry.now a.0 ≡ Some a.1)
         × (state.new ≡ record state.old { waiting = without_first (λ q. is_some (kept_reply registry.now q)) state.old.waiting })) }
+    ensures behind { IsSearched searched.new.count searched.new.is_stale state.new }
 {
+    *searched = search_on(state, *searched);
+    let count = state.instances.prefix_len();
+    if !searched.is_stale && searched.count == count {
+        return None;
+    }
     if let Some(answered) = take_answered(&mut state.waiting, registry) {
         return Some(answered);
     }
+    *searched = Searched {
+        count,
+        is_stale: false,
+    };
     None
 }

@@ -10,7 +10,7 @@ ghost use Rattle.rr_step.specs.Steps.{combined};
 ghost use Rattle.rr_core.specs.Taken.{CanBeTaken};
 
 use crate::group::{commands_after, is_running_group, mark_running, put_back, take_group};
-use crate::leaving::{take_acknowledged, take_leaving};
+use crate::leaving::{Searched, is_any_answered, take_acknowledged, take_leaving};
 use crate::prefix::registry_of_prefix;
 use rr_gate::{Opened, Synced};
 use rr_input::{advance_step, hear_step, started, submit_step, suspect_step, tick_step};
@@ -30,17 +30,20 @@ pub struct Core {
     alloc: Global,
     state: State,
     registry: Registry,
+    searched: Searched,
 }
 
 impl Model for Core {
     ghost use Rattle.rr_model.specs.NodeState.{NodeState};
+    ghost use Rattle.std.specs.Prelude.{◌≡◌};
     ghost use Rattle.rr_core.specs.Kept.{IsKept};
+    ghost use Rattle.rr_core.specs.Searched.{IsSearched};
 
     ghost Value = { NodeState };
 
     ghost view = { λ c. c.state };
 
-    ghost invariant = { λ c. IsKept c.state c.registry };
+    ghost invariant = { λ c. IsKept c.state c.registry × IsSearched c.searched.count c.searched.is_stale c.state };
 }
 
 impl Core {
@@ -69,19 +72,25 @@ impl Core {
                 alloc,
                 state,
                 registry,
+                searched: Searched {
+                    count: 0,
+                    is_stale: false,
+                },
             }),
             Err(refusal) => Err(refusal),
         }
     }
 
     /// The core takes on what a step has changed.
-    #[tactic(auto, using(crate::proofs::TakenLemmas::taken_kept))]
     fn commit(&mut self, changes: Changes) -> Result<(), Refusal>
         requires { CanBeTaken self.old changes }
         ensures ok { OnOk result (self.new ≡ combined self.old changes) }
         ensures refused { IfErr result (λ e. e ≡ Refusal.OutOfMemory) }
         ensures err { OnErr result (self.new ≡ self.old) }
     {
+        if is_any_answered(&changes.waiting, &self.registry) {
+            self.searched.is_stale = true;
+        }
         self.state.absorb(self.alloc, changes)
     }
 
@@ -259,7 +268,7 @@ impl Core {
             ((next_acknowledged self.old ≡ None) × (self.new ≡ self.old))
             (λ a. (next_acknowledged self.old ≡ Some a.0) × (reply_of (decided_prefix self.old) a.0 ≡ Some a.1) × (self.new ≡ acknowledged self.old)) }
     {
-        take_acknowledged(&mut self.state, &self.registry)
+        take_acknowledged(&mut self.state, &self.registry, &mut self.searched)
     }
 
     /// How many nodes there are.
