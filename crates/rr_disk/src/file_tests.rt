@@ -6,21 +6,32 @@ use std::fs;
 use std::test::Fail;
 
 #[test]
-fn keeps_what_was_written(rt: HostRuntime) -> Result<(), Fail> {
-    let folder = "rr_disk_kept";
-    let deep = "rr_disk_kept/a/b";
+fn writes_within_its_length(rt: HostRuntime) -> Result<(), Fail> {
+    let folder = "rr_disk_within";
     let _ = fs::remove_dir_all(&rt, folder);
-    let alloc = rt.alloc();
-    let mut disk = FileDisk::open(&rt, deep, true)?;
-    assert_eq!(rt; disk.len(Area::First), 0);
+    let mut disk = FileDisk::open(&rt, folder, true)?;
     assert_eq!(rt; disk.write_at(Area::First, 1, &[1]), Err(Refusal::Device));
     assert_eq!(rt; disk.len(Area::First), 0);
     disk.write_at(Area::First, 0, &[1, 2, 3])?;
-    disk.write_at(Area::Second, 0, &[7])?;
     disk.write_at(Area::First, 2, &[4, 5])?;
-    disk.sync()?;
     assert_eq!(rt; disk.len(Area::First), 4);
-    assert_eq!(rt; disk.len(Area::Second), 1);
+    drop(disk);
+    assert_eq!(rt;
+        fs::read(&rt, "rr_disk_within/a0")?.as_slice(),
+        [1, 2, 4, 5].as_slice()
+    );
+    fs::remove_dir_all(&rt, folder)?;
+    Ok(())
+}
+
+#[test]
+fn reads_what_was_written(rt: HostRuntime) -> Result<(), Fail> {
+    let folder = "rr_disk_read";
+    let _ = fs::remove_dir_all(&rt, folder);
+    let alloc = rt.alloc();
+    let mut disk = FileDisk::open(&rt, folder, true)?;
+    disk.write_at(Area::First, 0, &[1, 2, 4, 5])?;
+    disk.sync()?;
     assert_eq!(rt;
         disk.read(alloc, Area::First, 1, 2)?.as_slice(),
         [2, 4].as_slice()
@@ -31,12 +42,22 @@ fn keeps_what_was_written(rt: HostRuntime) -> Result<(), Fail> {
     );
     assert!(rt; disk.read(alloc, Area::First, 9, 2)?.is_empty());
     drop(disk);
-    assert_eq!(rt;
-        fs::read(&rt, "rr_disk_kept/a/b/a0")?.as_slice(),
-        [1, 2, 4, 5].as_slice()
-    );
+    fs::remove_dir_all(&rt, folder)?;
+    Ok(())
+}
+
+#[test]
+fn finds_what_was_written_again(rt: HostRuntime) -> Result<(), Fail> {
+    let folder = "rr_disk_kept";
+    let deep = "rr_disk_kept/a/b";
+    let _ = fs::remove_dir_all(&rt, folder);
+    let alloc = rt.alloc();
+    let mut disk = FileDisk::open(&rt, deep, true)?;
+    disk.write_at(Area::First, 0, &[1, 2])?;
+    disk.write_at(Area::Second, 0, &[7])?;
+    drop(disk);
     let mut again = FileDisk::open(&rt, deep, false)?;
-    assert_eq!(rt; again.len(Area::First), 4);
+    assert_eq!(rt; again.len(Area::First), 2);
     assert_eq!(rt;
         again.read(alloc, Area::Second, 0, 9)?.as_slice(),
         [7].as_slice()
@@ -44,7 +65,7 @@ fn keeps_what_was_written(rt: HostRuntime) -> Result<(), Fail> {
     let mut made = FileDisk::open(&rt, deep, true)?;
     assert_eq!(rt;
         made.read(alloc, Area::First, 0, 9)?.as_slice(),
-        [1, 2, 4, 5].as_slice()
+        [1, 2].as_slice()
     );
     drop((again, made));
     fs::remove_dir_all(&rt, folder)?;
