@@ -3,8 +3,8 @@
 
     more-edits/try.py [CRATE..]
 
-They turn the meaning of what stands inside a crate, or turn that of a public function once more than the gate does, which tries
-one for each public function. The gate leaves them out for its time. The first runs prove the libraries below the crates."""
+They turn the meaning of what stands inside a crate, or that of a public function which another edit turns in the gate. The gate
+leaves them out for its time. The first runs prove the libraries below the crates."""
 import pathlib
 import shutil
 import subprocess
