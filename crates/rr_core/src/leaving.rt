@@ -23,7 +23,7 @@ pub struct Searched {
     pub is_stale: bool,
 }
 
-/// Searches on up to the first command whose request waits. Over all calls each command is looked up once.
+/// Searches on up to the first command whose request waits. It goes past each command once.
 fn search_on(state: &State, searched: Searched) -> Searched
     requires { IsSearched searched.count searched.is_stale state.now }
     ensures { IsSearched result.count result.is_stale state.now }
