@@ -252,6 +252,19 @@ goes_on i rows a h = either (decision_at rows i) (λ d. let x = ap (λ o. is_som
 pub open_from : (rows : List Row) (i from x n : ℕ) → AscendFrom 0 rows → i ≤ from → x ≡ undecided_from i rows → n ≡ x → from ≤ n → n ≡ undecided_from from rows
 open_from rows i from x n h l e f m = f ∙ e ∙ sym (undecided_between rows i from h l (omega (arith, e, f)))
 
+some_left : (n i : ℕ) (rows : List Row) → lowest_undecided (suc n) i rows ≡ [] → 1048576 ≤ undecided_from i rows
+some_left n i rows h =
+    by_bound (undecided_from i rows)
+    (λ l. let w : length (lowest_undecided (suc n) i rows) ≡ 0 = ap (λ (x : List ℕ). length x) h in let f : length (lowest_undecided (suc n) i rows) ≡ suc (length (lowest_undecided n (undecided_from i rows + 1) rows)) = ap (λ (x : List ℕ). length x) (lowest_some n i rows l) in absurd (omega (arith, w, f)))
+    (λ l. l)
+
+-- where the open instances end before they are eight, nothing behind them is undecided
+pub none_left : (rows : List Row) (i from n : ℕ) → AscendFrom 0 rows → i ≤ from → from ≤ 1048576 → n < 8 → [] ≡ lowest_undecided (8 - n) i rows → undecided_from 1048576 rows ≡ undecided_from from rows
+none_left rows i from n h l m few e =
+    let z : 8 - n ≡ suc (7 - n) = omega arith in
+    let up = some_left (7 - n) i rows (ap (λ k. lowest_undecided k i rows) (sym z) ∙ sym e) in
+    undecided_between rows i 1048576 h (omega arith) up ∙ sym (undecided_between rows i from h l (omega (arith, up)))
+
 -- one more of the lowest undecided instances, and the end of them
 pub lowest_next : (n turn from : ℕ) (rows : List Row) → turn < n → undecided_from from rows < 1048576 → lowest_undecided (n - turn) from rows ≡ undecided_from from rows ∷ lowest_undecided (n - (turn + 1)) (undecided_from from rows + 1) rows
 lowest_next n turn from rows h l =

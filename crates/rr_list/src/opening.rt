@@ -99,11 +99,18 @@ impl Rows {
         ensures range { result ≤ 1048576 }
         ensures above { from ≤ result }
     {
-        for instance in window.as_slice() {
+        let instances = window.as_slice();
+        for instance in instances {
             if from <= instance.number() {
                 return instance.number();
             }
         }
+        // Fewer than eight are open only where nothing behind them is undecided.
+        let from = if instances.len() < WINDOW {
+            INSTANCES
+        } else {
+            from
+        };
         self.search(from)
     }
 }
