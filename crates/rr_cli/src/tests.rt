@@ -5,7 +5,7 @@ mod rows;
 mod shown;
 
 use crate::{end_without_words, execute, print_refusal, report_on, status};
-use rows::ROWS;
+use rows::rows;
 use rr_types::Refusal;
 use std::alloc::AllocError;
 use std::io;
@@ -33,7 +33,7 @@ fn run<I: Read>(rt: &HostRuntime, words: &[&str], input: &mut I) -> Result<Outco
 
 #[test]
 fn prints_each_row(rt: HostRuntime) -> Result<(), Fail> {
-    for row in &ROWS {
+    for row in rows() {
         let ran = run(&rt, &["rr", "sim"], &mut row.schedule.as_bytes())?;
         assert_eq!(rt; ran.out.as_str(), row.report, "the report of {}", row.name);
         assert_eq!(rt; ran.err.as_str(), row.error, "the error of {}", row.name);

@@ -5,25 +5,60 @@ use rr_types::{
     Command, Estimate, Fact, Group, Instance, Name, NodeId, Nodes, Op, Promise, Refusal, RequestNo,
     Round, Value,
 };
+use std::alloc::Global;
 use std::test::Fail;
 
 /// A group of one fact with number 3: instance 0 decides `7.1 claim a x`.
-const DECIDED: [u8; 32] = [
+static DECIDED: [u8; 32] = [
     0, 0, 0, 0, 0, 0, 0, 3, 0, 1, 4, 0, 0, 0, 0, 0, 0, 0, 7, 0, 0, 0, 0, 0, 0, 0, 1, 1, 1, 0x61, 1,
     0x78,
 ];
 
 /// The empty snapshot of epoch 1 of node 0 of 1.
-const EMPTY: [u8; 23] = [
+static EMPTY: [u8; 23] = [
     2, 0, 1, 0, 0, 0, 0, 0, 0, 0, 1, 0, 0, 0, 0, 0, 0, 0, 0, 0, 0, 0, 0,
 ];
 
 /// The snapshot of node 0 of 1 with epoch 2 behind two facts: it proposed `7.1 claim a x` in round 1.
-const PROPOSED: [u8; 71] = [
+static PROPOSED: [u8; 71] = [
     2, 0, 1, 0, 0, 0, 0, 0, 0, 0, 2, 0, 0, 0, 0, 0, 0, 0, 2, 0, 0, 0, 1, 0, 0, 0, 0, 2, 0, 0, 0, 1,
     0, 0, 0, 0, 0, 0, 0, 7, 0, 0, 0, 0, 0, 0, 0, 1, 1, 1, 0x61, 1, 0x78, 1, 0, 0, 0, 7, 0, 0, 0, 0,
     0, 0, 0, 1, 1, 1, 0x61, 1, 0x78,
 ];
+
+/// The bytes of that group. (A test that names a table itself is proved over each of its bytes.)
+fn decided() -> &'static [u8] {
+    &DECIDED
+}
+
+/// The bytes of the empty snapshot.
+fn empty() -> &'static [u8] {
+    &EMPTY
+}
+
+/// The bytes of the snapshot with a proposal.
+fn proposed() -> &'static [u8] {
+    &PROPOSED
+}
+
+/// A copy of bytes, with another byte at a place.
+fn changed(alloc: Global, bytes: &[u8], place: usize, byte: u8) -> Result<Vec<u8>, Fail> {
+    let mut bytes = bytes.to_vec(alloc)?;
+    if let Some(at) = bytes.get_mut(place) {
+        *at = byte;
+    }
+    Ok(bytes)
+}
+
+/// Whether bytes are refused as a group at this offset.
+fn is_no_group(alloc: Global, bytes: &[u8], offset: u64) -> bool {
+    matches!(decode_group(alloc, bytes), Err(Refusal::Malformed(found)) if found == offset)
+}
+
+/// Whether bytes are refused as a snapshot at this offset.
+fn is_no_snapshot(alloc: Global, bytes: &[u8], offset: u64) -> bool {
+    matches!(decode_snapshot(alloc, bytes), Err(Refusal::Malformed(found)) if found == offset)
+}
 
 #[test]
 fn a_transfer_is_spelled_in_19_bytes(rt: HostRuntime) -> Result<(), Fail> {
@@ -72,7 +107,8 @@ fn a_fact_is_read_as_it_was_written(rt: HostRuntime) -> Result<(), Fail> {
 
 #[test]
 fn faults_of_a_group(rt: HostRuntime) -> Result<(), Fail> {
-    let faults: [(usize, u8, u64); 9] = [
+    let alloc = rt.alloc();
+    let faults = [
         (9, 0, 8),
         (9, 65, 8),
         (10, 5, 10),
@@ -84,51 +120,34 @@ fn faults_of_a_group(rt: HostRuntime) -> Result<(), Fail> {
         (30, 2, 31),
     ];
     for (place, value, offset) in faults {
-        let mut bytes = DECIDED;
-        assert!(rt; place < 32);
-        bytes[place] = value;
-        match decode_group(rt.alloc(), &bytes) {
-            Err(Refusal::Malformed(found)) => assert_eq!(rt; found, offset),
-            _ => assert!(rt; false),
-        }
+        let bytes = changed(alloc, decided(), place, value)?;
+        assert!(rt; is_no_group(alloc, &bytes, offset), "{value} at {place}");
     }
-    let longer = [DECIDED.as_slice(), [0].as_slice()].concat(rt.alloc())?;
-    assert!(rt;
-        matches!(
-            decode_group(rt.alloc(), &longer),
-            Err(Refusal::Malformed(32))
-        )
-    );
-    assert!(rt; matches!(decode_group(rt.alloc(), &[]), Err(Refusal::Malformed(0))));
+    let longer = [decided(), [0].as_slice()].concat(alloc)?;
+    assert!(rt; is_no_group(alloc, &longer, 32));
+    assert!(rt; is_no_group(alloc, &[], 0));
     Ok(())
 }
 
 #[test]
 fn snapshots(rt: HostRuntime) -> Result<(), Fail> {
+    let alloc = rt.alloc();
     let node = NodeId::at(0).ok_or("a node")?;
-    let made = Snapshot::new(
-        Nodes::new(1)?,
-        node,
-        1,
-        0,
-        Promise::new(Vec::new(rt.alloc())),
-    )
-    .ok()
-    .ok_or("a snapshot")?;
-    assert_eq!(rt;
-        encode_snapshot(rt.alloc(), &made)?.as_slice(),
-        EMPTY.as_slice()
-    );
-    let read = decode_snapshot(rt.alloc(), &PROPOSED)?;
-    assert_eq!(rt; read.epoch(), 2);
-    assert_eq!(rt; read.next(), 2);
+    let made = Snapshot::new(Nodes::new(1)?, node, 1, 0, Promise::new(Vec::new(alloc)))
+        .ok()
+        .ok_or("a snapshot")?;
+    assert_eq!(rt; encode_snapshot(alloc, &made)?.as_slice(), empty());
+    let read = decode_snapshot(alloc, proposed())?;
+    assert_eq!(rt; (read.epoch(), read.next()), (2, 2));
     assert_eq!(rt; read.promise().entries().len(), 1);
-    assert_eq!(rt;
-        encode_snapshot(rt.alloc(), &read)?.as_slice(),
-        PROPOSED.as_slice()
-    );
+    assert_eq!(rt; encode_snapshot(alloc, &read)?.as_slice(), proposed());
+    Ok(())
+}
+
+#[test]
+fn faults_of_a_snapshot(rt: HostRuntime) -> Result<(), Fail> {
     // Version, node and count, epoch 0, entries before the first fact, kind, round 0, stamp above the round, flag.
-    let faults: [(usize, u8, u64); 9] = [
+    let faults = [
         (0, 1, 0),
         (1, 1, 2),
         (2, 8, 2),
@@ -140,13 +159,11 @@ fn snapshots(rt: HostRuntime) -> Result<(), Fail> {
         (53, 2, 53),
     ];
     for (place, value, offset) in faults {
-        let mut bytes = PROPOSED;
-        assert!(rt; place < 71);
-        bytes[place] = value;
-        match decode_snapshot(rt.alloc(), &bytes) {
-            Err(Refusal::Malformed(found)) => assert_eq!(rt; found, offset),
-            _ => assert!(rt; false),
-        }
+        let bytes = changed(rt.alloc(), proposed(), place, value)?;
+        assert!(rt;
+            is_no_snapshot(rt.alloc(), &bytes, offset),
+            "{value} at {place}"
+        );
     }
     Ok(())
 }

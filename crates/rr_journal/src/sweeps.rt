@@ -3,7 +3,7 @@
 //! One run decided one command; the other then switched to a snapshot, which stands in area 1.
 
 use super::*;
-use crate::tests::{AREA, more, opened};
+use crate::tests::{area, changed, cut, more, opened, put_at};
 use rr_disk::{Area, Disk, MemDisk};
 use rr_frame::{Reader, decode_group, decode_snapshot, encode_group, encode_snapshot};
 use rr_types::{
@@ -15,10 +15,15 @@ use std::test::Fail;
 
 /// Area 1 behind a switch: the snapshot of node 0 of 1 with epoch 2 behind four facts, by which
 /// instance 0 has decided `7.1 claim a x`, and a closed gate.
-const SNAPSHOT: [u8; 51] = [
+static SNAPSHOT: [u8; 51] = [
     0xA5, 0, 0, 0, 0x2D, 2, 0, 1, 0, 0, 0, 0, 0, 0, 0, 2, 0, 0, 0, 0, 0, 0, 0, 4, 0, 0, 0, 1, 0, 0,
     0, 0, 1, 0, 0, 0, 7, 0, 0, 0, 0, 0, 0, 0, 1, 1, 1, 0x61, 1, 0x78, 0,
 ];
+
+/// The bytes of that area.
+fn snapshot() -> &'static [u8] {
+    &SNAPSHOT
+}
 
 /// The payload of the frame whose gate stands at a place.
 fn payload_at(bytes: &[u8], gate: usize) -> Option<&[u8]> {
@@ -84,13 +89,6 @@ fn is_blank(bytes: &[u8]) -> bool {
     bytes.len() < 2 || bytes[0] != 0xA5
 }
 
-/// Puts a byte at a place of these, where there is one.
-fn put_at(bytes: &mut [u8], place: usize, byte: u8) {
-    if let Some(at) = bytes.get_mut(place) {
-        *at = byte;
-    }
-}
-
 /// Asserts that instance 0 has decided `7.1 claim a x`, and that nothing else is promised.
 fn assert_one_decided(rt: &impl Abort, promise: &Promise) -> Result<(), Refusal> {
     let command = Command {
@@ -115,7 +113,7 @@ fn assert_one_decided(rt: &impl Abort, promise: &Promise) -> Result<(), Refusal>
 #[test]
 fn what_the_areas_hold(rt: HostRuntime) -> Result<(), Fail> {
     let alloc = rt.alloc();
-    match opened(alloc, &AREA, &[])? {
+    match opened(alloc, area(), &[])? {
         Image::Active(Area::First, content) => {
             assert_eq!(rt;
                 (content.epoch(), content.next(), content.gate()),
@@ -125,7 +123,7 @@ fn what_the_areas_hold(rt: HostRuntime) -> Result<(), Fail> {
         }
         _ => assert!(rt; false),
     }
-    match opened(alloc, &AREA, &SNAPSHOT)? {
+    match opened(alloc, area(), snapshot())? {
         Image::Active(Area::Second, content) => {
             assert_eq!(rt;
                 (content.epoch(), content.next(), content.gate()),
@@ -136,7 +134,7 @@ fn what_the_areas_hold(rt: HostRuntime) -> Result<(), Fail> {
         _ => assert!(rt; false),
     }
     // The snapshot before the groups of area 0.
-    let first = decode_snapshot(alloc, payload_at(&AREA, 0).ok_or("a frame")?)?;
+    let first = decode_snapshot(alloc, payload_at(area(), 0).ok_or("a frame")?)?;
     assert_eq!(rt;
         (first.epoch(), first.node().index(), first.nodes().count()),
         (1, 0, 1)
@@ -150,10 +148,9 @@ fn what_the_areas_hold(rt: HostRuntime) -> Result<(), Fail> {
 #[test]
 fn an_unformatted_area_is_formatted_anew(rt: HostRuntime) -> Result<(), Fail> {
     let alloc = rt.alloc();
-    let mut area = AREA;
-    area[0] = 0;
+    let closed = changed(alloc, area(), 0, 0)?;
     let mut disk = MemDisk::new(alloc);
-    disk.write_at(Area::First, 0, &area)?;
+    disk.write_at(Area::First, 0, &closed)?;
     disk.sync()?;
     let nodes = Nodes::new(1)?;
     let node = NodeId::new(nodes, 0).ok_or("a node")?;
@@ -165,8 +162,7 @@ fn an_unformatted_area_is_formatted_anew(rt: HostRuntime) -> Result<(), Fail> {
     let bytes = disk.read(alloc, Area::First, 0, u64::MAX)?;
     // The snapshot of epoch 1 and its open gate; the next gate is closed, and nothing behind it has
     // changed.
-    let mut expected = AREA;
-    expected[28] = 0;
+    let expected = changed(alloc, area(), 28, 0)?;
     assert_eq!(rt; bytes.as_slice(), expected.as_slice());
     Ok(())
 }
@@ -174,16 +170,16 @@ fn an_unformatted_area_is_formatted_anew(rt: HostRuntime) -> Result<(), Fail> {
 #[test]
 fn each_byte_of_area_0(rt: HostRuntime) -> Result<(), Fail> {
     let alloc = rt.alloc();
-    let mut area = AREA;
-    for (place, kept) in AREA.iter().enumerate() {
-        assert_exact(&rt, alloc, &AREA[..place], &[])?;
-        assert_exact(&rt, alloc, &AREA[..place], &SNAPSHOT)?;
+    let mut bytes = area().to_vec(alloc)?;
+    for (place, kept) in area().iter().enumerate() {
+        assert_exact(&rt, alloc, cut(area(), place), &[])?;
+        assert_exact(&rt, alloc, cut(area(), place), snapshot())?;
         for byte in 0..=255 {
-            put_at(&mut area, place, byte);
-            assert_exact(&rt, alloc, &area, &[])?;
-            assert_exact(&rt, alloc, &area, &SNAPSHOT)?;
+            put_at(&mut bytes, place, byte);
+            assert_exact(&rt, alloc, &bytes, &[])?;
+            assert_exact(&rt, alloc, &bytes, snapshot())?;
         }
-        put_at(&mut area, place, *kept);
+        put_at(&mut bytes, place, *kept);
     }
     Ok(())
 }
@@ -191,14 +187,14 @@ fn each_byte_of_area_0(rt: HostRuntime) -> Result<(), Fail> {
 #[test]
 fn each_byte_of_area_1(rt: HostRuntime) -> Result<(), Fail> {
     let alloc = rt.alloc();
-    let mut area = SNAPSHOT;
-    for (place, kept) in SNAPSHOT.iter().enumerate() {
-        assert_exact(&rt, alloc, &AREA, &SNAPSHOT[..place])?;
+    let mut bytes = snapshot().to_vec(alloc)?;
+    for (place, kept) in snapshot().iter().enumerate() {
+        assert_exact(&rt, alloc, area(), cut(snapshot(), place))?;
         for byte in 0..=255 {
-            put_at(&mut area, place, byte);
-            assert_exact(&rt, alloc, &AREA, &area)?;
+            put_at(&mut bytes, place, byte);
+            assert_exact(&rt, alloc, area(), &bytes)?;
         }
-        put_at(&mut area, place, *kept);
+        put_at(&mut bytes, place, *kept);
     }
     Ok(())
 }

@@ -13,7 +13,7 @@ use std::test::Fail;
 
 /// Area 0 of node 0 of 1 behind four facts: it entered round 1 of instance 0 with `7.1 claim a x`, proposed
 /// it, adopted it and decided. The gates stand at 0, 28, 73, 114, 155 and 192.
-pub const AREA: [u8; 193] = [
+static AREA: [u8; 193] = [
     0xA5, 0, 0, 0, 0x17, 2, 0, 1, 0, 0, 0, 0, 0, 0, 0, 1, 0, 0, 0, 0, 0, 0, 0, 0, 0, 0, 0, 0, 0xA5,
     0, 0, 0, 0x28, 0, 0, 0, 0, 0, 0, 0, 0, 0, 1, 1, 0, 0, 0, 0, 0, 0, 0, 1, 0, 0, 0, 0, 0, 0, 0, 7,
     0, 0, 0, 0, 0, 0, 0, 1, 1, 1, 0x61, 1, 0x78, 0xA5, 0, 0, 0, 0x24, 0, 0, 0, 0, 0, 0, 0, 1, 0, 1,
@@ -22,6 +22,33 @@ pub const AREA: [u8; 193] = [
     0, 1, 1, 1, 0x61, 1, 0x78, 0xA5, 0, 0, 0, 0x20, 0, 0, 0, 0, 0, 0, 0, 3, 0, 1, 4, 0, 0, 0, 0, 0,
     0, 0, 7, 0, 0, 0, 0, 0, 0, 0, 1, 1, 1, 0x61, 1, 0x78, 0,
 ];
+
+/// The bytes of that area. (A test that names the table itself is proved over each of its bytes.)
+pub fn area() -> &'static [u8] {
+    &AREA
+}
+
+/// The front of bytes up to a place, or all of them.
+pub fn cut(bytes: &[u8], place: usize) -> &[u8] {
+    match bytes.split_at_checked(place) {
+        Some((front, _)) => front,
+        None => bytes,
+    }
+}
+
+/// A copy of bytes, with another byte at a place.
+pub fn changed(alloc: Global, bytes: &[u8], place: usize, byte: u8) -> Result<Vec<u8>, Fail> {
+    let mut bytes = bytes.to_vec(alloc)?;
+    put_at(&mut bytes, place, byte);
+    Ok(bytes)
+}
+
+/// Puts a byte at a place of these, where there is one.
+pub fn put_at(bytes: &mut [u8], place: usize, byte: u8) {
+    if let Some(at) = bytes.get_mut(place) {
+        *at = byte;
+    }
+}
 
 /// What two areas stand for to node 0 of 1.
 pub fn opened(alloc: Global, first: &[u8], second: &[u8]) -> Result<Image, Refusal> {
@@ -52,63 +79,53 @@ fn is_damaged(alloc: Global, first: &[u8], offset: u64) -> bool {
 
 #[test]
 fn areas_cut_short(rt: HostRuntime) {
-    assert_eq!(rt; facts(rt.alloc(), &AREA), Some((4, 192)));
-    assert!(rt; is_damaged(rt.alloc(), &AREA[..155], 114));
+    assert_eq!(rt; facts(rt.alloc(), area()), Some((4, 192)));
+    assert!(rt; is_damaged(rt.alloc(), cut(area(), 155), 114));
     for length in 156..193 {
-        assert!(rt; is_damaged(rt.alloc(), &AREA[..length], 155));
+        assert!(rt; is_damaged(rt.alloc(), cut(area(), length), 155));
     }
 }
 
 #[test]
-fn areas_with_one_byte_changed(rt: HostRuntime) {
-    let damaged: [(usize, u8, u64); 4] = [(159, 33, 155), (167, 4, 155), (170, 5, 155), (6, 2, 0)];
-    for (place, value, offset) in damaged {
-        let mut area = AREA;
-        assert!(rt; place < 193);
-        area[place] = value;
-        assert!(rt; is_damaged(rt.alloc(), &area, offset));
+fn areas_with_one_byte_changed(rt: HostRuntime) -> Result<(), Fail> {
+    let alloc = rt.alloc();
+    for (place, value, offset) in [(159, 33, 155), (167, 4, 155), (170, 5, 155), (6, 2, 0)] {
+        let bytes = changed(alloc, area(), place, value)?;
+        assert!(rt; is_damaged(alloc, &bytes, offset));
     }
-    let mut area = AREA;
-    area[28] = 0xA4;
-    assert_eq!(rt; facts(rt.alloc(), &area), Some((0, 28)));
-    let mut area = AREA;
-    area[0] = 0;
-    assert!(rt; matches!(opened(rt.alloc(), &area, &[]), Ok(Image::Unformatted)));
-    let mut area = AREA;
-    area[155] = 0;
+    let bytes = changed(alloc, area(), 28, 0xA4)?;
+    assert_eq!(rt; facts(alloc, &bytes), Some((0, 28)));
+    let bytes = changed(alloc, area(), 0, 0)?;
+    assert!(rt; matches!(opened(alloc, &bytes, &[]), Ok(Image::Unformatted)));
+    let bytes = changed(alloc, area(), 155, 0)?;
     for length in 156..194 {
-        assert_eq!(rt; facts(rt.alloc(), &area[..length]), Some((3, 155)));
+        assert_eq!(rt; facts(alloc, cut(&bytes, length)), Some((3, 155)));
+    }
+    Ok(())
+}
+
+/// Whether two areas are broken at the first byte of one of them.
+fn is_broken(alloc: Global, first: &[u8], second: &[u8], broken: u8) -> bool {
+    match opened(alloc, first, second) {
+        Err(Refusal::Damaged { area, offset: 0 }) => area == broken,
+        _ => false,
     }
 }
 
+/// Two formatted areas of one epoch; an area of a later epoch, of which the other's first frame alone counts.
 #[test]
-fn two_areas(rt: HostRuntime) {
-    // Two formatted areas of one epoch; an area of a later epoch, of which the other's first frame alone counts.
-    assert!(rt;
-        matches!(
-            opened(rt.alloc(), &AREA, &AREA),
-            Err(Refusal::Damaged { area: 1, offset: 0 })
-        )
-    );
-    let mut later = AREA;
-    later[15] = 2;
-    match opened(rt.alloc(), &AREA[..100], &later) {
+fn two_areas(rt: HostRuntime) -> Result<(), Fail> {
+    let alloc = rt.alloc();
+    assert!(rt; is_broken(alloc, area(), area(), 1));
+    let later = changed(alloc, area(), 15, 2)?;
+    match opened(alloc, cut(area(), 100), &later) {
         Ok(Image::Active(Area::Second, content)) => assert_eq!(rt; content.epoch(), 2),
         _ => assert!(rt; false),
     }
-    later[6] = 1;
-    assert!(rt;
-        matches!(
-            opened(rt.alloc(), &AREA, &later),
-            Err(Refusal::Damaged { area: 1, offset: 0 })
-        )
-    );
-    assert!(rt;
-        matches!(
-            opened(rt.alloc(), &later, &later),
-            Err(Refusal::Damaged { area: 0, offset: 0 })
-        )
-    );
+    let other = changed(alloc, &later, 6, 1)?;
+    assert!(rt; is_broken(alloc, area(), &other, 1));
+    assert!(rt; is_broken(alloc, &other, &other, 0));
+    Ok(())
 }
 
 /// A group of one fact, the first of `AREA`: the node enters round 1 of instance 0 with `7.1 claim a x`.
@@ -179,7 +196,7 @@ fn a_disk_is_opened_twice(rt: HostRuntime) -> Result<(), Fail> {
     let mut disk = journal.into_disk();
     let bytes = disk.read(alloc, Area::First, 0, u64::MAX)?;
     let (last, before) = bytes.split_last().ok_or("an empty area")?;
-    assert_eq!(rt; before, &AREA[..73]);
+    assert_eq!(rt; before, cut(area(), 73));
     assert_eq!(rt; *last, 0);
     assert_eq!(rt; disk.len(Area::Second), 0);
     Ok(())
@@ -219,7 +236,7 @@ fn a_refused_opening_is_repeated(rt: HostRuntime) -> Result<(), Fail> {
     let mut disk = journal.into_disk();
     let bytes = disk.read(alloc, Area::First, 0, u64::MAX)?;
     let (last, before) = bytes.split_last().ok_or("an empty area")?;
-    assert_eq!(rt; before, &AREA[..28]);
+    assert_eq!(rt; before, cut(area(), 28));
     assert_eq!(rt; *last, 0);
     Ok(())
 }

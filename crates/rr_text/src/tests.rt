@@ -7,7 +7,7 @@ use std::alloc::Global;
 use std::test::Fail;
 
 /// Texts of schedules: runs of one and of three nodes, and each event in each of its forms.
-const SCHEDULES: [&str; 5] = [
+static SCHEDULES: [&str; 5] = [
     "nodes 3\n",
     "nodes 1\nrestart 0\ndev 0\ndev 0\ndev 0\ndev 0\ncrash 0 1 0 A5\n",
     "nodes 3\nrestart 0\ndev 0\nsuspect 0 12\nsubmit 0 7 1 claim a x\nsend 0\ntake 0\ndev 0\nmark 0\nack 0\n",
@@ -16,7 +16,7 @@ const SCHEDULES: [&str; 5] = [
 ];
 
 /// Texts that are no schedules, and what they are refused with.
-const FAULTS: [(&str, Refusal); 40] = [
+static FAULTS: [(&str, Refusal); 40] = [
     ("", Refusal::BadEvent(1)),
     ("nodes 1", Refusal::BadEvent(1)),
     ("nodes 0\n", Refusal::BadNodes),
@@ -71,9 +71,27 @@ const FAULTS: [(&str, Refusal); 40] = [
     ("nodes 1\nsubmit 0 7.1 claim a x\n", Refusal::BadEvent(2)),
 ];
 
+/// These schedules. (A test that names a table itself is proved over each of its rows.)
+fn schedules() -> &'static [&'static str] {
+    &SCHEDULES
+}
+
+/// These faults.
+fn faults() -> &'static [(&'static str, Refusal)] {
+    &FAULTS
+}
+
+/// The last of the schedules, which has each event.
+fn each_event() -> &'static [u8] {
+    match schedules().split_last() {
+        Some((text, _)) => text.as_bytes(),
+        None => &[],
+    }
+}
+
 #[test]
 fn schedules_are_printed_as_they_were_read(rt: HostRuntime) -> Result<(), Fail> {
-    for text in SCHEDULES {
+    for text in schedules() {
         let schedule = Schedule::parse(rt.alloc(), text.as_bytes())?;
         assert_eq!(rt;
             schedule.text(rt.alloc())?.as_slice(),
@@ -86,10 +104,10 @@ fn schedules_are_printed_as_they_were_read(rt: HostRuntime) -> Result<(), Fail> 
 
 #[test]
 fn faults_are_told(rt: HostRuntime) {
-    for (text, refusal) in FAULTS {
+    for (text, refusal) in faults() {
         assert_eq!(rt;
             Schedule::parse(rt.alloc(), text.as_bytes()).err(),
-            Some(refusal),
+            Some(*refusal),
             "{text}"
         );
     }
@@ -115,7 +133,7 @@ fn with_byte(alloc: Global, text: &[u8], at: usize, byte: u8) -> Result<Vec<u8>,
 
 #[test]
 fn no_other_byte_is_taken_for_it(rt: HostRuntime) -> Result<(), Fail> {
-    let text = SCHEDULES[4].as_bytes();
+    let text = each_event();
     for at in 0..text.len() {
         for byte in 0..=255u8 {
             let bytes = with_byte(rt.alloc(), text, at, byte)?;
@@ -130,10 +148,10 @@ fn no_other_byte_is_taken_for_it(rt: HostRuntime) -> Result<(), Fail> {
 
 #[test]
 fn a_text_that_is_cut_is_refused_or_printed(rt: HostRuntime) -> Result<(), Fail> {
-    let text = SCHEDULES[4].as_bytes();
+    let text = each_event();
     for end in 0..text.len() {
         assert!(rt;
-            is_refused_or_printed(rt.alloc(), &text[..end])?,
+            is_refused_or_printed(rt.alloc(), text.split_at(end).0)?,
             "cut at {end}"
         );
     }
@@ -142,8 +160,8 @@ fn a_text_that_is_cut_is_refused_or_printed(rt: HostRuntime) -> Result<(), Fail>
 
 #[test]
 fn what_is_read_is_what_is_written(rt: HostRuntime) -> Result<(), Fail> {
-    let text = b"nodes 3\nsubmit 2 7 1 claim a x\nhear 1 5\nsuspect 0 12\ncrash 0 3 4 A50F\n";
-    let schedule = Schedule::parse(rt.alloc(), text)?;
+    let text = "nodes 3\nsubmit 2 7 1 claim a x\nhear 1 5\nsuspect 0 12\ncrash 0 3 4 A50F\n";
+    let schedule = Schedule::parse(rt.alloc(), text.as_bytes())?;
     assert_eq!(rt; schedule.nodes().count(), 3);
     match schedule.events() {
         [
@@ -262,7 +280,7 @@ fn messages(alloc: Global) -> Result<Vec<ReportLine>, Fail> {
 fn messages_are_printed(rt: HostRuntime) -> Result<(), Fail> {
     let decided = Vec::new(rt.alloc());
     let report = Report::new(messages(rt.alloc())?, decided);
-    let text = b"send 0 0 2 estimate 5 3 2 7.1 claim a x
+    let text = "send 0 0 2 estimate 5 3 2 7.1 claim a x
 send 1 0 2 proposal 5 3 7.1 claim a x
 send 2 0 2 ack 5 3
 send 3 0 2 decision 5 7.1 transfer a 9
@@ -274,7 +292,7 @@ send 8 0 2 suspects 12
 send 9 0 2 ask 5
 decided 0
 ";
-    assert_eq!(rt; report.text(rt.alloc())?.as_slice(), text.as_slice());
+    assert_eq!(rt; report.text(rt.alloc())?.as_slice(), text.as_bytes());
     Ok(())
 }
 
@@ -318,7 +336,7 @@ fn replies_restarts_and_refusals_are_printed(rt: HostRuntime) -> Result<(), Fail
     decided.push(command(Op::Claim(name, Value::new(b"x")?)))?;
     decided.push(command(Op::Release(other)))?;
     let report = Report::new(lines, decided);
-    let text = b"ack 1 7.1 claimed
+    let text = "ack 1 7.1 claimed
 ack 1 7.1 updated
 ack 1 7.1 released
 ack 1 7.1 transferred
@@ -332,6 +350,6 @@ decided 2
 0 7.1 claim a x
 1 7.1 release b
 ";
-    assert_eq!(rt; report.text(rt.alloc())?.as_slice(), text.as_slice());
+    assert_eq!(rt; report.text(rt.alloc())?.as_slice(), text.as_bytes());
     Ok(())
 }
