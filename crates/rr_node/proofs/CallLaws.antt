@@ -9,7 +9,7 @@ use Rattle.rr_types.specs.declared.refusal.Refusal.TheVariants as because
 use Rattle.rr_types.specs.Registry.{reply_of}
 use Rattle.rr_model.specs.NodeState.{NodeState, decided_prefix}
 use Rattle.rr_model.specs.NodeStep.{Input, Submit, Hear, Suspect, Tick, Advance, node_step, refusal_of, group_taken, next_leaving, message_left, next_acknowledged, acknowledged}
-use Rattle.rr_disk.specs.Areas.{Areas}
+use Rattle.rr_disk.specs.Areas.{Areas, synced}
 use Rattle.rr_frame.specs.SnapshotFormat.{snapshot_bytes}
 use Rattle.rr_journal.specs.Calls.{Call, Read, Write, Sync, after_call, after_starved, after_failing, append_calls}
 use Rattle.rr_journal.specs.Openings.{Phase, After, Goes, Opens, Stops, due_call, after_opening_call}
@@ -20,7 +20,7 @@ use Rattle.rr_node.specs.declared.event.NodeEvent.{NodeEvent}
 use Rattle.rr_node.specs.declared.event.NodeEvent.TheVariants as at
 use Rattle.rr_node.specs.declared.event.Outcome.{Outcome}
 use Rattle.rr_node.specs.declared.event.Outcome.TheVariants.{Quiet, Left, Replied}
-use Rattle.rr_node.specs.Seats.{Flush, Resting, Writing, Flushed, Switching, Journaled, Doing, Stopped, Faulted, Opening, Serving, Seat, Answer, Gives, Fails, AtMostOneCall, called, refuse, goes_on, read_by, opens_on, open_on, flush_on, told, payload_of, take_up, may_snap, snapshot_of, snap_up, mark_up, send_off, reply_off, serve, wait, await_opening, by_doing, seat_step, starve_opening, starve_call, starve_flush, starve_device, starve, fail_flush, fail_doing}
+use Rattle.rr_node.specs.Seats.{Flush, Resting, Writing, Flushed, Switching, Journaled, Doing, Stopped, Faulted, Opening, Serving, Seat, Answer, Gives, Fails, AtMostOneCall, called, refuse, goes_on, read_by, opens_on, open_on, flush_on, told, payload_of, take_up, may_snap, snapshot_of, snap_up, mark_up, send_off, reply_off, serve, wait, await_opening, by_doing, seat_step, fall, grows, starve_call, starve_flush, starve_end, starve_opening, starve_awaiting, starve_beginning, starve_marking, starve_serving, starve_doing, fail_doing, after_failing_starved}
 use Rattle.rr_node.specs.Views.{seat_of, IsSteady, Carries, CarriesFailing}
 
 -- no device call was made for an answer
@@ -133,19 +133,53 @@ step_none event seat Faulted other = wait_none event seat because.Failed
 step_none event seat (Opening phase) other = await_none event phase seat other
 step_none event seat (Serving s journal flush) other = serve_none event s journal flush seat other
 
-starve_none : (event : NodeEvent) (seat : Seat) → event ≢ at.Device → MakesNone seat (starve event seat)
-starve_none (at.Submit c) seat other = refl
-starve_none (at.Hear m) seat other = refl
-starve_none (at.Suspect set) seat other = refl
-starve_none at.Tick seat other = refl
-starve_none at.Advance seat other = refl
-starve_none at.Take seat other = refl
-starve_none at.Device seat other = absurd (other refl)
-starve_none at.Mark seat other = refl
-starve_none at.Send seat other = step_none at.Send seat seat.doing other
-starve_none at.Acknowledge seat other = step_none at.Acknowledge seat seat.doing other
-starve_none at.Snap seat other = refl
-starve_none at.Restart seat other = step_none at.Restart seat seat.doing other
+-- where memory is wanting
+
+awaiting_none : (event : NodeEvent) (phase : Phase) (seat : Seat) → event ≢ at.Device → MakesNone seat (starve_awaiting phase event seat)
+awaiting_none (at.Submit c) phase seat other = step_none (at.Submit c) seat seat.doing other
+awaiting_none (at.Hear m) phase seat other = step_none (at.Hear m) seat seat.doing other
+awaiting_none (at.Suspect set) phase seat other = step_none (at.Suspect set) seat seat.doing other
+awaiting_none at.Tick phase seat other = step_none at.Tick seat seat.doing other
+awaiting_none at.Advance phase seat other = step_none at.Advance seat seat.doing other
+awaiting_none at.Take phase seat other = step_none at.Take seat seat.doing other
+awaiting_none at.Device phase seat other = absurd (other refl)
+awaiting_none at.Mark phase seat other = step_none at.Mark seat seat.doing other
+awaiting_none at.Send phase seat other = step_none at.Send seat seat.doing other
+awaiting_none at.Acknowledge phase seat other = step_none at.Acknowledge seat seat.doing other
+awaiting_none at.Snap phase seat other = step_none at.Snap seat seat.doing other
+awaiting_none at.Restart phase seat other = step_none at.Restart seat seat.doing other
+
+beginning_none : (event : NodeEvent) (flush : Flush) (seat : Seat) → event ≢ at.Device → MakesNone seat (starve_beginning flush event seat)
+beginning_none event Resting seat other = refl
+beginning_none event (Writing calls) seat other = step_none event seat seat.doing other
+beginning_none event Flushed seat other = step_none event seat seat.doing other
+beginning_none event (Switching calls) seat other = step_none event seat seat.doing other
+
+marking_none : (flush : Flush) (seat : Seat) → MakesNone seat (starve_marking flush seat)
+marking_none Resting seat = step_none at.Mark seat seat.doing (λ e. cc)
+marking_none (Writing calls) seat = step_none at.Mark seat seat.doing (λ e. cc)
+marking_none Flushed seat = refl
+marking_none (Switching calls) seat = step_none at.Mark seat seat.doing (λ e. cc)
+
+serving_none : (event : NodeEvent) (flush : Flush) (seat : Seat) → event ≢ at.Device → MakesNone seat (starve_serving flush event seat)
+serving_none (at.Submit c) flush seat other = refl
+serving_none (at.Hear m) flush seat other = refl
+serving_none (at.Suspect set) flush seat other = refl
+serving_none at.Tick flush seat other = refl
+serving_none at.Advance flush seat other = refl
+serving_none at.Take flush seat other = beginning_none at.Take flush seat other
+serving_none at.Device flush seat other = absurd (other refl)
+serving_none at.Mark flush seat other = marking_none flush seat
+serving_none at.Send flush seat other = step_none at.Send seat seat.doing other
+serving_none at.Acknowledge flush seat other = step_none at.Acknowledge seat seat.doing other
+serving_none at.Snap flush seat other = beginning_none at.Snap flush seat other
+serving_none at.Restart flush seat other = step_none at.Restart seat seat.doing other
+
+starve_none : (event : NodeEvent) (seat : Seat) (doing : Doing) → event ≢ at.Device → MakesNone seat (starve_doing doing event seat)
+starve_none event seat Stopped other = step_none event seat seat.doing other
+starve_none event seat Faulted other = step_none event seat seat.doing other
+starve_none event seat (Opening phase) other = awaiting_none event phase seat other
+starve_none event seat (Serving s journal flush) other = serving_none event flush seat other
 
 -- ---- a device event makes at most one
 
@@ -174,25 +208,35 @@ step_one seat (Opening phase) = open_one seat phase
 step_one seat (Serving s journal flush) = flush_one s journal seat flush
 
 starve_call_one : (call : Call) (seat : Seat) → MakesOne seat (starve_call call seat)
-starve_call_one (Read area) seat = inl refl
-starve_call_one (Write area from bytes) seat = inr refl
-starve_call_one Sync seat = inl refl
+starve_call_one call seat = by (grows call seat.areas)
+  where
+    by : (longer : Bool) → MakesOne seat (if longer then fall after_starved call seat else seat_step at.Device seat)
+    by true = inr refl
+    by false = step_one seat seat.doing
 
-starve_opening_one : (call : Call) (seat : Seat) → MakesOne seat (starve_opening call seat)
-starve_opening_one (Read area) seat = inr refl
-starve_opening_one (Write area from bytes) seat = inr refl
-starve_opening_one Sync seat = inr refl
+starve_end_one : (seat : Seat) (areas : Areas) (after : After) → MakesOne seat (starve_end (called areas seat) after)
+starve_end_one seat areas (Goes next) = inr refl
+starve_end_one seat areas (Opens area c) = inr refl
+starve_end_one seat areas (Stops e) = inr refl
 
-starve_one : (doing : Doing) (seat : Seat) → MakesOne seat (starve_device doing seat)
-starve_one Stopped seat = inl refl
-starve_one Faulted seat = inl refl
-starve_one (Opening phase) seat = starve_opening_one (due_call phase) seat
-starve_one (Serving s journal Resting) seat = inl refl
-starve_one (Serving s journal Flushed) seat = inl refl
-starve_one (Serving s journal (Writing [])) seat = inl refl
-starve_one (Serving s journal (Writing (call ∷ calls))) seat = starve_call_one call seat
-starve_one (Serving s journal (Switching [])) seat = inl refl
-starve_one (Serving s journal (Switching (call ∷ calls))) seat = starve_call_one call seat
+starve_opening_one : (phase : Phase) (call : Call) (seat : Seat) → MakesOne seat (starve_opening phase call seat)
+starve_opening_one phase (Read area) seat = inr refl
+starve_opening_one phase (Write area from bytes) seat = starve_call_one (Write area from bytes) seat
+starve_opening_one phase Sync seat = starve_end_one seat (synced seat.areas) (after_opening_call seat.nodes seat.node [] phase)
+
+starve_flush_one : (flush : Flush) (seat : Seat) → MakesOne seat (starve_flush flush seat)
+starve_flush_one Resting seat = step_one seat seat.doing
+starve_flush_one Flushed seat = step_one seat seat.doing
+starve_flush_one (Writing []) seat = step_one seat seat.doing
+starve_flush_one (Writing (call ∷ calls)) seat = starve_call_one call seat
+starve_flush_one (Switching []) seat = step_one seat seat.doing
+starve_flush_one (Switching (call ∷ calls)) seat = starve_call_one call seat
+
+starve_one : (doing : Doing) (seat : Seat) → MakesOne seat (starve_doing doing at.Device seat)
+starve_one Stopped seat = step_one seat seat.doing
+starve_one Faulted seat = step_one seat seat.doing
+starve_one (Opening phase) seat = starve_opening_one phase (due_call phase) seat
+starve_one (Serving s journal flush) seat = starve_flush_one flush seat
 
 fail_one : (leaves : Call → Areas → Areas) (doing : Doing) (seat : Seat) → MakesOne seat (fail_doing leaves doing seat)
 fail_one leaves Stopped seat = inl refl
@@ -224,7 +268,7 @@ is_device at.Restart = inr (λ e. cc)
 -- an event that isn't a device event makes no device call
 pub gives_none : (event : NodeEvent) (old new : Seat) (answer : Result Outcome Refusal) → Gives event old answer new → event ≢ at.Device → new.calls ≡ old.calls
 gives_none event old new answer (inl is) other = subst (λ (x : Answer). MakesNone old x) (sym is) (step_none event old old.doing other)
-gives_none event old new answer (inr is) other = subst (λ (x : Answer). MakesNone old x) (sym is) (starve_none event old other)
+gives_none event old new answer (inr is) other = subst (λ (x : Answer). MakesNone old x) (sym is) (starve_none event old old.doing other)
 
 -- each makes at most one
 pub gives_one : (event : NodeEvent) (old new : Seat) (answer : Result Outcome Refusal) → Gives event old answer new → AtMostOneCall old new
@@ -241,7 +285,7 @@ gives_one event old new answer gives = by (is_device event)
 -- so does a failing device call
 pub fails_one : (fill : List ℕ) (old new : Seat) (answer : Result Outcome Refusal) → Fails fill old answer new → AtMostOneCall old new
 fails_one fill old new answer (inl is) = subst (λ (x : Answer). MakesOne old x) (sym is) (fail_one (after_failing fill) old.doing old)
-fails_one fill old new answer (inr is) = subst (λ (x : Answer). MakesOne old x) (sym is) (fail_one after_starved old.doing old)
+fails_one fill old new answer (inr is) = subst (λ (x : Answer). MakesOne old x) (sym is) (fail_one (after_failing_starved fill) old.doing old)
 
 -- ---- of the code's node
 

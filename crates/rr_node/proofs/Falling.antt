@@ -1,5 +1,5 @@
 -- A failing device call and a crash: the node goes down, and whatever is left of its disk holds its kept facts.
-use Rattle.std.proofs.Common.{◌≡◌, inl, inr, ℕ, ◌+◌, ◌^◌, ◌<◌, List, [], ◌∷◌, ◌++◌, length, take, Result, Ok, Err, refl, sym, ap, subst, ◌∙◌, arith}
+use Rattle.std.proofs.Common.{◌≡◌, inl, inr, ℕ, ◌+◌, ◌^◌, ◌<◌, Bool, true, false, List, [], ◌∷◌, ◌++◌, length, take, Result, Ok, Err, refl, sym, ap, subst, ◌∙◌, arith, if◌then◌else◌}
 use Rattle.std.proofs.lemmas.List.Elements.{All-nil, All-cons}
 use Rattle.rr_types.specs.declared.fact.Fact.{Fact}
 use Rattle.rr_types.specs.declared.refusal.Refusal.{Refusal}
@@ -33,7 +33,7 @@ use Rattle.rr_slots.specs.SwitchTable.{IsAtStage}
 use Rattle.rr_slots.proofs.SwitchLaws.{held_failed}
 use Rattle.rr_node.specs.declared.event.Outcome.{Outcome}
 use Rattle.rr_node.specs.declared.event.Outcome.TheVariants.{Quiet}
-use Rattle.rr_node.specs.Seats.{Flush, Resting, Writing, Flushed, Switching, Journaled, Doing, Stopped, Faulted, Opening, Serving, Seat, fail_doing}
+use Rattle.rr_node.specs.Seats.{Flush, Resting, Writing, Flushed, Switching, Journaled, Doing, Stopped, Faulted, Opening, Serving, Seat, grows, fail_doing, after_failing_starved}
 use Rattle.rr_node.specs.Worlds.{BodyDue, BodySafe, calls_at, flush_of, AreInOrder, EachHoldsSome, HoldsSome, IsDown, Stage, Closing, Closed, Flushing, calls_of_stage, StandsAt, IsOpening, is_settled, snapshot_over, switch_at, journal_at, IsServing, DoesSo, InStep}
 use Rattle.rr_node.specs.Runs.{MayFall, GoesOn, FailsInStep, CrashesInStep}
 use Rattle.rr_node.proofs.InOrder.{Bytes, IsSmall, StartsWithin, crash_in_order, crash_image, rest_image, starved_in_order, failing_in_order, starved_left, failing_left}
@@ -111,6 +111,17 @@ failure fill fit = record { order = λ call both small order. failing_in_order f
 
 pub starvation : IsFailure after_starved
 starvation = record { order = λ call both small order. starved_in_order call both order; left = λ call both within. starved_left call both within }
+
+pub starved_failure : (fill : List ℕ) → Bytes fill → IsFailure (after_failing_starved fill)
+starved_failure fill fit = record { order = λ call both small order. in_order call both small order (grows call both); left = λ call both within. is_left call both within (grows call both) }
+  where
+    in_order : (call : Call) (both : Areas) → IsSmall call → AreInOrder both → (longer : Bool) → AreInOrder (if longer then after_starved call both else after_failing fill call both)
+    in_order call both small order true = starvation.order call both small order
+    in_order call both small order false = (failure fill fit).order call both small order
+
+    is_left : (call : Call) (both : Areas) → StartsWithin call both → (longer : Bool) → IsLeftBy call both (if longer then after_starved call both else after_failing fill call both)
+    is_left call both within true = starvation.left call both within
+    is_left call both within false = (failure fill fit).left call both within
 
 -- the flush of a group that has a spelling is small
 pub small_flush : (n p : ℕ) (journal : Journaled) (group : Grouped) → IsLawfulGroup group → journal.gate + 6 + length (group_bytes group) < 2 ^ 32 → IsSmallFlush (flush_of n p journal group)
@@ -266,4 +277,4 @@ pub fails_in_step : (n p : ℕ) → FailsInStep n p
 fails_in_step n p fill seat next w answer fit h (inl is) =
     given n p (MayFall p) w answer next (fail_doing (after_failing fill) seat.doing seat) is (fail_by (after_failing fill) (failure fill fit) n p w seat.nodes seat.node seat.calls seat.areas seat.doing h)
 fails_in_step n p fill seat next w answer fit h (inr is) =
-    given n p (MayFall p) w answer next (fail_doing after_starved seat.doing seat) is (fail_by after_starved starvation n p w seat.nodes seat.node seat.calls seat.areas seat.doing h)
+    given n p (MayFall p) w answer next (fail_doing (after_failing_starved fill) seat.doing seat) is (fail_by (after_failing_starved fill) (starved_failure fill fit) n p w seat.nodes seat.node seat.calls seat.areas seat.doing h)

@@ -21,12 +21,12 @@ use Rattle.rr_gate.specs.Flushes as gate
 use Rattle.rr_gate.specs.Moments.{with_group, IsGrounded}
 use Rattle.rr_gate.proofs.Table.{to_group}
 use Rattle.rr_journal.specs.declared.journal.Journal.{Journal}
-use Rattle.rr_journal.specs.Calls.{Call, Read, Write, Sync, after_call, after_starved, append_calls}
+use Rattle.rr_journal.specs.Calls.{Call, after_call, after_starved, append_calls}
 use Rattle.rr_journal.specs.Journals.{Holds, IsOver, once_flushed}
 use Rattle.rr_journal.proofs.FlushLaws.{length-frame}
 use Rattle.rr_node.specs.declared.event.NodeEvent.TheVariants as at
 use Rattle.rr_node.specs.declared.event.Outcome.TheVariants.{Quiet}
-use Rattle.rr_node.specs.Seats.{Flush, Resting, Writing, Flushed, Switching, Journaled, Faulted, Serving, Seat, Answer, goes_on, refuse, payload_of, take_up, mark_up, flush_on, journal_behind, starve_flush}
+use Rattle.rr_node.specs.Seats.{Flush, Resting, Writing, Flushed, Switching, Journaled, Faulted, Serving, Seat, Answer, goes_on, refuse, payload_of, take_up, mark_up, flush_on, journal_behind, seat_step, fall, grows, starve_flush}
 use Rattle.rr_node.specs.Worlds.{Moment, BodyDue, BodyOut, BodySafe, GateSet, calls_at, areas_at, flush_of, AreInOrder, journal_at, IsServing, InStep}
 use Rattle.rr_node.specs.Runs.{MayBe, IsSpelt, GoesOn}
 use Rattle.rr_node.proofs.InOrder.{call_in_order}
@@ -234,17 +234,21 @@ module _ (n p k : ℕ) (w : World) (both : Areas) (s : NodeState) (journal : Jou
 
   -- and where memory is wanting for it
   pub starves_in_step : (flush : Flush) → InStep n p (seated n p k both (Serving s journal flush)) w → (let x = starve_flush flush (seated n p k both (Serving s journal flush)) in GoesOn n p (MayBe p at.Device) w x.0 x.1)
-  starves_in_step Resting h = refuses n p w at.Device (seated n p k both (Serving s journal Resting)) because.OutOfMemory h
-  starves_in_step Flushed h = refuses n p w at.Device (seated n p k both (Serving s journal Flushed)) because.OutOfMemory h
-  starves_in_step (Writing []) h = refuses n p w at.Device (seated n p k both (Serving s journal (Writing []))) because.OutOfMemory h
-  starves_in_step (Writing (Read area ∷ calls)) h = refuses n p w at.Device (seated n p k both (Serving s journal (Writing (Read area ∷ calls)))) because.OutOfMemory h
-  starves_in_step (Writing (Write area from bytes ∷ calls)) h =
-      let left = flush_fails after_starved starvation n p w both s journal (Write area from bytes) calls h.in_order h.doing in
-      serving_falls n p n p (counted k) (MayBe p at.Device) w (Err because.Device) both (after_starved (Write area from bytes) both) s journal (Writing (Write area from bytes ∷ calls)) Faulted (inl (inr refl)) faulted refl refl h.doing left.0 left.1 (record { unsent = refl; untold = refl })
-  starves_in_step (Switching []) h = refuses n p w at.Device (seated n p k both (Serving s journal (Switching []))) because.OutOfMemory h
-  starves_in_step (Switching (Read area ∷ calls)) h = refuses n p w at.Device (seated n p k both (Serving s journal (Switching (Read area ∷ calls)))) because.OutOfMemory h
-  starves_in_step (Switching (Write area from bytes ∷ calls)) h =
-      let left = switch_fails after_starved starvation n p w both s journal (Write area from bytes) calls h.in_order h.doing in
-      serving_falls n p n p (counted k) (MayBe p at.Device) w (Err because.Device) both (after_starved (Write area from bytes) both) s journal (Switching (Write area from bytes ∷ calls)) Faulted (inl (inr refl)) faulted refl refl h.doing left.0 left.1 (record { unsent = refl; untold = refl })
-  starves_in_step (Switching (Sync ∷ calls)) h = refuses n p w at.Device (seated n p k both (Serving s journal (Switching (Sync ∷ calls)))) because.OutOfMemory h
-  starves_in_step (Writing (Sync ∷ calls)) h = refuses n p w at.Device (seated n p k both (Serving s journal (Writing (Sync ∷ calls)))) because.OutOfMemory h
+  starves_in_step Resting h = device_in_step Resting h
+  starves_in_step Flushed h = device_in_step Flushed h
+  starves_in_step (Writing []) h = device_in_step (Writing []) h
+  starves_in_step (Writing (call ∷ calls)) h = by (grows call both)
+    where
+      by : (longer : Bool) → (let x = if longer then fall after_starved call (seated n p k both (Serving s journal (Writing (call ∷ calls)))) else seat_step at.Device (seated n p k both (Serving s journal (Writing (call ∷ calls)))) in GoesOn n p (MayBe p at.Device) w x.0 x.1)
+      by true =
+          let left = flush_fails after_starved starvation n p w both s journal call calls h.in_order h.doing in
+          serving_falls n p n p (counted k) (MayBe p at.Device) w (Err because.Device) both (after_starved call both) s journal (Writing (call ∷ calls)) Faulted (inl (inr refl)) faulted refl refl h.doing left.0 left.1 (record { unsent = refl; untold = refl })
+      by false = device_in_step (Writing (call ∷ calls)) h
+  starves_in_step (Switching []) h = device_in_step (Switching []) h
+  starves_in_step (Switching (call ∷ calls)) h = by (grows call both)
+    where
+      by : (longer : Bool) → (let x = if longer then fall after_starved call (seated n p k both (Serving s journal (Switching (call ∷ calls)))) else seat_step at.Device (seated n p k both (Serving s journal (Switching (call ∷ calls)))) in GoesOn n p (MayBe p at.Device) w x.0 x.1)
+      by true =
+          let left = switch_fails after_starved starvation n p w both s journal call calls h.in_order h.doing in
+          serving_falls n p n p (counted k) (MayBe p at.Device) w (Err because.Device) both (after_starved call both) s journal (Switching (call ∷ calls)) Faulted (inl (inr refl)) faulted refl refl h.doing left.0 left.1 (record { unsent = refl; untold = refl })
+      by false = device_in_step (Switching (call ∷ calls)) h

@@ -1,7 +1,7 @@
 -- Each device call of an opening does what the definitions say.
 use Rattle.std.proofs.Common.{◌≡◌, ◌≢◌, ◌⊎◌, inl, inr, ℕ, ◌+◌, arith, List, [], ◌∷◌, None, Some, Result, Ok, Err, Vec, refl, sym, ap, subst, ◌∙◌}
 use Rattle.std.specs.Global.{Global}
-use Rattle.std.proofs.lemmas.Bool.{false≢true}
+use Rattle.std.proofs.lemmas.Bool.{false≢true, lt-ltb}
 use Rattle.rr_types.specs.declared.promise.Entry.{Entry}
 use Rattle.rr_types.specs.declared.refusal.Refusal.{Refusal}
 use Rattle.rr_types.specs.declared.refusal.Refusal.TheVariants as because
@@ -41,7 +41,7 @@ use Rattle.rr_node.specs.Seats as seats
 use Rattle.rr_node.specs.Seats.{Seat, Answer, Gives, Fails, read_by, opens_on, seat_step, starve_opening}
 use Rattle.rr_node.specs.Views.{NodeDisk, areas_in, seat_of, IsOpened, IsSteady, Serves, Carries, CarriesFailing}
 use Rattle.rr_node.proofs.FrontLaws.{ends_appending}
-use Rattle.rr_node.proofs.DiskLaws.{passed_on, call_fails}
+use Rattle.rr_node.proofs.DiskLaws.{passed_on, starved_falls, call_fails}
 
 -- device calls of a node's disk, that succeeded and that were refused, and a step of an opening over it
 abbrev Made : Call → NodeDisk → Vec ℕ Global → NodeDisk → Type 0
@@ -117,7 +117,7 @@ opens_more n p o next recovered count h = by (not_refused o (progress.More next)
 
 -- only a read or a sync ends an opening
 abbrev StopsBy : Phase → Type 0
-StopsBy phase = (before after : Areas) (from to : ℕ) → (n p : ℕ) → after ≡ after_call (due_call phase) before → to ≡ counted from → seats.starve_opening (due_call phase) (seat_in n p phase before from) ≡ (let down : Answer = (Err because.OutOfMemory, record { nodes = n; node = p; doing = seats.Stopped; areas = after; calls = to }) in down)
+StopsBy phase = (before after : Areas) (from to : ℕ) → (n p : ℕ) → after ≡ after_call (due_call phase) before → to ≡ counted from → starve_opening phase (due_call phase) (seat_in n p phase before from) ≡ (let down : Answer = (Err because.OutOfMemory, record { nodes = n; node = p; doing = seats.Stopped; areas = after; calls = to }) in down)
 
 -- what is wanting then
 ends_by : (n p : ℕ) (bytes : List ℕ) (phase : code.Phase) (area : Area) (c : Content) → after_opening_call n p bytes (phase_of phase) ≡ Opens area c → StopsBy (phase_of phase)
@@ -136,7 +136,7 @@ ends_by n p bytes (step.Formatting stage body) area c e = by stage e
 
 -- what is wanting at the end of an opening leaves the node down
 starved_end : (n p : ℕ) (o : Opening NodeDisk) (j : Journal NodeDisk) (promise : List Entry) (number : ℕ) → Stepped o (Ok (of_journal_is.Done j promise number)) → j.disk.calls ≡ counted o.disk.calls → IsSteady n p (does.Opening o)
-    → (starve_opening (due_call (phase_of o.phase)) (seat_in n p (phase_of o.phase) o.disk.below.areas o.disk.calls) ≡ (let down : Answer = (Err because.OutOfMemory, seat_of n p (does.Stopped j.disk)) in down)) × (j.disk.due ≡ None)
+    → (starve_opening (phase_of o.phase) (due_call (phase_of o.phase)) (seat_in n p (phase_of o.phase) o.disk.below.areas o.disk.calls) ≡ (let down : Answer = (Err because.OutOfMemory, seat_of n p (does.Stopped j.disk)) in down)) × (j.disk.due ≡ None)
 starved_end n p o j promise number (v, made, opens, is) count h =
     let done = made_below (due_call (phase_of o.phase)) o.disk j.disk v h.2 made in
     let content : Content = record { epoch = j.epoch; promise = promise; next = number; gate = j.gate } in
@@ -218,21 +218,22 @@ stops_by n p bytes (step.Formatting stage body) e h = by stage h
 -- a device call that was refused fails the node where it is a write, and else ends the opening
 abbrev Falls : ℕ → ℕ → Phase → Areas → ℕ → Refusal → MemoryState → ℕ → Type 0
 Falls n p phase areas from e new to =
-    (let fallen : Answer = (Err e, record { nodes = n; node = p; doing = seats.Faulted; areas = new.areas; calls = to }) in e ≡ because.Device → (fallen ≡ seat_step at.Device (seat_in n p phase areas from)) ⊎ (fallen ≡ starve_opening (due_call phase) (seat_in n p phase areas from)))
-    × (let down : Answer = (Err e, record { nodes = n; node = p; doing = seats.Stopped; areas = new.areas; calls = to }) in e ≢ because.Device → (down ≡ seat_step at.Device (seat_in n p phase areas from)) ⊎ (down ≡ starve_opening (due_call phase) (seat_in n p phase areas from)))
+    (let fallen : Answer = (Err e, record { nodes = n; node = p; doing = seats.Faulted; areas = new.areas; calls = to }) in e ≡ because.Device → (fallen ≡ seat_step at.Device (seat_in n p phase areas from)) ⊎ (fallen ≡ starve_opening phase (due_call phase) (seat_in n p phase areas from)))
+    × (let down : Answer = (Err e, record { nodes = n; node = p; doing = seats.Stopped; areas = new.areas; calls = to }) in e ≢ because.Device → (down ≡ seat_step at.Device (seat_in n p phase areas from)) ⊎ (down ≡ starve_opening phase (due_call phase) (seat_in n p phase areas from)))
 
 refused_call : (n p : ℕ) (phase : Phase) (call : Call) (old new : MemoryState) (from to : ℕ) (e : Refusal) → due_call phase ≡ call → to ≡ counted from → Refused MemoryRead MemoryWrite MemorySync call old e new → Falls n p phase old.areas from e new to
 refused_call n p phase (Read area) old new from to e is count h =
-    let own : starve_opening (due_call phase) (seat_in n p phase old.areas from) ≡ starve_opening (Read area) (seat_in n p phase old.areas from) = ap (λ (call : Call). starve_opening call (seat_in n p phase old.areas from)) is in
+    let own : starve_opening phase (due_call phase) (seat_in n p phase old.areas from) ≡ starve_opening phase (Read area) (seat_in n p phase old.areas from) = ap (λ (call : Call). starve_opening phase call (seat_in n p phase old.areas from)) is in
     let same : new.areas ≡ old.areas = ap (λ (m : MemoryState). m.areas) h.1 in
     ((λ device. absurd (memory_device (sym h.0 ∙ device))), (λ other. inr (rw (h.0, same, count) (sym own))))
   where
     memory_device : because.OutOfMemory ≢ because.Device
     memory_device x = cc
 refused_call n p phase (Write area offset bytes) old new from to e is count h =
-    let own : starve_opening (due_call phase) (seat_in n p phase old.areas from) ≡ starve_opening (Write area offset bytes) (seat_in n p phase old.areas from) = ap (λ (call : Call). starve_opening call (seat_in n p phase old.areas from)) is in
+    let own : starve_opening phase (due_call phase) (seat_in n p phase old.areas from) ≡ starve_opening phase (Write area offset bytes) (seat_in n p phase old.areas from) = ap (λ (call : Call). starve_opening phase call (seat_in n p phase old.areas from)) is in
+    let falls : starve_opening phase (Write area offset bytes) (seat_in n p phase old.areas from) ≡ seats.fall after_starved (Write area offset bytes) (seat_in n p phase old.areas from) = starved_falls (Write area offset bytes) (seat_in n p phase old.areas from) (lt-ltb _ _ h.1) in
     let torn = ap (λ (m : MemoryState). m.areas) h.2 in
-    ((λ device. inr (rw (h.0, torn, count) (sym own))), (λ other. absurd (other h.0)))
+    ((λ device. inr (rw (h.0, torn, count) (sym (own ∙ falls)))), (λ other. absurd (other h.0)))
 refused_call n p phase Sync old new from to e is count h = absurd (false≢true h.0)
 
 stopped : (n p : ℕ) (o : Opening NodeDisk) (e : Refusal) (new : NodeDisk) → o.nodes ≡ n → o.node ≡ p → o.disk.due ≡ None → new.calls ≡ counted o.disk.calls → Stepped o (Err (e, new)) → Falls n p (phase_of o.phase) o.disk.below.areas o.disk.calls e new.below new.calls × (new.due ≡ None)
@@ -287,7 +288,7 @@ opens_failing n p fill o new refused h =
     let left = call_fails fill (due_call (phase_of o.phase)) o.disk new refused in
     (by left.1 left.2, left.0)
   where
-    by : (new.below.areas ≡ after_failing fill (due_call (phase_of o.phase)) o.disk.below.areas) ⊎ (new.below.areas ≡ after_starved (due_call (phase_of o.phase)) o.disk.below.areas)
+    by : (new.below.areas ≡ after_failing fill (due_call (phase_of o.phase)) o.disk.below.areas) ⊎ (new.below.areas ≡ seats.after_failing_starved fill (due_call (phase_of o.phase)) o.disk.below.areas)
         → new.calls ≡ counted o.disk.calls → Fails fill (seat_of n p (does.Opening o)) (Err because.Device) (seat_of n p (does.Faulted new))
     by (inl is) count = inl (rw (is, count) refl)
     by (inr is) count = inr (rw (is, count) refl)

@@ -31,7 +31,7 @@ use Rattle.rr_journal.specs.Calls.{Call, Write, Sync, frame_bytes, append_calls,
 use Rattle.rr_journal.specs.OtherAreas.{other_area, closes_in, IsOtherKnown}
 use Rattle.rr_journal.proofs.PromisedLaws.{none_taken, facts_stand}
 use Rattle.rr_node.proofs.FrontLaws.{Reaches, KeepsFronts, sync_keeps, write_keeps, appends_on, knows_on}
-use Rattle.rr_node.proofs.DiskLaws.{passed_on, synced_by, starved_by, write_fails}
+use Rattle.rr_node.proofs.DiskLaws.{passed_on, synced_by, starved_by, starved_grows, starved_falls, write_fails}
 use Rattle.rr_node.specs.declared.doing.Doing.TheVariants as does
 use Rattle.rr_node.specs.declared.serving.Serving.{Serving}
 use Rattle.rr_node.specs.declared.serving.Flush.{Flush}
@@ -405,8 +405,9 @@ write_refused s j k f e area from bytes calls is (inr gave) n p h =
     let left = starved_by j.disk k.disk area from bytes h.calm gave.3 in
     let old : Seat = seat_of n p (does.Serving (record { core = s; slots = j; flush = f })) in
     let here : seats.starve_flush (flush_of f) old ≡ seats.starve_flush (seats.Writing (Write area from bytes ∷ calls)) old = ap (λ (x : seats.Flush). seats.starve_flush x old) is in
-    let own : Path Answer (Err e, seat_of n p (does.Faulted k.disk)) (seats.starve_flush (seats.Writing (Write area from bytes ∷ calls)) old) = rw (gave.0, left.1, left.2) refl in
-    (inr (own ∙ sym here), left.0)
+    let own : Path Answer (Err e, seat_of n p (does.Faulted k.disk)) (seats.fall after_starved (Write area from bytes) old) = rw (gave.0, left.1, left.2) refl in
+    let falls = starved_falls (Write area from bytes) old (starved_grows j.disk k.disk area from bytes h.calm gave.3) in
+    (inr (own ∙ sym falls ∙ sym here), left.0)
 
 pub sync_refused : (s : NodeState) (j k : Journal NodeDisk) (f : Flush) (e : Refusal) → IsRefused (λ old r new. FailingSync MemorySync old r new) j k e → CarriesOn at.Device (record { core = s; slots = j; flush = f }) (Err e) (does.Faulted k.disk)
 sync_refused s j k f e (inl failed) n p h = absurd (false≢true (sym h.sound ∙ failed.1))
@@ -418,10 +419,10 @@ pub write_failing : (n p : ℕ) (fill : List ℕ) (s : NodeState) (j armed k : J
     → CarriesFailing n p fill (does.Serving (record { core = s; slots = j; flush = f })) (Err because.Device) (does.Faulted k.disk)
 write_failing n p fill s j armed k f e area from bytes calls is arms refused h = by (subst (λ (x : Journal NodeDisk). IsRefused (λ old r new. FailingWrite MemoryWrite old area from bytes r new) x k e) arms refused)
   where
-    ends : (x : seats.Flush) → flush_of f ≡ x → (left : (k.disk.below.areas ≡ after_failing fill (Write area from bytes) j.disk.below.areas) ⊎ (k.disk.below.areas ≡ after_starved (Write area from bytes) j.disk.below.areas)) → k.disk.calls ≡ counted j.disk.calls → x ≡ seats.Writing (Write area from bytes ∷ calls)
+    ends : (x : seats.Flush) → flush_of f ≡ x → (left : (k.disk.below.areas ≡ after_failing fill (Write area from bytes) j.disk.below.areas) ⊎ (k.disk.below.areas ≡ seats.after_failing_starved fill (Write area from bytes) j.disk.below.areas)) → k.disk.calls ≡ counted j.disk.calls → x ≡ seats.Writing (Write area from bytes ∷ calls)
         → Fails fill (seat_of n p (does.Serving (record { core = s; slots = j; flush = f }))) (Err because.Device) (seat_of n p (does.Faulted k.disk))
     ends x g (inl left) count e = inl (rw (left, count) (sym (ap (λ (y : seats.Flush). seats.fail_flush (after_failing fill) y (seat_of n p (does.Serving (record { core = s; slots = j; flush = f })))) (g ∙ e))))
-    ends x g (inr left) count e = inr (rw (left, count) (sym (ap (λ (y : seats.Flush). seats.fail_flush after_starved y (seat_of n p (does.Serving (record { core = s; slots = j; flush = f })))) (g ∙ e))))
+    ends x g (inr left) count e = inr (rw (left, count) (sym (ap (λ (y : seats.Flush). seats.fail_flush (seats.after_failing_starved fill) y (seat_of n p (does.Serving (record { core = s; slots = j; flush = f })))) (g ∙ e))))
 
     by : IsRefused (λ old r new. FailingWrite MemoryWrite old area from bytes r new) (record j { disk = record j.disk { due = Some fill } }) k e
         → Fails fill (seat_of n p (does.Serving (record { core = s; slots = j; flush = f }))) (Err because.Device) (seat_of n p (does.Faulted k.disk)) × (k.disk.due ≡ None)

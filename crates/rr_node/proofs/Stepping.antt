@@ -1,19 +1,19 @@
 -- Each event of a node with its disk is a run of the world's steps that keeps them in step.
-use Rattle.std.proofs.Common.{◌≡◌, inl, inr, ℕ, ◌≤◌, Ok, Err, refl, ap, subst, ◌∙◌}
+use Rattle.std.proofs.Common.{◌≡◌, inl, inr, ℕ, ◌≤◌, Bool, true, false, [], Ok, Err, refl, ap, subst, ◌∙◌, if◌then◌else◌}
 use Rattle.rr_types.specs.declared.refusal.Refusal.{Refusal}
 use Rattle.rr_types.specs.declared.refusal.Refusal.TheVariants as because
 use Rattle.rr_model.specs.World.{World}
 use Rattle.rr_disk.specs.Areas.{Areas, synced}
 use Rattle.rr_disk.specs.Counts.{counted}
 use Rattle.rr_disk.specs.Crash.{Images}
-use Rattle.rr_journal.specs.Calls.{Call, Read, Write, Sync, after_starved}
+use Rattle.rr_journal.specs.Calls.{Call, Read, Write, Sync, after_call, after_starved}
 use Rattle.rr_journal.specs.Openings as opening
-use Rattle.rr_journal.specs.Openings.{due_call}
+use Rattle.rr_journal.specs.Openings.{After, Goes, Opens, Stops, due_call, after_opening_call}
 use Rattle.rr_journal.specs.OpeningTable.{contents}
 use Rattle.rr_node.specs.declared.event.NodeEvent.{NodeEvent}
 use Rattle.rr_node.specs.declared.event.NodeEvent.TheVariants as at
 use Rattle.rr_node.specs.declared.event.Outcome.TheVariants.{Quiet}
-use Rattle.rr_node.specs.Seats.{Flush, Journaled, Doing, Stopped, Faulted, Opening, Serving, Seat, Answer, Gives, wait, await_opening, serve, by_doing, starve_opening, starve_device, starve}
+use Rattle.rr_node.specs.Seats.{Flush, Resting, Writing, Flushed, Switching, Journaled, Doing, Stopped, Faulted, Opening, Serving, Seat, Answer, Gives, called, read_by, opens_on, open_on, wait, await_opening, serve, by_doing, seat_step, fall, grows, starve_end, starve_opening, starve_awaiting, starve_beginning, starve_marking, starve_serving, starve}
 use Rattle.rr_node.specs.Worlds.{AreInOrder, EachHoldsSome, HoldsSome, IsDown, InStep}
 use Rattle.rr_node.specs.Runs.{MayCome, MayBe, IsSpelt, GoesOn, StepsInStep}
 use Rattle.rr_model.specs.NodeState.{NodeState}
@@ -87,59 +87,97 @@ module _ (n p k : ℕ) (few : n ≤ 7) (w : World) (areas : Areas) where
   synced_holds : AreInOrder areas → EachHoldsSome n p w areas → EachHoldsSome n p w (synced areas)
   synced_holds order each images left = subst (λ (x : Images). HoldsSome n p (w.kept p) (w.staged p) x) (rest_image (contents areas) images left) (each (contents areas) (own_image areas order))
 
-  -- an opening for whose device call memory is wanting ends
+  -- an opening for whose device call memory is wanting ends, but by a call that takes none
   opening_starves : (phase : opening.Phase) → InStep n p (seated n p k areas (Opening phase)) w → (call : Call) → due_call phase ≡ call
-      → (let x = starve_opening call (seated n p k areas (Opening phase)) in GoesOn n p (MayBe p at.Device) w x.0 x.1)
+      → (let x = starve_opening phase call (seated n p k areas (Opening phase)) in GoesOn n p (MayBe p at.Device) w x.0 x.1)
   opening_starves phase h (Read area) is =
       down_falls n p n p (counted k) (MayBe p at.Device) w (Err because.OutOfMemory) areas Stopped (nothing p at.Device) stopped h.exists refl refl (opening_down n p w areas phase h.doing) h.in_order
       (seat_holds n p (seated n p k areas (Opening phase)) w h) (record { unsent = refl; untold = refl })
-  opening_starves phase h (Write area from bytes) is =
-      let left = subst (λ (c : Call). AreInOrder (after_starved c areas) × EachHoldsSome n p w (after_starved c areas)) is
-      (opening_fails after_starved starvation n p w areas phase h.in_order h.doing (seat_holds n p (seated n p k areas (Opening phase)) w h)) in
-      down_falls n p n p (counted k) (MayBe p at.Device) w (Err because.Device) (after_starved (Write area from bytes) areas) Faulted (nothing p at.Device) faulted h.exists refl refl (opening_down n p w areas phase h.doing) left.0 left.1 (record { unsent = refl; untold = refl })
-  opening_starves phase h Sync is =
-      down_falls n p n p (counted k) (MayBe p at.Device) w (Err because.OutOfMemory) (synced areas) Stopped (nothing p at.Device) stopped h.exists refl refl (opening_down n p w areas phase h.doing) (synced_in_order areas h.in_order)
-      (synced_holds h.in_order (seat_holds n p (seated n p k areas (Opening phase)) w h)) (record { unsent = refl; untold = refl })
+  opening_starves phase h (Write area from bytes) is = by (grows (Write area from bytes) areas)
+    where
+      by : (longer : Bool) → (let x = if longer then fall after_starved (Write area from bytes) (seated n p k areas (Opening phase)) else seat_step at.Device (seated n p k areas (Opening phase)) in GoesOn n p (MayBe p at.Device) w x.0 x.1)
+      by true =
+          let left = subst (λ (c : Call). AreInOrder (after_starved c areas) × EachHoldsSome n p w (after_starved c areas)) is
+          (opening_fails after_starved starvation n p w areas phase h.in_order h.doing (seat_holds n p (seated n p k areas (Opening phase)) w h)) in
+          down_falls n p n p (counted k) (MayBe p at.Device) w (Err because.Device) (after_starved (Write area from bytes) areas) Faulted (nothing p at.Device) faulted h.exists refl refl (opening_down n p w areas phase h.doing) left.0 left.1 (record { unsent = refl; untold = refl })
+      by false = opens_in_step n p k few w areas phase h
+  opening_starves phase h Sync is = by (after_opening_call n p [] phase) refl
+    where
+      behind : Seat
+      behind = called (synced areas) (seated n p k areas (Opening phase))
 
-  device_starves : (doing : Doing) → InStep n p (seated n p k areas doing) w → (let x = starve_device doing (seated n p k areas doing) in GoesOn n p (MayBe p at.Device) w x.0 x.1)
-  device_starves Stopped h = refuses n p w at.Device (seated n p k areas Stopped) because.OutOfMemory h
-  device_starves Faulted h = refuses n p w at.Device (seated n p k areas Faulted) because.OutOfMemory h
-  device_starves (Opening phase) h = opening_starves phase h (due_call phase) refl
-  device_starves (Serving s journal flush) h = starves_in_step n p k w areas s journal h.exists flush h
+      goes_so : (after : After) → after_opening_call n p [] phase ≡ after → (let x = opens_on behind after in GoesOn n p (MayBe p at.Device) w x.0 x.1)
+      goes_so after e =
+          let same : open_on (seated n p k areas (Opening phase)) phase ≡ opens_on behind (after_opening_call n p [] phase) =
+          ap (λ (c : Call). opens_on (called (after_call c areas) (seated n p k areas (Opening phase))) (after_opening_call n p (read_by c areas) phase)) is in
+          subst (λ (a : Answer). GoesOn n p (MayBe p at.Device) w a.0 a.1) (same ∙ ap (opens_on behind) e) (opens_in_step n p k few w areas phase h)
 
-  -- sending, acknowledging and a restart take no memory
-  sends_starved : (doing : Doing) → InStep n p (seated n p k areas doing) w → (let x = by_doing at.Send (seated n p k areas doing) doing in GoesOn n p (MayBe p at.Send) w x.0 x.1)
-  sends_starved Stopped h = idle_in_step Stopped because.Down h.doing.0 h at.Send
-  sends_starved Faulted h = idle_in_step Faulted because.Failed h.doing.0 h at.Send
-  sends_starved (Opening phase) h = opening_in_step phase h at.Send
-  sends_starved (Serving s journal flush) h = sends n p k w areas s journal flush h
+      by : (after : After) → after_opening_call n p [] phase ≡ after → (let x = starve_end behind after in GoesOn n p (MayBe p at.Device) w x.0 x.1)
+      by (Goes next) e = goes_so (Goes next) e
+      by (Opens area c) e =
+          down_falls n p n p (counted k) (MayBe p at.Device) w (Err because.OutOfMemory) (synced areas) Stopped (nothing p at.Device) stopped h.exists refl refl (opening_down n p w areas phase h.doing) (synced_in_order areas h.in_order)
+          (synced_holds h.in_order (seat_holds n p (seated n p k areas (Opening phase)) w h)) (record { unsent = refl; untold = refl })
+      by (Stops why) e = goes_so (Stops why) e
 
-  replies_starved : (doing : Doing) → InStep n p (seated n p k areas doing) w → (let x = by_doing at.Acknowledge (seated n p k areas doing) doing in GoesOn n p (MayBe p at.Acknowledge) w x.0 x.1)
-  replies_starved Stopped h = idle_in_step Stopped because.Down h.doing.0 h at.Acknowledge
-  replies_starved Faulted h = idle_in_step Faulted because.Failed h.doing.0 h at.Acknowledge
-  replies_starved (Opening phase) h = opening_in_step phase h at.Acknowledge
-  replies_starved (Serving s journal flush) h = replies n p k w areas s journal flush h
+  awaiting_starves : (phase : opening.Phase) → InStep n p (seated n p k areas (Opening phase)) w → (event : NodeEvent) → (let x = starve_awaiting phase event (seated n p k areas (Opening phase)) in GoesOn n p (MayBe p event) w x.0 x.1)
+  awaiting_starves phase h at.Device = opening_starves phase h (due_call phase) refl
+  awaiting_starves phase h (at.Submit c) = opening_in_step phase h (at.Submit c)
+  awaiting_starves phase h (at.Hear m) = opening_in_step phase h (at.Hear m)
+  awaiting_starves phase h (at.Suspect set) = opening_in_step phase h (at.Suspect set)
+  awaiting_starves phase h at.Tick = opening_in_step phase h at.Tick
+  awaiting_starves phase h at.Advance = opening_in_step phase h at.Advance
+  awaiting_starves phase h at.Take = opening_in_step phase h at.Take
+  awaiting_starves phase h at.Mark = opening_in_step phase h at.Mark
+  awaiting_starves phase h at.Send = opening_in_step phase h at.Send
+  awaiting_starves phase h at.Acknowledge = opening_in_step phase h at.Acknowledge
+  awaiting_starves phase h at.Snap = opening_in_step phase h at.Snap
+  awaiting_starves phase h at.Restart = opening_in_step phase h at.Restart
 
-  restarts_starved : (doing : Doing) → InStep n p (seated n p k areas doing) w → (let x = by_doing at.Restart (seated n p k areas doing) doing in GoesOn n p (MayBe p at.Restart) w x.0 x.1)
-  restarts_starved Stopped h = idle_in_step Stopped because.Down h.doing.0 h at.Restart
-  restarts_starved Faulted h = idle_in_step Faulted because.Failed h.doing.0 h at.Restart
-  restarts_starved (Opening phase) h = opening_in_step phase h at.Restart
-  restarts_starved (Serving s journal flush) h = refuses n p w at.Restart (seated n p k areas (Serving s journal flush)) because.Busy h
+  -- a job isn't begun where none runs
+  taking_starves : (s : NodeState) (journal : Journaled) (flush : Flush) → InStep n p (seated n p k areas (Serving s journal flush)) w
+      → (let x = starve_beginning flush at.Take (seated n p k areas (Serving s journal flush)) in IsSpelt x.1.doing → GoesOn n p (MayBe p at.Take) w x.0 x.1)
+  taking_starves s journal Resting h = λ spelt. refuses n p w at.Take (seated n p k areas (Serving s journal Resting)) because.OutOfMemory h
+  taking_starves s journal (Writing calls) h = serving_in_step s journal (Writing calls) h at.Take tt
+  taking_starves s journal Flushed h = serving_in_step s journal Flushed h at.Take tt
+  taking_starves s journal (Switching calls) h = serving_in_step s journal (Switching calls) h at.Take tt
+
+  snapping_starves : (s : NodeState) (journal : Journaled) (flush : Flush) → InStep n p (seated n p k areas (Serving s journal flush)) w
+      → (let x = starve_beginning flush at.Snap (seated n p k areas (Serving s journal flush)) in IsSpelt x.1.doing → GoesOn n p (MayBe p at.Snap) w x.0 x.1)
+  snapping_starves s journal Resting h = λ spelt. refuses n p w at.Snap (seated n p k areas (Serving s journal Resting)) because.OutOfMemory h
+  snapping_starves s journal (Writing calls) h = serving_in_step s journal (Writing calls) h at.Snap tt
+  snapping_starves s journal Flushed h = serving_in_step s journal Flushed h at.Snap tt
+  snapping_starves s journal (Switching calls) h = serving_in_step s journal (Switching calls) h at.Snap tt
+
+  -- a synced group isn't marked
+  marking_starves : (s : NodeState) (journal : Journaled) (flush : Flush) → InStep n p (seated n p k areas (Serving s journal flush)) w
+      → (let x = starve_marking flush (seated n p k areas (Serving s journal flush)) in GoesOn n p (MayBe p at.Mark) w x.0 x.1)
+  marking_starves s journal Resting h = marks_in_step n p k w areas s journal Resting h
+  marking_starves s journal (Writing calls) h = marks_in_step n p k w areas s journal (Writing calls) h
+  marking_starves s journal Flushed h = refuses n p w at.Mark (seated n p k areas (Serving s journal Flushed)) because.OutOfMemory h
+  marking_starves s journal (Switching calls) h = marks_in_step n p k w areas s journal (Switching calls) h
+
+  serving_starves : (s : NodeState) (journal : Journaled) (flush : Flush) → InStep n p (seated n p k areas (Serving s journal flush)) w → (event : NodeEvent)
+      → (let x = starve_serving flush event (seated n p k areas (Serving s journal flush)) in IsSpelt x.1.doing → GoesOn n p (MayBe p event) w x.0 x.1)
+  serving_starves s journal flush h (at.Submit c) = λ spelt. refuses n p w (at.Submit c) (seated n p k areas (Serving s journal flush)) because.OutOfMemory h
+  serving_starves s journal flush h (at.Hear m) = λ spelt. refuses n p w (at.Hear m) (seated n p k areas (Serving s journal flush)) because.OutOfMemory h
+  serving_starves s journal flush h (at.Suspect set) = λ spelt. refuses n p w (at.Suspect set) (seated n p k areas (Serving s journal flush)) because.OutOfMemory h
+  serving_starves s journal flush h at.Tick = λ spelt. refuses n p w at.Tick (seated n p k areas (Serving s journal flush)) because.OutOfMemory h
+  serving_starves s journal flush h at.Advance = λ spelt. refuses n p w at.Advance (seated n p k areas (Serving s journal flush)) because.OutOfMemory h
+  serving_starves s journal flush h at.Take = taking_starves s journal flush h
+  serving_starves s journal flush h at.Device = λ spelt. starves_in_step n p k w areas s journal h.exists flush h
+  serving_starves s journal flush h at.Mark = λ spelt. marking_starves s journal flush h
+  serving_starves s journal flush h at.Send = serving_in_step s journal flush h at.Send tt
+  serving_starves s journal flush h at.Acknowledge = serving_in_step s journal flush h at.Acknowledge tt
+  serving_starves s journal flush h at.Snap = snapping_starves s journal flush h
+  serving_starves s journal flush h at.Restart = serving_in_step s journal flush h at.Restart tt
 
   -- where memory is wanting
-  starves : (doing : Doing) → InStep n p (seated n p k areas doing) w → (event : NodeEvent) → (let x = starve event (seated n p k areas doing) in GoesOn n p (MayBe p event) w x.0 x.1)
-  starves doing h (at.Submit c) = refuses n p w (at.Submit c) (seated n p k areas doing) because.OutOfMemory h
-  starves doing h (at.Hear m) = refuses n p w (at.Hear m) (seated n p k areas doing) because.OutOfMemory h
-  starves doing h (at.Suspect set) = refuses n p w (at.Suspect set) (seated n p k areas doing) because.OutOfMemory h
-  starves doing h at.Tick = refuses n p w at.Tick (seated n p k areas doing) because.OutOfMemory h
-  starves doing h at.Advance = refuses n p w at.Advance (seated n p k areas doing) because.OutOfMemory h
-  starves doing h at.Take = refuses n p w at.Take (seated n p k areas doing) because.OutOfMemory h
-  starves doing h at.Device = device_starves doing h
-  starves doing h at.Mark = refuses n p w at.Mark (seated n p k areas doing) because.OutOfMemory h
-  starves doing h at.Send = sends_starved doing h
-  starves doing h at.Acknowledge = replies_starved doing h
-  starves doing h at.Snap = refuses n p w at.Snap (seated n p k areas doing) because.OutOfMemory h
-  starves doing h at.Restart = restarts_starved doing h
+  starves : (doing : Doing) → InStep n p (seated n p k areas doing) w → (event : NodeEvent) → MayCome n p w event
+      → (let x = starve event (seated n p k areas doing) in IsSpelt x.1.doing → GoesOn n p (MayBe p event) w x.0 x.1)
+  starves Stopped h event comes = doing_in_step Stopped h event comes
+  starves Faulted h event comes = doing_in_step Faulted h event comes
+  starves (Opening phase) h event comes = λ spelt. awaiting_starves phase h event
+  starves (Serving s journal flush) h event comes = serving_starves s journal flush h event
 
 pub steps_in_step : (n p : ℕ) → n ≤ 7 → StepsInStep n p
 steps_in_step n p few event seat next w answer h comes gives spelt = by gives
@@ -156,4 +194,6 @@ steps_in_step n p few event seat next w answer h comes gives spelt = by gives
         given n p (MayBe p event) w answer next (by_doing event (seated n p seat.calls seat.areas seat.doing) seat.doing) own
         (doing_in_step n p seat.calls few w seat.areas seat.doing here event comes (subst (λ (a : Answer). IsSpelt a.1.doing) own spelt))
     by (inr is) =
-        given n p (MayBe p event) w answer next (starve event (seated n p seat.calls seat.areas seat.doing)) (is ∙ ap (starve event) same) (starves n p seat.calls few w seat.areas seat.doing here event)
+        let own = is ∙ ap (starve event) same in
+        given n p (MayBe p event) w answer next (starve event (seated n p seat.calls seat.areas seat.doing)) own
+        (starves n p seat.calls few w seat.areas seat.doing here event comes (subst (λ (a : Answer). IsSpelt a.1.doing) own spelt))

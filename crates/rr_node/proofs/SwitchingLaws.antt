@@ -29,7 +29,7 @@ use Rattle.rr_node.specs.declared.event.Outcome.TheVariants.{Quiet}
 use Rattle.rr_node.specs.Seats as seats
 use Rattle.rr_node.specs.Seats.{Seat, Answer, Fails, snapshot_of, may_snap, journal_switched}
 use Rattle.rr_node.specs.Views.{NodeDisk, journaled_of, seat_of, IsServing, CarriesOn, CarriesFailing}
-use Rattle.rr_node.proofs.DiskLaws.{passed_on, starved_by, gave_by, gave_failing}
+use Rattle.rr_node.proofs.DiskLaws.{passed_on, starved_by, starved_grows, starved_falls, gave_by, gave_failing}
 use Rattle.rr_node.proofs.FrontLaws.{Reaches, sync_keeps, beside_keeps, opened_closes, other_other, appends_on}
 use Rattle.rr_node.proofs.ServingLaws.{frame_long}
 
@@ -211,8 +211,9 @@ switch_refused s j k job e (inr gave) n p h = by (due_call job) refl gave.3
     by (Read area) is made = absurd made
     by (Write area from bytes) is made =
         let left = starved_by j.disk k.disk area from bytes h.calm made in
-        let own : Path Answer (Err e, seat_of n p (does.Faulted k.disk)) (seats.starve_call (Write area from bytes) old) = rw (gave.0, left.1, left.2) refl in
-        (inr (own ∙ sym (here (Write area from bytes) is)), left.0)
+        let own : Path Answer (Err e, seat_of n p (does.Faulted k.disk)) (seats.fall after_starved (Write area from bytes) old) = rw (gave.0, left.1, left.2) refl in
+        let falls = starved_falls (Write area from bytes) old (starved_grows j.disk k.disk area from bytes h.calm made) in
+        (inr (own ∙ sym falls ∙ sym (here (Write area from bytes) is)), left.0)
     by Sync is made = absurd (false≢true (passed_on j.disk.due _ _ h.calm made).0.0)
 
 -- the device call of a switch that is due fails
@@ -226,9 +227,9 @@ switch_failing n p fill s j armed k job e arms refused h = by (subst (λ (x : Jo
     here : (leaves : Call → Areas → Areas) → seats.fail_flush leaves (seats.Switching (calls_from job.area job.body job.stage)) old ≡ seats.fall leaves (due_call job) old
     here leaves = ap (λ (calls : List Call). seats.fail_flush leaves (seats.Switching calls) old) (some_due job.area job.body job.stage).1
 
-    ends : (k.disk.below.areas ≡ after_failing fill (due_call job) j.disk.below.areas) ⊎ (k.disk.below.areas ≡ after_starved (due_call job) j.disk.below.areas) → k.disk.calls ≡ counted j.disk.calls → Fails fill old (Err because.Device) (seat_of n p (does.Faulted k.disk))
+    ends : (k.disk.below.areas ≡ after_failing fill (due_call job) j.disk.below.areas) ⊎ (k.disk.below.areas ≡ seats.after_failing_starved fill (due_call job) j.disk.below.areas) → k.disk.calls ≡ counted j.disk.calls → Fails fill old (Err because.Device) (seat_of n p (does.Faulted k.disk))
     ends (inl left) count = inl (rw (left, count) (sym (here (after_failing fill))))
-    ends (inr left) count = inr (rw (left, count) (sym (here after_starved)))
+    ends (inr left) count = inr (rw (left, count) (sym (here (seats.after_failing_starved fill))))
 
     by : IsRefusedBy job (record j { disk = record j.disk { due = Some fill } }) k e → Fails fill old (Err because.Device) (seat_of n p (does.Faulted k.disk)) × (k.disk.due ≡ None)
     by (inl failed) = absurd (false≢true (sym h.sound ∙ failed.1))

@@ -1,5 +1,5 @@
 -- A node with its disk, from its first restart on: what each event does to it.
-use Rattle.std.specs.Prelude.{◌≡◌, ◌⊎◌, ℕ, ◌+◌, ◌-◌, ◌^◌, Bool, ◌&&◌, ◌==◌, nat_lt, if◌then◌else◌, List, [], ◌∷◌, length, Result, Ok, Err}
+use Rattle.std.specs.Prelude.{◌≡◌, ◌⊎◌, ℕ, ◌+◌, ◌-◌, ◌^◌, Bool, false, ◌&&◌, ◌==◌, nat_lt, if◌then◌else◌, List, [], ◌∷◌, length, Result, Ok, Err}
 use Rattle.std.specs.Option.{option_map_or}
 use Rattle.rr_types.specs.declared.refusal.Refusal.{Refusal}
 use Rattle.rr_types.specs.declared.refusal.Refusal.TheVariants as because
@@ -7,7 +7,7 @@ use Rattle.rr_types.specs.Registry.{registry_of, reply_of}
 use Rattle.rr_model.specs.NodeState.{NodeState, decided_prefix}
 use Rattle.rr_model.specs.NodeStep.{Input, Submit, Hear, Suspect, Tick, Advance, node_step, refusal_of, group_taken, marked_running, running_group, next_leaving, message_left, next_acknowledged, acknowledged, started}
 use Rattle.rr_disk.specs.declared.area.Area.{Area}
-use Rattle.rr_disk.specs.Areas.{Areas, extent_of, read_of, at_rest}
+use Rattle.rr_disk.specs.Areas.{Areas, extent_of, read_of, at_rest, synced}
 use Rattle.rr_disk.specs.Counts.{counted}
 use Rattle.rr_disk.specs.Crash.{crash_images, restarted}
 use Rattle.rr_frame.specs.GroupFormat.{group_bytes}
@@ -229,57 +229,99 @@ crashed cut_first cut_second fill seat = record seat { doing = Stopped; areas = 
 abbrev pub seat_step : NodeEvent → Seat → Answer
 seat_step event seat = by_doing event seat seat.doing
 
--- a device call of an opening for which memory was wanting, or what comes behind it: a write fails, and else the opening ends
-abbrev pub starve_opening : Call → Seat → Answer
-starve_opening (Read area) seat = (Err because.OutOfMemory, record (called seat.areas seat) { doing = Stopped })
-starve_opening (Write area at bytes) seat = (Err because.Device, record (called (after_starved (Write area at bytes) seat.areas) seat) { doing = Faulted })
-starve_opening Sync seat = (Err because.OutOfMemory, record (called (after_call Sync seat.areas) seat) { doing = Stopped })
+-- a device call that fails and leaves the areas so: the node has failed
+abbrev pub fall : (Call → Areas → Areas) → Call → Seat → Answer
+fall leaves call seat = (Err because.Device, record (called (leaves call seat.areas) seat) { doing = Faulted })
 
--- a device call of a job for which memory was wanting: a write fails
+-- whether a device call makes its area longer; writes that do take memory, and no other write or sync does
+abbrev pub grows : Call → Areas → Bool
+grows (Read area) both = false
+grows (Write area at bytes) both = nat_lt (length (extent_of both area).cells) (at + length bytes)
+grows Sync both = false
+
+-- a write or a sync where memory is wanting: a write that makes its area longer fails
 abbrev pub starve_call : Call → Seat → Answer
-starve_call (Read area) seat = refuse because.OutOfMemory seat
-starve_call (Write area at bytes) seat = (Err because.Device, record (called (after_starved (Write area at bytes) seat.areas) seat) { doing = Faulted })
-starve_call Sync seat = refuse because.OutOfMemory seat
+starve_call call seat = if grows call seat.areas then fall after_starved call seat else seat_step at.Device seat
 
--- a job for which memory was wanting
+-- the next device call of a job where memory is wanting
 abbrev pub starve_flush : Flush → Seat → Answer
-starve_flush Resting seat = refuse because.OutOfMemory seat
-starve_flush Flushed seat = refuse because.OutOfMemory seat
-starve_flush (Writing []) seat = refuse because.OutOfMemory seat
+starve_flush Resting seat = seat_step at.Device seat
+starve_flush Flushed seat = seat_step at.Device seat
+starve_flush (Writing []) seat = seat_step at.Device seat
 starve_flush (Writing (call ∷ calls)) seat = starve_call call seat
-starve_flush (Switching []) seat = refuse because.OutOfMemory seat
+starve_flush (Switching []) seat = seat_step at.Device seat
 starve_flush (Switching (call ∷ calls)) seat = starve_call call seat
 
--- the next device call of a node, where memory is wanting for it
-abbrev pub starve_device : Doing → Seat → Answer
-starve_device Stopped seat = refuse because.OutOfMemory seat
-starve_device Faulted seat = refuse because.OutOfMemory seat
-starve_device (Opening phase) seat = starve_opening (due_call phase) seat
-starve_device (Serving s journal flush) seat = starve_flush flush seat
+-- what comes behind a sync of an opening where memory is wanting: no core is made where the opening would end
+abbrev pub starve_end : Seat → After → Answer
+starve_end seat (Goes phase) = opens_on seat (Goes phase)
+starve_end seat (Opens area c) = opens_on seat (Stops because.OutOfMemory)
+starve_end seat (Stops e) = opens_on seat (Stops e)
 
--- an event where memory is wanting for it: a device call fails or ends an opening, and what takes memory changes nothing else;
--- sending, acknowledging and a restart take none
+-- the next device call of an opening where memory is wanting: nothing is read, or a write fails, or no core is made
+abbrev pub starve_opening : Phase → Call → Seat → Answer
+starve_opening phase (Read area) seat = opens_on (called seat.areas seat) (Stops because.OutOfMemory)
+starve_opening phase (Write area at bytes) seat = starve_call (Write area at bytes) seat
+starve_opening phase Sync seat = starve_end (called (synced seat.areas) seat) (after_opening_call seat.nodes seat.node [] phase)
+
+-- an event at a node that opens, where memory is wanting: only device calls take it
+abbrev pub starve_awaiting : Phase → NodeEvent → Seat → Answer
+starve_awaiting phase at.Device seat = starve_opening phase (due_call phase) seat
+starve_awaiting phase (at.Submit c) seat = seat_step (at.Submit c) seat
+starve_awaiting phase (at.Hear m) seat = seat_step (at.Hear m) seat
+starve_awaiting phase (at.Suspect set) seat = seat_step (at.Suspect set) seat
+starve_awaiting phase at.Tick seat = seat_step at.Tick seat
+starve_awaiting phase at.Advance seat = seat_step at.Advance seat
+starve_awaiting phase at.Take seat = seat_step at.Take seat
+starve_awaiting phase at.Mark seat = seat_step at.Mark seat
+starve_awaiting phase at.Send seat = seat_step at.Send seat
+starve_awaiting phase at.Acknowledge seat = seat_step at.Acknowledge seat
+starve_awaiting phase at.Snap seat = seat_step at.Snap seat
+starve_awaiting phase at.Restart seat = seat_step at.Restart seat
+
+-- where no job runs the beginning of one is refused
+abbrev pub starve_beginning : Flush → NodeEvent → Seat → Answer
+starve_beginning Resting event seat = refuse because.OutOfMemory seat
+starve_beginning (Writing calls) event seat = seat_step event seat
+starve_beginning Flushed event seat = seat_step event seat
+starve_beginning (Switching calls) event seat = seat_step event seat
+
+-- where a group is synced its marking is refused
+abbrev pub starve_marking : Flush → Seat → Answer
+starve_marking Resting seat = seat_step at.Mark seat
+starve_marking (Writing calls) seat = seat_step at.Mark seat
+starve_marking Flushed seat = refuse because.OutOfMemory seat
+starve_marking (Switching calls) seat = seat_step at.Mark seat
+
+-- an event at a serving node where memory is wanting: inputs are refused; sending, acknowledging and a restart take none
+abbrev pub starve_serving : Flush → NodeEvent → Seat → Answer
+starve_serving flush (at.Submit c) seat = refuse because.OutOfMemory seat
+starve_serving flush (at.Hear m) seat = refuse because.OutOfMemory seat
+starve_serving flush (at.Suspect set) seat = refuse because.OutOfMemory seat
+starve_serving flush at.Tick seat = refuse because.OutOfMemory seat
+starve_serving flush at.Advance seat = refuse because.OutOfMemory seat
+starve_serving flush at.Take seat = starve_beginning flush at.Take seat
+starve_serving flush at.Device seat = starve_flush flush seat
+starve_serving flush at.Mark seat = starve_marking flush seat
+starve_serving flush at.Send seat = seat_step at.Send seat
+starve_serving flush at.Acknowledge seat = seat_step at.Acknowledge seat
+starve_serving flush at.Snap seat = starve_beginning flush at.Snap seat
+starve_serving flush at.Restart seat = seat_step at.Restart seat
+
+-- an event where memory is wanting, by what the node does: one that is down or has failed takes none
+abbrev pub starve_doing : Doing → NodeEvent → Seat → Answer
+starve_doing Stopped event seat = seat_step event seat
+starve_doing Faulted event seat = seat_step event seat
+starve_doing (Opening phase) event seat = starve_awaiting phase event seat
+starve_doing (Serving s journal flush) event seat = starve_serving flush event seat
+
+-- what an event answers, and the node after it, where memory is wanting for it
 abbrev pub starve : NodeEvent → Seat → Answer
-starve (at.Submit c) seat = refuse because.OutOfMemory seat
-starve (at.Hear m) seat = refuse because.OutOfMemory seat
-starve (at.Suspect set) seat = refuse because.OutOfMemory seat
-starve at.Tick seat = refuse because.OutOfMemory seat
-starve at.Advance seat = refuse because.OutOfMemory seat
-starve at.Take seat = refuse because.OutOfMemory seat
-starve at.Device seat = starve_device seat.doing seat
-starve at.Mark seat = refuse because.OutOfMemory seat
-starve at.Send seat = seat_step at.Send seat
-starve at.Acknowledge seat = seat_step at.Acknowledge seat
-starve at.Snap seat = refuse because.OutOfMemory seat
-starve at.Restart seat = seat_step at.Restart seat
+starve event seat = starve_doing seat.doing event seat
 
 -- what a node may answer to an event, and be after it: what it answers where memory is there, or where it is wanting
 abbrev pub Gives : NodeEvent → Seat → Result Outcome Refusal → Seat → Type 0
 Gives event seat result next = ((result, next) ≡ seat_step event seat) ⊎ ((result, next) ≡ starve event seat)
-
--- a device call that fails and leaves the areas so: the node has failed
-abbrev pub fall : (Call → Areas → Areas) → Call → Seat → Answer
-fall leaves call seat = (Err because.Device, record (called (leaves call seat.areas) seat) { doing = Faulted })
 
 -- the next device call of a job fails; where none is due nothing happens
 abbrev pub fail_flush : (Call → Areas → Areas) → Flush → Seat → Answer
@@ -301,10 +343,14 @@ fail_doing leaves (Serving s journal flush) seat = fail_flush leaves flush seat
 abbrev pub seat_fails : List ℕ → Seat → Answer
 seat_fails fill seat = fail_doing (after_failing fill) seat.doing seat
 
--- the same where memory is wanting for a write
-abbrev pub starve_fails : Seat → Answer
-starve_fails seat = fail_doing after_starved seat.doing seat
+-- both areas after a failing call where memory is wanting: a write that makes its area longer leaves its range loose
+abbrev pub after_failing_starved : List ℕ → Call → Areas → Areas
+after_failing_starved fill call both = if grows call both then after_starved call both else after_failing fill call both
+
+-- what a failing device call answers, and the node after it, where memory is wanting
+abbrev pub starve_fails : List ℕ → Seat → Answer
+starve_fails fill seat = fail_doing (after_failing_starved fill) seat.doing seat
 
 -- what a node may answer where its next device call fails with this fill, and be after it
 abbrev pub Fails : List ℕ → Seat → Result Outcome Refusal → Seat → Type 0
-Fails fill seat result next = ((result, next) ≡ seat_fails fill seat) ⊎ ((result, next) ≡ starve_fails seat)
+Fails fill seat result next = ((result, next) ≡ seat_fails fill seat) ⊎ ((result, next) ≡ starve_fails fill seat)
