@@ -75,12 +75,10 @@ bytes_of (b ∷ bytes) h (suc k) d l = bytes_of bytes h.1 k d (omega (arith, l))
 abbrev pub IsProper : ℕ → Message → Type 0
 IsProper n m = (m.from < n) × NamesRounds m.body
 
--- each of the n nodes is in step with the world, whose messages are proper, and cluster and world are alike
+-- the cluster of n nodes and the world are alike, and the messages are proper
 pub record IsClusterInStep (n : ℕ) (c : Cluster) (w : World) : Type 0 where
-  pub count : length c.seats ≡ n
-  pub seats : (p : ℕ) (seat : Seat) → slice_get c.seats p ≡ Some seat → InStep n p seat w
   pub proper : AllByRecursion (IsProper n) c.wire
-  pub alike : IsAlike c w
+  pub alike : IsAlike n c w
 
 -- a report tells of an answer what the answer lets others know
 notes_tell : (p at sent : ℕ) (answer : Result Outcome Refusal) → told_in (note_of p at sent answer) ≡ told_by p answer
@@ -127,10 +125,10 @@ answered n p at May Are w c seat answer so h here g = record {
   refused = λ refusal e. refused_note p at (length c.wire) answer.0 refusal (MayFall p g.steps) (append_cancel_left c.lines (note_of p at (length c.wire) answer.0) (line.Refuse at refusal ∷ []) e) g.refused;
   run = g.run;
   in_step = record {
-    count = length_replaced c.seats p answer.1 ∙ h.count;
-    seats = λ q other there. by q other (get_replaced c.seats p q other answer.1 there);
-    proper = all_parts (IsProper n) c.wire (sent_by answer.0) h.proper (sent_proper n p answer.0 (h.seats p seat here).exists g.sent);
+    proper = all_parts (IsProper n) c.wire (sent_by answer.0) h.proper (sent_proper n p answer.0 (h.alike.nodes p seat here).exists g.sent);
     alike = record {
+      count = length_replaced c.seats p answer.1 ∙ h.alike.count;
+      nodes = λ q other there. by q other (get_replaced c.seats p q other answer.1 there);
       wire = g.wire ∙ ap (λ (ms : List Message). ms ++ sent_by answer.0) h.alike.wire;
       told = g.trace ∙ ap (λ (ts : List Told). ts ++ told_by p answer.0) h.alike.told
           ∙ ap (λ (ts : List Told). told_in c.lines ++ ts) (sym (notes_tell p at (length c.wire) answer.0))
@@ -141,7 +139,7 @@ answered n p at May Are w c seat answer so h here g = record {
   where
     by : (q : ℕ) (other : Seat) → ((q ≡ p) × (other ≡ answer.1)) ⊎ ((q ≢ p) × (slice_get c.seats q ≡ Some other)) → InStep n q other (after_steps w g.steps)
     by q other (inl is) = subst (λ (x : ℕ). InStep n x other (after_steps w g.steps)) (sym is.0) (subst (λ (x : Seat). InStep n p x (after_steps w g.steps)) (sym is.1) g.in_step)
-    by q other (inr is) = g.beside q other is.0 (h.seats q other is.1)
+    by q other (inr is) = g.beside q other is.0 (h.alike.nodes q other is.1)
 
 -- ---- the events, by the laws of one node
 
@@ -190,7 +188,7 @@ module _ (n : ℕ) (laws : NodeLaws n) where
           let spelt_so : IsSpelt (result starved seat).1.doing = subst (λ (x : Cluster). IsSpeltAt p x) is spelt (result starved seat).1 (get_here c.seats p seat (result starved seat).1 e) in
           subst (λ (x : Cluster). Took n p at Are w c x) (sym is) (
           answered n p at (MayBe p event) Are w c seat (result starved seat) so h e
-          (laws.steps p event seat (result starved seat).1 w (result starved seat).0 (h.seats p seat e) may (gives starved seat) spelt_so)
+          (laws.steps p event seat (result starved seat).1 w (result starved seat).0 (h.alike.nodes p seat e) may (gives starved seat) spelt_so)
           )
 
   -- a failing device call at node p
@@ -198,7 +196,7 @@ module _ (n : ℕ) (laws : NodeLaws n) where
   failing_takes p at starved fill w c bytes h = by (slice_get c.seats p) refl
     where
       result : (starved : Bool) → Seat → Answer
-      result starved seat = if starved then starve_fails seat else seat_fails fill seat
+      result starved seat = if starved then starve_fails fill seat else seat_fails fill seat
 
       gives : (starved : Bool) (seat : Seat) → Fails fill seat (result starved seat).0 (result starved seat).1
       gives true seat = inr refl
@@ -213,7 +211,7 @@ module _ (n : ℕ) (laws : NodeLaws n) where
           let is : fail_at p at starved fill c ≡ with_answer p at c (result starved seat) = ap step e in
           subst (λ (x : Cluster). Took n p at (MayFall p) w c x) (sym is) (
           answered n p at (MayFall p) (MayFall p) w c seat (result starved seat) (λ steps m. m) h e
-          (laws.fails p fill seat (result starved seat).1 w (result starved seat).0 (bytes_of fill bytes) (h.seats p seat e) (gives starved seat))
+          (laws.fails p fill seat (result starved seat).1 w (result starved seat).0 (bytes_of fill bytes) (h.alike.nodes p seat e) (gives starved seat))
           )
 
   -- a crash of node p
@@ -233,7 +231,7 @@ module _ (n : ℕ) (laws : NodeLaws n) where
           let is : crash_at p a b fill c ≡ with_answer p at c (Ok Quiet, crashed a b fill seat) = ap step e ∙ silent seat in
           subst (λ (x : Cluster). Took n p at (MayFall p) w c x) (sym is) (
           answered n p at (MayFall p) (MayFall p) w c seat (Ok Quiet, crashed a b fill seat) (λ steps m. m) h e
-          (laws.crashes p a b fill seat w (bytes_of fill bytes) (h.seats p seat e))
+          (laws.crashes p a b fill seat w (bytes_of fill bytes) (h.alike.nodes p seat e))
           )
 
   -- a message of the wire is heard
@@ -305,8 +303,11 @@ module _ (n : ℕ) (laws : NodeLaws n) where
 
   pub starts_in_step : IsClusterInStep n (new_cluster n) empty_world
   starts_in_step = record {
-    count = length-map-range_with_len (new_seat n) 0 n;
-    seats = λ p seat e. subst (λ (x : ℕ). InStep n x seat empty_world) (let z : 0 + p ≡ p = omega arith in z) (seats_from 0 n p seat (omega arith) e);
     proper = tt;
-    alike = record { wire = refl; told = refl };
+    alike = record {
+      count = length-map-range_with_len (new_seat n) 0 n;
+      nodes = λ p seat e. subst (λ (x : ℕ). InStep n x seat empty_world) (let z : 0 + p ≡ p = omega arith in z) (seats_from 0 n p seat (omega arith) e);
+      wire = refl;
+      told = refl;
+    };
   }

@@ -6,8 +6,8 @@ use Rattle.rand_pcg.specs.Lcg.{Lcg}
 use Rattle.rr_text.specs.declared.event.Event.{Event}
 use Rattle.rr_text.specs.declared.event.Event.TheVariants.{Device}
 use Rattle.rr_text.specs.Scheduled.{IsEvent, IsSchedule}
-use Rattle.rr_sim.specs.Clusters.{Cluster, Steps}
-use Rattle.rr_sim.specs.Random.{opening_of, openings, drawn, behind, AreDrawn, Draws}
+use Rattle.rr_sim.specs.Clusters.{Cluster}
+use Rattle.rr_sim.specs.Random.{opening_of, openings, drawn, behind, StepsInMemory, AreDrawn, Draws}
 
 range_push : (a n : ℕ) → range_with_len a (suc n) ≡ range_with_len a n ++ (a + n) ∷ []
 range_push a zero = let e : a + 0 ≡ a = omega arith in rw e
@@ -20,9 +20,9 @@ pub openings_more : (n : ℕ) → flat_map opening_of (range_with_len 0 n) ++ op
 openings_more n = flat_map_more opening_of [] (range_with_len 0 n) n ∙ ap (flat_map opening_of) (sym (range_more n))
 
 -- both lists keep to a rule, so both together do
-each_of_both : (n : ℕ) (xs ys : List Event) → AllByRecursion (IsEvent n) xs → AllByRecursion (IsEvent n) ys → AllByRecursion (IsEvent n) (xs ++ ys)
-each_of_both n [] ys all more = more
-each_of_both n (x ∷ xs) ys (here, all) more = (here, each_of_both n xs ys all more)
+pub each_of_both : (P : Event → Type 0) (xs ys : List Event) → AllByRecursion P xs → AllByRecursion P ys → AllByRecursion P (xs ++ ys)
+each_of_both P [] ys all more = more
+each_of_both P (x ∷ xs) ys (here, all) more = (here, each_of_both P xs ys all more)
 
 calls_are_events : (n p k : ℕ) → p < n → AllByRecursion (IsEvent n) (replicate k (Device p))
 calls_are_events n p zero below = tt
@@ -35,7 +35,7 @@ opening_is_of_events n p below = (record { node = below; fields = tt }, calls_ar
 openings_from : (n a k : ℕ) → a + k ≤ n → AllByRecursion (IsEvent n) (flat_map opening_of (range_with_len a k))
 openings_from n a zero within = tt
 openings_from n a (suc k) within =
-    each_of_both n (opening_of a) (flat_map opening_of (range_with_len (a + 1) k)) (opening_is_of_events n a (omega (within, arith))) (openings_from n (a + 1) k (omega (within, arith)))
+    each_of_both (IsEvent n) (opening_of a) (flat_map opening_of (range_with_len (a + 1) k)) (opening_is_of_events n a (omega (within, arith))) (openings_from n (a + 1) k (omega (within, arith)))
 
 count_from : (a k : ℕ) → length (flat_map opening_of (range_with_len a k)) ≡ 10 * k
 count_from a zero = refl
@@ -55,7 +55,7 @@ is_a_schedule n steps g c events some few within (more, is, count, each, drawn_s
   some = some;
   few = few;
   short = (let both = ap length is ∙ length-append (openings n) more in let opened = openings_count n in omega (both, opened, count, few, within, arith));
-  each = subst (λ l. AllByRecursion (IsEvent n) l) (sym is) (each_of_both n (openings n) more (openings_from n 0 n (omega arith)) each);
+  each = subst (λ l. AllByRecursion (IsEvent n) l) (sym is) (each_of_both (IsEvent n) (openings n) more (openings_from n 0 n (omega arith)) each);
 }
 
 -- i of the events are drawn: where the words give others from here on, they give all of them
@@ -69,7 +69,7 @@ drawing_none n steps g c old =
     ([], sym (append-nil old), refl, tt, λ left rest all drawn_so. subst (λ k. AreDrawn n (length old + 2) k g c rest) (omega (all, arith)) drawn_so)
 
 pub drawing_more : (n steps : ℕ) (g : Lcg) (c : Cluster) (old items : List Event) (i : ℕ) (h : Lcg) (d next : Cluster)
-    → Drawing n steps g c old items i h d → IsEvent n (drawn n d.wire h) → Steps (length items + 2) (drawn n d.wire h) d next
+    → Drawing n steps g c old items i h d → IsEvent n (drawn n d.wire h) → StepsInMemory (length items + 2) (drawn n d.wire h) d next
     → Drawing n steps g c old (items ++ drawn n d.wire h ∷ []) (i + 1) (behind (behind h)) next
 drawing_more n steps g c old items i h d next (more, is, count, each, on) valid led =
     let e = drawn n d.wire h in
@@ -77,7 +77,7 @@ drawing_more n steps g c old items i h d next (more, is, count, each, on) valid 
       more ++ e ∷ [],
       ap (λ (l : List Event). l ++ e ∷ []) is ∙ append_assoc old more (e ∷ []),
       (let l = length-append more (e ∷ []) in omega (l, count, arith)),
-      each_of_both n more (e ∷ []) each (valid, tt),
+      each_of_both (IsEvent n) more (e ∷ []) each (valid, tt),
       λ left rest all drawn_so.
           subst (λ l. AreDrawn n (length old + 2) steps g c l) (sym (append_assoc more (e ∷ []) rest))
           (on (suc left) (e ∷ rest) (omega (all, arith)) (next, rest, refl, led, subst (λ k. AreDrawn n k left (behind (behind h)) next rest) longer drawn_so)),
@@ -85,14 +85,14 @@ drawing_more n steps g c old items i h d next (more, is, count, each, on) valid 
 
 -- one event more, with the generator and the cluster behind it
 pub drawing_on : (n steps : ℕ) (g : Lcg) (c : Cluster) (old items : List Event) (i : ℕ) (h : Lcg) (d : Cluster) (line : ℕ) (e : Event) (longer : List Event) (after : Lcg) (next : Cluster)
-    → Drawing n steps g c old items i h d → e ≡ drawn n d.wire h → IsEvent n e → line ≡ length items + 2 → Steps line e d next → longer ≡ items ++ e ∷ [] → after ≡ behind (behind h)
+    → Drawing n steps g c old items i h d → e ≡ drawn n d.wire h → IsEvent n e → line ≡ length items + 2 → StepsInMemory line e d next → longer ≡ items ++ e ∷ [] → after ≡ behind (behind h)
     → Drawing n steps g c old longer (i + 1) after next
 drawing_on n steps g c old items i h d line e longer after next so_far is valid at led more words =
     subst (λ (l : List Event). Drawing n steps g c old l (i + 1) after next) (sym more)
     (subst (λ (w : Lcg). Drawing n steps g c old (items ++ e ∷ []) (i + 1) w next) (sym words)
     (subst (λ (x : Event). Drawing n steps g c old (items ++ x ∷ []) (i + 1) (behind (behind h)) next) (sym is)
     (drawing_more n steps g c old items i h d next so_far (subst (IsEvent n) is valid)
-    (subst (λ (x : Event). Steps (length items + 2) x d next) is (subst (λ (k : ℕ). Steps k e d next) at led)))))
+    (subst (λ (x : Event). StepsInMemory (length items + 2) x d next) is (subst (λ (k : ℕ). StepsInMemory k e d next) at led)))))
 
 pub drawing_all : (n steps : ℕ) (g : Lcg) (c : Cluster) (old items : List Event) (h : Lcg) (d : Cluster)
     → Drawing n steps g c old items steps h d → Draws n steps g c old items

@@ -31,7 +31,7 @@ module _ (r : Result (Unit {0}) Refusal) (k p at : ℕ) (c new : Cluster) (seat 
     where
       by : Fails fill seat answer next → new ≡ placed k p at c answer next → IsEither (λ starved. new ≡ fail_at p at starved fill c)
       by (inl e) h = inl (left_so h ∙ ap (with_answer p at c) e ∙ ap (λ (o : Option Seat). option_map_or (λ x. with_answer p at c (seat_fails fill x)) o c) (sym here))
-      by (inr e) h = inr (left_so h ∙ ap (with_answer p at c) e ∙ ap (λ (o : Option Seat). option_map_or (λ x. with_answer p at c (starve_fails x)) o c) (sym here))
+      by (inr e) h = inr (left_so h ∙ ap (with_answer p at c) e ∙ ap (λ (o : Option Seat). option_map_or (λ x. with_answer p at c (starve_fails fill x)) o c) (sym here))
 
   pub spelt_so : IsSpelt next.doing → OnOk r (IsSpeltAt p new)
   spelt_so spelt = on_ok r (new ≡ placed k p at c answer next) (IsSpeltAt p new) (λ h. subst (λ (x : Cluster). IsSpeltAt p x) (sym (left_so h)) at_it) left

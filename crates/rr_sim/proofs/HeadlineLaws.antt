@@ -6,7 +6,7 @@ use Rattle.std.specs.List.{AllByRecursion}
 use Rattle.rr_types.specs.declared.message.Message.{Message}
 use Rattle.rr_model.specs.Laws.{after_steps}
 use Rattle.rr_model.specs.Sound.{IsDecidedList}
-use Rattle.rr_model.specs.World.{World, Step, empty_world, IsRunFrom}
+use Rattle.rr_model.specs.World.{World, Step, empty_world, IsRunFrom, end_of}
 use Rattle.rr_model.proofs.NodeFollows.{run_on}
 use Rattle.rr_model.proofs.Soundness.{sound}
 use Rattle.rr_text.specs.declared.event.Event.{Event}
@@ -15,6 +15,7 @@ use Rattle.rr_text.specs.Scheduled.{IsEvent}
 use Rattle.rr_sim.specs.Clusters.{Cluster, new_cluster, Leads, LeadsSpelt, IsReportOf}
 use Rattle.rr_sim.specs.Headline.{told_in, TakesAlong, in_turn, IsRunOfTheWorld, AgreesWithOneList}
 use Rattle.rr_sim.proofs.ClusterLaws.{IsClusterInStep, NodeLaws, step_takes, starts_in_step}
+use Rattle.rr_sim.proofs.DecidedLaws.{decides_as_listed}
 use Rattle.rr_sim.proofs.SubmittedLaws.{joined, all_submitted_by_events}
 use Rattle.rr_sim.proofs.TellingLaws.{restarts_of_list, acknowledged_in_list, replies_of_list, one_decision}
 
@@ -26,7 +27,7 @@ leads_too at (e ∷ es) old new (next, step, spelt, rest) = (next, step, leads_t
 -- events that took the world along by these pieces
 record TookAll (n at : ℕ) (events : List Event) (old : Cluster) (w : World) (new : Cluster) : Type 0 where
   pieces : List (List Step)
-  along : TakesAlong at events old w pieces new
+  along : TakesAlong n at events old w pieces new
   run : IsRunFrom n w (in_turn pieces)
   in_step : IsClusterInStep n new (after_steps w (in_turn pieces))
 
@@ -55,15 +56,17 @@ module _ (n m : ℕ) (laws : NodeLaws n) where
     unfolding all
     is_world_run =
         let alike = all.in_step.alike in
+        let by_the_world : IsDecidedList n (end_of (in_turn all.pieces)).wire report.decided = subst (λ (ms : List Message). IsDecidedList n ms report.decided) (sym alike.wire) decided in
         record {
           pieces = all.pieces;
           at_the_end = new;
           is_a_run = all.run;
+          starts_alike = (starts_in_step n laws).alike;
           is_this_one = all.along;
+          ends_alike = alike;
           lines = lines;
-          wire = alike.wire;
-          told = alike.told ∙ ap told_in (sym lines);
-          decided = subst (λ (ms : List Message). IsDecidedList n ms report.decided) (sym alike.wire) decided;
+          decided = by_the_world;
+          nodes = λ p seat there. decides_as_listed n (in_turn all.pieces) report.decided all.run by_the_world p seat.areas seat.doing (alike.nodes p seat there).doing;
           is_sound = sound n (in_turn all.pieces) all.run;
         }
 
@@ -71,12 +74,13 @@ module _ (n m : ℕ) (laws : NodeLaws n) where
 pub agrees : (n : ℕ) (events : List Event) (report : Reported) → IsRunOfTheWorld n events report → AgreesWithOneList events report
 agrees n events report r =
     let run = in_turn r.pieces in
+    let told = r.ends_alike.told ∙ ap told_in (sym r.lines) in
     record {
       submitted = λ c there. all_submitted_by_events n events r.at_the_end r.pieces report.lines c r.lines r.is_this_one (r.is_sound.its_commands_were_submitted report.decided r.decided c there);
-      restarts = restarts_of_list n run report.lines report.decided r.is_sound r.told r.decided;
-      nothing_acknowledged_is_lost = acknowledged_in_list n run report.lines report.decided r.is_sound r.told r.decided;
-      replies = replies_of_list n run report.lines report.decided r.is_sound r.told r.decided;
-      decisions = one_decision n run report.lines report.decided r.is_sound r.told r.decided;
+      restarts = restarts_of_list n run report.lines report.decided r.is_sound told r.decided;
+      nothing_acknowledged_is_lost = acknowledged_in_list n run report.lines report.decided r.is_sound told r.decided;
+      replies = replies_of_list n run report.lines report.decided r.is_sound told r.decided;
+      decisions = one_decision n run report.lines report.decided r.is_sound told r.decided;
     }
 
 -- so does one that comes of the same events

@@ -8,3 +8,7 @@ pub mod RefusedLaws
 mod ScheduleLaws
 mod DrawingLemmas
 pub mod FailingLaws
+mod DecidedLaws
+pub mod WantLaws
+mod Wanting
+mod OpenedLaws

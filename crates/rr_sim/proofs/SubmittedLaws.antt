@@ -115,11 +115,11 @@ pub joined : (w : World) (steps : List Step) (pieces : List (List Step)) → aft
 joined w steps pieces = fold-append after_step w steps (in_turn pieces)
 
 -- events that take the world along lead from one cluster to the other
-leads_along : (at : ℕ) (events : List Event) (old new : Cluster) (w : World) (pieces : List (List Step)) → TakesAlong at events old w pieces new → Leads at events old new
-leads_along at [] old new w [] along = along
-leads_along at [] old new w (steps ∷ pieces) along = absurd along
-leads_along at (e ∷ es) old new w [] along = absurd along
-leads_along at (e ∷ es) old new w (steps ∷ pieces) (next, step, of, refused, alike, rest) = (next, step, leads_along (at + 1) es next new (after_steps w steps) pieces rest)
+leads_along : (n at : ℕ) (events : List Event) (old new : Cluster) (w : World) (pieces : List (List Step)) → TakesAlong n at events old w pieces new → Leads at events old new
+leads_along n at [] old new w [] along = along
+leads_along n at [] old new w (steps ∷ pieces) along = absurd along
+leads_along n at (e ∷ es) old new w [] along = absurd along
+leads_along n at (e ∷ es) old new w (steps ∷ pieces) (next, step, of, refused, alike, rest) = (next, step, leads_along n (at + 1) es next new (after_steps w steps) pieces rest)
 
 -- no line from this one on was refused yet
 abbrev pub NoneRefusedFrom : ℕ → Cluster → Type 0
@@ -132,13 +132,13 @@ still_none at e old next step none k r held = by (refused_before_or_now at e old
     by (inl before) = let l = none k r before in omega arith
     by (inr (is, lines)) = omega (arith, is)
 
-pub submitted_by_events : (at : ℕ) (events : List Event) (old new : Cluster) (w : World) (pieces : List (List Step)) (c : Command) → NoneRefusedFrom at old → TakesAlong at events old w pieces new
+pub submitted_by_events : (n at : ℕ) (events : List Event) (old new : Cluster) (w : World) (pieces : List (List Step)) (c : Command) → NoneRefusedFrom at old → TakesAlong n at events old w pieces new
     → Contains (after_steps w (in_turn pieces)).submitted c → Contains w.submitted c ⊎ IsSubmittedIn at events new.lines c
-submitted_by_events at [] old new w [] c none along there = inl there
-submitted_by_events at [] old new w (steps ∷ pieces) c none along there = absurd along
-submitted_by_events at (e ∷ es) old new w [] c none along there = absurd along
-submitted_by_events at (e ∷ es) old new w (steps ∷ pieces) c none (next, step, of, refused, alike, rest) there =
-    by (submitted_by_events (at + 1) es next new (after_steps w steps) pieces c (still_none at e old next step none) rest (subst (λ (v : World). Contains v.submitted c) (joined w steps pieces) there))
+submitted_by_events n at [] old new w [] c none along there = inl there
+submitted_by_events n at [] old new w (steps ∷ pieces) c none along there = absurd along
+submitted_by_events n at (e ∷ es) old new w [] c none along there = absurd along
+submitted_by_events n at (e ∷ es) old new w (steps ∷ pieces) c none (next, step, of, refused, alike, rest) there =
+    by (submitted_by_events n (at + 1) es next new (after_steps w steps) pieces c (still_none at e old next step none) rest (subst (λ (v : World). Contains v.submitted c) (joined w steps pieces) there))
   where
     -- a refusal of this line was noted by this event, and then its steps are at most going down
     went_down : (p : ℕ) (r : Refusal) → e ≡ Submit p c → Contains old.lines (line.Refuse at r) ⊎ ((at ≡ at) × (next.lines ≡ old.lines ++ line.Refuse at r ∷ [])) → MayFall p steps
@@ -157,7 +157,7 @@ submitted_by_events at (e ∷ es) old new w (steps ∷ pieces) c none (next, ste
       ap (λ (x : Event). Some x) is,
       λ r held. no_fall (
           falls_if p r is (
-          refused_from (at + 1) es next new (leads_along (at + 1) es next new (after_steps w steps) pieces rest) at r
+          refused_from (at + 1) es next new (leads_along n (at + 1) es next new (after_steps w steps) pieces rest) at r
           (subst (λ (k : ℕ). Contains new.lines (line.Refuse k r)) (let z : at + 0 ≡ at = omega arith in z) held)
           )
           ),
@@ -168,10 +168,10 @@ submitted_by_events at (e ∷ es) old new w (steps ∷ pieces) c none (next, ste
     by (inr behind) = inr (later at e es new.lines c behind)
 
 -- from nothing, what was submitted was submitted by an event that wasn't refused
-pub all_submitted_by_events : (n : ℕ) (events : List Event) (new : Cluster) (pieces : List (List Step)) (lines : List ReportLine) (c : Command) → lines ≡ new.lines → TakesAlong 2 events (new_cluster n) empty_world pieces new
+pub all_submitted_by_events : (n : ℕ) (events : List Event) (new : Cluster) (pieces : List (List Step)) (lines : List ReportLine) (c : Command) → lines ≡ new.lines → TakesAlong n 2 events (new_cluster n) empty_world pieces new
     → Contains (end_of (in_turn pieces)).submitted c → IsSubmittedIn 2 events lines c
 all_submitted_by_events n events new pieces lines c same along there =
-    subst (λ (ls : List ReportLine). IsSubmittedIn 2 events ls c) (sym same) (by (submitted_by_events 2 events (new_cluster n) new empty_world pieces c (λ k r held. absurd (omega (arith, held.1))) along there))
+    subst (λ (ls : List ReportLine). IsSubmittedIn 2 events ls c) (sym same) (by (submitted_by_events n 2 events (new_cluster n) new empty_world pieces c (λ k r held. absurd (omega (arith, held.1))) along there))
   where
     by : Contains empty_world.submitted c ⊎ IsSubmittedIn 2 events new.lines c → IsSubmittedIn 2 events new.lines c
     by (inl (k, l, is)) = absurd (omega (arith, l))

@@ -56,7 +56,7 @@ at_node p at starved event c = option_map_or (λ seat. with_answer p at c (if st
 
 -- the next device call of node p, failing
 abbrev pub fail_at : ℕ → ℕ → Bool → List ℕ → Cluster → Cluster
-fail_at p at starved fill c = option_map_or (λ seat. with_answer p at c (if starved then starve_fails seat else seat_fails fill seat)) (slice_get c.seats p) c
+fail_at p at starved fill c = option_map_or (λ seat. with_answer p at c (if starved then starve_fails fill seat else seat_fails fill seat)) (slice_get c.seats p) c
 
 -- hearing a message of the wire; one that isn't there or is for another node does nothing
 abbrev pub hear_at : ℕ → ℕ → Bool → ℕ → Cluster → Cluster

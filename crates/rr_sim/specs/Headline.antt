@@ -9,11 +9,14 @@ use Rattle.rr_types.specs.declared.message.Message.{Message}
 use Rattle.rr_types.specs.declared.refusal.Refusal.{Refusal}
 use Rattle.rr_types.specs.Registry.{Bindings, registry_of, reply_of, has_request}
 use Rattle.rr_model.specs.Laws.{after_steps}
+use Rattle.rr_model.specs.NodeState.{decided_prefix}
 use Rattle.rr_model.specs.Sound.{IsDecidedList, IsSound}
 use Rattle.rr_model.specs.World as world
 use Rattle.rr_model.specs.World.{World, Step, Told, Sent, Acknowledged, empty_world, IsRun, end_of}
 use Rattle.rr_node.specs.declared.event.NodeEvent.TheVariants as node
 use Rattle.rr_node.specs.Runs.{MayBe, MayFall}
+use Rattle.rr_node.specs.Seats.{Doing, Stopped, Faulted, Opening, Serving, Seat}
+use Rattle.rr_node.specs.Worlds.{InStep}
 use Rattle.rr_text.specs.declared.event.Event.{Event}
 use Rattle.rr_text.specs.declared.event.Event.TheVariants.{Submit, Hear, Suspect, Tick, Advance, Take, Device, Fail, Mark, Send, Ack, Snap, Crash, Restart}
 use Rattle.rr_text.specs.declared.report.Binding.{Binding}
@@ -59,36 +62,48 @@ AreStepsOf wire (Restart p) steps = MayBe p node.Restart steps
 abbrev pub IsNothingWhereRefused : ℕ → Event → Cluster → Cluster → List Step → Type 0
 IsNothingWhereRefused at e old new steps = (refusal : Refusal) → new.lines ≡ old.lines ++ line.Refuse at refusal ∷ [] → MayFall (node_of e) steps
 
--- a cluster and the world have the same messages on the wire, and the report tells what was told
-pub record IsAlike (c : Cluster) (w : World) : Type 0 where
+-- a cluster of n nodes and the world are alike: each node with its disk is in step with what the world has of it,
+-- both have the same messages on the wire, and the report tells what was told
+pub record IsAlike (n : ℕ) (c : Cluster) (w : World) : Type 0 where
+  pub count : length c.seats ≡ n
+  pub nodes : (p : ℕ) (seat : Seat) → slice_get c.seats p ≡ Some seat → InStep n p seat w
   pub wire : w.wire ≡ c.wire
   pub told : w.trace ≡ told_in c.lines
 
--- the events, of which the first stands on this line, lead from one cluster to another, and each takes the world
--- along by some steps of its own
-abbrev pub TakesAlong : ℕ → List Event → Cluster → World → List (List Step) → Cluster → Type 0
-TakesAlong at [] old w [] new = new ≡ old
-TakesAlong at [] old w (steps ∷ pieces) new = ⊥
-TakesAlong at (e ∷ es) old w [] new = ⊥
-TakesAlong at (e ∷ es) old w (steps ∷ pieces) new =
+-- the events, of which the first stands on this line, lead from one cluster of n nodes to another, and each takes the
+-- world along by some steps of its own, behind which cluster and world are alike
+abbrev pub TakesAlong : ℕ → ℕ → List Event → Cluster → World → List (List Step) → Cluster → Type 0
+TakesAlong n at [] old w [] new = new ≡ old
+TakesAlong n at [] old w (steps ∷ pieces) new = ⊥
+TakesAlong n at (e ∷ es) old w [] new = ⊥
+TakesAlong n at (e ∷ es) old w (steps ∷ pieces) new =
     (next : Cluster) × Steps at e old next × AreStepsOf old.wire e steps × IsNothingWhereRefused at e old next steps
-    × IsAlike next (after_steps w steps) × TakesAlong (at + 1) es next (after_steps w steps) pieces new
+    × IsAlike n next (after_steps w steps) × TakesAlong n (at + 1) es next (after_steps w steps) pieces new
 
 -- the steps of all pieces of a run, in turn
 abbrev pub in_turn : List (List Step) → List Step
 in_turn pieces = flat_map (λ piece. piece) pieces
 
--- the schedule run of n nodes is a sound run of the world, of a piece for each event; its wire and its trace are what the
--- report's lines say, and the report ends with the decided list of this wire
+-- what a node that serves has decided, by its marked facts, is a beginning of the list
+abbrev pub DecidesAsListed : List Command → Doing → Type 0
+DecidesAsListed list Stopped = Unit {0}
+DecidesAsListed list Faulted = Unit {0}
+DecidesAsListed list (Opening phase) = Unit {0}
+DecidesAsListed list (Serving s journal flush) = decided_prefix s ≡ take (length (decided_prefix s)) list
+
+-- the schedule run of n nodes is a sound run of the world, of a piece for each event; cluster and world are alike before
+-- the first event and behind each; the report has the lines of the last cluster and ends with the decided list of its
+-- wire, of which each node there has decided a beginning
 pub record IsRunOfTheWorld (n : ℕ) (events : List Event) (report : Reported) : Type 0 where
   pub pieces : List (List Step)
   pub at_the_end : Cluster
   pub is_a_run : IsRun n (in_turn pieces)
-  pub is_this_one : TakesAlong 2 events (new_cluster n) empty_world pieces at_the_end
+  pub starts_alike : IsAlike n (new_cluster n) empty_world
+  pub is_this_one : TakesAlong n 2 events (new_cluster n) empty_world pieces at_the_end
+  pub ends_alike : IsAlike n at_the_end (end_of (in_turn pieces))
   pub lines : report.lines ≡ at_the_end.lines
-  pub wire : (end_of (in_turn pieces)).wire ≡ at_the_end.wire
-  pub told : (end_of (in_turn pieces)).trace ≡ told_in report.lines
   pub decided : IsDecidedList n (end_of (in_turn pieces)).wire report.decided
+  pub nodes : (p : ℕ) (seat : Seat) → slice_get at_the_end.seats p ≡ Some seat → DecidesAsListed report.decided seat.doing
   pub is_sound : IsSound n (in_turn pieces)
 
 -- what a report tells agrees with the one list of commands that it ends with

@@ -1,53 +1,56 @@
 //! The decided list of a wire: the commands chosen for instance 0, 1 and on.
+//!
+//! The wire is gone over twice, for who acknowledged what and then for the proposals, and a message costs a few
+//! look-ups in a tree. An instance costs one more.
 
-ghost use Rattle.std.specs.Prelude.{◌≡◌, ℕ, ◌<◌, ◌↔◌, IsTrue, IfSome, IfNone, IfOk, IfErr, Option, None, Some};
-ghost use Rattle.rr_model.specs.Lawful.{count_below};
-ghost use Rattle.rr_model.specs.Sound.{IsChosen, IsChosenList, IsDecidedList};
+ghost use Rattle.std.specs.Prelude.{◌≡◌, ℕ, IfSome, IsSome, IfOk, IfErr};
+ghost use Rattle.std.specs.Ordering.{nat_cmp};
+ghost use Rattle.std.specs.BTreeMap.{get};
+ghost use Rattle.rr_model.specs.Sound.{IsChosen, IsDecidedList};
 ghost use Rattle.rr_types.specs.declared.command.Command.{Command};
-ghost use Rattle.rr_sim.specs.Chosen.{is_ack_of, has_acked, is_acked, chosen_by};
+ghost use Rattle.rr_sim.specs.Chosen.{has_ack, has_acked, is_majority, chosen_by};
 
 use rr_types::{Body, Command, Message, Nodes, Refusal, majority};
 use std::alloc::Global;
+use std::collections::{BTreeMap, BTreeSet};
 
-fn is_ack_of(instance: u64, round: u32, body: &Body) -> bool
-    ensures { result ≡ is_ack_of instance round body.now }
+/// Who acknowledged what: instance, round and node.
+fn acks_on(alloc: Global, wire: &[Message]) -> Result<BTreeSet<(u64, u32, u8)>, Refusal>
+    ensures acks { IfOk result (λ acks. (i r q : ℕ) → has_ack acks i r q ≡ has_acked wire.now i r q) }
+    ensures err { IfErr result (λ e. e ≡ Refusal.OutOfMemory) }
 {
-    match body {
-        Body::Ack(of, in_round) => u64::from(of.number()) == instance && in_round.number() == round,
-        _ => false,
+    let mut acks = BTreeSet::new(alloc);
+    for message in wire {
+        if let Body::Ack(instance, round) = message.body {
+            let instance = u64::from(instance.number());
+            acks.insert((instance, round.number(), message.from.index()))?;
+        }
     }
-}
-
-fn has_acked(wire: &[Message], instance: u64, round: u32, node: u8) -> bool
-    ensures { result ≡ has_acked wire.now instance round node }
-{
-    wire.iter().any(|message| message.from.index() == node
-        && is_ack_of(instance, round, &message.body))
+    Ok(acks)
 }
 
 /// Whether a majority has acknowledged the round.
-fn is_acked(nodes: Nodes, wire: &[Message], instance: u64, round: u32) -> bool
-    ensures { result ≡ is_acked nodes wire.now instance round }
+fn is_acked(nodes: Nodes, acks: &BTreeSet<(u64, u32, u8)>, instance: u64, round: u32) -> bool
+    ensures { result ≡ is_majority nodes (has_ack acks.now instance round) }
 {
     let mut count = 0u8;
     for node in 0..nodes.count() {
-        if has_acked(wire, instance, round, node) {
+        if acks.contains(&(instance, round, node)) {
             count += 1;
         }
     }
     count >= majority(nodes)
 }
 
-/// The command that a message proposes for the instance, where its round is acknowledged by a majority.
-fn chosen_by(nodes: Nodes, wire: &[Message], instance: u64, body: &Body) -> Option<Command>
-    ensures { result ≡ chosen_by nodes wire.now instance body.now }
+/// The instance and the command of a proposal whose round is acknowledged by a majority.
+fn chosen_by(nodes: Nodes, acks: &BTreeSet<(u64, u32, u8)>, body: &Body) -> Option<(u64, Command)>
+    ensures { result ≡ chosen_by nodes (has_ack acks.now) body.now }
 {
     match body {
         Body::Proposal(of, round, command) => {
-            if u64::from(of.number()) == instance
-                && is_acked(nodes, wire, instance, round.number())
-            {
-                Some(*command)
+            let instance = u64::from(of.number());
+            if is_acked(nodes, acks, instance, round.number()) {
+                Some((instance, *command))
             } else {
                 None
             }
@@ -56,18 +59,24 @@ fn chosen_by(nodes: Nodes, wire: &[Message], instance: u64, body: &Body) -> Opti
     }
 }
 
-/// The command chosen for an instance.
-fn chosen(nodes: Nodes, wire: &[Message], instance: u64) -> Option<Command>
-    ensures some { IfSome result (λ v. IsChosen nodes wire.now instance v) }
-    ensures none { result ≡ None → (v : Command) → IsChosen nodes wire.now instance v → ⊥ }
+/// The commands that are chosen, by their instances.
+fn chosen_on(
+    alloc: Global,
+    nodes: Nodes,
+    wire: &[Message],
+) -> Result<BTreeMap<u64, Command>, Refusal>
+    ensures chosen { IfOk result (λ found. (i : ℕ) → IfSome (get nat_cmp found i) (λ v. IsChosen nodes wire.now i v)) }
+    ensures all { IfOk result (λ found. (i : ℕ) (v : Command) → IsChosen nodes wire.now i v → IsSome (get nat_cmp found i)) }
+    ensures err { IfErr result (λ e. e ≡ Refusal.OutOfMemory) }
 {
+    let acks = acks_on(alloc, wire)?;
+    let mut found = BTreeMap::new(alloc);
     for message in wire {
-        let found = chosen_by(nodes, wire, instance, &message.body);
-        if found.is_some() {
-            return found;
+        if let Some((instance, command)) = chosen_by(nodes, &acks, &message.body) {
+            found.insert(instance, command)?;
         }
     }
-    None
+    Ok(found)
 }
 
 /// The longest list whose place i holds a command chosen for instance i.
@@ -75,9 +84,10 @@ pub fn decided_list(alloc: Global, nodes: Nodes, wire: &[Message]) -> Result<Vec
     ensures list { IfOk result (λ list. IsDecidedList nodes wire.now list.items) }
     ensures err { IfErr result (λ e. e ≡ Refusal.OutOfMemory) }
 {
+    let found = chosen_on(alloc, nodes, wire)?;
     let mut list = Vec::new(alloc);
-    while let Some(command) = chosen(nodes, wire, list.len() as u64) {
-        list.push(command)?;
+    while let Some(command) = found.get(&(list.len() as u64)) {
+        list.push(*command)?;
     }
     Ok(list)
 }

@@ -1,7 +1,8 @@
 //! A cluster of nodes with their disks: what each event of a schedule does to it.
 
-ghost use Rattle.std.specs.Prelude.{◌≡◌, ◌⊎◌, ◌++◌, length, option_to_list, Ok, OnOk, IfOk, IfErr};
+ghost use Rattle.std.specs.Prelude.{◌≡◌, ◌⊎◌, ◌↔◌, ◌++◌, length, option_to_list, IsTrue, Ok, OnOk, IfOk, IfErr};
 ghost use Rattle.rr_sim.specs.Clusters.{shown, note_of, new_cluster, at_node, fail_at, hear_at, crash_at, IsEither, Steps, IsSpeltAt, IsSpeltBehind};
+ghost use Rattle.rr_sim.specs.Random.{TellsOfWant, IsFailing, StepsInMemory};
 ghost use Rattle.rr_node.specs.Runs.{sent_by};
 
 use rr_disk::MemDisk;
@@ -121,6 +122,13 @@ fn push_some<T: Drop>(list: &mut Vec<T>, item: Option<T>) -> Result<(), Refusal>
         list.push(item)?;
     }
     Ok(())
+}
+
+/// Whether an event is a failing device call.
+fn is_failing(event: &Event) -> bool
+    ensures { IsTrue result ↔ IsFailing event.now }
+{
+    matches!(event, Event::Fail { .. })
 }
 
 impl Cluster {
@@ -318,5 +326,42 @@ impl Cluster {
             }
             Event::Fail { node, fill } => self.fail_at(alloc, *node, line, fill.as_bytes()),
         }
+    }
+
+    /// What the event of a line does where memory is there; `OutOfMemory` where it is wanting, as the answer tells. A
+    /// failing device call answers the same in both cases.
+    #[tactic(auto, using(crate::proofs::WantLaws::failing_in_memory))]
+    pub fn step_in_memory(&mut self, alloc: Global, line: u64, event: &Event) -> Result<(), Refusal>
+        ensures ok { OnOk result (StepsInMemory line event.now self.old self.new) }
+        ensures err { IfErr result (λ e. e ≡ Refusal.OutOfMemory) }
+    {
+        let told = self.count_of_lines();
+        self.step(alloc, line, event)?;
+        if is_failing(event) {
+            return Ok(());
+        }
+        if self.tells_of_want(told) {
+            return Err(Refusal::OutOfMemory);
+        }
+        Ok(())
+    }
+
+    fn count_of_lines(&self) -> usize
+        ensures { result ≡ length self.now.lines }
+    {
+        self.lines.len()
+    }
+
+    /// Whether the line of this number refuses an event for want of memory or by the device.
+    fn tells_of_want(&self, number: usize) -> bool
+        ensures { IsTrue result ↔ TellsOfWant self.now.lines number }
+    {
+        matches!(
+            self.lines.get(number),
+            Some(ReportLine::Refuse {
+                refusal: Refusal::OutOfMemory | Refusal::Device,
+                ..
+            })
+        )
     }
 }

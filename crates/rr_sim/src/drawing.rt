@@ -1,12 +1,10 @@
 //! Random schedules: each step of one is drawn from the words of a generator.
 
 ghost use Rattle.std.specs.Prelude.{◌≡◌, ◌≤◌, ◌<◌, ◌+◌, ◌%◌, ◌^◌, ◌++◌, ◌∷◌, [], length, IfOk, IfErr, OnOk};
-ghost use Rattle.rr_sim.specs.Clusters.{Leads, new_cluster};
-ghost use Rattle.rr_sim.specs.Random.{claim_of, hearing, event_of_kind, event_of_words, drawn, behind, opening_of, openings, Draws, IsRandom};
+ghost use Rattle.rr_sim.specs.Random.{claim_of, hearing, event_of_kind, event_of_words, drawn, behind, opening_of, openings, opened, Draws, IsRandom};
 ghost use Rattle.rr_text.specs.Scheduled.{IsEvent};
 
 use crate::cluster::Cluster;
-use crate::simulator::run_events;
 use rand_core::SeedableRng;
 use rand_core::utils::NextWord;
 use rand_pcg::Pcg32;
@@ -21,8 +19,9 @@ pub const MAX_STEPS: u32 = 999_930;
 const CALLS_OF_AN_OPENING: usize = 9;
 
 /// A random schedule: each node opens, and then come `steps` events, each drawn from two words of the generator of
-/// this seed and from the wire as the run has it by then. The same words give the same schedule.
-/// Errors: `OutOfMemory`.
+/// this seed and from the wire as the run has it by then. The same words give the same schedule, unless memory is
+/// wanting for a write that fails.
+/// Errors: `OutOfMemory`, also where memory is wanting for any other event of the run.
 #[tactic(auto, using(crate::proofs::DrawingLemmas::openings_count))]
 pub fn random(alloc: Global, nodes: Nodes, seed: u64, steps: u32) -> Result<Schedule, Refusal>
     requires { steps ≤ 999930 }
@@ -30,8 +29,7 @@ pub fn random(alloc: Global, nodes: Nodes, seed: u64, steps: u32) -> Result<Sche
     ensures err { IfErr result (λ e. e ≡ Refusal.OutOfMemory) }
 {
     let mut events = openings(alloc, nodes)?;
-    let mut cluster = Cluster::new(alloc, nodes)?;
-    run_events(alloc, &mut cluster, &events)?;
+    let mut cluster = opened(alloc, nodes, &events)?;
     let mut generator = Pcg32::seed_from_u64(seed);
     draw_all(
         alloc,
@@ -71,6 +69,22 @@ fn push_opening(events: &mut Vec<Event>, node: NodeId) -> Result<(), Refusal>
     Ok(())
 }
 
+/// The nodes behind the events by which they open their disks.
+#[tactic(auto, using(crate::proofs::DrawingLemmas::openings_count))]
+fn opened(alloc: Global, nodes: Nodes, events: &[Event]) -> Result<Cluster, Refusal>
+    requires { events.now ≡ openings nodes }
+    ensures ok { IfOk result (λ cluster. cluster ≡ opened nodes) }
+    ensures err { IfErr result (λ e. e ≡ Refusal.OutOfMemory) }
+{
+    let mut cluster = Cluster::new(alloc, nodes)?;
+    let mut line = 2u64;
+    for event in events {
+        cluster.step_in_memory(alloc, line, event)?;
+        line += 1;
+    }
+    Ok(cluster)
+}
+
 /// Draws so many events, the first of which stands behind those that are there, and runs them.
 #[tactic(auto, using(crate::proofs::DrawingLemmas::drawing_none))]
 fn draw_all(
@@ -88,7 +102,7 @@ fn draw_all(
     for _step in 0..steps {
         let line = events.len() as u64 + 2;
         let event = draw(alloc, nodes, generator, cluster.wire())?;
-        cluster.step(alloc, line, &event)?;
+        cluster.step_in_memory(alloc, line, &event)?;
         events.push(event)?;
     }
     Ok(())

@@ -122,11 +122,7 @@ fn cluster_after(alloc: Global, nodes: Nodes, events: &[Event]) -> Result<Cluste
 }
 
 /// Runs the events in order.
-pub(crate) fn run_events(
-    alloc: Global,
-    cluster: &mut Cluster,
-    events: &[Event],
-) -> Result<(), Refusal>
+fn run_events(alloc: Global, cluster: &mut Cluster, events: &[Event]) -> Result<(), Refusal>
     requires { length events.now ≤ 1000000 }
     ensures ok { OnOk result (Leads 2 events.now cluster.old cluster.new) }
     ensures spelt { OnOk result (LeadsSpelt 2 events.now cluster.old cluster.new) }

@@ -4,4 +4,4 @@ use Rattle.rr_sim.proofs.drawing.random.Goals as goal
 
 pub of_parts-requires : goal.of_parts-requires
 of_parts-requires c =
-    is_a_schedule c.args.nodes c.args.steps c.seed_from_u64-generator.result c.run_events.new.cluster c.draw_all.new.events.items (search rules) (search rules) (search rules) (search rules)
+    is_a_schedule c.args.nodes c.args.steps c.seed_from_u64-generator.result c.in_ok-cluster.cluster c.draw_all.new.events.items (search rules) (search rules) (search rules) (search rules)

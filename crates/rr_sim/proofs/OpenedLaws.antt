@@ -1,0 +1,41 @@
+-- The openings have no failing device call, so that the nodes behind them are always the same ones.
+use Rattle.std.proofs.Common.{◌≡◌, inl, inr, ℕ, zero, suc, ◌+◌, List, [], ◌∷◌, replicate, ◌∙◌, ap, subst}
+use Rattle.std.specs.Prelude.{false}
+use Rattle.std.specs.List.{AllByRecursion, flat_map, range_with_len}
+use Rattle.rr_text.specs.declared.event.Event.{Event}
+use Rattle.rr_text.specs.declared.event.Event.TheVariants.{Device}
+use Rattle.rr_sim.specs.Clusters.{Cluster, new_cluster, event_step}
+use Rattle.rr_sim.specs.Random.{opening_of, openings, IsFailing, StepsInMemory, after_events, opened}
+use Rattle.rr_sim.proofs.DrawingLemmas.{each_of_both}
+
+-- the events, of which the first stands on this line, lead from one cluster to another as they do where memory is there
+abbrev pub LeadsInMemory : ℕ → List Event → Cluster → Cluster → Type 0
+LeadsInMemory at [] old new = new ≡ old
+LeadsInMemory at (e ∷ es) old new = (next : Cluster) × StepsInMemory at e old next × LeadsInMemory (at + 1) es next new
+
+-- none of the events is a failing device call
+abbrev pub AreCalm : List Event → Type 0
+AreCalm events = AllByRecursion (λ e. IsFailing e → ⊥) events
+
+calls_are_calm : (p k : ℕ) → AreCalm (replicate k (Device p))
+calls_are_calm p zero = tt
+calls_are_calm p (suc k) = (λ f. absurd (let e = f.2 in cc), calls_are_calm p k)
+
+opening_is_calm : (p : ℕ) → AreCalm (opening_of p)
+opening_is_calm p = (λ f. absurd (let e = f.2 in cc), calls_are_calm p 9)
+
+openings_are_calm : (a k : ℕ) → AreCalm (flat_map opening_of (range_with_len a k))
+openings_are_calm a zero = tt
+openings_are_calm a (suc k) = each_of_both (λ e. IsFailing e → ⊥) (opening_of a) (flat_map opening_of (range_with_len (a + 1) k)) (opening_is_calm a) (openings_are_calm (a + 1) k)
+
+-- such events lead to one cluster alone
+calm_leads : (at : ℕ) (events : List Event) (old new : Cluster) → AreCalm events → LeadsInMemory at events old new → new ≡ after_events at events old
+calm_leads at [] old new calm led = led
+calm_leads at (e ∷ es) old new (no_failure, calm) (next, step, led) = calm_leads (at + 1) es next new calm led ∙ ap (after_events (at + 1) es) (sure step)
+  where
+    sure : StepsInMemory at e old next → next ≡ event_step at false e old
+    sure (inl is) = is
+    sure (inr (fails, is)) = absurd (no_failure fails)
+
+pub opened_so : (n : ℕ) (events : List Event) (new : Cluster) → events ≡ openings n → LeadsInMemory 2 events (new_cluster n) new → new ≡ opened n
+opened_so n events new is led = calm_leads 2 (openings n) (new_cluster n) new (openings_are_calm 0 n) (subst (λ (es : List Event). LeadsInMemory 2 es (new_cluster n) new) is led)
