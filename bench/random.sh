@@ -1,7 +1,8 @@
 #!/usr/bin/env bash
 # Random schedules, in one run: of 10,000, 100,000 and 900,000 events on three nodes the events a second, which should
-# differ by at most half; and of 90,000 and of 900,000 steps on three and on seven nodes the most memory of `rr sim`, which
-# should be in proportion to what was sent and logged.
+# differ by at most half; and of 90,000 and of 900,000 steps on three and on seven nodes the events a second of `rr sim`, from
+# the program's start to its end, which should differ by at most half too, and its most memory, which should be in proportion
+# to what was sent and logged.
 # bench/random.sh [ROUNDS [SEED]]
 set -euo pipefail
 rounds=${1:-7}
@@ -34,7 +35,9 @@ child = subprocess.Popen([rr, "sim", schedule], stdout=subprocess.DEVNULL)
 _, status, used = os.wait4(child.pid, 0)
 seconds = time.monotonic() - begun
 assert status == 0
-print(f"{nodes} nodes, {steps:>7} steps: {seconds:7.2f} s, {used.ru_maxrss / 1024:6.0f} MB")
+with open(schedule) as lines:
+    events = sum(1 for _ in lines) - 1
+print(f"{nodes} nodes, {steps:>7} steps: {seconds:7.3f} s, {events / seconds:9.0f} events a second, {used.ru_maxrss / 1024:6.0f} MB")
 PYTHON
     done
 done
