@@ -86,13 +86,10 @@ fn changed(rt: &HostRuntime, at: usize, byte: u8) -> Result<Vec<u8>, Fail> {
     Ok(bytes)
 }
 
-/// Asserts that `rr show` tells this of areas.
-fn assert_told(rt: &HostRuntime, first: &[u8], second: &[u8], text: &str) -> Result<(), Fail> {
+/// Whether `rr show` tells this of areas, and nothing else.
+fn is_told(rt: &HostRuntime, first: &[u8], second: &[u8], text: &str) -> Result<bool, Fail> {
     let ran = shown(rt, "rr_cli_held", first, second)?;
-    assert_eq!(rt; ran.out.as_str(), text);
-    assert_eq!(rt; ran.status, 0);
-    assert!(rt; ran.err.is_empty());
-    Ok(())
+    Ok(ran.status == 0 && ran.out.as_str() == text && ran.err.is_empty())
 }
 
 #[test]
@@ -102,10 +99,11 @@ fn tells_what_areas_hold(rt: HostRuntime) -> Result<(), Fail> {
         area 1 epoch 2 node 0 of 1 facts 4 decided 1\n";
     let again = "area 0 epoch 3 node 0 of 1 facts 4 decided 1\n\
         area 1 epoch 2 node 0 of 1 facts 4 decided 1\n";
-    assert_told(&rt, area(), &[], one)?;
-    assert_told(&rt, area(), snapshot(), moved)?;
-    assert_told(&rt, cut(area(), 155), snapshot(), moved)?;
-    assert_told(&rt, second_snapshot(), snapshot(), again)
+    assert!(rt; is_told(&rt, area(), &[], one)?);
+    assert!(rt; is_told(&rt, area(), snapshot(), moved)?);
+    assert!(rt; is_told(&rt, cut(area(), 155), snapshot(), moved)?);
+    assert!(rt; is_told(&rt, second_snapshot(), snapshot(), again)?);
+    Ok(())
 }
 
 #[test]
@@ -113,39 +111,39 @@ fn tells_what_stands_before_a_closed_gate(rt: HostRuntime) -> Result<(), Fail> {
     let none = "area 0 epoch 1 node 0 of 1 facts 0 decided 0\narea 1 unformatted\n";
     let three = "area 0 epoch 1 node 0 of 1 facts 3 decided 0\narea 1 unformatted\n";
     let blank = "area 0 unformatted\narea 1 unformatted\n";
-    assert_told(&rt, &[], &[], blank)?;
-    assert_told(&rt, &[0xA5], &[7, 7, 7], blank)?;
-    assert_told(&rt, &changed(&rt, 155, 0)?, &[], three)?;
-    assert_told(&rt, &changed(&rt, 28, 0xA4)?, &[], none)?;
-    assert_told(&rt, &changed(&rt, 0, 0)?, &[], blank)
+    assert!(rt; is_told(&rt, &[], &[], blank)?);
+    assert!(rt; is_told(&rt, &[0xA5], &[7, 7, 7], blank)?);
+    assert!(rt; is_told(&rt, &changed(&rt, 155, 0)?, &[], three)?);
+    assert!(rt; is_told(&rt, &changed(&rt, 28, 0xA4)?, &[], none)?);
+    assert!(rt; is_told(&rt, &changed(&rt, 0, 0)?, &[], blank)?);
+    Ok(())
 }
 
-/// Asserts that `rr show` refuses areas with this line.
-fn assert_broken(rt: &HostRuntime, first: &[u8], second: &[u8], line: &str) -> Result<(), Fail> {
+/// Whether `rr show` refuses areas with this line, and prints nothing.
+fn is_refused(rt: &HostRuntime, first: &[u8], second: &[u8], line: &str) -> Result<bool, Fail> {
     let ran = shown(rt, "rr_cli_broken", first, second)?;
-    assert_eq!(rt; ran.err.as_str(), line);
-    assert_eq!(rt; ran.status, 4);
-    assert!(rt; ran.out.is_empty());
-    Ok(())
+    Ok(ran.status == 4 && ran.err.as_str() == line && ran.out.is_empty())
 }
 
 #[test]
 fn tells_where_an_area_is_broken(rt: HostRuntime) -> Result<(), Fail> {
     let last = "rr: 3 Damaged 0 155\n";
-    assert_broken(&rt, cut(area(), 155), &[], "rr: 3 Damaged 0 114\n")?;
-    assert_broken(&rt, cut(area(), 192), &[], last)?;
-    assert_broken(&rt, &[], cut(area(), 192), "rr: 3 Damaged 1 155\n")?;
-    assert_broken(&rt, &changed(&rt, 167, 4)?, &[], last)?;
-    assert_broken(&rt, &changed(&rt, 170, 5)?, &[], last)?;
-    assert_broken(&rt, &changed(&rt, 159, 33)?, &[], last)?;
-    assert_broken(&rt, &changed(&rt, 6, 2)?, &[], "rr: 3 Damaged 0 0\n")
+    assert!(rt; is_refused(&rt, cut(area(), 155), &[], "rr: 3 Damaged 0 114\n")?);
+    assert!(rt; is_refused(&rt, cut(area(), 192), &[], last)?);
+    assert!(rt; is_refused(&rt, &[], cut(area(), 192), "rr: 3 Damaged 1 155\n")?);
+    assert!(rt; is_refused(&rt, &changed(&rt, 167, 4)?, &[], last)?);
+    assert!(rt; is_refused(&rt, &changed(&rt, 170, 5)?, &[], last)?);
+    assert!(rt; is_refused(&rt, &changed(&rt, 159, 33)?, &[], last)?);
+    assert!(rt; is_refused(&rt, &changed(&rt, 6, 2)?, &[], "rr: 3 Damaged 0 0\n")?);
+    Ok(())
 }
 
 #[test]
 fn tells_which_of_two_areas_is_broken(rt: HostRuntime) -> Result<(), Fail> {
     let second = "rr: 3 Damaged 1 0\n";
-    assert_broken(&rt, area(), cut(snapshot(), 50), second)?;
-    assert_broken(&rt, area(), area(), second)
+    assert!(rt; is_refused(&rt, area(), cut(snapshot(), 50), second)?);
+    assert!(rt; is_refused(&rt, area(), area(), second)?);
+    Ok(())
 }
 
 #[test]
