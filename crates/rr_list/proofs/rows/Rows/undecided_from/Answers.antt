@@ -29,13 +29,13 @@ returns-clause-value c =
     let inv = c.loop-instance.invariant in
     let over = c.loop-instance-test.false in
     let value = c.search.ensures.value in
-    elim c.if-instances-lt-WINDOW.branch
-    [ then-instances-lt-WINDOW w ↦
-      let few = w.if-instances-lt-WINDOW in
-      let end = drop_all c.loop-instance.instance-index c.as_slice-instances.result.now over in
-      let there = c.loop-instance.auto.instance-index-end in
-      value
-      ∙ ap (λ f. undecided_from f c.args.self.now) w.from-is
-      ∙ none_left c.args.self.now inv.0 c.args.from c.loop-instance.instance-index c.requires.ascend inv.1 c.requires.range (omega (arith, few, there)) (sym end ∙ inv.2)
-    | else-instances-lt-WINDOW w ↦ value ∙ ap (λ f. undecided_from f c.args.self.now) w.from-is
+    elim c.if-instances-lt-WINDOW.branch [
+      | then-instances-lt-WINDOW w ↦
+          let few = w.if-instances-lt-WINDOW in
+          let end = drop_all c.loop-instance.instance-index c.as_slice-instances.result.now over in
+          let there = c.loop-instance.auto.instance-index-end in
+          value
+          ∙ ap (λ f. undecided_from f c.args.self.now) w.from-is
+          ∙ none_left c.args.self.now inv.0 c.args.from c.loop-instance.instance-index c.requires.ascend inv.1 c.requires.range (omega (arith, few, there)) (sym end ∙ inv.2)
+      | else-instances-lt-WINDOW w ↦ value ∙ ap (λ f. undecided_from f c.args.self.now) w.from-is
     ]
