@@ -24,6 +24,7 @@ use Rattle.rr_node.specs.declared.serving.Serving.{Serving}
 use Rattle.rr_node.specs.declared.serving.Flush as code_2
 use Rattle.rr_node.specs.declared.serving.Flush.TheVariants as flush
 use Rattle.rr_node.specs.declared.event.NodeEvent.{NodeEvent}
+use Rattle.rr_node.specs.declared.event.NodeEvent.TheVariants as at
 use Rattle.rr_node.specs.declared.event.Outcome.{Outcome}
 use Rattle.rr_node.specs.declared.event.Outcome.TheVariants.{Quiet}
 use Rattle.rr_node.specs.Seats as seats
@@ -150,6 +151,13 @@ IsSteady n p (does.Stopped disk) = disk.due ≡ None
 IsSteady n p (does.Faulted disk) = disk.due ≡ None
 IsSteady n p (does.Opening o) = (o.nodes ≡ n) × (o.node ≡ p) × (o.disk.due ≡ None)
 IsSteady n p (does.Serving s) = IsServing n p s
+
+-- the events that a node takes: a restart where it is down or has failed, its device calls while it opens, and any while it serves
+abbrev pub Takes : NodeEvent → seats.Doing → Type 0
+Takes event seats.Stopped = event ≡ at.Restart
+Takes event seats.Faulted = event ≡ at.Restart
+Takes event (seats.Opening phase) = event ≡ at.Device
+Takes event (seats.Serving s journal flush) = Unit {0}
 
 -- from one steady doing an event leads, with this answer, to another as the definitions say
 abbrev pub Carries : ℕ → ℕ → NodeEvent → code.Doing → Result Outcome Refusal → code.Doing → Type 0

@@ -1,12 +1,14 @@
 //! What a node does: nothing, an opening, or its service.
 
-ghost use Rattle.std.specs.Prelude.{◌≡◌, ◌<◌, ◌↔◌, ℕ, None, IsTrue, IfOk, IfErr};
+ghost use Rattle.std.specs.Prelude.{◌≡◌, ◌<◌, ◌↔◌, ℕ, None, Err, IsTrue, IsSome, IfSome, IfOk, IfErr};
 ghost use Rattle.rr_types.specs.Registry.{registry_of};
 ghost use Rattle.rr_model.specs.NodeState.{decided_prefix};
 ghost use Rattle.rr_types.specs.declared.refusal.Refusal.TheVariants.{OutOfMemory, Device};
 ghost use Rattle.rr_journal.specs.Openings.{Settling};
+ghost use Rattle.rr_node.specs.Runs.{IsSpelt};
 ghost use Rattle.rr_node.specs.Seats as seats;
-ghost use Rattle.rr_node.specs.Views.{Carries, CarriesFailing, Serves, IsSteady, areas_of, calls_of, doing_of, due_of};
+ghost use Rattle.rr_node.specs.Seats.{seat_step};
+ghost use Rattle.rr_node.specs.Views.{Carries, CarriesFailing, Serves, IsSteady, Takes, areas_of, calls_of, doing_of, due_of, seat_of};
 
 use crate::event::{BoundNames, NodeEvent, Outcome};
 use crate::serving::Serving;
@@ -46,9 +48,34 @@ impl Doing {
             Doing::Serving(serving) => serving.into_disk(),
         }
     }
+
+    /// The refusal of an event that the node doesn't take: of all but a restart while it is down or has failed, of all
+    /// but its device calls while it opens, and of none while it serves. What is refused so moves nothing.
+    pub fn refusal_of(&self, event: &NodeEvent) -> Option<Refusal>
+        ensures refused { (n p : ℕ) → IfSome result (λ e. seat_step event.now (seat_of n p self.now) ≡ (Err e, seat_of n p self.now)) }
+        ensures spelt { IsSome result → IsSpelt (doing_of self.now) }
+        ensures taken { result ≡ None → Takes event.now (doing_of self.now) }
+    {
+        match self {
+            Doing::Stopped(_) => match event {
+                NodeEvent::Restart => None,
+                _ => Some(Refusal::Down),
+            },
+            Doing::Faulted(_) => match event {
+                NodeEvent::Restart => None,
+                _ => Some(Refusal::Failed),
+            },
+            Doing::Opening(_) => match event {
+                NodeEvent::Device => None,
+                NodeEvent::Restart => Some(Refusal::Busy),
+                _ => Some(Refusal::Down),
+            },
+            Doing::Serving(_) => None,
+        }
+    }
 }
 
-/// An event at a node, and what it does afterwards.
+/// An event that a node takes, and what it does afterwards.
 pub fn go_on(
     alloc: Global,
     nodes: Nodes,
@@ -58,22 +85,13 @@ pub fn go_on(
 ) -> (Doing, Result<Outcome, Refusal>)
     requires steady { IsSteady nodes node doing }
     requires exists { node < nodes }
+    requires taken { Takes event (doing_of doing) }
     ensures { Carries nodes node event doing result.1 result.0 }
 {
     match doing {
-        Doing::Stopped(disk) => match event {
-            NodeEvent::Restart => (restart(nodes, node, disk), Ok(Outcome::Quiet)),
-            _ => (Doing::Stopped(disk), Err(Refusal::Down)),
-        },
-        Doing::Faulted(disk) => match event {
-            NodeEvent::Restart => (restart(nodes, node, disk), Ok(Outcome::Quiet)),
-            _ => (Doing::Faulted(disk), Err(Refusal::Failed)),
-        },
-        Doing::Opening(opening) => match event {
-            NodeEvent::Device => open_on(alloc, opening),
-            NodeEvent::Restart => (Doing::Opening(opening), Err(Refusal::Busy)),
-            _ => (Doing::Opening(opening), Err(Refusal::Down)),
-        },
+        Doing::Stopped(disk) => (restart(nodes, node, disk), Ok(Outcome::Quiet)),
+        Doing::Faulted(disk) => (restart(nodes, node, disk), Ok(Outcome::Quiet)),
+        Doing::Opening(opening) => open_on(alloc, opening),
         Doing::Serving(serving) => serving.go_on(alloc, event),
     }
 }

@@ -3,6 +3,7 @@
 ghost use Rattle.std.specs.Prelude.{◌≡◌, ◌≢◌, ◌<◌};
 ghost use Rattle.rr_node.specs.Runs.{IsSpelt};
 ghost use Rattle.rr_node.specs.Seats.{Stopped, Gives, Fails, AtMostOneCall, crashed};
+ghost use Rattle.rr_node.specs.Views.{Takes};
 
 use crate::doing::{Doing, fail, go_on};
 use crate::event::{NodeEvent, Outcome};
@@ -61,6 +62,20 @@ impl Node {
     /// failed.
     /// Errors: `OutOfMemory`, `Device`, `Damaged`, `Failed`, `Down`, `ListFull`, `RoundsOut`, `Busy`, `TooLarge`.
     pub fn step(&mut self, alloc: Global, event: NodeEvent) -> Result<Outcome, Refusal>
+        ensures gives { Gives event self.old result self.new }
+        ensures one_call { AtMostOneCall self.old self.new }
+        ensures no_call { event ≢ NodeEvent.Device → self.new.calls ≡ self.old.calls }
+        ensures spelt { IsSpelt self.new.doing }
+    {
+        match self.doing.refusal_of(&event) {
+            Some(refusal) => Err(refusal),
+            None => self.go_on(alloc, event),
+        }
+    }
+
+    /// An event that the node takes.
+    fn go_on(&mut self, alloc: Global, event: NodeEvent) -> Result<Outcome, Refusal>
+        requires { Takes event self.old.doing }
         ensures gives { Gives event self.old result self.new }
         ensures one_call { AtMostOneCall self.old self.new }
         ensures no_call { event ≢ NodeEvent.Device → self.new.calls ≡ self.old.calls }

@@ -1,6 +1,6 @@
 use Rattle.rr_node.specs.Views.{seat_of}
 use Rattle.rr_node.proofs.CallLaws.{gives_none, gives_one, gave}
-use Rattle.rr_node.proofs.node.Node.step.Goals as goal
+use Rattle.rr_node.proofs.node.Node.go_on.Goals as goal
 
 pub returns-clause-one_call : goal.returns-clause-one_call
 returns-clause-one_call c =
