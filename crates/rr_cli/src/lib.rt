@@ -14,6 +14,3 @@ pub use refusals::{print_refusal, status};
 pub use show::show_disk;
 pub use streams::end_without_words;
 pub use words::{Task, read_words};
-
-#[cfg(test)]
-mod tests;

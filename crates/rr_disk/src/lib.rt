@@ -21,8 +21,3 @@ pub use disk::Disk;
 pub use failing::FailingDisk;
 pub use file::FileDisk;
 pub use memory::MemDisk;
-
-#[cfg(test)]
-mod file_tests;
-#[cfg(test)]
-mod tests;

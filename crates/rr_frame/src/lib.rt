@@ -19,8 +19,3 @@ pub use number::{put_u8, put_u16, put_u32, put_u64};
 pub use reader::Reader;
 pub use snapshot::{Snapshot, decode_snapshot, encode_snapshot, read_snapshot};
 pub use stop::{Fault, Stop};
-
-#[cfg(test)]
-mod sweeps;
-#[cfg(test)]
-mod tests;

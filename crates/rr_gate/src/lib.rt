@@ -15,6 +15,3 @@ pub use host::Host;
 pub use job::{Body, BodyOut, BodySafe, GateSet, Job};
 pub use opened::Opened;
 pub use synced::Synced;
-
-#[cfg(test)]
-mod tests;

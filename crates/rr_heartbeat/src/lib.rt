@@ -15,6 +15,3 @@ pub use heartbeat::Heartbeat;
 pub fn suspects_by_the_rule()
     ensures { (n q : ℕ) (events : List Event) → FollowsTheRule n q events }
 {}
-
-#[cfg(test)]
-mod tests;

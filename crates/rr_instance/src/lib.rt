@@ -9,6 +9,3 @@ pub use standing::{
     decision_in, entered, estimate_at, next_round, proposal_in, round_in, stamp_in, with_adopted,
     with_proposal,
 };
-
-#[cfg(test)]
-mod tests;

@@ -14,8 +14,3 @@ pub use image::{Image, read_image};
 pub use journal::{Journal, frame};
 pub use opening::{Opening, Progress};
 pub use stage::Stage;
-
-#[cfg(test)]
-mod sweeps;
-#[cfg(test)]
-mod tests;

@@ -15,6 +15,3 @@ pub use arrivals::{Requested, Values};
 pub use instances::Instances;
 pub use pool::Pool;
 pub use waiting::Waiting;
-
-#[cfg(test)]
-mod tests;

@@ -11,6 +11,3 @@ pub use entries::Entries;
 pub use holding::Holding;
 pub use registry::Registry;
 pub use tables::MAX_BOUND;
-
-#[cfg(test)]
-mod tests;

@@ -14,6 +14,3 @@ pub use tally::{Tally, Vote};
 pub fn keeps_the_first_of_each_sender()
     ensures { (votes : List Vote) → KeepsFirsts votes }
 {}
-
-#[cfg(test)]
-mod tests;

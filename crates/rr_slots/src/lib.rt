@@ -13,8 +13,3 @@ mod switch;
 pub use inspection::{AreaReport, inspect, inspect_bytes};
 pub use slots::Slots;
 pub use switch::{SwitchJob, Switching};
-
-#[cfg(test)]
-mod inspection_tests;
-#[cfg(test)]
-mod tests;

@@ -16,6 +16,3 @@ pub fn laws_of_receipts()
     ensures it_is_complete { (set node : ℕ) (receipts : List Receipt) → IsCompleteOver set node receipts }
     ensures it_invents_nothing { (set node : ℕ) (receipts : List Receipt) → InventsNothing set node receipts }
 {}
-
-#[cfg(test)]
-mod tests;

@@ -11,6 +11,3 @@ mod tape_text;
 pub use tape::Tape;
 pub use tape_event::TapeEvent;
 pub use tape_law::one_tape_fault;
-
-#[cfg(test)]
-mod tests;

@@ -16,6 +16,3 @@ pub use event::{Event, Fill};
 pub use report::{Binding, BoundNames, Report, ReportLine};
 pub use schedule::{MAX_EVENTS, Schedule};
 pub use text_law::one_fault;
-
-#[cfg(test)]
-mod tests;

@@ -6,8 +6,6 @@
 
 mod decoding;
 mod encoding;
-#[cfg(test)]
-mod tests;
 
 pub use decoding::decode;
 pub use encoding::encode;

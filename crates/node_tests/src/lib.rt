@@ -1,0 +1,15 @@
+//! Tests of a node's parts: the failure detectors, an instance's rounds and tallies, the tables and the registry.
+#![tactic(auto)]
+
+#[cfg(test)]
+mod heartbeat;
+#[cfg(test)]
+mod instance;
+#[cfg(test)]
+mod list;
+#[cfg(test)]
+mod registry;
+#[cfg(test)]
+mod suspects;
+#[cfg(test)]
+mod tally;

@@ -1,0 +1,11 @@
+//! Tests of the program `rr` over memory: what it prints, and with which status it ends.
+#![tactic(auto)]
+
+#[cfg(test)]
+mod drawn;
+#[cfg(test)]
+mod rows;
+#[cfg(test)]
+mod runs;
+#[cfg(test)]
+mod shown;

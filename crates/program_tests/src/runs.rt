@@ -1,0 +1,216 @@
+//! Runs of the program over memory.
+
+use crate::rows::rows;
+use rr_cli::{end_without_words, execute, print_refusal, report_on, status};
+use rr_types::Refusal;
+use std::alloc::AllocError;
+use std::io;
+use std::io::{ErrorKind, Read, Write};
+use std::test::Fail;
+
+/// What a run gave: its exit status, standard output and standard error.
+#[derive(Drop)]
+pub struct Outcome {
+    pub status: u8,
+    pub out: String,
+    pub err: String,
+}
+
+pub fn run<I: Read>(rt: &HostRuntime, words: &[&str], input: &mut I) -> Result<Outcome, Fail> {
+    let mut out = Vec::new(rt.alloc());
+    let mut err = Vec::new(rt.alloc());
+    let status = execute(rt, words, input, &mut out, &mut err);
+    Ok(Outcome {
+        status,
+        out: String::from_utf8(out)?,
+        err: String::from_utf8(err)?,
+    })
+}
+
+#[test]
+fn prints_each_row(rt: HostRuntime) -> Result<(), Fail> {
+    for row in rows() {
+        let ran = run(&rt, &["rr", "sim"], &mut row.schedule.as_bytes())?;
+        assert_eq!(rt; ran.out.as_str(), row.report, "the report of {}", row.name);
+        assert_eq!(rt; ran.err.as_str(), row.error, "the error of {}", row.name);
+        assert_eq!(rt; ran.status, row.status, "the status of {}", row.name);
+    }
+    Ok(())
+}
+
+#[test]
+fn reports_on_bytes(rt: HostRuntime) -> Result<(), Fail> {
+    let report = report_on(rt.alloc(), b"nodes 3\n")?;
+    assert!(rt; report.as_slice() == b"decided 0\n".as_slice());
+    Ok(())
+}
+
+#[test]
+fn tells_refusals(rt: HostRuntime) -> Result<(), Fail> {
+    let wanted = [
+        (Refusal::OutOfMemory, 6, "rr: 1 OutOfMemory\n"),
+        (
+            Refusal::Damaged {
+                area: 0,
+                offset: 155,
+            },
+            4,
+            "rr: 3 Damaged 0 155\n",
+        ),
+        (Refusal::BadNodes, 3, "rr: 6 BadNodes\n"),
+        (Refusal::BadEvent(7), 3, "rr: 14 BadEvent 7\n"),
+        (Refusal::SeatsTaken, 5, "rr: 15 SeatsTaken\n"),
+        (Refusal::TooLarge, 5, "rr: 16 TooLarge\n"),
+        (Refusal::AuditNo(3), 7, "rr: 17 AuditNo 3\n"),
+    ];
+    for (refusal, number, line) in &wanted {
+        let mut err = Vec::new(rt.alloc());
+        print_refusal(&mut err, refusal)?;
+        assert!(rt; err.as_slice() == line.as_bytes(), "the line {line:?}");
+        assert_eq!(rt; status(refusal), *number, "the status of {line:?}");
+    }
+    Ok(())
+}
+
+#[test]
+fn reads_words(rt: HostRuntime) -> Result<(), Fail> {
+    let version = run(&rt, &["rr", "--version"], &mut &b""[..])?;
+    assert_eq!(rt; version.status, 0);
+    assert_eq!(rt; version.out.as_str(), "rr 0.1.0\n");
+    let help = run(&rt, &["rr", "--help"], &mut &b""[..])?;
+    assert_eq!(rt; help.status, 0);
+    assert!(rt; help.out.as_str().contains("Usage: rr <COMMAND>"));
+    assert!(rt; help.err.is_empty());
+    let wrong: [(&[&str], &str); 7] = [
+        (
+            &["rr", "show"],
+            "error: the following required arguments were not provided:\n  <DIR>\n",
+        ),
+        (
+            &["rr", "show", "a", "b"],
+            "error: unexpected argument 'b' found",
+        ),
+        (&["rr"], "A replicated name registry"),
+        (
+            &["rr", "shows", "dir"],
+            "error: unrecognized subcommand 'shows'",
+        ),
+        (
+            &["rr", "sim", "a", "b"],
+            "error: unexpected argument 'b' found",
+        ),
+        (
+            &["rr", "sim", "--seed", "1"],
+            "error: unexpected argument '--seed' found",
+        ),
+        (&["rr", "-x"], "error: unexpected argument '-x' found"),
+    ];
+    for (words, start) in &wrong {
+        let ran = run(&rt, *words, &mut &b"nodes 3\n"[..])?;
+        assert_eq!(rt; ran.status, 2, "the status of {start:?}");
+        assert!(rt; ran.out.is_empty(), "no output at {start:?}");
+        assert!(rt;
+            ran.err.as_str().starts_with(*start),
+            "the error {:?}",
+            ran.err
+        );
+    }
+    let mut err = Vec::new(rt.alloc());
+    let status = end_without_words(&mut err, &io::Error::new(ErrorKind::InvalidData, "no text"));
+    assert_eq!(rt; status, 2);
+    assert!(rt; err.as_slice() == b"rr: words: no text\n".as_slice());
+    Ok(())
+}
+
+#[test]
+fn tells_files_that_fail(rt: HostRuntime) -> Result<(), Fail> {
+    let wanted = [
+        (
+            "no/such/file",
+            "rr: no/such/file: No such file or directory (os error 2)\n",
+        ),
+        ("/", "rr: /: Is a directory (os error 21)\n"),
+    ];
+    for (file, line) in &wanted {
+        let ran = run(&rt, &["rr", "sim", *file], &mut &b"nodes 3\n"[..])?;
+        assert_eq!(rt; ran.status, 5);
+        assert_eq!(rt; ran.err.as_str(), *line);
+        assert!(rt; ran.out.is_empty());
+    }
+    Ok(())
+}
+
+/// A reader that fails behind its first bytes.
+#[derive(Drop)]
+struct Torn {
+    given: bool,
+}
+
+impl Read for Torn {
+    fn read(&mut self, buf: &mut [u8]) -> io::Result<usize> {
+        let first = b"nodes 3\n";
+        if self.given || buf.len() < first.len() {
+            return Err(io::Error::new(ErrorKind::Other, "torn"));
+        }
+        self.given = true;
+        buf[..first.len()].copy_from_slice(first);
+        Ok(first.len())
+    }
+}
+
+/// A writer that takes nothing.
+#[derive(Drop)]
+struct Closed;
+
+impl Write for Closed {
+    fn write(&mut self, _buf: &[u8]) -> io::Result<usize> {
+        Err(io::Error::new(ErrorKind::BrokenPipe, "closed"))
+    }
+
+    fn flush(&mut self) -> io::Result<()> {
+        Ok(())
+    }
+}
+
+#[test]
+fn tells_streams_that_fail(rt: HostRuntime) -> Result<(), Fail> {
+    let ran = run(&rt, &["rr", "sim"], &mut Torn { given: false })?;
+    assert_eq!(rt; ran.status, 5);
+    assert_eq!(rt; ran.err.as_str(), "rr: standard input: torn\n");
+    assert!(rt; ran.out.is_empty());
+    let mut err = Vec::new(rt.alloc());
+    let mut input = &b"nodes 3\n"[..];
+    let status = execute(&rt, &["rr", "sim"], &mut input, &mut Closed, &mut err);
+    assert!(rt; err.as_slice() == b"rr: standard output: closed\n".as_slice());
+    assert_eq!(rt; status, 5);
+    let status = execute(&rt, &["rr", "--help"], &mut input, &mut Closed, &mut Closed);
+    assert_eq!(rt; status, 5);
+    Ok(())
+}
+
+fn repeated(
+    rt: &HostRuntime,
+    first: &[u8],
+    text: &[u8],
+    count: u32,
+) -> Result<Vec<u8>, AllocError> {
+    let mut bytes = Vec::from_slice(rt.alloc(), first)?;
+    for _ in 0..count {
+        bytes.extend_from_slice(text)?;
+    }
+    Ok(bytes)
+}
+
+#[test]
+fn refuses_long_input(rt: HostRuntime) -> Result<(), Fail> {
+    let line = repeated(&rt, b"nodes 3\ntick ", b"aaaaaaaaaa", 1_000_000)?;
+    let ran = run(&rt, &["rr", "sim"], &mut line.as_slice())?;
+    assert_eq!(rt; ran.err.as_str(), "rr: 14 BadEvent 2\n");
+    assert_eq!(rt; ran.status, 3);
+    let events = repeated(&rt, b"nodes 1\n", b"dev 0\n", 1_000_001)?;
+    let ran = run(&rt, &["rr", "sim"], &mut events.as_slice())?;
+    assert_eq!(rt; ran.err.as_str(), "rr: 14 BadEvent 1000002\n");
+    assert_eq!(rt; ran.status, 3);
+    assert!(rt; ran.out.is_empty());
+    Ok(())
+}

@@ -1,0 +1,176 @@
+//! Spelled examples of each kind, with each byte at each of its values, and cut at each place.
+
+use rr_frame::{
+    Snapshot, decode_fact, decode_group, decode_snapshot, encode_fact, encode_group,
+    encode_snapshot,
+};
+use rr_types::{Command, Op, Refusal, Standing};
+use std::alloc::Global;
+use std::process::Abort;
+use std::test::Fail;
+
+/// Which decoder reads an example.
+#[derive(Clone, Copy)]
+enum Form {
+    Fact,
+    Group,
+    Snapshot,
+}
+
+/// Instance 258 enters round 3 with `7.1 claim a x`, adopted in round 2.
+const ENTER: [u8; 30] = [
+    1, 0, 0, 1, 2, 0, 0, 0, 3, 0, 0, 0, 2, 0, 0, 0, 7, 0, 0, 0, 0, 0, 0, 0, 1, 1, 1, 97, 1, 120,
+];
+
+/// Where its fields begin.
+const ENTER_FIELDS: [usize; 11] = [0, 1, 5, 9, 13, 17, 25, 26, 27, 28, 29];
+
+/// In the last round of the last instance `7.2 update a-9` is proposed; its value is empty.
+const PROPOSE: [u8; 27] = [
+    2, 0, 15, 255, 255, 127, 255, 255, 255, 0, 0, 0, 7, 0, 0, 0, 0, 0, 0, 0, 2, 2, 3, 97, 45, 57, 0,
+];
+
+/// Where its fields begin.
+const PROPOSE_FIELDS: [usize; 9] = [0, 1, 5, 9, 13, 21, 22, 23, 26];
+
+/// In round 1 of instance 0 `7.3 release a` is adopted.
+const ADOPT: [u8; 24] = [
+    3, 0, 0, 0, 0, 0, 0, 0, 1, 0, 0, 0, 7, 0, 0, 0, 0, 0, 0, 0, 3, 3, 1, 97,
+];
+
+/// Where its fields begin.
+const ADOPT_FIELDS: [usize; 8] = [0, 1, 5, 9, 13, 21, 22, 23];
+
+/// Instance 0 decides `7.2 transfer a 9`.
+const DECIDE: [u8; 24] = [
+    4, 0, 0, 0, 0, 0, 0, 0, 7, 0, 0, 0, 0, 0, 0, 0, 2, 4, 1, 97, 0, 0, 0, 9,
+];
+
+/// Where its fields begin.
+const DECIDE_FIELDS: [usize; 8] = [0, 1, 5, 9, 17, 18, 19, 20];
+
+/// A group of these four facts; the first has number 3.
+const GROUP: [u8; 115] = [
+    0, 0, 0, 0, 0, 0, 0, 3, 0, 4, 1, 0, 0, 1, 2, 0, 0, 0, 3, 0, 0, 0, 2, 0, 0, 0, 7, 0, 0, 0, 0, 0,
+    0, 0, 1, 1, 1, 97, 1, 120, 2, 0, 15, 255, 255, 127, 255, 255, 255, 0, 0, 0, 7, 0, 0, 0, 0, 0,
+    0, 0, 2, 2, 3, 97, 45, 57, 0, 3, 0, 0, 0, 0, 0, 0, 0, 1, 0, 0, 0, 7, 0, 0, 0, 0, 0, 0, 0, 3, 3,
+    1, 97, 4, 0, 0, 0, 0, 0, 0, 0, 7, 0, 0, 0, 0, 0, 0, 0, 2, 4, 1, 97, 0, 0, 0, 9,
+];
+
+/// Where its fields begin.
+const GROUP_FIELDS: [usize; 38] = [
+    0, 8, 10, 11, 15, 19, 23, 27, 35, 36, 37, 38, 39, 40, 41, 45, 49, 53, 61, 62, 63, 66, 67, 68,
+    72, 76, 80, 88, 89, 90, 91, 92, 96, 100, 108, 109, 110, 111,
+];
+
+/// The snapshot of node 1 of 3 with epoch 5 behind nine facts. Instance 0 has decided
+/// `7.1 claim a x`. Instance 2 is in round 4, in which `7.2 transfer a 9` was adopted and the node
+/// proposed `7.3 release a`. The last instance is in its last round with `7.2 update a-9`, never
+/// adopted, and no proposal.
+const SNAPSHOT: [u8; 125] = [
+    2, 1, 3, 0, 0, 0, 0, 0, 0, 0, 5, 0, 0, 0, 0, 0, 0, 0, 9, 0, 0, 0, 3, 0, 0, 0, 0, 1, 0, 0, 0, 7,
+    0, 0, 0, 0, 0, 0, 0, 1, 1, 1, 97, 1, 120, 0, 0, 0, 2, 2, 0, 0, 0, 4, 0, 0, 0, 4, 0, 0, 0, 7, 0,
+    0, 0, 0, 0, 0, 0, 2, 4, 1, 97, 0, 0, 0, 9, 1, 0, 0, 0, 7, 0, 0, 0, 0, 0, 0, 0, 3, 3, 1, 97, 0,
+    15, 255, 255, 2, 127, 255, 255, 255, 0, 0, 0, 0, 0, 0, 0, 7, 0, 0, 0, 0, 0, 0, 0, 2, 2, 3, 97,
+    45, 57, 0, 0,
+];
+
+/// Where its fields begin.
+const SNAPSHOT_FIELDS: [usize; 42] = [
+    0, 1, 2, 3, 11, 19, 23, 27, 28, 32, 40, 41, 42, 43, 44, 45, 49, 50, 54, 58, 62, 70, 71, 72, 73,
+    77, 78, 82, 90, 91, 92, 93, 97, 98, 102, 106, 110, 118, 119, 120, 123, 124,
+];
+
+/// Reads bytes, and writes what was read.
+fn rewritten(alloc: Global, form: Form, bytes: &[u8]) -> Result<Vec<u8>, Refusal> {
+    // The check learns what these are made of from the types of a function's variables.
+    let _parts: Option<(Command, Op, Standing)> = None;
+    match form {
+        Form::Fact => encode_fact(alloc, &decode_fact(bytes)?),
+        Form::Group => encode_group(alloc, &decode_group(alloc, bytes)?),
+        Form::Snapshot => encode_snapshot(alloc, &decode_snapshot(alloc, bytes)?),
+    }
+}
+
+/// Asserts that bytes are refused within them, or are the spelling of what is read of them.
+fn assert_exact(rt: &impl Abort, alloc: Global, form: Form, bytes: &[u8]) -> Result<(), Refusal> {
+    match rewritten(alloc, form, bytes) {
+        Ok(again) => assert_eq!(rt; again.as_slice(), bytes),
+        Err(Refusal::Malformed(offset)) => assert!(rt; offset <= bytes.len() as u64),
+        Err(refusal) => return Err(refusal),
+    }
+    Ok(())
+}
+
+/// Asserts that bytes are refused at this offset.
+fn assert_refused(rt: &impl Abort, alloc: Global, form: Form, bytes: &[u8], offset: usize) {
+    match rewritten(alloc, form, bytes) {
+        Ok(_) => assert!(rt; false, "read, though the fault is at {offset}"),
+        Err(refusal) => assert_eq!(rt; refusal, Refusal::Malformed(offset as u64)),
+    }
+}
+
+/// Where the field begins that has this place.
+fn field_of(fields: &[usize], place: usize) -> usize {
+    let mut found = 0;
+    for start in fields {
+        if *start <= place {
+            found = *start;
+        }
+    }
+    found
+}
+
+/// Puts a byte at a place of these, where there is one.
+fn put_at(bytes: &mut [u8], place: usize, byte: u8) {
+    if let Some(at) = bytes.get_mut(place) {
+        *at = byte;
+    }
+}
+
+/// The example is exact, also with each byte at each value; cut, it is refused at the cut field.
+fn sweep(
+    rt: &impl Abort,
+    alloc: Global,
+    form: Form,
+    example: &[u8],
+    fields: &[usize],
+) -> Result<(), Refusal> {
+    let mut bytes = example.to_vec(alloc)?;
+    for (place, kept) in example.iter().enumerate() {
+        assert_refused(rt, alloc, form, &example[..place], field_of(fields, place));
+        for byte in 0..=255 {
+            put_at(&mut bytes, place, byte);
+            assert_exact(rt, alloc, form, &bytes)?;
+        }
+        put_at(&mut bytes, place, *kept);
+    }
+    assert_eq!(rt; rewritten(alloc, form, example)?.as_slice(), example);
+    bytes.push(0)?;
+    assert_refused(rt, alloc, form, &bytes, example.len());
+    Ok(())
+}
+
+#[test]
+fn each_byte_and_each_cut_of_facts(rt: HostRuntime) -> Result<(), Fail> {
+    let rows: [(&[u8], &[usize]); 4] = [
+        (&ENTER, &ENTER_FIELDS),
+        (&PROPOSE, &PROPOSE_FIELDS),
+        (&ADOPT, &ADOPT_FIELDS),
+        (&DECIDE, &DECIDE_FIELDS),
+    ];
+    for (example, fields) in rows {
+        sweep(&rt, rt.alloc(), Form::Fact, example, fields)?;
+    }
+    Ok(())
+}
+
+#[test]
+fn each_byte_and_each_cut_of_a_group(rt: HostRuntime) -> Result<(), Fail> {
+    Ok(sweep(&rt, rt.alloc(), Form::Group, &GROUP, &GROUP_FIELDS)?)
+}
+
+#[test]
+fn each_byte_and_each_cut_of_a_snapshot(rt: HostRuntime) -> Result<(), Fail> {
+    Ok(sweep(&rt, rt.alloc(), Form::Snapshot, &SNAPSHOT, &SNAPSHOT_FIELDS)?)
+}

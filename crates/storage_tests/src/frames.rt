@@ -1,0 +1,172 @@
+//! Spelled examples, faults and their offsets.
+
+use rr_frame::{
+    Reader, Snapshot, decode_fact, decode_group, decode_snapshot, encode_fact, encode_snapshot,
+    put_command, read_command,
+};
+use rr_types::{
+    Command, Estimate, Fact, Group, Instance, Name, NodeId, Nodes, Op, Promise, Refusal, RequestNo,
+    Round, Value,
+};
+use std::alloc::Global;
+use std::test::Fail;
+
+/// A group of one fact with number 3: instance 0 decides `7.1 claim a x`.
+static DECIDED: [u8; 32] = [
+    0, 0, 0, 0, 0, 0, 0, 3, 0, 1, 4, 0, 0, 0, 0, 0, 0, 0, 7, 0, 0, 0, 0, 0, 0, 0, 1, 1, 1, 0x61, 1,
+    0x78,
+];
+
+/// The empty snapshot of epoch 1 of node 0 of 1.
+static EMPTY: [u8; 23] = [
+    2, 0, 1, 0, 0, 0, 0, 0, 0, 0, 1, 0, 0, 0, 0, 0, 0, 0, 0, 0, 0, 0, 0,
+];
+
+/// The snapshot of node 0 of 1 with epoch 2 behind two facts: it proposed `7.1 claim a x` in round 1.
+static PROPOSED: [u8; 71] = [
+    2, 0, 1, 0, 0, 0, 0, 0, 0, 0, 2, 0, 0, 0, 0, 0, 0, 0, 2, 0, 0, 0, 1, 0, 0, 0, 0, 2, 0, 0, 0, 1,
+    0, 0, 0, 0, 0, 0, 0, 7, 0, 0, 0, 0, 0, 0, 0, 1, 1, 1, 0x61, 1, 0x78, 1, 0, 0, 0, 7, 0, 0, 0, 0,
+    0, 0, 0, 1, 1, 1, 0x61, 1, 0x78,
+];
+
+/// The bytes of that group. (A test that names a table itself is proved over each of its bytes.)
+fn decided() -> &'static [u8] {
+    &DECIDED
+}
+
+/// The bytes of the empty snapshot.
+fn empty() -> &'static [u8] {
+    &EMPTY
+}
+
+/// The bytes of the snapshot with a proposal.
+fn proposed() -> &'static [u8] {
+    &PROPOSED
+}
+
+/// A copy of bytes, with another byte at a place.
+fn changed(alloc: Global, bytes: &[u8], place: usize, byte: u8) -> Result<Vec<u8>, Fail> {
+    let mut bytes = bytes.to_vec(alloc)?;
+    if let Some(at) = bytes.get_mut(place) {
+        *at = byte;
+    }
+    Ok(bytes)
+}
+
+/// Whether bytes are refused as a group at this offset.
+fn is_no_group(alloc: Global, bytes: &[u8], offset: u64) -> bool {
+    matches!(decode_group(alloc, bytes), Err(Refusal::Malformed(found)) if found == offset)
+}
+
+/// Whether bytes are refused as a snapshot at this offset.
+fn is_no_snapshot(alloc: Global, bytes: &[u8], offset: u64) -> bool {
+    matches!(decode_snapshot(alloc, bytes), Err(Refusal::Malformed(found)) if found == offset)
+}
+
+#[test]
+fn a_transfer_is_spelled_in_19_bytes(rt: HostRuntime) -> Result<(), Fail> {
+    let command = Command {
+        request: RequestNo { client: 7, seq: 2 },
+        op: Op::Transfer(Name::new(b"a")?, 9),
+    };
+    let mut bytes = Vec::new(rt.alloc());
+    put_command(&mut bytes, &command)?;
+    assert_eq!(rt;
+        bytes.as_slice(),
+        [0, 0, 0, 7, 0, 0, 0, 0, 0, 0, 0, 2, 4, 1, 0x61, 0, 0, 0, 9].as_slice()
+    );
+    let mut reader = Reader::new(&bytes);
+    let read = read_command(&mut reader).ok().ok_or("a command")?;
+    assert!(rt; read.is_same(&command));
+    assert_eq!(rt; reader.left(), 0);
+    Ok(())
+}
+
+#[test]
+fn a_fact_is_read_as_it_was_written(rt: HostRuntime) -> Result<(), Fail> {
+    let command = Command {
+        request: RequestNo { client: 7, seq: 1 },
+        op: Op::Claim(Name::new(b"a")?, Value::new(b"x")?),
+    };
+    let instance = Instance::new(0).ok_or("an instance")?;
+    let estimate = Estimate::new(Round::new(1).ok_or("a round")?, 0, command).ok_or("an estimate")?;
+    let bytes = encode_fact(rt.alloc(), &Fact::Enter(instance, estimate))?;
+    assert_eq!(rt;
+        bytes.as_slice(),
+        [
+            1, 0, 0, 0, 0, 0, 0, 0, 1, 0, 0, 0, 0, 0, 0, 0, 7, 0, 0, 0, 0, 0, 0, 0, 1, 1, 1, 0x61,
+            1, 0x78
+        ]
+        .as_slice()
+    );
+    assert!(rt; matches!(decode_fact(&bytes), Ok(Fact::Enter(_, _))));
+    // A stamp that is not below its round.
+    let mut bent = bytes;
+    assert_eq!(rt; bent.len(), 30);
+    bent[12] = 1;
+    assert!(rt; matches!(decode_fact(&bent), Err(Refusal::Malformed(9))));
+    Ok(())
+}
+
+#[test]
+fn faults_of_a_group(rt: HostRuntime) -> Result<(), Fail> {
+    let alloc = rt.alloc();
+    let faults = [
+        (9, 0, 8),
+        (9, 65, 8),
+        (10, 5, 10),
+        (11, 255, 11),
+        (27, 5, 27),
+        (28, 0, 28),
+        (29, 0x41, 29),
+        (30, 65, 30),
+        (30, 2, 31),
+    ];
+    for (place, value, offset) in faults {
+        let bytes = changed(alloc, decided(), place, value)?;
+        assert!(rt; is_no_group(alloc, &bytes, offset), "{value} at {place}");
+    }
+    let longer = [decided(), [0].as_slice()].concat(alloc)?;
+    assert!(rt; is_no_group(alloc, &longer, 32));
+    assert!(rt; is_no_group(alloc, &[], 0));
+    Ok(())
+}
+
+#[test]
+fn snapshots(rt: HostRuntime) -> Result<(), Fail> {
+    let alloc = rt.alloc();
+    let node = NodeId::at(0).ok_or("a node")?;
+    let made = Snapshot::new(Nodes::new(1)?, node, 1, 0, Promise::new(Vec::new(alloc)))
+        .ok()
+        .ok_or("a snapshot")?;
+    assert_eq!(rt; encode_snapshot(alloc, &made)?.as_slice(), empty());
+    let read = decode_snapshot(alloc, proposed())?;
+    assert_eq!(rt; (read.epoch(), read.next()), (2, 2));
+    assert_eq!(rt; read.promise().entries().len(), 1);
+    assert_eq!(rt; encode_snapshot(alloc, &read)?.as_slice(), proposed());
+    Ok(())
+}
+
+#[test]
+fn faults_of_a_snapshot(rt: HostRuntime) -> Result<(), Fail> {
+    // Version, node and count, epoch 0, entries before the first fact, kind, round 0, stamp above the round, flag.
+    let faults = [
+        (0, 1, 0),
+        (1, 1, 2),
+        (2, 8, 2),
+        (10, 0, 3),
+        (18, 0, 19),
+        (27, 3, 27),
+        (31, 0, 28),
+        (35, 2, 32),
+        (53, 2, 53),
+    ];
+    for (place, value, offset) in faults {
+        let bytes = changed(rt.alloc(), proposed(), place, value)?;
+        assert!(rt;
+            is_no_snapshot(rt.alloc(), &bytes, offset),
+            "{value} at {place}"
+        );
+    }
+    Ok(())
+}

@@ -1,0 +1,200 @@
+//! The areas of two runs with each byte at each of its values, and cut at each place.
+//!
+//! One run decided one command; the other then switched to a snapshot, which stands in area 1.
+
+use crate::journal::{area, changed, cut, more, opened, put_at};
+use rr_disk::{Area, Disk, MemDisk};
+use rr_frame::{Reader, decode_group, decode_snapshot, encode_group, encode_snapshot};
+use rr_journal::{Image, Opening, frame};
+use rr_types::{
+    Command, Entry, Name, NodeId, Nodes, Op, Promise, Refusal, RequestNo, Standing, Value,
+};
+use std::alloc::Global;
+use std::process::Abort;
+use std::test::Fail;
+
+/// Area 1 behind a switch: the snapshot of node 0 of 1 with epoch 2 behind four facts, by which
+/// instance 0 has decided `7.1 claim a x`, and a closed gate.
+static SNAPSHOT: [u8; 51] = [
+    0xA5, 0, 0, 0, 0x2D, 2, 0, 1, 0, 0, 0, 0, 0, 0, 0, 2, 0, 0, 0, 0, 0, 0, 0, 4, 0, 0, 0, 1, 0, 0,
+    0, 0, 1, 0, 0, 0, 7, 0, 0, 0, 0, 0, 0, 0, 1, 1, 1, 0x61, 1, 0x78, 0,
+];
+
+/// The bytes of that area.
+fn snapshot() -> &'static [u8] {
+    &SNAPSHOT
+}
+
+/// The payload of the frame whose gate stands at a place.
+fn payload_at(bytes: &[u8], gate: usize) -> Option<&[u8]> {
+    let (_, frame) = bytes.split_at_checked(gate)?;
+    let (_, behind) = frame.split_at_checked(1)?;
+    let mut reader = Reader::new(behind);
+    let count = reader.u32().ok()?;
+    reader.take(count as usize).ok()
+}
+
+/// Asserts that the frames up to the last gate of an area are the spelling of what is read there.
+fn assert_spelled(
+    rt: &impl Abort,
+    alloc: Global,
+    bytes: &[u8],
+    last: usize,
+) -> Result<(), Refusal> {
+    let mut gate = 0;
+    for frame in 0..bytes.len() {
+        if gate == last {
+            return Ok(());
+        }
+        let Some(payload) = payload_at(bytes, gate) else {
+            break;
+        };
+        let again = if frame == 0 {
+            encode_snapshot(alloc, &decode_snapshot(alloc, payload)?)?
+        } else {
+            encode_group(alloc, &decode_group(alloc, payload)?)?
+        };
+        assert_eq!(rt; again.as_slice(), payload);
+        gate = gate.saturating_add(payload.len()).saturating_add(5);
+    }
+    assert!(rt; false, "no frame ends at the last gate");
+    Ok(())
+}
+
+/// Asserts that two areas are broken at a gate, or hold what they spell, or are unformatted.
+fn assert_exact(
+    rt: &impl Abort,
+    alloc: Global,
+    first: &[u8],
+    second: &[u8],
+) -> Result<(), Refusal> {
+    let gates = [0, 28, 73, 114, 155, 192];
+    match opened(alloc, first, second) {
+        Ok(Image::Unformatted) => assert!(rt; is_blank(first) && is_blank(second)),
+        Ok(Image::Active(Area::First, content)) => {
+            assert_spelled(rt, alloc, first, content.gate() as usize)?
+        }
+        Ok(Image::Active(Area::Second, content)) => {
+            assert_spelled(rt, alloc, second, content.gate() as usize)?
+        }
+        Err(Refusal::Damaged { area: 0, offset }) => assert!(rt; gates.contains(&offset)),
+        Err(Refusal::Damaged { area: 1, offset }) => assert!(rt; [0, 50].contains(&offset)),
+        Err(refusal) => return Err(refusal),
+    }
+    Ok(())
+}
+
+/// Whether an area isn't formatted.
+fn is_blank(bytes: &[u8]) -> bool {
+    bytes.len() < 2 || bytes[0] != 0xA5
+}
+
+/// Asserts that instance 0 has decided `7.1 claim a x`, and that nothing else is promised.
+fn assert_one_decided(rt: &impl Abort, promise: &Promise) -> Result<(), Refusal> {
+    let command = Command {
+        request: RequestNo { client: 7, seq: 1 },
+        op: Op::Claim(Name::new(b"a")?, Value::new(b"x")?),
+    };
+    match promise.entries() {
+        [
+            Entry {
+                instance,
+                standing: Standing::Decided(decided),
+            },
+        ] => {
+            assert_eq!(rt; instance.number(), 0);
+            assert!(rt; decided.is_same(&command));
+        }
+        _ => assert!(rt; false, "another promise"),
+    }
+    Ok(())
+}
+
+#[test]
+fn what_the_areas_hold(rt: HostRuntime) -> Result<(), Fail> {
+    let alloc = rt.alloc();
+    match opened(alloc, area(), &[])? {
+        Image::Active(Area::First, content) => {
+            assert_eq!(rt;
+                (content.epoch(), content.next(), content.gate()),
+                (1, 4, 192)
+            );
+            assert_one_decided(&rt, &content.into_promise())?;
+        }
+        _ => assert!(rt; false),
+    }
+    match opened(alloc, area(), snapshot())? {
+        Image::Active(Area::Second, content) => {
+            assert_eq!(rt;
+                (content.epoch(), content.next(), content.gate()),
+                (2, 4, 50)
+            );
+            assert_one_decided(&rt, &content.into_promise())?;
+        }
+        _ => assert!(rt; false),
+    }
+    // The snapshot before the groups of area 0.
+    let first = decode_snapshot(alloc, payload_at(area(), 0).ok_or("a frame")?)?;
+    assert_eq!(rt;
+        (first.epoch(), first.node().index(), first.nodes().count()),
+        (1, 0, 1)
+    );
+    assert_eq!(rt; (first.next(), first.promise().entries().len()), (0, 0));
+    Ok(())
+}
+
+/// An area whose first byte is no open gate is formatted anew: its gate is opened by the sixth
+/// device call.
+#[test]
+fn an_unformatted_area_is_formatted_anew(rt: HostRuntime) -> Result<(), Fail> {
+    let alloc = rt.alloc();
+    let closed = changed(alloc, area(), 0, 0)?;
+    let mut disk = MemDisk::new(alloc);
+    disk.write_at(Area::First, 0, &closed)?;
+    disk.sync()?;
+    let nodes = Nodes::new(1)?;
+    let node = NodeId::new(nodes, 0).ok_or("a node")?;
+    let mut opening = Opening::start(nodes, node, disk);
+    for _ in 0..6 {
+        opening = more(alloc, opening)?;
+    }
+    let mut disk = opening.into_disk();
+    let bytes = disk.read(alloc, Area::First, 0, u64::MAX)?;
+    // The snapshot of epoch 1 and its open gate; the next gate is closed, and nothing behind it has
+    // changed.
+    let expected = changed(alloc, area(), 28, 0)?;
+    assert_eq!(rt; bytes.as_slice(), expected.as_slice());
+    Ok(())
+}
+
+#[test]
+fn each_byte_of_area_0(rt: HostRuntime) -> Result<(), Fail> {
+    let alloc = rt.alloc();
+    let mut bytes = area().to_vec(alloc)?;
+    for (place, kept) in area().iter().enumerate() {
+        assert_exact(&rt, alloc, cut(area(), place), &[])?;
+        assert_exact(&rt, alloc, cut(area(), place), snapshot())?;
+        for byte in 0..=255 {
+            put_at(&mut bytes, place, byte);
+            assert_exact(&rt, alloc, &bytes, &[])?;
+            assert_exact(&rt, alloc, &bytes, snapshot())?;
+        }
+        put_at(&mut bytes, place, *kept);
+    }
+    Ok(())
+}
+
+#[test]
+fn each_byte_of_area_1(rt: HostRuntime) -> Result<(), Fail> {
+    let alloc = rt.alloc();
+    let mut bytes = snapshot().to_vec(alloc)?;
+    for (place, kept) in snapshot().iter().enumerate() {
+        assert_exact(&rt, alloc, area(), cut(snapshot(), place))?;
+        for byte in 0..=255 {
+            put_at(&mut bytes, place, byte);
+            assert_exact(&rt, alloc, area(), &bytes)?;
+        }
+        put_at(&mut bytes, place, *kept);
+    }
+    Ok(())
+}

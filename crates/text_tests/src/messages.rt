@@ -1,0 +1,277 @@
+use rr_types::{
+    Body, Command, Estimate, Instance, Message, Name, NodeId, NodeSet, Nodes, Op, Refusal,
+    RequestNo, Round, Value,
+};
+use rr_wire::{decode, encode};
+use std::alloc::Global;
+use std::process::Abort;
+use std::test::Fail;
+
+/// The acknowledgement of round 1 of instance 0, from node 2 to node 1.
+const ACK: [u8; 12] = [2, 2, 1, 3, 0, 0, 0, 0, 0, 0, 0, 1];
+
+/// The estimate `7.1 claim a x` with stamp 0 in round 1 of instance 0, from node 0 to itself.
+const ESTIMATE: [u8; 33] = [
+    2, 0, 0, 1, 0, 0, 0, 0, 0, 0, 0, 1, 0, 0, 0, 0, 0, 0, 0, 7, 0, 0, 0, 0, 0, 0, 0, 1, 1, 1, b'a',
+    1, b'x',
+];
+
+/// In round 258 of instance 5 node 1 proposes `7.1 claim a x` to node 2.
+const PROPOSAL: [u8; 29] = [
+    2, 1, 2, 2, 0, 0, 0, 5, 0, 0, 1, 2, 0, 0, 0, 7, 0, 0, 0, 0, 0, 0, 0, 1, 1, 1, b'a', 1, b'x',
+];
+
+/// The last instance has decided `7.1 claim a x`, from node 2 to node 0.
+const DECISION: [u8; 25] = [
+    2, 2, 0, 4, 0, 15, 255, 255, 0, 0, 0, 7, 0, 0, 0, 0, 0, 0, 0, 1, 1, 1, b'a', 1, b'x',
+];
+
+/// Node 0 refuses the last round of instance 1, to node 1.
+const NACK: [u8; 12] = [2, 0, 1, 6, 0, 0, 0, 1, 127, 255, 255, 255];
+
+/// Node 6 is up, to node 5.
+const BEAT: [u8; 4] = [2, 6, 5, 7];
+
+/// Node 0 suspects nodes 0 and 2, to itself.
+const SUSPECTS: [u8; 5] = [2, 0, 0, 8, 5];
+
+/// Node 1 asks node 0 for the decision of instance 3.
+const ASK: [u8; 8] = [2, 1, 0, 9, 0, 0, 0, 3];
+
+/// The request `7.2 transfer a 9`, from node 0 to node 1.
+const REQUEST: [u8; 23] = [
+    2, 0, 1, 5, 0, 0, 0, 7, 0, 0, 0, 0, 0, 0, 0, 2, 4, 1, b'a', 0, 0, 0, 9,
+];
+
+/// The command `7.1 claim a x`.
+fn claim() -> Result<Command, Refusal> {
+    Ok(Command {
+        request: RequestNo { client: 7, seq: 1 },
+        op: Op::Claim(Name::new(b"a")?, Value::new(b"x")?),
+    })
+}
+
+/// The command `7.2 transfer a 9`.
+fn transfer() -> Result<Command, Refusal> {
+    Ok(Command {
+        request: RequestNo { client: 7, seq: 2 },
+        op: Op::Transfer(Name::new(b"a")?, 9),
+    })
+}
+
+/// Asserts that these bytes are refused at this offset.
+fn assert_refused(rt: &impl Abort, nodes: u8, bytes: &[u8], offset: u64) -> Result<(), Refusal> {
+    match decode(Nodes::new(nodes)?, bytes) {
+        Ok(_) => assert!(rt; false, "read, though the fault is at {offset}"),
+        Err(refusal) => assert_eq!(rt; refusal, Refusal::Malformed(offset)),
+    }
+    Ok(())
+}
+
+/// Puts a byte at a place of these, where there is one.
+fn put_at(bytes: &mut [u8], place: usize, byte: u8) {
+    if let Some(at) = bytes.get_mut(place) {
+        *at = byte;
+    }
+}
+
+/// The bytes with another one at this place.
+fn with_byte<const N: usize>(bytes: &[u8; N], place: usize, byte: u8) -> [u8; N] {
+    let mut changed = *bytes;
+    put_at(&mut changed, place, byte);
+    changed
+}
+
+/// Whether two messages say the same.
+fn is_same(body: &Body, other: &Body) -> bool {
+    match (body, other) {
+        (Body::Estimate(i, e), Body::Estimate(j, f)) => i == j
+            && e.round() == f.round()
+            && e.stamp() == f.stamp()
+            && e.command().is_same(&f.command()),
+        (Body::Proposal(i, r, v), Body::Proposal(j, s, w)) => i == j && r == s && v.is_same(w),
+        (Body::Ack(i, r), Body::Ack(j, s)) => i == j && r == s,
+        (Body::Decision(i, v), Body::Decision(j, w)) => i == j && v.is_same(w),
+        (Body::Request(v), Body::Request(w)) => v.is_same(w),
+        (Body::Nack(i, r), Body::Nack(j, s)) => i == j && r == s,
+        (Body::Beat, Body::Beat) => true,
+        (Body::Suspects(set), Body::Suspects(other)) => set == other,
+        (Body::Ask(i), Body::Ask(j)) => i == j,
+        _ => false,
+    }
+}
+
+/// Asserts that among so many nodes a message is spelled so, and that what is spelled so is read.
+fn assert_spelled(
+    rt: &impl Abort,
+    alloc: Global,
+    nodes: u8,
+    message: &Message,
+    bytes: &[u8],
+) -> Result<(), Refusal> {
+    assert_eq!(rt; encode(alloc, message)?.as_slice(), bytes);
+    match decode(Nodes::new(nodes)?, bytes) {
+        Ok(read) => {
+            assert_eq!(rt; (read.from, read.to), (message.from, message.to));
+            assert!(rt; is_same(&read.body, &message.body));
+        }
+        Err(refusal) => return Err(refusal),
+    }
+    Ok(())
+}
+
+#[test]
+fn decoding_table(rt: HostRuntime) -> Result<(), Fail> {
+    let rows: [(u8, &[u8], u64); 16] = [
+        (3, &ACK[..11], 8),
+        (3, &with_byte(&ACK, 11, 0), 8),
+        (3, &[2, 2, 1, 3, 0, 0, 0, 0, 0, 0, 0, 1, 0], 12),
+        (3, &with_byte(&ACK, 3, 10), 3),
+        (3, &[], 0),
+        (2, &ACK, 1),
+        (3, &with_byte(&ACK, 0, 0), 0),
+        (3, &with_byte(&ACK, 0, 3), 0),
+        (1, &with_byte(&ESTIMATE, 15, 1), 12),
+        (1, &with_byte(&ESTIMATE, 29, 0), 29),
+        (1, &with_byte(&ESTIMATE, 29, 65), 29),
+        (1, &with_byte(&ESTIMATE, 30, 0x41), 30),
+        (1, &with_byte(&ESTIMATE, 31, 65), 31),
+        (1, &with_byte(&ESTIMATE, 31, 2), 32),
+        (3, &[2, 0, 0, 8, 8], 4),
+        (1, &REQUEST, 2),
+    ];
+    for (nodes, bytes, offset) in rows {
+        assert_refused(&rt, nodes, bytes, offset)?;
+    }
+    Ok(())
+}
+
+fn node(index: u8) -> Result<NodeId, Refusal> {
+    NodeId::at(index).ok_or(Refusal::BadNodes)
+}
+
+fn message(from: u8, to: u8, body: Body) -> Result<Message, Refusal> {
+    Ok(Message {
+        from: node(from)?,
+        to: node(to)?,
+        body,
+    })
+}
+
+fn instance(number: u32) -> Result<Instance, Refusal> {
+    Instance::new(number).ok_or(Refusal::TooLarge)
+}
+
+fn round(number: u32) -> Result<Round, Refusal> {
+    Round::new(number).ok_or(Refusal::RoundsOut)
+}
+
+#[test]
+fn each_message_both_ways(rt: HostRuntime) -> Result<(), Fail> {
+    let alloc = rt.alloc();
+    let estimate = match Estimate::new(round(1)?, 0, claim()?) {
+        Some(estimate) => estimate,
+        None => return Err(Refusal::RoundsOut.into()),
+    };
+    let suspects = NodeSet::empty().with(node(0)?).with(node(2)?);
+    let rows: [(u8, Message, &[u8]); 9] = [
+        (
+            3,
+            message(0, 0, Body::Estimate(instance(0)?, estimate))?,
+            &ESTIMATE,
+        ),
+        (
+            7,
+            message(1, 2, Body::Proposal(instance(5)?, round(258)?, claim()?))?,
+            &PROPOSAL,
+        ),
+        (3, message(2, 1, Body::Ack(instance(0)?, round(1)?))?, &ACK),
+        (
+            7,
+            message(2, 0, Body::Decision(instance(1_048_575)?, claim()?))?,
+            &DECISION,
+        ),
+        (2, message(0, 1, Body::Request(transfer()?))?, &REQUEST),
+        (
+            2,
+            message(0, 1, Body::Nack(instance(1)?, round(2_147_483_647)?))?,
+            &NACK,
+        ),
+        (7, message(6, 5, Body::Beat)?, &BEAT),
+        (3, message(0, 0, Body::Suspects(suspects))?, &SUSPECTS),
+        (2, message(1, 0, Body::Ask(instance(3)?))?, &ASK),
+    ];
+    for (nodes, message, bytes) in rows {
+        assert_spelled(&rt, alloc, nodes, &message, bytes)?;
+    }
+    Ok(())
+}
+
+/// Asserts that bytes are refused within them, or are the spelling of what is read of them.
+fn assert_exact(rt: &impl Abort, alloc: Global, nodes: Nodes, bytes: &[u8]) -> Result<(), Refusal> {
+    match decode(nodes, bytes) {
+        Ok(message) => assert_eq!(rt; encode(alloc, &message)?.as_slice(), bytes),
+        Err(Refusal::Malformed(offset)) => assert!(rt; offset <= bytes.len() as u64),
+        Err(refusal) => return Err(refusal),
+    }
+    Ok(())
+}
+
+/// Where the field begins that has this place.
+fn field_of(fields: &[u8], place: usize) -> u64 {
+    let mut found = 0;
+    for start in fields {
+        if *start as usize <= place {
+            found = *start;
+        }
+    }
+    found as u64
+}
+
+/// Each byte of an example at each value is exact; cut, it is refused at the field that is cut.
+fn sweep(
+    rt: &impl Abort,
+    alloc: Global,
+    nodes: u8,
+    example: &[u8],
+    fields: &[u8],
+) -> Result<(), Refusal> {
+    let mut bytes = example.to_vec(alloc)?;
+    for (place, kept) in example.iter().enumerate() {
+        assert_refused(rt, nodes, &example[..place], field_of(fields, place))?;
+        for byte in 0..=255 {
+            put_at(&mut bytes, place, byte);
+            assert_exact(rt, alloc, Nodes::new(nodes)?, &bytes)?;
+        }
+        put_at(&mut bytes, place, *kept);
+    }
+    bytes.push(0)?;
+    assert_refused(rt, nodes, &bytes, example.len() as u64)
+}
+
+#[test]
+fn each_byte_and_each_cut(rt: HostRuntime) -> Result<(), Fail> {
+    let rows: [(u8, &[u8], &[u8]); 9] = [
+        (
+            3,
+            &ESTIMATE,
+            &[0, 1, 2, 3, 4, 8, 12, 16, 20, 28, 29, 30, 31, 32],
+        ),
+        (
+            7,
+            &PROPOSAL,
+            &[0, 1, 2, 3, 4, 8, 12, 16, 24, 25, 26, 27, 28],
+        ),
+        (3, &ACK, &[0, 1, 2, 3, 4, 8]),
+        (7, &DECISION, &[0, 1, 2, 3, 4, 8, 12, 20, 21, 22, 23, 24]),
+        (2, &REQUEST, &[0, 1, 2, 3, 4, 8, 16, 17, 18, 19]),
+        (2, &NACK, &[0, 1, 2, 3, 4, 8]),
+        (7, &BEAT, &[0, 1, 2, 3]),
+        (3, &SUSPECTS, &[0, 1, 2, 3, 4]),
+        (2, &ASK, &[0, 1, 2, 3, 4]),
+    ];
+    for (nodes, example, fields) in rows {
+        sweep(&rt, rt.alloc(), nodes, example, fields)?;
+    }
+    Ok(())
+}

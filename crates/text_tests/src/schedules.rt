@@ -1,0 +1,355 @@
+use rr_text::{Binding, BoundNames, Event, Report, ReportLine, Schedule};
+use rr_types::{
+    Body, Command, Estimate, Instance, Message, Name, NodeId, NodeSet, Nodes, Op, Refusal, Reply,
+    RequestNo, Round, Value,
+};
+use std::alloc::Global;
+use std::test::Fail;
+
+/// Texts of schedules: runs of one and of three nodes, and each event in each of its forms.
+static SCHEDULES: [&str; 5] = [
+    "nodes 3\n",
+    "nodes 1\nrestart 0\ndev 0\ndev 0\ndev 0\ndev 0\ncrash 0 1 0 A5\n",
+    "nodes 3\nrestart 0\ndev 0\nsuspect 0 12\nsubmit 0 7 1 claim a x\nsend 0\ntake 0\ndev 0\nmark 0\nack 0\n",
+    "nodes 1\nrestart 0\ndev 0\nhear 0 0\ntake 0\nfail 0 A5\nfail 0 -\nsnap 0\ncrash 0 9999 9999 -\nrestart 0\n",
+    "nodes 7\nsubmit 6 4294967295 18446744073709551615 claim name-09\nsubmit 0 0 0 update a ~!\nsubmit 1 2 3 update a\nsubmit 2 9 1 release a\nsubmit 3 7 2 transfer a 9\nhear 5 4294967295\nsuspect 4 -\nsuspect 4 0123456\nsuspect 4 6\ntick 0\nadvance 1\nfail 2 00FF1A\ncrash 0 0 4294967295 0123456789ABCDEF\n",
+];
+
+/// Texts that are no schedules, and what they are refused with.
+static FAULTS: [(&str, Refusal); 40] = [
+    ("", Refusal::BadEvent(1)),
+    ("nodes 1", Refusal::BadEvent(1)),
+    ("nodes 0\n", Refusal::BadNodes),
+    ("nodes 8\n", Refusal::BadNodes),
+    ("nodes 8\nfoo\n", Refusal::BadNodes),
+    ("nodes 10\n", Refusal::BadNodes),
+    (
+        "nodes 100000000000000000000000000000000000000\n",
+        Refusal::BadNodes,
+    ),
+    ("nodes 08\n", Refusal::BadEvent(1)),
+    ("nodes 01\n", Refusal::BadEvent(1)),
+    ("nodes -1\n", Refusal::BadEvent(1)),
+    ("nodes \n", Refusal::BadEvent(1)),
+    ("nodes  1\n", Refusal::BadEvent(1)),
+    ("nodes 8", Refusal::BadEvent(1)),
+    ("nodes 1 \n", Refusal::BadEvent(1)),
+    ("\nnodes 1\n", Refusal::BadEvent(1)),
+    ("nodes 1\nhear 0 4294967296\n", Refusal::BadEvent(2)),
+    ("nodes 1\ndev 0", Refusal::BadEvent(2)),
+    ("nodes 1\ndev 1\n", Refusal::BadEvent(2)),
+    ("nodes 1\ndev 00\n", Refusal::BadEvent(2)),
+    ("nodes 2\nsuspect 0 10\n", Refusal::BadEvent(2)),
+    ("nodes 1\ndev  0\n", Refusal::BadEvent(2)),
+    ("nodes 1\nhear 0 01\n", Refusal::BadEvent(2)),
+    ("nodes 1\ndev 0\n\n", Refusal::BadEvent(3)),
+    ("nodes 1\ndev 0\ndev 0 \n", Refusal::BadEvent(3)),
+    ("nodes 1\ndev 0\ndev 0\r\n", Refusal::BadEvent(3)),
+    (
+        "nodes 1\ndev 0\ndev 0\nDEV 0\ndev 9\n",
+        Refusal::BadEvent(4),
+    ),
+    ("nodes 2\nsuspect 0 2\n", Refusal::BadEvent(2)),
+    ("nodes 2\nsuspect 0 00\n", Refusal::BadEvent(2)),
+    ("nodes 2\nsuspect 0 \n", Refusal::BadEvent(2)),
+    ("nodes 1\nfail 0 a5\n", Refusal::BadEvent(2)),
+    ("nodes 1\nfail 0 A\n", Refusal::BadEvent(2)),
+    ("nodes 1\nfail 0 \n", Refusal::BadEvent(2)),
+    ("nodes 1\ncrash 0 0 4294967296 -\n", Refusal::BadEvent(2)),
+    (
+        "nodes 1\nsubmit 0 4294967296 1 claim a\n",
+        Refusal::BadEvent(2),
+    ),
+    (
+        "nodes 1\nsubmit 0 1 18446744073709551616 claim a\n",
+        Refusal::BadEvent(2),
+    ),
+    ("nodes 1\nsubmit 0 7 1 claim A\n", Refusal::BadEvent(2)),
+    ("nodes 1\nsubmit 0 7 1 claim a \n", Refusal::BadEvent(2)),
+    ("nodes 1\nsubmit 0 7 1 claim a x y\n", Refusal::BadEvent(2)),
+    ("nodes 1\nsubmit 0 7 1 release a x\n", Refusal::BadEvent(2)),
+    ("nodes 1\nsubmit 0 7.1 claim a x\n", Refusal::BadEvent(2)),
+];
+
+/// These schedules. (A test that names a table itself is proved over each of its rows.)
+fn schedules() -> &'static [&'static str] {
+    &SCHEDULES
+}
+
+/// These faults.
+fn faults() -> &'static [(&'static str, Refusal)] {
+    &FAULTS
+}
+
+/// The last of the schedules, which has each event.
+fn each_event() -> &'static [u8] {
+    match schedules().split_last() {
+        Some((text, _)) => text.as_bytes(),
+        None => &[],
+    }
+}
+
+#[test]
+fn schedules_are_printed_as_they_were_read(rt: HostRuntime) -> Result<(), Fail> {
+    for text in schedules() {
+        let schedule = Schedule::parse(rt.alloc(), text.as_bytes())?;
+        assert_eq!(rt;
+            schedule.text(rt.alloc())?.as_slice(),
+            text.as_bytes(),
+            "{text}"
+        );
+    }
+    Ok(())
+}
+
+#[test]
+fn faults_are_told(rt: HostRuntime) {
+    for (text, refusal) in faults() {
+        assert_eq!(rt;
+            Schedule::parse(rt.alloc(), text.as_bytes()).err(),
+            Some(*refusal),
+            "{text}"
+        );
+    }
+}
+
+/// Whether bytes are refused, or printed as they were read.
+fn is_refused_or_printed(alloc: Global, bytes: &[u8]) -> Result<bool, Fail> {
+    match Schedule::parse(alloc, bytes) {
+        Ok(schedule) => Ok(schedule.text(alloc)?.as_slice() == bytes),
+        Err(Refusal::BadNodes | Refusal::BadEvent(_)) => Ok(true),
+        Err(_) => Ok(false),
+    }
+}
+
+/// The text with another byte at one place.
+fn with_byte(alloc: Global, text: &[u8], at: usize, byte: u8) -> Result<Vec<u8>, Fail> {
+    let mut bytes = text.to_vec(alloc)?;
+    if let Some(place) = bytes.get_mut(at) {
+        *place = byte;
+    }
+    Ok(bytes)
+}
+
+#[test]
+fn no_other_byte_is_taken_for_it(rt: HostRuntime) -> Result<(), Fail> {
+    let text = each_event();
+    for at in 0..text.len() {
+        for byte in 0..=255u8 {
+            let bytes = with_byte(rt.alloc(), text, at, byte)?;
+            assert!(rt;
+                is_refused_or_printed(rt.alloc(), &bytes)?,
+                "{byte} at {at}"
+            );
+        }
+    }
+    Ok(())
+}
+
+#[test]
+fn a_text_that_is_cut_is_refused_or_printed(rt: HostRuntime) -> Result<(), Fail> {
+    let text = each_event();
+    for end in 0..text.len() {
+        assert!(rt;
+            is_refused_or_printed(rt.alloc(), text.split_at(end).0)?,
+            "cut at {end}"
+        );
+    }
+    Ok(())
+}
+
+#[test]
+fn what_is_read_is_what_is_written(rt: HostRuntime) -> Result<(), Fail> {
+    let text = "nodes 3\nsubmit 2 7 1 claim a x\nhear 1 5\nsuspect 0 12\ncrash 0 3 4 A50F\n";
+    let schedule = Schedule::parse(rt.alloc(), text.as_bytes())?;
+    assert_eq!(rt; schedule.nodes().count(), 3);
+    match schedule.events() {
+        [
+            Event::Submit { node, command },
+            Event::Hear {
+                node: hearer,
+                message,
+            },
+            Event::Suspect { set, .. },
+            Event::Crash {
+                cut_0,
+                cut_1,
+                fill,
+                ..
+            },
+        ] => {
+            assert_eq!(rt; node.index(), 2);
+            assert_eq!(rt; command.request, RequestNo { client: 7, seq: 1 });
+            assert!(rt;
+                command
+                    .op
+                    .is_same(&Op::Claim(Name::new(b"a")?, Value::new(b"x")?))
+            );
+            assert_eq!(rt; (hearer.index(), *message), (1, 5));
+            assert_eq!(rt; set.bits(), 6);
+            assert_eq!(rt; (*cut_0, *cut_1), (3, 4));
+            assert_eq!(rt; fill.as_bytes(), [0xA5u8, 0x0F].as_slice());
+        }
+        _ => return Err(Fail::from("other events")),
+    }
+    Ok(())
+}
+
+#[test]
+fn the_millionth_event_is_the_last(rt: HostRuntime) -> Result<(), Fail> {
+    let mut text = b"nodes 1\n".to_vec(rt.alloc())?;
+    for _ in 0..1_000_000 {
+        text.extend_from_slice(b"tick 0\n")?;
+    }
+    let schedule = Schedule::parse(rt.alloc(), &text)?;
+    assert_eq!(rt; schedule.events().len(), 1_000_000);
+    assert!(rt; schedule.text(rt.alloc())?.as_slice() == text.as_slice());
+    text.extend_from_slice(b"tick 0\n")?;
+    let refused = Schedule::parse(rt.alloc(), &text).err();
+    assert_eq!(rt; refused, Some(Refusal::BadEvent(1_000_002)));
+    Ok(())
+}
+
+#[test]
+fn a_line_of_ten_megabytes_is_refused(rt: HostRuntime) -> Result<(), Fail> {
+    let mut text = b"nodes 1\nfail 0 ".to_vec(rt.alloc())?;
+    for _ in 0..5_000_000 {
+        text.extend_from_slice(b"A5")?;
+    }
+    let refused = Schedule::parse(rt.alloc(), &text).err();
+    assert_eq!(rt; refused, Some(Refusal::BadEvent(2)));
+    text.extend_from_slice(b"\n")?;
+    let schedule = Schedule::parse(rt.alloc(), &text)?;
+    assert!(rt; schedule.text(rt.alloc())?.as_slice() == text.as_slice());
+    Ok(())
+}
+
+fn command(op: Op) -> Command {
+    Command {
+        request: RequestNo { client: 7, seq: 1 },
+        op,
+    }
+}
+
+fn push_sent(lines: &mut Vec<ReportLine>, body: Body) -> Result<(), Fail> {
+    let nodes = Nodes::new(3)?;
+    let from = NodeId::new(nodes, 0).ok_or("node 0")?;
+    let to = NodeId::new(nodes, 2).ok_or("node 2")?;
+    let number = lines.len() as u64;
+    let message = Message { from, to, body };
+    lines.push(ReportLine::Send { number, message })?;
+    Ok(())
+}
+
+fn push_replied(lines: &mut Vec<ReportLine>, reply: Reply) -> Result<(), Fail> {
+    let node = NodeId::at(1).ok_or("node 1")?;
+    let request = RequestNo { client: 7, seq: 1 };
+    lines.push(ReportLine::Ack {
+        node,
+        request,
+        reply,
+    })?;
+    Ok(())
+}
+
+fn messages(alloc: Global) -> Result<Vec<ReportLine>, Fail> {
+    let nodes = Nodes::new(3)?;
+    let claim = command(Op::Claim(Name::new(b"a")?, Value::new(b"x")?));
+    let transfer = command(Op::Transfer(Name::new(b"a")?, 9));
+    let instance = Instance::new(5).ok_or("instance 5")?;
+    let round = Round::new(3).ok_or("round 3")?;
+    let mut lines = Vec::new(alloc);
+    let estimate = Estimate::new(round, 2, claim).ok_or("an estimate")?;
+    push_sent(&mut lines, Body::Estimate(instance, estimate))?;
+    push_sent(&mut lines, Body::Proposal(instance, round, claim))?;
+    push_sent(&mut lines, Body::Ack(instance, round))?;
+    push_sent(&mut lines, Body::Decision(instance, transfer))?;
+    push_sent(&mut lines, Body::Request(claim))?;
+    push_sent(&mut lines, Body::Nack(instance, round))?;
+    push_sent(&mut lines, Body::Beat)?;
+    push_sent(&mut lines, Body::Suspects(NodeSet::empty()))?;
+    push_sent(
+        &mut lines,
+        Body::Suspects(NodeSet::from_bits(nodes, 6).ok_or("a set")?),
+    )?;
+    push_sent(&mut lines, Body::Ask(instance))?;
+    Ok(lines)
+}
+
+#[test]
+fn messages_are_printed(rt: HostRuntime) -> Result<(), Fail> {
+    let decided = Vec::new(rt.alloc());
+    let report = Report::new(messages(rt.alloc())?, decided);
+    let text = "send 0 0 2 estimate 5 3 2 7.1 claim a x
+send 1 0 2 proposal 5 3 7.1 claim a x
+send 2 0 2 ack 5 3
+send 3 0 2 decision 5 7.1 transfer a 9
+send 4 0 2 request 7.1 claim a x
+send 5 0 2 nack 5 3
+send 6 0 2 beat
+send 7 0 2 suspects -
+send 8 0 2 suspects 12
+send 9 0 2 ask 5
+decided 0
+";
+    assert_eq!(rt; report.text(rt.alloc())?.as_slice(), text.as_bytes());
+    Ok(())
+}
+
+#[test]
+fn replies_restarts_and_refusals_are_printed(rt: HostRuntime) -> Result<(), Fail> {
+    let mut lines = Vec::new(rt.alloc());
+    push_replied(&mut lines, Reply::Claimed)?;
+    push_replied(&mut lines, Reply::Updated)?;
+    push_replied(&mut lines, Reply::Released)?;
+    push_replied(&mut lines, Reply::Transferred)?;
+    push_replied(&mut lines, Reply::Taken(9))?;
+    push_replied(&mut lines, Reply::Unknown)?;
+    push_replied(&mut lines, Reply::NotOwner)?;
+    push_replied(&mut lines, Reply::Full)?;
+    let mut bindings = Vec::new(rt.alloc());
+    let (name, other) = (Name::new(b"a")?, Name::new(b"b")?);
+    bindings.push(Binding {
+        name,
+        owner: 7,
+        value: Value::new(b"x")?,
+    })?;
+    bindings.push(Binding {
+        name: other,
+        owner: 8,
+        value: Value::new(b"")?,
+    })?;
+    let bindings = BoundNames::new(bindings);
+    let node = NodeId::at(0).ok_or("node 0")?;
+    lines.push(ReportLine::Restart {
+        node,
+        facts: 8,
+        decided: 2,
+        bindings,
+    })?;
+    let refusal = Refusal::Damaged {
+        area: 0,
+        offset: 155,
+    };
+    lines.push(ReportLine::Refuse { line: 5, refusal })?;
+    let mut decided = Vec::new(rt.alloc());
+    decided.push(command(Op::Claim(name, Value::new(b"x")?)))?;
+    decided.push(command(Op::Release(other)))?;
+    let report = Report::new(lines, decided);
+    let text = "ack 1 7.1 claimed
+ack 1 7.1 updated
+ack 1 7.1 released
+ack 1 7.1 transferred
+ack 1 7.1 taken 9
+ack 1 7.1 unknown
+ack 1 7.1 notowner
+ack 1 7.1 full
+restart 0 8 2 a=7:x b=8:
+refuse 5 3 Damaged
+decided 2
+0 7.1 claim a x
+1 7.1 release b
+";
+    assert_eq!(rt; report.text(rt.alloc())?.as_slice(), text.as_bytes());
+    Ok(())
+}
