@@ -31,6 +31,19 @@ def changed_since(commit):
     return {part[1] for part in parts if len(part) > 2 and part[0] in ("crates", "more-edits")}
 
 
+def lowest_first(crates):
+    """Puts those first on which fewest libraries stand, so that what is proved for one is there for the next."""
+    below = {}
+    for line in (TREE / "crates.txt").read_text().splitlines():
+        crate, _, libraries = line.partition(":")
+        below[crate] = libraries.split()
+
+    def all_below(crate):
+        return {crate}.union(*map(all_below, below.get(crate, ())))
+
+    return sorted(crates, key=lambda crate: (len(all_below(crate)), crate))
+
+
 def copy_tree(copy):
     """Copies what git knows of, and the libraries that checks left; puts these edits in the place of the gate's."""
     for path in lines_of("git", "ls-files", "--cached", "--others", "--exclude-standard"):
@@ -74,7 +87,7 @@ def main():
         copy_tree(copy)
         subprocess.run(["git", "init", "--quiet"], cwd=copy, check=True)
         with concurrent.futures.ThreadPoolExecutor(max(asked.jobs, 1)) as side_by_side:
-            for crate, well, others, weak, seconds in side_by_side.map(lambda crate: refused(copy, crate), sorted(crates)):
+            for crate, well, others, weak, seconds in side_by_side.map(lambda crate: refused(copy, crate), lowest_first(crates)):
                 print(f"{crate}: {well} refused, {len(others)} not, {seconds:.0f} s", *others, *weak, sep="\n  ", flush=True)
                 passed, failed = passed + well, failed + len(others)
     print(f"{(time.monotonic() - begun) / 60:.1f} minutes")

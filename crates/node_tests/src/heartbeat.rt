@@ -3,7 +3,6 @@
 use rr_heartbeat::Heartbeat;
 use rr_types::{NodeId, Nodes};
 use std::process::Abort;
-use std::test::Fail;
 
 /// Asserts that node 1 isn't suspected over these many ticks, and is with the next one.
 fn assert_borne(rt: &impl Abort, heartbeat: &mut Heartbeat, node: NodeId, ticks: usize) {
@@ -16,13 +15,12 @@ fn assert_borne(rt: &impl Abort, heartbeat: &mut Heartbeat, node: NodeId, ticks:
 }
 
 #[test]
-fn four_ticks_are_borne_and_after_a_suspicion_five(rt: HostRuntime) -> Result<(), Fail> {
-    let nodes = Nodes::new(3)?;
+fn four_ticks_are_borne_and_after_a_suspicion_five(rt: HostRuntime) {
+    let nodes = Nodes::new(3).expect(&rt, "nodes");
     let node = NodeId::new(nodes, 1).expect(&rt, "a node");
     let mut heartbeat = Heartbeat::new(nodes);
     assert_borne(&rt, &mut heartbeat, node, 4);
     heartbeat.heard(node);
     assert!(rt; !heartbeat.suspects().contains(node));
     assert_borne(&rt, &mut heartbeat, node, 5);
-    Ok(())
 }

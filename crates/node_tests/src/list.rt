@@ -5,7 +5,6 @@ use rr_list::{Instances, Pool, Waiting};
 use rr_types::{Command, Entry, Fact, Instance, Name, Op, Refusal, RequestNo, Standing, Value};
 use std::alloc::Global;
 use std::process::Abort;
-use std::test::Fail;
 
 fn request(seq: u64) -> RequestNo {
     RequestNo { client: 7, seq }
@@ -30,15 +29,16 @@ fn decided(number: u32, seq: u64) -> Result<Entry, Refusal> {
 }
 
 #[test]
-fn commands_come_and_go_in_order(rt: HostRuntime) -> Result<(), Fail> {
+fn commands_come_and_go_in_order(rt: HostRuntime) {
     // The check learns what a command is made of from the types of a function's variables.
     let _parts: Option<(Command, Op)> = None;
     let mut pool = Pool::new(rt.alloc());
-    pool.push(&command(1)?)?;
+    pool.push(&command(1).expect(&rt, "memory"))
+        .expect(&rt, "memory");
     assert!(rt; pool.has(request(1)));
-    let second = command(2)?;
+    let second = command(2).expect(&rt, "memory");
     if !pool.has(second.request) {
-        pool.push(&second)?;
+        pool.push(&second).expect(&rt, "memory");
     }
     pool.remove(request(1));
     assert!(rt; !pool.has(request(1)));
@@ -49,12 +49,11 @@ fn commands_come_and_go_in_order(rt: HostRuntime) -> Result<(), Fail> {
     pool.take_back();
     assert!(rt; pool.iter().next().is_none());
     let mut waiting = Waiting::new(rt.alloc());
-    waiting.push(request(3))?;
+    waiting.push(request(3)).expect(&rt, "memory");
     assert!(rt; waiting.has(request(3)));
     assert!(rt; waiting.iter().next().is_some());
     waiting.remove(request(3));
     assert!(rt; !waiting.has(request(3)));
-    Ok(())
 }
 
 /// Asserts that the open instances are these eight.
@@ -67,13 +66,14 @@ fn assert_open(rt: &impl Abort, table: &Instances, numbers: [u32; 8]) {
 }
 
 #[test]
-fn a_decided_instance_opens_the_next(rt: HostRuntime) -> Result<(), Fail> {
+fn a_decided_instance_opens_the_next(rt: HostRuntime) {
     let alloc = rt.alloc();
-    let mut table = Instances::restored(alloc, &[], 0)?;
+    let mut table = Instances::restored(alloc, &[], 0).expect(&rt, "memory");
     assert_open(&rt, &table, [0, 1, 2, 3, 4, 5, 6, 7]);
     let mut rows = Vec::new(alloc);
-    rows.push(Row::promised(alloc, 0, &decided(2, 1)?))?;
-    table.absorb(alloc, rows)?;
+    rows.push(Row::promised(alloc, 0, &decided(2, 1).expect(&rt, "memory")))
+        .expect(&rt, "memory");
+    table.absorb(alloc, rows).expect(&rt, "memory");
     assert_open(&rt, &table, [0, 1, 3, 4, 5, 6, 7, 8]);
     assert_eq!(rt; table.undecided_from(2), 3);
     assert!(rt; table.has_decided(request(1)));
@@ -84,7 +84,6 @@ fn a_decided_instance_opens_the_next(rt: HostRuntime) -> Result<(), Fail> {
     }
     assert_eq!(rt; table.prefix_len(), 0);
     assert!(rt; table.command_at(0).is_none());
-    assert!(rt; table.marked_entries(alloc)?.is_empty());
+    assert!(rt; table.marked_entries(alloc).expect(&rt, "memory").is_empty());
     table.mark(&[]);
-    Ok(())
 }

@@ -2,11 +2,10 @@
 
 use rr_suspect::Suspects;
 use rr_types::{NodeId, NodeSet, Nodes};
-use std::test::Fail;
 
 #[test]
-fn who_reports_is_not_suspected(rt: HostRuntime) -> Result<(), Fail> {
-    let nodes = Nodes::new(3)?;
+fn who_reports_is_not_suspected(rt: HostRuntime) {
+    let nodes = Nodes::new(3).expect(&rt, "nodes");
     let first = NodeId::new(nodes, 1).expect(&rt, "a node");
     let second = NodeId::new(nodes, 2).expect(&rt, "a node");
     let only_first = NodeSet::empty().with(first);
@@ -18,5 +17,4 @@ fn who_reports_is_not_suspected(rt: HostRuntime) -> Result<(), Fail> {
     assert!(rt; suspects.output() == only_first);
     suspects.receive(first, only_first.with(second));
     assert!(rt; suspects.output() == only_second);
-    Ok(())
 }

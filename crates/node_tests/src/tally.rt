@@ -3,7 +3,6 @@
 use rr_round::Tally;
 use rr_types::{NodeId, Nodes};
 use std::process::Abort;
-use std::test::Fail;
 
 /// Keeps acknowledgements of these nodes, none of which makes a majority.
 fn keep_without_majority(rt: &impl Abort, tally: &mut Tally, nodes: Nodes, senders: &[u8]) {
@@ -14,21 +13,19 @@ fn keep_without_majority(rt: &impl Abort, tally: &mut Tally, nodes: Nodes, sende
 }
 
 #[test]
-fn repeated_acknowledgements_of_five_nodes(rt: HostRuntime) -> Result<(), Fail> {
-    let nodes = Nodes::new(5)?;
+fn repeated_acknowledgements_of_five_nodes(rt: HostRuntime) {
+    let nodes = Nodes::new(5).expect(&rt, "nodes");
     let mut tally = Tally::new(rt.alloc());
     keep_without_majority(&rt, &mut tally, nodes, &[0, 0, 0, 2, 2, 2]);
     tally.keep_ack(NodeId::new(nodes, 4).expect(&rt, "a node"));
     assert!(rt; tally.is_acknowledged(nodes));
-    Ok(())
 }
 
 #[test]
-fn three_of_four_nodes_are_needed(rt: HostRuntime) -> Result<(), Fail> {
-    let nodes = Nodes::new(4)?;
+fn three_of_four_nodes_are_needed(rt: HostRuntime) {
+    let nodes = Nodes::new(4).expect(&rt, "nodes");
     let mut tally = Tally::new(rt.alloc());
     keep_without_majority(&rt, &mut tally, nodes, &[0, 3]);
     tally.keep_ack(NodeId::new(nodes, 1).expect(&rt, "a node"));
     assert!(rt; tally.is_acknowledged(nodes));
-    Ok(())
 }

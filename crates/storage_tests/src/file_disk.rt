@@ -3,90 +3,111 @@
 use rr_disk::{Area, Disk, FileDisk};
 use rr_types::Refusal;
 use std::fs;
-use std::test::Fail;
 
 #[test]
-fn writes_within_its_length(rt: HostRuntime) -> Result<(), Fail> {
+fn writes_within_its_length(rt: HostRuntime) {
     let folder = "rr_disk_within";
     let _ = fs::remove_dir_all(&rt, folder);
-    let mut disk = FileDisk::open(&rt, folder, true)?;
+    let mut disk = FileDisk::open(&rt, folder, true).expect(&rt, "an opening");
     assert_eq!(rt; disk.write_at(Area::First, 1, &[1]), Err(Refusal::Device));
     assert_eq!(rt; disk.len(Area::First), 0);
-    disk.write_at(Area::First, 0, &[1, 2, 3])?;
-    disk.write_at(Area::First, 2, &[4, 5])?;
+    disk.write_at(Area::First, 0, &[1, 2, 3])
+        .expect(&rt, "a write");
+    disk.write_at(Area::First, 2, &[4, 5])
+        .expect(&rt, "a write");
     assert_eq!(rt; disk.len(Area::First), 4);
     drop(disk);
     assert_eq!(rt;
-        fs::read(&rt, "rr_disk_within/a0")?.as_slice(),
+        fs::read(&rt, "rr_disk_within/a0")
+            .expect(&rt, "a read")
+            .as_slice(),
         [1, 2, 4, 5].as_slice()
     );
-    fs::remove_dir_all(&rt, folder)?;
-    Ok(())
+    fs::remove_dir_all(&rt, folder).expect(&rt, "the folder goes");
 }
 
 #[test]
-fn reads_what_was_written(rt: HostRuntime) -> Result<(), Fail> {
+fn reads_what_was_written(rt: HostRuntime) {
     let folder = "rr_disk_read";
     let _ = fs::remove_dir_all(&rt, folder);
     let alloc = rt.alloc();
-    let mut disk = FileDisk::open(&rt, folder, true)?;
-    disk.write_at(Area::First, 0, &[1, 2, 4, 5])?;
-    disk.sync()?;
+    let mut disk = FileDisk::open(&rt, folder, true).expect(&rt, "an opening");
+    disk.write_at(Area::First, 0, &[1, 2, 4, 5])
+        .expect(&rt, "a write");
+    disk.sync().expect(&rt, "a sync");
     assert_eq!(rt;
-        disk.read(alloc, Area::First, 1, 2)?.as_slice(),
+        disk.read(alloc, Area::First, 1, 2)
+            .expect(&rt, "a read")
+            .as_slice(),
         [2, 4].as_slice()
     );
     assert_eq!(rt;
-        disk.read(alloc, Area::First, 3, u64::MAX)?.as_slice(),
+        disk.read(alloc, Area::First, 3, u64::MAX)
+            .expect(&rt, "a read")
+            .as_slice(),
         [5].as_slice()
     );
-    assert!(rt; disk.read(alloc, Area::First, 9, 2)?.is_empty());
+    assert!(rt;
+        disk.read(alloc, Area::First, 9, 2)
+            .expect(&rt, "a read")
+            .is_empty()
+    );
     drop(disk);
-    fs::remove_dir_all(&rt, folder)?;
-    Ok(())
+    fs::remove_dir_all(&rt, folder).expect(&rt, "the folder goes");
 }
 
 #[test]
-fn finds_what_was_written_again(rt: HostRuntime) -> Result<(), Fail> {
+fn finds_what_was_written_again(rt: HostRuntime) {
     let folder = "rr_disk_kept";
     let deep = "rr_disk_kept/a/b";
     let _ = fs::remove_dir_all(&rt, folder);
     let alloc = rt.alloc();
-    let mut disk = FileDisk::open(&rt, deep, true)?;
-    disk.write_at(Area::First, 0, &[1, 2])?;
-    disk.write_at(Area::Second, 0, &[7])?;
+    let mut disk = FileDisk::open(&rt, deep, true).expect(&rt, "an opening");
+    disk.write_at(Area::First, 0, &[1, 2])
+        .expect(&rt, "a write");
+    disk.write_at(Area::Second, 0, &[7]).expect(&rt, "a write");
     drop(disk);
-    let mut again = FileDisk::open(&rt, deep, false)?;
+    let mut again = FileDisk::open(&rt, deep, false).expect(&rt, "an opening");
     assert_eq!(rt; again.len(Area::First), 2);
     assert_eq!(rt;
-        again.read(alloc, Area::Second, 0, 9)?.as_slice(),
+        again
+            .read(alloc, Area::Second, 0, 9)
+            .expect(&rt, "a read")
+            .as_slice(),
         [7].as_slice()
     );
-    let mut made = FileDisk::open(&rt, deep, true)?;
+    let mut made = FileDisk::open(&rt, deep, true).expect(&rt, "an opening");
     assert_eq!(rt;
-        made.read(alloc, Area::First, 0, 9)?.as_slice(),
+        made.read(alloc, Area::First, 0, 9)
+            .expect(&rt, "a read")
+            .as_slice(),
         [1, 2].as_slice()
     );
     drop((again, made));
-    fs::remove_dir_all(&rt, folder)?;
-    Ok(())
+    fs::remove_dir_all(&rt, folder).expect(&rt, "the folder goes");
 }
 
 #[test]
-fn refuses_what_is_no_folder_of_two_files(rt: HostRuntime) -> Result<(), Fail> {
+fn refuses_what_is_no_folder_of_two_files(rt: HostRuntime) {
     let folder = "rr_disk_refused";
     let _ = fs::remove_dir_all(&rt, folder);
     assert!(rt; FileDisk::open(&rt, folder, false).is_err(), "no folder");
-    assert!(rt; !fs::exists(&rt, folder)?, "none was made");
-    fs::create_dir(&rt, folder)?;
+    assert!(rt;
+        !fs::exists(&rt, folder).expect(&rt, "a look"),
+        "none was made"
+    );
+    fs::create_dir(&rt, folder).expect(&rt, "a folder");
     assert!(rt;
         FileDisk::open(&rt, folder, false).is_err(),
         "an empty folder"
     );
-    fs::write(&rt, "rr_disk_refused/a0", b"x".as_slice())?;
+    fs::write(&rt, "rr_disk_refused/a0", b"x".as_slice()).expect(&rt, "a file");
     assert!(rt; FileDisk::open(&rt, folder, false).is_err(), "one file");
-    assert!(rt; !fs::exists(&rt, "rr_disk_refused/a1")?, "none was made");
-    fs::create_dir(&rt, "rr_disk_refused/a1")?;
+    assert!(rt;
+        !fs::exists(&rt, "rr_disk_refused/a1").expect(&rt, "a look"),
+        "none was made"
+    );
+    fs::create_dir(&rt, "rr_disk_refused/a1").expect(&rt, "a folder");
     for make in [false, true] {
         let opened = FileDisk::open(&rt, folder, make);
         assert!(rt;
@@ -99,21 +120,20 @@ fn refuses_what_is_no_folder_of_two_files(rt: HostRuntime) -> Result<(), Fail> {
             "a file as a folder"
         );
     }
-    fs::remove_dir_all(&rt, folder)?;
-    Ok(())
+    fs::remove_dir_all(&rt, folder).expect(&rt, "the folder goes");
 }
 
 #[test]
-fn a_file_that_was_cut_is_a_fault(rt: HostRuntime) -> Result<(), Fail> {
+fn a_file_that_was_cut_is_a_fault(rt: HostRuntime) {
     let folder = "rr_disk_cut";
     let _ = fs::remove_dir_all(&rt, folder);
     let alloc = rt.alloc();
-    let mut disk = FileDisk::open(&rt, folder, true)?;
-    disk.write_at(Area::First, 0, &[1, 2, 3])?;
-    fs::write(&rt, "rr_disk_cut/a0", b"".as_slice())?;
+    let mut disk = FileDisk::open(&rt, folder, true).expect(&rt, "an opening");
+    disk.write_at(Area::First, 0, &[1, 2, 3])
+        .expect(&rt, "a write");
+    fs::write(&rt, "rr_disk_cut/a0", b"".as_slice()).expect(&rt, "a file");
     let read = disk.read(alloc, Area::First, 0, 3);
     assert!(rt; matches!(read, Err(Refusal::Device)));
     drop(disk);
-    fs::remove_dir_all(&rt, folder)?;
-    Ok(())
+    fs::remove_dir_all(&rt, folder).expect(&rt, "the folder goes");
 }

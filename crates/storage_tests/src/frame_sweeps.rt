@@ -7,7 +7,6 @@ use rr_frame::{
 use rr_types::{Command, Op, Refusal, Standing};
 use std::alloc::Global;
 use std::process::Abort;
-use std::test::Fail;
 
 /// Which decoder reads an example.
 #[derive(Clone, Copy)]
@@ -152,7 +151,7 @@ fn sweep(
 }
 
 #[test]
-fn each_byte_and_each_cut_of_facts(rt: HostRuntime) -> Result<(), Fail> {
+fn each_byte_and_each_cut_of_facts(rt: HostRuntime) {
     let rows: [(&[u8], &[usize]); 4] = [
         (&ENTER, &ENTER_FIELDS),
         (&PROPOSE, &PROPOSE_FIELDS),
@@ -160,17 +159,16 @@ fn each_byte_and_each_cut_of_facts(rt: HostRuntime) -> Result<(), Fail> {
         (&DECIDE, &DECIDE_FIELDS),
     ];
     for (example, fields) in rows {
-        sweep(&rt, rt.alloc(), Form::Fact, example, fields)?;
+        sweep(&rt, rt.alloc(), Form::Fact, example, fields).expect(&rt, "memory");
     }
-    Ok(())
 }
 
 #[test]
-fn each_byte_and_each_cut_of_a_group(rt: HostRuntime) -> Result<(), Fail> {
-    Ok(sweep(&rt, rt.alloc(), Form::Group, &GROUP, &GROUP_FIELDS)?)
+fn each_byte_and_each_cut_of_a_group(rt: HostRuntime) {
+    sweep(&rt, rt.alloc(), Form::Group, &GROUP, &GROUP_FIELDS).expect(&rt, "memory");
 }
 
 #[test]
-fn each_byte_and_each_cut_of_a_snapshot(rt: HostRuntime) -> Result<(), Fail> {
-    Ok(sweep(&rt, rt.alloc(), Form::Snapshot, &SNAPSHOT, &SNAPSHOT_FIELDS)?)
+fn each_byte_and_each_cut_of_a_snapshot(rt: HostRuntime) {
+    sweep(&rt, rt.alloc(), Form::Snapshot, &SNAPSHOT, &SNAPSHOT_FIELDS).expect(&rt, "memory");
 }

@@ -9,7 +9,7 @@ use rr_types::{
     Round, Value,
 };
 use std::alloc::Global;
-use std::test::Fail;
+use std::process::Abort;
 
 /// A group of one fact with number 3: instance 0 decides `7.1 claim a x`.
 static DECIDED: [u8; 32] = [
@@ -45,12 +45,12 @@ fn proposed() -> &'static [u8] {
 }
 
 /// A copy of bytes, with another byte at a place.
-fn changed(alloc: Global, bytes: &[u8], place: usize, byte: u8) -> Result<Vec<u8>, Fail> {
-    let mut bytes = bytes.to_vec(alloc)?;
+fn changed(rt: &impl Abort, alloc: Global, bytes: &[u8], place: usize, byte: u8) -> Vec<u8> {
+    let mut bytes = bytes.to_vec(alloc).expect(rt, "memory");
     if let Some(at) = bytes.get_mut(place) {
         *at = byte;
     }
-    Ok(bytes)
+    bytes
 }
 
 /// Whether bytes are refused as a group at this offset.
@@ -64,33 +64,38 @@ fn is_no_snapshot(alloc: Global, bytes: &[u8], offset: u64) -> bool {
 }
 
 #[test]
-fn a_transfer_is_spelled_in_19_bytes(rt: HostRuntime) -> Result<(), Fail> {
+fn a_transfer_is_spelled_in_19_bytes(rt: HostRuntime) {
     let command = Command {
         request: RequestNo { client: 7, seq: 2 },
-        op: Op::Transfer(Name::new(b"a")?, 9),
+        op: Op::Transfer(Name::new(b"a").expect(&rt, "memory"), 9),
     };
     let mut bytes = Vec::new(rt.alloc());
-    put_command(&mut bytes, &command)?;
+    put_command(&mut bytes, &command).expect(&rt, "memory");
     assert_eq!(rt;
         bytes.as_slice(),
         [0, 0, 0, 7, 0, 0, 0, 0, 0, 0, 0, 2, 4, 1, 0x61, 0, 0, 0, 9].as_slice()
     );
     let mut reader = Reader::new(&bytes);
-    let read = read_command(&mut reader).ok().ok_or("a command")?;
+    let read = read_command(&mut reader).ok().expect(&rt, "a command");
     assert!(rt; read.is_same(&command));
     assert_eq!(rt; reader.left(), 0);
-    Ok(())
 }
 
 #[test]
-fn a_fact_is_read_as_it_was_written(rt: HostRuntime) -> Result<(), Fail> {
+fn a_fact_is_read_as_it_was_written(rt: HostRuntime) {
     let command = Command {
         request: RequestNo { client: 7, seq: 1 },
-        op: Op::Claim(Name::new(b"a")?, Value::new(b"x")?),
+        op: Op::Claim(
+            Name::new(b"a").expect(&rt, "memory"),
+            Value::new(b"x").expect(&rt, "memory"),
+        ),
     };
-    let instance = Instance::new(0).ok_or("an instance")?;
-    let estimate = Estimate::new(Round::new(1).ok_or("a round")?, 0, command).ok_or("an estimate")?;
-    let bytes = encode_fact(rt.alloc(), &Fact::Enter(instance, estimate))?;
+    let instance = Instance::new(0).expect(&rt, "an instance");
+    let estimate = Estimate::new(Round::new(1).expect(&rt, "a round"), 0, command).expect(
+        &rt,
+        "an estimate",
+    );
+    let bytes = encode_fact(rt.alloc(), &Fact::Enter(instance, estimate)).expect(&rt, "memory");
     assert_eq!(rt;
         bytes.as_slice(),
         [
@@ -105,11 +110,10 @@ fn a_fact_is_read_as_it_was_written(rt: HostRuntime) -> Result<(), Fail> {
     assert_eq!(rt; bent.len(), 30);
     bent[12] = 1;
     assert!(rt; matches!(decode_fact(&bent), Err(Refusal::Malformed(9))));
-    Ok(())
 }
 
 #[test]
-fn faults_of_a_group(rt: HostRuntime) -> Result<(), Fail> {
+fn faults_of_a_group(rt: HostRuntime) {
     let alloc = rt.alloc();
     let faults = [
         (9, 0, 8),
@@ -123,32 +127,48 @@ fn faults_of_a_group(rt: HostRuntime) -> Result<(), Fail> {
         (30, 2, 31),
     ];
     for (place, value, offset) in faults {
-        let bytes = changed(alloc, decided(), place, value)?;
+        let bytes = changed(&rt, alloc, decided(), place, value);
         assert!(rt; is_no_group(alloc, &bytes, offset), "{value} at {place}");
     }
-    let longer = [decided(), [0].as_slice()].concat(alloc)?;
+    let longer = [decided(), [0].as_slice()]
+        .concat(alloc)
+        .expect(&rt, "memory");
     assert!(rt; is_no_group(alloc, &longer, 32));
     assert!(rt; is_no_group(alloc, &[], 0));
-    Ok(())
 }
 
 #[test]
-fn snapshots(rt: HostRuntime) -> Result<(), Fail> {
+fn snapshots(rt: HostRuntime) {
     let alloc = rt.alloc();
-    let node = NodeId::at(0).ok_or("a node")?;
-    let made = Snapshot::new(Nodes::new(1)?, node, 1, 0, Promise::new(Vec::new(alloc)))
-        .ok()
-        .ok_or("a snapshot")?;
-    assert_eq!(rt; encode_snapshot(alloc, &made)?.as_slice(), empty());
-    let read = decode_snapshot(alloc, proposed())?;
+    let node = NodeId::at(0).expect(&rt, "a node");
+    let made = Snapshot::new(
+        Nodes::new(1).expect(&rt, "nodes"),
+        node,
+        1,
+        0,
+        Promise::new(Vec::new(alloc)),
+    )
+    .ok()
+    .expect(&rt, "a snapshot");
+    assert_eq!(rt;
+        encode_snapshot(alloc, &made)
+            .expect(&rt, "memory")
+            .as_slice(),
+        empty()
+    );
+    let read = decode_snapshot(alloc, proposed()).expect(&rt, "memory");
     assert_eq!(rt; (read.epoch(), read.next()), (2, 2));
     assert_eq!(rt; read.promise().entries().len(), 1);
-    assert_eq!(rt; encode_snapshot(alloc, &read)?.as_slice(), proposed());
-    Ok(())
+    assert_eq!(rt;
+        encode_snapshot(alloc, &read)
+            .expect(&rt, "memory")
+            .as_slice(),
+        proposed()
+    );
 }
 
 #[test]
-fn faults_of_a_snapshot(rt: HostRuntime) -> Result<(), Fail> {
+fn faults_of_a_snapshot(rt: HostRuntime) {
     // Version, node and count, epoch 0, entries before the first fact, kind, round 0, stamp above the round, flag.
     let faults = [
         (0, 1, 0),
@@ -162,11 +182,10 @@ fn faults_of_a_snapshot(rt: HostRuntime) -> Result<(), Fail> {
         (53, 2, 53),
     ];
     for (place, value, offset) in faults {
-        let bytes = changed(rt.alloc(), proposed(), place, value)?;
+        let bytes = changed(&rt, rt.alloc(), proposed(), place, value);
         assert!(rt;
             is_no_snapshot(rt.alloc(), &bytes, offset),
             "{value} at {place}"
         );
     }
-    Ok(())
 }

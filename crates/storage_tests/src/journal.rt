@@ -1,15 +1,16 @@
 //! Openings of areas and of disks, with each answer by hand.
 
-ghost use Rattle.std.specs.Prelude.{◌<◌, IfOk};
+ghost use Rattle.std.specs.Prelude.{◌<◌};
 
 use rr_disk::{Area, Disk, FailingDisk, MemDisk};
+use rr_frame::decode_group;
 use rr_journal::{Image, Journal, Opening, Progress, frame, read_image};
 use rr_types::{
     Command, Entry, Estimate, Fact, Group, Instance, Name, NodeId, Nodes, Op, Refusal, RequestNo,
     Round, Standing, Value,
 };
 use std::alloc::Global;
-use std::test::Fail;
+use std::process::Abort;
 
 /// Area 0 of node 0 of 1 behind four facts: it entered round 1 of instance 0 with `7.1 claim a x`, proposed
 /// it, adopted it and decided. The gates stand at 0, 28, 73, 114, 155 and 192.
@@ -37,10 +38,10 @@ pub fn cut(bytes: &[u8], place: usize) -> &[u8] {
 }
 
 /// A copy of bytes, with another byte at a place.
-pub fn changed(alloc: Global, bytes: &[u8], place: usize, byte: u8) -> Result<Vec<u8>, Fail> {
-    let mut bytes = bytes.to_vec(alloc)?;
+pub fn changed(rt: &impl Abort, alloc: Global, bytes: &[u8], place: usize, byte: u8) -> Vec<u8> {
+    let mut bytes = bytes.to_vec(alloc).expect(rt, "memory");
     put_at(&mut bytes, place, byte);
-    Ok(bytes)
+    bytes
 }
 
 /// Puts a byte at a place of these, where there is one.
@@ -87,21 +88,20 @@ fn areas_cut_short(rt: HostRuntime) {
 }
 
 #[test]
-fn areas_with_one_byte_changed(rt: HostRuntime) -> Result<(), Fail> {
+fn areas_with_one_byte_changed(rt: HostRuntime) {
     let alloc = rt.alloc();
     for (place, value, offset) in [(159, 33, 155), (167, 4, 155), (170, 5, 155), (6, 2, 0)] {
-        let bytes = changed(alloc, area(), place, value)?;
+        let bytes = changed(&rt, alloc, area(), place, value);
         assert!(rt; is_damaged(alloc, &bytes, offset));
     }
-    let bytes = changed(alloc, area(), 28, 0xA4)?;
+    let bytes = changed(&rt, alloc, area(), 28, 0xA4);
     assert_eq!(rt; facts(alloc, &bytes), Some((0, 28)));
-    let bytes = changed(alloc, area(), 0, 0)?;
+    let bytes = changed(&rt, alloc, area(), 0, 0);
     assert!(rt; matches!(opened(alloc, &bytes, &[]), Ok(Image::Unformatted)));
-    let bytes = changed(alloc, area(), 155, 0)?;
+    let bytes = changed(&rt, alloc, area(), 155, 0);
     for length in 156..194 {
         assert_eq!(rt; facts(alloc, cut(&bytes, length)), Some((3, 155)));
     }
-    Ok(())
 }
 
 /// Whether two areas are broken at the first byte of one of them.
@@ -114,69 +114,56 @@ fn is_broken(alloc: Global, first: &[u8], second: &[u8], broken: u8) -> bool {
 
 /// Two formatted areas of one epoch; an area of a later epoch, of which the other's first frame alone counts.
 #[test]
-fn two_areas(rt: HostRuntime) -> Result<(), Fail> {
+fn two_areas(rt: HostRuntime) {
     let alloc = rt.alloc();
     assert!(rt; is_broken(alloc, area(), area(), 1));
-    let later = changed(alloc, area(), 15, 2)?;
+    let later = changed(&rt, alloc, area(), 15, 2);
     match opened(alloc, cut(area(), 100), &later) {
         Ok(Image::Active(Area::Second, content)) => assert_eq!(rt; content.epoch(), 2),
         _ => assert!(rt; false),
     }
-    let other = changed(alloc, &later, 6, 1)?;
+    let other = changed(&rt, alloc, &later, 6, 1);
     assert!(rt; is_broken(alloc, area(), &other, 1));
     assert!(rt; is_broken(alloc, &other, &other, 0));
-    Ok(())
 }
 
 /// A group of one fact, the first of `AREA`: the node enters round 1 of instance 0 with `7.1 claim a x`.
-fn entered(alloc: Global) -> Result<Group, Fail> {
-    let instance = Instance::new(0).ok_or("an instance")?;
-    let round = Round::new(1).ok_or("a round")?;
-    let command = Command {
-        request: RequestNo { client: 7, seq: 1 },
-        op: Op::Claim(Name::new(b"a")?, Value::new(b"x")?),
-    };
-    let estimate = Estimate::new(round, 0, command).ok_or("an estimate")?;
-    let facts = [Fact::Enter(instance, estimate)].to_vec(alloc)?;
-    Ok(Group::new(0, facts).map_err(|_| "a group")?)
+fn entered(rt: &impl Abort, alloc: Global) -> Group {
+    let (_, spelled) = cut(area(), 73).split_at(33);
+    decode_group(alloc, spelled).expect(rt, "a group")
 }
 
 /// The disk behind a flush of that group over an empty one, which opens with no facts.
-fn flushed(alloc: Global, nodes: Nodes, node: NodeId) -> Result<MemDisk, Fail>
+fn flushed(rt: &impl Abort, alloc: Global, nodes: Nodes, node: NodeId) -> MemDisk
     requires { node < nodes }
 {
-    let (mut journal, promise, number) = Journal::open(
-        alloc,
-        nodes,
-        node,
-        MemDisk::new(alloc),
-    ).map_err(|refused| refused.0)?;
-    if (journal.facts(), number, promise.entries().len()) != (0, 0, 0) {
-        return Err("an empty disk without facts".into());
-    }
-    let job = journal
-        .begin(alloc, entered(alloc)?)
-        .map_err(|refused| refused.0)?;
-    let job = job.step(&mut journal)?;
-    let job = job.step(&mut journal)?;
-    let job = job.step(&mut journal)?;
-    let group = job.step(&mut journal)?.into_group();
-    if (group.serial(), journal.facts()) != (0, 1) {
-        return Err("the group that was flushed".into());
-    }
-    Ok(journal.into_disk())
+    let opened = Journal::open(alloc, nodes, node, MemDisk::new(alloc));
+    let (mut journal, promise, number) = opened.expect(rt, "an opening");
+    assert_eq!(rt;
+        (journal.facts(), number, promise.entries().len()),
+        (0, 0, 0)
+    );
+    let begun = journal.begin(alloc, entered(rt, alloc));
+    let job = begun.expect(rt, "a flush");
+    let job = job.step(&mut journal).expect(rt, "a write");
+    let job = job.step(&mut journal).expect(rt, "a sync");
+    let job = job.step(&mut journal).expect(rt, "a write");
+    let synced = job.step(&mut journal).expect(rt, "a sync");
+    assert_eq!(rt; (synced.into_group().serial(), journal.facts()), (0, 1));
+    journal.into_disk()
 }
 
 /// A fact that a flush wrote is there when the disk is opened again.
 #[test]
-fn a_disk_is_opened_twice(rt: HostRuntime) -> Result<(), Fail> {
+fn a_disk_is_opened_twice(rt: HostRuntime) {
     let alloc = rt.alloc();
-    let nodes = Nodes::new(1)?;
-    let node = NodeId::new(nodes, 0).ok_or("a node")?;
-    let disk = flushed(alloc, nodes, node)?;
-    let (journal, promise, number) = Journal::open(alloc, nodes, node, disk).map_err(
-        |refused| refused.0,
-    )?;
+    let nodes = Nodes::new(1).expect(&rt, "nodes");
+    let node = NodeId::new(nodes, 0).expect(&rt, "a node");
+    let disk = flushed(&rt, alloc, nodes, node);
+    let (journal, promise, number) = Journal::open(alloc, nodes, node, disk).expect(
+        &rt,
+        "an opening",
+    );
     assert_eq!(rt; (journal.facts(), number), (1, 1));
     match promise.entries() {
         [
@@ -194,49 +181,51 @@ fn a_disk_is_opened_twice(rt: HostRuntime) -> Result<(), Fail> {
     }
     // The frames of `AREA` up to its first group, and a closed gate behind it.
     let mut disk = journal.into_disk();
-    let bytes = disk.read(alloc, Area::First, 0, u64::MAX)?;
-    let (last, before) = bytes.split_last().ok_or("an empty area")?;
+    let bytes = disk
+        .read(alloc, Area::First, 0, u64::MAX)
+        .expect(&rt, "a read");
+    let (last, before) = bytes.split_last().expect(&rt, "an empty area");
     assert_eq!(rt; before, cut(area(), 73));
     assert_eq!(rt; *last, 0);
     assert_eq!(rt; disk.len(Area::Second), 0);
-    Ok(())
 }
 
 /// The opening behind a device call that isn't its last.
-pub fn more<D: Disk + Drop>(alloc: Global, opening: Opening<D>) -> Result<Opening<D>, Fail>
+pub fn more<D: Disk + Drop>(rt: &impl Abort, alloc: Global, opening: Opening<D>) -> Opening<D>
     requires { opening.node < opening.nodes }
-    ensures { IfOk result (λ next. next.node < next.nodes) }
+    ensures { result.node < result.nodes }
 {
     match opening.step(alloc) {
-        Ok(Progress::More(next)) => Ok(next),
-        Ok(Progress::Done(_, _, _)) => Err("an opening that goes on".into()),
-        Err((refusal, _)) => Err(refusal.into()),
+        Ok(Progress::More(next)) => next,
+        Ok(Progress::Done(_, _, _)) => rt.panic("a call more"),
+        Err((_, _)) => rt.panic("a call without a fault"),
     }
 }
 
 /// A refused opening hands the disk back, which can be opened then: an empty one by nine device calls.
 #[test]
-fn a_refused_opening_is_repeated(rt: HostRuntime) -> Result<(), Fail> {
+fn a_refused_opening_is_repeated(rt: HostRuntime) {
     let alloc = rt.alloc();
-    let nodes = Nodes::new(1)?;
-    let node = NodeId::new(nodes, 0).ok_or("a node")?;
+    let nodes = Nodes::new(1).expect(&rt, "nodes");
+    let node = NodeId::new(nodes, 0).expect(&rt, "a node");
     let mut disk = FailingDisk::new(MemDisk::new(alloc));
     disk.fail_next(Vec::new(alloc));
     let disk = match Journal::open(alloc, nodes, node, disk) {
         Err((Refusal::Device, disk)) => disk,
-        _ => return Err("an opening whose sync failed".into()),
+        _ => rt.panic("an opening whose sync failed"),
     };
     assert_eq!(rt; disk.below().len(Area::First), 0);
     let mut opening = Opening::start(nodes, node, disk);
     for _ in 0..8 {
-        opening = more(alloc, opening)?;
+        opening = more(&rt, alloc, opening);
     }
-    let (journal, promise, number) = opening.finish(alloc).map_err(|refused| refused.0)?;
+    let (journal, promise, number) = opening.finish(alloc).expect(&rt, "an opening");
     assert_eq!(rt; (number, promise.entries().len()), (0, 0));
     let mut disk = journal.into_disk();
-    let bytes = disk.read(alloc, Area::First, 0, u64::MAX)?;
-    let (last, before) = bytes.split_last().ok_or("an empty area")?;
+    let bytes = disk
+        .read(alloc, Area::First, 0, u64::MAX)
+        .expect(&rt, "a read");
+    let (last, before) = bytes.split_last().expect(&rt, "an empty area");
     assert_eq!(rt; before, cut(area(), 28));
     assert_eq!(rt; *last, 0);
-    Ok(())
 }

@@ -11,7 +11,6 @@ use rr_types::{
 };
 use std::alloc::Global;
 use std::process::Abort;
-use std::test::Fail;
 
 /// Area 1 behind a switch: the snapshot of node 0 of 1 with epoch 2 behind four facts, by which
 /// instance 0 has decided `7.1 claim a x`, and a closed gate.
@@ -111,90 +110,91 @@ fn assert_one_decided(rt: &impl Abort, promise: &Promise) -> Result<(), Refusal>
 }
 
 #[test]
-fn what_the_areas_hold(rt: HostRuntime) -> Result<(), Fail> {
+fn what_the_areas_hold(rt: HostRuntime) {
     let alloc = rt.alloc();
-    match opened(alloc, area(), &[])? {
+    match opened(alloc, area(), &[]).expect(&rt, "memory") {
         Image::Active(Area::First, content) => {
             assert_eq!(rt;
                 (content.epoch(), content.next(), content.gate()),
                 (1, 4, 192)
             );
-            assert_one_decided(&rt, &content.into_promise())?;
+            assert_one_decided(&rt, &content.into_promise()).expect(&rt, "memory");
         }
         _ => assert!(rt; false),
     }
-    match opened(alloc, area(), snapshot())? {
+    match opened(alloc, area(), snapshot()).expect(&rt, "memory") {
         Image::Active(Area::Second, content) => {
             assert_eq!(rt;
                 (content.epoch(), content.next(), content.gate()),
                 (2, 4, 50)
             );
-            assert_one_decided(&rt, &content.into_promise())?;
+            assert_one_decided(&rt, &content.into_promise()).expect(&rt, "memory");
         }
         _ => assert!(rt; false),
     }
     // The snapshot before the groups of area 0.
-    let first = decode_snapshot(alloc, payload_at(area(), 0).ok_or("a frame")?)?;
+    let first = decode_snapshot(alloc, payload_at(area(), 0).expect(&rt, "a frame")).expect(
+        &rt, "memory",
+    );
     assert_eq!(rt;
         (first.epoch(), first.node().index(), first.nodes().count()),
         (1, 0, 1)
     );
     assert_eq!(rt; (first.next(), first.promise().entries().len()), (0, 0));
-    Ok(())
 }
 
 /// An area whose first byte is no open gate is formatted anew: its gate is opened by the sixth
 /// device call.
 #[test]
-fn an_unformatted_area_is_formatted_anew(rt: HostRuntime) -> Result<(), Fail> {
+fn an_unformatted_area_is_formatted_anew(rt: HostRuntime) {
     let alloc = rt.alloc();
-    let closed = changed(alloc, area(), 0, 0)?;
+    let closed = changed(&rt, alloc, area(), 0, 0);
     let mut disk = MemDisk::new(alloc);
-    disk.write_at(Area::First, 0, &closed)?;
-    disk.sync()?;
-    let nodes = Nodes::new(1)?;
-    let node = NodeId::new(nodes, 0).ok_or("a node")?;
+    disk.write_at(Area::First, 0, &closed)
+        .expect(&rt, "a write");
+    disk.sync().expect(&rt, "a sync");
+    let nodes = Nodes::new(1).expect(&rt, "nodes");
+    let node = NodeId::new(nodes, 0).expect(&rt, "a node");
     let mut opening = Opening::start(nodes, node, disk);
     for _ in 0..6 {
-        opening = more(alloc, opening)?;
+        opening = more(&rt, alloc, opening);
     }
     let mut disk = opening.into_disk();
-    let bytes = disk.read(alloc, Area::First, 0, u64::MAX)?;
+    let bytes = disk
+        .read(alloc, Area::First, 0, u64::MAX)
+        .expect(&rt, "a read");
     // The snapshot of epoch 1 and its open gate; the next gate is closed, and nothing behind it has
     // changed.
-    let expected = changed(alloc, area(), 28, 0)?;
+    let expected = changed(&rt, alloc, area(), 28, 0);
     assert_eq!(rt; bytes.as_slice(), expected.as_slice());
-    Ok(())
 }
 
 #[test]
-fn each_byte_of_area_0(rt: HostRuntime) -> Result<(), Fail> {
+fn each_byte_of_area_0(rt: HostRuntime) {
     let alloc = rt.alloc();
-    let mut bytes = area().to_vec(alloc)?;
+    let mut bytes = area().to_vec(alloc).expect(&rt, "memory");
     for (place, kept) in area().iter().enumerate() {
-        assert_exact(&rt, alloc, cut(area(), place), &[])?;
-        assert_exact(&rt, alloc, cut(area(), place), snapshot())?;
+        assert_exact(&rt, alloc, cut(area(), place), &[]).expect(&rt, "memory");
+        assert_exact(&rt, alloc, cut(area(), place), snapshot()).expect(&rt, "memory");
         for byte in 0..=255 {
             put_at(&mut bytes, place, byte);
-            assert_exact(&rt, alloc, &bytes, &[])?;
-            assert_exact(&rt, alloc, &bytes, snapshot())?;
+            assert_exact(&rt, alloc, &bytes, &[]).expect(&rt, "memory");
+            assert_exact(&rt, alloc, &bytes, snapshot()).expect(&rt, "memory");
         }
         put_at(&mut bytes, place, *kept);
     }
-    Ok(())
 }
 
 #[test]
-fn each_byte_of_area_1(rt: HostRuntime) -> Result<(), Fail> {
+fn each_byte_of_area_1(rt: HostRuntime) {
     let alloc = rt.alloc();
-    let mut bytes = snapshot().to_vec(alloc)?;
+    let mut bytes = snapshot().to_vec(alloc).expect(&rt, "memory");
     for (place, kept) in snapshot().iter().enumerate() {
-        assert_exact(&rt, alloc, area(), cut(snapshot(), place))?;
+        assert_exact(&rt, alloc, area(), cut(snapshot(), place)).expect(&rt, "memory");
         for byte in 0..=255 {
             put_at(&mut bytes, place, byte);
-            assert_exact(&rt, alloc, area(), &bytes)?;
+            assert_exact(&rt, alloc, area(), &bytes).expect(&rt, "memory");
         }
         put_at(&mut bytes, place, *kept);
     }
-    Ok(())
 }
