@@ -5,6 +5,7 @@ ghost use Rattle.std.specs.Prelude.{◌≡◌, true, refl};
 use rr_disk::{Area, Disk, FailingDisk, MemDisk};
 use rr_gate::{Host, Job};
 use rr_types::{Command, Fact, Group, Instance, Name, NodeId, Nodes, Op, Refusal, RequestNo};
+use std::test::Fail;
 
 #[derive(Drop)]
 struct Plain {
@@ -56,48 +57,45 @@ impl Host for Plain {
 }
 
 #[test]
-fn a_flush_takes_four_calls(rt: HostRuntime) {
+fn a_flush_takes_four_calls(rt: HostRuntime) -> Result<(), Fail> {
     let alloc = rt.alloc();
     let mut disk = MemDisk::new(alloc);
-    disk.write_at(Area::First, 0, &[0xA5, 0x00, 0x11])
-        .expect(&rt, "a write");
-    disk.sync().expect(&rt, "a sync");
+    disk.write_at(Area::First, 0, &[0xA5, 0x00, 0x11])?;
+    disk.sync()?;
     let mut host = Plain {
         disk: FailingDisk::new(disk),
         failed: false,
         gate: 2,
         next: 5,
     };
-    let nodes = Nodes::new(1).expect(&rt, "nodes");
-    let node = NodeId::new(nodes, 0).expect(&rt, "a node");
+    let nodes = Nodes::new(1)?;
+    let node = NodeId::new(nodes, 0).ok_or("a node")?;
     let command = Command {
         request: RequestNo { client: 7, seq: 1 },
-        op: Op::Release(Name::new(b"a").expect(&rt, "a name")),
+        op: Op::Release(Name::new(b"a")?),
     };
-    let decide = Fact::Decide(Instance::new(0).expect(&rt, "an instance"), command);
-    let group = Group::new(5, [decide].to_vec(alloc).expect(&rt, "memory")).expect(&rt, "a group");
-    let body = [0, 0, 0, 1, 0x77, 0].to_vec(alloc).expect(&rt, "memory");
+    let decide = Fact::Decide(Instance::new(0).ok_or("an instance")?, command);
+    let group = Group::new(5, [decide].to_vec(alloc)?).map_err(|_| "a group")?;
+    let body = [0, 0, 0, 1, 0x77, 0].to_vec(alloc)?;
     let job = Job::new(nodes, node, Area::First, 2, body, group);
-    let job = job.step(&mut host).expect(&rt, "a step");
-    let job = job.step(&mut host).expect(&rt, "a step");
-    let job = job.step(&mut host).expect(&rt, "a step");
-    let synced = job.step(&mut host).expect(&rt, "a step");
+    let job = job.step(&mut host)?;
+    let job = job.step(&mut host)?;
+    let job = job.step(&mut host)?;
+    let synced = job.step(&mut host)?;
     assert_eq!(rt; synced.first(), 5);
     assert_eq!(rt; synced.into_group().facts().len(), 1);
     assert_eq!(rt; host.gate, 8);
     assert_eq!(rt; host.next, 6);
-    let bytes = host
-        .disk
-        .read(alloc, Area::First, 0, 99)
-        .expect(&rt, "a read");
+    let bytes = host.disk.read(alloc, Area::First, 0, 99)?;
     assert_eq!(rt;
         bytes.as_slice(),
         [0xA5, 0x00, 0xA5, 0, 0, 0, 1, 0x77, 0].as_slice()
     );
+    Ok(())
 }
 
 #[test]
-fn a_host_that_failed_is_left_alone(rt: HostRuntime) {
+fn a_host_that_failed_is_left_alone(rt: HostRuntime) -> Result<(), Fail> {
     let alloc = rt.alloc();
     let mut host = Plain {
         disk: FailingDisk::new(MemDisk::new(alloc)),
@@ -105,43 +103,30 @@ fn a_host_that_failed_is_left_alone(rt: HostRuntime) {
         gate: 0,
         next: 0,
     };
-    let nodes = Nodes::new(1).expect(&rt, "nodes");
-    let node = NodeId::new(nodes, 0).expect(&rt, "a node");
+    let nodes = Nodes::new(1)?;
+    let node = NodeId::new(nodes, 0).ok_or("a node")?;
     let command = Command {
         request: RequestNo { client: 7, seq: 1 },
-        op: Op::Release(Name::new(b"a").expect(&rt, "a name")),
+        op: Op::Release(Name::new(b"a")?),
     };
-    let decide = Fact::Decide(Instance::new(0).expect(&rt, "an instance"), command);
-    let group = Group::new(0, [decide].to_vec(alloc).expect(&rt, "memory")).expect(&rt, "a group");
-    let again = Group::new(0, [decide].to_vec(alloc).expect(&rt, "memory")).expect(&rt, "a group");
-    let job = Job::new(
-        nodes,
-        node,
-        Area::First,
-        0,
-        [1, 0].to_vec(alloc).expect(&rt, "memory"),
-        group,
-    );
+    let decide = Fact::Decide(Instance::new(0).ok_or("an instance")?, command);
+    let group = Group::new(0, [decide].to_vec(alloc)?).map_err(|_| "a group")?;
+    let again = Group::new(0, [decide].to_vec(alloc)?).map_err(|_| "a group")?;
+    let job = Job::new(nodes, node, Area::First, 0, [1, 0].to_vec(alloc)?, group);
     match job.step(&mut host) {
         Ok(next) => {
             next.abandon();
-            assert!(rt; false, "a write past the end was done");
+            return Err("a write past the end was done")?;
         }
         Err(e) => assert_eq!(rt; e, Refusal::Device),
     }
-    let job = Job::new(
-        nodes,
-        node,
-        Area::First,
-        0,
-        [1, 0].to_vec(alloc).expect(&rt, "memory"),
-        again,
-    );
+    let job = Job::new(nodes, node, Area::First, 0, [1, 0].to_vec(alloc)?, again);
     match job.step(&mut host) {
         Ok(next) => {
             next.abandon();
-            assert!(rt; false, "a failed host was used");
+            return Err("a failed host was used")?;
         }
         Err(e) => assert_eq!(rt; e, Refusal::Failed),
     }
+    Ok(())
 }

@@ -3,8 +3,7 @@
 use rr_disk::{Area, Disk, FailingDisk, MemDisk};
 use rr_slots::{AreaReport, inspect, inspect_bytes};
 use rr_types::{NodeId, Nodes, Refusal};
-use std::alloc::Global;
-use std::process::Abort;
+use std::test::Fail;
 
 /// Area 0 of node 0 of 1 behind four facts, by which instance 0 has decided. The gates stand at 0, 28, 73, 114,
 /// 155 and 192.
@@ -44,31 +43,30 @@ const SECOND_SNAPSHOT: [u8; 193] = [
 
 /// What an area of this epoch tells of node `node` of `nodes`.
 fn told(
-    rt: &impl Abort,
     epoch: u64,
     node: u8,
     nodes: u8,
     next: u64,
     decided: u64,
-) -> Option<AreaReport> {
-    let nodes = Nodes::new(nodes).expect(rt, "nodes");
-    let node = NodeId::new(nodes, node).expect(rt, "a node");
-    Some(AreaReport {
+) -> Result<Option<AreaReport>, Refusal> {
+    let nodes = Nodes::new(nodes)?;
+    let node = NodeId::new(nodes, node).ok_or(Refusal::BadNodes)?;
+    Ok(Some(AreaReport {
         epoch,
         node,
         nodes,
         next,
         decided,
-    })
+    }))
 }
 
 /// The bytes of an area with another byte in one place.
-fn changed(rt: &impl Abort, alloc: Global, area: &[u8], at: usize, byte: u8) -> Vec<u8> {
-    let mut bytes = area.to_vec(alloc).expect(rt, "memory");
+fn changed(rt: &HostRuntime, area: &[u8], at: usize, byte: u8) -> Result<Vec<u8>, Fail> {
+    let mut bytes = area.to_vec(rt.alloc())?;
     if let Some(place) = bytes.get_mut(at) {
         *place = byte;
     }
-    bytes
+    Ok(bytes)
 }
 
 /// Whether an inspection says that an area is broken at an offset.
@@ -77,70 +75,45 @@ fn is_damaged(rt: &HostRuntime, first: &[u8], second: &[u8], area: u8, offset: u
 }
 
 #[test]
-fn tells_of_both_areas(rt: HostRuntime) {
+fn tells_of_both_areas(rt: HostRuntime) -> Result<(), Fail> {
     let alloc = rt.alloc();
-    let four = told(&rt, 1, 0, 1, 4, 1);
-    let none = told(&rt, 1, 0, 1, 0, 0);
-    let snapshot = told(&rt, 2, 0, 1, 4, 1);
+    let four = told(1, 0, 1, 4, 1)?;
+    let none = told(1, 0, 1, 0, 0)?;
+    let snapshot = told(2, 0, 1, 4, 1)?;
+    assert_eq!(rt; inspect_bytes(alloc, &[], &[])?, (None, None));
+    assert_eq!(rt; inspect_bytes(alloc, &[0xA5], &[0, 0xA5])?, (None, None));
+    assert_eq!(rt; inspect_bytes(alloc, &AREA, &[])?, (four, None));
+    assert_eq!(rt; inspect_bytes(alloc, &[0, 7], &AREA)?, (None, four));
+    assert_eq!(rt; inspect_bytes(alloc, &AREA, &SNAPSHOT)?, (none, snapshot));
+    assert_eq!(rt; inspect_bytes(alloc, &SNAPSHOT, &AREA)?, (snapshot, none));
+    let third = told(3, 0, 1, 4, 1)?;
     assert_eq!(rt;
-        inspect_bytes(alloc, &[], &[]).expect(&rt, "memory"),
-        (None, None)
-    );
-    assert_eq!(rt;
-        inspect_bytes(alloc, &[0xA5], &[0, 0xA5]).expect(&rt, "memory"),
-        (None, None)
-    );
-    assert_eq!(rt;
-        inspect_bytes(alloc, &AREA, &[]).expect(&rt, "memory"),
-        (four, None)
-    );
-    assert_eq!(rt;
-        inspect_bytes(alloc, &[0, 7], &AREA).expect(&rt, "memory"),
-        (None, four)
-    );
-    assert_eq!(rt;
-        inspect_bytes(alloc, &AREA, &SNAPSHOT).expect(&rt, "memory"),
-        (none, snapshot)
-    );
-    assert_eq!(rt;
-        inspect_bytes(alloc, &SNAPSHOT, &AREA).expect(&rt, "memory"),
-        (snapshot, none)
-    );
-    let third = told(&rt, 3, 0, 1, 4, 1);
-    assert_eq!(rt;
-        inspect_bytes(alloc, &SECOND_SNAPSHOT, &SNAPSHOT).expect(&rt, "memory"),
+        inspect_bytes(alloc, &SECOND_SNAPSHOT, &SNAPSHOT)?,
         (third, snapshot)
     );
-    let open = told(&rt, 2, 0, 1, 2, 0);
-    assert_eq!(rt;
-        inspect_bytes(alloc, &AREA, &OPEN_INSTANCE).expect(&rt, "memory"),
-        (none, open)
-    );
+    let open = told(2, 0, 1, 2, 0)?;
+    assert_eq!(rt; inspect_bytes(alloc, &AREA, &OPEN_INSTANCE)?, (none, open));
+    Ok(())
 }
 
 #[test]
-fn measures_each_area_by_itself(rt: HostRuntime) {
+fn measures_each_area_by_itself(rt: HostRuntime) -> Result<(), Fail> {
     let alloc = rt.alloc();
-    let mut other = changed(&rt, rt.alloc(), &AREA, 7, 3);
+    let mut other = changed(&rt, &AREA, 7, 3)?;
     if let Some(node) = other.get_mut(6) {
         *node = 1;
     }
-    let fact = told(&rt, 1, 1, 3, 0, 0);
-    let snapshot = told(&rt, 2, 0, 1, 4, 1);
-    assert_eq!(rt;
-        inspect_bytes(alloc, &other, &SNAPSHOT).expect(&rt, "memory"),
-        (fact, snapshot)
-    );
-    let alone = told(&rt, 1, 1, 3, 1, 0);
-    let cut = changed(&rt, rt.alloc(), &other, 73, 0);
-    assert_eq!(rt;
-        inspect_bytes(alloc, &cut, &[]).expect(&rt, "memory"),
-        (alone, None)
-    );
+    let fact = told(1, 1, 3, 0, 0)?;
+    let snapshot = told(2, 0, 1, 4, 1)?;
+    assert_eq!(rt; inspect_bytes(alloc, &other, &SNAPSHOT)?, (fact, snapshot));
+    let alone = told(1, 1, 3, 1, 0)?;
+    let cut = changed(&rt, &other, 73, 0)?;
+    assert_eq!(rt; inspect_bytes(alloc, &cut, &[])?, (alone, None));
+    Ok(())
 }
 
 #[test]
-fn says_where_an_area_is_broken(rt: HostRuntime) {
+fn says_where_an_area_is_broken(rt: HostRuntime) -> Result<(), Fail> {
     let alloc = rt.alloc();
     assert!(rt; is_damaged(&rt, &AREA[..155], &[], 0, 114));
     for length in 156..193 {
@@ -148,55 +121,57 @@ fn says_where_an_area_is_broken(rt: HostRuntime) {
         assert!(rt; is_damaged(&rt, &[], &AREA[..length], 1, 155));
     }
     for (at, byte) in [(159, 33), (167, 4), (170, 5)] {
-        let bytes = changed(&rt, rt.alloc(), &AREA, at, byte);
+        let bytes = changed(&rt, &AREA, at, byte)?;
         assert!(rt; is_damaged(&rt, &bytes, &[], 0, 155), "byte {at}");
     }
-    assert!(rt; is_damaged(&rt, &changed(&rt, rt.alloc(), &AREA, 6, 2), &[], 0, 0));
-    assert!(rt; is_damaged(&rt, &changed(&rt, rt.alloc(), &AREA, 6, 2), &SNAPSHOT, 0, 0));
+    assert!(rt; is_damaged(&rt, &changed(&rt, &AREA, 6, 2)?, &[], 0, 0));
+    assert!(rt; is_damaged(&rt, &changed(&rt, &AREA, 6, 2)?, &SNAPSHOT, 0, 0));
     assert!(rt; is_damaged(&rt, &AREA, &SNAPSHOT[..50], 1, 0));
     assert!(rt; is_damaged(&rt, &AREA, &AREA, 1, 0), "one epoch");
-    let three = told(&rt, 1, 0, 1, 3, 0);
+    let three = told(1, 0, 1, 3, 0)?;
     assert_eq!(rt;
-        inspect_bytes(alloc, &changed(&rt, rt.alloc(), &AREA, 155, 0), &[]).expect(&rt, "memory"),
+        inspect_bytes(alloc, &changed(&rt, &AREA, 155, 0)?, &[])?,
         (three, None)
     );
-    let none = told(&rt, 1, 0, 1, 0, 0);
+    let none = told(1, 0, 1, 0, 0)?;
     assert_eq!(rt;
-        inspect_bytes(alloc, &changed(&rt, rt.alloc(), &AREA, 28, 0xA4), &[]).expect(&rt, "memory"),
+        inspect_bytes(alloc, &changed(&rt, &AREA, 28, 0xA4)?, &[])?,
         (none, None)
     );
     assert_eq!(rt;
-        inspect_bytes(alloc, &changed(&rt, rt.alloc(), &AREA, 0, 0), &[]).expect(&rt, "memory"),
+        inspect_bytes(alloc, &changed(&rt, &AREA, 0, 0)?, &[])?,
         (None, None)
     );
+    Ok(())
 }
 
 #[test]
-fn passes_over_later_frames_of_the_other_area(rt: HostRuntime) {
+fn passes_over_later_frames_of_the_other_area(rt: HostRuntime) -> Result<(), Fail> {
     let alloc = rt.alloc();
-    let none = told(&rt, 1, 0, 1, 0, 0);
-    let snapshot = told(&rt, 2, 0, 1, 4, 1);
+    let none = told(1, 0, 1, 0, 0)?;
+    let snapshot = told(2, 0, 1, 4, 1)?;
     for length in 29..193 {
         assert_eq!(rt;
-            inspect_bytes(alloc, &AREA[..length], &SNAPSHOT).expect(&rt, "memory"),
+            inspect_bytes(alloc, &AREA[..length], &SNAPSHOT)?,
             (none, snapshot)
         );
     }
     assert!(rt; is_damaged(&rt, &AREA[..28], &SNAPSHOT, 0, 0));
+    Ok(())
 }
 
 #[test]
-fn only_reads_a_disk(rt: HostRuntime) {
+fn only_reads_a_disk(rt: HostRuntime) -> Result<(), Fail> {
     let alloc = rt.alloc();
     let mut disk = FailingDisk::new(MemDisk::new(alloc));
-    disk.write_at(Area::First, 0, &AREA).expect(&rt, "a write");
-    disk.write_at(Area::Second, 0, &SNAPSHOT)
-        .expect(&rt, "a write");
-    let seen = (told(&rt, 1, 0, 1, 0, 0), told(&rt, 2, 0, 1, 4, 1));
-    assert_eq!(rt; inspect(alloc, &mut disk).expect(&rt, "memory"), seen);
+    disk.write_at(Area::First, 0, &AREA)?;
+    disk.write_at(Area::Second, 0, &SNAPSHOT)?;
+    let seen = (told(1, 0, 1, 0, 0)?, told(2, 0, 1, 4, 1)?);
+    assert_eq!(rt; inspect(alloc, &mut disk)?, seen);
     assert_eq!(rt; disk.len(Area::First), 193);
     assert_eq!(rt; disk.len(Area::Second), 51);
     disk.fail_next(Vec::new(alloc));
     assert_eq!(rt; inspect(alloc, &mut disk), Err(Refusal::Device));
-    assert_eq!(rt; inspect(alloc, &mut disk).expect(&rt, "memory"), seen);
+    assert_eq!(rt; inspect(alloc, &mut disk)?, seen);
+    Ok(())
 }

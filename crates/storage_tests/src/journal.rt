@@ -37,6 +37,14 @@ pub fn cut(bytes: &[u8], place: usize) -> &[u8] {
     }
 }
 
+/// The bytes from a place on, if there are any.
+fn behind(bytes: &[u8], place: usize) -> &[u8] {
+    match bytes.split_at_checked(place) {
+        Some((_, back)) => back,
+        None => &[],
+    }
+}
+
 /// A copy of bytes, with another byte at a place.
 pub fn changed(rt: &impl Abort, alloc: Global, bytes: &[u8], place: usize, byte: u8) -> Vec<u8> {
     let mut bytes = bytes.to_vec(alloc).expect(rt, "memory");
@@ -129,8 +137,7 @@ fn two_areas(rt: HostRuntime) {
 
 /// A group of one fact, the first of `AREA`: the node enters round 1 of instance 0 with `7.1 claim a x`.
 fn entered(rt: &impl Abort, alloc: Global) -> Group {
-    let (_, spelled) = cut(area(), 73).split_at(33);
-    decode_group(alloc, spelled).expect(rt, "a group")
+    decode_group(alloc, behind(cut(area(), 73), 33)).expect(rt, "a group")
 }
 
 /// The disk behind a flush of that group over an empty one, which opens with no facts.
