@@ -5,7 +5,6 @@ use rr_types::{
 use rr_wire::{decode, encode};
 use std::alloc::Global;
 use std::process::Abort;
-use std::test::Fail;
 
 /// The acknowledgement of round 1 of instance 0, from node 2 to node 1.
 const ACK: [u8; 12] = [2, 2, 1, 3, 0, 0, 0, 0, 0, 0, 0, 1];
@@ -44,28 +43,30 @@ const REQUEST: [u8; 23] = [
 ];
 
 /// The command `7.1 claim a x`.
-fn claim() -> Result<Command, Refusal> {
-    Ok(Command {
+fn claim(rt: &impl Abort) -> Command {
+    let name = Name::new(b"a").expect(rt, "a name");
+    let value = Value::new(b"x").expect(rt, "a value");
+    Command {
         request: RequestNo { client: 7, seq: 1 },
-        op: Op::Claim(Name::new(b"a")?, Value::new(b"x")?),
-    })
+        op: Op::Claim(name, value),
+    }
 }
 
 /// The command `7.2 transfer a 9`.
-fn transfer() -> Result<Command, Refusal> {
-    Ok(Command {
+fn transfer(rt: &impl Abort) -> Command {
+    let name = Name::new(b"a").expect(rt, "a name");
+    Command {
         request: RequestNo { client: 7, seq: 2 },
-        op: Op::Transfer(Name::new(b"a")?, 9),
-    })
+        op: Op::Transfer(name, 9),
+    }
 }
 
 /// Asserts that these bytes are refused at this offset.
-fn assert_refused(rt: &impl Abort, nodes: u8, bytes: &[u8], offset: u64) -> Result<(), Refusal> {
-    match decode(Nodes::new(nodes)?, bytes) {
+fn assert_refused(rt: &impl Abort, nodes: u8, bytes: &[u8], offset: u64) {
+    match decode(Nodes::new(nodes).expect(rt, "nodes"), bytes) {
         Ok(_) => assert!(rt; false, "read, though the fault is at {offset}"),
         Err(refusal) => assert_eq!(rt; refusal, Refusal::Malformed(offset)),
     }
-    Ok(())
 }
 
 /// Puts a byte at a place of these, where there is one.
@@ -102,26 +103,17 @@ fn is_same(body: &Body, other: &Body) -> bool {
 }
 
 /// Asserts that among so many nodes a message is spelled so, and that what is spelled so is read.
-fn assert_spelled(
-    rt: &impl Abort,
-    alloc: Global,
-    nodes: u8,
-    message: &Message,
-    bytes: &[u8],
-) -> Result<(), Refusal> {
-    assert_eq!(rt; encode(alloc, message)?.as_slice(), bytes);
-    match decode(Nodes::new(nodes)?, bytes) {
-        Ok(read) => {
-            assert_eq!(rt; (read.from, read.to), (message.from, message.to));
-            assert!(rt; is_same(&read.body, &message.body));
-        }
-        Err(refusal) => return Err(refusal),
-    }
-    Ok(())
+fn assert_spelled(rt: &impl Abort, alloc: Global, nodes: u8, message: &Message, bytes: &[u8]) {
+    let spelled = encode(alloc, message).expect(rt, "memory");
+    assert_eq!(rt; spelled.as_slice(), bytes);
+    let nodes = Nodes::new(nodes).expect(rt, "nodes");
+    let read = decode(nodes, bytes).expect(rt, "a message");
+    assert_eq!(rt; (read.from, read.to), (message.from, message.to));
+    assert!(rt; is_same(&read.body, &message.body));
 }
 
 #[test]
-fn decoding_table(rt: HostRuntime) -> Result<(), Fail> {
+fn decoding_table(rt: HostRuntime) {
     let rows: [(u8, &[u8], u64); 16] = [
         (3, &ACK[..11], 8),
         (3, &with_byte(&ACK, 11, 0), 8),
@@ -141,80 +133,100 @@ fn decoding_table(rt: HostRuntime) -> Result<(), Fail> {
         (1, &REQUEST, 2),
     ];
     for (nodes, bytes, offset) in rows {
-        assert_refused(&rt, nodes, bytes, offset)?;
+        assert_refused(&rt, nodes, bytes, offset);
     }
-    Ok(())
 }
 
-fn node(index: u8) -> Result<NodeId, Refusal> {
-    NodeId::at(index).ok_or(Refusal::BadNodes)
+fn node(rt: &impl Abort, index: u8) -> NodeId {
+    NodeId::at(index).expect(rt, "a node")
 }
 
-fn message(from: u8, to: u8, body: Body) -> Result<Message, Refusal> {
-    Ok(Message {
-        from: node(from)?,
-        to: node(to)?,
+fn message(rt: &impl Abort, from: u8, to: u8, body: Body) -> Message {
+    Message {
+        from: node(rt, from),
+        to: node(rt, to),
         body,
-    })
+    }
 }
 
-fn instance(number: u32) -> Result<Instance, Refusal> {
-    Instance::new(number).ok_or(Refusal::TooLarge)
+fn instance(rt: &impl Abort, number: u32) -> Instance {
+    Instance::new(number).expect(rt, "an instance")
 }
 
-fn round(number: u32) -> Result<Round, Refusal> {
-    Round::new(number).ok_or(Refusal::RoundsOut)
+fn round(rt: &impl Abort, number: u32) -> Round {
+    Round::new(number).expect(rt, "a round")
 }
 
 #[test]
-fn each_message_both_ways(rt: HostRuntime) -> Result<(), Fail> {
+fn each_message_both_ways(rt: HostRuntime) {
     let alloc = rt.alloc();
-    let estimate = match Estimate::new(round(1)?, 0, claim()?) {
-        Some(estimate) => estimate,
-        None => return Err(Refusal::RoundsOut.into()),
-    };
-    let suspects = NodeSet::empty().with(node(0)?).with(node(2)?);
+    let estimate = Estimate::new(round(&rt, 1), 0, claim(&rt)).expect(&rt, "an estimate");
+    let suspects = NodeSet::empty().with(node(&rt, 0)).with(node(&rt, 2));
     let rows: [(u8, Message, &[u8]); 9] = [
         (
             3,
-            message(0, 0, Body::Estimate(instance(0)?, estimate))?,
+            message(&rt, 0, 0, Body::Estimate(instance(&rt, 0), estimate)),
             &ESTIMATE,
         ),
         (
             7,
-            message(1, 2, Body::Proposal(instance(5)?, round(258)?, claim()?))?,
+            message(
+                &rt,
+                1,
+                2,
+                Body::Proposal(instance(&rt, 5), round(&rt, 258), claim(&rt)),
+            ),
             &PROPOSAL,
         ),
-        (3, message(2, 1, Body::Ack(instance(0)?, round(1)?))?, &ACK),
+        (
+            3,
+            message(&rt, 2, 1, Body::Ack(instance(&rt, 0), round(&rt, 1))),
+            &ACK,
+        ),
         (
             7,
-            message(2, 0, Body::Decision(instance(1_048_575)?, claim()?))?,
+            message(
+                &rt,
+                2,
+                0,
+                Body::Decision(instance(&rt, 1_048_575), claim(&rt)),
+            ),
             &DECISION,
         ),
-        (2, message(0, 1, Body::Request(transfer()?))?, &REQUEST),
         (
             2,
-            message(0, 1, Body::Nack(instance(1)?, round(2_147_483_647)?))?,
+            message(&rt, 0, 1, Body::Request(transfer(&rt))),
+            &REQUEST,
+        ),
+        (
+            2,
+            message(
+                &rt,
+                0,
+                1,
+                Body::Nack(instance(&rt, 1), round(&rt, 2_147_483_647)),
+            ),
             &NACK,
         ),
-        (7, message(6, 5, Body::Beat)?, &BEAT),
-        (3, message(0, 0, Body::Suspects(suspects))?, &SUSPECTS),
-        (2, message(1, 0, Body::Ask(instance(3)?))?, &ASK),
+        (7, message(&rt, 6, 5, Body::Beat), &BEAT),
+        (3, message(&rt, 0, 0, Body::Suspects(suspects)), &SUSPECTS),
+        (2, message(&rt, 1, 0, Body::Ask(instance(&rt, 3))), &ASK),
     ];
     for (nodes, message, bytes) in rows {
-        assert_spelled(&rt, alloc, nodes, &message, bytes)?;
+        assert_spelled(&rt, alloc, nodes, &message, bytes);
     }
-    Ok(())
 }
 
 /// Asserts that bytes are refused within them, or are the spelling of what is read of them.
-fn assert_exact(rt: &impl Abort, alloc: Global, nodes: Nodes, bytes: &[u8]) -> Result<(), Refusal> {
+fn assert_exact(rt: &impl Abort, alloc: Global, nodes: Nodes, bytes: &[u8]) {
     match decode(nodes, bytes) {
-        Ok(message) => assert_eq!(rt; encode(alloc, &message)?.as_slice(), bytes),
+        Ok(message) => {
+            let spelled = encode(alloc, &message).expect(rt, "memory");
+            assert_eq!(rt; spelled.as_slice(), bytes);
+        }
         Err(Refusal::Malformed(offset)) => assert!(rt; offset <= bytes.len() as u64),
-        Err(refusal) => return Err(refusal),
+        Err(_) => assert!(rt; false, "another refusal"),
     }
-    Ok(())
 }
 
 /// Where the field begins that has this place.
@@ -229,28 +241,23 @@ fn field_of(fields: &[u8], place: usize) -> u64 {
 }
 
 /// Each byte of an example at each value is exact; cut, it is refused at the field that is cut.
-fn sweep(
-    rt: &impl Abort,
-    alloc: Global,
-    nodes: u8,
-    example: &[u8],
-    fields: &[u8],
-) -> Result<(), Refusal> {
-    let mut bytes = example.to_vec(alloc)?;
+fn sweep(rt: &impl Abort, alloc: Global, nodes: u8, example: &[u8], fields: &[u8]) {
+    let all = Nodes::new(nodes).expect(rt, "nodes");
+    let mut bytes = example.to_vec(alloc).expect(rt, "memory");
     for (place, kept) in example.iter().enumerate() {
-        assert_refused(rt, nodes, &example[..place], field_of(fields, place))?;
+        assert_refused(rt, nodes, &example[..place], field_of(fields, place));
         for byte in 0..=255 {
             put_at(&mut bytes, place, byte);
-            assert_exact(rt, alloc, Nodes::new(nodes)?, &bytes)?;
+            assert_exact(rt, alloc, all, &bytes);
         }
         put_at(&mut bytes, place, *kept);
     }
-    bytes.push(0)?;
-    assert_refused(rt, nodes, &bytes, example.len() as u64)
+    bytes.push(0).expect(rt, "memory");
+    assert_refused(rt, nodes, &bytes, example.len() as u64);
 }
 
 #[test]
-fn each_byte_and_each_cut(rt: HostRuntime) -> Result<(), Fail> {
+fn each_byte_and_each_cut(rt: HostRuntime) {
     let rows: [(u8, &[u8], &[u8]); 9] = [
         (
             3,
@@ -271,7 +278,6 @@ fn each_byte_and_each_cut(rt: HostRuntime) -> Result<(), Fail> {
         (2, &ASK, &[0, 1, 2, 3, 4]),
     ];
     for (nodes, example, fields) in rows {
-        sweep(&rt, rt.alloc(), nodes, example, fields)?;
+        sweep(&rt, rt.alloc(), nodes, example, fields);
     }
-    Ok(())
 }

@@ -4,6 +4,7 @@ use rr_types::{
     RequestNo, Round, Value,
 };
 use std::alloc::Global;
+use std::process::Abort;
 use std::test::Fail;
 
 /// Texts of schedules: runs of one and of three nodes, and each event in each of its forms.
@@ -90,16 +91,15 @@ fn each_event() -> &'static [u8] {
 }
 
 #[test]
-fn schedules_are_printed_as_they_were_read(rt: HostRuntime) -> Result<(), Fail> {
+fn schedules_are_printed_as_they_were_read(rt: HostRuntime) {
     for text in schedules() {
-        let schedule = Schedule::parse(rt.alloc(), text.as_bytes())?;
+        let schedule = Schedule::parse(rt.alloc(), text.as_bytes()).expect(&rt, "a text");
         assert_eq!(rt;
-            schedule.text(rt.alloc())?.as_slice(),
+            schedule.text(rt.alloc()).expect(&rt, "memory").as_slice(),
             text.as_bytes(),
             "{text}"
         );
     }
-    Ok(())
 }
 
 #[test]
@@ -114,54 +114,51 @@ fn faults_are_told(rt: HostRuntime) {
 }
 
 /// Whether bytes are refused, or printed as they were read.
-fn is_refused_or_printed(alloc: Global, bytes: &[u8]) -> Result<bool, Fail> {
+fn is_refused_or_printed(rt: &impl Abort, alloc: Global, bytes: &[u8]) -> bool {
     match Schedule::parse(alloc, bytes) {
-        Ok(schedule) => Ok(schedule.text(alloc)?.as_slice() == bytes),
-        Err(Refusal::BadNodes | Refusal::BadEvent(_)) => Ok(true),
-        Err(_) => Ok(false),
+        Ok(schedule) => schedule.text(alloc).expect(rt, "memory").as_slice() == bytes,
+        Err(refusal) => matches!(refusal, Refusal::BadNodes | Refusal::BadEvent(_)),
     }
 }
 
 /// The text with another byte at one place.
-fn with_byte(alloc: Global, text: &[u8], at: usize, byte: u8) -> Result<Vec<u8>, Fail> {
-    let mut bytes = text.to_vec(alloc)?;
+fn with_byte(rt: &impl Abort, alloc: Global, text: &[u8], at: usize, byte: u8) -> Vec<u8> {
+    let mut bytes = text.to_vec(alloc).expect(rt, "memory");
     if let Some(place) = bytes.get_mut(at) {
         *place = byte;
     }
-    Ok(bytes)
+    bytes
 }
 
 #[test]
-fn no_other_byte_is_taken_for_it(rt: HostRuntime) -> Result<(), Fail> {
+fn no_other_byte_is_taken_for_it(rt: HostRuntime) {
     let text = each_event();
     for at in 0..text.len() {
         for byte in 0..=255u8 {
-            let bytes = with_byte(rt.alloc(), text, at, byte)?;
+            let bytes = with_byte(&rt, rt.alloc(), text, at, byte);
             assert!(rt;
-                is_refused_or_printed(rt.alloc(), &bytes)?,
+                is_refused_or_printed(&rt, rt.alloc(), &bytes),
                 "{byte} at {at}"
             );
         }
     }
-    Ok(())
 }
 
 #[test]
-fn a_text_that_is_cut_is_refused_or_printed(rt: HostRuntime) -> Result<(), Fail> {
+fn a_text_that_is_cut_is_refused_or_printed(rt: HostRuntime) {
     let text = each_event();
     for end in 0..text.len() {
         assert!(rt;
-            is_refused_or_printed(rt.alloc(), text.split_at(end).0)?,
+            is_refused_or_printed(&rt, rt.alloc(), text.split_at(end).0),
             "cut at {end}"
         );
     }
-    Ok(())
 }
 
 #[test]
-fn what_is_read_is_what_is_written(rt: HostRuntime) -> Result<(), Fail> {
+fn what_is_read_is_what_is_written(rt: HostRuntime) {
     let text = "nodes 3\nsubmit 2 7 1 claim a x\nhear 1 5\nsuspect 0 12\ncrash 0 3 4 A50F\n";
-    let schedule = Schedule::parse(rt.alloc(), text.as_bytes())?;
+    let schedule = Schedule::parse(rt.alloc(), text.as_bytes()).expect(&rt, "a text");
     assert_eq!(rt; schedule.nodes().count(), 3);
     match schedule.events() {
         [
@@ -181,47 +178,45 @@ fn what_is_read_is_what_is_written(rt: HostRuntime) -> Result<(), Fail> {
             assert_eq!(rt; node.index(), 2);
             assert_eq!(rt; command.request, RequestNo { client: 7, seq: 1 });
             assert!(rt;
-                command
-                    .op
-                    .is_same(&Op::Claim(Name::new(b"a")?, Value::new(b"x")?))
+                command.op.is_same(&Op::Claim(
+                    Name::new(b"a").expect(&rt, "memory"),
+                    Value::new(b"x").expect(&rt, "memory")
+                ))
             );
             assert_eq!(rt; (hearer.index(), *message), (1, 5));
             assert_eq!(rt; set.bits(), 6);
             assert_eq!(rt; (*cut_0, *cut_1), (3, 4));
             assert_eq!(rt; fill.as_bytes(), [0xA5u8, 0x0F].as_slice());
         }
-        _ => return Err(Fail::from("other events")),
+        _ => assert!(rt; false, "other events"),
     }
-    Ok(())
 }
 
 #[test]
-fn the_millionth_event_is_the_last(rt: HostRuntime) -> Result<(), Fail> {
-    let mut text = b"nodes 1\n".to_vec(rt.alloc())?;
+fn the_millionth_event_is_the_last(rt: HostRuntime) {
+    let mut text = b"nodes 1\n".to_vec(rt.alloc()).expect(&rt, "memory");
     for _ in 0..1_000_000 {
-        text.extend_from_slice(b"tick 0\n")?;
+        text.extend_from_slice(b"tick 0\n").expect(&rt, "memory");
     }
-    let schedule = Schedule::parse(rt.alloc(), &text)?;
+    let schedule = Schedule::parse(rt.alloc(), &text).expect(&rt, "a text");
     assert_eq!(rt; schedule.events().len(), 1_000_000);
-    assert!(rt; schedule.text(rt.alloc())?.as_slice() == text.as_slice());
-    text.extend_from_slice(b"tick 0\n")?;
+    assert!(rt; schedule.text(rt.alloc()).expect(&rt, "memory").as_slice() == text.as_slice());
+    text.extend_from_slice(b"tick 0\n").expect(&rt, "memory");
     let refused = Schedule::parse(rt.alloc(), &text).err();
     assert_eq!(rt; refused, Some(Refusal::BadEvent(1_000_002)));
-    Ok(())
 }
 
 #[test]
-fn a_line_of_ten_megabytes_is_refused(rt: HostRuntime) -> Result<(), Fail> {
-    let mut text = b"nodes 1\nfail 0 ".to_vec(rt.alloc())?;
+fn a_line_of_ten_megabytes_is_refused(rt: HostRuntime) {
+    let mut text = b"nodes 1\nfail 0 ".to_vec(rt.alloc()).expect(&rt, "memory");
     for _ in 0..5_000_000 {
-        text.extend_from_slice(b"A5")?;
+        text.extend_from_slice(b"A5").expect(&rt, "memory");
     }
     let refused = Schedule::parse(rt.alloc(), &text).err();
     assert_eq!(rt; refused, Some(Refusal::BadEvent(2)));
-    text.extend_from_slice(b"\n")?;
-    let schedule = Schedule::parse(rt.alloc(), &text)?;
-    assert!(rt; schedule.text(rt.alloc())?.as_slice() == text.as_slice());
-    Ok(())
+    text.extend_from_slice(b"\n").expect(&rt, "memory");
+    let schedule = Schedule::parse(rt.alloc(), &text).expect(&rt, "a text");
+    assert!(rt; schedule.text(rt.alloc()).expect(&rt, "memory").as_slice() == text.as_slice());
 }
 
 fn command(op: Op) -> Command {
@@ -241,15 +236,16 @@ fn push_sent(lines: &mut Vec<ReportLine>, body: Body) -> Result<(), Fail> {
     Ok(())
 }
 
-fn push_replied(lines: &mut Vec<ReportLine>, reply: Reply) -> Result<(), Fail> {
-    let node = NodeId::at(1).ok_or("node 1")?;
+fn push_replied(rt: &impl Abort, lines: &mut Vec<ReportLine>, reply: Reply) {
+    let node = NodeId::at(1).expect(rt, "node 1");
     let request = RequestNo { client: 7, seq: 1 };
-    lines.push(ReportLine::Ack {
-        node,
-        request,
-        reply,
-    })?;
-    Ok(())
+    lines
+        .push(ReportLine::Ack {
+            node,
+            request,
+            reply,
+        })
+        .expect(rt, "memory");
 }
 
 fn messages(alloc: Global) -> Result<Vec<ReportLine>, Fail> {
@@ -297,44 +293,59 @@ decided 0
 }
 
 #[test]
-fn replies_restarts_and_refusals_are_printed(rt: HostRuntime) -> Result<(), Fail> {
+fn replies_restarts_and_refusals_are_printed(rt: HostRuntime) {
     let mut lines = Vec::new(rt.alloc());
-    push_replied(&mut lines, Reply::Claimed)?;
-    push_replied(&mut lines, Reply::Updated)?;
-    push_replied(&mut lines, Reply::Released)?;
-    push_replied(&mut lines, Reply::Transferred)?;
-    push_replied(&mut lines, Reply::Taken(9))?;
-    push_replied(&mut lines, Reply::Unknown)?;
-    push_replied(&mut lines, Reply::NotOwner)?;
-    push_replied(&mut lines, Reply::Full)?;
+    push_replied(&rt, &mut lines, Reply::Claimed);
+    push_replied(&rt, &mut lines, Reply::Updated);
+    push_replied(&rt, &mut lines, Reply::Released);
+    push_replied(&rt, &mut lines, Reply::Transferred);
+    push_replied(&rt, &mut lines, Reply::Taken(9));
+    push_replied(&rt, &mut lines, Reply::Unknown);
+    push_replied(&rt, &mut lines, Reply::NotOwner);
+    push_replied(&rt, &mut lines, Reply::Full);
     let mut bindings = Vec::new(rt.alloc());
-    let (name, other) = (Name::new(b"a")?, Name::new(b"b")?);
-    bindings.push(Binding {
-        name,
-        owner: 7,
-        value: Value::new(b"x")?,
-    })?;
-    bindings.push(Binding {
-        name: other,
-        owner: 8,
-        value: Value::new(b"")?,
-    })?;
+    let (name, other) = (
+        Name::new(b"a").expect(&rt, "memory"),
+        Name::new(b"b").expect(&rt, "memory"),
+    );
+    bindings
+        .push(Binding {
+            name,
+            owner: 7,
+            value: Value::new(b"x").expect(&rt, "memory"),
+        })
+        .expect(&rt, "memory");
+    bindings
+        .push(Binding {
+            name: other,
+            owner: 8,
+            value: Value::new(b"").expect(&rt, "memory"),
+        })
+        .expect(&rt, "memory");
     let bindings = BoundNames::new(bindings);
-    let node = NodeId::at(0).ok_or("node 0")?;
-    lines.push(ReportLine::Restart {
-        node,
-        facts: 8,
-        decided: 2,
-        bindings,
-    })?;
+    let node = NodeId::at(0).expect(&rt, "node 0");
+    lines
+        .push(ReportLine::Restart {
+            node,
+            facts: 8,
+            decided: 2,
+            bindings,
+        })
+        .expect(&rt, "memory");
     let refusal = Refusal::Damaged {
         area: 0,
         offset: 155,
     };
-    lines.push(ReportLine::Refuse { line: 5, refusal })?;
+    lines
+        .push(ReportLine::Refuse { line: 5, refusal })
+        .expect(&rt, "memory");
     let mut decided = Vec::new(rt.alloc());
-    decided.push(command(Op::Claim(name, Value::new(b"x")?)))?;
-    decided.push(command(Op::Release(other)))?;
+    decided
+        .push(command(Op::Claim(name, Value::new(b"x").expect(&rt, "memory"))))
+        .expect(&rt, "memory");
+    decided
+        .push(command(Op::Release(other)))
+        .expect(&rt, "memory");
     let report = Report::new(lines, decided);
     let text = "ack 1 7.1 claimed
 ack 1 7.1 updated
@@ -350,6 +361,8 @@ decided 2
 0 7.1 claim a x
 1 7.1 release b
 ";
-    assert_eq!(rt; report.text(rt.alloc())?.as_slice(), text.as_bytes());
-    Ok(())
+    assert_eq!(rt;
+        report.text(rt.alloc()).expect(&rt, "memory").as_slice(),
+        text.as_bytes()
+    );
 }

@@ -4,7 +4,7 @@ use rows::TAPES as ROWS;
 use rr_tape::{Tape, TapeEvent};
 use rr_types::{Body, Name, Op, Refusal, Reply, RequestNo, Value};
 use std::alloc::Global;
-use std::test::Fail;
+use std::process::Abort;
 
 /// Texts of tapes: each event, each message and each reply in each of its forms, and the ends of their ranges.
 const TAPES: [&str; 4] = [
@@ -90,41 +90,38 @@ const FAULTY_LINES: [&str; 48] = [
 ];
 
 /// Whether bytes are refused, or printed as they were read.
-fn is_refused_or_printed(alloc: Global, bytes: &[u8]) -> Result<bool, Fail> {
+fn is_refused_or_printed(rt: &impl Abort, alloc: Global, bytes: &[u8]) -> bool {
     match Tape::parse(alloc, bytes) {
-        Ok(tape) => Ok(tape.text(alloc)?.as_slice() == bytes),
-        Err(Refusal::BadNodes | Refusal::BadEvent(_)) => Ok(true),
-        Err(_) => Ok(false),
+        Ok(tape) => tape.text(alloc).expect(rt, "memory").as_slice() == bytes,
+        Err(refusal) => matches!(refusal, Refusal::BadNodes | Refusal::BadEvent(_)),
     }
 }
 
 /// The text with another byte at one place.
-fn with_byte(alloc: Global, text: &[u8], at: usize, byte: u8) -> Result<Vec<u8>, Fail> {
-    let mut bytes = text.to_vec(alloc)?;
+fn with_byte(rt: &impl Abort, alloc: Global, text: &[u8], at: usize, byte: u8) -> Vec<u8> {
+    let mut bytes = text.to_vec(alloc).expect(rt, "memory");
     if let Some(place) = bytes.get_mut(at) {
         *place = byte;
     }
-    Ok(bytes)
+    bytes
 }
 
 #[test]
-fn tapes_are_printed_as_they_were_read(rt: HostRuntime) -> Result<(), Fail> {
+fn tapes_are_printed_as_they_were_read(rt: HostRuntime) {
     for text in TAPES {
-        let tape = Tape::parse(rt.alloc(), text.as_bytes())?;
-        let printed = tape.text(rt.alloc())?;
+        let tape = Tape::parse(rt.alloc(), text.as_bytes()).expect(&rt, "a text");
+        let printed = tape.text(rt.alloc()).expect(&rt, "memory");
         assert!(rt; printed.as_slice() == text.as_bytes(), "{text}");
     }
-    Ok(())
 }
 
 #[test]
-fn rows_are_printed_as_they_were_read(rt: HostRuntime) -> Result<(), Fail> {
+fn rows_are_printed_as_they_were_read(rt: HostRuntime) {
     for (name, text) in &ROWS {
-        let tape = Tape::parse(rt.alloc(), text.as_bytes())?;
-        let printed = tape.text(rt.alloc())?;
+        let tape = Tape::parse(rt.alloc(), text.as_bytes()).expect(&rt, "a text");
+        let printed = tape.text(rt.alloc()).expect(&rt, "memory");
         assert!(rt; printed.as_slice() == text.as_bytes(), "{name}");
     }
-    Ok(())
 }
 
 #[test]
@@ -136,67 +133,66 @@ fn faults_are_told(rt: HostRuntime) {
 }
 
 #[test]
-fn faulty_lines_are_told(rt: HostRuntime) -> Result<(), Fail> {
+fn faulty_lines_are_told(rt: HostRuntime) {
     for line in FAULTY_LINES {
-        let mut text = b"nodes 3\ntick 0\n".to_vec(rt.alloc())?;
-        text.extend_from_slice(line.as_bytes())?;
-        text.extend_from_slice(b"\ntick 0\n")?;
+        let mut text = b"nodes 3\ntick 0\n"
+            .to_vec(rt.alloc())
+            .expect(&rt, "memory");
+        text.extend_from_slice(line.as_bytes())
+            .expect(&rt, "memory");
+        text.extend_from_slice(b"\ntick 0\n").expect(&rt, "memory");
         let refused = Tape::parse(rt.alloc(), &text).err();
         assert_eq!(rt; refused, Some(Refusal::BadEvent(3)), "{line}");
     }
-    Ok(())
 }
 
 #[test]
-fn no_other_byte_is_taken_for_it(rt: HostRuntime) -> Result<(), Fail> {
+fn no_other_byte_is_taken_for_it(rt: HostRuntime) {
     for text in TAPES {
         let text = text.as_bytes();
         for at in 0..text.len() {
             for byte in 0..=255u8 {
-                let bytes = with_byte(rt.alloc(), text, at, byte)?;
+                let bytes = with_byte(&rt, rt.alloc(), text, at, byte);
                 assert!(rt;
-                    is_refused_or_printed(rt.alloc(), &bytes)?,
+                    is_refused_or_printed(&rt, rt.alloc(), &bytes),
                     "{byte} at {at}"
                 );
             }
         }
     }
-    Ok(())
 }
 
 #[test]
-fn a_text_that_is_cut_is_refused_or_printed(rt: HostRuntime) -> Result<(), Fail> {
+fn a_text_that_is_cut_is_refused_or_printed(rt: HostRuntime) {
     for text in TAPES {
         let text = text.as_bytes();
         for end in 0..text.len() {
             assert!(rt;
-                is_refused_or_printed(rt.alloc(), &text[..end])?,
+                is_refused_or_printed(&rt, rt.alloc(), &text[..end]),
                 "cut at {end}"
             );
         }
     }
-    Ok(())
 }
 
 #[test]
-fn the_millionth_event_is_the_last(rt: HostRuntime) -> Result<(), Fail> {
-    let mut text = b"nodes 1\n".to_vec(rt.alloc())?;
+fn the_millionth_event_is_the_last(rt: HostRuntime) {
+    let mut text = b"nodes 1\n".to_vec(rt.alloc()).expect(&rt, "memory");
     for _ in 0..1_000_000 {
-        text.extend_from_slice(b"tick 0\n")?;
+        text.extend_from_slice(b"tick 0\n").expect(&rt, "memory");
     }
-    let tape = Tape::parse(rt.alloc(), &text)?;
+    let tape = Tape::parse(rt.alloc(), &text).expect(&rt, "a text");
     assert_eq!(rt; tape.events().len(), 1_000_000);
-    assert!(rt; tape.text(rt.alloc())?.as_slice() == text.as_slice());
-    text.extend_from_slice(b"tick 0\n")?;
+    assert!(rt; tape.text(rt.alloc()).expect(&rt, "memory").as_slice() == text.as_slice());
+    text.extend_from_slice(b"tick 0\n").expect(&rt, "memory");
     let refused = Tape::parse(rt.alloc(), &text).err();
     assert_eq!(rt; refused, Some(Refusal::BadEvent(1_000_002)));
-    Ok(())
 }
 
 #[test]
-fn what_is_read_is_what_is_written(rt: HostRuntime) -> Result<(), Fail> {
+fn what_is_read_is_what_is_written(rt: HostRuntime) {
     let text = b"nodes 3\nhear 1 5\nsend 4 0 2 estimate 5 3 2 7.1 claim a x\nack 2 7.1 taken 9\n";
-    let tape = Tape::parse(rt.alloc(), text)?;
+    let tape = Tape::parse(rt.alloc(), text).expect(&rt, "a text");
     assert_eq!(rt; tape.nodes().count(), 3);
     let request = RequestNo { client: 7, seq: 1 };
     match tape.events() {
@@ -216,15 +212,19 @@ fn what_is_read_is_what_is_written(rt: HostRuntime) -> Result<(), Fail> {
             assert_eq!(rt; (*number, sent.from.index(), sent.to.index()), (4, 0, 2));
             assert_eq!(rt; (acker.index(), *acked, *owner), (2, request, 9));
             let Body::Estimate(instance, estimate) = &sent.body else {
-                return Err(Fail::from("another message"));
+                rt.panic("another message")
             };
             assert_eq!(rt; (instance.number(), estimate.round().number()), (5, 3));
             assert_eq!(rt; estimate.stamp(), 2);
             assert_eq!(rt; estimate.command().request, request);
             let op = estimate.command().op;
-            assert!(rt; op.is_same(&Op::Claim(Name::new(b"a")?, Value::new(b"x")?)));
+            assert!(rt;
+                op.is_same(&Op::Claim(
+                    Name::new(b"a").expect(&rt, "memory"),
+                    Value::new(b"x").expect(&rt, "memory")
+                ))
+            );
         }
-        _ => return Err(Fail::from("other events")),
+        _ => assert!(rt; false, "other events"),
     }
-    Ok(())
 }
