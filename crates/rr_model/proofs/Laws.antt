@@ -1,8 +1,12 @@
-use Rattle.std.proofs.Common.{◌≡◌, ℕ, ◌<◌, ◌≤◌, List, [], ◌∷◌, ◌++◌, length, take, Contains, Option, None, Some, IsTrue, refl, ap, sym, ◌∙◌, subst, arith, append-nil, append_assoc, le_refl}
-use Rattle.std.proofs.lemmas.Bool.{false≢true}
-use Rattle.std.proofs.lemmas.List.{take_at}
+use Rattle.std.proofs.Common.{◌≡◌, ℕ, ◌<◌, ◌≤◌, List, [], ◌∷◌, ◌++◌, length, take, Contains, drop, Option, None, Some, slice_get, IsTrue, refl, ap, sym, ◌∙◌, subst, arith, append-nil, append_assoc, le_refl, le_of_suc-le-suc, zero, suc, inl, inr}
+use Rattle.std.proofs.lemmas.Bool.{false≢true, cases_lt}
+use Rattle.std.proofs.lemmas.List.{take_at, take-take, take-append-drop}
+use Rattle.std.proofs.lemmas.Option.{none-some, same_Some}
 use Rattle.std.proofs.lemmas.List.Elements.{Contains-append_left}
 use Rattle.rr_types.specs.declared.command.Command.{Command}
+use Rattle.rr_types.specs.declared.command.RequestNo.{RequestNo}
+use Rattle.rr_types.specs.declared.command.Reply.{Reply}
+use Rattle.rr_types.specs.Registry.{reply_of}
 use Rattle.rr_types.specs.declared.fact.Fact.{Fact}
 use Rattle.rr_types.specs.declared.fact.Fact.TheVariants.{Enter, Adopt}
 use Rattle.rr_types.specs.declared.promise.Standing.{Standing}
@@ -12,8 +16,8 @@ use Rattle.rr_types.specs.Facts.{standing_of}
 use Rattle.rr_types.specs.Standings.{is_undecided, round_of}
 use Rattle.rr_model.proofs.Permitted.{IsPermitted}
 use Rattle.rr_model.specs.World.{World, Step, Submit, Hear, Stage, Settle, Send, Acknowledge, GoDown, Restart, after_step, empty_world, IsRun, end_of}
-use Rattle.rr_model.specs.Sound.{IsChosen, IsChosenList}
-use Rattle.rr_model.specs.Laws.{settled, after_steps, AreBeginningsRuns, StaysChosen, DoesListGrow, AreKeptFactsNeverLost, DoRoundsRise, DoAcksBind, AreProposalsLocked}
+use Rattle.rr_model.specs.Sound.{IsChosen, IsChosenList, IsDecidedList}
+use Rattle.rr_model.specs.Laws.{settled, after_steps, AreBeginningsRuns, StaysChosen, DoesListGrow, AreKeptFactsNeverLost, DoRoundsRise, DoAcksBind, AreProposalsLocked, KeepsRealTime, DoLaterCommandsStandBehind}
 use Rattle.rr_model.proofs.Places.{Place, place_of}
 use Rattle.rr_model.proofs.Histories.{History, OnOpen, history_front}
 use Rattle.rr_model.proofs.Kept.{rounds_rise, later}
@@ -22,7 +26,8 @@ use Rattle.rr_model.proofs.Growth.{chosen_grows, at_each}
 use Rattle.rr_model.proofs.Prefixes.{Begins}
 use Rattle.rr_model.proofs.Listed.{begins_by_places}
 use Rattle.rr_model.proofs.Invariants.{all_said, grounded}
-use Rattle.rr_model.proofs.Soundness.{front_is_run, invariant_of, sound_one_chosen}
+use Rattle.rr_model.proofs.Replies.{same_reply}
+use Rattle.rr_model.proofs.Soundness.{front_is_run, invariant_of, sound_one_chosen, sound_list, sound_submitted, sound_replies}
 
 -- a run's beginning is a run
 pub beginning_is_a_run : (n : ℕ) (run : List Step) → IsRun n run → AreBeginningsRuns n run
@@ -111,3 +116,33 @@ acknowledgement_binds_estimates n run r q i k e sa se l =
 -- later rounds propose the locked command
 pub later_proposals_are_locked : (n : ℕ) (run : List Step) → IsRun n run → AreProposalsLocked n run
 later_proposals_are_locked n run r i k v p s acks = locked n (all_said (end_of run)) (end_of run).kept (grounded n (end_of run) (invariant_of n run r)) i k v p s acks
+
+-- the decided list of a moment is the beginning that keeps the order of real time
+pub real_time_is_kept : (n : ℕ) (run : List Step) → IsRun n run → KeepsRealTime n run
+real_time_is_kept n run r before after e p q reply told last d =
+    let here : IsRun n before = beginning_is_a_run n run r before after e in
+    let front : (list : List Command) × IsDecidedList n (end_of before).wire list = sound_list n before in
+    (front.0, (decided_list_grows n run r before after e front.0 last front.1 d).1, sound_replies n before here front.0 front.1 p q reply told, λ c k. sound_submitted n before here front.0 front.1 c k)
+
+-- what stands at a place of a list stands in each beginning that is long enough
+in_front : (k m : ℕ) (list : List Command) (c : Command) → k < m → slice_get list k ≡ Some c → Contains (take m list) c
+in_front k zero list c l e = absurd (omega arith)
+in_front k (suc m) [] c l e = absurd (none-some c e)
+in_front zero (suc m) (x ∷ list) c l e = (0, omega arith, same_Some x c e)
+in_front (suc k) (suc m) (x ∷ list) c l e = let t : Contains (take m list) c = in_front k m list c (le_of_suc-le-suc l) e in (suc t.0, (let h : t.0 < length (take m list) = t.1 in omega arith), t.2)
+
+-- a command that was not submitted by then stands behind
+pub later_commands_stand_behind : (n : ℕ) (run : List Step) → IsRun n run → DoLaterCommandsStandBehind n run
+later_commands_stand_behind n run r before after e p q reply told last d c new k at = by_place (real_time_is_kept n run r before after e p q reply told last d)
+  where
+    behind : (front : List Command) → take (length front) last ≡ front → reply_of front q ≡ Some reply → length front ≤ k → reply_of (take k last) q ≡ Some reply
+    behind front is says l =
+        let begins : take (length front) (take k last) ≡ front = take-take (length front) k last l ∙ is in
+        let whole : front ++ drop (length front) (take k last) ≡ take k last = ap (λ z. z ++ drop (length front) (take k last)) (sym begins) ∙ take-append-drop (length front) (take k last) in
+        subst (λ z. reply_of z q ≡ Some reply) whole (same_reply front (drop (length front) (take k last)) q reply says)
+
+    by_place : ((front : List Command) × (take (length front) last ≡ front) × (reply_of front q ≡ Some reply) × ((c : Command) → Contains front c → Contains (end_of before).submitted c)) → reply_of (take k last) q ≡ Some reply
+    by_place f = elim (cases_lt k (length f.0)) [
+      | inl l ↦ absurd (new (f.3 c (subst (λ z. Contains z c) f.1 (in_front k (length f.0) last c l at))))
+      | inr l ↦ behind f.0 f.1 f.2 l
+    ]

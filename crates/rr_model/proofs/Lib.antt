@@ -14,6 +14,8 @@ pub mod Invariants
 pub mod Soundness
 pub mod Laws
 pub mod SmallRuns
+pub mod Searches
+pub mod ClusterRuns
 pub mod SameCommands
 pub mod Promised
 pub mod NodeRows

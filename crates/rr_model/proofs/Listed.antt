@@ -11,7 +11,7 @@ use Rattle.rr_model.specs.Sound.{IsChosen, IsChosenList, IsDecidedList}
 use Rattle.rr_model.proofs.Prefixes.{Begins}
 
 -- whether a body acknowledges round r of instance i
-abbrev is_ack : ℕ → ℕ → Body → Bool
+abbrev pub is_ack : ℕ → ℕ → Body → Bool
 is_ack i r (Estimate j e) = false
 is_ack i r (Proposal j k v) = false
 is_ack i r (Ack j k) = j == i && k == r
@@ -23,7 +23,7 @@ is_ack i r (Suspects set) = false
 is_ack i r (Ask j) = false
 
 -- whether node q acknowledges it among the messages
-abbrev acks : List Message → ℕ → ℕ → ℕ → Bool
+abbrev pub acks : List Message → ℕ → ℕ → ℕ → Bool
 acks [] i r q = false
 acks (m ∷ ms) i r q = (m.from == q && is_ack i r m.body) || acks ms i r q
 
@@ -41,10 +41,10 @@ ack_body i r Beat t = absurd (false≢true t)
 ack_body i r (Suspects set) t = absurd (false≢true t)
 ack_body i r (Ask j) t = absurd (false≢true t)
 
-says_tail : (m : Message) (ms : List Message) (q : ℕ) (b : Body) → Says ms q b → Says (m ∷ ms) q b
+pub says_tail : (m : Message) (ms : List Message) (q : ℕ) (b : Body) → Says ms q b → Says (m ∷ ms) q b
 says_tail m ms q b s = (s.0, (suc (s.1).0, (let l : (s.1).0 < length ms = (s.1).1 in omega arith), (s.1).2))
 
-says_head : (m : Message) (ms : List Message) (q : ℕ) (b : Body) → m.from ≡ q → m.body ≡ b → Says (m ∷ ms) q b
+pub says_head : (m : Message) (ms : List Message) (q : ℕ) (b : Body) → m.from ≡ q → m.body ≡ b → Says (m ∷ ms) q b
 says_head m ms q b x y = (m.to, (0, omega arith, (let e : m ≡ record { from = q; to = m.to; body = b } = same m q b x y in e)))
   where
     same : (m : Message) (q : ℕ) (b : Body) → m.from ≡ q → m.body ≡ b → m ≡ record { from = q; to = m.to; body = b }
@@ -62,7 +62,7 @@ acks_at [] i r q to k l e = absurd (omega arith)
 acks_at (m ∷ ms) i r q to zero l e = subst (λ (z : Message). ((z.from == q && is_ack i r z.body) || acks ms i r q) ≡ true) (sym e) (or_left (q == q && (i == i && r == r)) (acks ms i r q) (and_from (q == q) (i == i && r == r) (eq-eqb q q refl) (and_from (i == i) (r == r) (eq-eqb i i refl) (eq-eqb r r refl))))
 acks_at (m ∷ ms) i r q to (suc k) l e = or_right (m.from == q && is_ack i r m.body) (acks ms i r q) (acks_at ms i r q to k (le_of_suc-le-suc l) e)
 
-says_acks : (ms : List Message) (i r q : ℕ) → Says ms q (Ack i r) → acks ms i r q ≡ true
+pub says_acks : (ms : List Message) (i r q : ℕ) → Says ms q (Ack i r) → acks ms i r q ≡ true
 says_acks ms i r q s = acks_at ms i r q s.0 (s.1).0 (s.1).1 (s.1).2
 
 count_one : (x y : Bool) (a b : ℕ) → (x ≡ true → y ≡ true) → a ≤ b → (if x then suc a else a) ≤ (if y then suc b else b)
@@ -90,7 +90,7 @@ majority_or_not n ms i r = elim (cases_lt (count_below (acks ms i r) n) (majorit
 abbrev Found : ℕ → List Message → ℕ → List Message → Type 0
 Found n wire i ms = ((v : Command) × IsChosen n wire i v) ⊎ ((r q : ℕ) (v : Command) → Says ms q (Proposal i r v) → HasMajority n (λ p. Says wire p (Ack i r)) → ⊥)
 
-says_cases : (m : Message) (ms : List Message) (q : ℕ) (b : Body) → Says (m ∷ ms) q b → ((m.from ≡ q) × (m.body ≡ b)) ⊎ Says ms q b
+pub says_cases : (m : Message) (ms : List Message) (q : ℕ) (b : Body) → Says (m ∷ ms) q b → ((m.from ≡ q) × (m.body ≡ b)) ⊎ Says ms q b
 says_cases m ms q b s = at_index (s.1).0 (s.1).1 (s.1).2
   where
     at_index : (k : ℕ) → k < length (m ∷ ms) → get_or (m ∷ ms) k (record { from = q; to = s.0; body = b }) ≡ record { from = q; to = s.0; body = b } → ((m.from ≡ q) × (m.body ≡ b)) ⊎ Says ms q b

@@ -1,15 +1,18 @@
-use Rattle.std.specs.Prelude.{◌≡◌, ℕ, ◌<◌, ◌≤◌, IsTrue, List, [], ◌∷◌, ◌++◌, length, take}
+use Rattle.std.specs.Prelude.{◌≡◌, ℕ, ◌<◌, ◌≤◌, IsTrue, List, [], ◌∷◌, ◌++◌, length, take, Some, slice_get}
 use Rattle.std.specs.List.{Contains, fold}
 use Rattle.rr_types.specs.declared.command.Command.{Command}
+use Rattle.rr_types.specs.declared.command.RequestNo.{RequestNo}
+use Rattle.rr_types.specs.declared.command.Reply.{Reply}
 use Rattle.rr_types.specs.declared.fact.Fact.{Fact}
 use Rattle.rr_types.specs.declared.fact.Fact.TheVariants.{Enter}
 use Rattle.rr_types.specs.declared.message.Body.TheVariants.{Estimate, Proposal, Ack}
 use Rattle.rr_types.specs.Rounds.{Estimated}
 use Rattle.rr_types.specs.Facts.{instance_of, standing_of}
+use Rattle.rr_types.specs.Registry.{reply_of}
 use Rattle.rr_types.specs.Promises.{standing_in, promise_of, all_fit}
 use Rattle.rr_types.specs.Standings.{fits}
 use Rattle.rr_model.specs.Lawful.{Heard, Says, HasMajority, IsLawful}
-use Rattle.rr_model.specs.World.{World, Step, after_step, IsRun, end_of}
+use Rattle.rr_model.specs.World.{World, Step, Acknowledged, after_step, IsRun, end_of}
 use Rattle.rr_model.specs.Sound.{IsChosen, IsDecidedList}
 
 -- the world after these steps
@@ -47,6 +50,14 @@ DoAcksBind run = (q i r : ℕ) (e : Estimated) → Says (end_of run).wire q (Ack
 -- where a majority acknowledged a round, each later round proposes the same command
 abbrev pub AreProposalsLocked : ℕ → List Step → Type 0
 AreProposalsLocked n run = (i r : ℕ) (v : Command) (p : ℕ) → Says (end_of run).wire p (Proposal i r v) → HasMajority n (λ q. Says (end_of run).wire q (Ack i r)) → (k : ℕ) (w : Command) (c : ℕ) → r ≤ k → Says (end_of run).wire c (Proposal i k w) → w ≡ v
+
+-- what any node acknowledged by a moment is the reply of a beginning of the last decided list, all submitted by then
+abbrev pub KeepsRealTime : ℕ → List Step → Type 0
+KeepsRealTime n run = (before after : List Step) → run ≡ before ++ after → (p : ℕ) (q : RequestNo) (reply : Reply) → Contains (end_of before).trace (Acknowledged p q reply) → (last : List Command) → IsDecidedList n (end_of run).wire last → (front : List Command) × (take (length front) last ≡ front) × (reply_of front q ≡ Some reply) × ((c : Command) → Contains front c → Contains (end_of before).submitted c)
+
+-- where a command stands that was not submitted by a moment, the commands before it give each reply acknowledged by then
+abbrev pub DoLaterCommandsStandBehind : ℕ → List Step → Type 0
+DoLaterCommandsStandBehind n run = (before after : List Step) → run ≡ before ++ after → (p : ℕ) (q : RequestNo) (reply : Reply) → Contains (end_of before).trace (Acknowledged p q reply) → (last : List Command) → IsDecidedList n (end_of run).wire last → (c : Command) → (Contains (end_of before).submitted c → ⊥) → (k : ℕ) → slice_get last k ≡ Some c → reply_of (take k last) q ≡ Some reply
 
 -- whatever a crash leaves of a node's facts fits, fact by fact
 abbrev pub DoesWhatIsLeftFit : ℕ → List Step → Type 0

@@ -9,6 +9,7 @@ pub mod NodeWorld
 pub mod Sound
 pub mod World
 pub mod Examples
+pub mod ClusterExamples
 pub mod NodeExamples
 pub mod Laws
 pub mod NodeStays
