@@ -9,7 +9,7 @@ use Rattle.rr_model.specs.Lawful.{Says, HasMajority, HasEstimate, IsOfLargestSta
 use Rattle.rr_model.specs.World.{IsRun, end_of}
 use Rattle.rr_model.specs.Sound.{IsChosen, IsDecidedList}
 use Rattle.rr_model.specs.Examples.{claim_a_x, first_estimate}
-use Rattle.rr_model.specs.ClusterExamples.{claim_a_y, round_stamp, from_to, first_round, two_rounds, IsDecideUnheardUnlawful, IsOwnCommandUnlawful, decides_by_the_others, crashes_before_it_tells, enters_anew, tells_it_now, IsLostEstimateUnlawful, decides_instance_1, decides_out_of_order, decides_twice}
+use Rattle.rr_model.specs.ClusterExamples.{claim_a_y, round_stamp, from_to, first_round, two_rounds, IsDecideUnheardUnlawful, IsProposeOfAnotherCommandUnlawful, decides_by_the_others, crashes_before_it_tells, enters_anew, tells_it_now, IsLostEstimateUnlawful, decides_instance_1, decides_out_of_order, decides_twice}
 use Rattle.rr_model.proofs.Listed.{counts_no_fewer, says_cases}
 use Rattle.rr_model.proofs.Searches.{found, find_chosen, run_by_search, decided_by_search, says_any, few_acks}
 
@@ -85,8 +85,8 @@ other_is_not_largest b =
     only_2 : (q : ℕ) → HasEstimate two_estimates 0 2 b.stamp q → (q == 2) ≡ true
     only_2 q h = eq-eqb q 2 (of_stamp_0 q h.stamp h.command (low_enough h.stamp b.stamp h.older (stamp_of_other b.sender b.stamp b.said)) h.said)
 
-pub own_command_may_not_be_proposed : IsOwnCommandUnlawful
-own_command_may_not_be_proposed l = other_is_not_largest l.3
+pub another_may_not_be_proposed : IsProposeOfAnotherCommandUnlawful
+another_may_not_be_proposed l = other_is_not_largest l.3
 
 pub others_run : IsRun 3 decides_by_the_others
 others_run = run_by_search 3 decides_by_the_others refl

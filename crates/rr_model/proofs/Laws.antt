@@ -4,8 +4,6 @@ use Rattle.std.proofs.lemmas.List.{take_at, take-take, take-append-drop}
 use Rattle.std.proofs.lemmas.Option.{none-some, same_Some}
 use Rattle.std.proofs.lemmas.List.Elements.{Contains-append_left}
 use Rattle.rr_types.specs.declared.command.Command.{Command}
-use Rattle.rr_types.specs.declared.command.RequestNo.{RequestNo}
-use Rattle.rr_types.specs.declared.command.Reply.{Reply}
 use Rattle.rr_types.specs.Registry.{reply_of}
 use Rattle.rr_types.specs.declared.fact.Fact.{Fact}
 use Rattle.rr_types.specs.declared.fact.Fact.TheVariants.{Enter, Adopt}

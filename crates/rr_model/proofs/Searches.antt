@@ -9,7 +9,7 @@ use Rattle.rr_types.specs.declared.fact.Fact.TheVariants.{Enter, Propose, Adopt,
 use Rattle.rr_types.specs.declared.promise.Standing.{Standing}
 use Rattle.rr_types.specs.declared.promise.Standing.TheVariants.{Open}
 use Rattle.rr_types.specs.declared.message.Body.{Body}
-use Rattle.rr_types.specs.declared.message.Body.TheVariants.{Estimate, Proposal, Ack, Decision, Request, Nack, Beat, Suspects, Ask}
+use Rattle.rr_types.specs.declared.message.Body.TheVariants.{Estimate, Proposal, Ack, Decision, Request}
 use Rattle.rr_types.specs.declared.message.Message.{Message}
 use Rattle.rr_types.specs.Rounds.{Estimated, majority_of, coordinator_of}
 use Rattle.rr_types.specs.Facts.{instance_of, standing_of}
@@ -39,20 +39,24 @@ abbrev pub or_else : {A : Type 0} → Option A → Option A → Option A
 or_else None o = o
 or_else (Some a) o = Some a
 
--- by a test
+-- what a test lets through
 abbrev pub when : {A : Type 0} → (b : Bool) → (b ≡ true → A) → Option A
 when true f = Some (f refl)
 when false f = None
 
+-- that two numbers are equal
 abbrev pub find_equal : (a b : ℕ) → Option (a ≡ b)
 find_equal a b = when (a == b) (eqb-true a b)
 
+-- that one lies below the other
 abbrev pub find_below : (a b : ℕ) → Option (a < b)
 find_below a b = when (nat_lt a b) (ltb-true a b)
 
+-- that one is at most the other
 abbrev pub find_at_most : (a b : ℕ) → Option (a ≤ b)
 find_at_most a b = when (nat_le a b) (leb-true a b)
 
+-- that two commands are one
 abbrev pub find_same_command : (c d : Command) → Option (c ≡ d)
 find_same_command c d = when (is_same_command c d) (same_command c d)
 
@@ -76,6 +80,7 @@ find_some (Some w) v = do
   e ← find_same_command w v
   Some (same_some w v e)
 
+-- that the reply is this one, which is Claimed
 abbrev find_reply : (o : Option Reply) (r : Reply) → Option (o ≡ Some r)
 find_reply (Some Claimed) Claimed = Some refl
 find_reply o r = None
@@ -102,6 +107,7 @@ same_adopt i j r k v w a b c = cc
 pub same_decide : (i j : ℕ) (v w : Command) → i ≡ j → v ≡ w → Decide i v ≡ Decide j w
 same_decide i j v w a b = cc
 
+-- that two facts are one
 abbrev find_same_fact : (f g : Fact) → Option (f ≡ g)
 find_same_fact (Enter i e) (Enter j f) = do
   a ← find_equal i j
@@ -132,7 +138,7 @@ same_proposal i j r k v w a b c = cc
 pub same_ack : (i j r k : ℕ) → i ≡ j → r ≡ k → Ack i r ≡ Ack j k
 same_ack i j r k a b = cc
 
--- bodies of the first three phases alone
+-- that two bodies are one, of the first three phases alone
 abbrev find_same_body : (b c : Body) → Option (b ≡ c)
 find_same_body (Estimate i e) (Estimate j f) = do
   a ← find_equal i j
@@ -165,6 +171,7 @@ in_head y ys x e = (0, omega arith, e)
 pub in_tail : {A : Type 0} → (y : A) (ys : List A) (x : A) → Contains ys x → Contains (y ∷ ys) x
 in_tail y ys x c = (suc c.0, (let l : c.0 < length ys = c.1 in omega arith), c.2)
 
+-- that a list holds something
 abbrev find_among : {A : Type 0} → ((a b : A) → Option (a ≡ b)) → (xs : List A) (x : A) → Option (Contains xs x)
 find_among same [] x = None
 find_among same (y ∷ ys) x = or_else (same y x >>= (λ e. Some (in_head y ys x e))) (find_among same ys x >>= (λ c. Some (in_tail y ys x c)))
@@ -209,16 +216,17 @@ largest_by n i r ms v sender (Estimate j e) = do
   Some (record { stamp = e.stamp; sender = sender; said = said; majority = majority; exists = exists; member = member })
 largest_by n i r ms v sender b = None
 
+-- that a command is one of largest stamp
 abbrev find_largest : (n i r : ℕ) (ms : List Message) (v : Command) → Option (IsOfLargestStamp n i r ms v)
 find_largest n i r ms v = find_by (λ m. largest_by n i r ms v m.from m.body) ms
 
--- a command that a client submitted
+-- that a command was submitted by a client, and so occurs
 abbrev find_occurs : (h : Heard) (v : Command) → Option (Occurs h v)
 find_occurs h v = do
   c ← find_among find_same_command h.commands v
   Some (Submitted c)
 
--- that a fact is lawful, but no decision by another's
+-- that a fact is lawful. A Decide that goes by another's Decision isn't found
 abbrev find_lawful : (n p : ℕ) (s : Option Standing) (h : Heard) (f : Fact) → Option (IsLawfulAt n p s h f)
 find_lawful n p None h (Enter i e) = do
   a ← find_below 0 e.round
@@ -253,6 +261,7 @@ adopted_by i r facts (Adopt j k v) = do
   Some (v, c)
 adopted_by i r facts f = None
 
+-- that facts back a message
 abbrev find_backed : (b : Body) (facts : List Fact) → Option (IsBacked b facts)
 find_backed (Estimate i e) facts = find_among find_same_fact facts (Enter i e)
 find_backed (Proposal i r v) facts = find_among find_same_fact facts (Propose i r v)
@@ -273,6 +282,7 @@ find_no_request b submitted = do
   e ← find_false (is_request b)
   Some (no_request b submitted e)
 
+-- that a node is up
 abbrev find_up : (n : ℕ) (w : World) (p : ℕ) → Option (IsUp n w p)
 find_up n w p = do
   a ← find_below p n
@@ -346,6 +356,7 @@ pub one_more_chosen : (n : ℕ) (wire : List Message) (i : ℕ) (v : Command) (v
 one_more_chosen n wire i v vs c f zero w e = subst (λ z. IsChosen n wire z w) (sym (add-zero i)) (subst (IsChosen n wire i) (same_Some v w e) c)
 one_more_chosen n wire i v vs c f (suc k) w e = let s : (i + 1) + k ≡ i + suc k = omega arith in subst (λ z. IsChosen n wire z w) s (f k w e)
 
+-- that commands are chosen, instance by instance
 abbrev pub find_chosen_from : (n : ℕ) (wire : List Message) (i : ℕ) (list : List Command) → Option (AreChosenFrom n wire i list)
 find_chosen_from n wire i [] = Some (none_to_choose n wire i)
 find_chosen_from n wire i (v ∷ vs) = do
@@ -370,7 +381,7 @@ says_any test (m ∷ ms) q b t s = elim (says_cases m ms q b s) [
   | inr x ↦ or_right (test m.body) (do_any_say test ms) (says_any test ms q b t x)
 ]
 
--- a list is the decided one where its commands are chosen and nobody proposed for the instance behind it
+-- a list is the decided one where its commands are chosen, and nobody proposed for the instance behind them
 pub decided_by_search : (n : ℕ) (wire : List Message) (list : List Command) → is_some (find_chosen_from n wire 0 list) ≡ true → do_any_say (is_proposal_for (length list)) wire ≡ false → IsDecidedList n wire list
 decided_by_search n wire list e none = record {
   chosen = λ i v g. subst (λ z. IsChosen n wire z v) (let z : 0 + i ≡ i = omega arith in z) (found (find_chosen_from n wire 0 list) e i v g);

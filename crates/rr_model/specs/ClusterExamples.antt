@@ -11,7 +11,7 @@ use Rattle.rr_types.specs.Registry.{Bindings}
 use Rattle.rr_types.specs.Rounds.{Estimated, coordinator_of}
 use Rattle.rr_model.specs.Lawful.{IsLawful}
 use Rattle.rr_model.specs.World.{World, Step, Submit, Hear, Stage, Settle, Send, Acknowledge, GoDown, Restart, MayHappen, end_of}
-use Rattle.rr_model.specs.Examples.{first_request, claim_a_x}
+use Rattle.rr_model.specs.Examples.{first_request, claim_a_x, first_estimate}
 
 -- client 2 claims the name a with the value y
 abbrev pub claim_a_y : Command
@@ -63,7 +63,7 @@ adopts_unheard p i r v = keeps p (Adopt i r v) ++ Send p (from_to p (coordinator
 abbrev pub first_round : List Step
 first_round =
     three_nodes_start ++ Submit 0 claim_a_x ∷ Submit 1 claim_a_x ∷ Submit 2 claim_a_y ∷ []
-    ++ enters 0 0 (round_stamp 1 0 claim_a_x) ++ enters 1 0 (round_stamp 1 0 claim_a_x)
+    ++ enters 0 0 first_estimate ++ enters 1 0 first_estimate
     ++ proposes 0 1 claim_a_x 0 1
     ++ adopts_unheard 0 0 1 claim_a_x ++ adopts_unheard 1 0 1 claim_a_x
 
@@ -86,16 +86,16 @@ two_rounds = first_round ++ second_round_begins ++ second_round_ends
 abbrev pub IsDecideUnheardUnlawful : Type 0
 IsDecideUnheardUnlawful = MayHappen 3 (end_of first_round) (Stage 1 (Decide 0 claim_a_x)) → ⊥
 
--- once round 2 has begun, node 2 may propose no command of its own client
-abbrev pub IsOwnCommandUnlawful : Type 0
-IsOwnCommandUnlawful =
+-- once round 2 has begun, node 2 may not propose the command of its own client
+abbrev pub IsProposeOfAnotherCommandUnlawful : Type 0
+IsProposeOfAnotherCommandUnlawful =
     let w : World = end_of (first_round ++ second_round_begins) in
     IsLawful 3 2 (w.kept 2 ++ w.staged 2) (w.heard 2) (Propose 0 2 claim_a_y) → ⊥
 
--- what node 0 keeps of both rounds
+-- what node 0 keeps, over both rounds
 abbrev pub kept_over_two_rounds : List Fact
 kept_over_two_rounds =
-    Enter 0 (round_stamp 1 0 claim_a_x) ∷ Adopt 0 1 claim_a_x ∷ Enter 0 (round_stamp 2 1 claim_a_x) ∷ Adopt 0 2 claim_a_x ∷ []
+    Enter 0 first_estimate ∷ Adopt 0 1 claim_a_x ∷ Enter 0 (round_stamp 2 1 claim_a_x) ∷ Adopt 0 2 claim_a_x ∷ []
 
 -- Node 1 decides a command for instance i in round 1, by the estimates and the acknowledgements of nodes 0 and 2 alone
 abbrev pub decides : ℕ → Command → List Step
@@ -112,24 +112,24 @@ decides_by_the_others = three_nodes_start ++ decides 0 claim_a_x
 
 -- what node 1 keeps of that: it adopts nothing
 abbrev pub kept_by_it : List Fact
-kept_by_it = Enter 0 (round_stamp 1 0 claim_a_x) ∷ Propose 0 1 claim_a_x ∷ Decide 0 claim_a_x ∷ []
+kept_by_it = Enter 0 first_estimate ∷ Propose 0 1 claim_a_x ∷ Decide 0 claim_a_x ∷ []
 
 -- node 0 stages its estimate, and crashes before it says so. The crash keeps so many of its staged facts
 abbrev pub crashes_before_it_tells : ℕ → List Step
 crashes_before_it_tells count =
-    three_nodes_start ++ Submit 0 claim_a_x ∷ Stage 0 (Enter 0 (round_stamp 1 0 claim_a_x)) ∷ GoDown 0 ∷ Restart 0 count ∷ []
+    three_nodes_start ++ Submit 0 claim_a_x ∷ Stage 0 (Enter 0 first_estimate) ∷ GoDown 0 ∷ Restart 0 count ∷ []
 
 -- the fact was lost: the client submits its command again, and node 0 enters the round anew
 abbrev pub enters_anew : List Step
-enters_anew = Submit 0 claim_a_x ∷ enters 0 0 (round_stamp 1 0 claim_a_x)
+enters_anew = Submit 0 claim_a_x ∷ enters 0 0 first_estimate
 
 -- the fact was kept: node 0 says so now
 abbrev pub tells_it_now : List Step
-tells_it_now = tells 0 1 (Estimate 0 (round_stamp 1 0 claim_a_x))
+tells_it_now = tells 0 1 (Estimate 0 first_estimate)
 
 -- where the fact was lost, node 0 may not say so
 abbrev pub IsLostEstimateUnlawful : Type 0
-IsLostEstimateUnlawful = MayHappen 3 (end_of (crashes_before_it_tells 0)) (Send 0 (from_to 0 1 (Estimate 0 (round_stamp 1 0 claim_a_x)))) → ⊥
+IsLostEstimateUnlawful = MayHappen 3 (end_of (crashes_before_it_tells 0)) (Send 0 (from_to 0 1 (Estimate 0 first_estimate))) → ⊥
 
 -- instance 1 is decided first
 abbrev pub decides_instance_1 : List Step

@@ -51,7 +51,7 @@ DoAcksBind run = (q i r : ℕ) (e : Estimated) → Says (end_of run).wire q (Ack
 abbrev pub AreProposalsLocked : ℕ → List Step → Type 0
 AreProposalsLocked n run = (i r : ℕ) (v : Command) (p : ℕ) → Says (end_of run).wire p (Proposal i r v) → HasMajority n (λ q. Says (end_of run).wire q (Ack i r)) → (k : ℕ) (w : Command) (c : ℕ) → r ≤ k → Says (end_of run).wire c (Proposal i k w) → w ≡ v
 
--- what any node acknowledged by a moment is the reply of a beginning of the last decided list, all submitted by then
+-- a reply acknowledged by a moment comes from a beginning of the last decided list that was wholly submitted by then
 abbrev pub KeepsRealTime : ℕ → List Step → Type 0
 KeepsRealTime n run = (before after : List Step) → run ≡ before ++ after → (p : ℕ) (q : RequestNo) (reply : Reply) → Contains (end_of before).trace (Acknowledged p q reply) → (last : List Command) → IsDecidedList n (end_of run).wire last → (front : List Command) × (take (length front) last ≡ front) × (reply_of front q ≡ Some reply) × ((c : Command) → Contains front c → Contains (end_of before).submitted c)
 

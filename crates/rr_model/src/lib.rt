@@ -24,7 +24,7 @@ ghost use Rattle.rr_model.specs.NodeInWorld.{IsInWorld, LeavesTheGroup, IsRunInW
 ghost use Rattle.rr_model.specs.Lawful.{Heard};
 ghost use Rattle.rr_model.specs.World.{World, Step, Acknowledged, Reported, decided_prefix, IsRun, end_of};
 ghost use Rattle.rr_model.specs.Examples.{first_request, claim_a_x, to_itself, first_estimate, decides_and_acknowledges, told_by_it, stages_and_crashes, goes_on, IsProposeOfAnotherUnlawful, IsAdoptBelowTheStampUnlawful, IsDecideWithoutMajorityUnlawful, IsEnterWithMadeUpCommandUnlawful};
-ghost use Rattle.rr_model.specs.ClusterExamples.{claim_a_y, round_stamp, first_round, two_rounds, IsDecideUnheardUnlawful, IsOwnCommandUnlawful, kept_over_two_rounds, decides_by_the_others, kept_by_it, crashes_before_it_tells, enters_anew, tells_it_now, IsLostEstimateUnlawful, decides_instance_1, decides_out_of_order, decides_twice, registry_of_one_claim};
+ghost use Rattle.rr_model.specs.ClusterExamples.{claim_a_y, first_round, two_rounds, IsDecideUnheardUnlawful, IsProposeOfAnotherCommandUnlawful, kept_over_two_rounds, decides_by_the_others, kept_by_it, crashes_before_it_tells, enters_anew, tells_it_now, IsLostEstimateUnlawful, decides_instance_1, decides_out_of_order, decides_twice, registry_of_one_claim};
 ghost use Rattle.rr_model.specs.Sound.{IsSound, IsChosen, IsDecidedList};
 ghost use Rattle.rr_model.specs.Laws.{after_steps, AreBeginningsRuns, StaysChosen, DoesListGrow, AreKeptFactsNeverLost, DoRoundsRise, DoAcksBind, AreProposalsLocked, KeepsRealTime, DoLaterCommandsStandBehind, DoesWhatIsLeftFit, DoesPromiseStand, DoLawfulFactsFit};
 
@@ -47,9 +47,9 @@ pub fn laws_of_runs()
     ensures what_a_crash_leaves_fits { (n : ℕ) (run : List Step) → IsRun n run → DoesWhatIsLeftFit n run }
 {}
 
-/// The decided list keeps the order of real time. A command that some node acknowledged before another was first
+/// The decided list keeps the order of real time: a command that some node acknowledged before another was first
 /// submitted stands before it in the list. So the list is a linearization of the acknowledged commands (Herlihy and
-/// Wing 1990): one order of them that gives each reply, and in which none overtakes one that was answered before.
+/// Wing 1990): it gives each reply, and no command stands before one that was acknowledged before it was submitted.
 pub fn order_in_real_time()
     ensures acknowledged_comes_first { (n : ℕ) (run : List Step) → IsRun n run → KeepsRealTime n run }
     ensures later_commands_stand_behind { (n : ℕ) (run : List Step) → IsRun n run → DoLaterCommandsStandBehind n run }
@@ -114,35 +114,44 @@ pub fn examples()
     ensures no_estimate_made_up { IsEnterWithMadeUpCommandUnlawful }
 {}
 
-/// The same of three nodes. A first round fails when its command is chosen, and the second must propose that one. A
-/// node decides by the acknowledgements of the others alone. A crash between staging and sending loses a fact or not.
-pub fn examples_of_three_nodes()
+/// A run of three nodes, over two rounds. In the first a command is chosen, but its coordinator hears of no
+/// acknowledgement. The coordinator of the second has another command, and may propose only the chosen one.
+pub fn examples_of_two_rounds()
     ensures two_rounds_are_a_run { IsRun 3 two_rounds }
     ensures the_first_round_chooses { IsChosen 3 (end_of first_round).wire 0 claim_a_x }
     ensures its_coordinator_may_not_decide { IsDecideUnheardUnlawful }
-    ensures no_other_command_may_be_proposed { IsOwnCommandUnlawful }
+    ensures no_other_command_may_be_proposed { IsProposeOfAnotherCommandUnlawful }
     ensures what_node_0_keeps { (end_of two_rounds).kept 0 ≡ kept_over_two_rounds }
-    ensures the_second_round_decides_the_same { decided_prefix ((end_of two_rounds).kept 2) ≡ claim_a_x ∷ [] }
+    ensures node_2_decides_the_same { decided_prefix ((end_of two_rounds).kept 2) ≡ claim_a_x ∷ [] }
     ensures the_decided_list_has_it { IsDecidedList 3 (end_of two_rounds).wire (claim_a_x ∷ []) }
-    ensures a_node_decides_by_the_others { IsRun 3 decides_by_the_others }
-    ensures it_adopts_nothing { (end_of decides_by_the_others).kept 1 ≡ kept_by_it }
-    ensures a_crash_may_lose_a_fact { IsRun 3 (crashes_before_it_tells 0 ++ enters_anew) × ((end_of (crashes_before_it_tells 0)).kept 0 ≡ []) }
-    ensures a_crash_may_keep_it { IsRun 3 (crashes_before_it_tells 1 ++ tells_it_now) × ((end_of (crashes_before_it_tells 1)).kept 0 ≡ Enter 0 (round_stamp 1 0 claim_a_x) ∷ []) }
-    ensures nobody_had_spoken_of_it { (count : ℕ) → (end_of (crashes_before_it_tells count)).wire ≡ [] }
-    ensures a_lost_fact_backs_nothing { IsLostEstimateUnlawful }
 {}
 
-/// The same of two instances: one is decided before the one below it, and one command is decided for both and counts
-/// once.
+/// Runs of three nodes, in one round. A coordinator decides by the acknowledgements of the others alone. A crash
+/// between staging and sending loses the fact or keeps it, before anybody heard of it, and the run goes on.
+pub fn examples_of_three_nodes()
+    ensures a_node_decides_by_the_others { IsRun 3 decides_by_the_others }
+    ensures it_adopts_nothing { (end_of decides_by_the_others).kept 1 ≡ kept_by_it }
+    ensures a_crash_may_lose_a_fact { (end_of (crashes_before_it_tells 0)).kept 0 ≡ [] }
+    ensures a_crash_may_keep_it { (end_of (crashes_before_it_tells 1)).kept 0 ≡ Enter 0 first_estimate ∷ [] }
+    ensures nobody_had_heard_of_it { (count : ℕ) → (end_of (crashes_before_it_tells count)).wire ≡ [] }
+    ensures a_run_goes_on_without_it { IsRun 3 (crashes_before_it_tells 0 ++ enters_anew) }
+    ensures a_run_goes_on_with_it { IsRun 3 (crashes_before_it_tells 1 ++ tells_it_now) }
+    ensures a_lost_fact_backs_no_message { IsLostEstimateUnlawful }
+{}
+
+/// Runs of three nodes, over two instances. One is decided before the instance below it. And one command is decided
+/// for both, and counts once.
 pub fn examples_of_two_instances()
-    ensures instances_may_be_decided_out_of_order { IsRun 3 decides_out_of_order }
+    ensures instances_are_decided_out_of_order { IsRun 3 decides_out_of_order }
     ensures instance_1_is_chosen_first { IsChosen 3 (end_of decides_instance_1).wire 1 claim_a_y }
-    ensures the_list_is_empty_then { IsDecidedList 3 (end_of decides_instance_1).wire [] × (decided_prefix ((end_of decides_instance_1).kept 1) ≡ []) }
-    ensures the_list_has_both_at_the_end { IsDecidedList 3 (end_of decides_out_of_order).wire (claim_a_x ∷ claim_a_y ∷ []) × (decided_prefix ((end_of decides_out_of_order).kept 1) ≡ claim_a_x ∷ claim_a_y ∷ []) }
-    ensures a_command_may_be_decided_twice { IsRun 3 decides_twice }
+    ensures the_list_is_empty_then { IsDecidedList 3 (end_of decides_instance_1).wire [] }
+    ensures so_is_the_prefix_of_its_node { decided_prefix ((end_of decides_instance_1).kept 1) ≡ [] }
+    ensures the_list_has_both_at_the_end { IsDecidedList 3 (end_of decides_out_of_order).wire (claim_a_x ∷ claim_a_y ∷ []) }
+    ensures so_has_the_prefix_of_its_node { decided_prefix ((end_of decides_out_of_order).kept 1) ≡ claim_a_x ∷ claim_a_y ∷ [] }
+    ensures a_command_is_decided_twice { IsRun 3 decides_twice }
     ensures the_list_has_it_twice { IsDecidedList 3 (end_of decides_twice).wire (claim_a_x ∷ claim_a_x ∷ []) }
-    ensures the_first_is_acknowledged { Contains (end_of decides_twice).trace (Acknowledged 1 first_request Claimed) }
-    ensures the_second_changes_nothing { Contains (end_of decides_twice).trace (Reported 1 2 registry_of_one_claim) }
+    ensures the_first_gives_the_reply { Contains (end_of decides_twice).trace (Acknowledged 1 first_request Claimed) }
+    ensures the_second_binds_nothing { Contains (end_of decides_twice).trace (Reported 1 2 registry_of_one_claim) }
 {}
 
 /// The node's definitions mean what they say: a node alone takes a command through the four phases, its
