@@ -59,7 +59,7 @@ adopts p i r v = keeps p (Adopt i r v) ++ tells p (coordinator_of r 3) (Ack i r)
 abbrev pub adopts_unheard : ℕ → ℕ → ℕ → Command → List Step
 adopts_unheard p i r v = keeps p (Adopt i r v) ++ Send p (from_to p (coordinator_of r 3) (Ack i r)) ∷ []
 
--- Two rounds. Node 1 coordinates round 1: nodes 0 and 1 adopt its proposal, and it hears of no acknowledgement
+-- node 1 coordinates round 1: nodes 0 and 1 adopt its proposal, and it hears of no acknowledgement
 abbrev pub first_round : List Step
 first_round =
     three_nodes_start ++ Submit 0 claim_a_x ∷ Submit 1 claim_a_x ∷ Submit 2 claim_a_y ∷ []
@@ -78,11 +78,11 @@ second_round_ends =
     ++ adopts 0 0 2 claim_a_x ++ adopts 2 0 2 claim_a_x
     ++ keeps 2 (Decide 0 claim_a_x)
 
--- the whole run
+-- both rounds
 abbrev pub two_rounds : List Step
 two_rounds = first_round ++ second_round_begins ++ second_round_ends
 
--- Node 1 may not decide after round 1, though its command is chosen
+-- node 1 may not decide after round 1, though its command is chosen
 abbrev pub IsDecideUnheardUnlawful : Type 0
 IsDecideUnheardUnlawful = MayHappen 3 (end_of first_round) (Stage 1 (Decide 0 claim_a_x)) → ⊥
 
@@ -97,7 +97,7 @@ abbrev pub kept_over_two_rounds : List Fact
 kept_over_two_rounds =
     Enter 0 first_estimate ∷ Adopt 0 1 claim_a_x ∷ Enter 0 (round_stamp 2 1 claim_a_x) ∷ Adopt 0 2 claim_a_x ∷ []
 
--- Node 1 decides a command for instance i in round 1, by the estimates and the acknowledgements of nodes 0 and 2 alone
+-- node 1 decides a command for instance i in round 1, by the estimates and the acknowledgements of nodes 0 and 2 alone
 abbrev pub decides : ℕ → Command → List Step
 decides i v =
     to_each_node v

@@ -47,9 +47,9 @@ pub fn laws_of_runs()
     ensures what_a_crash_leaves_fits { (n : ℕ) (run : List Step) → IsRun n run → DoesWhatIsLeftFit n run }
 {}
 
-/// The decided list keeps the order of real time: a command that some node acknowledged before another was first
+/// The decided list keeps the order of real time. A command that some node acknowledged before another was first
 /// submitted stands before it in the list. So the list is a linearization of the acknowledged commands (Herlihy and
-/// Wing 1990): it gives each reply, and no command stands before one that was acknowledged before it was submitted.
+/// Wing 1990). It gives each reply, and no command stands before one that was acknowledged before it was submitted.
 pub fn order_in_real_time()
     ensures acknowledged_comes_first { (n : ℕ) (run : List Step) → IsRun n run → KeepsRealTime n run }
     ensures later_commands_stand_behind { (n : ℕ) (run : List Step) → IsRun n run → DoLaterCommandsStandBehind n run }
