@@ -58,7 +58,7 @@ all_at P [] k x h e = absurd (let no : None ≡ Some x = e in cc)
 all_at P (y ∷ xs) zero x h e = let f : y ≡ x = (let g : Some y ≡ Some x = e in cc) in subst P f h.0
 all_at P (y ∷ xs) (suc k) x h e = all_at P xs k x h.1 e
 
-contains_at : {X : Type 0} (xs : List X) (k : ℕ) (x : X) → slice_get xs k ≡ Some x → Contains xs x
+pub contains_at : {X : Type 0} (xs : List X) (k : ℕ) (x : X) → slice_get xs k ≡ Some x → Contains xs x
 contains_at [] k x e = absurd (let no : None ≡ Some x = e in cc)
 contains_at (y ∷ xs) zero x e = (0, omega arith, let f : y ≡ x = (let g : Some y ≡ Some x = e in cc) in f)
 contains_at (y ∷ xs) (suc k) x e = let r = contains_at xs k x e in (suc r.0, omega (arith, r.1), r.2)

@@ -2,6 +2,7 @@ pub mod ChosenLemmas
 pub mod TellingLaws
 pub mod SubmittedLaws
 pub mod ClusterLaws
+pub mod RealTimeLaws
 pub mod HeadlineLaws
 pub mod NodeLaws
 pub mod RefusedLaws

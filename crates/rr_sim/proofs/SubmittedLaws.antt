@@ -115,7 +115,7 @@ pub joined : (w : World) (steps : List Step) (pieces : List (List Step)) → aft
 joined w steps pieces = fold-append after_step w steps (in_turn pieces)
 
 -- events that take the world along lead from one cluster to the other
-leads_along : (n at : ℕ) (events : List Event) (old new : Cluster) (w : World) (pieces : List (List Step)) → TakesAlong n at events old w pieces new → Leads at events old new
+pub leads_along : (n at : ℕ) (events : List Event) (old new : Cluster) (w : World) (pieces : List (List Step)) → TakesAlong n at events old w pieces new → Leads at events old new
 leads_along n at [] old new w [] along = along
 leads_along n at [] old new w (steps ∷ pieces) along = absurd along
 leads_along n at (e ∷ es) old new w [] along = absurd along

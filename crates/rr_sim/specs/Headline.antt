@@ -24,7 +24,7 @@ use Rattle.rr_text.specs.declared.report.ReportLine.{ReportLine}
 use Rattle.rr_text.specs.declared.report.ReportLine.TheVariants as line
 use Rattle.rr_text.specs.Reported.{Reported}
 use Rattle.rr_text.specs.Scheduled.{node_of}
-use Rattle.rr_sim.specs.Clusters.{Cluster, new_cluster, Steps, shown}
+use Rattle.rr_sim.specs.Clusters.{Cluster, new_cluster, Steps, Leads, shown}
 
 -- the registry that a report shows by its bound names
 abbrev pub bound : List Binding → Bindings
@@ -123,3 +123,24 @@ pub record AgreesWithOneList (events : List Event) (report : Reported) : Type 0 
   -- no two nodes say that an instance has decided differently
   pub decisions : (j k i : ℕ) (m o : Message) (v w : Command) → Contains report.lines (line.Send j m) → Contains report.lines (line.Send k o) →
       m.body ≡ Decision i v → o.body ≡ Decision i w → v ≡ w
+
+-- a moment of a schedule run of n nodes, between the events before it and those after it
+pub record Moment (n : ℕ) (before after : List Event) (report : Reported) : Type 0 where
+  pub cluster : Cluster
+  pub at_the_end : Cluster
+  pub later_lines : List ReportLine
+  -- the events before it lead to its cluster, and those after it lead on to the end
+  pub leads : Leads 2 before (new_cluster n) cluster
+  pub leads_on : Leads (2 + length before) after cluster at_the_end
+  -- the lines by then are a beginning of the report's
+  pub lines : report.lines ≡ at_the_end.lines
+  pub begins : report.lines ≡ cluster.lines ++ later_lines
+  -- the list up to a command that no event had submitted by then gives each reply acknowledged by then
+  pub order : (p : ℕ) (q : RequestNo) (reply : Reply) → Contains cluster.lines (line.Ack p q reply) →
+      (v : Command) → ((at : ℕ) → Contains before (Submit at v) → ⊥) →
+      (k : ℕ) → slice_get report.decided k ≡ Some v → reply_of (take k report.decided) q ≡ Some reply
+
+-- a command acknowledged by a moment stands before each command first submitted later: the list is a linearization
+-- (Herlihy and Wing 1990)
+abbrev pub KeepsRealTime : ℕ → List Event → Reported → Type 0
+KeepsRealTime n events report = (before after : List Event) → events ≡ before ++ after → Moment n before after report

@@ -4,7 +4,7 @@ ghost use Rattle.std.specs.Prelude.{◌≡◌, ◌↔◌, ◌<◌, ◌≤◌, �
 ghost use Rattle.rr_sim.specs.Clusters as cluster;
 ghost use Rattle.std.specs.List.{AllByRecursion};
 ghost use Rattle.rr_sim.specs.Clusters.{first_fault, Leads, LeadsSpelt, IsReportOf, new_cluster};
-ghost use Rattle.rr_sim.specs.Headline.{IsRunOfTheWorld, AgreesWithOneList};
+ghost use Rattle.rr_sim.specs.Headline.{IsRunOfTheWorld, AgreesWithOneList, KeepsRealTime};
 ghost use Rattle.rr_text.specs.Scheduled.{node_of, IsEvent};
 
 use crate::chosen::decided_list;
@@ -15,6 +15,7 @@ use rr_types::{NodeId, Nodes, Refusal};
 use std::alloc::Global;
 
 /// Runs a schedule on `nodes` nodes that are all down at first, over empty disks, and reports what comes of it.
+/// In the decided list, a command that was acknowledged before another was first submitted stands before it.
 /// Errors: `BadNodes` outside 1 to 7; `BadEvent` of the line of the first event whose node isn't there;
 /// `OutOfMemory` where the wire or the report can't grow. On as many nodes as the schedule has it is `OutOfMemory` alone.
 #[tactic(auto, using(crate::proofs::ScheduleLaws::no_fault))]
@@ -25,6 +26,7 @@ pub fn simulate(alloc: Global, nodes: u8, schedule: &Schedule) -> Result<Report,
     ensures report { IfOk result (λ report. IsReportOf nodes schedule.now.events report) }
     ensures world { IfOk result (λ report. IsRunOfTheWorld nodes schedule.now.events report) }
     ensures one_list { IfOk result (λ report. AgreesWithOneList schedule.now.events report) }
+    ensures real_time { IfOk result (λ report. KeepsRealTime nodes schedule.now.events report) }
     ensures own { nodes ≡ schedule.now.nodes → IfErr result (λ e. e ≡ Refusal.OutOfMemory) }
     ensures else_memory { IfErr result (λ e. (e ≡ Refusal.OutOfMemory) ⊎ (e ≡ Refusal.BadNodes) ⊎ ((line : ℕ) × (e ≡ Refusal.BadEvent line))) }
 {
