@@ -1,21 +1,11 @@
 -- The list of a report keeps the order of real time.
-use Rattle.std.proofs.Common.{◌≡◌, ◌⊎◌, inl, inr, ℕ, zero, suc, ◌+◌, ◌<◌, ◌≤◌, List, [], ◌∷◌, ◌++◌, length, take, drop, Contains, Some, refl, sym, ◌∙◌, ap, subst, arith, append-nil, append_assoc, le_of_suc-le-suc}
-use Rattle.std.specs.Prelude.{slice_get, IfOk, Result, Ok, Err}
-use Rattle.std.proofs.lemmas.Bool.{cases_lt}
-use Rattle.std.proofs.lemmas.List.{take-take, take-append-drop}
+use Rattle.std.proofs.Common.{◌≡◌, ℕ, suc, ◌+◌, ◌<◌, List, [], ◌∷◌, ◌++◌, length, Contains, refl, sym, ◌∙◌, ap, subst, arith, append-nil, append_assoc}
+use Rattle.std.specs.Prelude.{IfOk, Result, Ok, Err}
 use Rattle.std.proofs.lemmas.List.Concat.{flat_map-append}
-use Rattle.std.proofs.lemmas.Option.{none-some, same_Some}
-use Rattle.rr_types.specs.declared.command.Command.{Command}
-use Rattle.rr_types.specs.declared.command.RequestNo.{RequestNo}
-use Rattle.rr_types.specs.declared.command.Reply.{Reply}
 use Rattle.rr_types.specs.declared.refusal.Refusal.{Refusal}
-use Rattle.rr_types.specs.Registry.{reply_of}
 use Rattle.rr_model.specs.Laws.{after_steps}
-use Rattle.rr_model.specs.Sound.{IsDecidedList, IsSound}
-use Rattle.rr_model.specs.World.{World, Step, Told, Acknowledged, empty_world, IsRun, end_of}
-use Rattle.rr_model.proofs.Laws.{beginning_is_a_run, decided_list_grows}
-use Rattle.rr_model.proofs.Replies.{same_reply}
-use Rattle.rr_model.proofs.Soundness.{sound}
+use Rattle.rr_model.specs.World.{World, Step, Told, Acknowledged, empty_world}
+use Rattle.rr_model.proofs.Laws.{later_commands_stand_behind}
 use Rattle.rr_text.specs.declared.event.Event.{Event}
 use Rattle.rr_text.specs.declared.event.Event.TheVariants.{Submit}
 use Rattle.rr_text.specs.declared.report.ReportLine.{ReportLine}
@@ -27,44 +17,6 @@ use Rattle.rr_sim.proofs.ClusterLaws.{contains_at}
 use Rattle.rr_sim.proofs.RefusedLaws.{step_notes}
 use Rattle.rr_sim.proofs.SubmittedLaws.{leads_along, joined, all_submitted_by_events}
 use Rattle.rr_sim.proofs.TellingLaws.{line_told}
-
--- ---- a run of the world
-
--- where a command stands that was not submitted by a moment, the commands before it give each reply acknowledged by then
-abbrev DoLaterCommandsStandBehind : ℕ → List Step → Type 0
-DoLaterCommandsStandBehind n run = (before after : List Step) → run ≡ before ++ after → (p : ℕ) (q : RequestNo) (reply : Reply) → Contains (end_of before).trace (Acknowledged p q reply) → (last : List Command) → IsDecidedList n (end_of run).wire last → (c : Command) → (Contains (end_of before).submitted c → ⊥) → (k : ℕ) → slice_get last k ≡ Some c → reply_of (take k last) q ≡ Some reply
-
--- what stands at a place of a list stands in each beginning that is long enough
-in_front : (k m : ℕ) (list : List Command) (c : Command) → k < m → slice_get list k ≡ Some c → Contains (take m list) c
-in_front k zero list c l e = absurd (omega (arith, l))
-in_front k (suc m) [] c l e = absurd (none-some c e)
-in_front zero (suc m) (x ∷ list) c l e = (0, omega arith, same_Some x c e)
-in_front (suc k) (suc m) (x ∷ list) c l e = let t : Contains (take m list) c = in_front k m list c (le_of_suc-le-suc l) e in (suc t.0, (let h : t.0 < length (take m list) = t.1 in omega arith), t.2)
-
-later_commands_stand_behind : (n : ℕ) (run : List Step) → IsRun n run → DoLaterCommandsStandBehind n run
-later_commands_stand_behind n run r before after e p q reply told last d c new k at = by_place (cases_lt k (length front))
-  where
-    s : IsSound n before
-    s = sound n before (beginning_is_a_run n run r before after e)
-
-    front : List Command
-    front = s.a_decided_list_exists.0
-
-    is : take (length front) last ≡ front
-    is = (decided_list_grows n run r before after e front last s.a_decided_list_exists.1 d).1
-
-    behind : length front ≤ k → reply_of (take k last) q ≡ Some reply
-    behind l =
-        let begins : take (length front) (take k last) ≡ front = take-take (length front) k last l ∙ is in
-        let whole : front ++ drop (length front) (take k last) ≡ take k last = ap (λ z. z ++ drop (length front) (take k last)) (sym begins) ∙ take-append-drop (length front) (take k last) in
-        subst (λ z. reply_of z q ≡ Some reply) whole
-        (same_reply front (drop (length front) (take k last)) q reply (s.acknowledged_replies_are_its_own front s.a_decided_list_exists.1 p q reply told))
-
-    by_place : (k < length front) ⊎ (length front ≤ k) → reply_of (take k last) q ≡ Some reply
-    by_place (inl l) = absurd (new (s.its_commands_were_submitted front s.a_decided_list_exists.1 c (subst (λ z. Contains z c) is (in_front k (length front) last c l at))))
-    by_place (inr l) = behind l
-
--- ---- a run of a schedule
 
 -- the pieces of a run up to a moment, and the cluster there
 record Cut (n at : ℕ) (before after : List Event) (old : Cluster) (w : World) (pieces : List (List Step)) (new : Cluster) : Type 0 where
