@@ -5,7 +5,8 @@ ghost use Rattle.std.specs.Prelude.{◌≡◌, true, refl};
 use rr_disk::{Area, Disk, FailingDisk, MemDisk};
 use rr_gate::{Host, Job};
 use rr_types::{Command, Fact, Group, Instance, Name, NodeId, Nodes, Op, Refusal, RequestNo};
-use std::test::Fail;
+use std::alloc::Global;
+use std::process::Abort;
 
 #[derive(Drop)]
 struct Plain {
@@ -56,46 +57,54 @@ impl Host for Plain {
     ghost end_noted = { λ h gate next. (refl, refl) };
 }
 
+/// A group of one fact with this number.
+fn one_fact(rt: &impl Abort, alloc: Global, serial: u64) -> Group {
+    let command = Command {
+        request: RequestNo { client: 7, seq: 1 },
+        op: Op::Release(Name::new(b"a").expect(rt, "a name")),
+    };
+    let decide = Fact::Decide(Instance::new(0).expect(rt, "an instance"), command);
+    let facts = [decide].to_vec(alloc).expect(rt, "memory");
+    Group::new(serial, facts).expect(rt, "a group")
+}
+
 #[test]
-fn a_flush_takes_four_calls(rt: HostRuntime) -> Result<(), Fail> {
+fn a_flush_takes_four_calls(rt: HostRuntime) {
     let alloc = rt.alloc();
     let mut disk = MemDisk::new(alloc);
-    disk.write_at(Area::First, 0, &[0xA5, 0x00, 0x11])?;
-    disk.sync()?;
+    disk.write_at(Area::First, 0, &[0xA5, 0x00, 0x11])
+        .expect(&rt, "a write");
+    disk.sync().expect(&rt, "a sync");
     let mut host = Plain {
         disk: FailingDisk::new(disk),
         failed: false,
         gate: 2,
         next: 5,
     };
-    let nodes = Nodes::new(1)?;
-    let node = NodeId::new(nodes, 0).ok_or("a node")?;
-    let command = Command {
-        request: RequestNo { client: 7, seq: 1 },
-        op: Op::Release(Name::new(b"a")?),
-    };
-    let decide = Fact::Decide(Instance::new(0).ok_or("an instance")?, command);
-    let group = Group::new(5, [decide].to_vec(alloc)?).map_err(|_| "a group")?;
-    let body = [0, 0, 0, 1, 0x77, 0].to_vec(alloc)?;
-    let job = Job::new(nodes, node, Area::First, 2, body, group);
-    let job = job.step(&mut host)?;
-    let job = job.step(&mut host)?;
-    let job = job.step(&mut host)?;
-    let synced = job.step(&mut host)?;
+    let nodes = Nodes::new(1).expect(&rt, "nodes");
+    let node = NodeId::new(nodes, 0).expect(&rt, "a node");
+    let body = [0, 0, 0, 1, 0x77, 0].to_vec(alloc).expect(&rt, "memory");
+    let job = Job::new(nodes, node, Area::First, 2, body, one_fact(&rt, alloc, 5));
+    let job = job.step(&mut host).expect(&rt, "a step");
+    let job = job.step(&mut host).expect(&rt, "a step");
+    let job = job.step(&mut host).expect(&rt, "a step");
+    let synced = job.step(&mut host).expect(&rt, "a step");
     assert_eq!(rt; synced.first(), 5);
     assert_eq!(rt; synced.into_group().facts().len(), 1);
     assert_eq!(rt; host.gate, 8);
     assert_eq!(rt; host.next, 6);
-    let bytes = host.disk.read(alloc, Area::First, 0, 99)?;
+    let bytes = host
+        .disk
+        .read(alloc, Area::First, 0, 99)
+        .expect(&rt, "a read");
     assert_eq!(rt;
         bytes.as_slice(),
         [0xA5, 0x00, 0xA5, 0, 0, 0, 1, 0x77, 0].as_slice()
     );
-    Ok(())
 }
 
 #[test]
-fn a_host_that_failed_is_left_alone(rt: HostRuntime) -> Result<(), Fail> {
+fn a_host_that_failed_is_left_alone(rt: HostRuntime) {
     let alloc = rt.alloc();
     let mut host = Plain {
         disk: FailingDisk::new(MemDisk::new(alloc)),
@@ -103,30 +112,24 @@ fn a_host_that_failed_is_left_alone(rt: HostRuntime) -> Result<(), Fail> {
         gate: 0,
         next: 0,
     };
-    let nodes = Nodes::new(1)?;
-    let node = NodeId::new(nodes, 0).ok_or("a node")?;
-    let command = Command {
-        request: RequestNo { client: 7, seq: 1 },
-        op: Op::Release(Name::new(b"a")?),
-    };
-    let decide = Fact::Decide(Instance::new(0).ok_or("an instance")?, command);
-    let group = Group::new(0, [decide].to_vec(alloc)?).map_err(|_| "a group")?;
-    let again = Group::new(0, [decide].to_vec(alloc)?).map_err(|_| "a group")?;
-    let job = Job::new(nodes, node, Area::First, 0, [1, 0].to_vec(alloc)?, group);
+    let nodes = Nodes::new(1).expect(&rt, "nodes");
+    let node = NodeId::new(nodes, 0).expect(&rt, "a node");
+    let body = [1, 0].to_vec(alloc).expect(&rt, "memory");
+    let job = Job::new(nodes, node, Area::First, 0, body, one_fact(&rt, alloc, 0));
     match job.step(&mut host) {
         Ok(next) => {
             next.abandon();
-            return Err("a write past the end was done")?;
+            assert!(rt; false, "a write past the end was done");
         }
         Err(e) => assert_eq!(rt; e, Refusal::Device),
     }
-    let job = Job::new(nodes, node, Area::First, 0, [1, 0].to_vec(alloc)?, again);
+    let body = [1, 0].to_vec(alloc).expect(&rt, "memory");
+    let job = Job::new(nodes, node, Area::First, 0, body, one_fact(&rt, alloc, 0));
     match job.step(&mut host) {
         Ok(next) => {
             next.abandon();
-            return Err("a failed host was used")?;
+            assert!(rt; false, "a failed host was used");
         }
         Err(e) => assert_eq!(rt; e, Refusal::Failed),
     }
-    Ok(())
 }

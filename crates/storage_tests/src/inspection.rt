@@ -3,7 +3,8 @@
 use rr_disk::{Area, Disk, FailingDisk, MemDisk};
 use rr_slots::{AreaReport, inspect, inspect_bytes};
 use rr_types::{NodeId, Nodes, Refusal};
-use std::test::Fail;
+use std::alloc::Global;
+use std::process::Abort;
 
 /// Area 0 of node 0 of 1 behind four facts, by which instance 0 has decided. The gates stand at 0, 28, 73, 114,
 /// 155 and 192.
@@ -43,30 +44,31 @@ const SECOND_SNAPSHOT: [u8; 193] = [
 
 /// What an area of this epoch tells of node `node` of `nodes`.
 fn told(
+    rt: &impl Abort,
     epoch: u64,
     node: u8,
     nodes: u8,
     next: u64,
     decided: u64,
-) -> Result<Option<AreaReport>, Refusal> {
-    let nodes = Nodes::new(nodes)?;
-    let node = NodeId::new(nodes, node).ok_or(Refusal::BadNodes)?;
-    Ok(Some(AreaReport {
+) -> Option<AreaReport> {
+    let nodes = Nodes::new(nodes).expect(rt, "nodes");
+    let node = NodeId::new(nodes, node).expect(rt, "a node");
+    Some(AreaReport {
         epoch,
         node,
         nodes,
         next,
         decided,
-    }))
+    })
 }
 
 /// The bytes of an area with another byte in one place.
-fn changed(rt: &HostRuntime, area: &[u8], at: usize, byte: u8) -> Result<Vec<u8>, Fail> {
-    let mut bytes = area.to_vec(rt.alloc())?;
+fn changed(rt: &impl Abort, alloc: Global, area: &[u8], at: usize, byte: u8) -> Vec<u8> {
+    let mut bytes = area.to_vec(alloc).expect(rt, "memory");
     if let Some(place) = bytes.get_mut(at) {
         *place = byte;
     }
-    Ok(bytes)
+    bytes
 }
 
 /// Whether an inspection says that an area is broken at an offset.
@@ -74,46 +76,77 @@ fn is_damaged(rt: &HostRuntime, first: &[u8], second: &[u8], area: u8, offset: u
     inspect_bytes(rt.alloc(), first, second) == Err(Refusal::Damaged { area, offset })
 }
 
-#[test]
-fn tells_of_both_areas(rt: HostRuntime) -> Result<(), Fail> {
-    let alloc = rt.alloc();
-    let four = told(1, 0, 1, 4, 1)?;
-    let none = told(1, 0, 1, 0, 0)?;
-    let snapshot = told(2, 0, 1, 4, 1)?;
-    assert_eq!(rt; inspect_bytes(alloc, &[], &[])?, (None, None));
-    assert_eq!(rt; inspect_bytes(alloc, &[0xA5], &[0, 0xA5])?, (None, None));
-    assert_eq!(rt; inspect_bytes(alloc, &AREA, &[])?, (four, None));
-    assert_eq!(rt; inspect_bytes(alloc, &[0, 7], &AREA)?, (None, four));
-    assert_eq!(rt; inspect_bytes(alloc, &AREA, &SNAPSHOT)?, (none, snapshot));
-    assert_eq!(rt; inspect_bytes(alloc, &SNAPSHOT, &AREA)?, (snapshot, none));
-    let third = told(3, 0, 1, 4, 1)?;
-    assert_eq!(rt;
-        inspect_bytes(alloc, &SECOND_SNAPSHOT, &SNAPSHOT)?,
-        (third, snapshot)
-    );
-    let open = told(2, 0, 1, 2, 0)?;
-    assert_eq!(rt; inspect_bytes(alloc, &AREA, &OPEN_INSTANCE)?, (none, open));
-    Ok(())
+/// Asserts what an inspection tells of these bytes.
+fn assert_told(
+    rt: &impl Abort,
+    alloc: Global,
+    first: &[u8],
+    second: &[u8],
+    wanted: (Option<AreaReport>, Option<AreaReport>),
+) {
+    let told = inspect_bytes(alloc, first, second).expect(rt, "memory");
+    assert_eq!(rt; told, wanted);
+}
+
+/// What area 0 of a node alone tells behind four facts, by which it has decided a command.
+fn four(rt: &impl Abort) -> Option<AreaReport> {
+    told(rt, 1, 0, 1, 4, 1)
+}
+
+/// What its front tells, without the facts.
+fn none(rt: &impl Abort) -> Option<AreaReport> {
+    told(rt, 1, 0, 1, 0, 0)
+}
+
+/// What the snapshot behind these facts tells.
+fn snapshot(rt: &impl Abort) -> Option<AreaReport> {
+    told(rt, 2, 0, 1, 4, 1)
 }
 
 #[test]
-fn measures_each_area_by_itself(rt: HostRuntime) -> Result<(), Fail> {
+fn tells_of_both_areas(rt: HostRuntime) {
     let alloc = rt.alloc();
-    let mut other = changed(&rt, &AREA, 7, 3)?;
+    assert_told(&rt, alloc, &[], &[], (None, None));
+    assert_told(&rt, alloc, &[0xA5], &[0, 0xA5], (None, None));
+    assert_told(&rt, alloc, &AREA, &[], (four(&rt), None));
+    assert_told(&rt, alloc, &[0, 7], &AREA, (None, four(&rt)));
+    assert_told(&rt, alloc, &AREA, &SNAPSHOT, (none(&rt), snapshot(&rt)));
+    assert_told(&rt, alloc, &SNAPSHOT, &AREA, (snapshot(&rt), none(&rt)));
+    let third = told(&rt, 3, 0, 1, 4, 1);
+    assert_told(
+        &rt,
+        alloc,
+        &SECOND_SNAPSHOT,
+        &SNAPSHOT,
+        (third, snapshot(&rt)),
+    );
+    let open = told(&rt, 2, 0, 1, 2, 0);
+    assert_told(&rt, alloc, &AREA, &OPEN_INSTANCE, (none(&rt), open));
+}
+
+#[test]
+fn measures_each_area_by_itself(rt: HostRuntime) {
+    let alloc = rt.alloc();
+    let mut other = changed(&rt, rt.alloc(), &AREA, 7, 3);
     if let Some(node) = other.get_mut(6) {
         *node = 1;
     }
-    let fact = told(1, 1, 3, 0, 0)?;
-    let snapshot = told(2, 0, 1, 4, 1)?;
-    assert_eq!(rt; inspect_bytes(alloc, &other, &SNAPSHOT)?, (fact, snapshot));
-    let alone = told(1, 1, 3, 1, 0)?;
-    let cut = changed(&rt, &other, 73, 0)?;
-    assert_eq!(rt; inspect_bytes(alloc, &cut, &[])?, (alone, None));
-    Ok(())
+    let fact = told(&rt, 1, 1, 3, 0, 0);
+    let snapshot = told(&rt, 2, 0, 1, 4, 1);
+    assert_eq!(rt;
+        inspect_bytes(alloc, &other, &SNAPSHOT).expect(&rt, "memory"),
+        (fact, snapshot)
+    );
+    let alone = told(&rt, 1, 1, 3, 1, 0);
+    let cut = changed(&rt, rt.alloc(), &other, 73, 0);
+    assert_eq!(rt;
+        inspect_bytes(alloc, &cut, &[]).expect(&rt, "memory"),
+        (alone, None)
+    );
 }
 
 #[test]
-fn says_where_an_area_is_broken(rt: HostRuntime) -> Result<(), Fail> {
+fn says_where_an_area_is_broken(rt: HostRuntime) {
     let alloc = rt.alloc();
     assert!(rt; is_damaged(&rt, &AREA[..155], &[], 0, 114));
     for length in 156..193 {
@@ -121,57 +154,51 @@ fn says_where_an_area_is_broken(rt: HostRuntime) -> Result<(), Fail> {
         assert!(rt; is_damaged(&rt, &[], &AREA[..length], 1, 155));
     }
     for (at, byte) in [(159, 33), (167, 4), (170, 5)] {
-        let bytes = changed(&rt, &AREA, at, byte)?;
+        let bytes = changed(&rt, rt.alloc(), &AREA, at, byte);
         assert!(rt; is_damaged(&rt, &bytes, &[], 0, 155), "byte {at}");
     }
-    assert!(rt; is_damaged(&rt, &changed(&rt, &AREA, 6, 2)?, &[], 0, 0));
-    assert!(rt; is_damaged(&rt, &changed(&rt, &AREA, 6, 2)?, &SNAPSHOT, 0, 0));
+    assert!(rt; is_damaged(&rt, &changed(&rt, rt.alloc(), &AREA, 6, 2), &[], 0, 0));
+    assert!(rt; is_damaged(&rt, &changed(&rt, rt.alloc(), &AREA, 6, 2), &SNAPSHOT, 0, 0));
     assert!(rt; is_damaged(&rt, &AREA, &SNAPSHOT[..50], 1, 0));
     assert!(rt; is_damaged(&rt, &AREA, &AREA, 1, 0), "one epoch");
-    let three = told(1, 0, 1, 3, 0)?;
+    let three = told(&rt, 1, 0, 1, 3, 0);
     assert_eq!(rt;
-        inspect_bytes(alloc, &changed(&rt, &AREA, 155, 0)?, &[])?,
+        inspect_bytes(alloc, &changed(&rt, rt.alloc(), &AREA, 155, 0), &[]).expect(&rt, "memory"),
         (three, None)
     );
-    let none = told(1, 0, 1, 0, 0)?;
+    let none = told(&rt, 1, 0, 1, 0, 0);
     assert_eq!(rt;
-        inspect_bytes(alloc, &changed(&rt, &AREA, 28, 0xA4)?, &[])?,
+        inspect_bytes(alloc, &changed(&rt, rt.alloc(), &AREA, 28, 0xA4), &[]).expect(&rt, "memory"),
         (none, None)
     );
     assert_eq!(rt;
-        inspect_bytes(alloc, &changed(&rt, &AREA, 0, 0)?, &[])?,
+        inspect_bytes(alloc, &changed(&rt, rt.alloc(), &AREA, 0, 0), &[]).expect(&rt, "memory"),
         (None, None)
     );
-    Ok(())
 }
 
 #[test]
-fn passes_over_later_frames_of_the_other_area(rt: HostRuntime) -> Result<(), Fail> {
+fn passes_over_later_frames_of_the_other_area(rt: HostRuntime) {
     let alloc = rt.alloc();
-    let none = told(1, 0, 1, 0, 0)?;
-    let snapshot = told(2, 0, 1, 4, 1)?;
     for length in 29..193 {
-        assert_eq!(rt;
-            inspect_bytes(alloc, &AREA[..length], &SNAPSHOT)?,
-            (none, snapshot)
-        );
+        let wanted = (none(&rt), snapshot(&rt));
+        assert_told(&rt, alloc, &AREA[..length], &SNAPSHOT, wanted);
     }
     assert!(rt; is_damaged(&rt, &AREA[..28], &SNAPSHOT, 0, 0));
-    Ok(())
 }
 
 #[test]
-fn only_reads_a_disk(rt: HostRuntime) -> Result<(), Fail> {
+fn only_reads_a_disk(rt: HostRuntime) {
     let alloc = rt.alloc();
     let mut disk = FailingDisk::new(MemDisk::new(alloc));
-    disk.write_at(Area::First, 0, &AREA)?;
-    disk.write_at(Area::Second, 0, &SNAPSHOT)?;
-    let seen = (told(1, 0, 1, 0, 0)?, told(2, 0, 1, 4, 1)?);
-    assert_eq!(rt; inspect(alloc, &mut disk)?, seen);
+    disk.write_at(Area::First, 0, &AREA).expect(&rt, "a write");
+    disk.write_at(Area::Second, 0, &SNAPSHOT)
+        .expect(&rt, "a write");
+    let seen = (told(&rt, 1, 0, 1, 0, 0), told(&rt, 2, 0, 1, 4, 1));
+    assert_eq!(rt; inspect(alloc, &mut disk).expect(&rt, "memory"), seen);
     assert_eq!(rt; disk.len(Area::First), 193);
     assert_eq!(rt; disk.len(Area::Second), 51);
     disk.fail_next(Vec::new(alloc));
     assert_eq!(rt; inspect(alloc, &mut disk), Err(Refusal::Device));
-    assert_eq!(rt; inspect(alloc, &mut disk)?, seen);
-    Ok(())
+    assert_eq!(rt; inspect(alloc, &mut disk).expect(&rt, "memory"), seen);
 }
