@@ -26,8 +26,41 @@ impl Cluster {
         }
     }
 
-    /// The event of a line happens.
-    pub fn step(&mut self, line: u32, event: Event) {
+    /// All messages ever sent.
+    pub fn wire(&self) -> &[Message] {
+        &self.wire
+    }
+
+    /// The areas of node 0.
+    pub fn areas(&self) -> [Vec<u8>; 2] {
+        self.nodes[0].areas()
+    }
+
+    /// Whether an event is idle whatever its node does: there is no such message for it.
+    fn is_idle(&self, event: &Event) -> bool {
+        match event.action {
+            Action::Hear(number) => self
+                .wire
+                .get(number as usize)
+                .is_none_or(|message| message.to != event.node),
+            _ => false,
+        }
+    }
+
+    /// The event of a line happens, or is starved: memory is wanting for it.
+    /// Answers whether that made a difference.
+    pub fn step(&mut self, line: u32, event: Event, starved: bool) -> bool {
+        if starved && !self.is_idle(&event) {
+            if let Some(answer) = self.nodes[usize::from(event.node)].starve(&event.action) {
+                self.note(line, event.node, answer);
+                return true;
+            }
+        }
+        self.happen(line, event);
+        false
+    }
+
+    fn happen(&mut self, line: u32, event: Event) {
         let node = &mut self.nodes[usize::from(event.node)];
         let answer = match event.action {
             Action::Submit(command) => node

@@ -11,8 +11,9 @@ use crate::types::{
 
 const VERSION: u8 = 2;
 
-/// A snapshot, apart from whose it is.
+/// A snapshot.
 pub struct Snapshot {
+    pub place: Place,
     pub epoch: u64,
     pub next: u64,
     pub promise: Promise,
@@ -288,19 +289,17 @@ pub fn take_group(payload: &[u8], place: Place, next: u64, promise: &mut Promise
     Some(count)
 }
 
-/// Reads a snapshot of this node.
-pub fn read_snapshot(payload: &[u8], place: Place) -> Option<Snapshot> {
+/// Reads a snapshot.
+pub fn read_snapshot(payload: &[u8]) -> Option<Snapshot> {
     let mut reader = Reader { rest: payload };
-    let owner = reader.place()?;
-    if (owner.node, owner.nodes) != (place.node, place.nodes) {
-        return None;
-    }
+    let place = reader.place()?;
     let epoch = reader.u64().filter(|&epoch| epoch >= 1)?;
     let next = reader.u64()?;
     let count = reader.u32().filter(|&count| count == 0 || next >= 1)?;
     let promise = reader.promise(place, count)?;
     reader.end()?;
     Some(Snapshot {
+        place,
         epoch,
         next,
         promise,

@@ -39,6 +39,14 @@ impl Area {
         self.loose.sort_by_key(|range| range.start);
     }
 
+    /// Loosens what there is of a range.
+    fn loosen_within(&mut self, at: usize, count: usize) {
+        let end = self.bytes.len().min(at + count);
+        if at < end {
+            self.loosen(at..end);
+        }
+    }
+
     fn settle(&mut self) {
         self.loose.clear();
         self.safe = self.bytes.len();
@@ -86,6 +94,11 @@ impl Disk {
         } else {
             self.areas[area].write_fill(at, bytes.len(), fill);
         }
+    }
+
+    /// A write that finds no memory: what there is of its range is loose.
+    pub fn starve_write(&mut self, area: usize, at: usize, count: usize) {
+        self.areas[area].loosen_within(at, count);
     }
 
     /// Makes all bytes and lengths last.

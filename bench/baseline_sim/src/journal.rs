@@ -4,7 +4,7 @@
 use crate::codec::{put_snapshot, read_snapshot, take_group};
 use crate::disk::Disk;
 use crate::promise::Promise;
-use crate::types::{Place, Refusal};
+use crate::types::Place;
 
 const OPEN_GATE: u8 = 0xA5;
 const CLOSED_GATE: u8 = 0;
@@ -116,6 +116,23 @@ impl FrameJob {
         false
     }
 
+    /// Whether the due call is the last.
+    pub fn is_last(&self) -> bool {
+        matches!(self.stage, Stage::SyncGate)
+    }
+
+    /// The due call finds no memory; answers whether it fails by that, as a
+    /// write does that makes its area longer.
+    pub fn starve(&self, disk: &mut Disk) -> bool {
+        match self.due_write() {
+            Some((at, bytes)) if at + bytes.len() > disk.read(self.area).len() => {
+                disk.starve_write(self.area, at, bytes.len());
+                true
+            }
+            _ => false,
+        }
+    }
+
     /// The due call fails.
     pub fn fail(&self, disk: &mut Disk, fill: &[u8]) {
         if let Some((at, bytes)) = self.due_write() {
@@ -124,8 +141,15 @@ impl FrameJob {
     }
 }
 
-/// What an active area holds.
+/// Behind the gate at this offset of an area is no frame that fits.
+pub struct Damage {
+    pub area: usize,
+    pub offset: usize,
+}
+
+/// What an area holds, whose node its snapshot names.
 pub struct Content {
+    pub place: Place,
     pub journal: Journal,
     pub next: u64,
     pub promise: Promise,
@@ -133,13 +157,14 @@ pub struct Content {
 
 impl Content {
     /// What a freshly formatted disk holds, whose only frame ends at this gate.
-    pub fn formatted(gate: usize) -> Self {
+    pub fn formatted(place: Place, gate: usize) -> Self {
         let journal = Journal {
             area: 0,
             gate,
             epoch: 1,
         };
         Content {
+            place,
             journal,
             next: 0,
             promise: Promise::default(),
@@ -147,14 +172,22 @@ impl Content {
     }
 
     /// Reads the groups behind the snapshot.
-    fn read_groups(&mut self, place: Place, bytes: &[u8]) -> Result<(), Refusal> {
+    fn read_groups(&mut self, bytes: &[u8]) -> Result<(), Damage> {
         while bytes.get(self.journal.gate) == Some(&OPEN_GATE) {
-            let payload = payload_behind(bytes, self.journal.gate).ok_or(Refusal::Damaged)?;
-            let count = take_group(payload, place, self.next, &mut self.promise);
-            self.next += count.ok_or(Refusal::Damaged)?;
-            self.journal.gate += 5 + payload.len();
+            let length = self.read_group(bytes).ok_or(Damage {
+                area: self.journal.area,
+                offset: self.journal.gate,
+            })?;
+            self.journal.gate += 5 + length;
         }
         Ok(())
+    }
+
+    /// Reads the group behind the gate; answers the length of its payload.
+    fn read_group(&mut self, bytes: &[u8]) -> Option<usize> {
+        let payload = payload_behind(bytes, self.journal.gate)?;
+        self.next += take_group(payload, self.place, self.next, &mut self.promise)?;
+        Some(payload.len())
     }
 }
 
@@ -165,37 +198,60 @@ fn payload_behind(bytes: &[u8], gate: usize) -> Option<&[u8]> {
     (length < rest.len()).then(|| &rest[..length])
 }
 
-/// Reads the first frame of an area; None where the area isn't formatted.
-fn read_front(place: Place, area: usize, bytes: &[u8]) -> Result<Option<Content>, Refusal> {
+/// Reads the first frame of an area, which has to be of this node where one is
+/// named; None where the area isn't formatted.
+fn read_front(owner: Option<Place>, area: usize, bytes: &[u8]) -> Result<Option<Content>, Damage> {
     if bytes.len() < 2 || bytes[0] != OPEN_GATE {
         return Ok(None);
     }
-    let payload = payload_behind(bytes, 0).ok_or(Refusal::Damaged)?;
-    let snapshot = read_snapshot(payload, place).ok_or(Refusal::Damaged)?;
+    let content = read_snapshot_frame(area, bytes)
+        .filter(|content| owner.is_none_or(|owner| owner == content.place));
+    content.map(Some).ok_or(Damage { area, offset: 0 })
+}
+
+fn read_snapshot_frame(area: usize, bytes: &[u8]) -> Option<Content> {
+    let payload = payload_behind(bytes, 0)?;
+    let snapshot = read_snapshot(payload)?;
     let journal = Journal {
         area,
         gate: 5 + payload.len(),
         epoch: snapshot.epoch,
     };
-    Ok(Some(Content {
+    Some(Content {
+        place: snapshot.place,
         journal,
         next: snapshot.next,
         promise: snapshot.promise,
-    }))
+    })
 }
 
-/// Reads both areas; None where neither is formatted.
-pub fn read_areas(place: Place, areas: [&[u8]; 2]) -> Result<Option<Content>, Refusal> {
-    let first = read_front(place, 0, areas[0])?;
-    let second = read_front(place, 1, areas[1])?;
-    let active = match (first, second) {
-        (None, None) => return Ok(None),
-        (Some(content), None) | (None, Some(content)) => content,
-        (Some(a), Some(b)) if a.journal.epoch == b.journal.epoch => return Err(Refusal::Damaged),
-        (Some(a), Some(b)) if a.journal.epoch > b.journal.epoch => a,
-        (Some(_), Some(b)) => b,
-    };
-    let mut content = active;
-    content.read_groups(place, areas[content.journal.area])?;
-    Ok(Some(content))
+/// Reads both areas, of this node where one is named: the first frames, and all
+/// frames of the one of greatest epoch. None is an area that isn't formatted.
+pub fn read_areas(owner: Option<Place>, areas: [&[u8]; 2]) -> Result<[Option<Content>; 2], Damage> {
+    let mut contents = [
+        read_front(owner, 0, areas[0])?,
+        read_front(owner, 1, areas[1])?,
+    ];
+    if let [Some(a), Some(b)] = &contents {
+        if a.journal.epoch == b.journal.epoch {
+            return Err(Damage { area: 1, offset: 0 });
+        }
+    }
+    if let Some(active) = greatest(contents.iter_mut().flatten()) {
+        active.read_groups(areas[active.journal.area])?;
+    }
+    Ok(contents)
+}
+
+/// What the active area holds of this node; None where no area is formatted.
+pub fn read_active(owner: Place, areas: [&[u8]; 2]) -> Result<Option<Content>, Damage> {
+    let contents = read_areas(Some(owner), areas)?;
+    Ok(contents
+        .into_iter()
+        .flatten()
+        .max_by_key(|content| content.journal.epoch))
+}
+
+fn greatest<'a>(contents: impl Iterator<Item = &'a mut Content>) -> Option<&'a mut Content> {
+    contents.max_by_key(|content| content.journal.epoch)
 }

@@ -1,11 +1,18 @@
-//! `baseline_sim sim < SCHEDULE`: runs a replicated name registry event by
-//! event, and prints what its nodes told.
+//! `baseline_sim sim [--starve LINE] < SCHEDULE` runs a replicated name
+//! registry event by event, and prints what its nodes told; the event of the
+//! line LINE finds no memory. `baseline_sim show DIR` tells what the areas of
+//! a node's disk hold, the files `a0` and `a1`. `baseline_sim areas DIR <
+//! SCHEDULE` writes those of node 0 behind a schedule. `baseline_sim draw SEED
+//! STEPS NODES` prints a random schedule. `baseline_sim answer` does all of
+//! these for the questions on its input.
 
+mod answer;
 mod cluster;
 mod codec;
 mod consensus;
 mod detector;
 mod disk;
+mod draw;
 mod journal;
 mod node;
 mod promise;
@@ -13,48 +20,136 @@ mod queues;
 mod registry;
 mod report;
 mod schedule;
+mod show;
 mod types;
 
 use std::io::{self, Read, Write};
+use std::path::Path;
 use std::process::ExitCode;
+use std::{env, fs};
 
 use cluster::Cluster;
+use journal::Damage;
 use schedule::{Fault, Schedule};
 
-fn main() -> ExitCode {
-    let arguments: Vec<String> = std::env::args().skip(1).collect();
-    if arguments != ["sim"] {
-        eprintln!("usage: baseline_sim sim < SCHEDULE");
-        return ExitCode::from(2);
-    }
-    match run() {
-        Ok(()) => ExitCode::SUCCESS,
-        Err(message) => {
-            eprintln!("baseline_sim: {message}");
-            ExitCode::from(2)
+/// How a run ends: its status, what it prints, and its fault where there is one.
+struct Ending {
+    status: u8,
+    out: Vec<u8>,
+    fault: String,
+}
+
+impl From<Result<String, Damage>> for Ending {
+    fn from(shown: Result<String, Damage>) -> Self {
+        match shown {
+            Ok(text) => printed(text.into_bytes()),
+            Err(damage) => failed(4, format!("3 Damaged {} {}", damage.area, damage.offset)),
         }
     }
 }
 
-fn run() -> Result<(), String> {
-    let mut text = Vec::new();
-    io::stdin()
-        .lock()
-        .read_to_end(&mut text)
-        .map_err(|error| error.to_string())?;
-    let report = simulate(&text).map_err(|fault| fault.to_string())?;
-    let mut out = io::stdout().lock();
-    out.write_all(&report)
-        .and_then(|()| out.flush())
-        .map_err(|error| error.to_string())
+fn printed(out: Vec<u8>) -> Ending {
+    let fault = String::new();
+    Ending {
+        status: 0,
+        out,
+        fault,
+    }
 }
 
-/// The report of a schedule.
-fn simulate(text: &[u8]) -> Result<Vec<u8>, Fault> {
+fn failed(status: u8, fault: String) -> Ending {
+    let out = Vec::new();
+    Ending { status, out, fault }
+}
+
+fn main() -> ExitCode {
+    let words: Vec<String> = env::args().skip(1).collect();
+    let words: Vec<&str> = words.iter().map(String::as_str).collect();
+    match run(&words) {
+        Ok(ending) => {
+            if !ending.fault.is_empty() {
+                eprintln!("baseline_sim: {}", ending.fault);
+            }
+            ExitCode::from(ending.status)
+        }
+        Err(error) => {
+            eprintln!("baseline_sim: {error}");
+            ExitCode::from(5)
+        }
+    }
+}
+
+/// Does what the words say, and prints what there is to print.
+fn run(words: &[&str]) -> io::Result<Ending> {
+    let ending = match words {
+        ["sim"] => simulate(&read_input()?, 0),
+        ["sim", "--starve", line] => simulate(&read_input()?, number(line)? as u32),
+        ["show", folder] => {
+            let read = |name: &str| fs::read(Path::new(folder).join(name));
+            show::show([&read("a0")?, &read("a1")?]).into()
+        }
+        ["areas", folder] => {
+            let [first, second] = areas_of(&read_input()?);
+            fs::write(Path::new(folder).join("a0"), first)?;
+            fs::write(Path::new(folder).join("a1"), second)?;
+            printed(Vec::new())
+        }
+        ["draw", seed, steps, nodes] => {
+            let (steps, nodes) = (number(steps)? as u32, number(nodes)? as u8);
+            printed(draw::draw(number(seed)?, steps, nodes, 0).into_bytes())
+        }
+        ["answer"] => {
+            answer::answer_all(&mut io::stdin().lock(), &mut io::stdout().lock())?;
+            printed(Vec::new())
+        }
+        _ => failed(
+            2,
+            "words: sim [--starve LINE], show DIR, areas DIR, draw SEED STEPS NODES, answer".into(),
+        ),
+    };
+    let mut out = io::stdout().lock();
+    out.write_all(&ending.out).and_then(|()| out.flush())?;
+    Ok(ending)
+}
+
+fn number(word: &str) -> io::Result<u64> {
+    word.parse().map_err(io::Error::other)
+}
+
+fn read_input() -> io::Result<Vec<u8>> {
+    let mut text = Vec::new();
+    io::stdin().lock().read_to_end(&mut text)?;
+    Ok(text)
+}
+
+/// The cluster behind a schedule, and whether it made a difference that the
+/// event of the line `starved` found no memory.
+fn run_schedule(text: &[u8], starved: u32) -> Result<(Cluster, bool), Fault> {
     let mut schedule = Schedule::begin(text)?;
     let mut cluster = Cluster::new(schedule.nodes);
+    let mut differs = false;
     while let Some((line, event)) = schedule.next()? {
-        cluster.step(line, event);
+        differs |= cluster.step(line, event, line == starved);
     }
-    Ok(cluster.finish())
+    Ok((cluster, differs))
+}
+
+/// The report of a schedule; line 0 is that of no event.
+fn simulate(text: &[u8], starved: u32) -> Ending {
+    match run_schedule(text, starved) {
+        Ok((cluster, differs)) => {
+            let mut ending = printed(cluster.finish());
+            if starved > 0 && !differs {
+                ending.fault = format!("no event of line {starved} takes memory");
+            }
+            ending
+        }
+        Err(fault) => failed(3, fault.to_string()),
+    }
+}
+
+/// The areas of node 0 behind a schedule; empty ones behind other bytes.
+fn areas_of(text: &[u8]) -> [Vec<u8>; 2] {
+    let empty = |_| [Vec::new(), Vec::new()];
+    run_schedule(text, 0).map_or_else(empty, |(cluster, _)| cluster.areas())
 }

@@ -1,9 +1,11 @@
 //! A node with its disk.
 
+mod starve;
+
 use crate::codec::{put_group, put_snapshot};
 use crate::consensus::Core;
 use crate::disk::Disk;
-use crate::journal::{frame_body, read_areas, Content, FrameJob, Journal};
+use crate::journal::{frame_body, read_active, Content, FrameJob, Journal};
 use crate::registry::Registry;
 use crate::types::{Message, Place, Refusal, Reply, RequestNo, AREA_LIMIT};
 
@@ -73,6 +75,11 @@ impl Node {
             Doing::Serving(serving) => Some(serving.core.registry()),
             _ => None,
         }
+    }
+
+    /// The bytes of both areas of its disk.
+    pub fn areas(&self) -> [Vec<u8>; 2] {
+        [0, 1].map(|area| self.disk.read(area).to_vec())
     }
 
     fn serving(&mut self) -> Result<&mut Serving, Refusal> {
@@ -186,20 +193,20 @@ impl Node {
             }
             Phase::ReadingFirst => *phase = Phase::ReadingSecond(self.disk.read(0).to_vec()),
             Phase::ReadingSecond(first) => {
-                match read_areas(self.place, [first, self.disk.read(1)]) {
+                match read_active(self.place, [first, self.disk.read(1)]) {
                     Ok(Some(content)) => return Ok(self.serve(content)),
                     Ok(None) => {
                         *phase = Phase::Formatting(FrameJob::format(&self.disk, self.place))
                     }
-                    Err(refusal) => {
+                    Err(_) => {
                         self.doing = Doing::Stopped;
-                        return Err(refusal);
+                        return Err(Refusal::Damaged);
                     }
                 }
             }
             Phase::Formatting(job) => {
                 if job.step(&mut self.disk) {
-                    let content = Content::formatted(job.next_gate());
+                    let content = Content::formatted(self.place, job.next_gate());
                     return Ok(self.serve(content));
                 }
             }

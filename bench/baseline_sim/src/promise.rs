@@ -47,6 +47,12 @@ impl Promise {
         numbered.filter_map(|(instance, standing)| Some((instance, standing.as_ref()?)))
     }
 
+    /// How many instances from 0 on have decided, without a gap.
+    pub fn decided_prefix(&self) -> usize {
+        let decided = |standing: &&Option<Standing>| matches!(standing, Some(Standing::Decided(_)));
+        self.standings.iter().take_while(decided).count()
+    }
+
     pub fn set(&mut self, instance: u32, standing: Standing) {
         let place = instance as usize;
         if place >= self.standings.len() {

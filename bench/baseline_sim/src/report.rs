@@ -201,6 +201,7 @@ fn reply_word(reply: Reply) -> &'static [u8] {
 /// A refusal's number and name.
 fn refusal_words(refusal: Refusal) -> &'static [u8] {
     match refusal {
+        Refusal::OutOfMemory => b"1 OutOfMemory",
         Refusal::Device => b"2 Device",
         Refusal::Damaged => b"3 Damaged",
         Refusal::Failed => b"4 Failed",

@@ -38,8 +38,8 @@ pub enum Fault {
 impl fmt::Display for Fault {
     fn fmt(&self, f: &mut fmt::Formatter) -> fmt::Result {
         match self {
-            Fault::BadNodes => write!(f, "the number of nodes isn't 1 to 7"),
-            Fault::BadEvent { line } => write!(f, "line {line} has no place in a schedule"),
+            Fault::BadNodes => write!(f, "6 BadNodes"),
+            Fault::BadEvent { line } => write!(f, "14 BadEvent {line}"),
         }
     }
 }

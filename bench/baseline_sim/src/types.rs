@@ -21,7 +21,7 @@ pub type NodeId = u8;
 pub type NodeSet = u8;
 
 /// Which node this is, and of how many.
-#[derive(Clone, Copy, Debug)]
+#[derive(Clone, Copy, PartialEq, Eq, Debug)]
 pub struct Place {
     pub node: NodeId,
     pub nodes: u8,
@@ -190,6 +190,7 @@ pub enum Reply {
 /// Why an event is refused.
 #[derive(Clone, Copy, PartialEq, Eq, Debug)]
 pub enum Refusal {
+    OutOfMemory,
     Device,
     Damaged,
     Failed,

@@ -1,0 +1,130 @@
+"""Each request for memory that a run of rr makes is refused in turn.
+
+A run ends with `rr: 1 OutOfMemory` and status 6, and standard output has got a front of the whole or nothing. Or it
+prints the report of the run in which memory was wanting for just one event. The plain Rust program says what that is.
+"""
+import os
+
+from harness import NO_MEMORY, Tally, compare, events_of, schedules, tell
+
+FOLDERS = ("one_command", "second_snapshot", "snapshot_of_an_open_instance", "torn_formatting", "group_of_two-flushed")
+DRAWS = ((1, 0, 2), (1, 40, 1), (2, 120, 2), (3, 200, 3), (1, 300, 7))
+SHORT = ("one_command", "snapshot", "second_snapshot_crashes", "failed_write_of_a_body", "heartbeats", "no_events")
+
+
+def tasks(options):
+    named = SHORT if options.short else None
+    runs = [("sim", name) for name in schedules(named)]
+    folders = FOLDERS[:2] if options.short else FOLDERS
+    draws = DRAWS[:2] if options.short else DRAWS
+    return runs + [("show", name) for name in folders] + [("broken", ""), ("missing", "")] + [("draw", it) for it in draws]
+
+
+def work(rig, options, task):
+    kind, what = task
+    tally = Tally()
+    if kind == "sim":
+        of_schedule(rig, options, tally, what)
+    elif kind == "draw":
+        of_draw(rig, options, tally, what)
+    else:
+        of_folder(rig, options, tally, kind, what)
+    return tally
+
+
+def of_schedule(rig, options, tally, name):
+    text = schedules([name])[name]
+    whole = rig.plain.sim(text)
+    starved = starved_reports(rig, text) if whole.status == 0 else {}
+    words = ["sim", rig.write("schedule", text)]
+    reached = refuse_each(rig, options, tally, f"sim {name}", words, whole, starved)
+    count_events(tally, name, text, {line for line in starved.values()}, reached)
+
+
+def starved_reports(rig, text):
+    """The report of each event that takes memory where that is wanting, with its line."""
+    reports = ((rig.plain.starved(text, line), line) for line, _ in events_of(text))
+    return {report: line for report, line in reports if report is not None}
+
+
+def count_events(tally, name, text, wanting, reached):
+    """Counts the events that take memory, and names those that no request reached."""
+    missed = sorted(wanting - reached)
+    tally.counts["events that may want memory"] += len(wanting)
+    tally.counts["events reached"] += len(wanting & reached)
+    if missed:
+        words = dict(events_of(text))
+        tally.notes.append(f"{name}: " + ", ".join(f"{line} {words[line][0]}" for line in missed))
+
+
+def of_folder(rig, options, tally, kind, name):
+    areas = [b"", b""]
+    if kind == "show":
+        areas = rig.plain.areas(schedules([name])[name])
+    elif kind == "broken":
+        areas = [b"\xa5\x00\x00", b""]
+    folder = os.path.dirname(rig.write("node/a0", areas[0]))
+    whole = rig.plain.show(areas)
+    if kind == "missing":
+        whole = whole._replace(status=5, out=b"", err=b"rr: 2 Device\n")
+        if os.path.exists(rig.path("node/a1")):
+            os.remove(rig.path("node/a1"))
+    else:
+        rig.write("node/a1", areas[1])
+    refuse_each(rig, options, tally, f"show {name or kind}", ["show", folder], whole, {})
+
+
+def of_draw(rig, options, tally, draw):
+    seed, steps, nodes = draw
+    text = rig.plain.draw(*draw)
+    front = text + b"report\n"
+    whole = rig.plain.sim(text)
+    whole = whole._replace(out=front + whole.out)
+    starved = {front + report: line for report, line in starved_reports(rig, text).items()}
+    for line, words in events_of(text):
+        if words[0] == "fail":
+            other = rig.plain.draw(*draw, line)
+            starved.setdefault(other + b"report\n" + rig.plain.sim(other).out, line)
+    words = ["random", "--seed", str(seed), "--steps", str(steps), "--nodes", str(nodes)]
+    refuse_each(rig, options, tally, f"random {seed} {steps} {nodes}", words, whole, starved)
+
+
+def refuse_each(rig, options, tally, what, words, whole, starved):
+    """Refuses each request of a run, and answers the lines of the events that were starved by it."""
+    count = requests_of(rig, options, tally, what, words, whole)
+    tally.counts["requests refused, " + words[0]] += count
+    tally.counts["runs, " + words[0]] += 1
+    reached = set()
+    for number in range(1, count + 1):
+        ending = refuse(rig, options, words, number)
+        if ending == whole:
+            # What grows asks for room to spare, and where that is refused once more for what it needs.
+            tally.counts["requests made again, refused with the next"] += 1
+            ending = refuse(rig, options, words, number, "2")
+        line = starved.get(ending.out) if ending.status == 0 else None
+        if line is not None:
+            reached.add(line)
+            tally.counts["reports of a starved event"] += 1
+        holds = ending.err == b"" if line is not None else is_no_memory(ending, whole)
+        tally.check(holds, lambda: f"{what}, request {number}: {tell(ending)}")
+    return reached
+
+
+def refuse(rig, options, words, first, many="1"):
+    return rig.run(*words, env={"LD_PRELOAD": options.preload, "FAIL_ALLOC": str(first), "FAIL_MANY": many})
+
+
+def is_no_memory(ending, whole):
+    return ending.status == 6 and ending.err == NO_MEMORY and whole.out.startswith(ending.out)
+
+
+def requests_of(rig, options, tally, what, words, whole):
+    """How many requests a run makes where none is refused; its end is the whole one."""
+    told = rig.path("count")
+    ending = rig.run(*words, env={"LD_PRELOAD": options.preload, "COUNT_ALLOC": told})
+    compare(tally, f"{what}, all memory there", ending, whole)
+    with open(told) as file:
+        count = int(file.read())
+    beyond = refuse(rig, options, words, count + 1)
+    compare(tally, f"{what}, request {count + 1}, which it doesn't make", beyond, whole)
+    return count
