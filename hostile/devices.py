@@ -2,9 +2,9 @@
 of a switch behind a schedule; at the end the node crashes and opens its disk again.
 
 The report is that of the plain Rust program, byte for byte. A check of its own knows only the texts of reports: a
-node whose call failed refuses all until its next crash or restart, and the last opening has all that was acknowledged.
+node whose call failed refuses all until its next crash or restart, the last event opens the disk, and all that README.md promises of a report holds of it.
 """
-import registry
+import promise
 from harness import Tally, compare, events_of, schedules
 
 FILLS = ("-", "A5")
@@ -46,70 +46,39 @@ def fail_call(rig, tally, what, lines, line, node, fill):
     compare(tally, what, ending, rig.plain.sim(failing))
     tally.counts["calls failed"] += 1
     if tally.check(ending.status == 0, f"{what}: status {ending.status}"):
-        report = ending.out.decode().splitlines()
-        of_failing(rig, tally, what, failing, report, line, node, text_of(lines + end))
-        of_list(tally, what, report, node)
+        report = promise.Report(ending.out)
+        if of_failing(tally, what, failing, report, line, node):
+            tally.counts["a call was due"] += 1
+        else:
+            tally.counts["no call was due"] += 1
+            other = rig.run("sim", rig.write("schedule", text_of(lines + end)))
+            tally.check(other == ending, f"{what}: no call was due, and yet it made a difference")
+        last = report.words[-1][1][:2] if report.words else []
+        tally.check(last == ["restart", node], f"{what}: the last event opens no disk")
+        promise.check(tally, what, failing, report)
 
 
 def text_of(lines):
     return "".join(f"{line}\n" for line in lines).encode()
 
 
-def refusals(report):
-    """The refused lines of a report, each with where it stands in it and why."""
-    words = [(at, line.split()) for at, line in enumerate(report)]
-    return {int(it[1]): (at, it[3]) for at, it in words if it[0] == "refuse"}
-
-
-def of_failing(rig, tally, what, failing, report, line, node, unfailing):
-    """Behind a call that failed the node refuses all, until it crashes or restarts. Where no call was due nothing has changed."""
-    refused = refusals(report)
-    why = refused.get(line, (0, "nothing"))[1]
-    if why != "Device":
-        tally.counts["no call was due"] += 1
-        other = rig.run("sim", rig.write("schedule", unfailing))
-        tally.check(other.out.decode().splitlines() == report, f"{what}: {why} is answered, and yet it made a difference")
-        return
-    tally.counts["a call was due"] += 1
-    sent = sent_lines(report)
+def of_failing(tally, what, failing, report, line, node):
+    """Behind a call that failed the node refuses all, until it crashes or restarts. Answers whether a call was due."""
+    if report.refused.get(line, (0, "nothing"))[1] != "Device":
+        return False
+    sent = {words[1]: (words[3], at) for at, words in report.of("send")}
     for number, words in events_of(failing):
         if number > line and words[1] == node:
             if words[0] in ("crash", "restart"):
                 break
-            said = refused.get(number, (0, "nothing"))[1]
-            idle = words[0] == "hear" and is_idle(sent, refused, line, words)
+            said = report.refused.get(number, (0, "nothing"))[1]
+            idle = words[0] == "hear" and is_idle(sent, report.refused[line][0], words)
             tally.counts["events behind a failed call"] += 1
             tally.check(said == "Failed" or idle and said == "nothing", f"{what}: then line {number} is answered by {said}")
+    return True
 
 
-def sent_lines(report):
-    """The messages of a report by their numbers: to whom they are, and where the line stands."""
-    words = [(at, line.split()) for at, line in enumerate(report)]
-    return {it[1]: (it[3], at) for at, it in words if it[0] == "send"}
-
-
-def is_idle(sent, refused, line, words):
+def is_idle(sent, failed_at, words):
     """Whether a hear may be idle: its message is for another, or wasn't sent before the call failed."""
     to, at = sent.get(words[2], ("nobody", 0))
-    return to != words[1] or at > refused[line][0]
-
-
-def of_list(tally, what, report, node):
-    """The last opening has a beginning of the decided list, and in it each request that the node acknowledged; replies are the list's."""
-    decided = next(at for at, line in enumerate(report) if line.startswith("decided "))
-    listed = [line.split() for line in report[decided + 1 :]]
-    commands = [(words[1], words[2:]) for words in listed]
-    replies = registry.after(commands).replies
-    restarts = [line.split() for line in report[:decided] if line.startswith(f"restart {node} ")]
-    acks = [line.split() for line in report[:decided] if line.startswith("ack ")]
-    opened = tally.check(bool(restarts) and report[decided - 1].split() == restarts[-1], f"{what}: the last event opens no disk")
-    if opened:
-        prefix = commands[: int(restarts[-1][3])]
-        held = registry.after(prefix)
-        own = {words[2] for words in acks if words[1] == node}
-        tally.check(len(prefix) == int(restarts[-1][3]), f"{what}: {restarts[-1]} counts more than was decided")
-        tally.check(held.shown() == restarts[-1][4:], f"{what}: {restarts[-1]} isn't the registry {held.shown()}")
-        tally.check(own <= held.replies.keys(), f"{what}: acknowledged {own}, and the last opening has {list(held.replies)}")
-        tally.counts["acknowledged requests found again"] += len(own)
-    for words in acks:
-        tally.check(replies.get(words[2]) == " ".join(words[3:]), f"{what}: {words} isn't the list's reply")
+    return to != words[1] or at > failed_at
