@@ -24,7 +24,7 @@ FOLDERS = (
     "torn_formatting",
     "torn_formatting_opened",
 )
-SHORT = ("group_of_two-flushed", "switch_closes_the_old_area_first", "torn_formatting")
+SHORT = ("group_of_two-flushed", "torn_formatting")
 LINE = rb"(?:unformatted|epoch [1-9]\d* node [0-6] of [1-7] facts (?:0|[1-9]\d*) decided (?:0|[1-9]\d*))\n"
 SHOWN = re.compile(rb"area 0 " + LINE + rb"area 1 " + LINE)
 DAMAGED = re.compile(rb"rr: 3 Damaged [01] (?:0|[1-9]\d*)\n")

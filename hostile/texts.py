@@ -7,15 +7,13 @@ import re
 from harness import TREE, Tally, compare, schedules, tell
 
 NAMES = ("suspected_coordinators", "crash_after_each_call-01_zeros")
-SHORT = ("down_refuses", "torn_formatting")
 FAULT = re.compile(rb"rr: (?:6 BadNodes|14 BadEvent [1-9]\d*)\n")
 STRETCH = 4
 
 
 def tasks(options):
-    texts = schedules(SHORT if options.short else NAMES)
-    if not options.short:
-        texts["each_kind"] = (TREE / "hostile/each_kind.schedule").read_bytes()
+    texts = {} if options.short else schedules(NAMES)
+    texts["each_kind"] = (TREE / "hostile/each_kind.schedule").read_bytes()
     return [(name, text, at) for name, text in texts.items() for at in range(0, len(text), STRETCH)]
 
 
