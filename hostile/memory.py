@@ -2,12 +2,14 @@
 
 A run ends with `rr: 1 OutOfMemory` and status 6, and standard output has got a front of the whole or nothing. Or it
 prints the report of the run in which memory was wanting for just one event. The plain Rust program says what that is.
+Where all later requests are refused too, the run ends without memory.
 """
 import os
 
+import areas
 from harness import NO_MEMORY, Tally, compare, events_of, schedules, tell
 
-FOLDERS = ("one_command", "second_snapshot", "snapshot_of_an_open_instance", "torn_formatting", "group_of_two-flushed")
+ALL = "1000000000"
 DRAWS = ((1, 0, 2), (1, 40, 1), (2, 120, 2), (3, 200, 3), (1, 300, 7))
 SHORT = ("one_command", "snapshot", "second_snapshot_crashes", "failed_write_of_a_body", "heartbeats", "no_events")
 
@@ -15,7 +17,7 @@ SHORT = ("one_command", "snapshot", "second_snapshot_crashes", "failed_write_of_
 def tasks(options):
     named = SHORT if options.short else None
     runs = [("sim", name) for name in schedules(named)]
-    folders = FOLDERS[:2] if options.short else FOLDERS
+    folders = areas.SHORT if options.short else areas.FOLDERS
     draws = DRAWS[:2] if options.short else DRAWS
     return runs + [("show", name) for name in folders] + [("broken", ""), ("missing", "")] + [("draw", it) for it in draws]
 
@@ -58,19 +60,19 @@ def count_events(tally, name, text, wanting, reached):
 
 
 def of_folder(rig, options, tally, kind, name):
-    areas = [b"", b""]
+    both = [b"", b""]
     if kind == "show":
-        areas = rig.plain.areas(schedules([name])[name])
+        both = rig.plain.areas(schedules([name])[name])
     elif kind == "broken":
-        areas = [b"\xa5\x00\x00", b""]
-    folder = os.path.dirname(rig.write("node/a0", areas[0]))
-    whole = rig.plain.show(areas)
+        both = [b"\xa5\x00\x00", b""]
+    folder = os.path.dirname(rig.write("node/a0", both[0]))
+    whole = rig.plain.show(both)
     if kind == "missing":
         whole = whole._replace(status=5, out=b"", err=b"rr: 2 Device\n")
         if os.path.exists(rig.path("node/a1")):
             os.remove(rig.path("node/a1"))
     else:
-        rig.write("node/a1", areas[1])
+        rig.write("node/a1", both[1])
     refuse_each(rig, options, tally, f"show {name or kind}", ["show", folder], whole, {})
 
 
@@ -107,6 +109,8 @@ def refuse_each(rig, options, tally, what, words, whole, starved):
             tally.counts["reports of a starved event"] += 1
         holds = ending.err == b"" if line is not None else is_no_memory(ending, whole)
         tally.check(holds, lambda: f"{what}, request {number}: {tell(ending)}")
+        last = refuse(rig, options, words, number, ALL)
+        tally.check(is_no_memory(last, whole), lambda: f"{what}, request {number} and all behind it: {tell(last)}")
     return reached
 
 
