@@ -1,8 +1,9 @@
 """Each device call of the worked schedules fails in turn, once leaving its bytes and once other ones, and so does each call
 of a switch behind a schedule; at the end the node crashes and opens its disk again.
 
-The report is that of the plain Rust program, byte for byte. A check of its own knows only the texts of reports: a
-node whose call failed refuses all until its next crash or restart, the last event opens the disk, and all that README.md promises of a report holds of it.
+The report is that of the plain Rust program, byte for byte. A check of its own knows only the texts of reports: a node
+whose call failed refuses all until its next crash or restart, the last event opens the disk, and all that README.md
+promises of a report holds of it.
 """
 import promise
 from harness import Tally, compare, events_of, schedules
@@ -45,8 +46,7 @@ def fail_call(rig, tally, what, lines, line, node, fill):
     ending = rig.run("sim", rig.write("schedule", failing))
     compare(tally, what, ending, rig.plain.sim(failing))
     tally.counts["calls failed"] += 1
-    if tally.check(ending.status == 0, f"{what}: status {ending.status}"):
-        report = promise.Report(ending.out)
+    if report := promise.read(tally, what, ending):
         if of_failing(tally, what, failing, report, line, node):
             tally.counts["a call was due"] += 1
         else:

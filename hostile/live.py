@@ -26,8 +26,8 @@ def work(rig, options, task):
         text = Drawn(random.Random(seed), rig.plain).text()
         what = f"seed {seed}"
         ending = rig.run("sim", rig.write("schedule", text))
-        if compare(tally, what, ending, rig.plain.sim(text)) and tally.check(ending.status == 0, f"{what}: status {ending.status}"):
-            report = promise.Report(ending.out)
+        compare(tally, what, ending, rig.plain.sim(text))
+        if report := promise.read(tally, what, ending):
             promise.check(tally, what, text, report)
             count(tally, text, report)
     return tally

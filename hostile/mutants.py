@@ -38,8 +38,9 @@ def work(rig, options, task):
         ending = rig.run("sim", rig.write("schedule", text))
         wanted = rig.plain.sim(text)
         tally.counts["reports" if wanted.status == 0 else "faults"] += 1
-        if compare(tally, what, ending, wanted) and ending.status == 0:
-            promise.check(tally, what, text, promise.Report(ending.out))
+        compare(tally, what, ending, wanted)
+        if report := promise.read(tally, what, ending):
+            promise.check(tally, what, text, report)
     return tally
 
 
@@ -119,7 +120,8 @@ def crash_and_open(draw, lines, nodes):
 @in_lines
 def flush(draw, lines, nodes):
     node = draw.randrange(nodes)
-    job = [draw.choice(("take", "snap")) + f" {node}"] + [f"dev {node}"] * draw.randint(1, 6) + [f"mark {node}", f"send {node}", f"ack {node}"]
+    job = [draw.choice(("take", "snap")) + f" {node}"] + [f"dev {node}"] * draw.randint(1, 6)
+    job += [f"mark {node}", f"send {node}", f"ack {node}"]
     a = place_in(draw, lines)
     lines[a:a] = [line.encode() for line in job]
 
@@ -133,7 +135,8 @@ def fail_call(draw, lines, nodes):
 
 
 def fill(draw):
-    return draw.choice(("-", "A5", "00", "FF", "A500", f"{draw.randrange(256):02X}", bytes(draw.randrange(256) for _ in range(9)).hex().upper()))
+    drawn = bytes(draw.randrange(256) for _ in range(draw.randint(1, 9)))
+    return draw.choice(("-", "A5", "00", "FF", "A500", drawn.hex().upper()))
 
 
 def cut(draw):

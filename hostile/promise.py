@@ -1,6 +1,6 @@
 """What README.md promises of a report, checked by the text alone: one list of submitted commands agrees with it."""
 import registry
-from harness import events_of
+from harness import events_of, tell
 
 
 class Report:
@@ -18,6 +18,16 @@ class Report:
 
     def of(self, kind):
         return [(at, words) for at, words in self.words if words[0] == kind]
+
+
+def read(tally, what, ending):
+    """The report that a run printed; None where it printed none, or another text."""
+    try:
+        report = Report(ending.out) if ending.status == 0 else None
+    except (StopIteration, IndexError, ValueError):
+        report = None
+    tally.check(report or ending.status == 3, f"{what}: no report, {tell(ending)}")
+    return report
 
 
 def check(tally, what, text, report):
