@@ -109,7 +109,7 @@ class Rig:
         return path
 
     def run(self, *words, env=None):
-        """Runs rr by these words; a run that hangs is ended, and has no status."""
+        """Runs rr by these words, in no other environment; a run that hangs is ended, and has no status."""
         return self.run_all([self.rr, *words], env)
 
     def run_all(self, words, env=None):
@@ -118,7 +118,7 @@ class Rig:
             os.lseek(to, 0, os.SEEK_SET)
         actions = [(os.POSIX_SPAWN_DUP2, self.out, 1), (os.POSIX_SPAWN_DUP2, self.err, 2)]
         actions.append((os.POSIX_SPAWN_OPEN, 0, "/dev/null", os.O_RDONLY, 0))
-        child = os.posix_spawn(words[0], words, {**os.environ, **(env or {})}, file_actions=actions)
+        child = os.posix_spawn(words[0], words, env or {}, file_actions=actions)
         return Ending(self.end_of(child), self.printed(self.out), self.printed(self.err))
 
     @staticmethod

@@ -56,6 +56,7 @@ def count_events(tally, name, text, wanting, reached):
     tally.counts["events reached"] += len(wanting & reached)
     if missed:
         words = dict(events_of(text))
+        tally.counts.update(f"events not reached, {words[line][0]}" for line in missed)
         tally.notes.append(f"{name}: " + ", ".join(f"{line} {words[line][0]}" for line in missed))
 
 
