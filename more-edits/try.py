@@ -4,16 +4,20 @@
     more-edits/try.py [--since COMMIT] [--jobs N] [CRATE ..]
 
 With --since it takes the crates of which a source, a definition, a proof or an edit has changed since that commit; else those that
-are named, or all. It works on the tree as it is, over the libraries that earlier checks left in it, and proves what is missing.
-N crates are tried side by side, one if left out. The gate leaves these edits out for its time: they turn the meaning of what
-stands inside a crate, or of a public function that another edit turns in the gate."""
+are named, or all. It works as the gate does, by the same calls of the kit, over the libraries that a run of the gate in this tree has
+left. A library that is missing, or older than a source, is proved first. N checks run side by side, one if left out. The gate leaves
+these edits out for its time: they turn the meaning of what stands inside a crate, or of a public function that another edit turns in
+the gate."""
 import argparse
-import concurrent.futures
+import importlib.machinery
+import importlib.util
+import os
 import pathlib
 import shutil
 import subprocess
 import sys
 import tempfile
+import threading
 import time
 
 FOLDER = pathlib.Path(__file__).resolve().parent
@@ -31,21 +35,8 @@ def changed_since(commit):
     return {part[1] for part in parts if len(part) > 2 and part[0] in ("crates", "more-edits")}
 
 
-def lowest_first(crates):
-    """Puts those first on which fewest libraries stand, so that what is proved for one is there for the next."""
-    below = {}
-    for line in (TREE / "crates.txt").read_text().splitlines():
-        crate, _, libraries = line.partition(":")
-        below[crate] = libraries.split()
-
-    def all_below(crate):
-        return {crate}.union(*map(all_below, below.get(crate, ())))
-
-    return sorted(crates, key=lambda crate: (len(all_below(crate)), crate))
-
-
 def copy_tree(copy):
-    """Copies what git knows of, and the libraries that checks left; puts these edits in the place of the gate's."""
+    """Copies what git knows of, and the libraries that the gate left; puts these edits in the place of the gate's."""
     for path in lines_of("git", "ls-files", "--cached", "--others", "--exclude-standard"):
         if (TREE / path).is_file():
             (copy / path).parent.mkdir(parents=True, exist_ok=True)
@@ -59,15 +50,66 @@ def copy_tree(copy):
             shutil.copytree(edits, copy / "crates" / edits.name / "must-fail")
 
 
-def refused(copy, crate):
-    """Tries a crate's edits, and gives how many were refused, what was said of the others, and the seconds."""
-    begun = time.monotonic()
-    ran = subprocess.run(["rt", "must-fail", crate], cwd=copy, stdout=subprocess.PIPE, stderr=subprocess.STDOUT, text=True, errors="replace")
-    told = [line for line in ran.stdout.splitlines() if line.startswith("rt: must-fail")]
-    well = [line for line in told if "refused, as it must be" in line]
-    weak = [line for line in well if "says little of the contract" in line]
-    others = [line for line in told if line not in well] or ([] if ran.returncode == 0 else ran.stdout.splitlines()[-5:])
-    return crate, len(well), others, weak, time.monotonic() - begun
+def kit():
+    """Loads the kit's command as a module, set as for the gate: the crates above a library load its statements alone."""
+    sys.dont_write_bytecode = True
+    loader = importlib.machinery.SourceFileLoader("rt_command", os.path.realpath(shutil.which("rt")))
+    made = importlib.util.module_from_spec(importlib.util.spec_from_loader("rt_command", loader))
+    loader.exec_module(made)
+    made.rtlib.Crate = made.Crate
+    made.Crate.cuts_libraries = True
+    made.Crate.allowed = made.handles_of(os.getcwd())
+    made.rtlib.guarded()
+    return made
+
+
+def is_left_by_the_gate(crate):
+    """Whether a crate's library is one of the gate's, and not older than what it was made of."""
+    made = pathlib.Path(crate.rlib)
+    if not made.is_dir() or (made.parent / "stamp").exists():
+        return False
+    sources = [path for it in [crate, *crate.below()] for part in ("src", "specs", "proofs") for path in pathlib.Path(it.folder, part).rglob("*")]
+    return max(path.stat().st_mtime for path in sources if path.is_file()) < made.stat().st_mtime
+
+
+class Trial:
+    """The checks of one run, and what they told."""
+
+    def __init__(self, rt):
+        self.rt, self.printing, self.passed, self.failed = rt, threading.Lock(), 0, 0
+
+    def library(self, crate, given):
+        if is_left_by_the_gate(crate):
+            return True
+        if not all(given[it.name, "library"] for it in crate.below()):
+            return False
+        with tempfile.TemporaryFile("w+") as crate.out:
+            proved = crate.build_rlib(["--jobs", "1"], anew=True) == 0
+        with self.printing:
+            print(f"{crate.name}: {'proved' if proved else 'NOT PROVED'}", flush=True)
+        return proved
+
+    def edits(self, crate, given):
+        begun, edits = time.monotonic(), self.rt.edits_of(crate)[0]
+        is_ready = all(given[it.name, "library"] for it in crate.below())
+        tried = self.rt.must_fail_all(crate, edits, ["--jobs", "1"]) if is_ready else [(False, f"{crate.name}: a library isn't proved")]
+        told = [text for well, text in tried if not well or "says little of the contract" in text]
+        passed = sum(well for well, _ in tried)
+        with self.printing:
+            self.passed, self.failed = self.passed + passed, self.failed + len(tried) - passed
+            print(f"{crate.name}: {passed} refused, {len(tried) - passed} not, {time.monotonic() - begun:.0f} s", *told, sep="\n  ", flush=True)
+
+    def run(self, crates):
+        tasks, all_below = {}, []
+        for crate in crates:
+            all_below += [it for it in crate.below() if it not in all_below]
+        for crate in all_below:
+            waits = [(it.name, "library") for it in crate.below()]
+            tasks[crate.name, "library"] = (waits, crate.count(rb"\n"), self.rt.need(crate), lambda given, _, it=crate: self.library(it, given))
+        for crate in crates:
+            waits = [(it.name, "library") for it in crate.below()]
+            tasks[crate.name, "edits"] = (waits, 0, self.rt.need(crate), lambda given, _, it=crate: self.edits(it, given))
+        self.rt.in_lanes(tasks)
 
 
 def main():
@@ -76,23 +118,23 @@ def main():
     words.add_argument("--jobs", type=int, default=1)
     words.add_argument("crates", nargs="*", metavar="CRATE")
     asked = words.parse_args()
-    crates = {path.parent.name for path in FOLDER.glob("*/*.edit")}
+    names = {path.parent.name for path in FOLDER.glob("*/*.edit")}
     if asked.crates:
-        crates &= set(asked.crates)
+        names &= set(asked.crates)
     if asked.since:
-        crates &= changed_since(asked.since)
-    begun, passed, failed = time.monotonic(), 0, 0
+        names &= changed_since(asked.since)
+    begun = time.monotonic()
     with tempfile.TemporaryDirectory() as room:
-        copy = pathlib.Path(room)
-        copy_tree(copy)
-        subprocess.run(["git", "init", "--quiet"], cwd=copy, check=True)
-        with concurrent.futures.ThreadPoolExecutor(max(asked.jobs, 1)) as side_by_side:
-            for crate, well, others, weak, seconds in side_by_side.map(lambda crate: refused(copy, crate), lowest_first(crates)):
-                print(f"{crate}: {well} refused, {len(others)} not, {seconds:.0f} s", *others, *weak, sep="\n  ", flush=True)
-                passed, failed = passed + well, failed + len(others)
+        copy_tree(pathlib.Path(room))
+        os.chdir(room)
+        os.environ["RT_JOBS"] = str(max(asked.jobs, 1))
+        subprocess.run(["git", "init", "--quiet"], check=True)
+        rt = kit()
+        trial = Trial(rt)
+        trial.run([it for it in rt.rtlib.crates_below(room) if it.name in names])
     print(f"{(time.monotonic() - begun) / 60:.1f} minutes")
-    print(f"{passed} passed, {failed} failed")
-    return failed > 0
+    print(f"{trial.passed} passed, {trial.failed} failed")
+    return trial.failed > 0
 
 
 sys.exit(main())
