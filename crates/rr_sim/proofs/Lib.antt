@@ -13,3 +13,4 @@ mod DecidedLaws
 pub mod WantLaws
 mod Wanting
 mod OpenedLaws
+mod CleanLaws

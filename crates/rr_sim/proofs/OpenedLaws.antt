@@ -4,8 +4,8 @@ use Rattle.std.specs.Prelude.{false}
 use Rattle.std.specs.List.{AllByRecursion, flat_map, range_with_len}
 use Rattle.rr_text.specs.declared.event.Event.{Event}
 use Rattle.rr_text.specs.declared.event.Event.TheVariants.{Device}
-use Rattle.rr_sim.specs.Clusters.{Cluster, new_cluster, event_step}
-use Rattle.rr_sim.specs.Random.{opening_of, openings, IsFailing, StepsInMemory, after_events, opened}
+use Rattle.rr_sim.specs.Clusters.{Cluster, new_cluster, event_step, after_events}
+use Rattle.rr_sim.specs.Random.{opening_of, openings, IsFailing, StepsInMemory, opened}
 use Rattle.rr_sim.proofs.DrawingLemmas.{each_of_both}
 
 -- the events, of which the first stands on this line, lead from one cluster to another as they do where memory is there

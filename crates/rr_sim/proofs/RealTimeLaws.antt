@@ -47,7 +47,7 @@ cut n at (e ∷ before) after old new w (steps ∷ pieces) alike (next, step, of
     }
 
 -- events only add lines
-lines_grow : (at : ℕ) (events : List Event) (old new : Cluster) → Leads at events old new → (rest : List ReportLine) × (new.lines ≡ old.lines ++ rest)
+pub lines_grow : (at : ℕ) (events : List Event) (old new : Cluster) → Leads at events old new → (rest : List ReportLine) × (new.lines ≡ old.lines ++ rest)
 lines_grow at [] old new same = ([], ap (λ (c : Cluster). c.lines) same ∙ sym (append-nil old.lines))
 lines_grow at (e ∷ es) old new (next, step, leads) =
     let notes = step_notes at e old next step in

@@ -7,13 +7,13 @@ use Rattle.rr_types.specs.declared.refusal.Refusal.{Refusal}
 use Rattle.rr_types.specs.declared.refusal.Refusal.TheVariants as because
 use Rattle.rr_node.specs.declared.event.NodeEvent.{NodeEvent}
 use Rattle.rr_node.specs.declared.event.NodeEvent.TheVariants as node
-use Rattle.rr_node.specs.Seats.{Seat, Answer, seat_step, starve}
+use Rattle.rr_node.specs.Seats.{Seat, Answer, seat_step, starve, seat_fails, starve_fails}
 use Rattle.rr_text.specs.declared.event.Event.{Event}
 use Rattle.rr_text.specs.declared.event.Event.TheVariants.{Submit, Hear, Suspect, Tick, Advance, Take, Device, Fail, Mark, Send, Ack, Snap, Crash, Restart}
 use Rattle.rr_text.specs.declared.report.ReportLine.TheVariants as line
-use Rattle.rr_sim.specs.Clusters.{Cluster, note_of, with_answer, at_node, hear_at, event_step, Steps}
-use Rattle.rr_sim.specs.Random.{TellsOfWant, IsFailing, StepsInMemory}
-use Rattle.rr_sim.proofs.Wanting.{IsWanting, wanting_or_same}
+use Rattle.rr_sim.specs.Clusters.{Cluster, note_of, with_answer, at_node, fail_at, hear_at, event_step, Steps, TellsOfWant}
+use Rattle.rr_sim.specs.Random.{IsFailing, StepsInMemory}
+use Rattle.rr_sim.proofs.Wanting.{IsWanting, wanting_or_same, failing_or_same}
 
 -- the line behind the old ones doesn't tell of want of memory
 abbrev pub TellsOfNoWant : Cluster → Cluster → Type 0
@@ -65,6 +65,20 @@ hear_wants p at k c = by (slice_get c.wire k)
     by None none = refl
     by (Some m) none = this (m.to == p) m none
 
+fail_wants : (p at : ℕ) (fill : List ℕ) (c : Cluster) → TellsOfNoWant c (fail_at p at true fill c) → fail_at p at true fill c ≡ fail_at p at false fill c
+fail_wants p at fill c none = by (slice_get c.seats p) refl
+  where
+    step : Bool → Option Seat → Cluster
+    step starved o = option_map_or (λ seat. with_answer p at c (if starved then starve_fails fill seat else seat_fails fill seat)) o c
+
+    same : (seat : Seat) → slice_get c.seats p ≡ Some seat → IsWanting (starve_fails fill seat) ⊎ (starve_fails fill seat ≡ seat_fails fill seat) → step true (Some seat) ≡ step false (Some seat)
+    same seat e (inl w) = absurd (told_of p at c (starve_fails fill seat) w (subst (λ (x : Cluster). TellsOfNoWant c x) (ap (step true) e) none))
+    same seat e (inr is) = ap (with_answer p at c) is
+
+    by : (o : Option Seat) → slice_get c.seats p ≡ o → fail_at p at true fill c ≡ fail_at p at false fill c
+    by None e = ap (step true) e ∙ sym (ap (step false) e)
+    by (Some seat) e = ap (step true) e ∙ same seat e (failing_or_same fill seat) ∙ sym (ap (step false) e)
+
 -- ---- the events
 
 event_wants : (at : ℕ) (e : Event) (c : Cluster) → TellsOfNoWant c (event_step at true e c) → StepsInMemory at e c (event_step at true e c)
@@ -93,3 +107,16 @@ pub in_memory : (at : ℕ) (e : Event) (old new : Cluster) → Steps at e old ne
 in_memory at e old new (inl is) none = inl is
 in_memory at e old new (inr is) none =
     subst (λ (x : Cluster). StepsInMemory at e old x) (sym is) (event_wants at e old (subst (λ (x : Cluster). TellsOfNoWant old x) is none))
+
+-- an event whose line doesn't tell of want of memory or of the device was carried out with memory there
+pub with_memory : (at : ℕ) (e : Event) (old new : Cluster) → Steps at e old new → TellsOfNoWant old new → new ≡ event_step at false e old
+with_memory at e old new step none = by (in_memory at e old new step none)
+  where
+    failing : (p : ℕ) (fill : List ℕ) → e ≡ Fail p fill → new ≡ event_step at true e old → new ≡ event_step at false e old
+    failing p fill fails is =
+        let so : new ≡ fail_at p at true fill old = is ∙ ap (λ (x : Event). event_step at true x old) fails in
+        so ∙ fail_wants p at fill old (subst (λ (x : Cluster). TellsOfNoWant old x) so none) ∙ sym (ap (λ (x : Event). event_step at false x old) fails)
+
+    by : StepsInMemory at e old new → new ≡ event_step at false e old
+    by (inl is) = is
+    by (inr ((p, fill, fails), is)) = failing p fill fails is

@@ -1,13 +1,13 @@
 -- What a node answers where memory is wanting is told from what it answers where memory is there, or is the same.
-use Rattle.std.proofs.Common.{◌≡◌, ◌⊎◌, inl, inr, Bool, true, false, [], ◌∷◌, Err, refl, ap, sym, ◌∙◌}
+use Rattle.std.proofs.Common.{◌≡◌, ◌⊎◌, inl, inr, ℕ, Bool, true, false, List, [], ◌∷◌, Err, refl, ap, sym, ◌∙◌}
 use Rattle.std.specs.Prelude.{if◌then◌else◌}
 use Rattle.rr_types.specs.declared.refusal.Refusal.{Refusal}
 use Rattle.rr_types.specs.declared.refusal.Refusal.TheVariants as because
-use Rattle.rr_journal.specs.Calls.{Call, Read, Write, Sync, after_call, after_starved}
+use Rattle.rr_journal.specs.Calls.{Call, Read, Write, Sync, after_call, after_starved, after_failing}
 use Rattle.rr_journal.specs.Openings.{Phase, After, Goes, Opens, Stops, due_call, after_opening_call}
 use Rattle.rr_node.specs.declared.event.NodeEvent.{NodeEvent}
 use Rattle.rr_node.specs.declared.event.NodeEvent.TheVariants as node
-use Rattle.rr_node.specs.Seats.{Flush, Resting, Writing, Flushed, Switching, Doing, Stopped, Faulted, Opening, Serving, Seat, Answer, called, read_by, opens_on, by_doing, seat_step, fall, grows, starve, starve_doing, starve_serving, starve_marking, starve_beginning, starve_awaiting, starve_opening, starve_end, starve_call, starve_flush}
+use Rattle.rr_node.specs.Seats.{Flush, Resting, Writing, Flushed, Switching, Doing, Stopped, Faulted, Opening, Serving, Seat, Answer, called, read_by, opens_on, by_doing, seat_step, fall, grows, starve, starve_doing, starve_serving, starve_marking, starve_beginning, starve_awaiting, starve_opening, starve_end, starve_call, starve_flush, fail_flush, fail_doing, seat_fails, starve_fails, after_failing_starved}
 
 -- the answer is a refusal for want of memory, or by the device
 pub record IsWanting (answer : Answer) : Type 0 where
@@ -103,3 +103,21 @@ wanting_doing (Serving s journal flush) event seat does = wanting_serving flush 
 -- each answer where memory is wanting is such a refusal, or the answer where it is there
 pub wanting_or_same : (event : NodeEvent) (seat : Seat) → IsWanting (starve event seat) ⊎ (starve event seat ≡ seat_step event seat)
 wanting_or_same event seat = wanting_doing seat.doing event seat refl
+
+-- a failing device call is refused by the device, whatever it leaves; where none is due nothing differs
+flush_fails : (fill : List ℕ) (flush : Flush) (seat : Seat) → IsWanting (fail_flush (after_failing_starved fill) flush seat) ⊎ (fail_flush (after_failing_starved fill) flush seat ≡ fail_flush (after_failing fill) flush seat)
+flush_fails fill Resting seat = inr refl
+flush_fails fill Flushed seat = inr refl
+flush_fails fill (Writing []) seat = inr refl
+flush_fails fill (Writing (call ∷ calls)) seat = inl (no_device _ refl)
+flush_fails fill (Switching []) seat = inr refl
+flush_fails fill (Switching (call ∷ calls)) seat = inl (no_device _ refl)
+
+doing_fails : (fill : List ℕ) (doing : Doing) (seat : Seat) → IsWanting (fail_doing (after_failing_starved fill) doing seat) ⊎ (fail_doing (after_failing_starved fill) doing seat ≡ fail_doing (after_failing fill) doing seat)
+doing_fails fill Stopped seat = inr refl
+doing_fails fill Faulted seat = inr refl
+doing_fails fill (Opening phase) seat = inl (no_device _ refl)
+doing_fails fill (Serving s journal flush) seat = flush_fails fill flush seat
+
+pub failing_or_same : (fill : List ℕ) (seat : Seat) → IsWanting (starve_fails fill seat) ⊎ (starve_fails fill seat ≡ seat_fails fill seat)
+failing_or_same fill seat = doing_fails fill seat.doing seat

@@ -4,6 +4,7 @@ use Rattle.std.specs.Option.{option_map_or}
 use Rattle.std.specs.List.{range_with_len}
 use Rattle.rr_types.specs.declared.message.Message.{Message}
 use Rattle.rr_types.specs.declared.refusal.Refusal.{Refusal}
+use Rattle.rr_types.specs.declared.refusal.Refusal.TheVariants as because
 use Rattle.rr_types.specs.Registry.{Bindings}
 use Rattle.rr_model.specs.Sound.{IsDecidedList}
 use Rattle.rr_node.specs.declared.event.NodeEvent.{NodeEvent}
@@ -109,12 +110,30 @@ abbrev pub LeadsSpelt : ℕ → List Event → Cluster → Cluster → Type 0
 LeadsSpelt at [] old new = new ≡ old
 LeadsSpelt at (e ∷ es) old new = (next : Cluster) × Steps at e old next × IsSpeltBehind e old next × LeadsSpelt (at + 1) es next new
 
+-- the cluster after events, of which the first stands on this line, where memory is there for each
+abbrev pub after_events : ℕ → List Event → Cluster → Cluster
+after_events at [] c = c
+after_events at (e ∷ es) c = after_events (at + 1) es (event_step at false e c)
+
+-- the line of this number, from 0, refuses an event for want of memory or by the device
+abbrev pub TellsOfWant : List ReportLine → ℕ → Type 0
+TellsOfWant lines k = (at : ℕ) × ((slice_get lines k ≡ Some (line.Refuse at because.OutOfMemory)) ⊎ (slice_get lines k ≡ Some (line.Refuse at because.Device)))
+
+-- no line of the report does
+abbrev pub IsClean : Reported → Type 0
+IsClean report = (k : ℕ) → TellsOfWant report.lines k → ⊥
+
 -- the report of a schedule run of n nodes: the events lead to its lines, and it ends with the decided list of the wire
 pub record IsReportOf (n : ℕ) (events : List Event) (report : Reported) : Type 0 where
   pub at_the_end : Cluster
   pub leads : Leads 2 events (new_cluster n) at_the_end
   pub lines : report.lines ≡ at_the_end.lines
   pub decided : IsDecidedList n at_the_end.wire report.decided
+
+-- a clean report is that of the one run in which memory was there for each event: its lines are a function of the schedule
+abbrev pub IsOnlyOneIfClean : ℕ → List Event → Reported → Type 0
+IsOnlyOneIfClean n events report = IsClean report →
+    (report.lines ≡ (after_events 2 events (new_cluster n)).lines) × IsDecidedList n (after_events 2 events (new_cluster n)).wire report.decided
 
 -- the line of the first of these events whose node isn't there among n nodes
 abbrev pub first_fault : ℕ → ℕ → List Event → Option ℕ

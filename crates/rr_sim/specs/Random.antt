@@ -1,5 +1,5 @@
 -- Random schedules: a function of a generator's words, and of the wire as the run goes.
-use Rattle.std.specs.Prelude.{◌≡◌, ◌⊎◌, ℕ, zero, suc, ◌+◌, ◌*◌, ◌/◌, ◌%◌, ◌^◌, ◌==◌, false, true, nat_lt, if◌then◌else◌, List, [], ◌∷◌, ◌++◌, length, slice_get, Some, replicate}
+use Rattle.std.specs.Prelude.{◌≡◌, ◌⊎◌, ℕ, zero, suc, ◌+◌, ◌*◌, ◌/◌, ◌%◌, ◌^◌, ◌==◌, false, true, nat_lt, if◌then◌else◌, List, [], ◌∷◌, ◌++◌, length, slice_get, replicate}
 use Rattle.std.specs.Option.{option_map_or}
 use Rattle.std.specs.List.{AllByRecursion, flat_map, range_with_len}
 use Rattle.rand_core.specs.Pcg32Seed.{pcg32_seed}
@@ -8,13 +8,10 @@ use Rattle.rand_pcg.specs.Pcg.{pcg32, pcg32_of_seed}
 use Rattle.rr_types.specs.declared.command.Command.{Command}
 use Rattle.rr_types.specs.declared.command.Op.TheVariants.{Claim}
 use Rattle.rr_types.specs.declared.message.Message.{Message}
-use Rattle.rr_types.specs.declared.refusal.Refusal.TheVariants as because
 use Rattle.rr_text.specs.declared.event.Event.{Event}
 use Rattle.rr_text.specs.declared.event.Event.TheVariants.{Submit, Hear, Suspect, Tick, Advance, Take, Device, Fail, Mark, Send, Ack, Snap, Crash, Restart}
-use Rattle.rr_text.specs.declared.report.ReportLine.{ReportLine}
-use Rattle.rr_text.specs.declared.report.ReportLine.TheVariants as line
 use Rattle.rr_text.specs.Scheduled.{Scheduled, IsEvent}
-use Rattle.rr_sim.specs.Clusters.{Cluster, new_cluster, event_step}
+use Rattle.rr_sim.specs.Clusters.{Cluster, new_cluster, event_step, after_events}
 
 -- the generator of a seed, whose words are drawn one after another
 abbrev pub seeded : ℕ → Lcg
@@ -73,10 +70,6 @@ opening_of p = Restart p ∷ replicate 9 (Device p)
 abbrev pub openings : ℕ → List Event
 openings n = flat_map opening_of (range_with_len 0 n)
 
--- the line of this number, from 0, refuses an event for want of memory or by the device
-abbrev pub TellsOfWant : List ReportLine → ℕ → Type 0
-TellsOfWant lines k = (at : ℕ) × ((slice_get lines k ≡ Some (line.Refuse at because.OutOfMemory)) ⊎ (slice_get lines k ≡ Some (line.Refuse at because.Device)))
-
 -- the event is a failing device call
 abbrev pub IsFailing : Event → Type 0
 IsFailing e = (p : ℕ) × (fill : List ℕ) × (e ≡ Fail p fill)
@@ -85,11 +78,6 @@ IsFailing e = (p : ℕ) × (fill : List ℕ) × (e ≡ Fail p fill)
 -- wanting for it what there is of its range loose; the node answers the same, so after a failing device call it may be either
 abbrev pub StepsInMemory : ℕ → Event → Cluster → Cluster → Type 0
 StepsInMemory at e old new = (new ≡ event_step at false e old) ⊎ (IsFailing e × (new ≡ event_step at true e old))
-
--- the cluster after events, of which the first stands on this line, where memory is there for each
-abbrev pub after_events : ℕ → List Event → Cluster → Cluster
-after_events at [] c = c
-after_events at (e ∷ es) c = after_events (at + 1) es (event_step at false e c)
 
 -- n nodes that have opened their disks
 abbrev pub opened : ℕ → Cluster

@@ -1,8 +1,8 @@
 //! A cluster of nodes with their disks: what each event of a schedule does to it.
 
 ghost use Rattle.std.specs.Prelude.{◌≡◌, ◌⊎◌, ◌↔◌, ◌++◌, length, option_to_list, IsTrue, Ok, OnOk, IfOk, IfErr};
-ghost use Rattle.rr_sim.specs.Clusters.{shown, note_of, new_cluster, at_node, fail_at, hear_at, crash_at, IsEither, Steps, IsSpeltAt, IsSpeltBehind};
-ghost use Rattle.rr_sim.specs.Random.{TellsOfWant, IsFailing, StepsInMemory};
+ghost use Rattle.rr_sim.specs.Clusters.{shown, note_of, new_cluster, at_node, fail_at, hear_at, crash_at, IsEither, Steps, TellsOfWant, IsSpeltAt, IsSpeltBehind};
+ghost use Rattle.rr_sim.specs.Random.{IsFailing, StepsInMemory};
 ghost use Rattle.rr_node.specs.Runs.{sent_by};
 
 use rr_disk::MemDisk;

@@ -3,7 +3,7 @@
 ghost use Rattle.std.specs.Prelude.{◌≡◌, ◌↔◌, ◌<◌, ◌≤◌, ◌⊎◌, ℕ, length, Some, OnOk, IfOk, IfErr, IsErrOf};
 ghost use Rattle.rr_sim.specs.Clusters as cluster;
 ghost use Rattle.std.specs.List.{AllByRecursion};
-ghost use Rattle.rr_sim.specs.Clusters.{first_fault, Leads, LeadsSpelt, IsReportOf, new_cluster};
+ghost use Rattle.rr_sim.specs.Clusters.{first_fault, Leads, LeadsSpelt, IsReportOf, IsOnlyOneIfClean, new_cluster};
 ghost use Rattle.rr_sim.specs.Headline.{IsRunOfTheWorld, AgreesWithOneList, KeepsRealTime};
 ghost use Rattle.rr_text.specs.Scheduled.{node_of, IsEvent};
 
@@ -16,6 +16,7 @@ use std::alloc::Global;
 
 /// Runs a schedule on `nodes` nodes that are all down at first, over empty disks, and reports what comes of it.
 /// In the decided list, a command that was acknowledged before another was first submitted stands before it.
+/// A report in which no line refuses for want of memory or by the device is the only such one of its schedule.
 /// Errors: `BadNodes` outside 1 to 7; `BadEvent` of the line of the first event whose node isn't there;
 /// `OutOfMemory` where the wire or the report can't grow. On as many nodes as the schedule has it is `OutOfMemory` alone.
 #[tactic(auto, using(crate::proofs::ScheduleLaws::no_fault))]
@@ -27,6 +28,7 @@ pub fn simulate(alloc: Global, nodes: u8, schedule: &Schedule) -> Result<Report,
     ensures world { IfOk result (λ report. IsRunOfTheWorld nodes schedule.now.events report) }
     ensures one_list { IfOk result (λ report. AgreesWithOneList schedule.now.events report) }
     ensures real_time { IfOk result (λ report. KeepsRealTime nodes schedule.now.events report) }
+    ensures clean { IfOk result (λ report. IsOnlyOneIfClean nodes schedule.now.events report) }
     ensures own { nodes ≡ schedule.now.nodes → IfErr result (λ e. e ≡ Refusal.OutOfMemory) }
     ensures else_memory { IfErr result (λ e. (e ≡ Refusal.OutOfMemory) ⊎ (e ≡ Refusal.BadNodes) ⊎ ((line : ℕ) × (e ≡ Refusal.BadEvent line))) }
 {

@@ -1,5 +1,5 @@
 use Rattle.std.proofs.Common.{◌≡◌, ℕ, false, true, sym, ◌∙◌, subst}
-use Rattle.rr_sim.specs.Random.{TellsOfWant}
+use Rattle.rr_sim.specs.Clusters.{TellsOfWant}
 use Rattle.rr_sim.proofs.WantLaws.{in_memory}
 use Rattle.rr_sim.proofs.cluster.Cluster.step_in_memory.Goals as goal
 
