@@ -8,3 +8,4 @@ pub mod QuietLaws
 pub mod PartLaws
 pub mod DueLaws
 pub mod TakenLemmas
+pub mod CoveredLemmas

@@ -2,3 +2,4 @@ pub mod Lawful
 pub mod Kept
 pub mod Searched
 pub mod Taken
+pub mod Covered

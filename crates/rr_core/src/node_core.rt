@@ -8,6 +8,7 @@ ghost use Rattle.rr_types.specs.Registry.{registry_of, reply_of};
 ghost use Rattle.rr_mark.specs.Marks.{IsFreeOrBacked};
 ghost use Rattle.rr_step.specs.Steps.{combined};
 ghost use Rattle.rr_core.specs.Taken.{CanBeTaken};
+ghost use Rattle.rr_core.specs.Covered.{LeavesCovered};
 
 use crate::group::{commands_after, is_running_group, mark_running, put_back, take_group};
 use crate::leaving::{Searched, is_any_answered, take_acknowledged, take_leaving};
@@ -271,6 +272,23 @@ impl Core {
         take_acknowledged(&mut self.state, &self.registry, &mut self.searched)
     }
 
+    /// The registry's reply to a request, where the decided prefix holds it. It takes no memory. A host that serves
+    /// several waiting clients asks it for each, and one that compares what it said with what was decided.
+    pub fn reply(&self, request: RequestNo) -> Option<Reply>
+        ensures { result ≡ reply_of (decided_prefix self.now) request }
+    {
+        self.registry.reply(request)
+    }
+
+    /// A law for whoever holds a core between its calls: each owed message is the node's own, and one that may
+    /// leave is free or backed by a marked fact. It does nothing when it runs.
+    #[tactic(auto, using(crate::proofs::CoveredLemmas::all_covered))]
+    pub fn leaves_covered(&self)
+        ensures { LeavesCovered self.now }
+    {
+        self.state.owed.owes_own();
+    }
+
     /// How many nodes there are.
     pub fn nodes(&self) -> Nodes
         ensures { result ≡ self.now.nodes }
@@ -304,6 +322,14 @@ impl Core {
         ensures { result ≡ slice_get (decided_prefix self.now) place }
     {
         self.state.instances.command_at(place.number() as usize)
+    }
+
+    /// The command at a place of the decided prefix, for whoever goes over it by a count, of which not every number
+    /// is an instance. It takes no memory.
+    pub fn decided_at(&self, place: usize) -> Option<Command>
+        ensures { result ≡ slice_get (decided_prefix self.now) place }
+    {
+        self.state.instances.command_at(place)
     }
 
     /// The bound names of the decided prefix, in byte order, each with its holding.

@@ -112,6 +112,14 @@ impl Outbox {
         extend(&mut self.owed, more)
     }
 
+    /// A law for whoever holds an outbox: each message is the node's own, and free where no fact backs it. It does
+    /// nothing when it runs.
+    pub fn owes_own(&self)
+        ensures { All (IsOwn self.now.node) self.now.owed }
+    {
+        let _node = self.node;
+    }
+
     /// The messages but the last `count` ones. It needs no memory.
     #[tactic(auto, using(crate::proofs::OutboxLemmas::own_front))]
     pub fn forget_last(&mut self, count: usize)
