@@ -11,7 +11,7 @@ use crate::area::filled;
 use anyhow::Result;
 use rr_disk::{Area, Disk, FileDisk};
 use rr_journal::{Image, read_image};
-use rr_slots::Slots;
+use rr_journal::Journal;
 use rr_types::{Command, NodeId, Nodes, Op, Refusal, Standing};
 use std::alloc::Global;
 use std::env;
@@ -62,10 +62,10 @@ fn opened_disk<D: Disk + Drop>(alloc: Global, disk: D) -> Result<(Found, Area), 
     let _parts: Option<(Command, Op, Standing)> = None;
     let nodes = Nodes::new(1)?;
     let node = NodeId::new(nodes, 0).ok_or(Refusal::BadNodes)?;
-    match Slots::open(alloc, nodes, node, disk) {
+    match Journal::open(alloc, nodes, node, disk) {
         Ok((slots, promise, facts)) => {
             let instances = promise.entries().len();
-            let area = slots.active();
+            let area = slots.area();
             drop(slots.into_disk());
             Ok((Found { facts, instances }, area))
         }

@@ -7,9 +7,9 @@ use Rattle.std.specs.Io.KnownBytes.{Appends, Keeps}
 use Rattle.rr_types.specs.declared.refusal.Refusal.{Refusal}
 use Rattle.rr_types.specs.declared.refusal.Refusal.TheVariants as refusals
 use Rattle.rr_disk.specs.declared.area.Area.{Area}
-use Rattle.rr_slots.specs.declared.inspection.AreaReport.{AreaReport}
-use Rattle.rr_slots.specs.Inspect.{Inspects, IsTold, inspected}
-use Rattle.rr_slots.proofs.InspectLaws.{seen_by}
+use Rattle.rr_image.specs.declared.inspection.AreaReport.{AreaReport}
+use Rattle.rr_image.specs.Inspect.{Inspects, IsTold, inspected}
+use Rattle.rr_image.proofs.InspectLaws.{seen_by}
 use Rattle.rr_text.specs.ReportTexts.{line}
 use Rattle.rr_cli.specs.Areas.{area_words, areas_text, IsShown}
 use Rattle.rr_cli.specs.Ends.{AppendsFront, IsStreamStatus, EndsOnFolder, told, untold, broken, failed}

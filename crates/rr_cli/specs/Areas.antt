@@ -3,8 +3,8 @@ use Rattle.std.specs.Prelude.{◌≡◌, ℕ, List, ◌∷◌, [], ◌++◌, cod
 use Rattle.std.specs.declared.alloc.Global.{Global}
 use Rattle.rr_types.specs.declared.refusal.Refusal.{Refusal}
 use Rattle.rr_text.specs.ReportTexts.{line}
-use Rattle.rr_slots.specs.declared.inspection.AreaReport.{AreaReport}
-use Rattle.rr_slots.specs.Inspect.{Inspected, Tells, IsTold}
+use Rattle.rr_image.specs.declared.inspection.AreaReport.{AreaReport}
+use Rattle.rr_image.specs.Inspect.{Inspected, Tells, IsTold}
 
 -- the words on an area of this number: whether it is formatted, and then its epoch, its node of so many, the number of
 -- its next fact, and how many commands have decided

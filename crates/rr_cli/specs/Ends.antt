@@ -14,8 +14,8 @@ use Rattle.rr_text.specs.ReportTexts.{report_text}
 use Rattle.rr_sim.specs.Clusters.{IsReportOf}
 use Rattle.rr_sim.specs.Headline.{IsRunOfTheWorld, AgreesWithOneList}
 use Rattle.rr_disk.specs.declared.area.Area.{Area}
-use Rattle.rr_slots.specs.declared.inspection.AreaReport.{AreaReport}
-use Rattle.rr_slots.specs.Inspect.{Tells, Breaks, inspected}
+use Rattle.rr_image.specs.declared.inspection.AreaReport.{AreaReport}
+use Rattle.rr_image.specs.Inspect.{Tells, Breaks, inspected}
 use Rattle.rr_cli.specs.Areas.{areas_text}
 use Rattle.rr_cli.specs.Draws.{AreNumbers, IsRandomRun}
 use Rattle.rr_cli.specs.Lines.{Task, Simulate, Show, Draw}

@@ -6,14 +6,14 @@ ghost use Rattle.rr_types.specs.declared.refusal.Refusal.TheVariants.{Device};
 ghost use Rattle.rr_text.specs.ReportTexts.{line};
 ghost use Rattle.rr_disk.specs.Areas.{bytes_of};
 ghost use Rattle.rr_disk.specs.Counts.{counted, Grew};
-ghost use Rattle.rr_slots.specs.Inspect.{inspected};
+ghost use Rattle.rr_image.specs.Inspect.{inspected};
 ghost use Rattle.rr_cli.specs.Areas.{area_words, areas_text, IsShown};
 ghost use Rattle.rr_cli.specs.Ends.{EndsOnFolder};
 
 use crate::refusals::end_by_refusal;
 use crate::streams::{end_by_stream, print_all};
 use rr_disk::{Disk, FileDisk};
-use rr_slots::{AreaReport, inspect};
+use rr_image::{AreaReport, inspect};
 use rr_types::Refusal;
 use std::alloc::{AllocError, Global};
 use std::io;

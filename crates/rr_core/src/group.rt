@@ -7,7 +7,7 @@ ghost use Rattle.rr_model.specs.NodeState.{next_number, decided_from, decided_pr
 ghost use Rattle.rr_model.specs.NodeStep.{group_taken, running_group, group_put_back, marked_running};
 ghost use Rattle.rr_core.specs.Lawful.{IsLawful};
 
-use rr_gate::Synced;
+use rr_journal::Synced;
 use rr_mark::Mark;
 use rr_staged::are_same_facts;
 use rr_step::State;

@@ -13,7 +13,7 @@ ghost use Rattle.rr_core.specs.Covered.{LeavesCovered};
 use crate::group::{commands_after, is_running_group, mark_running, put_back, take_group};
 use crate::leaving::{Searched, is_any_answered, take_acknowledged, take_leaving};
 use crate::prefix::registry_of_prefix;
-use rr_gate::{Opened, Synced};
+use rr_journal::{Opened, Synced};
 use rr_input::{advance_step, hear_step, started, submit_step, suspect_step, tick_step};
 use rr_mark::Cleared;
 use rr_registry::{Entries, Registry};

@@ -10,7 +10,7 @@ ghost use Rattle.rr_step.specs.Steps.{combined, IsFitting};
 ghost use Rattle.rr_input.specs.Changes.{IsSettled, IsStep};
 
 use crate::input::{advanced, heard, submit_refusal, submitted, ticked_on};
-use rr_gate::Opened;
+use rr_journal::Opened;
 use rr_settle::{restate_all, settle};
 use rr_step::{Changes, State, Step};
 use rr_types::{Command, Message, NodeId, NodeSet, Nodes, Promise, Refusal};

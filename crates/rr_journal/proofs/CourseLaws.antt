@@ -17,8 +17,8 @@ use Rattle.rr_journal.specs.declared.opening.Progress.TheVariants as progress
 use Rattle.rr_journal.specs.declared.opening.Phase as code
 use Rattle.rr_journal.specs.declared.opening.Phase.TheVariants as at
 use Rattle.rr_journal.specs.Calls.{Call, after_call, rewrite_calls, format_calls, must_close}
-use Rattle.rr_journal.specs.Ends.{area_number}
-use Rattle.rr_journal.specs.Image.{Found, Unformatted, Broken, Active, found}
+use Rattle.rr_image.specs.Ends.{area_number}
+use Rattle.rr_image.specs.Image.{Found, Unformatted, Broken, Active, found}
 use Rattle.rr_journal.specs.Openings.{Phase, Settling, ReadingFirst, ReadingSecond, Formatting, After, Goes, Opens, Stops, due_call, after_found, after_opening_call}
 use Rattle.rr_journal.specs.OpeningCourse.{calls_left, whole_read, found_from, calls_by, calls_from, end_by, areas_after, EndsBy, StaysOnCourse, IsDone, IsRefused, IsAsBefore, IsUntouched}
 use Rattle.rr_journal.specs.OpeningTable.{IsReadBy, IsLeftBy, first_snapshot}

@@ -11,15 +11,15 @@ use Rattle.rr_disk.specs.Crash.{Agrees, MayLeave, Images, IsCrashImage}
 use Rattle.rr_disk.proofs.Agreeing.{at_rest_image}
 use Rattle.rr_journal.specs.declared.journal.Journal.{Journal}
 use Rattle.rr_journal.specs.declared.opening.Opening.{Opening}
-use Rattle.rr_journal.specs.Image.{Found, Unformatted, Broken, Active, found}
-use Rattle.rr_journal.specs.Journals.{StandsFor, Holds}
+use Rattle.rr_image.specs.Image.{Found, Unformatted, Broken, Active, found}
+use Rattle.rr_image.specs.Held.{StandsFor, Holds}
 use Rattle.rr_journal.specs.Openings.{Phase, Settling, ReadingFirst, ReadingSecond, Formatting}
 use Rattle.rr_journal.specs.OpeningCourse.{whole_read, found_from, IsAsBefore, IsUntouched}
 use Rattle.rr_journal.specs.OpeningTable.{contents, Rests, IsKept}
 use Rattle.rr_journal.specs.Phases.{phase_of}
 use Rattle.rr_journal.specs.OpenDisks.{IsOpenWith}
 use Rattle.rr_journal.specs.CrashedDisks.{MayStand, EachHoldsSome, IsOpenWithOneOf, IsReading, AddsNone, AddsBlankAlone}
-use Rattle.rr_journal.proofs.ImageLaws.{read_whole}
+use Rattle.rr_image.proofs.ImageLaws.{read_whole}
 use Rattle.rr_journal.proofs.OpeningLaws.{bytes_firm, rest_held}
 
 -- bytes that a crash may leave stay among the images once they are synced

@@ -9,15 +9,15 @@ use Rattle.rr_disk.specs.Crash.{Images}
 use Rattle.rr_frame.specs.Numbers.{number_bytes}
 use Rattle.rr_frame.specs.Snapshots.{Snapped}
 use Rattle.rr_frame.specs.SnapshotFormat.{snapshot_in, snapshot_bytes, IsLawfulSnapshot}
-use Rattle.rr_gate.specs.Moments.{with_image, IsGrounded}
+use Rattle.rr_journal.specs.Moments.{with_image, IsGrounded}
 use Rattle.rr_journal.specs.Calls.{frame_bytes, must_close}
-use Rattle.rr_journal.specs.Image.{Content, Found, Unformatted, Broken, Active, Front, Blank, Faulty, Begins, is_formatted, frame_behind, of_node, front_behind, front_of, content_behind, active, found_by, found}
-use Rattle.rr_journal.specs.Journals.{StandsFor, Holds}
+use Rattle.rr_image.specs.Image.{Content, Found, Unformatted, Broken, Active, Front, Blank, Faulty, Begins, is_formatted, frame_behind, of_node, front_behind, front_of, content_behind, active, found_by, found}
+use Rattle.rr_image.specs.Held.{StandsFor, Holds}
 use Rattle.rr_journal.specs.Openings.{formatted}
 use Rattle.rr_journal.specs.OpeningTable.{first_snapshot, formatting, IsBlank}
-use Rattle.rr_journal.proofs.FrameLaws.{begun}
+use Rattle.rr_image.proofs.FrameLaws.{begun}
 use Rattle.rr_journal.proofs.FlushLaws.{frame_split}
-use Rattle.rr_journal.proofs.ReadingLaws.{at_closed}
+use Rattle.rr_image.proofs.ReadingLaws.{at_closed}
 use Rattle.rr_journal.proofs.SnapshotSize.{length-snapshot_bytes}
 
 -- ---- areas that aren't formatted

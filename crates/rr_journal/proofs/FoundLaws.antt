@@ -7,10 +7,10 @@ use Rattle.rr_disk.specs.declared.area.Area.TheVariants.{First, Second}
 use Rattle.rr_disk.specs.Crash.{Images}
 use Rattle.rr_frame.specs.Snapshots.{Snapped}
 use Rattle.rr_frame.specs.SnapshotFormat.{snapshot_in}
-use Rattle.rr_gate.specs.Moments.{image_of, with_image}
-use Rattle.rr_journal.specs.Image.{Content, Broken, Active, Front, Blank, Faulty, Begins, frame_behind, content_from, of_node, front_behind, front_of, content_behind, active, found_by, found}
-use Rattle.rr_journal.proofs.ContentLemmas.{front_begins}
-use Rattle.rr_journal.proofs.ReadingLaws.{frame_parts, frame_same, same_front, same_part, reaches}
+use Rattle.rr_journal.specs.Moments.{image_of, with_image}
+use Rattle.rr_image.specs.Image.{Content, Broken, Active, Front, Blank, Faulty, Begins, frame_behind, content_from, of_node, front_behind, front_of, content_behind, active, found_by, found}
+use Rattle.rr_image.proofs.ContentLemmas.{front_begins}
+use Rattle.rr_image.proofs.ReadingLaws.{frame_parts, frame_same, same_front, same_part, reaches}
 
 -- an area's first frame, and so it is of all bytes that begin so, up to the next gate
 pub record Fronts (n p : ℕ) (c : Content) (bytes rest : List ℕ) : Type 0 where

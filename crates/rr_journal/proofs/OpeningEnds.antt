@@ -5,11 +5,11 @@ use Rattle.rr_disk.specs.declared.area.Area.TheVariants.{First}
 use Rattle.rr_disk.specs.Areas.{Areas}
 use Rattle.rr_disk.specs.Crash.{Images}
 use Rattle.rr_frame.specs.SnapshotFormat.{snapshot_bytes}
-use Rattle.rr_gate.specs.Moments.{EachHolds}
+use Rattle.rr_journal.specs.Moments.{EachHolds}
 use Rattle.rr_journal.specs.declared.opening.Opening.{Opening}
 use Rattle.rr_journal.specs.Calls.{rewrite_calls, format_calls, must_close}
-use Rattle.rr_journal.specs.Image.{Found, Unformatted, Broken, Active, found}
-use Rattle.rr_journal.specs.Journals.{Holds}
+use Rattle.rr_image.specs.Image.{Found, Unformatted, Broken, Active, found}
+use Rattle.rr_image.specs.Held.{Holds}
 use Rattle.rr_journal.specs.Openings.{Phase, Settling, ReadingFirst, ReadingSecond, Formatting, After, Goes, Opens, Stops, after_found, after_opening_call}
 use Rattle.rr_journal.specs.OpeningCourse.{calls_left}
 use Rattle.rr_journal.specs.OpeningTable.{OpensWith, IsKept, first_snapshot}

@@ -10,24 +10,25 @@ use Rattle.rr_disk.specs.Crash.{Images, IsCrashImage, restarted}
 use Rattle.rr_disk.proofs.Agreeing.{agrees_length, at_rest_image}
 use Rattle.rr_disk.proofs.Torn.{torn_written}
 use Rattle.rr_frame.specs.SnapshotFormat.{IsLawfulSnapshot}
-use Rattle.rr_gate.specs.Moments.{with_image, with_group, EachHolds, EachHoldsEither, body_due, body_out, body_safe, gate_set}
-use Rattle.rr_gate.proofs.Content.{one_area, synced_written}
-use Rattle.rr_gate.proofs.Table.{due_holds, out_holds, safe_holds, set_holds, to_out, to_safe, to_set, to_group, body_refused, gate_refused}
+use Rattle.rr_journal.specs.Moments.{with_image, with_group, EachHolds, EachHoldsEither, body_due, body_out, body_safe, gate_set}
+use Rattle.rr_journal.proofs.Content.{one_area, synced_written}
+use Rattle.rr_journal.proofs.Table.{due_holds, out_holds, safe_holds, set_holds, to_out, to_safe, to_set, to_group, body_refused, gate_refused}
 use Rattle.rr_journal.specs.declared.journal.Journal.{Journal}
 use Rattle.rr_journal.specs.declared.opening.Phase.{Phase}
 use Rattle.rr_journal.specs.declared.opening.Phase.TheVariants as at
 use Rattle.rr_journal.specs.declared.stage.Stage.{Stage}
 use Rattle.rr_journal.specs.declared.stage.Stage.TheVariants.{Closing, SettlingClosed, WritingBody, SettlingBody, OpeningGate, SettlingGate}
 use Rattle.rr_journal.specs.Calls.{Call, Write, after_call, must_close}
-use Rattle.rr_journal.specs.Image.{Content, Found, Unformatted, Active, found}
-use Rattle.rr_journal.specs.Journals.{StandsFor, Holds, IsOver}
+use Rattle.rr_image.specs.Image.{Content, Found, Unformatted, Active, found}
+use Rattle.rr_image.specs.Held.{StandsFor, Holds}
+use Rattle.rr_journal.specs.Journals.{IsOver}
 use Rattle.rr_journal.specs.Openings.{Formatting, formatted, due_call}
 use Rattle.rr_journal.specs.Phases.{phase_of}
 use Rattle.rr_journal.specs.OpeningTable.{IsReadBy, IsLeftBy, Rests, first_snapshot, formatting, IsBlank, Formats, gate_written, Closes, IsFormatting, OpensWith, IsKept}
 use Rattle.rr_journal.specs.Stages.{first_stage, call_at, calls_from, stage_behind}
 use Rattle.rr_journal.proofs.FlushLaws.{opened}
 use Rattle.rr_journal.proofs.FormatLaws.{short_blank, close_short, open_at_front, blanks, both_blank, still_held, holds_formatted, found_formatted, format_grounded, gate_closed, closed_fresh, close_grounded}
-use Rattle.rr_journal.proofs.ImageLaws.{read_whole}
+use Rattle.rr_image.proofs.ImageLaws.{read_whole}
 use Rattle.rr_journal.proofs.StageLaws.{due_at}
 
 pub bytes_firm : (bytes : List ℕ) → map (λ cell. cell.byte) (map firm_cell bytes) ≡ bytes

@@ -9,7 +9,7 @@ use Rattle.rr_journal.specs.declared.opening.Phase.TheVariants as at
 use Rattle.rr_journal.specs.declared.stage.Stage.{Stage}
 use Rattle.rr_journal.specs.declared.stage.Stage.TheVariants.{Closing, SettlingClosed, WritingBody, SettlingBody, OpeningGate, SettlingGate}
 use Rattle.rr_journal.specs.Calls.{after_call, must_close}
-use Rattle.rr_journal.specs.Image.{Found, Unformatted, Broken, Active, found}
+use Rattle.rr_image.specs.Image.{Found, Unformatted, Broken, Active, found}
 use Rattle.rr_journal.specs.Openings as openings
 use Rattle.rr_journal.specs.Openings.{Settling, ReadingFirst, ReadingSecond, Formatting, After, Goes, Opens, Stops, due_call, after_found, after_opening_call}
 use Rattle.rr_journal.specs.Phases.{phase_of}

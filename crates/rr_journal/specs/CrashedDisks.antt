@@ -4,10 +4,10 @@ use Rattle.rr_types.specs.declared.fact.Fact.{Fact}
 use Rattle.rr_types.specs.declared.promise.Entry.{Entry}
 use Rattle.rr_disk.specs.Areas.{Areas}
 use Rattle.rr_disk.specs.Crash.{Images, IsCrashImage}
-use Rattle.rr_gate.specs.Moments.{EachHolds}
+use Rattle.rr_journal.specs.Moments.{EachHolds}
 use Rattle.rr_journal.specs.declared.journal.Journal.{Journal}
-use Rattle.rr_journal.specs.Image.{Unformatted, found}
-use Rattle.rr_journal.specs.Journals.{Holds}
+use Rattle.rr_image.specs.Image.{Unformatted, found}
+use Rattle.rr_image.specs.Held.{Holds}
 use Rattle.rr_journal.specs.Openings.{Phase, Settling, ReadingFirst, ReadingSecond, Formatting}
 use Rattle.rr_journal.specs.OpeningTable.{contents}
 use Rattle.rr_journal.specs.OpenDisks.{IsOpenWith}

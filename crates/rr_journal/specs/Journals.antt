@@ -1,22 +1,12 @@
 -- A journal over an open disk.
-use Rattle.std.specs.Prelude.{◌≡◌, ℕ, ◌+◌, true, false, List, [], length}
+use Rattle.std.specs.Prelude.{◌≡◌, ℕ, ◌+◌, false, List, length}
 use Rattle.rr_types.specs.declared.fact.Fact.{Fact}
-use Rattle.rr_types.specs.Promises.{promise_of, all_fit}
+use Rattle.rr_types.specs.Promises.{promise_of}
 use Rattle.rr_disk.specs.Crash.{Images}
-use Rattle.rr_gate.specs.Flushes.{Flush}
+use Rattle.rr_image.specs.Held.{Holds}
+use Rattle.rr_image.specs.Image.{Active, found}
+use Rattle.rr_journal.specs.Flushes.{Flush}
 use Rattle.rr_journal.specs.declared.journal.Journal.{Journal}
-use Rattle.rr_journal.specs.Image.{Found, Unformatted, Broken, Active, found}
-
--- what was found stands for these facts
-abbrev pub StandsFor : Found → List Fact → Type 0
-StandsFor Unformatted facts = length facts ≡ 0
-StandsFor (Broken area offset) facts = ⊥
-StandsFor (Active area c) facts = (c.promise ≡ promise_of facts) × (c.next ≡ length facts)
-
--- an image holds these facts of node p of n: each fits the promise before it, and the areas stand for them
-pub record Holds (n p : ℕ) (images : Images) (facts : List Fact) : Type 0 where
-  pub fit : all_fit n p [] facts ≡ true
-  pub stands : StandsFor (found n p images.of_first images.of_second) facts
 
 -- the journal appends behind these images: they hold these facts, and its area, its last gate and its next number are theirs
 pub record IsOver {D : Type 0} (journal : Journal D) (start : Images) (facts : List Fact) : Type 0 where

@@ -12,8 +12,8 @@ use Rattle.rr_journal.specs.declared.opening.Opening as code
 use Rattle.rr_journal.specs.declared.opening.Progress as code_2
 use Rattle.rr_journal.specs.declared.opening.Progress.TheVariants as progress
 use Rattle.rr_journal.specs.Calls.{Call, Read, Sync, after_call, format_calls}
-use Rattle.rr_journal.specs.Ends.{area_number}
-use Rattle.rr_journal.specs.Image.{Found, Unformatted, Broken, Active, found}
+use Rattle.rr_image.specs.Ends.{area_number}
+use Rattle.rr_image.specs.Image.{Found, Unformatted, Broken, Active, found}
 use Rattle.rr_journal.specs.Openings.{Phase, Settling, ReadingFirst, ReadingSecond, Formatting, After, Opens, Stops, formatted, due_call}
 use Rattle.rr_journal.specs.Phases.{phase_of}
 

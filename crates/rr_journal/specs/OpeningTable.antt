@@ -7,8 +7,8 @@ use Rattle.rr_disk.specs.Areas.{Areas, IsTorn, extent_of, bytes_of, read_of, syn
 use Rattle.rr_disk.specs.Crash.{Images, restarted}
 use Rattle.rr_frame.specs.Snapshots.{Snapped}
 use Rattle.rr_frame.specs.SnapshotFormat.{snapshot_bytes, IsLawfulSnapshot}
-use Rattle.rr_gate.specs.Flushes.{Flush}
-use Rattle.rr_gate.specs.Moments.{IsAt, EachHolds, body_due, body_out, body_safe, gate_set}
+use Rattle.rr_journal.specs.Flushes.{Flush}
+use Rattle.rr_journal.specs.Moments.{IsAt, EachHolds, body_due, body_out, body_safe, gate_set}
 use Rattle.rr_journal.specs.declared.opening.Phase as code
 use Rattle.rr_journal.specs.declared.opening.Phase.TheVariants as at
 use Rattle.rr_journal.specs.declared.opening.Next as code_2
@@ -18,8 +18,8 @@ use Rattle.rr_journal.specs.declared.opening.Progress.TheVariants as progress
 use Rattle.rr_journal.specs.declared.stage.Stage.{Stage}
 use Rattle.rr_journal.specs.declared.stage.Stage.TheVariants as due
 use Rattle.rr_journal.specs.Calls.{Call, Read, Write, Sync, after_call, frame_bytes, must_close}
-use Rattle.rr_journal.specs.Image.{Unformatted, Active, found}
-use Rattle.rr_journal.specs.Journals.{Holds}
+use Rattle.rr_image.specs.Image.{Unformatted, Active, found}
+use Rattle.rr_image.specs.Held.{Holds}
 use Rattle.rr_journal.specs.OpenDisks.{IsOpenWith}
 
 -- a read gave these bytes of its area

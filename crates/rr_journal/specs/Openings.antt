@@ -5,9 +5,9 @@ use Rattle.rr_types.specs.declared.refusal.Refusal.{Refusal}
 use Rattle.rr_types.specs.declared.refusal.Refusal.TheVariants as because
 use Rattle.rr_disk.specs.declared.area.Area.{Area}
 use Rattle.rr_disk.specs.declared.area.Area.TheVariants.{First, Second}
-use Rattle.rr_journal.specs.Ends.{area_number}
+use Rattle.rr_image.specs.Ends.{area_number}
 use Rattle.rr_journal.specs.Calls.{Call, Read, Write, Sync, format_calls}
-use Rattle.rr_journal.specs.Image.{Content, Found, Unformatted, Broken, Active, found}
+use Rattle.rr_image.specs.Image.{Content, Found, Unformatted, Broken, Active, found}
 
 -- how far an opening has come: before its sync, its reads, with area 0 read, and in the calls that format a fresh disk
 pub data Phase : Type 0 where

@@ -6,20 +6,21 @@ ghost use Rattle.rr_types.specs.declared.refusal.Refusal.TheVariants.{OutOfMemor
 ghost use Rattle.rr_types.specs.Promises.{all_fit};
 ghost use Rattle.rr_disk.specs.Crash.{Images, restarted};
 ghost use Rattle.rr_frame.specs.GroupFormat.{group_bytes, IsLawfulGroup};
-ghost use Rattle.rr_gate.specs.Moments.{IsAt, body_due, with_group};
+ghost use Rattle.rr_journal.specs.Moments.{IsAt, body_due, with_group};
 ghost use Rattle.rr_journal.specs.Calls.{frame_bytes};
-ghost use Rattle.rr_journal.specs.Journals.{Holds, IsOver, once_flushed};
+ghost use Rattle.rr_image.specs.Held.{Holds};
+ghost use Rattle.rr_journal.specs.Journals.{IsOver, once_flushed};
 
+use crate::job::{Body, Job};
 use rr_disk::{Area, Disk, FailingDisk};
 use rr_frame::{encode_group, put_u32};
-use rr_gate::{Body, Host, Job};
 use rr_types::{Group, NodeId, Nodes, Refusal};
 use std::alloc::Global;
 
 /// The journal of a node. It lends its disk to one flush at a time.
 #[derive(Drop)]
 pub struct Journal<D: Disk> {
-    disk: D,
+    pub(crate) disk: D,
     nodes: Nodes,
     node: NodeId,
     area: Area,
@@ -114,6 +115,13 @@ impl<D: Disk> Journal<D> {
         self.closes_other
     }
 
+    /// Whether a device call of it has failed.
+    pub fn has_failed(&self) -> bool
+        ensures { result ≡ self.now.failed }
+    {
+        self.failed
+    }
+
     /// Whether a job runs.
     pub fn is_busy(&self) -> bool
         ensures { result ≡ self.now.busy }
@@ -121,16 +129,16 @@ impl<D: Disk> Journal<D> {
         self.busy
     }
 
-    /// Takes note of a job: a switch to the other area.
-    pub fn note_job(&mut self)
+    // Takes note of a job: a switch to the other area.
+    pub(crate) fn note_job(&mut self)
         ensures { self.new ≡ record self.old { busy = true } }
     {
         self.busy = true;
     }
 
-    /// Takes note of the end of a switch: the other area has this epoch, and the journal goes on there, behind
-    /// the gate at this place. The area that it leaves looks formatted.
-    pub fn note_switch(&mut self, area: Area, epoch: u64, place: u64)
+    // Takes note of the end of a switch: the other area has this epoch, and the journal goes on there, behind
+    // the gate at this place. The area that it leaves looks formatted.
+    pub(crate) fn note_switch(&mut self, area: Area, epoch: u64, place: u64)
         ensures { self.new ≡ record self.old { area = area; epoch = epoch; gate = place; busy = false; closes_other = true } }
     {
         self.area = area;
@@ -209,45 +217,18 @@ impl<D: Disk> Journal<FailingDisk<D>> {
     }
 }
 
-impl<D: Disk> Host for Journal<D> {
-    ghost use Rattle.std.specs.Prelude.{true, refl};
-    ghost use Rattle.rr_journal.specs.Journals.{Holds};
-
-    type Disk = D;
-
-    ghost disk = { λ j. j.disk };
-
-    ghost with_disk = { λ j d. record j { disk = d } };
-
-    ghost failed = { λ j. j.failed };
-
-    ghost once_failed = { λ j. record j { failed = true } };
-
-    ghost once_ended = { λ j gate next. record j { gate = gate; next = next; busy = false } };
-
-    ghost holds = { Holds };
-
-    ghost has_given = { λ j d. refl };
-
-    ghost fails_not = { λ j d. refl };
-
-    ghost failure_noted = { λ j. (refl, refl) };
-
-    ghost end_noted = { λ j gate next. (refl, refl) };
-
-    fn lend(&mut self) -> &mut D {
-        &mut self.disk
-    }
-
-    fn has_failed(&self) -> bool {
-        self.failed
-    }
-
-    fn note_failure(&mut self) {
+impl<D: Disk> Journal<D> {
+    // Takes note of a failed device call.
+    pub(crate) fn note_failure(&mut self)
+        ensures { self.new ≡ record self.old { failed = true } }
+    {
         self.failed = true;
     }
 
-    fn note_end(&mut self, gate: u64, next: u64) {
+    // Takes note of the end of a flush: where the last gate stands now, and the next fact number.
+    pub(crate) fn note_end(&mut self, gate: u64, next: u64)
+        ensures { self.new ≡ record self.old { gate = gate; next = next; busy = false } }
+    {
         self.gate = gate;
         self.next = next;
         self.busy = false;

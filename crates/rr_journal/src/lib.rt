@@ -1,16 +1,26 @@
-//! The journal of a node: its facts on a disk, in groups behind a snapshot. An opening reads what a crash left, or
-//! formats a fresh disk; a flush appends a group.
+//! The journal of a node: its facts on a disk of two areas, in groups behind a snapshot. The formatted area of the
+//! greatest epoch is active. An opening reads what a crash left, or formats a fresh disk; a flush appends a group to
+//! the active area; a switch writes a snapshot of the facts to the other one, which is active from then on.
+//!
+//! Behind a closed gate bytes mean nothing. So what a crash may leave holds the facts from before a flush until the
+//! gate is written, and those with the group's from the last sync on; between these, one or the other. A snapshot
+//! stands for the same facts, so that each crash in a switch leaves what was there before it.
 #![tactic(auto)]
 
-mod content;
-mod image;
+mod call;
+mod job;
 mod journal;
+mod opened;
 mod opening;
-mod promised;
+mod snapshot;
 mod stage;
+mod switch;
+mod switch_call;
+mod synced;
 
-pub use content::{Content, Halt, OPEN_GATE, frame_behind, read_groups};
-pub use image::{Image, read_image};
+pub use job::{Body, BodyOut, BodySafe, GateSet, Job};
 pub use journal::{Journal, frame};
+pub use opened::Opened;
 pub use opening::{Opening, Progress};
-pub use stage::Stage;
+pub use switch::{SwitchJob, Switching};
+pub use synced::Synced;

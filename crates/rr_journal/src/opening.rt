@@ -10,23 +10,22 @@ ghost use Rattle.rr_disk.specs.Failing.{FailingRead, FailingWrite, FailingSync};
 ghost use Rattle.rr_frame.specs.SnapshotFormat.{snapshot_bytes, IsLawfulSnapshot};
 ghost use Rattle.rr_journal.specs.Calls.{must_close, frame_bytes, after_call};
 ghost use Rattle.rr_journal.specs.CrashedDisks.{MayStand, EachHoldsSome, SomeHolds, IsOpenWithOneOf, IsReading, AddsNone, AddsBlankAlone};
-ghost use Rattle.rr_journal.specs.Image.{Unformatted, found};
+ghost use Rattle.rr_image.specs.Image.{Unformatted, found};
 ghost use Rattle.rr_journal.specs.Openings.{Settling, ReadingSecond, Formatting, Done, Refused, due_call, after_found, after_opening_call};
 ghost use Rattle.rr_journal.specs.Phases.{phase_of, Follows};
 ghost use Rattle.rr_journal.specs.OpeningCourse.{calls_left, found_from, calls_from, EndsBy, StaysOnCourse, IsRefused, IsUntouched, IsAsBefore, IsDone};
 ghost use Rattle.rr_journal.specs.OpeningSteps.{Steps, MaySnap};
 ghost use Rattle.rr_journal.specs.OpeningTable.{IsReadBy, IsLeftBy, Rests, contents, formatting, IsFormatting, OpensWith, GoesOnWith, ComesTo, IsKept, disk_after};
 ghost use Rattle.rr_journal.specs.OpenDisks.{IsOpenWith, IsReady, disk_behind};
-ghost use Rattle.rr_journal.specs.Journals.{Holds};
+ghost use Rattle.rr_image.specs.Held.{Holds};
 ghost use Rattle.rr_journal.specs.Stages.{calls_from as stage_calls};
 ghost use Rattle.rr_journal.specs.OtherAreas.{front_beside, KnowsFronts, KnowsRead, KnowsOther, IsOtherKnown};
 
-use crate::content::OPEN_GATE;
-use crate::image::{Image, read_image};
 use crate::journal::{Journal, frame};
 use crate::stage::Stage;
 use rr_disk::{Area, Disk, FailingDisk};
 use rr_frame::{Snapshot, encode_snapshot};
+use rr_image::{Image, OPEN_GATE, read_image};
 use rr_types::{NodeId, Nodes, Promise, Refusal};
 use std::alloc::Global;
 

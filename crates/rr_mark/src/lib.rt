@@ -11,4 +11,4 @@ pub use cleared::{Cleared, Draft, is_free};
 pub use mark::Mark;
 pub use outbox::Outbox;
 pub use owed::Owed;
-pub use rr_gate::{Opened, Synced};
+pub use rr_journal::{Opened, Synced};

@@ -2,7 +2,7 @@
 
 ghost use Rattle.std.specs.Prelude.{◌≡◌, ◌+◌, length};
 
-use rr_gate::{Opened, Synced};
+use rr_journal::{Opened, Synced};
 use rr_types::NodeId;
 use std::marker::Model;
 

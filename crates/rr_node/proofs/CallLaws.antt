@@ -14,7 +14,7 @@ use Rattle.rr_frame.specs.SnapshotFormat.{snapshot_bytes}
 use Rattle.rr_journal.specs.Calls.{Call, Read, Write, Sync, after_call, after_starved, after_failing, append_calls}
 use Rattle.rr_journal.specs.Openings.{Phase, After, Goes, Opens, Stops, due_call, after_opening_call}
 use Rattle.rr_journal.specs.OtherAreas.{other_area, closes_in}
-use Rattle.rr_slots.specs.Switches.{switch_calls}
+use Rattle.rr_journal.specs.Switches.{switch_calls}
 use Rattle.rr_node.specs.declared.doing.Doing as code
 use Rattle.rr_node.specs.declared.event.NodeEvent.{NodeEvent}
 use Rattle.rr_node.specs.declared.event.NodeEvent.TheVariants as at

@@ -16,9 +16,9 @@ use Rattle.rr_disk.specs.Counts.{counted}
 use Rattle.rr_disk.specs.Crash.{Images, IsCrashImage, restarted, crash_images}
 use Rattle.rr_frame.specs.GroupFormat.{group_bytes, IsLawfulGroup}
 use Rattle.rr_frame.specs.SnapshotFormat.{snapshot_bytes, IsLawfulSnapshot}
-use Rattle.rr_gate.specs.Moments.{EachHolds}
+use Rattle.rr_journal.specs.Moments.{EachHolds}
 use Rattle.rr_journal.specs.Calls.{Call, Write, Sync, frame_bytes, after_failing, after_starved}
-use Rattle.rr_journal.specs.Journals.{Holds}
+use Rattle.rr_image.specs.Held.{Holds}
 use Rattle.rr_journal.specs.Openings as opening
 use Rattle.rr_journal.specs.Openings.{due_call}
 use Rattle.rr_journal.specs.OpeningTable.{IsLeftBy, formatting, first_snapshot}
@@ -28,9 +28,9 @@ use Rattle.rr_journal.proofs.SnapshotSize.{length-snapshot_bytes}
 use Rattle.rr_journal.specs.declared.stage.Stage as slots
 use Rattle.rr_journal.specs.declared.stage.Stage.TheVariants as step
 use Rattle.rr_journal.specs.Stages.{call_at, calls_from}
-use Rattle.rr_slots.specs.SwitchTable as table
-use Rattle.rr_slots.specs.SwitchTable.{IsAtStage}
-use Rattle.rr_slots.proofs.SwitchLaws.{held_failed}
+use Rattle.rr_journal.specs.SwitchTable as table
+use Rattle.rr_journal.specs.SwitchTable.{IsAtStage}
+use Rattle.rr_journal.proofs.SwitchLaws.{held_failed}
 use Rattle.rr_node.specs.declared.event.Outcome.{Outcome}
 use Rattle.rr_node.specs.declared.event.Outcome.TheVariants.{Quiet}
 use Rattle.rr_node.specs.Seats.{Flush, Resting, Writing, Flushed, Switching, Journaled, Doing, Stopped, Faulted, Opening, Serving, Seat, grows, fail_doing, after_failing_starved}

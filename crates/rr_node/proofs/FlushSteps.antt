@@ -17,12 +17,13 @@ use Rattle.rr_disk.specs.Areas.{Areas, synced}
 use Rattle.rr_disk.specs.Counts.{counted}
 use Rattle.rr_disk.specs.Crash.{Images}
 use Rattle.rr_frame.specs.GroupFormat.{group_bytes, IsLawfulGroup}
-use Rattle.rr_gate.specs.Flushes as gate
-use Rattle.rr_gate.specs.Moments.{with_group, IsGrounded}
-use Rattle.rr_gate.proofs.Table.{to_group}
+use Rattle.rr_journal.specs.Flushes as gate
+use Rattle.rr_journal.specs.Moments.{with_group, IsGrounded}
+use Rattle.rr_journal.proofs.Table.{to_group}
 use Rattle.rr_journal.specs.declared.journal.Journal.{Journal}
 use Rattle.rr_journal.specs.Calls.{Call, after_call, after_starved, append_calls}
-use Rattle.rr_journal.specs.Journals.{Holds, IsOver, once_flushed}
+use Rattle.rr_image.specs.Held.{Holds}
+use Rattle.rr_journal.specs.Journals.{IsOver, once_flushed}
 use Rattle.rr_journal.proofs.FlushLaws.{length-frame}
 use Rattle.rr_node.specs.declared.event.NodeEvent.TheVariants as at
 use Rattle.rr_node.specs.declared.event.Outcome.TheVariants.{Quiet}

@@ -7,14 +7,14 @@ use Rattle.rr_disk.specs.declared.area.Area.TheVariants.{First, Second}
 use Rattle.rr_disk.specs.declared.cell.Cell.{Cell}
 use Rattle.rr_disk.specs.Areas.{Extent, Areas, extent_of, bytes_of, written, at_rest, synced}
 use Rattle.rr_disk.specs.Crash.{Images, restarted}
-use Rattle.rr_gate.specs.Moments.{image_of}
+use Rattle.rr_journal.specs.Moments.{image_of}
 use Rattle.rr_journal.specs.declared.journal.Journal.{Journal}
 use Rattle.rr_journal.specs.Calls.{Call, Read, Write, Sync, after_call, must_close}
-use Rattle.rr_journal.specs.Image.{Content}
+use Rattle.rr_image.specs.Image.{Content}
 use Rattle.rr_journal.specs.OtherAreas.{other_area, closes_in, IsOtherKnown}
 use Rattle.rr_journal.proofs.FoundLaws.{is_found}
 use Rattle.rr_journal.proofs.OtherLaws.{settled_closes}
-use Rattle.rr_slots.proofs.BesideLaws.{active_closes}
+use Rattle.rr_journal.proofs.BesideLaws.{active_closes}
 use Rattle.rr_recover.specs.Recoveries.{StandsFor}
 use Rattle.rr_node.specs.Views.{NodeDisk, areas_in, IsAppending}
 

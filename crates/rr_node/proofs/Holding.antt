@@ -5,13 +5,13 @@ use Rattle.rr_model.specs.World.{World}
 use Rattle.rr_model.specs.NodeState.{NodeState}
 use Rattle.rr_disk.specs.Areas.{Areas, written, at_rest}
 use Rattle.rr_disk.specs.Crash.{IsCrashImage}
-use Rattle.rr_gate.specs.Moments.{EachHolds}
-use Rattle.rr_gate.proofs.Table.{due_holds, out_holds, safe_holds, set_holds}
-use Rattle.rr_journal.specs.Journals.{Holds}
+use Rattle.rr_journal.specs.Moments.{EachHolds}
+use Rattle.rr_journal.proofs.Table.{due_holds, out_holds, safe_holds, set_holds}
+use Rattle.rr_image.specs.Held.{Holds}
 use Rattle.rr_journal.specs.Openings as opening
 use Rattle.rr_journal.specs.OpeningTable.{formatting}
 use Rattle.rr_journal.proofs.OpeningLaws.{either_held, closing_images, written_torn}
-use Rattle.rr_slots.proofs.SwitchLaws.{held}
+use Rattle.rr_journal.proofs.SwitchLaws.{held}
 use Rattle.rr_node.specs.Seats.{Flush, Resting, Writing, Flushed, Switching, Journaled, Doing, Stopped, Faulted, Opening, Serving, Seat}
 use Rattle.rr_node.specs.Worlds.{BodyDue, BodyOut, BodySafe, GateSet, EachHoldsSome, Stage, Closing, Closed, Flushing, StandsAt, IsOpening, journal_at, IsServing, DoesSo, InStep}
 use Rattle.rr_node.proofs.Flushing.{each_none, each_first, rest_holds, flush_holds}

@@ -18,8 +18,9 @@ use Rattle.rr_disk.specs.Counts.{counted}
 use Rattle.rr_disk.specs.Crash.{Images, restarted}
 use Rattle.rr_frame.specs.SnapshotFormat.{IsLawfulSnapshot, snapshot_bytes}
 use Rattle.rr_journal.specs.Calls.{Call, Write, Sync, after_call, append_calls, must_close, format_calls}
-use Rattle.rr_journal.specs.Image.{Content, Found, Unformatted, Broken, Active, found}
-use Rattle.rr_journal.specs.Journals.{StandsFor, Holds, IsOver}
+use Rattle.rr_image.specs.Image.{Content, Found, Unformatted, Broken, Active, found}
+use Rattle.rr_image.specs.Held.{StandsFor, Holds}
+use Rattle.rr_journal.specs.Journals.{IsOver}
 use Rattle.rr_journal.specs.Openings as opening
 use Rattle.rr_journal.specs.Openings.{After, Goes, due_call, after_found, formatted}
 use Rattle.rr_journal.specs.OpeningTable.{contents, Rests, first_snapshot, formatting}

@@ -5,7 +5,7 @@ use Rattle.rr_types.specs.Groups.{Grouped}
 use Rattle.rr_model.specs.NodeState.{NodeState}
 use Rattle.rr_model.specs.NodeStep.{running_group}
 use Rattle.rr_frame.specs.GroupFormat.{IsLawfulGroup}
-use Rattle.rr_gate.specs.Flushes as gate
+use Rattle.rr_journal.specs.Flushes as gate
 use Rattle.rr_journal.specs.declared.journal.Journal.{Journal}
 use Rattle.rr_node.specs.declared.doing.Doing as code
 use Rattle.rr_node.specs.declared.doing.Doing.TheVariants as does

@@ -18,7 +18,7 @@ use Rattle.rr_disk.specs.Counts.{counted}
 use Rattle.rr_disk.specs.Crash.{Images, restarted}
 use Rattle.rr_frame.specs.Snapshots.{Snapped}
 use Rattle.rr_frame.specs.SnapshotFormat.{snapshot_bytes, IsLawfulSnapshot}
-use Rattle.rr_gate.specs.Moments.{image_of}
+use Rattle.rr_journal.specs.Moments.{image_of}
 use Rattle.rr_journal.specs.declared.journal.Journal.{Journal}
 use Rattle.rr_journal.specs.Calls.{Call, Write, Sync, frame_bytes, after_call, must_close}
 use Rattle.rr_journal.specs.Journals.{IsOver}
@@ -29,9 +29,9 @@ use Rattle.rr_journal.proofs.OpeningLaws.{bytes_firm}
 use Rattle.rr_journal.specs.declared.stage.Stage as slots
 use Rattle.rr_journal.specs.declared.stage.Stage.TheVariants as step
 use Rattle.rr_journal.specs.Stages.{call_at, stage_behind, calls_from}
-use Rattle.rr_slots.specs.Switches.{switch_calls}
-use Rattle.rr_slots.specs.SwitchTable.{IsAtStage}
-use Rattle.rr_slots.proofs.SwitchLaws.{Behind, body_is_due, goes}
+use Rattle.rr_journal.specs.Switches.{switch_calls}
+use Rattle.rr_journal.specs.SwitchTable.{IsAtStage}
+use Rattle.rr_journal.proofs.SwitchLaws.{Behind, body_is_due, goes}
 use Rattle.rr_node.specs.declared.event.NodeEvent.TheVariants as at
 use Rattle.rr_node.specs.declared.event.Outcome.TheVariants.{Quiet}
 use Rattle.rr_node.specs.Seats.{Flush, Resting, Writing, Flushed, Switching, Journaled, Serving, Seat, Answer, goes_on, refuse, snapshot_of, journal_switched, flush_on, may_snap, snap_up}

@@ -17,11 +17,11 @@ use Rattle.rr_journal.specs.Calls.{Call, Read, Write, Sync, frame_bytes, after_c
 use Rattle.rr_journal.specs.OtherAreas.{other_area, closes_in}
 use Rattle.rr_journal.specs.declared.stage.Stage.{Stage}
 use Rattle.rr_journal.specs.declared.stage.Stage.TheVariants.{Closing, SettlingClosed, WritingBody, SettlingBody, OpeningGate, SettlingGate}
-use Rattle.rr_slots.specs.declared.switch.Switching.TheVariants as switching
-use Rattle.rr_slots.specs.Switches as slots
+use Rattle.rr_journal.specs.declared.switch.Switching.TheVariants as switching
+use Rattle.rr_journal.specs.Switches as slots
 use Rattle.rr_journal.specs.Stages.{first_stage, call_at, calls_from, stage_behind, Gave}
-use Rattle.rr_slots.specs.Switches.{Switch, due_call, switch_calls, switched}
-use Rattle.rr_slots.specs.SwitchTable.{GoesOn}
+use Rattle.rr_journal.specs.Switches.{Switch, due_call, switch_calls, switched}
+use Rattle.rr_journal.specs.SwitchTable.{GoesOn}
 use Rattle.rr_node.specs.declared.doing.Doing.TheVariants as does
 use Rattle.rr_node.specs.declared.serving.Flush.TheVariants as flush
 use Rattle.rr_node.specs.declared.event.NodeEvent.TheVariants as at

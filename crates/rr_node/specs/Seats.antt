@@ -13,14 +13,14 @@ use Rattle.rr_disk.specs.Crash.{crash_images, restarted}
 use Rattle.rr_frame.specs.GroupFormat.{group_bytes}
 use Rattle.rr_frame.specs.Snapshots.{Snapped}
 use Rattle.rr_frame.specs.SnapshotFormat.{snapshot_bytes}
-use Rattle.rr_journal.specs.Image.{Content}
+use Rattle.rr_image.specs.Image.{Content}
 use Rattle.rr_node.specs.declared.event.NodeEvent.{NodeEvent}
 use Rattle.rr_node.specs.declared.event.NodeEvent.TheVariants as at
 use Rattle.rr_node.specs.declared.event.Outcome.{Outcome}
 use Rattle.rr_node.specs.declared.event.Outcome.TheVariants.{Quiet, Left, Replied, Opened}
 use Rattle.rr_journal.specs.Calls.{Call, Read, Write, Sync, after_call, after_starved, after_failing, append_calls}
 use Rattle.rr_journal.specs.OtherAreas.{other_area, closes_in}
-use Rattle.rr_slots.specs.Switches.{switch_calls}
+use Rattle.rr_journal.specs.Switches.{switch_calls}
 use Rattle.rr_journal.specs.Openings.{Phase, Settling, After, Goes, Opens, Stops, due_call, after_opening_call}
 
 -- a job: none, the device calls that are left of a flush, a synced group that isn't marked yet, or the calls that are left of a switch

@@ -10,14 +10,14 @@ use Rattle.rr_disk.specs.Memory.{MemoryState}
 use Rattle.rr_frame.specs.GroupFormat.{group_bytes, IsLawfulGroup}
 use Rattle.rr_frame.specs.Snapshots.{IsSnapshot}
 use Rattle.rr_frame.specs.SnapshotFormat.{snapshot_bytes, IsLawfulSnapshot}
-use Rattle.rr_gate.specs.Flushes as gate
+use Rattle.rr_journal.specs.Flushes as gate
 use Rattle.rr_journal.specs.declared.journal.Journal.{Journal}
 use Rattle.rr_journal.specs.Calls.{Write, Sync, frame_bytes}
 use Rattle.rr_journal.specs.OtherAreas.{other_area, closes_in, IsOtherKnown}
 use Rattle.rr_journal.specs.Phases.{phase_of}
 use Rattle.rr_journal.specs.declared.stage.Stage.TheVariants as stage
 use Rattle.rr_journal.specs.Stages.{calls_from}
-use Rattle.rr_slots.specs.Switches.{Switch}
+use Rattle.rr_journal.specs.Switches.{Switch}
 use Rattle.rr_node.specs.declared.doing.Doing as code
 use Rattle.rr_node.specs.declared.doing.Doing.TheVariants as does
 use Rattle.rr_node.specs.declared.serving.Serving.{Serving}

@@ -15,18 +15,19 @@ use Rattle.rr_disk.specs.Crash.{Images, IsCrashImage, restarted}
 use Rattle.rr_frame.specs.GroupFormat.{group_bytes, IsLawfulGroup}
 use Rattle.rr_frame.specs.Snapshots.{Snapped}
 use Rattle.rr_frame.specs.SnapshotFormat.{snapshot_bytes, IsLawfulSnapshot}
-use Rattle.rr_gate.specs.Flushes as gate
-use Rattle.rr_gate.specs.Moments.{body_due, body_out, body_safe, gate_set}
+use Rattle.rr_journal.specs.Flushes as gate
+use Rattle.rr_journal.specs.Moments.{body_due, body_out, body_safe, gate_set}
 use Rattle.rr_journal.specs.declared.journal.Journal.{Journal}
 use Rattle.rr_journal.specs.Calls.{Call, Write, Sync, frame_bytes}
-use Rattle.rr_journal.specs.Journals.{Holds, IsOver}
+use Rattle.rr_image.specs.Held.{Holds}
+use Rattle.rr_journal.specs.Journals.{IsOver}
 use Rattle.rr_journal.specs.Openings as opening
 use Rattle.rr_journal.specs.OtherAreas.{other_area}
 use Rattle.rr_journal.specs.OpeningTable.{Rests, formatting, Formats, gate_written, Closes}
 use Rattle.rr_journal.specs.declared.stage.Stage as slots
 use Rattle.rr_journal.specs.Stages.{calls_from}
-use Rattle.rr_slots.specs.Switches.{Switch}
-use Rattle.rr_slots.specs.SwitchTable.{IsAtStage}
+use Rattle.rr_journal.specs.Switches.{Switch}
+use Rattle.rr_journal.specs.SwitchTable.{IsAtStage}
 use Rattle.rr_node.specs.Seats.{Flush, Resting, Writing, Flushed, Switching, Journaled, Doing, Stopped, Faulted, Opening, Serving, Seat}
 
 -- ---- flushes, by their device calls that are left

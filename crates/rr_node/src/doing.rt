@@ -15,7 +15,7 @@ use crate::serving::Serving;
 use rr_core::Core;
 use rr_disk::{FailingDisk, MemDisk};
 use rr_recover::{Opening, Progress};
-use rr_slots::Slots;
+use rr_journal::Journal;
 use rr_types::{NodeId, Nodes, Refusal};
 use std::alloc::Global;
 
@@ -154,7 +154,7 @@ fn is_device(refusal: Refusal) -> bool
 }
 
 /// The node starts to serve.
-fn serve(alloc: Global, core: Core, slots: Slots<NodeDisk>) -> (Doing, Result<Outcome, Refusal>)
+fn serve(alloc: Global, core: Core, slots: Journal<NodeDisk>) -> (Doing, Result<Outcome, Refusal>)
     ensures { (n p : ℕ) → Serves n p core slots result.1 result.0 }
 {
     match bound_names(alloc, &core) {

@@ -8,8 +8,9 @@ ghost use Rattle.rr_node.specs.Views.{IsServing, CarriesOn, CarriesFailing, quie
 use crate::doing::{Doing, NodeDisk};
 use crate::event::{NodeEvent, Outcome};
 use rr_core::Core;
-use rr_gate::{Body, BodyOut, BodySafe, GateSet, Job, Synced};
-use rr_slots::{Slots, SwitchJob, Switching};
+use rr_journal::{
+    Body, BodyOut, BodySafe, GateSet, Job, Journal, SwitchJob, Switching, Synced,
+};
 use rr_types::{Group, Refusal};
 use std::alloc::Global;
 
@@ -43,13 +44,13 @@ impl Flush {
 /// A node that is up. It can't be let go: its job is spent or given up.
 pub struct Serving {
     core: Core,
-    slots: Slots<NodeDisk>,
+    slots: Journal<NodeDisk>,
     flush: Flush,
 }
 
 impl Serving {
     /// A node that has just come up.
-    pub fn new(core: Core, slots: Slots<NodeDisk>) -> Serving
+    pub fn new(core: Core, slots: Journal<NodeDisk>) -> Serving
         ensures { result ≡ record { core = core; slots = slots; flush = Flush.Resting } }
     {
         Serving {
@@ -135,7 +136,7 @@ impl Serving {
 /// The node is up, and has answered so.
 fn up(
     core: Core,
-    slots: Slots<NodeDisk>,
+    slots: Journal<NodeDisk>,
     flush: Flush,
     answer: Result<Outcome, Refusal>,
 ) -> (Doing, Result<Outcome, Refusal>)
@@ -155,7 +156,7 @@ fn quiet(told: Result<(), Refusal>) -> Result<Outcome, Refusal>
 }
 
 /// The oldest message that may leave goes.
-fn send(mut core: Core, slots: Slots<NodeDisk>, flush: Flush) -> (Doing, Result<Outcome, Refusal>)
+fn send(mut core: Core, slots: Journal<NodeDisk>, flush: Flush) -> (Doing, Result<Outcome, Refusal>)
     ensures { CarriesOn NodeEvent.Send (record { core = core; slots = slots; flush = flush }) result.1 result.0 }
 {
     let outcome = match core.next_message() {
@@ -166,7 +167,7 @@ fn send(mut core: Core, slots: Slots<NodeDisk>, flush: Flush) -> (Doing, Result<
 }
 
 /// The oldest decided request that waits is acknowledged.
-fn reply(mut core: Core, slots: Slots<NodeDisk>, flush: Flush) -> (Doing, Result<Outcome, Refusal>)
+fn reply(mut core: Core, slots: Journal<NodeDisk>, flush: Flush) -> (Doing, Result<Outcome, Refusal>)
     ensures { CarriesOn NodeEvent.Acknowledge (record { core = core; slots = slots; flush = flush }) result.1 result.0 }
 {
     let outcome = match core.next_ack() {
@@ -179,7 +180,7 @@ fn reply(mut core: Core, slots: Slots<NodeDisk>, flush: Flush) -> (Doing, Result
 /// The next device call of a job.
 fn flush_on(
     core: Core,
-    mut slots: Slots<NodeDisk>,
+    mut slots: Journal<NodeDisk>,
     flush: Flush,
 ) -> (Doing, Result<Outcome, Refusal>)
     ensures { CarriesOn NodeEvent.Device (record { core = core; slots = slots; flush = flush }) result.1 result.0 }
@@ -210,7 +211,7 @@ fn flush_on(
 /// The next device call of a switch.
 fn switch_on(
     core: Core,
-    mut slots: Slots<NodeDisk>,
+    mut slots: Journal<NodeDisk>,
     job: SwitchJob,
 ) -> (Doing, Result<Outcome, Refusal>)
     ensures { CarriesOn NodeEvent.Device (record { core = core; slots = slots; flush = Flush.Switching job }) result.1 result.0 }
@@ -223,7 +224,7 @@ fn switch_on(
 }
 
 /// A device call has failed: the node has failed too.
-fn fallen(slots: Slots<NodeDisk>, refusal: Refusal) -> (Doing, Result<Outcome, Refusal>)
+fn fallen(slots: Journal<NodeDisk>, refusal: Refusal) -> (Doing, Result<Outcome, Refusal>)
     ensures { result ≡ (Doing.Faulted slots.disk, Err refusal) }
 {
     (Doing::Faulted(slots.into_disk()), Err(refusal))
@@ -231,7 +232,7 @@ fn fallen(slots: Slots<NodeDisk>, refusal: Refusal) -> (Doing, Result<Outcome, R
 
 /// The write of the body fails.
 fn fail_body(
-    mut slots: Slots<NodeDisk>,
+    mut slots: Journal<NodeDisk>,
     job: Job<Body>,
     fill: Vec<u8>,
 ) -> (Doing, Result<Outcome, Refusal>)
@@ -249,7 +250,7 @@ fn fail_body(
 
 /// The sync of the body fails.
 fn fail_body_sync(
-    mut slots: Slots<NodeDisk>,
+    mut slots: Journal<NodeDisk>,
     job: Job<BodyOut>,
     fill: Vec<u8>,
 ) -> (Doing, Result<Outcome, Refusal>)
@@ -267,7 +268,7 @@ fn fail_body_sync(
 
 /// The opening of the gate fails.
 fn fail_gate(
-    mut slots: Slots<NodeDisk>,
+    mut slots: Journal<NodeDisk>,
     job: Job<BodySafe>,
     fill: Vec<u8>,
 ) -> (Doing, Result<Outcome, Refusal>)
@@ -285,7 +286,7 @@ fn fail_gate(
 
 /// The sync of the open gate fails.
 fn fail_gate_sync(
-    mut slots: Slots<NodeDisk>,
+    mut slots: Journal<NodeDisk>,
     job: Job<GateSet>,
     fill: Vec<u8>,
 ) -> (Doing, Result<Outcome, Refusal>)
@@ -303,7 +304,7 @@ fn fail_gate_sync(
 
 /// The device call of a switch that is due fails.
 fn fail_switch(
-    mut slots: Slots<NodeDisk>,
+    mut slots: Journal<NodeDisk>,
     job: SwitchJob,
     fill: Vec<u8>,
 ) -> (Doing, Result<Outcome, Refusal>)
@@ -324,7 +325,7 @@ fn fail_switch(
 fn take(
     alloc: Global,
     core: Core,
-    slots: Slots<NodeDisk>,
+    slots: Journal<NodeDisk>,
     flush: Flush,
 ) -> (Doing, Result<Outcome, Refusal>)
     ensures { CarriesOn NodeEvent.Take (record { core = core; slots = slots; flush = flush }) result.1 result.0 }
@@ -339,7 +340,7 @@ fn take(
 fn begin(
     alloc: Global,
     mut core: Core,
-    mut slots: Slots<NodeDisk>,
+    mut slots: Journal<NodeDisk>,
 ) -> (Doing, Result<Outcome, Refusal>)
     ensures { CarriesOn NodeEvent.Take (record { core = core; slots = slots; flush = Flush.Resting }) result.1 result.0 }
 {
@@ -364,7 +365,7 @@ fn put_back(core: &mut Core, group: Group)
 }
 
 /// The synced group is marked.
-fn mark(mut core: Core, slots: Slots<NodeDisk>, flush: Flush) -> (Doing, Result<Outcome, Refusal>)
+fn mark(mut core: Core, slots: Journal<NodeDisk>, flush: Flush) -> (Doing, Result<Outcome, Refusal>)
     ensures { CarriesOn NodeEvent.Mark (record { core = core; slots = slots; flush = flush }) result.1 result.0 }
 {
     match flush {
@@ -380,7 +381,7 @@ fn mark(mut core: Core, slots: Slots<NodeDisk>, flush: Flush) -> (Doing, Result<
 fn snap(
     alloc: Global,
     core: Core,
-    slots: Slots<NodeDisk>,
+    slots: Journal<NodeDisk>,
     flush: Flush,
 ) -> (Doing, Result<Outcome, Refusal>)
     requires { IsServing core.nodes core.node (record { core = core; slots = slots; flush = flush }) }
@@ -396,7 +397,7 @@ fn snap(
 fn begin_switch(
     alloc: Global,
     core: Core,
-    mut slots: Slots<NodeDisk>,
+    mut slots: Journal<NodeDisk>,
 ) -> (Doing, Result<Outcome, Refusal>)
     requires { IsServing core.nodes core.node (record { core = core; slots = slots; flush = Flush.Resting }) }
     ensures { CarriesOn NodeEvent.Snap (record { core = core; slots = slots; flush = Flush.Resting }) result.1 result.0 }

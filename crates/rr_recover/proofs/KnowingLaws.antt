@@ -8,9 +8,9 @@ use Rattle.rr_journal.specs.declared.journal.Journal.{Journal}
 use Rattle.rr_journal.specs.declared.opening.Opening.{Opening}
 use Rattle.rr_journal.specs.declared.opening.Progress.TheVariants as progress
 use Rattle.rr_journal.specs.Calls.{after_call}
-use Rattle.rr_journal.specs.Image.{Content, Found, Unformatted, Broken, Active, found}
-use Rattle.rr_journal.specs.Journals as journals
-use Rattle.rr_journal.specs.Journals.{Holds}
+use Rattle.rr_image.specs.Image.{Content, Found, Unformatted, Broken, Active, found}
+use Rattle.rr_image.specs.Held as held
+use Rattle.rr_image.specs.Held.{Holds}
 use Rattle.rr_journal.specs.Openings.{Phase, Settling, ReadingFirst, ReadingSecond, Formatting, After, Goes, Opens, Stops, due_call, after_found, after_opening_call}
 use Rattle.rr_journal.specs.OpeningCourse.{whole_read, calls_by, found_from, calls_from, end_by, areas_after, EndsBy, StaysOnCourse}
 use Rattle.rr_journal.specs.OpeningTable.{contents, OpensWith}
@@ -19,7 +19,7 @@ use Rattle.rr_journal.specs.OtherAreas.{KnowsFronts}
 use Rattle.rr_journal.specs.Phases.{phase_of}
 use Rattle.rr_journal.proofs.CourseLaws.{read_settled}
 use Rattle.rr_journal.proofs.CrashLaws.{found_contents}
-use Rattle.rr_journal.proofs.ImageLaws.{facts_after_a_crash}
+use Rattle.rr_image.proofs.ImageLaws.{facts_after_a_crash}
 use Rattle.rr_recover.specs.Known.{FindsAtRest, KnowsRest, KnowsDisk, HoldSoMany}
 use Rattle.rr_recover.specs.Recoveries.{StandsFor}
 
@@ -31,7 +31,7 @@ AreShort both = (length both.first.cells < 2 ^ 64) × (length both.second.cells 
 
 -- bytes of which no area is formatted hold no facts
 blank_holds : (n p : ℕ) (images : Images) → found n p images.of_first images.of_second ≡ Unformatted → Holds n p images []
-blank_holds n p images blank = record { fit = refl; stands = subst (λ (f : Found). journals.StandsFor f []) (sym blank) refl }
+blank_holds n p images blank = record { fit = refl; stands = subst (λ (f : Found). held.StandsFor f []) (sym blank) refl }
 
 -- an opening that has just begun
 pub begins_known : {D : Type 0} (areas : D → Areas) (o : Opening D) → phase_of o.phase ≡ Settling → AreShort (areas o.disk)

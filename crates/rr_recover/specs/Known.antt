@@ -4,8 +4,8 @@ use Rattle.rr_types.specs.declared.fact.Fact.{Fact}
 use Rattle.rr_disk.specs.Areas.{Areas}
 use Rattle.rr_disk.specs.Crash.{Images, IsCrashImage, restarted}
 use Rattle.rr_journal.specs.declared.opening.Opening.{Opening}
-use Rattle.rr_journal.specs.Image.{Unformatted, found}
-use Rattle.rr_journal.specs.Journals.{Holds}
+use Rattle.rr_image.specs.Image.{Unformatted, found}
+use Rattle.rr_image.specs.Held.{Holds}
 use Rattle.rr_journal.specs.Openings.{Phase, Settling, ReadingFirst, ReadingSecond, Formatting}
 use Rattle.rr_journal.specs.OpeningCourse.{found_from}
 use Rattle.rr_journal.specs.OpeningTable.{OpensWith}

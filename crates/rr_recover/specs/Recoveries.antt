@@ -13,7 +13,7 @@ use Rattle.rr_journal.specs.declared.journal.Journal.{Journal}
 use Rattle.rr_journal.specs.declared.opening.Opening.{Opening}
 use Rattle.rr_journal.specs.declared.opening.Progress as journal
 use Rattle.rr_journal.specs.declared.opening.Progress.TheVariants as of_journal
-use Rattle.rr_journal.specs.Image.{Active, found}
+use Rattle.rr_image.specs.Image.{Active, found}
 use Rattle.rr_journal.specs.OpeningSteps.{Steps}
 use Rattle.rr_recover.specs.declared.steps.Progress.{Progress}
 use Rattle.rr_recover.specs.declared.steps.Progress.TheVariants as progress

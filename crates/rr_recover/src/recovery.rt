@@ -5,8 +5,8 @@ ghost use Rattle.rr_types.specs.declared.fact.Fact.{Fact};
 ghost use Rattle.rr_types.specs.declared.refusal.Refusal.TheVariants.{OutOfMemory, Device};
 ghost use Rattle.rr_model.specs.NodeStep.{started};
 ghost use Rattle.rr_journal.specs.CrashedDisks.{MayStand, EachHoldsSome, IsOpenWithOneOf, AddsBlankAlone};
-ghost use Rattle.rr_journal.specs.Image.{Unformatted};
-ghost use Rattle.rr_journal.specs.Journals.{Holds};
+ghost use Rattle.rr_image.specs.Image.{Unformatted};
+ghost use Rattle.rr_image.specs.Held.{Holds};
 ghost use Rattle.rr_journal.specs.OpenDisks.{IsOpenWith, IsReady, disk_behind};
 ghost use Rattle.rr_journal.specs.OpeningCourse.{found_from, calls_from, EndsBy, IsDone, IsRefused, IsAsBefore};
 ghost use Rattle.rr_journal.specs.Openings.{Settling};
@@ -17,9 +17,7 @@ ghost use Rattle.rr_recover.specs.Recoveries.{as_opened, IsStarted, StandsFor};
 
 use rr_core::Core;
 use rr_disk::{Area, Disk};
-use rr_gate::Opened;
-use rr_journal::Journal;
-use rr_slots::Slots;
+use rr_journal::{Journal, Opened};
 use rr_types::{NodeId, Nodes, Promise, Refusal};
 use std::alloc::Global;
 
@@ -31,7 +29,7 @@ pub fn recover<D: Disk>(
     nodes: Nodes,
     node: NodeId,
     disk: D,
-) -> Result<(Core, Slots<D>), (Refusal, D)>
+) -> Result<(Core, Journal<D>), (Refusal, D)>
     requires exists { node < nodes }
     requires alike { (one other : D) → D.tells one → D.tells other }
     ensures core { IfOk result (λ r. IsStarted r.0 r.1) }
@@ -82,7 +80,7 @@ pub(crate) fn start_core<D: Disk>(
     journal: Journal<D>,
     promise: Promise,
     number: u64,
-) -> Result<(Core, Slots<D>), (Refusal, D)>
+) -> Result<(Core, Journal<D>), (Refusal, D)>
     requires { D.tells journal.disk → HoldSoMany nodes node (D.areas journal.disk) number }
     ensures ok { IfOk result (λ r. (r.0 ≡ started nodes node promise number) × (r.0.marked ≡ promise) × (r.1 ≡ journal)) }
     ensures err { IfErr result (λ r. (r.0 ≡ OutOfMemory) × (r.1 ≡ journal.disk)) }

@@ -5,7 +5,7 @@ ghost use Rattle.rr_types.specs.declared.fact.Fact.{Fact};
 ghost use Rattle.rr_types.specs.declared.refusal.Refusal.TheVariants.{OutOfMemory, Device};
 ghost use Rattle.rr_disk.specs.Counts.{counted};
 ghost use Rattle.rr_journal.specs.CrashedDisks.{MayStand, IsReading, AddsNone};
-ghost use Rattle.rr_journal.specs.Journals.{Holds};
+ghost use Rattle.rr_image.specs.Held.{Holds};
 ghost use Rattle.rr_journal.specs.OpeningCourse.{StaysOnCourse, IsRefused, IsUntouched};
 ghost use Rattle.rr_journal.specs.OpeningSteps.{MaySnap};
 ghost use Rattle.rr_journal.specs.OpeningTable.{OpensWith, ComesTo, IsKept, disk_after};
@@ -17,7 +17,7 @@ use crate::opening::Opening;
 use crate::recovery::start_core;
 use rr_core::Core;
 use rr_disk::Disk;
-use rr_slots::Slots;
+use rr_journal::Journal;
 use rr_types::Refusal;
 use std::alloc::Global;
 
@@ -26,7 +26,7 @@ pub enum Progress<D: Disk> {
     /// More device calls are due.
     More(Opening<D>),
     /// The node's core, and the areas of its disk.
-    Done(Core, Slots<D>),
+    Done(Core, Journal<D>),
 }
 
 impl<D: Disk> Opening<D> {

@@ -4,7 +4,7 @@ ghost use Rattle.std.specs.Prelude.{◌≡◌, IfOk, IfErr};
 ghost use Rattle.rr_model.specs.NodeStep.{restored};
 
 use crate::state::State;
-use rr_gate::Opened;
+use rr_journal::Opened;
 use rr_heartbeat::Heartbeat;
 use rr_list::{Instances, Pool, Waiting};
 use rr_mark::{Mark, Outbox};

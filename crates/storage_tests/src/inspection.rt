@@ -1,7 +1,7 @@
 //! What the areas of small disks tell, with values worked out by hand.
 
 use rr_disk::{Area, Disk, FailingDisk, MemDisk};
-use rr_slots::{AreaReport, inspect, inspect_bytes};
+use rr_image::{AreaReport, inspect, inspect_bytes};
 use rr_types::{NodeId, Nodes, Refusal};
 use std::alloc::Global;
 use std::process::Abort;

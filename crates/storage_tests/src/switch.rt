@@ -1,31 +1,31 @@
 //! Switches from one area to the other, and back.
 
 ghost use Rattle.rr_frame.specs.Snapshots.{IsSnapshot};
-ghost use Rattle.rr_slots.specs.Switches.{snapshot_of};
+ghost use Rattle.rr_journal.specs.Switches.{snapshot_of};
 
 use rr_disk::{Area, Disk, MemDisk};
-use rr_slots::{Slots, SwitchJob, Switching};
+use rr_journal::{Journal, SwitchJob, Switching};
 use rr_types::{NodeId, Nodes, Promise};
 use std::alloc::Global;
 use std::process::Abort;
 
-fn opened(rt: &impl Abort, alloc: Global, disk: MemDisk) -> (Slots<MemDisk>, Promise)
+fn opened(rt: &impl Abort, alloc: Global, disk: MemDisk) -> (Journal<MemDisk>, Promise)
     ensures { IsSnapshot (snapshot_of result.0 result.1) }
 {
     let nodes = Nodes::new(1).expect(rt, "nodes");
     let node = NodeId::new(nodes, 0).expect(rt, "a node");
-    let (slots, promise, _) = Slots::open(alloc, nodes, node, disk).expect(rt, "an opening");
+    let (slots, promise, _) = Journal::open(alloc, nodes, node, disk).expect(rt, "an opening");
     (slots, promise)
 }
 
-fn made(rt: &impl Abort, job: SwitchJob, slots: &mut Slots<MemDisk>) -> SwitchJob {
+fn made(rt: &impl Abort, job: SwitchJob, slots: &mut Journal<MemDisk>) -> SwitchJob {
     match job.step(slots).expect(rt, "a call") {
         Switching::More(job) => job,
         Switching::Done => rt.panic("a call less"),
     }
 }
 
-fn ended(rt: &impl Abort, job: SwitchJob, slots: &mut Slots<MemDisk>) {
+fn ended(rt: &impl Abort, job: SwitchJob, slots: &mut Journal<MemDisk>) {
     match job.step(slots).expect(rt, "a call") {
         Switching::More(job) => {
             job.abandon();
@@ -35,7 +35,7 @@ fn ended(rt: &impl Abort, job: SwitchJob, slots: &mut Slots<MemDisk>) {
     }
 }
 
-fn switched(rt: &impl Abort, alloc: Global, slots: &mut Slots<MemDisk>, promise: Promise)
+fn switched(rt: &impl Abort, alloc: Global, slots: &mut Journal<MemDisk>, promise: Promise)
     requires { IsSnapshot (snapshot_of slots.old promise) }
 {
     let job = slots.begin_snapshot(alloc, promise).expect(rt, "a switch");
@@ -51,13 +51,13 @@ fn switched(rt: &impl Abort, alloc: Global, slots: &mut Slots<MemDisk>, promise:
 fn a_switch_takes_six_calls(rt: HostRuntime) {
     let alloc = rt.alloc();
     let (mut slots, promise) = opened(&rt, alloc, MemDisk::new(alloc));
-    assert!(rt; matches!(slots.active(), Area::First));
+    assert!(rt; matches!(slots.area(), Area::First));
     switched(&rt, alloc, &mut slots, promise);
-    assert!(rt; matches!(slots.active(), Area::Second));
+    assert!(rt; matches!(slots.area(), Area::Second));
     let (mut slots, promise) = opened(&rt, alloc, slots.into_disk());
-    assert!(rt; matches!(slots.active(), Area::Second));
+    assert!(rt; matches!(slots.area(), Area::Second));
     switched(&rt, alloc, &mut slots, promise);
-    assert!(rt; matches!(slots.active(), Area::First));
+    assert!(rt; matches!(slots.area(), Area::First));
     let mut disk = slots.into_disk();
     let first = disk.read(alloc, Area::First, 8, 8).expect(&rt, "a read");
     let second = disk.read(alloc, Area::Second, 8, 8).expect(&rt, "a read");

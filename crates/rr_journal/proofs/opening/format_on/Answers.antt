@@ -1,7 +1,7 @@
 use Rattle.std.proofs.Common.{◌≡◌, List, [], sym, subst, ◌∙◌, ap}
 use Rattle.rr_types.specs.declared.promise.Entry.{Entry}
 use Rattle.rr_disk.specs.declared.area.Area.TheVariants.{First}
-use Rattle.rr_journal.specs.Image.{Active}
+use Rattle.rr_image.specs.Image.{Active}
 use Rattle.rr_journal.proofs.OpeningLaws.{IsFormatted, formats_behind}
 use Rattle.rr_journal.proofs.opening.format_on.Goals as goal
 

@@ -1,9 +1,9 @@
 use Rattle.std.proofs.Common.{◌≡◌, sym, ap, subst, ◌∙◌, List, ℕ, Ok}
 use Rattle.rr_journal.specs.Calls.{must_close}
-use Rattle.rr_journal.specs.declared.image.Image.{Image}
+use Rattle.rr_image.specs.declared.image.Image.{Image}
 use Rattle.rr_journal.specs.declared.stage.Stage.{Stage}
-use Rattle.rr_journal.specs.Ends.{Finds}
-use Rattle.rr_journal.specs.Image.{Unformatted, found}
+use Rattle.rr_image.specs.Ends.{Finds}
+use Rattle.rr_image.specs.Image.{Unformatted, found}
 use Rattle.rr_journal.specs.OpeningTable.{IsFormatting}
 use Rattle.rr_journal.proofs.OpeningLaws.{first_due}
 use Rattle.rr_journal.proofs.opening.with_areas.Goals as goal

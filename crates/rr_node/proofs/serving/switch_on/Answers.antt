@@ -1,6 +1,6 @@
 use Rattle.std.proofs.Common.{subst}
-use Rattle.rr_slots.specs.declared.switch.Switching.{Switching}
-use Rattle.rr_slots.specs.SwitchTable.{GoesOn}
+use Rattle.rr_journal.specs.declared.switch.Switching.{Switching}
+use Rattle.rr_journal.specs.SwitchTable.{GoesOn}
 use Rattle.rr_node.proofs.SwitchingLaws.{switch_ends}
 use Rattle.rr_node.proofs.serving.switch_on.Goals as goal
 

@@ -2,7 +2,7 @@ use Rattle.std.proofs.Common.{ℕ, List, [], sym, subst}
 use Rattle.rr_types.specs.declared.promise.Entry.{Entry}
 use Rattle.rr_journal.specs.declared.journal.Journal.{Journal}
 use Rattle.rr_journal.specs.CrashedDisks.{IsOpenWithOneOf, AddsBlankAlone}
-use Rattle.rr_journal.specs.Journals.{Holds}
+use Rattle.rr_image.specs.Held.{Holds}
 use Rattle.rr_journal.specs.OpeningTable.{IsKept}
 use Rattle.rr_journal.specs.OpenDisks.{IsOpenWith, IsReady}
 use Rattle.rr_recover.proofs.KnowingLaws.{all_known, so_many}

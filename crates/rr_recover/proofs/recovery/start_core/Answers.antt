@@ -1,6 +1,6 @@
 use Rattle.std.proofs.Common.{ap, ◌∙◌}
 use Rattle.rr_model.specs.NodeStep.{started}
-use Rattle.rr_gate.specs.Flushes as gate
+use Rattle.rr_journal.specs.Flushes as gate
 use Rattle.rr_recover.proofs.StepLaws.{started_marked}
 use Rattle.rr_recover.proofs.recovery.start_core.Goals as goal
 

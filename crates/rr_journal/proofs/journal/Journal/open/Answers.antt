@@ -2,8 +2,8 @@ use Rattle.std.proofs.Common.{◌≡◌, ◌≢◌, ◌⊎◌, ℕ, List, []}
 use Rattle.std.specs.Prelude.{IfOk, IfErr, OnOk}
 use Rattle.rr_types.specs.declared.fact.Fact.{Fact}
 use Rattle.rr_types.specs.declared.refusal.Refusal.TheVariants.{OutOfMemory, Device}
-use Rattle.rr_journal.specs.Image.{Unformatted}
-use Rattle.rr_journal.specs.Journals.{Holds}
+use Rattle.rr_image.specs.Image.{Unformatted}
+use Rattle.rr_image.specs.Held.{Holds}
 use Rattle.rr_journal.specs.Openings.{Phase}
 use Rattle.rr_journal.specs.OpeningCourse.{found_from, calls_from, IsAsBefore, IsDone}
 use Rattle.rr_journal.specs.OpeningTable.{contents, OpensWith, IsKept}

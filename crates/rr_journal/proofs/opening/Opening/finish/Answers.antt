@@ -1,6 +1,6 @@
 use Rattle.std.proofs.Common.{◌≡◌, ◌≤◌, ℕ, ◌+◌, inl, Ok, refl, sym, ap, subst, ◌∙◌, arith}
 use Rattle.rr_journal.specs.declared.opening.Progress.{Progress}
-use Rattle.rr_journal.specs.Journals.{Holds}
+use Rattle.rr_image.specs.Held.{Holds}
 use Rattle.rr_journal.specs.Phases.{phase_of}
 use Rattle.rr_disk.specs.Counts.{counted}
 use Rattle.rr_journal.specs.OpeningCourse.{StaysOnCourse, IsUntouched, end_by}

@@ -2,13 +2,14 @@ use Rattle.std.proofs.Common.{◌≡◌, ◌+◌, inr, refl, sym, subst, ◌∙�
 use Rattle.rr_types.specs.Promises.{promise_of}
 use Rattle.rr_disk.specs.Crash.{Images, restarted}
 use Rattle.rr_frame.specs.Snapshots.{IsSnapshot}
-use Rattle.rr_journal.specs.Image.{Content}
+use Rattle.rr_image.specs.Image.{Content}
 use Rattle.rr_journal.specs.declared.journal.Journal.{Journal}
 use Rattle.rr_journal.specs.declared.opening.Next.{Next}
 use Rattle.rr_journal.specs.declared.opening.Progress.TheVariants as progress
 use Rattle.rr_journal.specs.OpeningTable.{GoesOnWith, IsKept}
 use Rattle.rr_journal.specs.Openings.{Done, Opens, due_call, after_opening_call}
-use Rattle.rr_journal.specs.Journals.{Holds, IsOver}
+use Rattle.rr_image.specs.Held.{Holds}
+use Rattle.rr_journal.specs.Journals.{IsOver}
 use Rattle.rr_journal.specs.Phases.{Follows, phase_of}
 use Rattle.rr_journal.specs.CrashedDisks.{AddsNone}
 use Rattle.rr_journal.specs.OpeningCourse.{StaysOnCourse, IsUntouched}

@@ -1,2 +1,0 @@
-pub mod Flushes
-pub mod Moments

@@ -1,0 +1,13 @@
+use Rattle.std.proofs.Common.{◌+◌, ◌≤◌, length}
+use Rattle.rr_image.specs.Image.{content_from}
+use Rattle.rr_image.proofs.ContentLemmas.{GoesOn}
+use Rattle.rr_image.proofs.content.read_groups.Given as goal
+
+abbrev pub invariant-loop-rest : goal.invariant-loop-rest
+invariant-loop-rest l = record {
+  on : GoesOn l.nodes l.node l.content l.rest (content_from (length l.bytes) l.nodes l.node l.fn.content l.bytes);
+  room : l.content.gate + length l.rest ≤ l.fn.content.gate + length l.bytes;
+}
+
+abbrev pub decreases-loop-rest : goal.decreases-loop-rest
+decreases-loop-rest l = length l.rest

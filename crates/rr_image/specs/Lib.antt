@@ -1,0 +1,5 @@
+pub mod Ends
+pub mod Held
+pub mod Image
+pub mod Inspect
+pub mod Places

@@ -1,5 +1,0 @@
-use Rattle.std.proofs.lemmas.Bool.{false≢true}
-use Rattle.rr_slots.proofs.slots.snapshot_frame.Goals as goal
-
-pub unreachable-requires : goal.unreachable-requires
-unreachable-requires c = false≢true (c.in-Err.ensures.valid.1 c.requires)
