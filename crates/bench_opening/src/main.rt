@@ -10,7 +10,7 @@ mod area;
 use crate::area::filled;
 use anyhow::Result;
 use rr_disk::{Area, Disk, FileDisk};
-use rr_journal::{Image, read_image};
+use rr_image::{Image, read_image};
 use rr_journal::Journal;
 use rr_types::{Command, NodeId, Nodes, Op, Refusal, Standing};
 use std::alloc::Global;
@@ -63,10 +63,11 @@ fn opened_disk<D: Disk + Drop>(alloc: Global, disk: D) -> Result<(Found, Area), 
     let nodes = Nodes::new(1)?;
     let node = NodeId::new(nodes, 0).ok_or(Refusal::BadNodes)?;
     match Journal::open(alloc, nodes, node, disk) {
-        Ok((slots, promise, facts)) => {
-            let instances = promise.entries().len();
-            let area = slots.area();
-            drop(slots.into_disk());
+        Ok((journal, opened)) => {
+            let facts = opened.next();
+            let instances = opened.promise().entries().len();
+            let area = journal.area();
+            drop(journal.into_disk());
             Ok((Found { facts, instances }, area))
         }
         Err((refusal, _)) => Err(refusal),

@@ -13,8 +13,8 @@ ghost use Rattle.rr_core.specs.Covered.{LeavesCovered};
 use crate::group::{commands_after, is_running_group, mark_running, put_back, take_group};
 use crate::leaving::{Searched, is_any_answered, take_acknowledged, take_leaving};
 use crate::prefix::registry_of_prefix;
-use rr_journal::{Opened, Synced};
 use rr_input::{advance_step, hear_step, started, submit_step, suspect_step, tick_step};
+use rr_journal::{Opened, Synced};
 use rr_mark::Cleared;
 use rr_registry::{Entries, Registry};
 use rr_step::{Changes, State};
@@ -48,23 +48,16 @@ impl Model for Core {
 }
 
 impl Core {
-    /// A node after its opening, which gave its promise and the number of its next fact: it owes the restatement
-    /// of its open instances.
-    pub fn start(
-        alloc: Global,
-        nodes: Nodes,
-        node: NodeId,
-        promise: Promise,
-        opened: &Opened,
-    ) -> Result<Core, Refusal>
-        requires { opened.now.node ≡ node }
-        ensures ok { IfOk result (λ core. core ≡ started nodes node promise opened.now.next) }
+    /// A node after its opening, with the promise that this opening found, and the number of the next fact: it owes
+    /// the restatement of its open instances.
+    pub fn start(alloc: Global, opened: &Opened) -> Result<Core, Refusal>
+        ensures ok { IfOk result (λ core. core ≡ started opened.now.nodes opened.now.node opened.now.promise opened.now.next) }
         ensures err { IfErr result (λ e. e ≡ Refusal.OutOfMemory) }
     {
         // That a promise ascends and that a fact's number has 64 bits is told by these calls alone.
-        let _entries = promise.entries();
+        let _entries = opened.promise().entries();
         let _next = opened.next();
-        let state = match started(alloc, nodes, node, promise, opened) {
+        let state = match started(alloc, opened) {
             Ok(state) => state,
             Err(refusal) => return Err(refusal),
         };

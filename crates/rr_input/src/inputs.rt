@@ -13,7 +13,7 @@ use crate::input::{advanced, heard, submit_refusal, submitted, ticked_on};
 use rr_journal::Opened;
 use rr_settle::{restate_all, settle};
 use rr_step::{Changes, State, Step};
-use rr_types::{Command, Message, NodeId, NodeSet, Nodes, Promise, Refusal};
+use rr_types::{Command, Message, NodeSet, Refusal};
 use std::alloc::Global;
 
 /// All that is due is done: what the step has changed then, if the next fact has a number.
@@ -32,20 +32,13 @@ fn finish(mut step: Step<'_>, alloc: Global) -> Result<Changes, Refusal>
     Ok(step.into_changes())
 }
 
-/// A node after its opening, which gave its promise: it owes the restatement of its open instances.
+/// A node after its opening: it owes the restatement of its open instances.
 #[tactic(auto, unfolding(rr_model::specs::NodeStep::started))]
-pub fn started(
-    alloc: Global,
-    nodes: Nodes,
-    node: NodeId,
-    promise: Promise,
-    opened: &Opened,
-) -> Result<State, Refusal>
-    requires { opened.now.node ≡ node }
-    ensures ok { IfOk result (λ s. s ≡ started nodes node promise opened.now.next) }
+pub fn started(alloc: Global, opened: &Opened) -> Result<State, Refusal>
+    ensures ok { IfOk result (λ s. s ≡ started opened.now.nodes opened.now.node opened.now.promise opened.now.next) }
     ensures err { IfErr result (λ e. e ≡ Refusal.OutOfMemory) }
 {
-    let mut state = match State::restored(alloc, nodes, node, promise, opened) {
+    let mut state = match State::restored(alloc, opened) {
         Ok(state) => state,
         Err(refusal) => return Err(refusal),
     };

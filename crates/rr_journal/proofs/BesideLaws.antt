@@ -1,5 +1,5 @@
 -- What both areas stand for, whatever stands in the area beside the active one.
-use Rattle.std.proofs.Common.{◌≡◌, ◌≢◌, ℕ, ◌+◌, ◌-◌, ◌<◌, Bool, true, false, cond, eqb, leb, ltb, ◌&&◌, List, [], ◌∷◌, length, drop, Result, Ok, refl, ap, ◌∙◌, arith}
+use Rattle.std.proofs.Common.{◌≡◌, ℕ, ◌+◌, ◌-◌, Bool, true, false, cond, eqb, leb, ltb, ◌&&◌, List, [], ◌∷◌, length, Ok, refl, ap, ◌∙◌, arith}
 use Rattle.std.proofs.lemmas.Bool.{and_parts, ne_eqb, le-ltb, lt-ltb}
 use Rattle.std.proofs.lemmas.List.{length-drop}
 use Rattle.rr_disk.specs.declared.area.Area.{Area}
@@ -7,7 +7,7 @@ use Rattle.rr_disk.specs.declared.area.Area.TheVariants.{First, Second}
 use Rattle.rr_disk.specs.Crash.{Images}
 use Rattle.rr_journal.specs.Moments.{image_of, with_image}
 use Rattle.rr_journal.specs.Calls.{must_close}
-use Rattle.rr_image.specs.Image.{Content, Found, Broken, Active, Front, Blank, Begins, frame_behind, front_behind, front_of, content_behind, active, found_by, found}
+use Rattle.rr_image.specs.Image.{Content, Active, Front, Blank, Begins, frame_behind, front_behind, front_of, content_behind, active, found_by, found}
 use Rattle.rr_journal.specs.OtherAreas.{other_area}
 use Rattle.rr_journal.proofs.FoundLaws.{fronts, is_active}
 use Rattle.rr_image.proofs.ReadingLaws.{reaches}

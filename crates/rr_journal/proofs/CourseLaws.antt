@@ -1,8 +1,7 @@
 -- An opening stays on its course: it finds what stands on the disk, and makes the device calls which that asks for.
-use Rattle.std.proofs.Common.{◌≡◌, ◌≢◌, ◌⊎◌, inl, inr, ℕ, suc, Bool, true, false, ◌+◌, ◌-◌, ◌^◌, ◌<◌, ◌≤◌, min, List, [], ◌∷◌, ◌++◌, length, map, take, drop, Ok, Err, refl, sym, ap, subst, ◌∙◌, arith}
+use Rattle.std.proofs.Common.{◌≡◌, ◌≢◌, ◌⊎◌, inl, inr, ℕ, suc, Bool, true, false, ◌+◌, ◌-◌, ◌^◌, ◌<◌, ◌≤◌, min, List, [], ◌∷◌, length, map, take, drop, Ok, Err, refl, sym, ap, subst, ◌∙◌, arith}
 use Rattle.std.proofs.lemmas.List.{take-map}
 use Rattle.std.proofs.Math.Nat.{min-le_left}
-use Rattle.rr_types.specs.declared.promise.Entry.{Entry}
 use Rattle.rr_types.specs.declared.refusal.Refusal.{Refusal}
 use Rattle.rr_types.specs.declared.refusal.Refusal.TheVariants.{OutOfMemory, Device, Damaged}
 use Rattle.rr_disk.specs.declared.area.Area.{Area}
@@ -12,6 +11,7 @@ use Rattle.rr_disk.specs.Areas.{Extent, Areas, bytes_of, firm_cell, at_rest, set
 use Rattle.rr_disk.specs.Counts.{counted}
 use Rattle.rr_frame.specs.SnapshotFormat.{snapshot_bytes}
 use Rattle.rr_journal.specs.declared.journal.Journal.{Journal}
+use Rattle.rr_journal.specs.declared.opened.Opened.{Opened}
 use Rattle.rr_journal.specs.declared.opening.Opening.{Opening}
 use Rattle.rr_journal.specs.declared.opening.Progress.TheVariants as progress
 use Rattle.rr_journal.specs.declared.opening.Phase as code
@@ -212,9 +212,9 @@ module _ {D : Type 0} (tells : D → Type 0) (areas : D → Areas) (calls faults
     last_from end tell call = omega (arith, run.bounded tell, call, one_from now.nodes now.node (phase_of now.phase) (areas now.disk), min-le_left (calls now.disk + 1) (2 ^ 64 - 1))
 
     -- the last step makes the last of the calls
-    pub all_done : (journal : Journal D) (promise : List Entry) (number : ℕ) → tells first.disk → StaysOnCourse areas now (Ok (progress.Done journal promise number)) → calls journal.disk ≡ counted (calls now.disk)
+    pub all_done : (journal : Journal D) (opened : Opened) → tells first.disk → StaysOnCourse areas now (Ok (progress.Done journal opened)) → calls journal.disk ≡ counted (calls now.disk)
         → IsDone (calls_from first.nodes first.node (phase_of first.phase) (areas first.disk)) areas calls first.disk journal.disk
-    all_done journal promise number tell course call = (
+    all_done journal opened tell course call = (
       course.0 ∙ ap (λ (cs : List Call). areas_after cs (areas now.disk)) (sym course.2) ∙ run.same_end tell,
       call ∙ ap (λ (cs : List Call). min (calls now.disk + length cs) (2 ^ 64 - 1)) (sym course.2) ∙ run.counts tell,
     )

@@ -3,13 +3,13 @@ use Rattle.std.proofs.Common.{◌≡◌, ◌≢◌, ◌⊎◌, inl, inr, ℕ, �
 use Rattle.std.specs.Prelude.{IfOk}
 use Rattle.std.proofs.lemmas.List.{length-map}
 use Rattle.rr_types.specs.declared.fact.Fact.{Fact}
-use Rattle.rr_types.specs.declared.promise.Entry.{Entry}
 use Rattle.rr_types.specs.declared.refusal.Refusal.{Refusal}
 use Rattle.rr_disk.specs.declared.cell.Cell.{Cell}
 use Rattle.rr_disk.specs.Areas.{Extent, Areas, bytes_of, firm_cell, settled, synced}
 use Rattle.rr_disk.specs.Crash.{Agrees, MayLeave, Images, IsCrashImage}
 use Rattle.rr_disk.proofs.Agreeing.{at_rest_image}
 use Rattle.rr_journal.specs.declared.journal.Journal.{Journal}
+use Rattle.rr_journal.specs.declared.opened.Opened.{Opened}
 use Rattle.rr_journal.specs.declared.opening.Opening.{Opening}
 use Rattle.rr_image.specs.Image.{Found, Unformatted, Broken, Active, found}
 use Rattle.rr_image.specs.Held.{StandsFor, Holds}
@@ -82,10 +82,10 @@ adds_blank_alone n p old new stands few_first few_second before kept images left
     by (Active area c) is = let other : found_from n p Settling old ≢ Unformatted = λ e. (let none : Active area c ≡ Unformatted = sym is ∙ e in absurd cc) in inl ((before_adds old new stands (before other)).1 images left)
 
 -- of a disk whose every image holds some facts, an opening ends over the facts of one
-pub opens_with_one : {D : Type 0} (areas : D → Areas) (n p : ℕ) (old : Areas) (result : Result (Journal D × List Entry × ℕ) (Refusal × D)) → MayStand old → EachHoldsSome (Holds n p) old
+pub opens_with_one : {D : Type 0} (areas : D → Areas) (n p : ℕ) (old : Areas) (result : Result (Journal D × Opened) (Refusal × D)) → MayStand old → EachHoldsSome (Holds n p) old
     → ((facts : List Fact) → Holds n p (contents old) facts → IfOk result (λ r. IsOpenWith areas facts r)) → IfOk result (λ r. IsOpenWithOneOf areas (Holds n p) old r)
 opens_with_one areas n p old (Err e) stands some opens = tt
-opens_with_one areas n p old (Ok (journal, promise, number)) stands some opens =
+opens_with_one areas n p old (Ok (journal, opened)) stands some opens =
     let held = some (contents old) stands in
     let is = opens held.0 held.1 in
     (held.0, (contents old, stands, held.1), is, rest_held journal.nodes journal.node held.0 is.0.0 (areas journal.disk) is.0.1 is.0.2.holds)

@@ -1,5 +1,5 @@
 -- What an opening finds is a promise that a snapshot of the node can hold.
-use Rattle.std.proofs.Common.{◌≡◌, ℕ, zero, suc, ◌+◌, ◌<◌, ◌≤◌, Bool, true, false, cond, eqb, leb, ltb, ◌&&◌, List, [], ◌∷◌, length, drop, Option, None, Some, Result, Ok, Err, refl, sym, ap, subst, ◌∙◌, arith}
+use Rattle.std.proofs.Common.{◌≡◌, ℕ, zero, suc, ◌+◌, ◌<◌, Bool, true, false, cond, eqb, leb, ltb, ◌&&◌, List, [], ◌∷◌, length, drop, Option, None, Some, Result, Ok, Err, refl, ap, subst, ◌∙◌, arith}
 use Rattle.std.specs.List.{list_all}
 use Rattle.std.proofs.lemmas.Bool.{and_parts, and_from, eqb-true}
 use Rattle.rr_types.specs.declared.fact.Fact.{Fact}
@@ -8,21 +8,21 @@ use Rattle.rr_types.specs.declared.promise.Standing.{Standing}
 use Rattle.rr_types.specs.declared.promise.Standing.TheVariants.{Decided, Open}
 use Rattle.rr_types.specs.declared.promise.Entry.{Entry}
 use Rattle.rr_types.specs.Facts.{instance_of, after_fact}
-use Rattle.rr_types.specs.Rounds.{OpenAt, coordinator_of}
+use Rattle.rr_types.specs.Rounds.{coordinator_of}
 use Rattle.rr_types.specs.Promises.{standing_in, set_entry, set_standing, take_on, take_on_all, all_fit}
-use Rattle.rr_types.specs.Standings.{fits, is_undecided, round_of, stamp_of, proposal_of}
+use Rattle.rr_types.specs.Standings.{fits}
 use Rattle.rr_types.specs.Groups.{Grouped}
 use Rattle.rr_disk.specs.declared.area.Area.{Area}
 use Rattle.rr_frame.specs.Reading.{if_lawful, number_at}
 use Rattle.rr_frame.specs.GroupFormat.{group_in}
-use Rattle.rr_frame.specs.Snapshots.{Snapped, IsSnapshot, IsContents, is_by_coordinator, proposes_lawfully}
+use Rattle.rr_frame.specs.Snapshots.{Snapped, IsSnapshot, IsContents, proposes_lawfully}
 use Rattle.rr_frame.specs.SnapshotFormat.{owner_at, contents_at, snapshot_at, snapshot_in}
 use Rattle.rr_frame.proofs.FactLaws.{at_end_ok}
 use Rattle.rr_frame.proofs.FieldLaws.{bind_ok, ok_is}
 use Rattle.rr_frame.proofs.SnapshotShapes.{contents_stand}
 use Rattle.rr_journal.specs.Moments.{image_of}
-use Rattle.rr_image.specs.Image.{Content, Found, Unformatted, Broken, Active, Front, Blank, Faulty, Begins, frame_behind, with_group, after_payload, after_frame, content_from, is_formatted, of_node, front_behind, front_of, content_behind, found}
-use Rattle.rr_journal.specs.Openings.{Phase, Settling, ReadingFirst, ReadingSecond, Formatting, After, Opens, formatted, after_found, after_opening_call}
+use Rattle.rr_image.specs.Image.{Content, Found, Unformatted, Broken, Active, Blank, Faulty, Begins, frame_behind, with_group, after_payload, after_frame, content_from, is_formatted, of_node, front_behind, front_of, content_behind, found}
+use Rattle.rr_journal.specs.Openings.{Phase, Settling, ReadingFirst, ReadingSecond, Formatting, Opens, formatted, after_found, after_opening_call}
 use Rattle.rr_journal.proofs.FoundLaws.{is_active}
 use Rattle.rr_image.proofs.ReadingLaws.{after_parts}
 

@@ -1,5 +1,5 @@
 -- A snapshot has more bytes than entries.
-use Rattle.std.proofs.Common.{◌≡◌, ℕ, ◌+◌, ◌^◌, ◌≤◌, List, [], ◌∷◌, ◌++◌, length, arith, length-append}
+use Rattle.std.proofs.Common.{◌+◌, ◌^◌, ◌≤◌, List, [], ◌∷◌, ◌++◌, length, arith, length-append}
 use Rattle.std.specs.List.{flat_map}
 use Rattle.rr_types.specs.declared.promise.Entry.{Entry}
 use Rattle.rr_frame.specs.Numbers.{number_bytes}

@@ -1,5 +1,5 @@
 -- A stage's device call is the first of those that are left.
-use Rattle.std.proofs.Common.{◌≡◌, ℕ, ◌≤◌, List, [], ◌∷◌, length, refl, arith}
+use Rattle.std.proofs.Common.{◌≡◌, ℕ, ◌≤◌, List, length, refl, arith}
 use Rattle.rr_disk.specs.declared.area.Area.{Area}
 use Rattle.rr_disk.specs.declared.area.Area.TheVariants.{First}
 use Rattle.rr_journal.specs.declared.stage.Stage.{Stage}

@@ -1,6 +1,5 @@
 -- From one stage of a switch to the next, and what a crash may leave behind a device call of it.
-use Rattle.std.proofs.Common.{◌≡◌, ◌≢◌, ◌⊎◌, inl, inr, ℕ, ◌+◌, ◌<◌, Bool, true, false, ◌^◌, List, [], ◌∷◌, ◌++◌, length, get_or, take, drop, Option, None, Some, refl, sym, ap, subst, ◌∙◌, arith}
-use Rattle.std.proofs.lemmas.List.{append-nil}
+use Rattle.std.proofs.Common.{◌≡◌, ◌≢◌, ◌⊎◌, inl, inr, ℕ, ◌+◌, ◌<◌, Bool, true, false, ◌^◌, List, [], ◌∷◌, length, get_or, drop, Option, None, Some, refl, sym, ap, subst, ◌∙◌, arith}
 use Rattle.rr_types.specs.declared.fact.Fact.{Fact}
 use Rattle.rr_types.specs.declared.promise.Entry.{Entry}
 use Rattle.rr_types.specs.Promises.{promise_of}
@@ -11,12 +10,12 @@ use Rattle.rr_disk.specs.Crash.{Images, IsCrashImage, restarted}
 use Rattle.rr_disk.proofs.Torn.{torn_written}
 use Rattle.rr_frame.specs.SnapshotFormat.{snapshot_bytes, IsLawfulSnapshot}
 use Rattle.rr_journal.specs.Flushes.{Flush}
-use Rattle.rr_journal.specs.Moments.{image_of, with_image, with_group, EachHolds, IsAt, body_due, gate_opened, body_written}
-use Rattle.rr_journal.proofs.Content.{extent_restarted, image_of_with, with_with, synced_written}
+use Rattle.rr_journal.specs.Moments.{image_of, with_image, with_group, EachHolds, gate_opened, body_written}
+use Rattle.rr_journal.proofs.Content.{extent_restarted, image_of_with, synced_written}
 use Rattle.rr_journal.proofs.Table.{due_holds, out_holds, safe_holds, set_holds, to_out, to_safe, to_set, to_group, body_refused, gate_refused}
 use Rattle.rr_journal.specs.declared.journal.Journal.{Journal}
 use Rattle.rr_journal.specs.Calls.{Write, after_call, frame_bytes, must_close}
-use Rattle.rr_image.specs.Image.{Content, Found, Active, found}
+use Rattle.rr_image.specs.Image.{Content, Active}
 use Rattle.rr_image.specs.Held.{Holds}
 use Rattle.rr_journal.specs.Journals.{IsOver}
 use Rattle.rr_journal.specs.OpeningTable.{IsLeftBy}
@@ -28,11 +27,11 @@ use Rattle.rr_journal.specs.declared.stage.Stage.{Stage}
 use Rattle.rr_journal.specs.declared.stage.Stage.TheVariants.{Closing, SettlingClosed, WritingBody, SettlingBody, OpeningGate, SettlingGate}
 use Rattle.rr_journal.specs.declared.switch.Switching as code
 use Rattle.rr_journal.specs.declared.switch.Switching.TheVariants as switching
-use Rattle.rr_journal.specs.Stages.{first_stage, call_at, stage_behind}
+use Rattle.rr_journal.specs.Stages.{first_stage, stage_behind}
 use Rattle.rr_journal.specs.Switches.{Switch, snapshot_of, due_call, switched}
 use Rattle.rr_journal.specs.SwitchTable.{GoesOn, IsSlotsOver, flush_of, IsSwitchOf, IsAtStage, IsSwitching, StandsBehind}
 use Rattle.rr_journal.proofs.BesideLaws.{active_closes, blank_beside}
-use Rattle.rr_journal.proofs.GroundLaws.{content_of, snap_of, held_beside, closing_images, found_snapped, held_snapped, grounded}
+use Rattle.rr_journal.proofs.GroundLaws.{held_beside, closing_images, found_snapped, held_snapped, grounded}
 
 -- a switch of these areas in some stage
 abbrev pub switch_of : {D : Type 0} → Journal D → List Fact → ℕ → Stage → Switch

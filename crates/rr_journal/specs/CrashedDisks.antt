@@ -1,11 +1,11 @@
 -- An opening of a disk of which a crash may leave many images, each with facts of its own.
 use Rattle.std.specs.Prelude.{◌≡◌, ◌⊎◌, ℕ, List, []}
 use Rattle.rr_types.specs.declared.fact.Fact.{Fact}
-use Rattle.rr_types.specs.declared.promise.Entry.{Entry}
 use Rattle.rr_disk.specs.Areas.{Areas}
 use Rattle.rr_disk.specs.Crash.{Images, IsCrashImage}
 use Rattle.rr_journal.specs.Moments.{EachHolds}
 use Rattle.rr_journal.specs.declared.journal.Journal.{Journal}
+use Rattle.rr_journal.specs.declared.opened.Opened.{Opened}
 use Rattle.rr_image.specs.Image.{Unformatted, found}
 use Rattle.rr_image.specs.Held.{Holds}
 use Rattle.rr_journal.specs.Openings.{Phase, Settling, ReadingFirst, ReadingSecond, Formatting}
@@ -25,9 +25,9 @@ abbrev pub SomeHolds : (Images → List Fact → Type 0) → Areas → List Fact
 SomeHolds holds both facts = (images : Images) × IsCrashImage both images × holds images facts
 
 -- the journal is over the facts of one of the images that a crash might have left, and every image now holds these
-abbrev pub IsOpenWithOneOf : {D : Type 0} → (D → Areas) → (Images → List Fact → Type 0) → Areas → Journal D × List Entry × ℕ → Type 0
-IsOpenWithOneOf areas holds old (journal, promise, number) =
-    (facts : List Fact) × SomeHolds holds old facts × IsOpenWith areas facts (journal, promise, number) × EachHolds (Holds journal.nodes journal.node) (areas journal.disk) facts
+abbrev pub IsOpenWithOneOf : {D : Type 0} → (D → Areas) → (Images → List Fact → Type 0) → Areas → Journal D × Opened → Type 0
+IsOpenWithOneOf areas holds old (journal, opened) =
+    (facts : List Fact) × SomeHolds holds old facts × IsOpenWith areas facts (journal, opened) × EachHolds (Holds journal.nodes journal.node) (areas journal.disk) facts
 
 -- an opening in this phase formats nothing yet
 abbrev pub IsReading : Phase → Type 0

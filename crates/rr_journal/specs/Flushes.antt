@@ -16,8 +16,3 @@ pub record Flush : Type 0 where
 pub record Kept : Type 0 where
   pub node : ℕ
   pub group : Grouped
-
--- the end of an opening: the node, and the number of its next fact
-pub record Opening : Type 0 where
-  pub node : ℕ
-  pub next : ℕ

@@ -1,5 +1,5 @@
 -- A journal over an open disk.
-use Rattle.std.specs.Prelude.{◌≡◌, ℕ, ◌+◌, false, List, length}
+use Rattle.std.specs.Prelude.{◌≡◌, ◌+◌, false, List, length}
 use Rattle.rr_types.specs.declared.fact.Fact.{Fact}
 use Rattle.rr_types.specs.Promises.{promise_of}
 use Rattle.rr_disk.specs.Crash.{Images}

@@ -1,6 +1,5 @@
 -- What an opening makes of the bytes as they stand: what it finds, the device calls that are left, and how it ends.
 use Rattle.std.specs.Prelude.{◌≡◌, ◌⊎◌, ℕ, ◌+◌, ◌-◌, ◌^◌, min, List, [], ◌∷◌, length, Result, Ok, Err}
-use Rattle.rr_types.specs.declared.promise.Entry.{Entry}
 use Rattle.rr_types.specs.declared.refusal.Refusal.{Refusal}
 use Rattle.rr_types.specs.declared.refusal.Refusal.TheVariants.{OutOfMemory, Device, Damaged}
 use Rattle.rr_disk.specs.declared.area.Area.{Area}
@@ -8,6 +7,7 @@ use Rattle.rr_disk.specs.declared.area.Area.TheVariants.{First, Second}
 use Rattle.rr_disk.specs.Areas.{Extent, Areas, read_of, synced}
 use Rattle.rr_disk.specs.Counts.{Grew}
 use Rattle.rr_journal.specs.declared.journal.Journal.{Journal}
+use Rattle.rr_journal.specs.declared.opened.Opened.{Opened}
 use Rattle.rr_journal.specs.declared.opening.Opening as code
 use Rattle.rr_journal.specs.declared.opening.Progress as code_2
 use Rattle.rr_journal.specs.declared.opening.Progress.TheVariants as progress
@@ -65,8 +65,8 @@ abbrev pub IsDone : {D : Type 0} → List Call → (D → Areas) → (D → ℕ)
 IsDone calls areas counts old new = (areas new ≡ areas_after calls (areas old)) × (counts new ≡ min (counts old + length calls) (2 ^ 64 - 1))
 
 -- an opening that found this ends so, or is refused for memory or by the device
-abbrev pub EndsBy : {D : Type 0} → Found → Result (Journal D × List Entry × ℕ) (Refusal × D) → Type 0
-EndsBy found (Ok (journal, promise, number)) = end_by found ≡ Opens journal.area (record { epoch = journal.epoch; promise = promise; next = number; gate = journal.gate })
+abbrev pub EndsBy : {D : Type 0} → Found → Result (Journal D × Opened) (Refusal × D) → Type 0
+EndsBy found (Ok (journal, opened)) = end_by found ≡ Opens journal.area (record { epoch = journal.epoch; promise = opened.promise; next = opened.next; gate = journal.gate })
 EndsBy found (Err (e, disk)) = (e ≡ OutOfMemory) ⊎ (e ≡ Device) ⊎ (end_by found ≡ Stops e)
 
 -- behind a step an opening finds what it would have found, and makes the calls that were left but one; or it ends so, or is refused for memory or by the device
@@ -74,8 +74,8 @@ abbrev pub StaysOnCourse : {D : Type 0} → (D → Areas) → code.Opening D →
 StaysOnCourse areas o (Ok (progress.More next)) = (areas next.disk ≡ after_call (due_call (phase_of o.phase)) (areas o.disk))
     × (found_from next.nodes next.node (phase_of next.phase) (areas next.disk) ≡ found_from o.nodes o.node (phase_of o.phase) (areas o.disk))
     × (calls_from o.nodes o.node (phase_of o.phase) (areas o.disk) ≡ due_call (phase_of o.phase) ∷ calls_from next.nodes next.node (phase_of next.phase) (areas next.disk))
-StaysOnCourse areas o (Ok (progress.Done journal promise number)) = (areas journal.disk ≡ after_call (due_call (phase_of o.phase)) (areas o.disk))
-    × (end_by (found_from o.nodes o.node (phase_of o.phase) (areas o.disk)) ≡ Opens journal.area (record { epoch = journal.epoch; promise = promise; next = number; gate = journal.gate }))
+StaysOnCourse areas o (Ok (progress.Done journal opened)) = (areas journal.disk ≡ after_call (due_call (phase_of o.phase)) (areas o.disk))
+    × (end_by (found_from o.nodes o.node (phase_of o.phase) (areas o.disk)) ≡ Opens journal.area (record { epoch = journal.epoch; promise = opened.promise; next = opened.next; gate = journal.gate }))
     × (calls_from o.nodes o.node (phase_of o.phase) (areas o.disk) ≡ due_call (phase_of o.phase) ∷ [])
 StaysOnCourse areas o (Err (e, disk)) = (e ≡ OutOfMemory) ⊎ (e ≡ Device) ⊎ (end_by (found_from o.nodes o.node (phase_of o.phase) (areas o.disk)) ≡ Stops e)
 

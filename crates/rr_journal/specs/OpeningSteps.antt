@@ -17,9 +17,9 @@ module _ {D : Type 0} (of_read : D → Area → ℕ → ℕ → Result (Vec ℕ 
   abbrev pub Steps : code.Opening D → Result (code_2.Progress D) (Refusal × D) → Type 0
   Steps o (Ok (progress.More next)) = (v : Vec ℕ Global) × Done of_read of_write of_sync (due_call (phase_of o.phase)) o.disk v next.disk
       × (after_opening_call o.nodes o.node v.items (phase_of o.phase) ≡ Goes (phase_of next.phase)) × (next.nodes ≡ o.nodes) × (next.node ≡ o.node)
-  Steps o (Ok (progress.Done journal promise number)) = (v : Vec ℕ Global) × Done of_read of_write of_sync (due_call (phase_of o.phase)) o.disk v journal.disk
-      × (after_opening_call o.nodes o.node v.items (phase_of o.phase) ≡ Opens journal.area (record { epoch = journal.epoch; promise = promise; next = number; gate = journal.gate }))
-      × (journal ≡ record { disk = journal.disk; nodes = o.nodes; node = o.node; area = journal.area; epoch = journal.epoch; gate = journal.gate; next = number; failed = false; busy = false; closes_other = journal.closes_other })
+  Steps o (Ok (progress.Done journal opened)) = (v : Vec ℕ Global) × Done of_read of_write of_sync (due_call (phase_of o.phase)) o.disk v journal.disk
+      × (after_opening_call o.nodes o.node v.items (phase_of o.phase) ≡ Opens journal.area (record { epoch = journal.epoch; promise = opened.promise; next = opened.next; gate = journal.gate }))
+      × (journal ≡ record { disk = journal.disk; nodes = o.nodes; node = o.node; area = journal.area; epoch = journal.epoch; gate = journal.gate; next = opened.next; failed = false; busy = false; closes_other = journal.closes_other }) × (opened.nodes ≡ o.nodes) × (opened.node ≡ o.node)
   Steps o (Err (e, disk)) = Refused of_read of_write of_sync (due_call (phase_of o.phase)) o.disk e disk
       ⊎ ((v : Vec ℕ Global) × Done of_read of_write of_sync (due_call (phase_of o.phase)) o.disk v disk
       × (((e ≡ OutOfMemory) × TakesMemory (phase_of o.phase)) ⊎ (after_opening_call o.nodes o.node v.items (phase_of o.phase) ≡ Stops e)))
@@ -27,4 +27,4 @@ module _ {D : Type 0} (of_read : D → Area → ℕ → ℕ → Result (Vec ℕ 
 -- where an opening ends, a snapshot of the next epoch can hold the promise
 abbrev pub MaySnap : {D : Type 0} → code_2.Progress D → Type 0
 MaySnap (progress.More next) = Unit {0}
-MaySnap (progress.Done journal promise number) = IsSnapshot (record { node = journal.node; nodes = journal.nodes; epoch = journal.epoch + 1; next = number; entries = promise })
+MaySnap (progress.Done journal opened) = IsSnapshot (record { node = journal.node; nodes = journal.nodes; epoch = journal.epoch + 1; next = opened.next; entries = opened.promise })

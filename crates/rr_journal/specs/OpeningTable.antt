@@ -102,7 +102,7 @@ GoesOnWith n p facts (next.Open area epoch gate promise number) both =
 -- a step of such an opening gives one, or a journal over these facts, their promise and how many they are
 abbrev pub ComesTo : {D : Type 0} → (D → Areas) → List Fact → code_3.Progress D → Type 0
 ComesTo areas facts (progress.More opening) = OpensWith opening.nodes opening.node facts opening.phase (areas opening.disk)
-ComesTo areas facts (progress.Done journal promise number) = IsOpenWith areas facts (journal, promise, number)
+ComesTo areas facts (progress.Done journal opened) = IsOpenWith areas facts (journal, opened)
 
 -- both areas are as they were, or every image that a crash may leave holds these facts
 abbrev pub IsKept : (Images → List Fact → Type 0) → List Fact → Areas → Areas → Type 0
@@ -111,5 +111,5 @@ IsKept holds facts old new = (new ≡ old) ⊎ EachHolds holds new facts
 -- the disk behind a step, whatever it answered
 abbrev pub disk_after : {D : Type 0} → Result (code_3.Progress D) (Refusal × D) → D
 disk_after (Ok (progress.More opening)) = opening.disk
-disk_after (Ok (progress.Done journal promise number)) = journal.disk
+disk_after (Ok (progress.Done journal opened)) = journal.disk
 disk_after (Err (e, disk)) = disk

@@ -46,4 +46,4 @@ IsOtherKnown areas journal = journal.closes_other ≡ closes_in (areas journal.d
 -- the same behind a step of an opening
 abbrev pub KnowsOther : {D : Type 0} → (D → Areas) → code.Progress D → Type 0
 KnowsOther areas (progress.More o) = KnowsFronts (phase_of o.phase) o.fronts (areas o.disk)
-KnowsOther areas (progress.Done journal promise number) = IsOtherKnown areas journal
+KnowsOther areas (progress.Done journal opened) = IsOtherKnown areas journal

@@ -1,5 +1,5 @@
 -- What stands on a disk in each stage of a switch, and what a crash may leave then.
-use Rattle.std.specs.Prelude.{◌≡◌, ℕ, ◌+◌, ◌^◌, ◌<◌, true, List, [], ◌∷◌, length, None, Some}
+use Rattle.std.specs.Prelude.{◌≡◌, ◌+◌, ◌^◌, ◌<◌, true, List, [], ◌∷◌, length, None, Some}
 use Rattle.rr_types.specs.declared.fact.Fact.{Fact}
 use Rattle.rr_types.specs.Promises.{promise_of}
 use Rattle.rr_disk.specs.Areas.{Areas}

@@ -96,9 +96,9 @@ impl<S: Drop> Job<S> {
 }
 
 impl Job<Body> {
-    /// A flush of this group of a node, of so many nodes. Behind the last gate, at this place of the area, it will
-    /// write this body: the bytes of the group and a closed gate.
-    pub fn new(
+    // A flush of this group of a node, of so many nodes. Behind the last gate, at this place of the area, it will
+    // write this body: the bytes of the group and a closed gate.
+    pub(crate) fn new(
         nodes: Nodes,
         node: NodeId,
         area: Area,

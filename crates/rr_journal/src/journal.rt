@@ -150,8 +150,8 @@ impl<D: Disk> Journal<D> {
 
     /// Begins to flush a group: the job will append its frame behind the last gate. A refused group is handed
     /// back, and the journal is unchanged.
-    /// Errors: `Failed` after a device failure, `Busy` while a job runs, `TooLarge` where the frame would pass
-    /// byte 4,294,967,295 of the area, `OutOfMemory`.
+    /// Errors, of which the first that applies is answered: `Failed` after a device failure; `Busy` while a job runs;
+    /// `TooLarge` where the frame would pass byte 4,294,967,295 of the area, or `OutOfMemory`.
     pub fn begin(&mut self, alloc: Global, group: Group) -> Result<Job<Body>, (Refusal, Group)>
         ensures ok { IfOk result (λ job. (self.old.failed ≡ false) × (self.old.busy ≡ false)
             × (self.old.gate + 6 + length (group_bytes group) < 2 ^ 32) × (self.new ≡ record self.old { busy = true })
@@ -160,6 +160,7 @@ impl<D: Disk> Journal<D> {
         ensures refused { IfErr result (λ r. (r.1 ≡ group) × (self.new ≡ self.old)) }
         ensures cause { IfErr result (λ r. (r.0 ≡ OutOfMemory) ⊎ ((r.0 ≡ Failed) × (self.old.failed ≡ true)) ⊎ ((r.0 ≡ Busy) × (self.old.busy ≡ true))
             ⊎ ((r.0 ≡ TooLarge) × (2 ^ 32 ≤ self.old.gate + 6 + length (group_bytes group)))) }
+        ensures order { IfErr result (λ r. (self.old.failed ≡ true → r.0 ≡ Failed) × (self.old.failed ≡ false → self.old.busy ≡ true → r.0 ≡ Busy)) }
         ensures table { (start : Images) (facts : List Fact) → D.areas self.old.disk ≡ restarted start → IsOver self.old start facts
             → all_fit self.old.nodes self.old.node [] (facts ++ group.facts) ≡ true → group.serial ≡ length facts
             → IfOk result (λ job. IsAt body_due (Holds self.old.nodes self.old.node) job start facts (D.areas self.new.disk)

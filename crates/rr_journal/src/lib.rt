@@ -17,6 +17,7 @@ mod stage;
 mod switch;
 mod switch_call;
 mod synced;
+mod trust;
 
 pub use job::{Body, BodyOut, BodySafe, GateSet, Job};
 pub use journal::{Journal, frame};

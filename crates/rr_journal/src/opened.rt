@@ -1,41 +1,26 @@
 //! What an opening ends with.
 
-ghost use Rattle.std.specs.Prelude.{◌≡◌, ℕ, List, length};
-ghost use Rattle.rr_types.specs.declared.fact.Fact.{Fact};
-ghost use Rattle.rr_disk.specs.Crash.{Images, IsCrashImage};
-ghost use Rattle.rr_image.specs.Held.{Holds};
+ghost use Rattle.std.specs.Prelude.{◌≡◌};
 
-use crate::journal::Journal;
-use rr_disk::Disk;
-use rr_types::{NodeId, Nodes};
-use std::marker::Model;
+use rr_types::{NodeId, Nodes, Promise};
 
-/// The end of an opening: whose it was, and the number of the node's next fact.
+/// The end of an opening: which node's it was, of how many, the promise of the facts that the disk held, and the
+/// number of the next one. It comes of the last step of an opening, and of `Opened::on_trust` where the disk tells no
+/// bytes.
 #[derive(Debug, Drop)]
 pub struct Opened {
-    node: NodeId,
-    next: u64,
-}
-
-impl Model for Opened {
-    ghost use Rattle.rr_journal.specs.Flushes.{Opening};
-
-    ghost Value = { Opening };
-
-    ghost view = { λ o. record { node = o.node; next = o.next } };
+    pub(crate) nodes: Nodes,
+    pub(crate) node: NodeId,
+    pub(crate) promise: Promise,
+    pub(crate) next: u64,
 }
 
 impl Opened {
-    /// The end of an opening of this journal. It asks that, whatever a crash may leave of its disk, the next
-    /// number is how many facts it holds.
-    pub fn new<D: Disk>(journal: &Journal<D>, nodes: Nodes, node: NodeId, next: u64) -> Opened
-        requires { D.tells journal.now.disk → (images : Images) → IsCrashImage (D.areas journal.now.disk) images
-            → (facts : List Fact) → Holds nodes node images facts → length facts ≡ next }
-        ensures { result ≡ record { node = node; next = next } }
+    /// How many nodes there are.
+    pub fn nodes(&self) -> Nodes
+        ensures { result ≡ self.now.nodes }
     {
-        let _journal = journal;
-        let _nodes = nodes;
-        Opened { node, next }
+        self.nodes
     }
 
     /// Whose opening it was.
@@ -45,7 +30,27 @@ impl Opened {
         self.node
     }
 
-    /// The number of the node's next fact.
+    /// The promise of the facts that the disk held.
+    pub fn promise(&self) -> &Promise
+        ensures { result.now ≡ self.now.promise }
+    {
+        &self.promise
+    }
+
+    /// The promise of the facts that the disk held.
+    pub fn into_promise(self) -> Promise
+        ensures { result ≡ self.promise }
+    {
+        let Opened {
+            nodes: _,
+            node: _,
+            promise,
+            next: _,
+        } = self;
+        promise
+    }
+
+    /// The number of the node's next fact: how many facts the disk held.
     pub fn next(&self) -> u64
         ensures { result ≡ self.now.next }
     {

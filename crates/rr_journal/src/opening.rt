@@ -22,6 +22,7 @@ ghost use Rattle.rr_journal.specs.Stages.{calls_from as stage_calls};
 ghost use Rattle.rr_journal.specs.OtherAreas.{front_beside, KnowsFronts, KnowsRead, KnowsOther, IsOtherKnown};
 
 use crate::journal::{Journal, frame};
+use crate::opened::Opened;
 use crate::stage::Stage;
 use rr_disk::{Area, Disk, FailingDisk};
 use rr_frame::{Snapshot, encode_snapshot};
@@ -76,8 +77,8 @@ pub struct Opening<D: Disk> {
 pub enum Progress<D: Disk> {
     /// More device calls are due.
     More(Opening<D>),
-    /// The journal, the promise of the facts that it holds, and the number of the next fact.
-    Done(Journal<D>, Promise, u64),
+    /// The journal, and the end of its opening.
+    Done(Journal<D>, Opened),
 }
 
 impl<D: Disk> Opening<D> {
@@ -163,8 +164,12 @@ impl<D: Disk> Opening<D> {
                         let closes_other = fronts.beside(area);
                         Ok(Progress::Done(
                             Journal::new(disk, nodes, node, area, epoch, gate, next, closes_other),
-                            promise,
-                            next,
+                            Opened {
+                                nodes,
+                                node,
+                                promise,
+                                next,
+                            },
                         ))
                     }
                 }
@@ -172,10 +177,10 @@ impl<D: Disk> Opening<D> {
         }
     }
 
-    /// Makes all device calls that are left: the journal, the promise of the facts that it holds, and the
-    /// number of the next fact. A refused opening hands its disk back.
+    /// Makes all device calls that are left: the journal, and the end of its opening. A refused opening hands its
+    /// disk back.
     /// Errors: as of `step`.
-    pub fn finish(self, alloc: Global) -> Result<(Journal<D>, Promise, u64), (Refusal, D)>
+    pub fn finish(self, alloc: Global) -> Result<(Journal<D>, Opened), (Refusal, D)>
         requires { self.node < self.nodes }
         ensures calls { D.calls (disk_behind result) ≤ D.calls self.disk + calls_left (phase_of self.phase) }
         ensures faults { D.faults self.disk ≤ D.faults (disk_behind result) }
@@ -200,24 +205,22 @@ impl<D: Disk> Opening<D> {
             match opening.step(alloc) {
                 Err(refused) => return Err(refused),
                 Ok(Progress::More(next)) => opening = next,
-                Ok(Progress::Done(journal, promise, number)) => {
-                    return Ok((journal, promise, number));
-                }
+                Ok(Progress::Done(journal, opened)) => return Ok((journal, opened)),
             }
         }
     }
 }
 
 impl<D: Disk> Journal<D> {
-    /// Opens the disk of one of the nodes by all steps of an `Opening`: the journal, the promise of the facts that
-    /// it holds, and the number of the next fact. A refused opening hands its disk back.
+    /// Opens the disk of one of the nodes by all steps of an `Opening`: the journal, and the end of its opening. A
+    /// refused opening hands its disk back.
     /// Errors: `OutOfMemory`, `Device`; `Damaged`, of a disk that holds no facts.
     pub fn open(
         alloc: Global,
         nodes: Nodes,
         node: NodeId,
         disk: D,
-    ) -> Result<(Journal<D>, Promise, u64), (Refusal, D)>
+    ) -> Result<(Journal<D>, Opened), (Refusal, D)>
         requires { node < nodes }
         ensures calls { D.calls (disk_behind result) ≤ D.calls disk + 9 }
         ensures faults { D.faults disk ≤ D.faults (disk_behind result) }

@@ -45,6 +45,7 @@ impl<D: Disk> Journal<D> {
         ensures lawful { OnOk result (IsLawfulSnapshot (snapshot_of self.old promise)) }
         ensures refused { IfErr result (λ e. (self.new ≡ self.old) × ((e ≡ OutOfMemory) ⊎ ((e ≡ Failed) × (self.old.failed ≡ true)) ⊎ ((e ≡ Busy) × (self.old.busy ≡ true))
             ⊎ ((e ≡ TooLarge) × ((2 ^ 64 ≤ self.old.epoch + 1) ⊎ (2 ^ 32 ≤ 6 + length (snapshot_bytes (snapshot_of self.old promise))))))) }
+        ensures order { IfErr result (λ e. (self.old.failed ≡ true → e ≡ Failed) × (self.old.failed ≡ false → self.old.busy ≡ true → e ≡ Busy)) }
         ensures table { (start : Images) (facts : List Fact) → D.areas self.old.disk ≡ restarted start → IsSlotsOver self.old start facts → promise ≡ promise_of facts
             → IfOk result (λ job. IsSwitching self.new job facts (D.areas self.new.disk)) }
     {

@@ -18,6 +18,7 @@ use Rattle.rr_journal.specs.declared.journal.Journal.{Journal}
 use Rattle.rr_journal.specs.declared.opening.Opening.{Opening}
 use Rattle.rr_journal.specs.declared.opening.Phase as code
 use Rattle.rr_journal.specs.declared.opening.Phase.TheVariants as step
+use Rattle.rr_journal.specs.declared.opened.Opened.{Opened}
 use Rattle.rr_journal.specs.declared.opening.Progress as of_journal
 use Rattle.rr_journal.specs.declared.opening.Progress.TheVariants as of_journal_is
 use Rattle.rr_journal.specs.declared.stage.Stage.{Stage}
@@ -31,7 +32,7 @@ use Rattle.rr_journal.specs.Stages.{calls_from}
 use Rattle.rr_journal.specs.OtherAreas.{IsOtherKnown}
 use Rattle.rr_recover.specs.declared.steps.Progress as progress_of
 use Rattle.rr_recover.specs.declared.steps.Progress.TheVariants as progress
-use Rattle.rr_recover.specs.Recoveries.{as_step, IsStarted, StandsFor, Recovers}
+use Rattle.rr_recover.specs.Recoveries.{end_of, as_step, IsStarted, StandsFor, Recovers}
 use Rattle.rr_node.specs.declared.doing.Doing as doing
 use Rattle.rr_node.specs.declared.doing.Doing.TheVariants as does
 use Rattle.rr_node.specs.declared.event.NodeEvent.TheVariants as at
@@ -102,7 +103,7 @@ stepped n p phase old new from to v after h count is =
 -- a step that wasn't refused is one of the journal's
 not_refused : (o : Opening NodeDisk) (x : progress_of.Progress NodeDisk) → Recovered o (Ok x) → Stepped o (as_step (Ok x))
 not_refused o x (inl steps) = steps
-not_refused o x (inr (j, promise, number, steps, e)) = absurd cc
+not_refused o x (inr (j, end, steps, e)) = absurd cc
 
 -- an opening that goes on
 pub opens_more : (n p : ℕ) (o next : Opening NodeDisk) → Recovered o (Ok (progress.More next)) → next.disk.calls ≡ counted o.disk.calls → Carries n p at.Device (does.Opening o) (Ok Quiet) (does.Opening next)
@@ -135,11 +136,11 @@ ends_by n p bytes (step.Formatting stage body) area c e = by stage e
     by due.SettlingGate e = λ before after from to m q is count. rw (is, count) refl
 
 -- what is wanting at the end of an opening leaves the node down
-starved_end : (n p : ℕ) (o : Opening NodeDisk) (j : Journal NodeDisk) (promise : List Entry) (number : ℕ) → Stepped o (Ok (of_journal_is.Done j promise number)) → j.disk.calls ≡ counted o.disk.calls → IsSteady n p (does.Opening o)
+starved_end : (n p : ℕ) (o : Opening NodeDisk) (j : Journal NodeDisk) (end : Opened) → Stepped o (Ok (of_journal_is.Done j end)) → j.disk.calls ≡ counted o.disk.calls → IsSteady n p (does.Opening o)
     → (starve_opening (phase_of o.phase) (due_call (phase_of o.phase)) (seat_in n p (phase_of o.phase) o.disk.below.areas o.disk.calls) ≡ (let down : Answer = (Err because.OutOfMemory, seat_of n p (does.Stopped j.disk)) in down)) × (j.disk.due ≡ None)
-starved_end n p o j promise number (v, made, opens, is) count h =
+starved_end n p o j end (v, made, opens, is, of_nodes, of_node) count h =
     let done = made_below (due_call (phase_of o.phase)) o.disk j.disk v h.2 made in
-    let content : Content = record { epoch = j.epoch; promise = promise; next = number; gate = j.gate } in
+    let content : Content = record { epoch = j.epoch; promise = end.promise; next = end.next; gate = j.gate } in
     (ends_by o.nodes o.node v.items o.phase j.area content opens o.disk.below.areas j.disk.below.areas o.disk.calls j.disk.calls n p (done_areas (due_call (phase_of o.phase)) o.disk.below j.disk.below v done.0) count, done.1)
 
 -- an opening that ends
@@ -147,8 +148,8 @@ pub opens_done : (n p : ℕ) (o : Opening NodeDisk) (core : NodeState) (j : Jour
     → StandsFor areas_in core.marked j → IsOtherKnown areas_in j → IsSnapshot (record { node = j.node; nodes = j.nodes; epoch = j.epoch + 1; next = j.next; entries = core.marked }) → j.disk.calls ≡ counted o.disk.calls → Serves n p core j answer new → Carries n p at.Device (does.Opening o) answer new
 opens_done n p o core j answer new recovered starts stands fronts snaps count serves h = by_steps (not_refused o (progress.Done core j) recovered)
   where
-    by_steps : Stepped o (Ok (of_journal_is.Done j core.marked j.next)) → Gives at.Device (seat_of n p (does.Opening o)) answer (seat_of n p new) × IsSteady n p new
-    by_steps (v, made, opens, is) = by (serves opened started_here own_snaps)
+    by_steps : Stepped o (Ok (of_journal_is.Done j (end_of core j))) → Gives at.Device (seat_of n p (does.Opening o)) answer (seat_of n p new) × IsSteady n p new
+    by_steps (v, made, opens, is, of_nodes, of_node) = by (serves opened started_here own_snaps)
       where
         done : Done MemoryRead MemoryWrite MemorySync (due_call (phase_of o.phase)) o.disk.below v j.disk.below × (j.disk.due ≡ None)
         done = made_below (due_call (phase_of o.phase)) o.disk j.disk v h.2 made
@@ -193,7 +194,7 @@ opens_done n p o core j answer new recovered starts stands fronts snaps count se
 
         by : ((given ≡ seats.serves j.area content (seat_of n p (does.Stopped j.disk))) ⊎ (given ≡ (Err because.OutOfMemory, seat_of n p (does.Stopped j.disk)))) × IsSteady n p new → Gives at.Device (seat_of n p (does.Opening o)) answer (seat_of n p new) × IsSteady n p new
         by (inl serving, steady) = (inl (serving ∙ own), steady)
-        by (inr memory, steady) = (inr (memory ∙ sym (starved_end n p o j core.marked j.next (v, made, opens, is) count h).0), steady)
+        by (inr memory, steady) = (inr (memory ∙ sym (starved_end n p o j (end_of core j) (v, made, opens, is, of_nodes, of_node) count h).0), steady)
 
 -- what is found stops an opening by no device
 stops_by : (n p : ℕ) (bytes : List ℕ) (phase : code.Phase) (e : Refusal) → after_opening_call n p bytes (phase_of phase) ≡ Stops e → e ≢ because.Device
@@ -268,7 +269,7 @@ wanting_memory e new j is =
 -- an opening that is refused by its device
 pub opens_fallen : (n p : ℕ) (o : Opening NodeDisk) (e : Refusal) (new : NodeDisk) → Recovered o (Err (e, new)) → new.calls ≡ counted o.disk.calls → e ≡ because.Device → Carries n p at.Device (does.Opening o) (Err e) (does.Faulted new)
 opens_fallen n p o e new (inl steps) count device h = let x = stopped n p o e new h.0 h.1 h.2 count steps in (x.0.0 device, x.1)
-opens_fallen n p o e new (inr (j, promise, number, steps, is)) count device h = absurd (memory_device (sym (wanting_memory e new j is).0 ∙ device))
+opens_fallen n p o e new (inr (j, ending, steps, is)) count device h = absurd (memory_device (sym (wanting_memory e new j is).0 ∙ device))
   where
     memory_device : because.OutOfMemory ≢ because.Device
     memory_device x = cc
@@ -276,9 +277,9 @@ opens_fallen n p o e new (inr (j, promise, number, steps, is)) count device h = 
 -- an opening that is refused by memory or for what was found
 pub opens_stopped : (n p : ℕ) (o : Opening NodeDisk) (e : Refusal) (new : NodeDisk) → Recovered o (Err (e, new)) → new.calls ≡ counted o.disk.calls → e ≢ because.Device → Carries n p at.Device (does.Opening o) (Err e) (does.Stopped new)
 opens_stopped n p o e new (inl steps) count other h = let x = stopped n p o e new h.0 h.1 h.2 count steps in (x.0.1 other, x.1)
-opens_stopped n p o e new (inr (j, promise, number, steps, is)) count other h =
+opens_stopped n p o e new (inr (j, ending, steps, is)) count other h =
     let wanting = wanting_memory e new j is in
-    let end = starved_end n p o j promise number steps (ap (λ (d : NodeDisk). d.calls) (sym wanting.1) ∙ count) h in
+    let end = starved_end n p o j ending steps (ap (λ (d : NodeDisk). d.calls) (sym wanting.1) ∙ count) h in
     rw (wanting.0, wanting.1) (inr (sym end.0), end.1)
 
 -- the device call that is due in an opening fails

@@ -14,8 +14,8 @@ use crate::event::{BoundNames, NodeEvent, Outcome};
 use crate::serving::Serving;
 use rr_core::Core;
 use rr_disk::{FailingDisk, MemDisk};
-use rr_recover::{Opening, Progress};
 use rr_journal::Journal;
+use rr_recover::{Opening, Progress};
 use rr_types::{NodeId, Nodes, Refusal};
 use std::alloc::Global;
 

@@ -8,9 +8,7 @@ ghost use Rattle.rr_node.specs.Views.{IsServing, CarriesOn, CarriesFailing, quie
 use crate::doing::{Doing, NodeDisk};
 use crate::event::{NodeEvent, Outcome};
 use rr_core::Core;
-use rr_journal::{
-    Body, BodyOut, BodySafe, GateSet, Job, Journal, SwitchJob, Switching, Synced,
-};
+use rr_journal::{Body, BodyOut, BodySafe, GateSet, Job, Journal, SwitchJob, Switching, Synced};
 use rr_types::{Group, Refusal};
 use std::alloc::Global;
 
@@ -167,7 +165,11 @@ fn send(mut core: Core, slots: Journal<NodeDisk>, flush: Flush) -> (Doing, Resul
 }
 
 /// The oldest decided request that waits is acknowledged.
-fn reply(mut core: Core, slots: Journal<NodeDisk>, flush: Flush) -> (Doing, Result<Outcome, Refusal>)
+fn reply(
+    mut core: Core,
+    slots: Journal<NodeDisk>,
+    flush: Flush,
+) -> (Doing, Result<Outcome, Refusal>)
     ensures { CarriesOn NodeEvent.Acknowledge (record { core = core; slots = slots; flush = flush }) result.1 result.0 }
 {
     let outcome = match core.next_ack() {

@@ -5,6 +5,7 @@ use Rattle.rr_disk.specs.declared.area.Area.{Area}
 use Rattle.rr_disk.specs.Areas.{Areas, synced}
 use Rattle.rr_disk.specs.Crash.{Images, IsCrashImage, restarted}
 use Rattle.rr_journal.specs.declared.journal.Journal.{Journal}
+use Rattle.rr_journal.specs.declared.opened.Opened.{Opened}
 use Rattle.rr_journal.specs.declared.opening.Opening.{Opening}
 use Rattle.rr_journal.specs.declared.opening.Progress.TheVariants as progress
 use Rattle.rr_journal.specs.Calls.{after_call}
@@ -132,27 +133,27 @@ opened_with area other c d e = ap found_of e
     found_of (Opens area c) = Active area c
     found_of (Stops refusal) = Unformatted
 
-module _ {D : Type 0} (areas : D → Areas) (n p : ℕ) (j : Journal D) (promise : List Entry) (number : ℕ) (nodes : j.nodes ≡ n) (node : j.node ≡ p) (next : j.next ≡ number) where
+module _ {D : Type 0} (areas : D → Areas) (n p : ℕ) (j : Journal D) (opened : Opened) (nodes : j.nodes ≡ n) (node : j.node ≡ p) (next : j.next ≡ opened.next) where
   -- what the journal goes on from
   content : Content
-  content = record { epoch = j.epoch; promise = promise; next = number; gate = j.gate }
+  content = record { epoch = j.epoch; promise = opened.promise; next = opened.next; gate = j.gate }
 
   -- a disk at rest with that content
-  stands_by : RestsWith n p (areas j.disk) j.area content → StandsFor areas promise j
+  stands_by : RestsWith n p (areas j.disk) j.area content → StandsFor areas opened.promise j
   unfolding content
   stands_by (start, stands, is) = (
     start,
     stands,
     ap (λ (k : ℕ). found k j.node start.of_first start.of_second) nodes ∙ ap (λ (k : ℕ). found n k start.of_first start.of_second) node ∙ is
-        ∙ ap (λ (k : ℕ). Active j.area (record { epoch = j.epoch; promise = promise; next = k; gate = j.gate })) (sym next),
+        ∙ ap (λ (k : ℕ). Active j.area (record { epoch = j.epoch; promise = opened.promise; next = k; gate = j.gate })) (sym next),
   )
 
   -- a journal over no facts
-  blank_stands : IsOpenWith areas [] (j, promise, number) → StandsFor areas promise j
+  blank_stands : IsOpenWith areas [] (j, opened) → StandsFor areas opened.promise j
   blank_stands (over, is, count) = (over.0, over.1, over.2.active ∙ ap (λ (es : List Entry). Active j.area (record { epoch = j.epoch; promise = es; next = j.next; gate = j.gate })) (sym is))
 
   -- by what was found, an opening ends over a disk that was formatted, or with what it read
-  ends_by : (f : Found) → end_by f ≡ Opens j.area content → (f ≡ Unformatted → IsOpenWith areas [] (j, promise, number)) → ((area : Area) (c : Content) → f ≡ Active area c → RestsWith n p (areas j.disk) area c) → StandsFor areas promise j
+  ends_by : (f : Found) → end_by f ≡ Opens j.area content → (f ≡ Unformatted → IsOpenWith areas [] (j, opened)) → ((area : Area) (c : Content) → f ≡ Active area c → RestsWith n p (areas j.disk) area c) → StandsFor areas opened.promise j
   ends_by Unformatted ends blank reads = blank_stands (blank refl)
   ends_by (Broken area offset) ends blank reads = absurd cc
   ends_by (Active area c) ends blank reads =
@@ -160,8 +161,8 @@ module _ {D : Type 0} (areas : D → Areas) (n p : ℕ) (j : Journal D) (promise
       stands_by (reads j.area content same)
 
   -- the last step of an opening leaves a disk at rest
-  pub ends_known : (o : Opening D) → KnowsDisk areas o → n ≡ o.nodes → p ≡ o.node → StaysOnCourse areas o (Ok (progress.Done j promise number))
-      → (OpensWith o.nodes o.node [] o.phase (areas o.disk) → IsOpenWith areas [] (j, promise, number)) → StandsFor areas promise j
+  pub ends_known : (o : Opening D) → KnowsDisk areas o → n ≡ o.nodes → p ≡ o.node → StaysOnCourse areas o (Ok (progress.Done j opened))
+      → (OpensWith o.nodes o.node [] o.phase (areas o.disk) → IsOpenWith areas [] (j, opened)) → StandsFor areas opened.promise j
   unfolding content
   ends_known o knows same_nodes same_node course table =
       ends_by (found_from o.nodes o.node (phase_of o.phase) (areas o.disk)) course.1 (λ is. table (knows.blank is))
@@ -169,8 +170,8 @@ module _ {D : Type 0} (areas : D → Areas) (n p : ℕ) (j : Journal D) (promise
       (read_end o.nodes o.node (phase_of o.phase) (areas o.disk) (areas j.disk) area c knows.rest is course.0 course.2)))
 
   -- so do all steps
-  pub all_known : (old : D) → AreShort (areas old) → EndsBy (found_from n p Settling (areas old)) (Ok (j, promise, number)) → areas j.disk ≡ areas_after (calls_from n p Settling (areas old)) (areas old)
-      → (Holds n p (contents (areas old)) [] → IsOpenWith areas [] (j, promise, number)) → StandsFor areas promise j
+  pub all_known : (old : D) → AreShort (areas old) → EndsBy (found_from n p Settling (areas old)) (Ok (j, opened)) → areas j.disk ≡ areas_after (calls_from n p Settling (areas old)) (areas old)
+      → (Holds n p (contents (areas old)) [] → IsOpenWith areas [] (j, opened)) → StandsFor areas opened.promise j
   unfolding content
   all_known old short ends done table =
       let here : found_from n p Settling (areas old) ≡ found n p (contents (areas old)).of_first (contents (areas old)).of_second = found_contents n p (areas old) short.0 short.1 in
@@ -178,7 +179,7 @@ module _ {D : Type 0} (areas : D → Areas) (n p : ℕ) (j : Journal D) (promise
       (λ area c is. (contents (areas old), done ∙ ap (λ (f : Found). areas_after (calls_by n p (whole_read (areas old).first) f) (synced (areas old))) is, sym here ∙ is))
 
   -- whatever a crash may leave then holds as many facts as were found
-  pub so_many : StandsFor areas promise j → HoldSoMany n p (areas j.disk) number
+  pub so_many : StandsFor areas opened.promise j → HoldSoMany n p (areas j.disk) opened.next
   so_many (start, stands, is) images left facts holds =
       let own : Holds j.nodes j.node images facts = subst (λ (k : ℕ). Holds k j.node images facts) (sym nodes) (subst (λ (k : ℕ). Holds n k images facts) (sym node) holds) in
-      facts_after_a_crash j.nodes j.node start.of_first start.of_second images facts j.area (record { epoch = j.epoch; promise = promise; next = j.next; gate = j.gate }) is (subst (λ (b : Areas). IsCrashImage b images) stands left) own ∙ next
+      facts_after_a_crash j.nodes j.node start.of_first start.of_second images facts j.area (record { epoch = j.epoch; promise = opened.promise; next = j.next; gate = j.gate }) is (subst (λ (b : Areas). IsCrashImage b images) stands left) own ∙ next

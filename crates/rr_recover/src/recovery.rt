@@ -18,7 +18,7 @@ ghost use Rattle.rr_recover.specs.Recoveries.{as_opened, IsStarted, StandsFor};
 use rr_core::Core;
 use rr_disk::{Area, Disk};
 use rr_journal::{Journal, Opened};
-use rr_types::{NodeId, Nodes, Promise, Refusal};
+use rr_types::{NodeId, Nodes, Refusal};
 use std::alloc::Global;
 
 /// Opens one of the nodes by all steps of an opening, over a kind of disk that tells its bytes always or never: its core, and the
@@ -39,6 +39,7 @@ pub fn recover<D: Disk>(
     ensures tells { D.tells disk → D.tells (disk_behind (as_opened result)) }
     ensures ends { D.tells disk → EndsBy (found_from nodes node Settling (D.areas disk)) (as_opened result) }
     ensures rests { D.tells disk → IfOk result (λ r. StandsFor D.areas r.0.marked r.1) }
+    ensures number { D.tells disk → IfOk result (λ r. HoldSoMany nodes node (D.areas r.1.disk) r.0.marked_end) }
     ensures counted { D.tells disk → D.calls (disk_behind (as_opened result)) ≤ D.calls disk + length (calls_from nodes node Settling (D.areas disk)) }
     ensures done { D.tells disk → OnOk result (IsDone (calls_from nodes node Settling (D.areas disk)) D.areas D.calls disk (disk_behind (as_opened result))) }
     ensures untouched { D.tells disk → found_from nodes node Settling (D.areas disk) ≢ Unformatted → IsAsBefore (D.areas disk) (D.areas (disk_behind (as_opened result))) }
@@ -54,12 +55,10 @@ pub fn recover<D: Disk>(
 {
     measure(&disk);
     match Journal::open(alloc, nodes, node, disk) {
-        Ok((journal, promise, number)) => {
-            match start_core(alloc, nodes, node, journal, promise, number) {
-                Ok((core, slots)) => Ok((core, slots)),
-                Err(wanting) => Err(wanting),
-            }
-        }
+        Ok((journal, opened)) => match start_core(alloc, journal, opened) {
+            Ok((core, slots)) => Ok((core, slots)),
+            Err(wanting) => Err(wanting),
+        },
         Err(refused) => Err(refused),
     }
 }
@@ -75,19 +74,16 @@ pub(crate) fn measure<D: Disk>(disk: &D)
 /// Starts the core of what an opening found. A refused start hands the disk back.
 pub(crate) fn start_core<D: Disk>(
     alloc: Global,
-    nodes: Nodes,
-    node: NodeId,
     journal: Journal<D>,
-    promise: Promise,
-    number: u64,
+    opened: Opened,
 ) -> Result<(Core, Journal<D>), (Refusal, D)>
-    requires { D.tells journal.disk → HoldSoMany nodes node (D.areas journal.disk) number }
-    ensures ok { IfOk result (λ r. (r.0 ≡ started nodes node promise number) × (r.0.marked ≡ promise) × (r.1 ≡ journal)) }
+    ensures ok { IfOk result (λ r. (r.0 ≡ started opened.nodes opened.node opened.promise opened.next) × (r.0.marked ≡ opened.promise) × (r.1 ≡ journal)) }
     ensures err { IfErr result (λ r. (r.0 ≡ OutOfMemory) × (r.1 ≡ journal.disk)) }
 {
-    let opened = Opened::new(&journal, nodes, node, number);
-    match Core::start(alloc, nodes, node, promise, &opened) {
-        Ok(core) => Ok((core, Slots::new(journal))),
+    let started = Core::start(alloc, &opened);
+    drop(opened);
+    match started {
+        Ok(core) => Ok((core, journal)),
         Err(refusal) => Err((refusal, journal.into_disk())),
     }
 }

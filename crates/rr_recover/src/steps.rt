@@ -11,7 +11,7 @@ ghost use Rattle.rr_journal.specs.OpeningSteps.{MaySnap};
 ghost use Rattle.rr_journal.specs.OpeningTable.{OpensWith, ComesTo, IsKept, disk_after};
 ghost use Rattle.rr_journal.specs.OtherAreas.{KnowsOther};
 ghost use Rattle.rr_journal.specs.Phases.{phase_of};
-ghost use Rattle.rr_recover.specs.Recoveries.{as_step, Recovers, StartsAtEnd, RestsAtEnd};
+ghost use Rattle.rr_recover.specs.Recoveries.{as_step, Recovers, StartsAtEnd, RestsAtEnd, CountsAtEnd};
 
 use crate::opening::Opening;
 use crate::recovery::start_core;
@@ -42,6 +42,7 @@ impl<D: Disk> Opening<D> {
         ensures tells { D.tells self.disk → D.tells (disk_after (as_step result)) }
         ensures course { D.tells self.disk → StaysOnCourse D.areas self (as_step result) }
         ensures rests { D.tells self.disk → IfOk result (λ progress. RestsAtEnd D.areas progress) }
+        ensures number { D.tells self.disk → IfOk result (λ progress. CountsAtEnd D.areas progress) }
         ensures untouched { D.tells self.disk → IsUntouched (phase_of self.phase) (D.areas self.disk) (D.areas (disk_after (as_step result))) }
         ensures images { D.tells self.disk → MayStand (D.areas self.disk) → IsReading (phase_of self.phase) → AddsNone (D.areas self.disk) (D.areas (disk_after (as_step result))) }
         ensures table { D.tells self.disk → (facts : List Fact) → OpensWith self.nodes self.node facts self.phase (D.areas self.disk)
@@ -64,8 +65,8 @@ impl<D: Disk> Opening<D> {
                 nodes,
                 node,
             })),
-            Ok(rr_journal::Progress::Done(journal, promise, number)) => {
-                match start_core(alloc, nodes, node, journal, promise, number) {
+            Ok(rr_journal::Progress::Done(journal, opened)) => {
+                match start_core(alloc, journal, opened) {
                     Ok((core, slots)) => Ok(Progress::Done(core, slots)),
                     Err(wanting) => Err(wanting),
                 }

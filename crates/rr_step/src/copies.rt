@@ -4,28 +4,24 @@ ghost use Rattle.std.specs.Prelude.{◌≡◌, IfOk, IfErr};
 ghost use Rattle.rr_model.specs.NodeStep.{restored};
 
 use crate::state::State;
-use rr_journal::Opened;
 use rr_heartbeat::Heartbeat;
+use rr_journal::Opened;
 use rr_list::{Instances, Pool, Waiting};
 use rr_mark::{Mark, Outbox};
 use rr_staged::Unmarked;
 use rr_suspect::Suspects;
-use rr_types::{NodeId, NodeSet, Nodes, Promise, Refusal};
+use rr_types::{NodeSet, Refusal};
 use std::alloc::Global;
 
 impl State {
     /// A node after its opening, that knows what its facts promise and how many there are, and nothing else.
-    pub fn restored(
-        alloc: Global,
-        nodes: Nodes,
-        node: NodeId,
-        promise: Promise,
-        opened: &Opened,
-    ) -> Result<State, Refusal>
-        requires { opened.now.node ≡ node }
-        ensures ok { IfOk result (λ s. s ≡ restored nodes node promise opened.now.next) }
+    pub fn restored(alloc: Global, opened: &Opened) -> Result<State, Refusal>
+        ensures ok { IfOk result (λ s. s ≡ restored opened.now.nodes opened.now.node opened.now.promise opened.now.next) }
         ensures err { IfErr result (λ e. e ≡ Refusal.OutOfMemory) }
     {
+        let nodes = opened.nodes();
+        let node = opened.node();
+        let promise = opened.promise();
         let instances = Instances::restored(alloc, promise.entries(), opened.next())?;
         Ok(State {
             nodes,

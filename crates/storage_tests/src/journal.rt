@@ -4,7 +4,8 @@ ghost use Rattle.std.specs.Prelude.{◌<◌};
 
 use rr_disk::{Area, Disk, FailingDisk, MemDisk};
 use rr_frame::decode_group;
-use rr_journal::{Image, Journal, Opening, Progress, frame, read_image};
+use rr_image::{Image, read_image};
+use rr_journal::{Journal, Opening, Progress};
 use rr_types::{
     Command, Entry, Estimate, Fact, Group, Instance, Name, NodeId, Nodes, Op, Refusal, RequestNo,
     Round, Standing, Value,
@@ -144,10 +145,14 @@ fn entered(rt: &impl Abort, alloc: Global) -> Group {
 fn flushed(rt: &impl Abort, alloc: Global, nodes: Nodes, node: NodeId) -> MemDisk
     requires { node < nodes }
 {
-    let opened = Journal::open(alloc, nodes, node, MemDisk::new(alloc));
-    let (mut journal, promise, number) = opened.expect(rt, "an opening");
+    let opening = Journal::open(alloc, nodes, node, MemDisk::new(alloc));
+    let (mut journal, opened) = opening.expect(rt, "an opening");
     assert_eq!(rt;
-        (journal.facts(), number, promise.entries().len()),
+        (
+            journal.facts(),
+            opened.next(),
+            opened.promise().entries().len()
+        ),
         (0, 0, 0)
     );
     let begun = journal.begin(alloc, entered(rt, alloc));
@@ -167,12 +172,10 @@ fn a_disk_is_opened_twice(rt: HostRuntime) {
     let nodes = Nodes::new(1).expect(&rt, "nodes");
     let node = NodeId::new(nodes, 0).expect(&rt, "a node");
     let disk = flushed(&rt, alloc, nodes, node);
-    let (journal, promise, number) = Journal::open(alloc, nodes, node, disk).expect(
-        &rt,
-        "an opening",
-    );
-    assert_eq!(rt; (journal.facts(), number), (1, 1));
-    match promise.entries() {
+    let (journal, opened) = Journal::open(alloc, nodes, node, disk).expect(&rt, "an opening");
+    assert_eq!(rt; (journal.facts(), opened.next()), (1, 1));
+    assert_eq!(rt; (opened.nodes().count(), opened.node().index()), (1, 0));
+    match opened.promise().entries() {
         [
             Entry {
                 instance,
@@ -204,7 +207,7 @@ pub fn more<D: Disk + Drop>(rt: &impl Abort, alloc: Global, opening: Opening<D>)
 {
     match opening.step(alloc) {
         Ok(Progress::More(next)) => next,
-        Ok(Progress::Done(_, _, _)) => rt.panic("a call more"),
+        Ok(Progress::Done(_, _)) => rt.panic("a call more"),
         Err((_, _)) => rt.panic("a call without a fault"),
     }
 }
@@ -226,8 +229,8 @@ fn a_refused_opening_is_repeated(rt: HostRuntime) {
     for _ in 0..8 {
         opening = more(&rt, alloc, opening);
     }
-    let (journal, promise, number) = opening.finish(alloc).expect(&rt, "an opening");
-    assert_eq!(rt; (number, promise.entries().len()), (0, 0));
+    let (journal, opened) = opening.finish(alloc).expect(&rt, "an opening");
+    assert_eq!(rt; (opened.next(), opened.promise().entries().len()), (0, 0));
     let mut disk = journal.into_disk();
     let bytes = disk
         .read(alloc, Area::First, 0, u64::MAX)

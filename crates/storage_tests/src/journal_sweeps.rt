@@ -5,7 +5,8 @@
 use crate::journal::{area, changed, cut, more, opened, put_at};
 use rr_disk::{Area, Disk, MemDisk};
 use rr_frame::{Reader, decode_group, decode_snapshot, encode_group, encode_snapshot};
-use rr_journal::{Image, Opening, frame};
+use rr_image::Image;
+use rr_journal::{Opening, frame};
 use rr_types::{
     Command, Entry, Name, NodeId, Nodes, Op, Promise, Refusal, RequestNo, Standing, Value,
 };

@@ -19,3 +19,5 @@ mod journal_sweeps;
 mod memory_disk;
 #[cfg(test)]
 mod switch;
+#[cfg(test)]
+mod trust;

@@ -14,8 +14,8 @@ fn opened(rt: &impl Abort, alloc: Global, disk: MemDisk) -> (Journal<MemDisk>, P
 {
     let nodes = Nodes::new(1).expect(rt, "nodes");
     let node = NodeId::new(nodes, 0).expect(rt, "a node");
-    let (slots, promise, _) = Journal::open(alloc, nodes, node, disk).expect(rt, "an opening");
-    (slots, promise)
+    let (slots, opened) = Journal::open(alloc, nodes, node, disk).expect(rt, "an opening");
+    (slots, opened.into_promise())
 }
 
 fn made(rt: &impl Abort, job: SwitchJob, slots: &mut Journal<MemDisk>) -> SwitchJob {

@@ -7,4 +7,4 @@ pub returns-in-Err : goal.returns-in-Err
 returns-in-Err c =
     let job = c.args.job in
     λ s n p. rw c.fallen-in-Err.ensures
-    (write_failing n p c.args.fill.items s c.args.slots c.fail_next.new.self c.step.new.host (Body job) c.in-Err.field-0 job.area (job.gate + 1) job.body _ refl c.fail_next.ensures c.in-Err.ensures.refused)
+    (write_failing n p c.args.fill.items s c.args.slots c.fail_next.new.self c.step.new.journal (Body job) c.in-Err.field-0 job.area (job.gate + 1) job.body _ refl c.fail_next.ensures c.in-Err.ensures.refused)

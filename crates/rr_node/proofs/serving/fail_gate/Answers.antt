@@ -7,4 +7,4 @@ pub returns-in-Err : goal.returns-in-Err
 returns-in-Err c =
     let job = c.args.job in
     λ s n p. rw c.fallen-in-Err.ensures
-    (write_failing n p c.args.fill.items s c.args.slots c.fail_next.new.self c.step.new.host (BodySafe job) c.in-Err.field-0 job.area job.gate (165 ∷ []) _ refl c.fail_next.ensures c.in-Err.ensures.refused)
+    (write_failing n p c.args.fill.items s c.args.slots c.fail_next.new.self c.step.new.journal (BodySafe job) c.in-Err.field-0 job.area job.gate (165 ∷ []) _ refl c.fail_next.ensures c.in-Err.ensures.refused)

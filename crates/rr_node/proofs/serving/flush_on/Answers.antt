@@ -9,26 +9,26 @@ pub returns-in-Ok : goal.returns-in-Ok
 returns-in-Ok c =
     let job = c.in-Body.job in
     let done = c.in-Ok.ensures.done in
-    let k = c.step.new.host in
+    let k = c.step.new.journal in
     rw (c.up-in-Ok.ensures, c.in-Body.is)
-    (flush_goes c.args.core c.args.slots c.step.new.host (Body job) (BodyOut c.in-Ok.job) (Write job.area (job.gate + 1) job.body) Sync (Write job.area job.gate (165 ∷ []) ∷ Sync ∷ []) refl (rw done.0 refl) done.2
-    (λ calm. written_by c.args.slots.disk k.disk job.area (job.gate + 1) job.body calm done.3) (job_goes c.args.core c.args.slots c.step.new.host job c.in-Ok.job done.2 done.0))
+    (flush_goes c.args.core c.args.slots c.step.new.journal (Body job) (BodyOut c.in-Ok.job) (Write job.area (job.gate + 1) job.body) Sync (Write job.area job.gate (165 ∷ []) ∷ Sync ∷ []) refl (rw done.0 refl) done.2
+    (λ calm. written_by c.args.slots.disk k.disk job.area (job.gate + 1) job.body calm done.3) (job_goes c.args.core c.args.slots c.step.new.journal job c.in-Ok.job done.2 done.0))
 
 pub returns-in-Ok-step-2 : goal.returns-in-Ok-step-2
 returns-in-Ok-step-2 c =
     let job = c.in-BodySafe.job in
     let done = c.in-Ok-step-2.ensures.done in
-    let k = c.step-in-BodySafe.new.host in
+    let k = c.step-in-BodySafe.new.journal in
     rw (c.up-in-Ok-step-2.ensures, c.in-BodySafe.is)
-    (flush_goes c.args.core c.args.slots c.step-in-BodySafe.new.host (BodySafe job) (GateSet c.in-Ok-step-2.job) (Write job.area job.gate (165 ∷ [])) Sync [] refl refl done.2
-    (λ calm. written_by c.args.slots.disk k.disk job.area job.gate (165 ∷ []) calm done.3) (job_goes c.args.core c.args.slots c.step-in-BodySafe.new.host job c.in-Ok-step-2.job done.2 done.0))
+    (flush_goes c.args.core c.args.slots c.step-in-BodySafe.new.journal (BodySafe job) (GateSet c.in-Ok-step-2.job) (Write job.area job.gate (165 ∷ [])) Sync [] refl refl done.2
+    (λ calm. written_by c.args.slots.disk k.disk job.area job.gate (165 ∷ []) calm done.3) (job_goes c.args.core c.args.slots c.step-in-BodySafe.new.journal job c.in-Ok-step-2.job done.2 done.0))
 
 pub returns-in-Ok-step-3 : goal.returns-in-Ok-step-3
 returns-in-Ok-step-3 c =
     let job = c.in-GateSet.job in
     let done = c.in-Ok-step-3.ensures.done in
     rw (c.up-in-Ok-step-3.ensures, c.in-GateSet.is)
-    (gate_done c.args.core c.args.slots c.step-in-GateSet.new.host job c.in-Ok-step-3.synced (job.group.serial + length job.group.facts) done.0 done.2 refl done.3)
+    (gate_done c.args.core c.args.slots c.step-in-GateSet.new.journal job c.in-Ok-step-3.synced (job.group.serial + length job.group.facts) done.0 done.2 refl done.3)
 
 pub returns-in-Switching : goal.returns-in-Switching
 returns-in-Switching c = rw c.in-Switching.is c.switch_on.ensures

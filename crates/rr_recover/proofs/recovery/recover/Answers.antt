@@ -1,31 +1,33 @@
-use Rattle.std.proofs.Common.{ℕ, List, [], sym, subst}
-use Rattle.rr_types.specs.declared.promise.Entry.{Entry}
+use Rattle.std.proofs.Common.{◌≡◌, ℕ, [], sym, subst}
 use Rattle.rr_journal.specs.declared.journal.Journal.{Journal}
+use Rattle.rr_journal.specs.declared.opened.Opened.{Opened}
 use Rattle.rr_journal.specs.CrashedDisks.{IsOpenWithOneOf, AddsBlankAlone}
 use Rattle.rr_image.specs.Held.{Holds}
 use Rattle.rr_journal.specs.OpeningTable.{IsKept}
 use Rattle.rr_journal.specs.OpenDisks.{IsOpenWith, IsReady}
 use Rattle.rr_recover.proofs.KnowingLaws.{all_known, so_many}
-use Rattle.rr_recover.proofs.StepLaws.{opened, stands_so}
+use Rattle.rr_recover.specs.Known.{HoldSoMany}
+use Rattle.rr_recover.proofs.StepLaws.{found_end, numbered, stands_so}
 use Rattle.rr_recover.proofs.recovery.recover.Goals as goal
-
-pub start_core-requires : goal.start_core-requires
-start_core-requires g c now =
-    let gave = c.in-Ok.ensures in
-    let tells : g.D.Disk.tells c.args.disk = c.requires.alike c.in-Ok.journal.disk c.args.disk now in
-    let short = c.measure.ensures tells in
-    so_many {D = g.row.D.Denot} g.D.Disk.areas c.args.nodes c.args.node c.in-Ok.journal c.in-Ok.promise c.in-Ok.number gave.journal.0 gave.journal.1 gave.journal.2
-    (all_known {D = g.row.D.Denot} g.D.Disk.areas c.args.nodes c.args.node c.in-Ok.journal c.in-Ok.promise c.in-Ok.number gave.journal.0 gave.journal.1 gave.journal.2 c.args.disk short
-    (gave.ends tells) (gave.done tells).0 (λ holds. gave.table tells [] short.0 short.1 holds))
 
 pub returns-in-Ok-start_core-clause-rests : goal.returns-in-Ok-start_core-clause-rests
 returns-in-Ok-start_core-clause-rests g c tells =
     let gave = c.in-Ok.ensures in
     let made = c.in-Ok-start_core.ensures.ok in
     let short = c.measure.ensures tells in
-    stands_so {D = g.row.D.Denot} g.D.Disk.areas c.in-Ok.journal c.in-Ok-start_core.slots c.in-Ok.promise c.in-Ok-start_core.core made.2 made.1
-    (all_known {D = g.row.D.Denot} g.D.Disk.areas c.args.nodes c.args.node c.in-Ok.journal c.in-Ok.promise c.in-Ok.number gave.journal.0 gave.journal.1 gave.journal.2 c.args.disk short
+    stands_so {D = g.row.D.Denot} g.D.Disk.areas c.in-Ok.journal c.in-Ok-start_core.slots c.in-Ok.opened.promise c.in-Ok-start_core.core made.2 made.1
+    (all_known {D = g.row.D.Denot} g.D.Disk.areas c.args.nodes c.args.node c.in-Ok.journal c.in-Ok.opened gave.journal.0 gave.journal.1 gave.journal.2 c.args.disk short
     (gave.ends tells) (gave.done tells).0 (λ holds. gave.table tells [] short.0 short.1 holds))
+
+pub returns-in-Ok-start_core-clause-number : goal.returns-in-Ok-start_core-clause-number
+returns-in-Ok-start_core-clause-number g c tells =
+    let gave = c.in-Ok.ensures in
+    let made = c.in-Ok-start_core.ensures.ok in
+    let short = c.measure.ensures tells in
+    let many = so_many {D = g.row.D.Denot} g.D.Disk.areas c.args.nodes c.args.node c.in-Ok.journal c.in-Ok.opened gave.journal.0 gave.journal.1 gave.journal.2
+    (all_known {D = g.row.D.Denot} g.D.Disk.areas c.args.nodes c.args.node c.in-Ok.journal c.in-Ok.opened gave.journal.0 gave.journal.1 gave.journal.2 c.args.disk short
+    (gave.ends tells) (gave.done tells).0 (λ holds. gave.table tells [] short.0 short.1 holds)) in
+    numbered {D = g.row.D.Denot} g.D.Disk.areas c.args.nodes c.args.node c.in-Ok.journal c.in-Ok-start_core.slots c.in-Ok.opened c.in-Ok-start_core.core made.0 made.2 many
 
 pub returns-in-Ok-start_core-clause-images : goal.returns-in-Ok-start_core-clause-images
 returns-in-Ok-start_core-clause-images g c tells stands =
@@ -37,8 +39,8 @@ returns-in-Ok-start_core-clause-some g c tells stands some =
     let gave = c.in-Ok.ensures in
     let made = c.in-Ok-start_core.ensures.ok in
     let short = c.measure.ensures tells in (
-      subst (λ (r : Journal g.row.D.Denot × List Entry × ℕ). IsOpenWithOneOf {D = g.row.D.Denot} g.D.Disk.areas (Holds c.args.nodes c.args.node) (g.D.Disk.areas c.args.disk) r)
-          (opened {D = g.row.D.Denot} c.in-Ok.journal c.in-Ok-start_core.slots c.in-Ok.promise c.in-Ok.number c.in-Ok-start_core.core made.2 made.1 gave.journal.2)
+      subst (λ (r : Journal g.row.D.Denot × Opened). IsOpenWithOneOf {D = g.row.D.Denot} g.D.Disk.areas (Holds c.args.nodes c.args.node) (g.D.Disk.areas c.args.disk) r)
+          (found_end {D = g.row.D.Denot} c.args.nodes c.args.node c.in-Ok.journal c.in-Ok-start_core.slots c.in-Ok.opened c.in-Ok-start_core.core made.2 made.1 gave.journal)
           (gave.some tells short.0 short.1 stands some).0,
       tt,
     )
@@ -48,8 +50,8 @@ returns-in-Ok-start_core-clause-table g c tells facts holds =
     let gave = c.in-Ok.ensures in
     let made = c.in-Ok-start_core.ensures.ok in
     let short = c.measure.ensures tells in
-    subst (λ (r : Journal g.row.D.Denot × List Entry × ℕ). IsOpenWith {D = g.row.D.Denot} g.D.Disk.areas facts r)
-    (opened {D = g.row.D.Denot} c.in-Ok.journal c.in-Ok-start_core.slots c.in-Ok.promise c.in-Ok.number c.in-Ok-start_core.core made.2 made.1 gave.journal.2)
+    subst (λ (r : Journal g.row.D.Denot × Opened). IsOpenWith {D = g.row.D.Denot} g.D.Disk.areas facts r)
+    (found_end {D = g.row.D.Denot} c.args.nodes c.args.node c.in-Ok.journal c.in-Ok-start_core.slots c.in-Ok.opened c.in-Ok-start_core.core made.2 made.1 gave.journal)
     (gave.table tells facts short.0 short.1 holds)
 
 pub returns-in-Ok-start_core-clause-kept : goal.returns-in-Ok-start_core-clause-kept
@@ -83,6 +85,6 @@ pub returns-in-Ok-start_core-clause-ready : goal.returns-in-Ok-start_core-clause
 returns-in-Ok-start_core-clause-ready g c =
     let gave = c.in-Ok.ensures in
     let made = c.in-Ok-start_core.ensures.ok in
-    subst (λ (r : Journal g.row.D.Denot × List Entry × ℕ). IsReady {D = g.row.D.Denot} c.args.nodes c.args.node r)
-    (opened {D = g.row.D.Denot} c.in-Ok.journal c.in-Ok-start_core.slots c.in-Ok.promise c.in-Ok.number c.in-Ok-start_core.core made.2 made.1 gave.journal.2)
+    subst (λ (r : Journal g.row.D.Denot × Opened). IsReady {D = g.row.D.Denot} c.args.nodes c.args.node r)
+    (found_end {D = g.row.D.Denot} c.args.nodes c.args.node c.in-Ok.journal c.in-Ok-start_core.slots c.in-Ok.opened c.in-Ok-start_core.core made.2 made.1 gave.journal)
     gave.journal

@@ -1,10 +1,9 @@
-use Rattle.std.proofs.Common.{ap, ◌∙◌}
-use Rattle.rr_model.specs.NodeStep.{started}
-use Rattle.rr_journal.specs.Flushes as gate
+use Rattle.std.proofs.Common.{refl}
 use Rattle.rr_recover.proofs.StepLaws.{started_marked}
 use Rattle.rr_recover.proofs.recovery.start_core.Goals as goal
 
 pub returns-in-Ok-clause-ok : goal.returns-in-Ok-clause-ok
 returns-in-Ok-clause-ok g c =
-    let is = c.in-Ok.ensures.ok ∙ ap (λ (o : gate.Opening). started c.args.nodes c.args.node c.args.promise o.next) c.new-opened.ensures in
-    (is, started_marked c.args.nodes c.args.node c.args.promise c.args.number c.in-Ok.core is, c.new.ensures)
+    let opened = c.args.opened in
+    let is = c.in-Ok.ensures.ok in
+    (is, started_marked opened.nodes opened.node opened.promise opened.next c.in-Ok.core is, refl)

@@ -1,4 +1,4 @@
-use Rattle.std.proofs.Common.{subst, List, arith}
+use Rattle.std.proofs.Common.{subst, List, arith, ◌∙◌}
 use Rattle.rr_types.specs.declared.promise.Entry.{Entry}
 use Rattle.rr_types.specs.Promises.{IsAscending}
 use Rattle.rr_core.proofs.SearchLemmas.{not_searched}
@@ -7,8 +7,9 @@ use Rattle.rr_core.proofs.node_core.Core.start.Goals as goal
 
 pub invariant_of-result : goal.invariant_of-result
 invariant_of-result c =
-    let P : List Entry → Type 0 = λ es. IsAscending es in (
-      started_kept c.args.nodes c.args.node c.args.opened.now.next c.args.promise c.in-Ok-registry_of_prefix.registry c.in-Ok.state
-          (subst P c.entries-entries.ensures.value c.entries-entries.ensures.ascending) (omega arith) c.in-Ok-registry_of_prefix.ensures.ok c.in-Ok.ensures.ok,
+    let P : List Entry → Type 0 = λ es. IsAscending es in
+    let opened = c.args.opened.now in (
+      started_kept opened.nodes opened.node opened.next opened.promise c.in-Ok-registry_of_prefix.registry c.in-Ok.state
+          (subst P (c.entries-entries.ensures.value ∙ c.promise.ensures) c.entries-entries.ensures.ascending) (omega arith) c.in-Ok-registry_of_prefix.ensures.ok c.in-Ok.ensures.ok,
       not_searched c.in-Ok.state,
     )

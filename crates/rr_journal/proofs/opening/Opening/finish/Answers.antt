@@ -74,8 +74,10 @@ returns-in-Ok-Done-clause-journal g c =
       ap (λ j. j.next) exact.3,
       ap (λ j. j.failed) exact.3,
       ap (λ j. j.busy) exact.3,
-      subst (λ (k : ℕ). IsSnapshot (record { node = k; nodes = c.args.self.nodes; epoch = c.in-Ok-Done.journal.epoch + 1; next = c.in-Ok-Done.number; entries = c.in-Ok-Done.promise })) node
-          (subst (λ (k : ℕ). IsSnapshot (record { node = c.in-Ok-Done.journal.node; nodes = k; epoch = c.in-Ok-Done.journal.epoch + 1; next = c.in-Ok-Done.number; entries = c.in-Ok-Done.promise })) nodes snapshot),
+      subst (λ (k : ℕ). IsSnapshot (record { node = k; nodes = c.args.self.nodes; epoch = c.in-Ok-Done.journal.epoch + 1; next = c.in-Ok-Done.opened.next; entries = c.in-Ok-Done.opened.promise })) node
+          (subst (λ (k : ℕ). IsSnapshot (record { node = c.in-Ok-Done.journal.node; nodes = k; epoch = c.in-Ok-Done.journal.epoch + 1; next = c.in-Ok-Done.opened.next; entries = c.in-Ok-Done.opened.promise })) nodes snapshot),
+      exact.4 ∙ came.same_nodes,
+      exact.5 ∙ came.same_node,
     )
 
 pub returns-in-Ok-Done-clause-table : goal.returns-in-Ok-Done-clause-table
@@ -136,7 +138,7 @@ returns-in-Ok-Done-clause-counted g c tells =
 pub returns-in-Ok-Done-clause-done : goal.returns-in-Ok-Done-clause-done
 returns-in-Ok-Done-clause-done g c tells =
     let course = subst (λ (x : Progress g.row.D.Denot). StaysOnCourse {D = g.row.D.Denot} g.D.Disk.areas c.loop-refused.opening (Ok x)) c.in-Ok-Done.field-0-is (c.in-Ok-Done.ensures.course (c.loop-refused.invariant.0.still_tells tells)) in
-    all_done {D = g.row.D.Denot} g.D.Disk.tells g.D.Disk.areas g.D.Disk.calls g.D.Disk.faults c.args.self c.loop-refused.opening c.loop-refused.invariant.1 c.in-Ok-Done.journal c.in-Ok-Done.promise c.in-Ok-Done.number tells course
+    all_done {D = g.row.D.Denot} g.D.Disk.tells g.D.Disk.areas g.D.Disk.calls g.D.Disk.faults c.args.self c.loop-refused.opening c.loop-refused.invariant.1 c.in-Ok-Done.journal c.in-Ok-Done.opened tells course
     (subst (λ (x : Progress g.row.D.Denot). g.D.Disk.calls (disk_after {D = g.row.D.Denot} (Ok x)) ≡ counted (g.D.Disk.calls c.loop-refused.opening.disk)) c.in-Ok-Done.field-0-is c.in-Ok-Done.ensures.call)
 
 pub returns-in-Ok-Done-clause-untouched : goal.returns-in-Ok-Done-clause-untouched

@@ -50,9 +50,10 @@ returns-in-Ok-Open-clause-exact g c =
     subst
     (λ (j : Journal g.row.D.Denot). (v : Vec ℕ Global) × Done g.D.Disk.read_gives g.D.Disk.write_gives g.D.Disk.sync_gives (due_call (phase_of c.args.self.phase)) c.args.self.disk v j.disk
     × (after_opening_call c.args.self.nodes c.args.self.node v.items (phase_of c.args.self.phase) ≡ Opens j.area (record { epoch = j.epoch; promise = c.in-Ok-Open.promise; next = c.in-Ok-Open.next; gate = j.gate }))
-    × (j ≡ record { disk = j.disk; nodes = c.args.self.nodes; node = c.args.self.node; area = j.area; epoch = j.epoch; gate = j.gate; next = c.in-Ok-Open.next; failed = false; busy = false; closes_other = j.closes_other }))
+    × (j ≡ record { disk = j.disk; nodes = c.args.self.nodes; node = c.args.self.node; area = j.area; epoch = j.epoch; gate = j.gate; next = c.in-Ok-Open.next; failed = false; busy = false; closes_other = j.closes_other })
+    × (c.args.self.nodes ≡ c.args.self.nodes) × (c.args.self.node ≡ c.args.self.node))
     (sym c.new.ensures)
-    (c.in-Ok.read, c.in-Ok.ensures.done, follows, refl)
+    (c.in-Ok.read, c.in-Ok.ensures.done, follows, refl, refl, refl)
 
 pub returns-in-Ok-Open-clause-table : goal.returns-in-Ok-Open-clause-table
 returns-in-Ok-Open-clause-table g c tells facts opens =
@@ -135,7 +136,7 @@ returns-in-Ok-Open-clause-course g c tells =
     let on = subst (OnCourse c.args.self.nodes c.args.self.node old new (phase_of c.args.self.phase)) follows
     (on_course c.args.self.nodes c.args.self.node c.in-Ok.read.items old new (phase_of c.args.self.phase) (c.in-Ok.ensures.read tells) (c.in-Ok.ensures.areas tells)) in
     subst
-    (λ (j : Journal g.row.D.Denot). StaysOnCourse {D = g.row.D.Denot} g.D.Disk.areas c.args.self (Ok (progress.Done j c.in-Ok-Open.promise c.in-Ok-Open.next)))
+    (λ (j : Journal g.row.D.Denot). StaysOnCourse {D = g.row.D.Denot} g.D.Disk.areas c.args.self (Ok (progress.Done j (record { nodes = c.args.self.nodes; node = c.args.self.node; promise = c.in-Ok-Open.promise; next = c.in-Ok-Open.next }))))
     (sym c.new.ensures)
     (c.in-Ok.ensures.areas tells, on.0, on.1)
 

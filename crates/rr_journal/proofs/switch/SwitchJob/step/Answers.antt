@@ -1,4 +1,4 @@
-use Rattle.std.proofs.Common.{◌≡◌, ap, subst, ◌∙◌}
+use Rattle.std.proofs.Common.{ap, subst, ◌∙◌}
 use Rattle.rr_journal.specs.declared.journal.Journal.{Journal}
 use Rattle.rr_journal.specs.SwitchTable.{GoesOn}
 use Rattle.rr_journal.proofs.SwitchLaws.{goes_from, held_before, held_refused, steps}

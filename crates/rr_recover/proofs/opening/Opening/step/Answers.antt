@@ -1,4 +1,4 @@
-use Rattle.std.proofs.Common.{inl, inr, List, [], Ok, Err, sym, subst, ◌∙◌}
+use Rattle.std.proofs.Common.{inl, inr, refl, List, [], Ok, Err, sym, subst, ◌∙◌}
 use Rattle.rr_types.specs.declared.fact.Fact.{Fact}
 use Rattle.rr_journal.specs.declared.journal.Journal.{Journal}
 use Rattle.rr_journal.specs.declared.opening.Opening.{Opening}
@@ -9,8 +9,9 @@ use Rattle.rr_journal.specs.OpeningCourse.{StaysOnCourse}
 use Rattle.rr_journal.specs.OpeningSteps.{Steps, MaySnap}
 use Rattle.rr_journal.specs.OpeningTable.{OpensWith, ComesTo, IsKept, disk_after}
 use Rattle.rr_journal.specs.OtherAreas.{KnowsOther}
-use Rattle.rr_recover.proofs.KnowingLaws.{knows_on}
-use Rattle.rr_recover.proofs.StepLaws.{moved, ended, last_whose, last_stands, last_counted, stands_so}
+use Rattle.rr_recover.specs.Recoveries.{end_of}
+use Rattle.rr_recover.proofs.KnowingLaws.{knows_on, so_many}
+use Rattle.rr_recover.proofs.StepLaws.{moved, ended, last_whose, last_stands, stands_so, numbered_at}
 use Rattle.rr_recover.proofs.opening.Opening.step.Goals as goal
 
 pub invariant_of-result : goal.invariant_of-result
@@ -29,14 +30,6 @@ invariant_of-result g c =
           (λ fronts. subst (λ (x : Progress g.row.D.Denot). KnowsOther {D = g.row.D.Denot} g.D.Disk.areas x) c.in-Ok-More.field-0-is (gave.fronts tells fronts))),
     )
 
-pub start_core-requires : goal.start_core-requires
-start_core-requires g c now =
-    let o : Opening g.row.D.Denot = c.self.inside.journal in
-    let gave = c.in-Ok-Done.ensures in
-    let tells : g.D.Disk.tells o.disk = c.self.invariant.3 c.in-Ok-Done.journal.disk o.disk now in
-    last_counted {D = g.row.D.Denot} g.D.Disk.read_gives g.D.Disk.write_gives g.D.Disk.sync_gives g.D.Disk.areas o c.self.inside.nodes c.self.inside.node c.in-Ok-Done.field-0 c.in-Ok-Done.journal c.in-Ok-Done.promise c.in-Ok-Done.number
-    c.self.invariant.0 c.self.invariant.1 c.in-Ok-Done.field-0-is gave.exact (c.self.invariant.4 tells) (gave.course tells) (gave.table tells [])
-
 pub returns-in-Ok-More-clause-exact : goal.returns-in-Ok-More-clause-exact
 returns-in-Ok-More-clause-exact g c =
     inl (moved {D = g.row.D.Denot} (λ (o : Opening g.row.D.Denot) (x : Progress g.row.D.Denot). Steps {D = g.row.D.Denot} g.D.Disk.read_gives g.D.Disk.write_gives g.D.Disk.sync_gives o (Ok x)) c.self.inside.journal c.args.self c.in-Ok-More.field-0 (More c.in-Ok-More.journal)
@@ -52,10 +45,10 @@ pub returns-in-Ok-clause-exact : goal.returns-in-Ok-clause-exact
 returns-in-Ok-clause-exact g c =
     let made = c.in-Ok.ensures.ok in
     let exact = subst (λ (x : Progress g.row.D.Denot). Steps {D = g.row.D.Denot} g.D.Disk.read_gives g.D.Disk.write_gives g.D.Disk.sync_gives c.self.inside.journal (Ok x)) c.in-Ok-Done.field-0-is c.in-Ok-Done.ensures.exact in
-    let whose = last_whose {D = g.row.D.Denot} g.D.Disk.read_gives g.D.Disk.write_gives g.D.Disk.sync_gives g.D.Disk.areas c.self.inside.journal c.in-Ok-Done.journal c.in-Ok-Done.promise c.in-Ok-Done.number exact in
+    let whose = last_whose {D = g.row.D.Denot} g.D.Disk.read_gives g.D.Disk.write_gives g.D.Disk.sync_gives g.D.Disk.areas c.self.inside.journal c.in-Ok-Done.journal c.in-Ok-Done.opened exact in
     inl (moved {D = g.row.D.Denot} (λ (o : Opening g.row.D.Denot) (x : Progress g.row.D.Denot). Steps {D = g.row.D.Denot} g.D.Disk.read_gives g.D.Disk.write_gives g.D.Disk.sync_gives o (Ok x)) c.self.inside.journal c.args.self
-    (Done c.in-Ok-Done.journal c.in-Ok-Done.promise c.in-Ok-Done.number) (Done c.in-Ok.slots c.in-Ok.core.marked c.in-Ok.slots.next)
-    c.self.view_is (ended {D = g.row.D.Denot} c.in-Ok-Done.journal c.in-Ok.slots c.in-Ok-Done.promise c.in-Ok-Done.number c.in-Ok.core made.2 made.1 whose.2) exact)
+    (Done c.in-Ok-Done.journal c.in-Ok-Done.opened) (Done c.in-Ok.slots (end_of {D = g.row.D.Denot} c.in-Ok.core c.in-Ok.slots))
+    c.self.view_is (ended {D = g.row.D.Denot} c.in-Ok-Done.journal c.in-Ok.slots c.in-Ok-Done.opened c.in-Ok.core made.2 made.1 whose.2 whose.3 whose.4) exact)
 
 pub returns-in-Ok-clause-rests : goal.returns-in-Ok-clause-rests
 returns-in-Ok-clause-rests g c told =
@@ -63,24 +56,37 @@ returns-in-Ok-clause-rests g c told =
     let gave = c.in-Ok-Done.ensures in
     let made = c.in-Ok.ensures.ok in
     let tells : g.D.Disk.tells o.disk = c.self.invariant.3 c.args.self.disk o.disk told in
-    stands_so {D = g.row.D.Denot} g.D.Disk.areas c.in-Ok-Done.journal c.in-Ok.slots c.in-Ok-Done.promise c.in-Ok.core made.2 made.1
-    (last_stands {D = g.row.D.Denot} g.D.Disk.read_gives g.D.Disk.write_gives g.D.Disk.sync_gives g.D.Disk.areas o c.in-Ok-Done.field-0 c.in-Ok-Done.journal c.in-Ok-Done.promise c.in-Ok-Done.number
+    stands_so {D = g.row.D.Denot} g.D.Disk.areas c.in-Ok-Done.journal c.in-Ok.slots c.in-Ok-Done.opened.promise c.in-Ok.core made.2 made.1
+    (last_stands {D = g.row.D.Denot} g.D.Disk.read_gives g.D.Disk.write_gives g.D.Disk.sync_gives g.D.Disk.areas o c.in-Ok-Done.field-0 c.in-Ok-Done.journal c.in-Ok-Done.opened
     c.in-Ok-Done.field-0-is gave.exact (c.self.invariant.4 tells) (gave.course tells) (gave.table tells []))
+
+pub returns-in-Ok-clause-number : goal.returns-in-Ok-clause-number
+returns-in-Ok-clause-number g c told =
+    let o : Opening g.row.D.Denot = c.self.inside.journal in
+    let gave = c.in-Ok-Done.ensures in
+    let made = c.in-Ok.ensures.ok in
+    let tells : g.D.Disk.tells o.disk = c.self.invariant.3 c.args.self.disk o.disk told in
+    let exact = subst (λ (x : Progress g.row.D.Denot). Steps {D = g.row.D.Denot} g.D.Disk.read_gives g.D.Disk.write_gives g.D.Disk.sync_gives o (Ok x)) c.in-Ok-Done.field-0-is gave.exact in
+    let whose = last_whose {D = g.row.D.Denot} g.D.Disk.read_gives g.D.Disk.write_gives g.D.Disk.sync_gives g.D.Disk.areas o c.in-Ok-Done.journal c.in-Ok-Done.opened exact in
+    let stands = last_stands {D = g.row.D.Denot} g.D.Disk.read_gives g.D.Disk.write_gives g.D.Disk.sync_gives g.D.Disk.areas o c.in-Ok-Done.field-0 c.in-Ok-Done.journal c.in-Ok-Done.opened
+    c.in-Ok-Done.field-0-is gave.exact (c.self.invariant.4 tells) (gave.course tells) (gave.table tells []) in
+    numbered_at {D = g.row.D.Denot} g.D.Disk.areas c.in-Ok-Done.journal c.in-Ok.slots c.in-Ok-Done.opened c.in-Ok.core made.0 made.2
+    (so_many {D = g.row.D.Denot} g.D.Disk.areas c.in-Ok-Done.journal.nodes c.in-Ok-Done.journal.node c.in-Ok-Done.journal c.in-Ok-Done.opened refl refl whose.2 stands)
 
 pub returns-in-Ok-clause-kept : goal.returns-in-Ok-clause-kept
 returns-in-Ok-clause-kept g c =
     let made = c.in-Ok.ensures.ok in
     let kept = moved {D = g.row.D.Denot}
     (λ (o : Opening g.row.D.Denot) (x : Progress g.row.D.Denot). g.D.Disk.tells o.disk → (facts : List Fact) → OpensWith o.nodes o.node facts o.phase (g.D.Disk.areas o.disk) → IsKept (Holds o.nodes o.node) facts (g.D.Disk.areas o.disk) (g.D.Disk.areas (disk_after {D = g.row.D.Denot} (Ok x))))
-    c.self.inside.journal c.args.self c.in-Ok-Done.field-0 (Done c.in-Ok-Done.journal c.in-Ok-Done.promise c.in-Ok-Done.number) c.self.view_is c.in-Ok-Done.field-0-is c.in-Ok-Done.ensures.kept in
+    c.self.inside.journal c.args.self c.in-Ok-Done.field-0 (Done c.in-Ok-Done.journal c.in-Ok-Done.opened) c.self.view_is c.in-Ok-Done.field-0-is c.in-Ok-Done.ensures.kept in
     λ tells facts opens. subst (λ (j : Journal g.row.D.Denot). IsKept (Holds c.args.self.nodes c.args.self.node) facts (g.D.Disk.areas c.args.self.disk) (g.D.Disk.areas j.disk)) (sym made.2) (kept tells facts opens)
 
 pub returns-in-Err-start_core-clause-exact : goal.returns-in-Err-start_core-clause-exact
 returns-in-Err-start_core-clause-exact g c =
     let made = c.in-Err-start_core.ensures.err in
     let steps = moved {D = g.row.D.Denot} (λ (o : Opening g.row.D.Denot) (x : Progress g.row.D.Denot). Steps {D = g.row.D.Denot} g.D.Disk.read_gives g.D.Disk.write_gives g.D.Disk.sync_gives o (Ok x)) c.self.inside.journal c.args.self
-    c.in-Ok-Done.field-0 (Done c.in-Ok-Done.journal c.in-Ok-Done.promise c.in-Ok-Done.number) c.self.view_is c.in-Ok-Done.field-0-is c.in-Ok-Done.ensures.exact in
-    inr (c.in-Ok-Done.journal, c.in-Ok-Done.promise, c.in-Ok-Done.number, steps, λ i. Err (made.0 i, made.1 i))
+    c.in-Ok-Done.field-0 (Done c.in-Ok-Done.journal c.in-Ok-Done.opened) c.self.view_is c.in-Ok-Done.field-0-is c.in-Ok-Done.ensures.exact in
+    inr (c.in-Ok-Done.journal, c.in-Ok-Done.opened, steps, λ i. Err (made.0 i, made.1 i))
 
 pub returns-in-Err-clause-exact : goal.returns-in-Err-clause-exact
 returns-in-Err-clause-exact g c =
@@ -93,5 +99,5 @@ pub returns-in-Ok-clause-snapshot : goal.returns-in-Ok-clause-snapshot
 returns-in-Ok-clause-snapshot g c =
     let made = c.in-Ok.ensures.ok in
     let exact = subst (λ (x : Progress g.row.D.Denot). Steps {D = g.row.D.Denot} g.D.Disk.read_gives g.D.Disk.write_gives g.D.Disk.sync_gives c.self.inside.journal (Ok x)) c.in-Ok-Done.field-0-is c.in-Ok-Done.ensures.exact in
-    let whose = last_whose {D = g.row.D.Denot} g.D.Disk.read_gives g.D.Disk.write_gives g.D.Disk.sync_gives g.D.Disk.areas c.self.inside.journal c.in-Ok-Done.journal c.in-Ok-Done.promise c.in-Ok-Done.number exact in
-    subst (λ (x : Progress g.row.D.Denot). MaySnap {D = g.row.D.Denot} x) (c.in-Ok-Done.field-0-is ∙ ended {D = g.row.D.Denot} c.in-Ok-Done.journal c.in-Ok.slots c.in-Ok-Done.promise c.in-Ok-Done.number c.in-Ok.core made.2 made.1 whose.2) c.in-Ok-Done.ensures.snapshot
+    let whose = last_whose {D = g.row.D.Denot} g.D.Disk.read_gives g.D.Disk.write_gives g.D.Disk.sync_gives g.D.Disk.areas c.self.inside.journal c.in-Ok-Done.journal c.in-Ok-Done.opened exact in
+    subst (λ (x : Progress g.row.D.Denot). MaySnap {D = g.row.D.Denot} x) (c.in-Ok-Done.field-0-is ∙ ended {D = g.row.D.Denot} c.in-Ok-Done.journal c.in-Ok.slots c.in-Ok-Done.opened c.in-Ok.core made.2 made.1 whose.2 whose.3 whose.4) c.in-Ok-Done.ensures.snapshot
