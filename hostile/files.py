@@ -36,6 +36,7 @@ def work(rig, options, task):
         areas = rig.plain.areas(text)
         files = [rig.write("node/a0", areas[0]), rig.write("node/a1", areas[1])]
         told = re.compile(rb"rr: 2 Device\n")
+        opened_to_read(rig, tally, f"show {name}", ["show", rig.path("node")], files)
         each_call(rig, tally, f"show {name}", ["show", rig.path("node")], files, rig.plain.show(areas), told)
     else:
         file = rig.write("schedule", text)
@@ -69,6 +70,17 @@ def refused(rig, tally, what, words, line):
     tally.counts["files that aren't there, or no files"] += 1
     holds = ending.status == 5 and re.fullmatch(line, ending.err) and not ending.out
     tally.check(holds, lambda: f"{what}: {tell(ending)}")
+
+
+def opened_to_read(rig, tally, what, words, files):
+    """Each file is opened once, for reading alone."""
+    trace = rig.path("trace")
+    paths = [word for file in files for word in ("-P", file)]
+    rig.run_all([shutil.which("strace"), "-q", "-f", "-o", trace, *paths, "-e", "trace=openat", rig.rr, *words])
+    with open(trace) as file:
+        ways = re.findall(r'openat\(AT_FDCWD, "[^"]*/(a[01])", (O_RDONLY)(?:\|O_NOCTTY)?\|O_CLOEXEC\)', file.read())
+    os.remove(trace)
+    tally.check(ways == [("a0", "O_RDONLY"), ("a1", "O_RDONLY")], lambda: f"{what}: opened {ways}")
 
 
 def each_call(rig, tally, what, words, files, whole, told):

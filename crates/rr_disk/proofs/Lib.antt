@@ -6,4 +6,5 @@ pub mod Filled
 pub mod Rows
 pub mod Standing
 pub mod Strips
+pub mod Syncs
 pub mod Torn

@@ -1,4 +1,5 @@
 pub mod Areas
+pub mod Asked
 pub mod Counts
 pub mod Crash
 pub mod Failing

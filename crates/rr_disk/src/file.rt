@@ -1,41 +1,36 @@
 //! A disk of two files.
 
-ghost use Rattle.std.specs.Prelude.{◌≡◌, ◌+◌, ◌-◌, ◌<◌, ◌≤◌, ◌⊎◌, ◌^◌, [], length, min, max, IfOk, IfErr, OnOk, OnErr};
+ghost use Rattle.std.specs.Prelude.{◌≡◌, ◌+◌, ◌-◌, ◌<◌, ◌≤◌, ◌⊎◌, ◌^◌, ℕ, true, false, [], length, min, max, IfOk, IfErr, OnOk, OnErr};
+ghost use Rattle.std.specs.Fs.{new_options, with_read, with_write, with_create};
 ghost use Rattle.rr_types.specs.declared.refusal.Refusal.TheVariants.{Device, OutOfMemory};
 ghost use Rattle.rr_disk.specs.Crash.{restarted};
-ghost use Rattle.rr_disk.specs.Files.{length_of, FileRead, FileWrite, FileSync};
+ghost use Rattle.rr_disk.specs.Files.{held_of, opened, FileRead, FileWrite, FileSync};
 
 use crate::area::Area;
+use crate::area_file::{AreaFile, OpenedFile};
 use crate::disk::Disk;
+use crate::held::HeldArea;
 use rr_types::Refusal;
 use std::alloc::Global;
 use std::fs::{OpenFile, OpenOptions};
-use std::io::{ErrorKind, Read, Seek, SeekFrom, Write};
+use std::io::{ErrorKind, Read, Seek, Write};
 use std::marker::Model;
 use std::rt::Files;
 use std::{fs, io};
 
-/// A file that holds an area.
-#[derive(Drop)]
-struct FileArea<F> {
-    file: F,
-    len: u64,
-}
-
-impl<F> Model for FileArea<F> {
-    ghost use Rattle.std.specs.Prelude.{ℕ};
-
-    ghost Value = { ℕ };
-
-    ghost view = { λ a. a.len };
-}
-
 /// A disk of two files. It tells no bytes: what a file holds no contract knows. Its calls fail as those of the
 /// files do, and a write fails that starts past the end, which then changes nothing.
+///
+/// A sync asks nothing of a file in which nothing was written since its last one. The first sync after an
+/// opening, and each after one that failed, doesn't rely on earlier ones: it reads both files and writes back
+/// what the reads gave, and syncs both. (After an `fsync` that failed a system may drop what was written, give
+/// it in reads all the same, and report success the next time.)
 #[derive(Drop)]
 pub struct FileDisk<F> {
-    first: FileArea<F>,
-    second: FileArea<F>,
+    first: HeldArea<F>,
+    second: HeldArea<F>,
+    // whether no sync has succeeded since the opening, or since one that failed
+    doubted: bool,
     calls: u64,
     faults: u64,
 }
@@ -43,115 +38,128 @@ pub struct FileDisk<F> {
 impl<F> Model for FileDisk<F> {
     ghost use Rattle.rr_disk.specs.Files.{FileState};
 
-    ghost Value = { FileState };
+    ghost Value = { FileState F };
 
-    ghost view = { λ d. record { first = d.first; second = d.second; calls = d.calls; faults = d.faults } };
+    ghost view = { λ d. record { first = d.first; second = d.second; doubted = d.doubted; calls = d.calls; faults = d.faults } };
 }
 
-impl<F: Read + Write + Seek + OpenFile + Drop> FileArea<F> {
-    // The bytes from an offset on, as many as are asked for or as there are.
-    fn read(&mut self, alloc: Global, at: u64, count: u64) -> Result<Vec<u8>, Refusal>
-        ensures ok { IfOk result (λ v. length v.items ≡ min count (self.old - at)) }
-        ensures err { IfErr result (λ e. (e ≡ OutOfMemory) ⊎ (e ≡ Device)) }
-        ensures same { self.new ≡ self.old }
-    {
-        let there = count.min(self.len.saturating_sub(at));
-        let mut bytes = vec![in alloc; 0u8; there as usize]?;
-        match read_at(&mut self.file, at, bytes.as_mut_slice()) {
-            Ok(()) => Ok(bytes),
-            Err(_) => Err(Refusal::Device),
-        }
-    }
-
-    // Writes over what is there and past the end. Where that fails the area may have grown.
-    fn write(&mut self, at: u64, bytes: &[u8]) -> Result<(), Refusal>
-        ensures ok { OnOk result ((at ≤ self.old) × (at + length bytes.now < 2 ^ 64) × (self.new ≡ max self.old (at + length bytes.now))) }
-        ensures err { IfErr result (λ e. (e ≡ Device) × (self.old ≤ self.new) × (self.new ≤ max self.old (at + length bytes.now)) × (self.old < at → self.new ≡ self.old)) }
-    {
-        let Some(end) = at.checked_add(bytes.len() as u64) else {
-            return Err(Refusal::Device);
-        };
-        if self.len < at {
-            return Err(Refusal::Device);
-        }
-        let whole = self.len.max(end);
-        match write_at(&mut self.file, at, bytes) {
-            Ok(()) => {
-                self.len = whole;
-                Ok(())
-            }
-            Err(_) => {
-                if let Ok(found) = self.file.metadata() {
-                    self.len = self.len.max(found.len().min(whole));
-                }
-                Err(Refusal::Device)
-            }
-        }
-    }
-}
-
-fn read_at<F: Read + Seek>(file: &mut F, at: u64, bytes: &mut [u8]) -> io::Result<()> {
-    file.seek(SeekFrom::Start(at))?;
-    file.read_exact(bytes)
-}
-
-fn write_at<F: Write + Seek>(file: &mut F, at: u64, bytes: &[u8]) -> io::Result<()> {
-    file.seek(SeekFrom::Start(at))?;
-    file.write_all(bytes)?;
-    file.flush()
-}
-
-impl<F: Read + Write + Seek + OpenFile + Drop> FileDisk<F> {
-    /// The disk of the files `a0` and `a1` of a folder. Where `make` is true the folder and the files are made
-    /// that are missing; where it is false a file that may only be read is opened too, and a write to it fails.
+impl<F: AreaFile + Drop> FileDisk<F> {
+    /// The disk of two files that were just opened.
     ///
     /// # Errors
-    /// `OutOfMemory`; `Device` where the folder or a file can't be opened or made, as where a folder stands in
-    /// the place of a file.
+    /// `Device` where a file doesn't tell its length.
+    pub fn over(first: F, second: F) -> Result<FileDisk<F>, Refusal>
+        ensures opened { IfOk result (λ d. (first_len : ℕ) × (second_len : ℕ) × (d ≡ opened first first_len second second_len)) }
+        ensures cause { IfErr result (λ e. e ≡ Device) }
+    {
+        let (Ok(first_len), Ok(second_len)) = (first.length(), second.length()) else {
+            return Err(Refusal::Device);
+        };
+        Ok(FileDisk {
+            first: HeldArea::new(first, first_len),
+            second: HeldArea::new(second, second_len),
+            doubted: true,
+            calls: 0,
+            faults: 0,
+        })
+    }
+
+    /// Gives the files back.
+    pub fn into_files(self) -> (F, F)
+        ensures { (result.0 ≡ self.first.file) × (result.1 ≡ self.second.file) }
+    {
+        let FileDisk {
+            first,
+            second,
+            doubted: _,
+            calls: _,
+            faults: _,
+        } = self;
+        (first.into_file(), second.into_file())
+    }
+}
+
+impl<F: Read + Write + Seek + OpenFile + Drop> FileDisk<OpenedFile<F>> {
+    /// The disk of the files `a0` and `a1` of a folder. Where `make` is true the folder and the files are made
+    /// that are missing. Nothing is truncated.
+    ///
+    /// # Errors
+    /// `OutOfMemory`; `Device` where the folder or a file can't be opened to read and write, or not be made, as
+    /// where a folder stands in the place of a file.
     pub fn open<R: Files<File = F> + AllocGlobal>(
         rt: &R,
         dir: &str,
         make: bool,
-    ) -> Result<FileDisk<F>, Refusal>
-        ensures counts { IfOk result (λ d. (d.calls ≡ 0) × (d.faults ≡ 0)) }
+    ) -> Result<FileDisk<OpenedFile<F>>, Refusal>
+        ensures counts { IfOk result (λ d. (d.calls ≡ 0) × (d.faults ≡ 0) × (d.doubted ≡ true)) }
         ensures cause { IfErr result (λ e. (e ≡ OutOfMemory) ⊎ (e ≡ Device)) }
     {
-        let first = format!(in rt.alloc(); "{dir}/a0")?;
-        let second = format!(in rt.alloc(); "{dir}/a1")?;
-        match open_both(rt, dir, first.as_str(), second.as_str(), make) {
-            Ok((first, second)) => Ok(FileDisk {
-                first,
-                second,
-                calls: 0,
-                faults: 0,
-            }),
-            Err(_) => Err(Refusal::Device),
+        if make && fs::create_dir_all(rt, dir).is_err() {
+            return Err(Refusal::Device);
         }
+        let disk = open_areas(rt, dir, true, make)?;
+        if make && sync_folder(rt, dir).is_err() {
+            return Err(Refusal::Device);
+        }
+        Ok(disk)
+    }
+
+    /// The same, of files that are there and are opened for reading alone. A write to it fails, and so does a
+    /// first sync, unless the areas are empty.
+    ///
+    /// # Errors
+    /// `OutOfMemory`; `Device` where a file can't be opened to read.
+    pub fn open_read_only<R: Files<File = F> + AllocGlobal>(
+        rt: &R,
+        dir: &str,
+    ) -> Result<FileDisk<OpenedFile<F>>, Refusal>
+        ensures counts { IfOk result (λ d. (d.calls ≡ 0) × (d.faults ≡ 0) × (d.doubted ≡ true)) }
+        ensures cause { IfErr result (λ e. (e ≡ OutOfMemory) ⊎ (e ≡ Device)) }
+    {
+        open_areas(rt, dir, false, false)
     }
 }
 
-// Opens both files of a folder.
-fn open_both<R: Files>(
+// Opens the files of a folder, to read, and to write where that is asked for. They may be missing only where
+// they are to be made.
+fn open_areas<R: Files + AllocGlobal>(
     rt: &R,
     dir: &str,
-    first: &str,
-    second: &str,
+    write: bool,
     make: bool,
-) -> io::Result<(FileArea<R::File>, FileArea<R::File>)> {
-    if make {
-        fs::create_dir_all(rt, dir)?;
-    }
-    let first = open_area(rt, first, make)?;
-    let second = open_area(rt, second, make)?;
-    if make {
-        // The names of new files last as what is written in them does.
-        fs::open(rt, dir)?.sync_all()?;
-    }
-    Ok((first, second))
+) -> Result<FileDisk<OpenedFile<R::File>>, Refusal>
+    requires { make ≡ true → write ≡ true }
+    ensures counts { IfOk result (λ d. (d.calls ≡ 0) × (d.faults ≡ 0) × (d.doubted ≡ true)) }
+    ensures cause { IfErr result (λ e. (e ≡ OutOfMemory) ⊎ (e ≡ Device)) }
+{
+    let first = format!(in rt.alloc(); "{dir}/a0")?;
+    let second = format!(in rt.alloc(); "{dir}/a1")?;
+    let options = options_of(write, make);
+    let Ok(first) = open_file(rt, first.as_str(), &options, make) else {
+        return Err(Refusal::Device);
+    };
+    let Ok(second) = open_file(rt, second.as_str(), &options, make) else {
+        return Err(Refusal::Device);
+    };
+    FileDisk::over(OpenedFile::new(first), OpenedFile::new(second))
+}
+
+// How a file is opened: to read, and to write or be made where that is asked for; it is never truncated.
+fn options_of(write: bool, make: bool) -> OpenOptions
+    ensures { result ≡ with_create (with_write (with_read new_options true) write) make }
+{
+    let mut options = OpenOptions::new();
+    let _ = options.read(true).write(write).create(make);
+    options
 }
 
 // Opens a file, which may be missing only where it is to be made. What is there and is no file isn't opened.
-fn open_area<R: Files>(rt: &R, path: &str, make: bool) -> io::Result<FileArea<R::File>> {
+fn open_file<R: Files>(
+    rt: &R,
+    path: &str,
+    options: &OpenOptions,
+    make: bool,
+) -> io::Result<R::File> {
     match fs::metadata(rt, path) {
         Ok(found) if !found.is_file() => return Err(io::Error::from(ErrorKind::Unsupported)),
         Ok(_) => {}
@@ -161,21 +169,15 @@ fn open_area<R: Files>(rt: &R, path: &str, make: bool) -> io::Result<FileArea<R:
             }
         }
     }
-    let opened = OpenOptions::new()
-        .read(true)
-        .write(true)
-        .create(make)
-        .open(rt, path);
-    let file = match opened {
-        Ok(file) => file,
-        Err(_) if !make => fs::open(rt, path)?,
-        Err(error) => return Err(error),
-    };
-    let len = file.metadata()?.len();
-    Ok(FileArea { file, len })
+    options.open(rt, path)
 }
 
-impl<F: Read + Write + Seek + OpenFile + Drop> Disk for FileDisk<F> {
+// Makes the names of new files last, as what is written in them does.
+fn sync_folder<R: Files>(rt: &R, dir: &str) -> io::Result<()> {
+    fs::open(rt, dir)?.sync_all()
+}
+
+impl<F: AreaFile + Drop> Disk for FileDisk<F> {
     ghost tells = { λ _. ⊥ };
 
     ghost areas = { λ _. restarted (record { of_first = []; of_second = [] }) };
@@ -184,11 +186,11 @@ impl<F: Read + Write + Seek + OpenFile + Drop> Disk for FileDisk<F> {
 
     ghost faults = { λ d. d.faults };
 
-    ghost read_gives = { FileRead };
+    ghost read_gives = { FileRead F.gives };
 
-    ghost write_gives = { FileWrite };
+    ghost write_gives = { FileWrite F.gives };
 
-    ghost sync_gives = { FileSync };
+    ghost sync_gives = { FileSync F.gives };
 
     fn read(&mut self, alloc: Global, area: Area, at: u64, count: u64) -> Result<Vec<u8>, Refusal> {
         self.calls = self.calls.saturating_add(1);
@@ -220,9 +222,11 @@ impl<F: Read + Write + Seek + OpenFile + Drop> Disk for FileDisk<F> {
 
     fn sync(&mut self) -> Result<(), Refusal> {
         self.calls = self.calls.saturating_add(1);
-        if self.first.file.sync_all().is_ok() && self.second.file.sync_all().is_ok() {
+        if self.first.sync(self.doubted).is_ok() && self.second.sync(self.doubted).is_ok() {
+            self.doubted = false;
             Ok(())
         } else {
+            self.doubted = true;
             self.faults = self.faults.saturating_add(1);
             Err(Refusal::Device)
         }
@@ -230,8 +234,8 @@ impl<F: Read + Write + Seek + OpenFile + Drop> Disk for FileDisk<F> {
 
     fn len(&self, area: Area) -> u64 {
         match area {
-            Area::First => self.first.len,
-            Area::Second => self.second.len,
+            Area::First => self.first.len(),
+            Area::Second => self.second.len(),
         }
     }
 }

@@ -7,15 +7,18 @@
 #![tactic(auto)]
 
 mod area;
+mod area_file;
 mod cell;
 mod cells;
 mod disk;
 mod failing;
 mod file;
+mod held;
 mod memory;
 mod strip;
 
 pub use area::Area;
+pub use area_file::{AreaFile, OpenedFile};
 pub use cell::Cell;
 pub use disk::Disk;
 pub use failing::FailingDisk;

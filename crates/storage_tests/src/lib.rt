@@ -2,8 +2,6 @@
 #![tactic(auto)]
 
 #[cfg(test)]
-mod file_disk;
-#[cfg(test)]
 mod flush;
 #[cfg(test)]
 mod frame_sweeps;

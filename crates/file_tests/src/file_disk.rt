@@ -137,3 +137,31 @@ fn a_file_that_was_cut_is_a_fault(rt: HostRuntime) {
     drop(disk);
     fs::remove_dir_all(&rt, folder).expect(&rt, "the folder goes");
 }
+
+#[test]
+fn opened_to_read_it_changes_nothing(rt: HostRuntime) {
+    let folder = "rr_disk_seen";
+    let _ = fs::remove_dir_all(&rt, folder);
+    let alloc = rt.alloc();
+    assert!(rt; FileDisk::open_read_only(&rt, folder).is_err(), "no folder");
+    assert!(rt;
+        !fs::exists(&rt, folder).expect(&rt, "a look"),
+        "none was made"
+    );
+    fs::create_dir(&rt, folder).expect(&rt, "a folder");
+    fs::write(&rt, "rr_disk_seen/a0", b"xyz".as_slice()).expect(&rt, "a file");
+    assert!(rt; FileDisk::open_read_only(&rt, folder).is_err(), "one file");
+    fs::write(&rt, "rr_disk_seen/a1", b"".as_slice()).expect(&rt, "a file");
+    let mut disk = FileDisk::open_read_only(&rt, folder).expect(&rt, "an opening");
+    assert_eq!(rt; disk.write_at(Area::Second, 0, &[1]), Err(Refusal::Device));
+    assert_eq!(rt; disk.sync(), Err(Refusal::Device));
+    assert_eq!(rt;
+        disk.read(alloc, Area::First, 0, 9)
+            .expect(&rt, "a read")
+            .as_slice(),
+        b"xyz".as_slice()
+    );
+    assert_eq!(rt; disk.len(Area::Second), 0);
+    drop(disk);
+    fs::remove_dir_all(&rt, folder).expect(&rt, "the folder goes");
+}
