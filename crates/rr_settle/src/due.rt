@@ -2,11 +2,12 @@
 
 ghost use Rattle.std.specs.Prelude.{◌≡◌, ◌<◌, IfOk, IfErr, IfSome, OnOk, option_map, Some};
 ghost use Rattle.rr_types.specs.Standings.{round_of};
-ghost use Rattle.rr_model.specs.NodeDue.{due_of_coordinator, due_of_participant, due_of_row, due_at, first_due, due, carry_out, settle};
+ghost use Rattle.rr_model.specs.NodeState.{open_instances};
+ghost use Rattle.rr_model.specs.NodeDue.{due_of_coordinator, due_of_participant, due_of_row, first_due, due, carry_out, settle};
 ghost use Rattle.rr_step.specs.Steps.{stepped};
 ghost use Rattle.rr_settle.specs.Dues.{meaning_of, MovesBelowLast, CanBeCarriedOut};
 
-use crate::parts::{enter, free_command, propose};
+use crate::parts::{enter, propose};
 use rr_relay::conclude;
 use rr_round::Tally;
 use rr_step::Step;
@@ -86,36 +87,33 @@ fn due_of_row(step: &Step<'_>, instance: Instance, tally: &Tally, standing: Stan
     }
 }
 
-/// What is due for an instance.
-fn due_at(step: &Step<'_>, alloc: Global, instance: Instance) -> Result<Option<Due>, Refusal>
-    ensures value { IfOk result (λ found. option_map meaning_of found ≡ due_at step.now.state instance) }
-    ensures ready { IfOk result (λ found. IfSome found (CanBeCarriedOut step.now.state)) }
-    ensures err { IfErr result (λ e. e ≡ Refusal.OutOfMemory) }
-{
-    match step.row(instance) {
-        Some(row) => Ok(due_of_row(step, instance, &row.tally, row.standing)),
-        None => match free_command(step, alloc, instance) {
-            Ok(Some(_)) => Ok(Some(Due::Begin(instance))),
-            Ok(None) => Ok(None),
-            Err(refusal) => Err(refusal),
-        },
-    }
-}
-
+/// The first of the open instances, which these are, for which something is due. The pool is searched at most once: a
+/// command is free for each instance that no fact names, or for none.
 #[tactic(auto, using(crate::proofs::DueLemmas::first_due_more, crate::proofs::DueLemmas::first_due_here))]
-fn first_due(step: &Step<'_>, alloc: Global, instances: &[Instance]) -> Result<Option<Due>, Refusal>
-    ensures value { IfOk result (λ found. option_map meaning_of found ≡ first_due step.now.state instances.now) }
-    ensures ready { IfOk result (λ found. IfSome found (CanBeCarriedOut step.now.state)) }
-    ensures err { IfErr result (λ e. e ≡ Refusal.OutOfMemory) }
+fn first_due(step: &Step<'_>, instances: &[Instance]) -> Option<Due>
+    requires { instances.now ≡ open_instances step.now.state }
+    ensures value { option_map meaning_of result ≡ first_due step.now.state instances.now }
+    ensures ready { IfSome result (CanBeCarriedOut step.now.state) }
 {
+    let mut is_pool_spent = false;
     for instance in instances {
-        match due_at(step, alloc, *instance) {
-            Ok(Some(due)) => return Ok(Some(due)),
-            Ok(None) => (),
-            Err(refusal) => return Err(refusal),
+        match step.row(*instance) {
+            Some(row) => {
+                if let Some(due) = due_of_row(step, *instance, &row.tally, row.standing) {
+                    return Some(due);
+                }
+            }
+            None => {
+                if !is_pool_spent {
+                    if step.first_free(instances, *instance).is_some() {
+                        return Some(Due::Begin(*instance));
+                    }
+                    is_pool_spent = true;
+                }
+            }
         }
     }
-    Ok(None)
+    None
 }
 
 /// What is due: the lowest open instance to which anything applies. What is found can be carried out.
@@ -126,7 +124,7 @@ pub fn find_due(step: &Step<'_>, alloc: Global) -> Result<Option<Due>, Refusal>
     ensures err { IfErr result (λ e. e ≡ Refusal.OutOfMemory) }
 {
     match step.open_instances(alloc) {
-        Ok(instances) => first_due(step, alloc, &instances),
+        Ok(instances) => Ok(first_due(step, &instances)),
         Err(refusal) => Err(refusal),
     }
 }
