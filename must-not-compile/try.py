@@ -24,8 +24,11 @@ def refused(edit):
         if source.count(field(text, "old")) != 1:
             return "its old text doesn't stand there once"
         path.write_text(source.replace(field(text, "old"), field(text, "new")))
-        program = pathlib.Path(copy) / "crates" / "rr"
-        ran = subprocess.run(["rt", "try", "--", "--version"], cwd=program, capture_output=True, text=True)
+        # the program, or a crate of tests where an edit names one
+        tests = re.search(r"^crate: (.*)$", text, re.MULTILINE)
+        command = ["rt", "try", "--test"] if tests else ["rt", "try", "--", "--version"]
+        crate = pathlib.Path(copy) / "crates" / (tests.group(1) if tests else "rr")
+        ran = subprocess.run(command, cwd=crate, capture_output=True, text=True)
         if ran.returncode != 0 and field(text, "error") in ran.stdout + ran.stderr:
             return None
         return "it was not refused with its error:\n" + ran.stdout + ran.stderr

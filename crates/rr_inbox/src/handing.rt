@@ -1,0 +1,92 @@
+//! One value at a time, from one thread to another.
+
+ghost use Rattle.std.specs.Prelude.{◌≡◌, true, false, [], IfOk, IfErr, OnOk, MatchOption};
+ghost use Rattle.crossbeam_channel.specs.Err.{IsFull, IsOutOfMemory, try_send_message};
+ghost use Rattle.rr_types.specs.declared.refusal.Refusal.TheVariants.{OutOfMemory};
+ghost use Rattle.rr_inbox.specs.InOrder.{Puts, Takes, HasHeld, view_of};
+
+use crate::rule::{FirstInFirstOut, Put, Putter, Take};
+use crate::view::View;
+use crossbeam_channel::{Pass, RuledReceiver, RuledSender, TrySendError, bounded_with};
+use rr_types::Refusal;
+use std::alloc::Global;
+use std::marker::Model;
+use std::sync::Wait;
+
+/// The end that gives.
+#[derive(Drop)]
+pub struct Giver<T: Drop> {
+    sender: RuledSender<T, View<T>, FirstInFirstOut>,
+    pass: Pass<T, View<T>>,
+}
+
+impl<T: Drop> Model for Giver<T> {
+    ghost use Rattle.std.specs.Prelude.{◌≡◌};
+    ghost use Rattle.crossbeam_channel.specs.Claims.{IsSeatAt};
+    ghost use Rattle.crossbeam_channel.specs.Ends.{sends_on, ruled_capacity};
+    ghost use Rattle.rr_inbox.specs.declared.view.View.{View};
+
+    ghost Value = { View T };
+
+    ghost view = { λ g. g.pass.me.0.client };
+
+    ghost invariant = { λ g. IsSeatAt (sends_on g.sender) g.pass × (ruled_capacity (sends_on g.sender) ≡ 1) };
+}
+
+/// The end that takes.
+#[derive(Drop)]
+pub struct Taker<T: Drop> {
+    receiver: RuledReceiver<T, View<T>, FirstInFirstOut>,
+    pass: Pass<T, View<T>>,
+}
+
+impl<T: Drop> Model for Taker<T> {
+    ghost use Rattle.std.specs.Prelude.{◌≡◌, true};
+    ghost use Rattle.crossbeam_channel.specs.Claims.{IsSeatAt};
+    ghost use Rattle.crossbeam_channel.specs.Ends.{receives_on};
+    ghost use Rattle.rr_inbox.specs.declared.view.View.{View};
+
+    ghost Value = { View T };
+
+    ghost view = { λ t. t.pass.me.0.client };
+
+    ghost invariant = { λ t. IsSeatAt (receives_on t.receiver) t.pass × (t.pass.me.0.client.takes ≡ true) };
+}
+
+/// The two ends of a hand-over of one value at a time. It is `OutOfMemory`.
+pub fn hand_over<T: Drop>(alloc: Global) -> Result<(Giver<T>, Taker<T>), Refusal>
+    ensures giver { IfOk result (λ ends. ends.0 ≡ view_of false [] [] []) }
+    ensures taker { IfOk result (λ ends. ends.1 ≡ view_of true [] [] []) }
+    ensures err { IfErr result (λ e. e ≡ OutOfMemory) }
+{
+    let (sender, receiver, mut pass) = bounded_with(alloc, 1)?;
+    let giving = sender.another::<Putter>(&mut pass);
+    let giver = Giver {
+        sender,
+        pass: giving,
+    };
+    Ok((giver, Taker { receiver, pass }))
+}
+
+impl<T: Drop> Giver<T> {
+    /// Gives a value. It comes back as `Full` only where at some moment of the call the value before it hadn't been
+    /// taken, or as `Disconnected`, where nobody takes any more.
+    pub fn give<R: Wait>(&mut self, rt: &R, value: T) -> Result<(), TrySendError<T>>
+        ensures given { OnOk result (Puts self.old value self.new) }
+        ensures back { IfErr result (λ e. (try_send_message e ≡ value) × (self.new ≡ self.old) × (IsFull e → HasHeld 1 self.old)) }
+        ensures err { IfErr result (λ e. ¬ IsOutOfMemory e) }
+    {
+        self.sender.try_send_as::<Put, R>(rt, &mut self.pass, value)
+    }
+}
+
+impl<T: Drop> Taker<T> {
+    /// Takes the oldest value. There is none only where at some moment of the call no value waited.
+    pub fn take<R: Wait>(&mut self, rt: &R) -> Option<T>
+        ensures { MatchOption result ((self.new ≡ self.old) × HasHeld 0 self.old) (λ value. Takes self.old value self.new) }
+    {
+        self.receiver
+            .try_recv_as::<Take, R>(rt, &mut self.pass)
+            .ok()
+    }
+}

@@ -1,0 +1,169 @@
+//! Readers of a window.
+
+ghost use Rattle.std.specs.Prelude.{◌≡◌, ◌⊎◌, [], IfOk, OnOk, OnErr, IfErr};
+ghost use mathlib.Core.List.{IsPrefix};
+ghost use Rattle.rr_types.specs.declared.refusal.Refusal.TheVariants.{NoGuard, SeatsTaken};
+ghost use Rattle.rr_types.specs.Registry.{registry_of, holding_of};
+ghost use Rattle.rr_window.specs.Lists.{beginning};
+ghost use Rattle.rr_window.specs.Windows.{IsServed};
+ghost use Rattle.rr_window.specs.Sights.{sight_of};
+
+use crate::list::{Beginning, WindowName};
+use crate::receipt::Receipt;
+use crate::served::{Served, WindowRule};
+use crate::sight::Sight;
+use core::mem::replace_with;
+use left_right::reader::{Factory, Reader};
+use rr_types::{Name, Refusal};
+use std::marker::Model;
+
+/// The places of a window's readers, at most 64 at a time. Threads may share it.
+#[derive(Drop)]
+pub struct Seats<W: WindowName> {
+    // None where the count of those who share the window is full.
+    factory: Option<Factory<Served, (), WindowRule<W>>>,
+    empty: Beginning,
+}
+
+impl<W: WindowName> Model for Seats<W> {
+    ghost use Rattle.std.specs.Prelude.{◌≡◌, List, []};
+    ghost use Rattle.rr_types.specs.declared.command.Command.{Command};
+    ghost use Rattle.rr_window.specs.Lists.{beginning};
+
+    ghost Value = { List Command };
+
+    ghost view = { λ s. s.empty.list };
+
+    ghost invariant = { λ s. s.empty ≡ beginning W.book [] };
+}
+
+impl<W: WindowName> Seats<W> {
+    pub(crate) fn new(
+        factory: Option<Factory<Served, (), WindowRule<W>>>,
+        empty: Beginning,
+    ) -> Seats<W>
+        requires { empty ≡ beginning W.book [] }
+    {
+        Seats { factory, empty }
+    }
+
+    /// A reader's place, which has seen nothing yet. It is `SeatsTaken` where it finds each place in use.
+    pub fn take(&self) -> Result<Seat<W>, Refusal>
+        ensures ok { IfOk result (λ seat. seat ≡ []) }
+        ensures err { IfErr result (λ e. e ≡ SeatsTaken) }
+    {
+        let Some(factory) = &self.factory else {
+            return Err(Refusal::SeatsTaken);
+        };
+        match factory.reader() {
+            Ok(reader) => Ok(Seat {
+                reader,
+                known: self.empty.again(),
+            }),
+            Err(_) => Err(Refusal::SeatsTaken),
+        }
+    }
+}
+
+/// A reader's place, which one thread uses. Contracts see the longest list that it has seen or learned.
+#[derive(Drop)]
+pub struct Seat<W: WindowName> {
+    reader: Reader<Served, (), WindowRule<W>>,
+    known: Beginning,
+}
+
+impl<W: WindowName> Model for Seat<W> {
+    ghost use Rattle.std.specs.Prelude.{◌≡◌, List};
+    ghost use Rattle.rr_types.specs.declared.command.Command.{Command};
+
+    ghost Value = { List Command };
+
+    ghost view = { λ s. s.known.list };
+
+    ghost invariant = { λ s. s.known.book ≡ W.book };
+}
+
+// Looks at a name in what is served now.
+fn look_at<W: WindowName>(
+    reader: Reader<Served, (), WindowRule<W>>,
+    name: &Name,
+    known: &Beginning,
+) -> (
+    Reader<Served, (), WindowRule<W>>,
+    Result<(Sight, Beginning), Refusal>,
+)
+    requires { known.now.book ≡ W.book }
+    ensures own { IfOk result.1 (λ r. r.1.book ≡ W.book) }
+    ensures entry { IfOk result.1 (λ r. r.0 ≡ sight_of (holding_of (registry_of r.1.list) name.now)) }
+    ensures later { IfOk result.1 (λ r. IsPrefix known.now.list r.1.list) }
+    ensures err { IfErr result.1 (λ e. e ≡ NoGuard) }
+{
+    let reading = match reader.enter_as::<WindowRule<W>>() {
+        Ok(reading) => reading,
+        Err(reader) => return (reader, Err(Refusal::NoGuard)),
+    };
+    let seen = look_in(reading.get(), name, known);
+    (reading.leave(), seen)
+}
+
+// Looks at a name in what is served, where that is no shorter than what is known.
+fn look_in(served: &Served, name: &Name, known: &Beginning) -> Result<(Sight, Beginning), Refusal>
+    requires { IsServed known.now.book served.now }
+    ensures own { IfOk result (λ r. r.1.book ≡ known.now.book) }
+    ensures entry { IfOk result (λ r. r.0 ≡ sight_of (holding_of (registry_of r.1.list) name.now)) }
+    ensures later { IfOk result (λ r. IsPrefix known.now.list r.1.list) }
+    ensures err { IfErr result (λ e. e ≡ NoGuard) }
+{
+    let seen = served.beginning();
+    // A window never serves less than was published before, but no clause of `left_right` says so.
+    if seen.count() < known.count() {
+        return Err(Refusal::NoGuard);
+    }
+    known.begins(seen);
+    let sight = match served.entry(name) {
+        None => Sight::Free,
+        Some(holding) => Sight::Bound(holding.owner(), holding.value()),
+    };
+    Ok((sight, seen.again()))
+}
+
+impl<W: WindowName> Seat<W> {
+    /// Who has a name, in a beginning of the published list that begins with all that this seat has seen and learned.
+    /// That beginning is then what it has seen. It waits for nobody and takes no memory.
+    /// It is `NoGuard` where the window gave no guard, as after its end; then the seat knows what it knew.
+    pub fn look(&mut self, name: &Name) -> Result<Sight, Refusal>
+        ensures entry { IfOk result (λ sight. sight ≡ sight_of (holding_of (registry_of self.new) name.now)) }
+        ensures later { OnOk result (IsPrefix self.old self.new) }
+        ensures kept { OnErr result (self.new ≡ self.old) }
+        ensures err { IfErr result (λ e. e ≡ NoGuard) }
+    {
+        let known = self.known.again();
+        let looked = replace_with(&mut self.reader, (name, known), |reader, with| {
+            look_at(reader, with.0, &with.1)
+        });
+        let (sight, seen) = looked?;
+        self.known = seen;
+        Ok(sight)
+    }
+
+    /// From now on this seat sees no less than the receipt's list. It waits for nobody and takes no memory.
+    pub fn learn(&mut self, receipt: &Receipt<W>)
+        ensures before { IsPrefix self.old self.new }
+        ensures told { IsPrefix receipt.now.list self.new }
+        ensures one { (self.new ≡ self.old) ⊎ (self.new ≡ receipt.now.list) }
+    {
+        let told = receipt.told().beginning();
+        if self.known.count() < told.count() {
+            self.known.begins(told);
+            self.known = told.again();
+        } else {
+            told.begins(&self.known);
+        }
+    }
+
+    pub(crate) fn known(&self) -> &Beginning
+        ensures { result.now ≡ beginning W.book self.now }
+    {
+        &self.known
+    }
+}

@@ -1,0 +1,101 @@
+//! What a window serves: the registry of a beginning of its list.
+
+ghost use Rattle.std.specs.Prelude.{◌≡◌, List, []};
+ghost use Rattle.rr_types.specs.Registry.{holding_of, registry_of, reply_of};
+ghost use Rattle.rr_types.specs.declared.command.Command.{Command};
+ghost use Rattle.rr_registry.specs.Kept.{kept_of};
+ghost use Rattle.rr_window.specs.Windows.{with_addition};
+
+use crate::addition::Addition;
+use crate::list::{Beginning, WindowName};
+use crossbeam_utils::rule::{Outcome, Protocol};
+use left_right::Absorb;
+use rr_registry::{Holding, Registry};
+use rr_types::{Name, Reply, RequestNo};
+use std::alloc::{AllocError, Global};
+use std::marker::{Model, PhantomData};
+
+/// A registry, and a beginning of the list. The window's rule says that it is the registry of that beginning.
+#[derive(Drop)]
+pub struct Served {
+    registry: Registry,
+    beginning: Beginning,
+}
+
+impl Model for Served {
+    ghost use Rattle.rr_window.specs.Windows.{Served};
+
+    ghost Value = { Served };
+
+    ghost view = { λ s. record { kept = s.registry; beginning = s.beginning } };
+}
+
+impl Served {
+    /// The registry of no command beside this beginning.
+    pub fn new(alloc: Global, beginning: Beginning) -> Served
+        ensures { result ≡ record { kept = kept_of []; beginning = beginning } }
+    {
+        Served {
+            registry: Registry::new(alloc),
+            beginning,
+        }
+    }
+
+    /// The beginning of the list that is served.
+    pub fn beginning(&self) -> &Beginning
+        ensures { result.now ≡ self.now.beginning }
+    {
+        &self.beginning
+    }
+
+    /// Who has a name, and its value. It takes no memory.
+    pub fn entry(&self, name: &Name) -> Option<Holding>
+        ensures { (list : List Command) → self.now.kept ≡ kept_of list → result ≡ holding_of (registry_of list) name.now }
+    {
+        self.registry.entry(name)
+    }
+
+    /// The reply to a request. It takes no memory.
+    pub fn reply(&self, request: RequestNo) -> Option<Reply>
+        ensures { (list : List Command) → self.now.kept ≡ kept_of list → result ≡ reply_of list request }
+    {
+        self.registry.reply(request)
+    }
+}
+
+impl Absorb<Addition> for Served {
+    type State = Served;
+
+    ghost state = { λ s. s };
+
+    ghost applied = { with_addition };
+
+    fn absorb_first(&mut self, addition: &Addition, _other: &Served) -> Result<(), AllocError> {
+        match self.registry.apply(&addition.command()) {
+            Ok(_) => {
+                self.beginning = addition.beginning().again();
+                Ok(())
+            }
+            Err(_) => Err(AllocError),
+        }
+    }
+}
+
+/// The rule of a window: what it serves is the registry of a beginning of its one list.
+pub struct WindowRule<W: WindowName> {
+    of: PhantomData<W>,
+}
+
+impl<W: WindowName> Protocol<Served, ()> for WindowRule<W> {
+    ghost use Rattle.rr_window.specs.Windows.{IsServed};
+
+    ghost holds = { λ s _. IsServed W.book s };
+
+    ghost first = { tt };
+}
+
+impl<W: WindowName> Outcome<Served, ()> for WindowRule<W> {
+    ghost use Rattle.rr_window.specs.Windows.{IsServed};
+
+    ghost then = { λ _ _ s _. IsServed W.book s };
+}
