@@ -2,6 +2,7 @@
 
 use crate::rows::rows;
 use rr_cli::{end_without_words, execute, print_refusal, report_on, status};
+use rr_stream::Counted;
 use rr_types::Refusal;
 use std::alloc::AllocError;
 use std::io;
@@ -17,12 +18,12 @@ pub struct Outcome {
 }
 
 pub fn run<I: Read>(rt: &HostRuntime, words: &[&str], input: &mut I) -> Result<Outcome, Fail> {
-    let mut out = Vec::new(rt.alloc());
+    let mut out = Counted::new(Vec::new(rt.alloc()));
     let mut err = Vec::new(rt.alloc());
-    let status = execute(rt, words, input, &mut out, &mut err);
+    let status = execute(rt, words, &mut Counted::new(input), &mut out, &mut err);
     Ok(Outcome {
         status,
-        out: String::from_utf8(out)?,
+        out: String::from_utf8(out.into_inner())?,
         err: String::from_utf8(err)?,
     })
 }
@@ -45,29 +46,58 @@ fn reports_on_bytes(rt: HostRuntime) -> Result<(), Fail> {
     Ok(())
 }
 
+/// Each refusal, by its number, with its exit status and its words.
+fn refusals() -> [(Refusal, u8, &'static str); 18] {
+    let damaged = Refusal::Damaged {
+        area: 0,
+        offset: 155,
+    };
+    [
+        (Refusal::OutOfMemory, 6, "OutOfMemory"),
+        (Refusal::Device, 5, "Device"),
+        (damaged, 4, "Damaged 0 155"),
+        (Refusal::Failed, 5, "Failed"),
+        (Refusal::Down, 5, "Down"),
+        (Refusal::BadNodes, 3, "BadNodes"),
+        (Refusal::BadName, 5, "BadName"),
+        (Refusal::BadValue, 5, "BadValue"),
+        (Refusal::ListFull, 5, "ListFull"),
+        (Refusal::RoundsOut, 5, "RoundsOut"),
+        (Refusal::Malformed(18), 5, "Malformed 18"),
+        (Refusal::StrangeMark, 5, "StrangeMark"),
+        (Refusal::Busy, 5, "Busy"),
+        (Refusal::BadEvent(7), 3, "BadEvent 7"),
+        (Refusal::SeatsTaken, 5, "SeatsTaken"),
+        (Refusal::TooLarge, 5, "TooLarge"),
+        (Refusal::AuditNo(3), 7, "AuditNo 3"),
+        (Refusal::NoGuard, 5, "NoGuard"),
+    ]
+}
+
+/// Whether a refusal has this number, these words, in its line and wherever it is shown, and this status.
+fn is_told(
+    rt: &HostRuntime,
+    number: usize,
+    refusal: Refusal,
+    words: &str,
+    ending: u8,
+) -> Result<bool, Fail> {
+    let mut line = Vec::new(rt.alloc());
+    print_refusal(&mut line, &refusal)?;
+    let told = format!(in rt.alloc(); "rr: {number} {words}\n")?;
+    let shown = format!(in rt.alloc(); "{refusal}")?;
+    let is_in_words = line.as_slice() == told.as_bytes() && shown.as_str() == words;
+    Ok(is_in_words && status(&refusal) == ending)
+}
+
 #[test]
-fn tells_refusals(rt: HostRuntime) -> Result<(), Fail> {
-    let wanted = [
-        (Refusal::OutOfMemory, 6, "rr: 1 OutOfMemory\n"),
-        (
-            Refusal::Damaged {
-                area: 0,
-                offset: 155,
-            },
-            4,
-            "rr: 3 Damaged 0 155\n",
-        ),
-        (Refusal::BadNodes, 3, "rr: 6 BadNodes\n"),
-        (Refusal::BadEvent(7), 3, "rr: 14 BadEvent 7\n"),
-        (Refusal::SeatsTaken, 5, "rr: 15 SeatsTaken\n"),
-        (Refusal::TooLarge, 5, "rr: 16 TooLarge\n"),
-        (Refusal::AuditNo(3), 7, "rr: 17 AuditNo 3\n"),
-    ];
-    for (refusal, number, line) in &wanted {
-        let mut err = Vec::new(rt.alloc());
-        print_refusal(&mut err, refusal)?;
-        assert!(rt; err.as_slice() == line.as_bytes(), "the line {line:?}");
-        assert_eq!(rt; status(refusal), *number, "the status of {line:?}");
+fn tells_each_refusal_in_the_same_words(rt: HostRuntime) -> Result<(), Fail> {
+    for (index, (refusal, ending, words)) in refusals().iter().enumerate() {
+        let number = index + 1;
+        assert!(rt;
+            is_told(&rt, number, *refusal, *words, *ending)?,
+            "refusal {number}"
+        );
     }
     Ok(())
 }
@@ -80,6 +110,11 @@ fn reads_words(rt: HostRuntime) -> Result<(), Fail> {
     let help = run(&rt, &["rr", "--help"], &mut &b""[..])?;
     assert_eq!(rt; help.status, 0);
     assert!(rt; help.out.as_str().contains("Usage: rr <COMMAND>"));
+    assert!(rt;
+        help.out
+            .as_str()
+            .contains("\nExit status: 0 done, 2 wrong words")
+    );
     assert!(rt; help.err.is_empty());
     let wrong: [(&[&str], &str); 7] = [
         (
@@ -179,12 +214,15 @@ fn tells_streams_that_fail(rt: HostRuntime) -> Result<(), Fail> {
     assert_eq!(rt; ran.err.as_str(), "rr: standard input: torn\n");
     assert!(rt; ran.out.is_empty());
     let mut err = Vec::new(rt.alloc());
-    let mut input = &b"nodes 3\n"[..];
-    let status = execute(&rt, &["rr", "sim"], &mut input, &mut Closed, &mut err);
+    let mut input = Counted::new(&b"nodes 3\n"[..]);
+    let mut out = Counted::new(Closed);
+    let status = execute(&rt, &["rr", "sim"], &mut input, &mut out, &mut err);
     assert!(rt; err.as_slice() == b"rr: standard output: closed\n".as_slice());
     assert_eq!(rt; status, 5);
-    let status = execute(&rt, &["rr", "--help"], &mut input, &mut Closed, &mut Closed);
-    assert_eq!(rt; status, 5);
+    for word in ["--help", "--version"] {
+        let status = execute(&rt, &["rr", word], &mut input, &mut out, &mut Closed);
+        assert_eq!(rt; status, 5, "the status of {word}");
+    }
     Ok(())
 }
 

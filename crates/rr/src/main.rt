@@ -1,7 +1,8 @@
 //! The program `rr`: its words and streams, handed to `rr_cli`.
 #![tactic(auto)]
 
-use rr_cli::{end_without_words, execute};
+use rr_cli::run;
+use rr_stream::Counted;
 use std::process::ExitCode;
 use std::{env, io};
 
@@ -11,16 +12,11 @@ fn words_of(rt: &HostRuntime) -> io::Result<Vec<String>> {
 }
 
 fn main(rt: HostRuntime) -> ExitCode {
-    let mut err = rt.stderr();
-    let status = match words_of(&rt) {
-        Ok(words) => execute(
-            &rt,
-            words.as_slice(),
-            &mut rt.stdin(),
-            &mut rt.stdout(),
-            &mut err,
-        ),
-        Err(error) => end_without_words(&mut err, &error),
-    };
-    ExitCode::from(status)
+    ExitCode::from(run(
+        &rt,
+        words_of(&rt),
+        &mut Counted::new(rt.stdin()),
+        &mut Counted::new(rt.stdout()),
+        &mut rt.stderr(),
+    ))
 }

@@ -3,7 +3,6 @@ use Rattle.std.proofs.Common.{◌≡◌, ◌⊎◌, ℕ, List, [], ◌∷◌, �
 use Rattle.std.specs.Prelude.{decimal}
 use Rattle.std.specs.Prelude.{Vec}
 use Rattle.std.specs.declared.alloc.Global.{Global}
-use Rattle.std.specs.Io.KnownBytes.{Appends, Keeps}
 use Rattle.rr_types.specs.declared.refusal.Refusal.{Refusal}
 use Rattle.rr_types.specs.declared.refusal.Refusal.TheVariants as refusals
 use Rattle.rr_disk.specs.declared.area.Area.{Area}
@@ -12,7 +11,8 @@ use Rattle.rr_image.specs.Inspect.{Inspects, IsTold, inspected}
 use Rattle.rr_image.proofs.InspectLaws.{seen_by}
 use Rattle.rr_text.specs.ReportTexts.{line}
 use Rattle.rr_cli.specs.Areas.{area_words, areas_text, IsShown}
-use Rattle.rr_cli.specs.Ends.{AppendsFront, IsStreamStatus, EndsOnFolder, told, untold, broken, failed}
+use Rattle.rr_stream.specs.Streams.{Printing}
+use Rattle.rr_cli.specs.Ends.{Prints, EndsOnFolder, told, broken, failed}
 use Rattle.rr_cli.specs.Refusals.{status_of}
 
 -- some areas were shown so, or the device refused
@@ -45,15 +45,10 @@ refusal_shown of_read old new e seen = by_seen (seen_by of_read old new (refused
 pub no_memory_shown : ShowsSome (Err refusals.OutOfMemory)
 no_memory_shown = inl ([], [], tt)
 
--- all of the text was printed
-pub text_ends : (text : Vec ℕ Global) (old new : Option (List ℕ)) → ShowsSome (Ok text) → Appends old new text.items → EndsOnFolder 0 old new
-text_ends text old new (inl (a, b, (first, second, tells, is))) appends = told a b first second tells refl (rw is at appends)
-text_ends text old new (inr device) appends = absurd cc
-
--- a front of the text was printed
-pub front_ends : (text : Vec ℕ Global) (status : ℕ) (old new : Option (List ℕ)) → ShowsSome (Ok text) → IsStreamStatus status → AppendsFront old new text.items → EndsOnFolder status old new
-front_ends text status old new (inl (a, b, (first, second, tells, is))) fails front = untold a b first second tells fails (rw is at front)
-front_ends text status old new (inr device) fails front = absurd cc
+-- the text was printed
+pub text_ends : (text : Vec ℕ Global) (status : ℕ) (old new : Printing) → ShowsSome (Ok text) → Prints text.items status old new → EndsOnFolder status old new
+text_ends text status old new (inl (a, b, (first, second, tells, is))) prints = told a b first second tells (rw is at prints)
+text_ends text status old new (inr device) prints = absurd cc
 
 abbrev the_err : Refusal → Result (Vec ℕ Global) Refusal
 the_err e = Err e
@@ -62,26 +57,26 @@ err_is : (e d : Refusal) → the_err e ≡ the_err d → e ≡ d
 err_is e d is = cc
 
 -- nothing was printed
-pub refusal_ends : (e : Refusal) (status : ℕ) (old new : Option (List ℕ)) → ShowsSome (Err e) → status ≡ status_of e → Keeps old new → EndsOnFolder status old new
-refusal_ends e status old new (inr device) is keeps = let same : e ≡ refusals.Device = err_is e refusals.Device device in failed (inl (rw same at is)) keeps
-refusal_ends refusals.OutOfMemory status old new (inl seen) is keeps = failed (inr is) keeps
-refusal_ends (refusals.Damaged number offset) status old new (inl (a, b, (area, named, breaks))) is keeps = broken a b area offset breaks is keeps
-refusal_ends refusals.Device status old new (inl (a, b, none)) is keeps = absurd none
-refusal_ends refusals.Failed status old new (inl (a, b, none)) is keeps = absurd none
-refusal_ends refusals.Down status old new (inl (a, b, none)) is keeps = absurd none
-refusal_ends refusals.BadNodes status old new (inl (a, b, none)) is keeps = absurd none
-refusal_ends refusals.BadName status old new (inl (a, b, none)) is keeps = absurd none
-refusal_ends refusals.BadValue status old new (inl (a, b, none)) is keeps = absurd none
-refusal_ends refusals.ListFull status old new (inl (a, b, none)) is keeps = absurd none
-refusal_ends refusals.RoundsOut status old new (inl (a, b, none)) is keeps = absurd none
-refusal_ends (refusals.Malformed offset) status old new (inl (a, b, none)) is keeps = absurd none
-refusal_ends refusals.StrangeMark status old new (inl (a, b, none)) is keeps = absurd none
-refusal_ends refusals.Busy status old new (inl (a, b, none)) is keeps = absurd none
-refusal_ends (refusals.BadEvent line) status old new (inl (a, b, none)) is keeps = absurd none
-refusal_ends refusals.SeatsTaken status old new (inl (a, b, none)) is keeps = absurd none
-refusal_ends refusals.TooLarge status old new (inl (a, b, none)) is keeps = absurd none
-refusal_ends (refusals.AuditNo index) status old new (inl (a, b, none)) is keeps = absurd none
-refusal_ends refusals.NoGuard status old new (inl (a, b, none)) is keeps = absurd none
+pub refusal_ends : (e : Refusal) (status : ℕ) (old new : Printing) → ShowsSome (Err e) → status ≡ status_of e → new ≡ old → EndsOnFolder status old new
+refusal_ends e status old new (inr device) is same = let by_device : e ≡ refusals.Device = err_is e refusals.Device device in failed (inl (rw by_device at is)) same
+refusal_ends refusals.OutOfMemory status old new (inl seen) is same = failed (inr is) same
+refusal_ends (refusals.Damaged number offset) status old new (inl (a, b, (area, named, breaks))) is same = broken a b area offset breaks is same
+refusal_ends refusals.Device status old new (inl (a, b, none)) is same = absurd none
+refusal_ends refusals.Failed status old new (inl (a, b, none)) is same = absurd none
+refusal_ends refusals.Down status old new (inl (a, b, none)) is same = absurd none
+refusal_ends refusals.BadNodes status old new (inl (a, b, none)) is same = absurd none
+refusal_ends refusals.BadName status old new (inl (a, b, none)) is same = absurd none
+refusal_ends refusals.BadValue status old new (inl (a, b, none)) is same = absurd none
+refusal_ends refusals.ListFull status old new (inl (a, b, none)) is same = absurd none
+refusal_ends refusals.RoundsOut status old new (inl (a, b, none)) is same = absurd none
+refusal_ends (refusals.Malformed offset) status old new (inl (a, b, none)) is same = absurd none
+refusal_ends refusals.StrangeMark status old new (inl (a, b, none)) is same = absurd none
+refusal_ends refusals.Busy status old new (inl (a, b, none)) is same = absurd none
+refusal_ends (refusals.BadEvent line) status old new (inl (a, b, none)) is same = absurd none
+refusal_ends refusals.SeatsTaken status old new (inl (a, b, none)) is same = absurd none
+refusal_ends refusals.TooLarge status old new (inl (a, b, none)) is same = absurd none
+refusal_ends (refusals.AuditNo index) status old new (inl (a, b, none)) is same = absurd none
+refusal_ends refusals.NoGuard status old new (inl (a, b, none)) is same = absurd none
 
 -- the line on an area that isn't formatted
 pub unformatted_line : (n : ℕ) → line (area_words n None) ≡ codes "area " ++ (decimal n ++ (32 ∷ codes "unformatted" ++ 10 ∷ []))

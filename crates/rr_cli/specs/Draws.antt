@@ -6,8 +6,8 @@ use Rattle.rr_text.specs.Scheduled.{Scheduled}
 use Rattle.rr_text.specs.Reported.{Reported}
 use Rattle.rr_text.specs.ScheduleTexts.{schedule_text}
 use Rattle.rr_text.specs.ReportTexts.{report_text, line}
-use Rattle.rr_sim.specs.Clusters.{IsReportOf}
-use Rattle.rr_sim.specs.Headline.{IsRunOfTheWorld, AgreesWithOneList}
+use Rattle.rr_sim.specs.Clusters.{IsReportOf, IsOnlyOneIfClean}
+use Rattle.rr_sim.specs.Headline.{IsRunOfTheWorld, AgreesWithOneList, KeepsRealTime}
 use Rattle.rr_sim.specs.Random.{IsRandom}
 
 -- the text writes this number, which lies in the range; a plus may stand before it
@@ -26,4 +26,6 @@ pub record IsRandomRun (n seed steps : ℕ) (text : List ℕ) : Type 0 where
   pub run : IsReportOf n schedule.events report
   pub world : IsRunOfTheWorld n schedule.events report
   pub one_list : AgreesWithOneList schedule.events report
+  pub real_time : KeepsRealTime n schedule.events report
+  pub clean : IsOnlyOneIfClean n schedule.events report
   pub told : text ≡ schedule_text schedule ++ line (codes "report" ∷ []) ++ report_text report

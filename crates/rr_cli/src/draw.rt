@@ -6,8 +6,9 @@ ghost use Rattle.rr_cli.specs.Draws.{IsNumberIn, AreNumbers, IsRandomRun};
 ghost use Rattle.rr_cli.specs.Ends.{EndsOnDraw, EndsOnWords};
 
 use crate::refusals::end_by_refusal;
-use crate::streams::{end_by_stream, print_all};
+use crate::streams::end_by_text;
 use rr_sim::{MAX_STEPS, random, simulate};
+use rr_stream::Sink;
 use rr_types::{Nodes, Refusal};
 use std::alloc::Global;
 use std::io::Write;
@@ -75,23 +76,20 @@ fn numbers_of(seed: &str, steps: &str, nodes: &str) -> Option<Draw>
 }
 
 // Prints a random schedule and the report of its run.
-fn print_draw<O: Write, E: Write>(alloc: Global, draw: Draw, out: &mut O, err: &mut E) -> u8
+fn print_draw<O: Sink, E: Write>(alloc: Global, draw: Draw, out: &mut O, err: &mut E) -> u8
     requires { draw.steps ≤ 999930 }
-    ensures ends { EndsOnDraw draw.nodes draw.seed draw.steps result (O.contents out.old) (O.contents out.new) }
+    ensures ends { EndsOnDraw draw.nodes draw.seed draw.steps result (O.printing out.old) (O.printing out.new) }
     ensures quiet { result ≡ 0 → Keeps (E.contents err.old) (E.contents err.new) }
 {
     match random_run(alloc, draw.nodes, draw.seed, draw.steps) {
-        Ok(text) => match print_all(out, text.as_slice()) {
-            Ok(()) => 0,
-            Err(failure) => end_by_stream(err, "standard output", &failure),
-        },
+        Ok(text) => end_by_text(out, err, text.as_slice()),
         Err(refusal) => end_by_refusal(err, &refusal),
     }
 }
 
 /// Prints the random schedule that three words name by their numbers, and the report of its run. Words that are no
 /// such numbers, which the command line doesn't let through, end with 2.
-pub(crate) fn draw_by_words<O: Write, E: Write>(
+pub(crate) fn draw_by_words<O: Sink, E: Write>(
     alloc: Global,
     seed: &str,
     steps: &str,
@@ -99,7 +97,7 @@ pub(crate) fn draw_by_words<O: Write, E: Write>(
     out: &mut O,
     err: &mut E,
 ) -> u8
-    ensures ends { EndsOnWords seed.now steps.now nodes.now result (O.contents out.old) (O.contents out.new) }
+    ensures ends { EndsOnWords seed.now steps.now nodes.now result (O.printing out.old) (O.printing out.new) }
     ensures quiet { result ≡ 0 → Keeps (E.contents err.old) (E.contents err.new) }
 {
     match numbers_of(seed, steps, nodes) {

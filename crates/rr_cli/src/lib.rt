@@ -9,7 +9,7 @@ mod streams;
 mod words;
 
 pub use draw::random_run;
-pub use program::{execute, report_on};
+pub use program::{execute, report_on, run};
 pub use refusals::{print_refusal, status};
 pub use show::show_disk;
 pub use streams::end_without_words;

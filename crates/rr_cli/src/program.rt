@@ -1,7 +1,8 @@
 //! The program: what it reads, what it prints and how it ends.
 
-ghost use Rattle.std.specs.Prelude.{◌≡◌, ◌≢◌, IfOk, IfErr, None, map};
+ghost use Rattle.std.specs.Prelude.{◌≡◌, ◌≢◌, IfOk, IfErr, OnErr, None, map, string_bytes};
 ghost use Rattle.std.specs.Io.KnownBytes.{Keeps};
+ghost use Rattle.std.specs.IoError.{error_kind};
 ghost use Rattle.rr_text.specs.Lines.{IsFault};
 ghost use Rattle.rr_text.specs.Scheduled.{IsEvent};
 ghost use Rattle.rr_text.specs.ScheduleTexts.{event_line};
@@ -11,15 +12,16 @@ ghost use Rattle.rr_cli.specs.Ends.{IsReportOn, EndsOnInput, EndsBy};
 use crate::draw::{draw_by_words, end_without_numbers};
 use crate::refusals::end_by_refusal;
 use crate::show::{end_without_folder, show_folder};
-use crate::streams::{end_by_stream, print_all, read_all};
+use crate::streams::{end_by_stream, end_by_text, end_without_words};
 use crate::words::{Task, end_by_words, read_words};
 use rr_sim::{Schedule, simulate};
+use rr_stream::{Counted, Sink, Source, read_all};
 use rr_types::Refusal;
 use std::alloc::Global;
 use std::convert::AsStr;
-use std::fs;
-use std::io::{Read, Write};
+use std::io::{ErrorKind, Write};
 use std::rt::Files;
+use std::{fs, io};
 
 /// The text of the report on the schedule that the bytes are.
 ///
@@ -35,27 +37,23 @@ pub fn report_on(alloc: Global, bytes: &[u8]) -> Result<Vec<u8>, Refusal>
 }
 
 // Runs the schedule that the input of this name holds, and prints the report.
-fn simulate_input<I: Read, O: Write, E: Write>(
+fn simulate_input<I: Source, O: Sink, E: Write>(
     alloc: Global,
     name: &str,
     input: &mut I,
     out: &mut O,
     err: &mut E,
 ) -> u8
-    ensures ends { EndsOnInput (I.remaining input.old) result (O.contents out.old) (O.contents out.new) }
+    ensures ends { EndsOnInput (I.reading input.old) (I.reading input.new) result (O.printing out.old) (O.printing out.new) }
     ensures quiet { result ≡ 0 → Keeps (E.contents err.old) (E.contents err.new) }
 {
     let bytes = match read_all(alloc, input) {
         Ok(bytes) => bytes,
         Err(failure) => return end_by_stream(err, name, &failure),
     };
-    let text = match report_on(alloc, bytes.as_slice()) {
-        Ok(text) => text,
-        Err(refusal) => return end_by_refusal(err, &refusal),
-    };
-    match print_all(out, text.as_slice()) {
-        Ok(()) => 0,
-        Err(failure) => end_by_stream(err, "standard output", &failure),
+    match report_on(alloc, bytes.as_slice()) {
+        Ok(text) => end_by_text(out, err, text.as_slice()),
+        Err(refusal) => end_by_refusal(err, &refusal),
     }
 }
 
@@ -65,7 +63,7 @@ fn simulate_input<I: Read, O: Write, E: Write>(
 /// prints what the areas hold of the disk in the folder DIR. `rr random --seed SEED --steps STEPS --nodes NODES` prints
 /// a random schedule, a line `report` and the report of its run. What goes wrong is told on `err`. The statuses: 0
 /// done, 2 wrong words, 3 no schedule, 4 a damaged area, 5 a device, a file or a stream, 6 memory, 7 an audit.
-pub fn execute<R: Files + AllocGlobal, S: AsStr, I: Read, O: Write, E: Write>(
+pub fn execute<R: Files + AllocGlobal, S: AsStr, I: Source, O: Sink, E: Write>(
     rt: &R,
     words: &[S],
     input: &mut I,
@@ -73,16 +71,16 @@ pub fn execute<R: Files + AllocGlobal, S: AsStr, I: Read, O: Write, E: Write>(
     err: &mut E,
 ) -> u8
     ensures ends { EndsBy (faults_of (map S.text words.now)) (task_of (map S.text words.now))
-        (I.remaining input.old) result (O.contents out.old) (O.contents out.new) }
+        (I.reading input.old) (I.reading input.new) result (O.printing out.old) (O.printing out.new) }
     ensures quiet { result ≡ 0 → Keeps (E.contents err.old) (E.contents err.new) }
-    ensures untouched { task_of (map S.text words.now) ≢ Simulate None → I.remaining input.new ≡ I.remaining input.old }
+    ensures untouched { task_of (map S.text words.now) ≢ Simulate None → I.reading input.new ≡ I.reading input.old }
 {
     match read_words(rt.alloc(), words) {
         Ok(Task::Simulate(None)) => {
             simulate_input(rt.alloc(), "standard input", input, out, err)
         }
         Ok(Task::Simulate(Some(path))) => match fs::open(rt, path) {
-            Ok(mut file) => simulate_input(rt.alloc(), path, &mut file, out, err),
+            Ok(file) => simulate_input(rt.alloc(), path, &mut Counted::new(file), out, err),
             Err(failure) => end_by_stream(err, path, &failure),
         },
         Ok(Task::Show(Some(folder))) => show_folder(rt, folder, out, err),
@@ -98,6 +96,28 @@ pub fn execute<R: Files + AllocGlobal, S: AsStr, I: Read, O: Write, E: Write>(
         Ok(Task::Draw(None, _, _)) => end_without_numbers(err),
         Ok(Task::Draw(_, None, _)) => end_without_numbers(err),
         Ok(Task::Draw(_, _, None)) => end_without_numbers(err),
-        Err(error) => end_by_words(out, err, &error),
+        Err(error) => end_by_words(rt.alloc(), out, err, &error),
+    }
+}
+
+/// Runs the program as `execute` does by words that may be wanting: then it ends with 6 for want of memory, else with
+/// 2, as for a word that is no text.
+pub fn run<R: Files + AllocGlobal, I: Source, O: Sink, E: Write>(
+    rt: &R,
+    words: io::Result<Vec<String>>,
+    input: &mut I,
+    out: &mut O,
+    err: &mut E,
+) -> u8
+    ensures ends { IfOk words (λ words. EndsBy (faults_of (map string_bytes words.items)) (task_of (map string_bytes words.items))
+        (I.reading input.old) (I.reading input.new) result (O.printing out.old) (O.printing out.new)) }
+    ensures memory { IfErr words (λ error. error_kind error ≡ ErrorKind.OutOfMemory → result ≡ 6) }
+    ensures no_text { IfErr words (λ error. error_kind error ≢ ErrorKind.OutOfMemory → result ≡ 2) }
+    ensures unprinted { OnErr words (O.printing out.new ≡ O.printing out.old) }
+    ensures quiet { result ≡ 0 → Keeps (E.contents err.old) (E.contents err.new) }
+{
+    match words {
+        Ok(words) => execute(rt, words.as_slice(), input, out, err),
+        Err(error) => end_without_words(err, &error),
     }
 }

@@ -11,9 +11,10 @@ ghost use Rattle.rr_cli.specs.Areas.{area_words, areas_text, IsShown};
 ghost use Rattle.rr_cli.specs.Ends.{EndsOnFolder};
 
 use crate::refusals::end_by_refusal;
-use crate::streams::{end_by_stream, print_all};
+use crate::streams::end_by_text;
 use rr_disk::{Disk, FileDisk};
 use rr_image::{AreaReport, inspect};
+use rr_stream::Sink;
 use rr_types::Refusal;
 use std::alloc::{AllocError, Global};
 use std::io;
@@ -83,11 +84,11 @@ pub fn show_disk<D: Disk>(alloc: Global, disk: &mut D) -> Result<Vec<u8>, Refusa
     }
 }
 
-// The text on the areas of the disk in a folder, which is opened and not made.
+// The text on the areas of the disk in a folder. Its files are opened for reading alone, and nothing is made.
 fn folder_text<R: Files + AllocGlobal>(rt: &R, folder: &str) -> Result<Vec<u8>, Refusal>
     ensures { ((first : List ℕ) × (second : List ℕ) × IsShown result (inspected first second)) ⊎ (result ≡ Err Device) }
 {
-    match FileDisk::open(rt, folder, false) {
+    match FileDisk::open_read_only(rt, folder) {
         Ok(disk) => {
             let mut disk = disk;
             show_disk(rt.alloc(), &mut disk)
@@ -97,20 +98,17 @@ fn folder_text<R: Files + AllocGlobal>(rt: &R, folder: &str) -> Result<Vec<u8>, 
 }
 
 // Prints what the areas hold of the disk in a folder.
-pub(crate) fn show_folder<R: Files + AllocGlobal, O: Write, E: Write>(
+pub(crate) fn show_folder<R: Files + AllocGlobal, O: Sink, E: Write>(
     rt: &R,
     folder: &str,
     out: &mut O,
     err: &mut E,
 ) -> u8
-    ensures ends { EndsOnFolder result (O.contents out.old) (O.contents out.new) }
+    ensures ends { EndsOnFolder result (O.printing out.old) (O.printing out.new) }
     ensures quiet { result ≡ 0 → Keeps (E.contents err.old) (E.contents err.new) }
 {
     match folder_text(rt, folder) {
-        Ok(text) => match print_all(out, text.as_slice()) {
-            Ok(()) => 0,
-            Err(failure) => end_by_stream(err, "standard output", &failure),
-        },
+        Ok(text) => end_by_text(out, err, text.as_slice()),
         Err(refusal) => end_by_refusal(err, &refusal),
     }
 }

@@ -1,46 +1,25 @@
-//! Files and streams: reading all of one, printing to one, and ending by one that fails.
+//! Ends by a text that is printed, and by a file or a stream that fails.
 
-ghost use Rattle.std.specs.Prelude.{◌≡◌, ◌≢◌, IfOk, OnOk};
-ghost use Rattle.std.specs.Io.KnownBytes.{Appends};
+ghost use Rattle.std.specs.Prelude.{◌≡◌, ◌≢◌};
+ghost use Rattle.std.specs.Io.KnownBytes.{Keeps};
 ghost use Rattle.std.specs.IoError.{error_kind};
-ghost use Rattle.rr_cli.specs.Ends.{IsStreamStatus, AppendsFront, AreAllOf};
+ghost use Rattle.rr_cli.specs.Ends.{IsStreamStatus, Prints};
 
 use crate::refusals::end_by_refusal;
+use rr_stream::{Sink, print_all};
 use rr_types::Refusal;
-use std::alloc::Global;
 use std::io;
-use std::io::{ErrorKind, Read, Write};
+use std::io::{ErrorKind, Write};
 
-// All that the input has left.
-pub(crate) fn read_all<I: Read>(alloc: Global, input: &mut I) -> io::Result<Vec<u8>>
-    ensures { IfOk result (λ bytes. AreAllOf (I.remaining input.old) bytes.items) }
+// Prints a text on standard output, and ends with 0 where that has taken it.
+pub(crate) fn end_by_text<O: Sink, E: Write>(out: &mut O, err: &mut E, text: &[u8]) -> u8
+    ensures ends { Prints text.now result (O.printing out.old) (O.printing out.new) }
+    ensures quiet { result ≡ 0 → Keeps (E.contents err.old) (E.contents err.new) }
 {
-    let mut bytes = Vec::new(alloc);
-    input.read_to_end(&mut bytes)?;
-    Ok(bytes)
-}
-
-// Prints the bytes. Where the stream fails it has got the front of them.
-pub(crate) fn print_all<O: Write>(out: &mut O, bytes: &[u8]) -> io::Result<()>
-    ensures all { OnOk result (Appends (O.contents out.old) (O.contents out.new) bytes.now) }
-    ensures front { AppendsFront (O.contents out.old) (O.contents out.new) bytes.now }
-{
-    let mut rest = bytes;
-    for _ in 0..u64::MAX {
-        if rest.is_empty() {
-            return out.flush();
-        }
-        match out.write(rest) {
-            Ok(0) => return Err(io::Error::from(ErrorKind::WriteZero)),
-            Ok(n) => rest = &rest[n..],
-            Err(error) => {
-                if error.kind() != ErrorKind::Interrupted {
-                    return Err(error);
-                }
-            }
-        }
+    match print_all(out, text) {
+        Ok(()) => 0,
+        Err(failure) => end_by_stream(err, "standard output", &failure),
     }
-    Err(io::Error::from(ErrorKind::WriteZero))
 }
 
 // Ends by a file or stream of this name that can't be read or written.

@@ -1,47 +1,71 @@
 //! What the words of a command ask for.
 
-ghost use Rattle.std.specs.Prelude.{◌≡◌, ◌≢◌, ◌⊎◌, false, IfOk, map, option_map};
+ghost use Rattle.std.specs.Prelude.{◌≡◌, ◌≢◌, ℕ, false, List, ◌++◌, IfOk, codes, map, option_map, string_bytes};
 ghost use Rattle.std.specs.Io.KnownBytes.{Keeps};
-ghost use Rattle.clap.specs.Words.{app_of, kind_of, rule_of};
+ghost use Rattle.clap.specs.Words.{app_of, kind_of, new_app, rule_of};
 ghost use Rattle.clap.specs.declared.builder.command.Command.TheViews.{out-Command};
 ghost use Rattle.clap.specs.Kinds.{FailsBy};
-ghost use Rattle.rr_cli.specs.Lines.{rr_line, number_rule, random_line, faults_of, task_of, task_in};
-ghost use Rattle.rr_cli.specs.Ends.{IsStreamStatus, IsRequest, IsMistake};
+ghost use Rattle.rr_cli.specs.Lines.{rr_line, rr_settings, sim_line, show_line, number_rule, random_line, faults_of, task_of, task_in};
+ghost use Rattle.rr_cli.specs.Ends.{IsMistake, Helps, Prints, statuses_text, version_text};
 
 use crate::refusals::end_by_refusal;
-use crate::streams::end_by_stream;
+use crate::streams::end_by_text;
 use clap::builder::ValueParser;
 use clap::error::ErrorKind;
 use clap::{Arg, Command, Error};
 use rr_sim::MAX_STEPS;
+use rr_stream::Sink;
 use rr_types::Refusal;
 use std::alloc::{AllocError, Global};
 use std::convert::AsStr;
 use std::io::Write;
 
-// The command line that `clap` reads words by.
+// The command line of `rr` that `clap` reads words by.
 fn command_line<'a>(alloc: Global) -> Result<Command<'a>, AllocError>
     ensures { IfOk result (λ c. app_of c ≡ rr_line) }
 {
-    let file = Arg::new(alloc, "FILE").help("The schedule [default: standard input]");
-    let sim = Command::new(alloc, "sim")
-        .about("Runs a schedule and prints its report")
-        .arg(file)?;
-    let folder = Arg::new(alloc, "DIR")
-        .help("The folder of the node")
-        .required(true);
-    let show = Command::new(alloc, "show")
-        .about("Tells what the areas of a node's disk hold")
-        .arg(folder)?;
+    let sim = sim_line(alloc)?;
+    let show = show_line(alloc)?;
     let random = random_line(alloc)?;
+    top_line(alloc)
+        .subcommand(sim)?
+        .subcommand(show)?
+        .subcommand(random)
+}
+
+// The command line without its subcommands.
+fn top_line<'a>(alloc: Global) -> Command<'a>
+    ensures { app_of result ≡ rr_settings (new_app (codes "rr")) }
+{
     Command::new(alloc, "rr")
         .version("0.1.0")
         .about("A replicated name registry that recovers from crashes")
         .arg_required_else_help(true)
         .subcommand_required(true)
-        .subcommand(sim)?
-        .subcommand(show)?
-        .subcommand(random)
+}
+
+// The command line of `rr sim`.
+fn sim_line<'a>(alloc: Global) -> Result<Command<'a>, AllocError>
+    ensures line { IfOk result (λ c. app_of c ≡ sim_line) }
+    ensures local { IfOk result (λ c. (out-Command c).has_globals ≡ false) }
+{
+    let file = Arg::new(alloc, "FILE").help("The schedule [default: standard input]");
+    Command::new(alloc, "sim")
+        .about("Runs a schedule and prints its report")
+        .arg(file)
+}
+
+// The command line of `rr show`.
+fn show_line<'a>(alloc: Global) -> Result<Command<'a>, AllocError>
+    ensures line { IfOk result (λ c. app_of c ≡ show_line) }
+    ensures local { IfOk result (λ c. (out-Command c).has_globals ≡ false) }
+{
+    let folder = Arg::new(alloc, "DIR")
+        .help("The folder of the node")
+        .required(true);
+    Command::new(alloc, "show")
+        .about("Tells what the areas of a node's disk hold")
+        .arg(folder)
 }
 
 // An option that has to be there, with a number in a range.
@@ -122,23 +146,49 @@ pub fn read_words<'a, S: AsStr>(alloc: Global, words: &'a [S]) -> Result<Task<'a
 }
 
 // Ends by words that are no command: a mistake is told on standard error, and what was asked for is printed.
-pub(crate) fn end_by_words<O: Write, E: Write>(out: &mut O, err: &mut E, error: &Error) -> u8
+pub(crate) fn end_by_words<O: Sink, E: Write>(
+    alloc: Global,
+    out: &mut O,
+    err: &mut E,
+    error: &Error,
+) -> u8
     ensures memory { kind_of error.now ≡ ErrorKind.OutOfMemory
-        → (result ≡ 6) × Keeps (O.contents out.old) (O.contents out.new) }
+        → (result ≡ 6) × (O.printing out.new ≡ O.printing out.old) }
     ensures mistake { kind_of error.now ≢ ErrorKind.OutOfMemory → IsMistake (kind_of error.now)
-        → (result ≡ 2) × Keeps (O.contents out.old) (O.contents out.new) }
-    ensures request { IsRequest (kind_of error.now) → (result ≡ 0) ⊎ IsStreamStatus result }
+        → (result ≡ 2) × (O.printing out.new ≡ O.printing out.old) }
+    ensures help { kind_of error.now ≡ ErrorKind.DisplayHelp → Helps result (O.printing out.old) (O.printing out.new) }
+    ensures version { kind_of error.now ≡ ErrorKind.DisplayVersion → Prints version_text result (O.printing out.old) (O.printing out.new) }
     ensures quiet { result ≡ 0 → Keeps (E.contents err.old) (E.contents err.new) }
 {
     match error.kind() {
         ErrorKind::OutOfMemory => end_by_refusal(err, &Refusal::OutOfMemory),
-        ErrorKind::DisplayHelp | ErrorKind::DisplayVersion => match write!(out, "{error}") {
-            Ok(()) => 0,
-            Err(failure) => end_by_stream(err, "standard output", &failure),
-        },
+        ErrorKind::DisplayVersion => end_by_text(out, err, b"rr 0.1.0\n"),
+        ErrorKind::DisplayHelp => end_by_help(alloc, out, err, error),
         _ => {
             let _ = write!(err, "{error}");
             2
         }
+    }
+}
+
+// The help, and what the exit status means.
+fn help_text(alloc: Global, error: &Error) -> Result<String, AllocError>
+    ensures { IfOk result (λ text. (front : List ℕ) × (string_bytes text ≡ front ++ statuses_text)) }
+{
+    let mut text = format!(in alloc; "{error}")?;
+    text.push_str(
+        "\nExit status: 0 done, 2 wrong words, 3 no schedule, 4 a damaged area, 5 a stream, a file or a device, 6 memory, 7 an audit\n",
+    )?;
+    Ok(text)
+}
+
+// Prints the help.
+fn end_by_help<O: Sink, E: Write>(alloc: Global, out: &mut O, err: &mut E, error: &Error) -> u8
+    ensures ends { Helps result (O.printing out.old) (O.printing out.new) }
+    ensures quiet { result ≡ 0 → Keeps (E.contents err.old) (E.contents err.new) }
+{
+    match help_text(alloc, error) {
+        Ok(text) => end_by_text(out, err, text.as_bytes()),
+        Err(_) => end_by_refusal(err, &Refusal::OutOfMemory),
     }
 }

@@ -1,52 +1,44 @@
 use Rattle.std.proofs.Common.{◌≡◌, ◌∙◌, ℕ, List, Option, option_map, Bor, refl, sym, ap, map, None, Some, inl, inr}
-use Rattle.std.proofs.KnownBytes.{Keeps-refl}
 use Rattle.clap.specs.Words.{Text, kind_of}
 use Rattle.rr_cli.specs.declared.words.Task.TheVariants as read
 use Rattle.rr_cli.specs.Lines.{Simulate, Show, Draw, task_of, task_in}
-use Rattle.rr_cli.specs.Ends.{unread, mistaken, shown, unshown, out_of_memory, by_standard_input, by_file, by_folder, by_numbers, without_numbers}
-use Rattle.rr_cli.proofs.EndLemmas.{of_any_input, kind_cases}
+use Rattle.rr_cli.specs.Ends.{opened, unopened, mistaken, by_help, by_version, out_of_memory, by_standard_input, by_file, by_folder, by_numbers, without_numbers}
+use Rattle.rr_cli.proofs.EndLemmas.{kind_cases}
 use Rattle.rr_cli.proofs.program.execute.Goals as goal
 
--- src/program.rt:62:1
 pub returns-in-Ok-Simulate-None-clause-ends : goal.returns-in-Ok-Simulate-None-clause-ends
 returns-in-Ok-Simulate-None-clause-ends g c =
     let w = c.in-Ok-Simulate-None in
     let task : task_of (map g.S.AsStr.text c.args.words.now) ≡ Simulate None = sym w.ensures.task ∙ ap task_in w.field-0-is ∙ ap (λ file. task_in (read.Simulate file)) w.field-0-0-is in
     by_standard_input w.ensures.faults task c.simulate_input.ensures.ends
 
--- src/program.rt:62:1
 pub returns-in-Ok-clause-ends : goal.returns-in-Ok-clause-ends
 returns-in-Ok-clause-ends g c =
     let w = c.in-Ok-Simulate-Some in
     let task : task_of (map g.S.AsStr.text c.args.words.now) ≡ Simulate (Some w.path.now) = sym w.ensures.task ∙ ap task_in w.field-0-is ∙ ap (λ file. task_in (read.Simulate file)) w.field-0-0-is in
-    by_file w.path.now w.ensures.faults task (of_any_input _ _ _ _ c.simulate_input-in-Ok.ensures.ends)
+    by_file w.path.now w.ensures.faults task (opened _ _ c.simulate_input-in-Ok.ensures.ends)
 
--- src/program.rt:62:1
 pub returns-in-Err-open-clause-ends : goal.returns-in-Err-open-clause-ends
 returns-in-Err-open-clause-ends g c =
     let w = c.in-Ok-Simulate-Some in
     let task : task_of (map g.S.AsStr.text c.args.words.now) ≡ Simulate (Some w.path.now) = sym w.ensures.task ∙ ap task_in w.field-0-is ∙ ap (λ file. task_in (read.Simulate file)) w.field-0-0-is in
-    by_file w.path.now w.ensures.faults task (unread c.end_by_stream.ensures.status (Keeps-refl (g.O.Write.contents c.args.out.now)))
+    by_file w.path.now w.ensures.faults task (unopened c.end_by_stream.ensures.status refl)
 
--- src/program.rt:62:1
 pub returns-in-Ok-Show-Some-clause-ends : goal.returns-in-Ok-Show-Some-clause-ends
 returns-in-Ok-Show-Some-clause-ends g c =
     let w = c.in-Ok-Show-Some in
     let task : task_of (map g.S.AsStr.text c.args.words.now) ≡ Show (Some w.folder.now) = sym w.ensures.task ∙ ap task_in w.field-0-is ∙ ap (λ folder. task_in (read.Show folder)) w.field-0-0-is in
     by_folder w.folder.now w.ensures.faults task c.show_folder.ensures.ends
 
--- src/program.rt:62:1
 pub returns-in-Err-clause-ends : goal.returns-in-Err-clause-ends
 returns-in-Err-clause-ends g c =
     elim (c.in-Err.ensures.faults) [
       | inl memory ↦ let end = c.end_by_words.ensures.memory memory in out_of_memory end.0 end.1
       | inr among ↦ elim (kind_cases (kind_of c.in-Err.error)) [
         | inl memory ↦ let end = c.end_by_words.ensures.memory memory in out_of_memory end.0 end.1
-        | inr (inl request) ↦ elim (c.end_by_words.ensures.request request) [
-          | inl done ↦ shown (kind_of c.in-Err.error) among request done
-          | inr fails ↦ unshown (kind_of c.in-Err.error) among request fails
-        ]
-        | inr (inr mistake) ↦ let end = c.end_by_words.ensures.mistake mistake.0 mistake.1 in mistaken (kind_of c.in-Err.error) among mistake.1 end.0 end.1
+        | inr (inl help) ↦ by_help (kind_of c.in-Err.error) among help (c.end_by_words.ensures.help help)
+        | inr (inr (inl version)) ↦ by_version (kind_of c.in-Err.error) among version (c.end_by_words.ensures.version version)
+        | inr (inr (inr mistake)) ↦ let end = c.end_by_words.ensures.mistake mistake.0 mistake.1 in mistaken (kind_of c.in-Err.error) among mistake.1 end.0 end.1
       ]
     ]
 
@@ -79,18 +71,18 @@ returns-in-Ok-Draw-None-default-default-clause-ends g c =
     let w = c.in-Ok-Draw-None-default-default in
     let task : task_of (map g.S.AsStr.text c.args.words.now) ≡ Draw None (text_of w.field-0-1) (text_of w.field-0-2) = sym w.ensures.task ∙ ap task_in w.field-0-is ∙ drawn_from _ _ _ _ _ _ w.field-0-0-is refl refl in
     without_numbers None (text_of w.field-0-1) (text_of w.field-0-2) w.ensures.faults task
-    (λ s k n is. without_one (text_of w.field-0-1) (text_of w.field-0-2) s k n (sym task ∙ is)) c.end_without_numbers-in-Ok-Draw-None-default-default.ensures (Keeps-refl (g.O.Write.contents c.args.out.now))
+    (λ s k n is. without_one (text_of w.field-0-1) (text_of w.field-0-2) s k n (sym task ∙ is)) c.end_without_numbers-in-Ok-Draw-None-default-default.ensures refl
 
 pub returns-in-Ok-Draw-default-None-default-clause-ends : goal.returns-in-Ok-Draw-default-None-default-clause-ends
 returns-in-Ok-Draw-default-None-default-clause-ends g c =
     let w = c.in-Ok-Draw-default-None-default in
     let task : task_of (map g.S.AsStr.text c.args.words.now) ≡ Draw (text_of w.field-0-0) None (text_of w.field-0-2) = sym w.ensures.task ∙ ap task_in w.field-0-is ∙ drawn_from _ _ _ _ _ _ refl w.field-0-1-is refl in
     without_numbers (text_of w.field-0-0) None (text_of w.field-0-2) w.ensures.faults task
-    (λ s k n is. without_two (text_of w.field-0-0) (text_of w.field-0-2) s k n (sym task ∙ is)) c.end_without_numbers-in-Ok-Draw-default-None-default.ensures (Keeps-refl (g.O.Write.contents c.args.out.now))
+    (λ s k n is. without_two (text_of w.field-0-0) (text_of w.field-0-2) s k n (sym task ∙ is)) c.end_without_numbers-in-Ok-Draw-default-None-default.ensures refl
 
 pub returns-in-Ok-Draw-default-default-None-clause-ends : goal.returns-in-Ok-Draw-default-default-None-clause-ends
 returns-in-Ok-Draw-default-default-None-clause-ends g c =
     let w = c.in-Ok-Draw-default-default-None in
     let task : task_of (map g.S.AsStr.text c.args.words.now) ≡ Draw (text_of w.field-0-0) (text_of w.field-0-1) None = sym w.ensures.task ∙ ap task_in w.field-0-is ∙ drawn_from _ _ _ _ _ _ refl refl w.field-0-2-is in
     without_numbers (text_of w.field-0-0) (text_of w.field-0-1) None w.ensures.faults task
-    (λ s k n is. without_three (text_of w.field-0-0) (text_of w.field-0-1) s k n (sym task ∙ is)) c.end_without_numbers.ensures (Keeps-refl (g.O.Write.contents c.args.out.now))
+    (λ s k n is. without_three (text_of w.field-0-0) (text_of w.field-0-1) s k n (sym task ∙ is)) c.end_without_numbers.ensures refl

@@ -1,0 +1,10 @@
+//! The streams of a program, whose failed calls are counted: printing all of a text, reading all of an input.
+#![tactic(auto)]
+
+mod counted;
+mod stream;
+mod whole;
+
+pub use counted::Counted;
+pub use stream::{Sink, Source};
+pub use whole::{print_all, read_all};
