@@ -1,0 +1,5 @@
+pub mod SameLemmas
+pub mod Alike
+pub mod TapeRuns
+pub mod Follows
+pub mod Going

@@ -1,0 +1,32 @@
+-- What the calls of a replay answer to an event of a tape.
+use Rattle.std.specs.Prelude.{◌≡◌, List, Option, None, Some, Result, Ok, Err}
+use Rattle.rr_types.specs.declared.message.Message.{Message}
+use Rattle.rr_types.specs.declared.refusal.Refusal.{Refusal}
+use Rattle.rr_types.specs.declared.refusal.Refusal.TheVariants.{OutOfMemory}
+use Rattle.rr_model.specs.NodeLaws.{NodeEvent, after_event}
+use Rattle.rr_model.specs.NodeState.{NodeState}
+use Rattle.rr_tape.specs.declared.tape_event.TapeEvent.{TapeEvent}
+use Rattle.rr_audit.specs.declared.given.Given.{Given}
+use Rattle.rr_audit.specs.Audits.{Replay, IsNextAt, IsNext, replayed}
+
+-- nothing else is given where the node gives it, and then it is in its next state
+abbrev pub Tells : Type 0 → NodeState → NodeState → Option Given → Type 0
+Tells Gives next new None = Gives × (new ≡ next)
+Tells Gives next new (Some given) = Gives → ⊥
+
+-- the same where memory may be wanting
+abbrev pub Answers : Type 0 → NodeState → NodeState → Result (Option Given) Refusal → Type 0
+Answers Gives next new (Ok given) = Tells Gives next new given
+Answers Gives next new (Err e) = e ≡ OutOfMemory
+
+-- a node followed an event of the tape over this wire: it did what is next, or the event isn't next, or memory was wanting
+abbrev pub FollowsAt : List Message → TapeEvent → NodeState → NodeState → Result (Option Given) Refusal → Type 0
+FollowsAt wire e old new (Ok None) = (does : NodeEvent) × IsNextAt wire old e does × (new ≡ after_event old does)
+FollowsAt wire e old new (Ok (Some given)) = (does : NodeEvent) → IsNextAt wire old e does → ⊥
+FollowsAt wire e old new (Err refusal) = refusal ≡ OutOfMemory
+
+-- the same of all nodes and their wire
+abbrev pub Steps : TapeEvent → Replay → Replay → Result (Option Given) Refusal → Type 0
+Steps e old new (Ok None) = (next : IsNext old e) × (new ≡ replayed e next.state next.does old)
+Steps e old new (Ok (Some given)) = IsNext old e → ⊥
+Steps e old new (Err refusal) = refusal ≡ OutOfMemory

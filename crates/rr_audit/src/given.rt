@@ -1,0 +1,32 @@
+//! What the world gives in the place of an event.
+
+use rr_types::{Message, NodeId, Refusal, Reply, RequestNo};
+
+/// What the world gives in the place of an event of a tape that isn't next.
+#[derive(Clone, Copy, Debug)]
+pub enum Given {
+    /// There is no such node.
+    NoNode,
+    /// The node refuses the input.
+    Refused(Refusal),
+    /// There is no message of this number yet.
+    NoMessage,
+    /// The message is for this node.
+    OtherNode(NodeId),
+    /// The node has staged nothing.
+    NothingStaged,
+    /// The node flushes a group already.
+    StillFlushing,
+    /// The node flushes no group.
+    NothingFlushed,
+    /// The next message has this number.
+    Number(u64),
+    /// The node has no message that may leave.
+    NothingToSend,
+    /// The node sends this message next, as this number.
+    Sends(u32, Message),
+    /// The node has nothing to acknowledge.
+    NothingToAcknowledge,
+    /// The node acknowledges this request next, with this reply.
+    Acknowledges(RequestNo, Reply),
+}

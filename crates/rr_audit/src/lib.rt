@@ -1,0 +1,14 @@
+//! The auditor of tapes: whether what a tape records is what nodes of the world do, event by event.
+#![tactic(auto)]
+
+mod auditing;
+mod given;
+mod paper;
+mod replay;
+mod replay_node;
+mod same;
+
+pub use auditing::{Verdict, audit, examine};
+pub use given::Given;
+pub use replay::Replay;
+pub use replay_node::ReplayNode;

@@ -1,0 +1,111 @@
+//! The nodes of a tape and their wire, and what each event does to them.
+
+ghost use Rattle.std.specs.Prelude.{◌≡◌, ◌++◌, [], map, OnOk, IfOk, IfErr};
+ghost use Rattle.std.specs.List.{range_with_len};
+ghost use Rattle.rr_model.specs.NodeStep.{started};
+ghost use Rattle.rr_audit.specs.Audits.{node_of, sent_by, new_replay};
+ghost use Rattle.rr_audit.specs.Following.{Steps};
+
+use crate::given::Given;
+use crate::replay_node::ReplayNode;
+use rr_tape::TapeEvent;
+use rr_types::{Body, Command, Message, NodeId, Nodes, Op, Refusal};
+use std::alloc::Global;
+use std::marker::Model;
+
+/// The nodes of a tape, all up, by their numbers, and all messages ever sent.
+#[derive(Drop)]
+pub struct Replay {
+    nodes: Vec<ReplayNode>,
+    wire: Vec<Message>,
+}
+
+impl Model for Replay {
+    ghost use Rattle.rr_audit.specs.Audits as audit;
+
+    ghost Value = { audit.Replay };
+
+    ghost view = { λ r. record { nodes = r.nodes.items; wire = r.wire.items } };
+}
+
+/// The node at which an event happens.
+pub fn node_of(event: &TapeEvent) -> NodeId
+    ensures { result ≡ node_of event.now }
+{
+    match event {
+        TapeEvent::Submit { node, .. }
+        | TapeEvent::Hear { node, .. }
+        | TapeEvent::Suspect { node, .. }
+        | TapeEvent::Tick { node }
+        | TapeEvent::Advance { node }
+        | TapeEvent::Take { node }
+        | TapeEvent::Mark { node }
+        | TapeEvent::Ack { node, .. } => *node,
+        TapeEvent::Send { message, .. } => message.from,
+    }
+}
+
+// All nodes, each over no facts.
+fn all_nodes(alloc: Global, nodes: Nodes) -> Result<Vec<ReplayNode>, Refusal>
+    ensures ok { IfOk result (λ v. v.items ≡ map (λ p. started nodes p [] 0) (range_with_len 0 nodes)) }
+    ensures err { IfErr result (λ e. e ≡ Refusal.OutOfMemory) }
+{
+    let mut all = Vec::new(alloc);
+    for index in 0..nodes.count() {
+        match NodeId::new(nodes, index) {
+            None => unreachable!(),
+            Some(node) => all.push(ReplayNode::new(alloc, nodes, node)?)?,
+        }
+    }
+    Ok(all)
+}
+
+impl Replay {
+    /// So many nodes, all up and without facts, and nothing sent.
+    ///
+    /// # Errors
+    /// `OutOfMemory`.
+    pub fn new(alloc: Global, nodes: Nodes) -> Result<Replay, Refusal>
+        ensures ok { IfOk result (λ r. r ≡ new_replay nodes) }
+        ensures err { IfErr result (λ e. e ≡ Refusal.OutOfMemory) }
+    {
+        Ok(Replay {
+            nodes: all_nodes(alloc, nodes)?,
+            wire: Vec::new(alloc),
+        })
+    }
+
+    // A message that was sent joins the wire.
+    fn carry(&mut self, event: &TapeEvent) -> Result<(), Refusal>
+        ensures ok { OnOk result (self.new ≡ record self.old { wire = self.old.wire ++ sent_by event.now }) }
+        ensures err { IfErr result (λ e. e ≡ Refusal.OutOfMemory) }
+    {
+        // The check learns what a message is made of from the types of a function's variables.
+        let _parts: Option<(Body, Command, Message, Op)> = None;
+        match event {
+            TapeEvent::Send { message, .. } => self.wire.push(*message)?,
+            _ => (),
+        }
+        Ok(())
+    }
+
+    /// An event of a tape: `None` where the world gives it next, and then it has happened; else what is given in its
+    /// place.
+    ///
+    /// # Errors
+    /// `OutOfMemory`.
+    pub fn step(&mut self, event: &TapeEvent) -> Result<Option<Given>, Refusal>
+        ensures { Steps event.now self.old self.new result }
+    {
+        let at = usize::from(node_of(event).index());
+        if at >= self.nodes.len() {
+            return Ok(Some(Given::NoNode));
+        }
+        let node = &mut self.nodes[at];
+        if let Some(given) = node.follow(&self.wire, event)? {
+            return Ok(Some(given));
+        }
+        self.carry(event)?;
+        Ok(None)
+    }
+}

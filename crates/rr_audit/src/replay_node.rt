@@ -1,0 +1,219 @@
+//! A node of a tape: its core, and the group that it flushes.
+
+ghost use Rattle.std.specs.Prelude.{◌≡◌, ◌≢◌, [], length, IfOk, IfErr, IsSome, MatchResult, None, Some};
+ghost use Rattle.rr_model.specs.NodeState.{decided_prefix};
+ghost use Rattle.rr_model.specs.NodeStep.{Submit, Suspect, Tick, Advance, Hear, node_step, refusal_of, group_taken, marked_running, message_left, next_leaving, next_acknowledged, acknowledged, started};
+ghost use Rattle.rr_types.specs.Registry.{reply_of};
+ghost use Rattle.rr_audit.specs.Following.{Tells, Answers, FollowsAt};
+
+use crate::given::Given;
+use crate::paper::{opened, synced};
+use crate::same::is_same_message;
+use rr_core::Core;
+use rr_tape::TapeEvent;
+use rr_types::{Command, Group, Message, NodeId, NodeSet, Nodes, Refusal, Reply, RequestNo};
+use std::alloc::Global;
+use std::marker::Model;
+
+/// A node that is up and keeps everything: its core, and the group that it flushes.
+#[derive(Drop)]
+pub struct ReplayNode {
+    alloc: Global,
+    core: Core,
+    flushed: Option<Group>,
+}
+
+impl Model for ReplayNode {
+    ghost use Rattle.std.specs.Prelude.{◌≡◌};
+    ghost use Rattle.rr_model.specs.NodeState.{NodeState};
+    ghost use Rattle.rr_model.specs.NodeStep.{running_group};
+
+    ghost Value = { NodeState };
+
+    ghost view = { λ n. n.core };
+
+    ghost invariant = { λ n. n.flushed ≡ running_group n.core };
+}
+
+// What a node gives that refuses an input.
+fn refused(refusal: Refusal) -> Result<Option<Given>, Refusal>
+    ensures given { IfOk result (λ g. IsSome g × (refusal ≢ Refusal.OutOfMemory)) }
+    ensures err { IfErr result (λ e. e ≡ Refusal.OutOfMemory) }
+{
+    match refusal {
+        Refusal::OutOfMemory => Err(Refusal::OutOfMemory),
+        _ => Ok(Some(Given::Refused(refusal))),
+    }
+}
+
+impl ReplayNode {
+    /// A node that has opened over no facts.
+    pub fn new(alloc: Global, nodes: Nodes, node: NodeId) -> Result<ReplayNode, Refusal>
+        ensures ok { IfOk result (λ n. n ≡ started nodes node [] 0) }
+        ensures err { IfErr result (λ e. e ≡ Refusal.OutOfMemory) }
+    {
+        let opened = opened(alloc, nodes, node);
+        match Core::start(alloc, &opened) {
+            Ok(core) => Ok(ReplayNode {
+                alloc,
+                core,
+                flushed: None,
+            }),
+            Err(refusal) => Err(refusal),
+        }
+    }
+
+    fn submit(&mut self, command: Command) -> Result<Option<Given>, Refusal>
+        ensures { Answers (refusal_of (Submit command) self.old ≡ None) (node_step (Submit command) self.old) self.new result }
+    {
+        match self.core.submit(command) {
+            Ok(()) => Ok(None),
+            Err(refusal) => refused(refusal),
+        }
+    }
+
+    fn suspect(&mut self, set: NodeSet) -> Result<Option<Given>, Refusal>
+        ensures { Answers (refusal_of (Suspect set) self.old ≡ None) (node_step (Suspect set) self.old) self.new result }
+    {
+        match self.core.suspect(set) {
+            Ok(()) => Ok(None),
+            Err(refusal) => refused(refusal),
+        }
+    }
+
+    fn tick(&mut self) -> Result<Option<Given>, Refusal>
+        ensures { Answers (refusal_of Tick self.old ≡ None) (node_step Tick self.old) self.new result }
+    {
+        match self.core.tick() {
+            Ok(()) => Ok(None),
+            Err(refusal) => refused(refusal),
+        }
+    }
+
+    fn advance(&mut self) -> Result<Option<Given>, Refusal>
+        ensures { Answers (refusal_of Advance self.old ≡ None) (node_step Advance self.old) self.new result }
+    {
+        match self.core.advance() {
+            Ok(()) => Ok(None),
+            Err(refusal) => refused(refusal),
+        }
+    }
+
+    fn hear(&mut self, message: &Message) -> Result<Option<Given>, Refusal>
+        ensures { Answers (refusal_of (Hear message.now) self.old ≡ None) (node_step (Hear message.now) self.old) self.new result }
+    {
+        match self.core.hear(message) {
+            Ok(()) => Ok(None),
+            Err(refusal) => refused(refusal),
+        }
+    }
+
+    // Hears the message of this number, where it is there and for this node.
+    fn hear_from(
+        &mut self,
+        wire: &[Message],
+        node: NodeId,
+        number: u32,
+    ) -> Result<Option<Given>, Refusal>
+        ensures { FollowsAt wire.now (TapeEvent.Hear node number) self.old self.new result }
+    {
+        let Some(message) = wire.get(number as usize) else {
+            return Ok(Some(Given::NoMessage));
+        };
+        if message.to.index() != node.index() {
+            return Ok(Some(Given::OtherNode(message.to)));
+        }
+        self.hear(message)
+    }
+
+    // Begins to flush the oldest staged facts.
+    fn take(&mut self) -> Result<Option<Given>, Refusal>
+        ensures { Answers ((self.old.running ≡ None) × (self.old.staged ≢ [])) (group_taken self.old) self.new result }
+    {
+        match self.core.take_group() {
+            Ok(Some(group)) => {
+                self.flushed = Some(group);
+                Ok(None)
+            }
+            Ok(None) => Ok(Some(Given::NothingStaged)),
+            Err(Refusal::OutOfMemory) => Err(Refusal::OutOfMemory),
+            Err(_) => Ok(Some(Given::StillFlushing)),
+        }
+    }
+
+    // Marks the group that it flushes.
+    fn mark(&mut self) -> Result<Option<Given>, Refusal>
+        ensures { Answers (IsSome self.old.running) (marked_running self.old) self.new result }
+    {
+        let Some(group) = self.flushed.take() else {
+            return Ok(Some(Given::NothingFlushed));
+        };
+        let synced = synced(self.core.node(), group);
+        match self.core.mark(synced) {
+            Ok(()) => Ok(None),
+            Err((refusal, synced)) => {
+                self.flushed = Some(synced.into_group());
+                Err(refusal)
+            }
+        }
+    }
+
+    // Sends this message, which is to be the next one. It needs no memory.
+    fn send(&mut self, number: u32, message: &Message) -> Option<Given>
+        ensures { Tells (next_leaving self.old ≡ Some message.now) (message_left self.old) self.new result }
+    {
+        match self.core.next_message() {
+            None => Some(Given::NothingToSend),
+            Some(cleared) => {
+                let next = cleared.message();
+                if is_same_message(&next, message) {
+                    None
+                } else {
+                    Some(Given::Sends(number, next))
+                }
+            }
+        }
+    }
+
+    // Acknowledges this request by this reply, which are to be next. It needs no memory.
+    fn acknowledge(&mut self, request: RequestNo, reply: Reply) -> Option<Given>
+        ensures { Tells ((next_acknowledged self.old ≡ Some request) × (reply_of (decided_prefix self.old) request ≡ Some reply)) (acknowledged self.old) self.new result }
+    {
+        match self.core.next_ack() {
+            None => Some(Given::NothingToAcknowledge),
+            Some((next, given)) => {
+                if next == request && given == reply {
+                    None
+                } else {
+                    Some(Given::Acknowledges(next, given))
+                }
+            }
+        }
+    }
+
+    /// What the node answers to an event of a tape, over this wire: `None` where the world gives it next, and then it
+    /// has happened here; else what is given in its place.
+    ///
+    /// # Errors
+    /// `OutOfMemory`.
+    pub fn follow(&mut self, wire: &[Message], event: &TapeEvent) -> Result<Option<Given>, Refusal>
+        ensures { FollowsAt wire.now event.now self.old self.new result }
+    {
+        match event {
+            TapeEvent::Submit { command, .. } => self.submit(*command),
+            TapeEvent::Hear { node, message } => self.hear_from(wire, *node, *message),
+            TapeEvent::Suspect { set, .. } => self.suspect(*set),
+            TapeEvent::Tick { .. } => self.tick(),
+            TapeEvent::Advance { .. } => self.advance(),
+            TapeEvent::Take { .. } => self.take(),
+            TapeEvent::Mark { .. } => self.mark(),
+            TapeEvent::Send { number, message } => {
+                if *number as usize != wire.len() {
+                    return Ok(Some(Given::Number(wire.len() as u64)));
+                }
+                Ok(self.send(*number, message))
+            }
+            TapeEvent::Ack { request, reply, .. } => Ok(self.acknowledge(*request, *reply)),
+        }
+    }
+}
