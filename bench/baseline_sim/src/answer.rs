@@ -2,7 +2,7 @@
 //! a program for each.
 //!
 //! A question is a line, and behind it the bytes that the line counts:
-//! `sim LINE BYTES`, `show BYTES BYTES`, `areas BYTES` or
+//! `sim LINE BYTES`, `audit BYTES`, `show BYTES BYTES`, `areas BYTES` or
 //! `draw SEED STEPS NODES LINE`. An answer is the line
 //! `STATUS BYTES BYTES`, then standard output and the fault.
 
@@ -10,7 +10,7 @@ use std::io::{self, BufRead, Write};
 
 use crate::draw::draw;
 use crate::show::show;
-use crate::{areas_of, simulate, Ending};
+use crate::{areas_of, audit_tape, simulate, Ending};
 
 /// Answers each question of the input.
 pub fn answer_all(input: &mut impl BufRead, out: &mut impl Write) -> io::Result<()> {
@@ -44,6 +44,7 @@ fn answer(line: &str, input: &mut impl BufRead) -> io::Result<Ending> {
     };
     Ok(match (verb, &numbers[..]) {
         ("sim", &[line, count]) => simulate(&bytes(count)?, line as u32),
+        ("audit", &[count]) => audit_tape(bytes(count)),
         ("show", &[first, second]) => show([&bytes(first)?, &bytes(second)?]).into(),
         ("areas", &[count]) => {
             let [first, second] = areas_of(&bytes(count)?);

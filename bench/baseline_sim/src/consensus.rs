@@ -415,6 +415,11 @@ impl Core {
         (!self.staged.is_empty()).then_some((self.marked_end, facts))
     }
 
+    /// Whether a group runs that isn't marked yet.
+    pub fn has_running(&self) -> bool {
+        !self.running.is_empty()
+    }
+
     /// That group runs.
     pub fn take_group(&mut self) {
         self.running

@@ -1,12 +1,15 @@
 //! `baseline_sim sim [--starve LINE] < SCHEDULE` runs a replicated name
 //! registry event by event, and prints what its nodes told; the event of the
-//! line LINE finds no memory. `baseline_sim show DIR` tells what the areas of
-//! a node's disk hold, the files `a0` and `a1`. `baseline_sim areas DIR <
+//! line LINE finds no memory; `sim --long` takes more events than a schedule
+//! may have. `baseline_sim audit [FILE]` tells whether a tape is a run, as `rr
+//! audit` does. `baseline_sim show DIR` tells what the areas of a node's
+//! disk hold, the files `a0` and `a1`. `baseline_sim areas DIR <
 //! SCHEDULE` writes those of node 0 behind a schedule. `baseline_sim draw SEED
 //! STEPS NODES` prints a random schedule. `baseline_sim answer` does all of
 //! these for the questions on its input.
 
 mod answer;
+mod audit;
 mod cluster;
 mod codec;
 mod consensus;
@@ -21,6 +24,7 @@ mod registry;
 mod report;
 mod schedule;
 mod show;
+mod tape;
 mod types;
 
 use std::io::{self, Read, Write};
@@ -28,6 +32,7 @@ use std::path::Path;
 use std::process::ExitCode;
 use std::{env, fs};
 
+use audit::Verdict;
 use cluster::Cluster;
 use journal::Damage;
 use schedule::{Fault, Schedule};
@@ -65,10 +70,15 @@ fn failed(status: u8, fault: String) -> Ending {
 fn main() -> ExitCode {
     let words: Vec<String> = env::args().skip(1).collect();
     let words: Vec<&str> = words.iter().map(String::as_str).collect();
+    // An audit says the same words as the program that it is compared with.
+    let speaker = match words.first() {
+        Some(&"audit") => "rr",
+        _ => "baseline_sim",
+    };
     match run(&words) {
         Ok(ending) => {
             if !ending.fault.is_empty() {
-                eprintln!("baseline_sim: {}", ending.fault);
+                eprintln!("{speaker}: {}", ending.fault);
             }
             ExitCode::from(ending.status)
         }
@@ -83,7 +93,10 @@ fn main() -> ExitCode {
 fn run(words: &[&str]) -> io::Result<Ending> {
     let ending = match words {
         ["sim"] => simulate(&read_input()?, 0),
+        ["sim", "--long"] => simulate_long(&read_input()?),
         ["sim", "--starve", line] => simulate(&read_input()?, number(line)? as u32),
+        ["audit"] | ["audit", "-"] => audit_tape(read_input()),
+        ["audit", file] => audit_tape(fs::read(file)),
         ["show", folder] => {
             let read = |name: &str| fs::read(Path::new(folder).join(name));
             show::show([&read("a0")?, &read("a1")?]).into()
@@ -104,7 +117,8 @@ fn run(words: &[&str]) -> io::Result<Ending> {
         }
         _ => failed(
             2,
-            "words: sim [--starve LINE], show DIR, areas DIR, draw SEED STEPS NODES, answer".into(),
+            "words: sim [--starve LINE | --long], audit [FILE], show DIR, areas DIR, draw SEED STEPS NODES, answer"
+                .into(),
         ),
     };
     let mut out = io::stdout().lock();
@@ -124,8 +138,7 @@ fn read_input() -> io::Result<Vec<u8>> {
 
 /// The cluster behind a schedule, and whether it made a difference that the
 /// event of the line `starved` found no memory.
-fn run_schedule(text: &[u8], starved: u32) -> Result<(Cluster, bool), Fault> {
-    let mut schedule = Schedule::begin(text)?;
+fn run_schedule(mut schedule: Schedule, starved: u32) -> Result<(Cluster, bool), Fault> {
     let mut cluster = Cluster::new(schedule.nodes);
     let mut differs = false;
     while let Some((line, event)) = schedule.next()? {
@@ -136,7 +149,7 @@ fn run_schedule(text: &[u8], starved: u32) -> Result<(Cluster, bool), Fault> {
 
 /// The report of a schedule; line 0 is that of no event.
 fn simulate(text: &[u8], starved: u32) -> Ending {
-    match run_schedule(text, starved) {
+    match Schedule::begin(text).and_then(|schedule| run_schedule(schedule, starved)) {
         Ok((cluster, differs)) => {
             let mut ending = printed(cluster.finish());
             if starved > 0 && !differs {
@@ -148,8 +161,31 @@ fn simulate(text: &[u8], starved: u32) -> Ending {
     }
 }
 
+/// The report of a schedule of any length.
+fn simulate_long(text: &[u8]) -> Ending {
+    let schedule = Schedule::begin(text).map(Schedule::of_any_length);
+    match schedule.and_then(|schedule| run_schedule(schedule, 0)) {
+        Ok((cluster, _)) => printed(cluster.finish()),
+        Err(fault) => failed(3, fault.to_string()),
+    }
+}
+
+/// What an audit says of a tape; one that can't be read has no verdict.
+fn audit_tape(text: io::Result<Vec<u8>>) -> Ending {
+    let Ok(text) = text else {
+        return failed(5, "2 Device".into());
+    };
+    match audit::audit(&text) {
+        Ok(Verdict::Yes(count)) => printed(format!("audit yes {count}\n").into_bytes()),
+        Ok(Verdict::No(number)) => failed(7, format!("17 AuditNo {number}")),
+        Err(fault) => failed(3, fault.to_string()),
+    }
+}
+
 /// The areas of node 0 behind a schedule; empty ones behind other bytes.
 fn areas_of(text: &[u8]) -> [Vec<u8>; 2] {
     let empty = |_| [Vec::new(), Vec::new()];
-    run_schedule(text, 0).map_or_else(empty, |(cluster, _)| cluster.areas())
+    Schedule::begin(text)
+        .and_then(|schedule| run_schedule(schedule, 0))
+        .map_or_else(empty, |(cluster, _)| cluster.areas())
 }

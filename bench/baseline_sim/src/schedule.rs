@@ -49,6 +49,7 @@ pub struct Schedule<'a> {
     pub nodes: u8,
     rest: &'a [u8],
     line: usize,
+    last_line: usize,
 }
 
 impl<'a> Schedule<'a> {
@@ -63,27 +64,43 @@ impl<'a> Schedule<'a> {
                 nodes: digit - b'0',
                 rest,
                 line: 1,
+                last_line: MAX_EVENTS + 1,
             }),
             Some(word) if is_number(word) => Err(Fault::BadNodes),
             _ => Err(no_place),
         }
     }
 
+    /// The same schedule, which may have any number of events.
+    pub fn of_any_length(mut self) -> Self {
+        self.last_line = usize::MAX;
+        self
+    }
+
     /// The next event and its line; None behind the last.
     pub fn next(&mut self) -> Result<Option<(u32, Event)>, Fault> {
+        self.next_by(read_event)
+    }
+
+    /// The next line's number and what a reader finds in it, which is told how
+    /// many nodes there are.
+    pub fn next_by<T>(
+        &mut self,
+        read: impl FnOnce(&'a [u8], u8) -> Option<T>,
+    ) -> Result<Option<(u32, T)>, Fault> {
         if self.rest.is_empty() {
             return Ok(None);
         }
         self.line += 1;
         let fault = Fault::BadEvent { line: self.line };
-        if self.line > MAX_EVENTS + 1 {
+        if self.line > self.last_line {
             return Err(fault);
         }
         let Some((line, rest)) = split_line(self.rest) else {
             return Err(fault);
         };
         self.rest = rest;
-        let event = read_event(line, self.nodes).ok_or(fault)?;
+        let event = read(line, self.nodes).ok_or(fault)?;
         Ok(Some((self.line as u32, event)))
     }
 }
@@ -94,7 +111,7 @@ fn split_line(text: &[u8]) -> Option<(&[u8], &[u8])> {
 }
 
 /// Reads an event among so many nodes.
-fn read_event(line: &[u8], nodes: u8) -> Option<Event> {
+pub fn read_event(line: &[u8], nodes: u8) -> Option<Event> {
     let mut words = line.split(|&byte| byte == b' ');
     let keyword = words.next()?;
     let node = read_node(words.next()?, nodes)?;
@@ -126,9 +143,15 @@ fn read_command<'a>(words: &mut impl Iterator<Item = &'a [u8]>) -> Option<Comman
         client: read_u32(words.next()?)?,
         seq: read_u64(words.next()?)?,
     };
+    let op = read_op(words)?;
+    Some(Command { request, op })
+}
+
+/// Reads an operation, whose bytes may be borrowed.
+pub fn read_op<'a, T: From<&'a [u8]>>(words: &mut impl Iterator<Item = &'a [u8]>) -> Option<Op<T>> {
     let verb = words.next()?;
     let name = words.next().filter(|word| is_name(word))?.into();
-    let op = match verb {
+    Some(match verb {
         b"claim" => Op::Claim {
             name,
             value: read_value(words.next())?.into(),
@@ -143,8 +166,7 @@ fn read_command<'a>(words: &mut impl Iterator<Item = &'a [u8]>) -> Option<Comman
             owner: read_u32(words.next()?)?,
         },
         _ => return None,
-    };
-    Some(Command { request, op })
+    })
 }
 
 /// A value; where there is no word it is empty, but no word is.
@@ -155,7 +177,7 @@ fn read_value(word: Option<&[u8]>) -> Option<&[u8]> {
     }
 }
 
-fn read_node(word: &[u8], nodes: u8) -> Option<NodeId> {
+pub fn read_node(word: &[u8], nodes: u8) -> Option<NodeId> {
     let &[digit] = word else { return None };
     digit.checked_sub(b'0').filter(|&node| node < nodes)
 }
@@ -166,7 +188,7 @@ fn is_number(word: &[u8]) -> bool {
     has_digits && (word.len() == 1 || word[0] != b'0')
 }
 
-fn read_u64(word: &[u8]) -> Option<u64> {
+pub fn read_u64(word: &[u8]) -> Option<u64> {
     if !is_number(word) {
         return None;
     }
@@ -175,12 +197,12 @@ fn read_u64(word: &[u8]) -> Option<u64> {
     })
 }
 
-fn read_u32(word: &[u8]) -> Option<u32> {
+pub fn read_u32(word: &[u8]) -> Option<u32> {
     read_u64(word)?.try_into().ok()
 }
 
 /// A set of nodes: a hyphen, or ascending digits.
-fn read_set(word: &[u8], nodes: u8) -> Option<NodeSet> {
+pub fn read_set(word: &[u8], nodes: u8) -> Option<NodeSet> {
     if word == b"-" {
         return Some(0);
     }

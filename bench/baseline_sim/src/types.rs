@@ -66,18 +66,43 @@ pub type Text = Box<[u8]>;
 
 /// An operation on a name.
 #[derive(Clone, PartialEq, Eq, Debug)]
-pub enum Op {
-    Claim { name: Text, value: Text },
-    Update { name: Text, value: Text },
-    Release { name: Text },
-    Transfer { name: Text, owner: u32 },
+pub enum Op<T = Text> {
+    Claim { name: T, value: T },
+    Update { name: T, value: T },
+    Release { name: T },
+    Transfer { name: T, owner: u32 },
+}
+
+impl Op {
+    /// The same operation by borrowed bytes.
+    pub fn view(&self) -> Op<&[u8]> {
+        match self {
+            Op::Claim { name, value } => Op::Claim { name, value },
+            Op::Update { name, value } => Op::Update { name, value },
+            Op::Release { name } => Op::Release { name },
+            Op::Transfer { name, owner } => Op::Transfer {
+                name,
+                owner: *owner,
+            },
+        }
+    }
 }
 
 /// A request with its operation.
 #[derive(Clone, PartialEq, Eq, Debug)]
-pub struct Command {
+pub struct Command<T = Text> {
     pub request: RequestNo,
-    pub op: Op,
+    pub op: Op<T>,
+}
+
+impl Command {
+    /// The same command by borrowed bytes.
+    pub fn view(&self) -> Command<&[u8]> {
+        Command {
+            request: self.request,
+            op: self.op.view(),
+        }
+    }
 }
 
 /// A command that facts, messages and tables share.
