@@ -109,7 +109,8 @@ class Rig:
         return path
 
     def run(self, *words, env=None):
-        """Runs rr by these words, in no other environment; a run that hangs is ended, and has no status."""
+        """Runs rr by these words, in no other environment; a run that hangs is ended, and has no status. The second line
+        on the fault of a text, which the plain Rust program doesn't tell, goes to `why`."""
         return self.run_all([self.rr, *words], env)
 
     def run_all(self, words, env=None):
@@ -119,7 +120,12 @@ class Rig:
         actions = [(os.POSIX_SPAWN_DUP2, self.out, 1), (os.POSIX_SPAWN_DUP2, self.err, 2)]
         actions.append((os.POSIX_SPAWN_OPEN, 0, "/dev/null", os.O_RDONLY, 0))
         child = os.posix_spawn(words[0], words, env or {}, file_actions=actions)
-        return Ending(self.end_of(child), self.printed(self.out), self.printed(self.err))
+        ending = Ending(self.end_of(child), self.printed(self.out), self.printed(self.err))
+        self.why = b""
+        if ending.status == 3:
+            line, feed, self.why = ending.err.partition(b"\n")
+            ending = ending._replace(err=line + feed)
+        return ending
 
     @staticmethod
     def end_of(child):

@@ -1,13 +1,15 @@
 """Each byte of some schedules takes each of its 256 values, with --short each fourth, and the text is cut at each place.
 
-`rr sim` answers as the plain Rust program does, by a report or by the line of the first fault and status 3.
+`rr sim` answers as the plain Rust program does, by a report or by the line of the first fault and status 3. Behind each
+fault a second line tells people what is wrong in that line.
 """
 import re
 
 from harness import TREE, Tally, compare, schedules, tell
 
 NAMES = ("suspected_coordinators", "crash_after_each_call-01_zeros")
-FAULT = re.compile(rb"rr: (?:6 BadNodes|14 BadEvent [1-9]\d*)\n")
+FAULT = re.compile(rb"rr: (?:6 BadNodes|14 BadEvent ([1-9]\d*))\n")
+WHY = re.compile(rb"[^:\n]*:([1-9]\d*):[1-9]\d*: [ -~]+\n")
 STRETCH = 4
 
 
@@ -36,5 +38,9 @@ def judge(rig, tally, what, text):
     wanted = rig.plain.sim(text)
     tally.counts["reports" if wanted.status == 0 else "faults"] += 1
     if compare(tally, what, ending, wanted):
-        fault = FAULT.fullmatch(ending.err) and ending.status == 3 and not ending.out
-        tally.check(fault or ending.status == 0 and not ending.err, lambda: f"{what}: {tell(ending)}")
+        fault = FAULT.fullmatch(ending.err)
+        is_fault = fault and ending.status == 3 and not ending.out
+        tally.check(is_fault or ending.status == 0 and not ending.err, lambda: f"{what}: {tell(ending)}")
+        if is_fault:
+            why = WHY.fullmatch(rig.why)
+            tally.check(why and why[1] == (fault[1] or b"1"), lambda: f"{what}: {tell(ending)}, {rig.why!r}")

@@ -2,6 +2,8 @@
 #![tactic(auto)]
 
 #[cfg(test)]
+mod audited;
+#[cfg(test)]
 mod drawn;
 #[cfg(test)]
 mod rows;

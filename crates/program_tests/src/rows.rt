@@ -14,7 +14,7 @@ pub fn rows() -> &'static [Row] {
     &ROWS
 }
 
-static ROWS: [Row; 14] = [
+static ROWS: [Row; 16] = [
     Row {
         name: "no_events",
         schedule: "nodes 3\n",
@@ -152,14 +152,16 @@ static ROWS: [Row; 14] = [
         schedule: "nodes 1\n\
             hear 0 01\n",
         report: "",
-        error: "rr: 14 BadEvent 2\n",
+        error: "rr: 14 BadEvent 2\n\
+            standard input:2:8: no message number \"01\"; expected a number below 2^32 without leading zeros\n",
         status: 3,
     },
     Row {
         name: "eight_nodes",
         schedule: "nodes 8\n",
         report: "",
-        error: "rr: 6 BadNodes\n",
+        error: "rr: 6 BadNodes\n\
+            standard input:1:7: no number of nodes \"8\"; expected 1 to 7\n",
         status: 3,
     },
     Row {
@@ -167,14 +169,16 @@ static ROWS: [Row; 14] = [
         schedule: "nodes 1\n\
             hear 0 4294967296\n",
         report: "",
-        error: "rr: 14 BadEvent 2\n",
+        error: "rr: 14 BadEvent 2\n\
+            standard input:2:8: no message number \"4294967296\"; expected a number below 2^32 without leading zeros\n",
         status: 3,
     },
     Row {
         name: "no_bytes",
         schedule: "",
         report: "",
-        error: "rr: 14 BadEvent 1\n",
+        error: "rr: 14 BadEvent 1\n\
+            standard input:1:1: the text is empty; expected nodes N, with N from 1 to 7\n",
         status: 3,
     },
     Row {
@@ -182,14 +186,16 @@ static ROWS: [Row; 14] = [
         schedule: "nodes 1\n\
             dev 0",
         report: "",
-        error: "rr: 14 BadEvent 2\n",
+        error: "rr: 14 BadEvent 2\n\
+            standard input:2:1: the last line has no line feed\n",
         status: 3,
     },
     Row {
         name: "no_nodes",
         schedule: "nodes 0\n",
         report: "",
-        error: "rr: 6 BadNodes\n",
+        error: "rr: 6 BadNodes\n\
+            standard input:1:7: no number of nodes \"0\"; expected 1 to 7\n",
         status: 3,
     },
     Row {
@@ -197,7 +203,8 @@ static ROWS: [Row; 14] = [
         schedule: "nodes 1\n\
             dev 1\n",
         report: "",
-        error: "rr: 14 BadEvent 2\n",
+        error: "rr: 14 BadEvent 2\n\
+            standard input:2:5: no node \"1\"; expected 0\n",
         status: 3,
     },
     Row {
@@ -205,7 +212,8 @@ static ROWS: [Row; 14] = [
         schedule: "nodes 1\n\
             dev 00\n",
         report: "",
-        error: "rr: 14 BadEvent 2\n",
+        error: "rr: 14 BadEvent 2\n\
+            standard input:2:5: no node \"00\"; expected 0\n",
         status: 3,
     },
     Row {
@@ -213,7 +221,8 @@ static ROWS: [Row; 14] = [
         schedule: "nodes 2\n\
             suspect 0 10\n",
         report: "",
-        error: "rr: 14 BadEvent 2\n",
+        error: "rr: 14 BadEvent 2\n\
+            standard input:2:11: no set of nodes \"10\"; expected - or ascending digits of nodes\n",
         status: 3,
     },
     Row {
@@ -221,7 +230,26 @@ static ROWS: [Row; 14] = [
         schedule: "nodes 1\n\
             dev  0\n",
         report: "",
-        error: "rr: 14 BadEvent 2\n",
+        error: "rr: 14 BadEvent 2\n\
+            standard input:2:5: a space too many\n",
+        status: 3,
+    },
+    Row {
+        name: "no_such_operation",
+        schedule: "nodes 1\n\
+            submit 0 7 1 klaim a x\n",
+        report: "",
+        error: "rr: 14 BadEvent 2\n\
+            standard input:2:14: no operation \"klaim\"; expected claim, update, release or transfer\n",
+        status: 3,
+    },
+    Row {
+        name: "carriage_return",
+        schedule: "nodes 1\n\
+            dev 0\r\n",
+        report: "",
+        error: "rr: 14 BadEvent 2\n\
+            standard input:2:6: a carriage return stands before the line feed\n",
         status: 3,
     },
 ];

@@ -243,11 +243,17 @@ fn repeated(
 fn refuses_long_input(rt: HostRuntime) -> Result<(), Fail> {
     let line = repeated(&rt, b"nodes 3\ntick ", b"aaaaaaaaaa", 1_000_000)?;
     let ran = run(&rt, &["rr", "sim"], &mut line.as_slice())?;
-    assert_eq!(rt; ran.err.as_str(), "rr: 14 BadEvent 2\n");
+    assert_eq!(rt;
+        ran.err.as_str(),
+        "rr: 14 BadEvent 2\nstandard input:2:1: the last line has no line feed\n"
+    );
     assert_eq!(rt; ran.status, 3);
     let events = repeated(&rt, b"nodes 1\n", b"dev 0\n", 1_000_001)?;
     let ran = run(&rt, &["rr", "sim"], &mut events.as_slice())?;
-    assert_eq!(rt; ran.err.as_str(), "rr: 14 BadEvent 1000002\n");
+    assert_eq!(rt;
+        ran.err.as_str(),
+        "rr: 14 BadEvent 1000002\nstandard input:1000002:1: there are at most 1,000,000 events\n"
+    );
     assert_eq!(rt; ran.status, 3);
     assert!(rt; ran.out.is_empty());
     Ok(())

@@ -10,7 +10,7 @@ use Rattle.clap.specs.Simple.{subcommand_rows}
 use Rattle.clap.specs.declared.parser.matches.SubCommand.{SubCommand}
 use Rattle.clap.specs.declared.parser.matches.ArgMatches.TheViews.{out-SubCommand}
 use Rattle.clap.proofs.OnLiterals.{clap_on_literals}
-use Rattle.rr_cli.specs.Lines.{Simulate, Show, Draw, rr_line, task_by}
+use Rattle.rr_cli.specs.Lines.{Simulate, Show, Draw, Audit, file_of, rr_line, task_by}
 
 pub is_simple_line : is_simple rr_line ≡ true
 unfolding clap_on_literals
@@ -43,17 +43,29 @@ task_drawn (Some (text, own)) rows name is =
     let all : own ≡ rows = cc in
     rw (same, all) refl
 
+-- the subcommand audit, with these rows
+pub task_audited : (found : Option (Text × List Row)) (rows : List Row) → option_map (λ (p : Text × List Row). p.0) found ≡ Some (codes "audit") → option_map (λ (p : Text × List Row). p.1) found ≡ Some rows
+    → Audit (file_of (first_of (codes "FILE") rows)) ≡ option_map_or task_by found (Simulate None)
+task_audited None rows name is = absurd cc
+task_audited (Some (text, own)) rows name is =
+    let same : text ≡ codes "audit" = cc in
+    let all : own ≡ rows = cc in
+    rw (same, all) refl
+
 -- another subcommand, with these rows
 pub task_simulated : (found : Option (Text × List Row)) (rows : List Row) → (option_map (λ (p : Text × List Row). p.0) found ≡ Some (codes "show") → ⊥)
-    → (option_map (λ (p : Text × List Row). p.0) found ≡ Some (codes "random") → ⊥) → Some rows ≡ option_map (λ (p : Text × List Row). p.1) found
-    → Simulate (first_of (codes "FILE") rows) ≡ option_map_or task_by found (Simulate None)
-task_simulated None rows other another is = absurd cc
-task_simulated (Some (text, own)) rows other another is = by_name (bytes_eq text (codes "show")) refl (bytes_eq text (codes "random")) refl
+    → (option_map (λ (p : Text × List Row). p.0) found ≡ Some (codes "random") → ⊥) → (option_map (λ (p : Text × List Row). p.0) found ≡ Some (codes "audit") → ⊥)
+    → Some rows ≡ option_map (λ (p : Text × List Row). p.1) found
+    → Simulate (file_of (first_of (codes "FILE") rows)) ≡ option_map_or task_by found (Simulate None)
+task_simulated None rows no_show no_random no_audit is = absurd cc
+task_simulated (Some (text, own)) rows no_show no_random no_audit is = by_name (bytes_eq text (codes "show")) refl (bytes_eq text (codes "random")) refl (bytes_eq text (codes "audit")) refl
   where
-    by_name : (b : Bool) → bytes_eq text (codes "show") ≡ b → (d : Bool) → bytes_eq text (codes "random") ≡ d → Simulate (first_of (codes "FILE") rows) ≡ option_map_or task_by (Some (text, own)) (Simulate None)
-    by_name true e d f = absurd (other (ap (λ (t : Text). Some t) ((bytes_eq-Decides text (codes "show")).0 e)))
-    by_name false e true f = absurd (another (ap (λ (t : Text). Some t) ((bytes_eq-Decides text (codes "random")).0 f)))
-    by_name false e false f = let all : own ≡ rows = cc in rw (e, f, all) refl
+    by_name : (b : Bool) → bytes_eq text (codes "show") ≡ b → (d : Bool) → bytes_eq text (codes "random") ≡ d → (h : Bool) → bytes_eq text (codes "audit") ≡ h
+        → Simulate (file_of (first_of (codes "FILE") rows)) ≡ option_map_or task_by (Some (text, own)) (Simulate None)
+    by_name true e d f h i = absurd (no_show (ap (λ (t : Text). Some t) ((bytes_eq-Decides text (codes "show")).0 e)))
+    by_name false e true f h i = absurd (no_random (ap (λ (t : Text). Some t) ((bytes_eq-Decides text (codes "random")).0 f)))
+    by_name false e false f true i = absurd (no_audit (ap (λ (t : Text). Some t) ((bytes_eq-Decides text (codes "audit")).0 i)))
+    by_name false e false f false i = let all : own ≡ rows = cc in rw (e, f, i, all) refl
 
 -- what is no value isn't there
 pub not_there : {A : Type 0} (found : Option A) → ((x : A) → found ≡ Some x → ⊥) → IsSome found → ⊥

@@ -1,5 +1,5 @@
 -- How a run of the program ends: its exit status, and what standard output has taken.
-use Rattle.std.specs.Prelude.{◌≡◌, ◌≢◌, ◌⊎◌, ℕ, List, [], ◌∷◌, ◌++◌, Option, Some, None, codes}
+use Rattle.std.specs.Prelude.{◌≡◌, ◌≢◌, ◌⊎◌, ℕ, List, [], ◌∷◌, ◌++◌, length, Option, Some, None, codes}
 use Rattle.clap.specs.Kinds.{Kinds, IsAmong}
 use Rattle.clap.specs.Words.{Text}
 use Rattle.clap.specs.declared.error.kind.ErrorKind.{ErrorKind}
@@ -10,6 +10,10 @@ use Rattle.rr_text.specs.Scheduled.{Scheduled, IsSchedule, IsEvent}
 use Rattle.rr_text.specs.Reported.{Reported}
 use Rattle.rr_text.specs.ScheduleTexts.{schedule_text, event_line}
 use Rattle.rr_text.specs.ReportTexts.{report_text, line}
+use Rattle.rr_tape.specs.Taped.{Taped, IsTape, IsTapeEvent}
+use Rattle.rr_tape.specs.TapeTexts.{tape_text, tape_line}
+use Rattle.rr_audit.specs.Audits as tapes
+use Rattle.rr_audit.specs.Audits.{IsTapeRun, StopsAt}
 use Rattle.rr_sim.specs.Clusters.{IsReportOf, IsOnlyOneIfClean}
 use Rattle.rr_sim.specs.Headline.{IsRunOfTheWorld, AgreesWithOneList, KeepsRealTime}
 use Rattle.rr_disk.specs.Counts.{Grew}
@@ -19,8 +23,9 @@ use Rattle.rr_image.specs.declared.inspection.AreaReport.{AreaReport}
 use Rattle.rr_image.specs.Inspect.{Tells, Breaks, inspected}
 use Rattle.rr_cli.specs.Areas.{areas_text}
 use Rattle.rr_cli.specs.Draws.{AreNumbers, IsRandomRun}
-use Rattle.rr_cli.specs.Lines.{Task, Simulate, Show, Draw}
+use Rattle.rr_cli.specs.Lines.{Task, Simulate, Show, Draw, Audit}
 use Rattle.rr_cli.specs.Refusals.{status_of}
+use Rattle.rr_cli.specs.Tapes.{yes_text}
 
 -- the bytes are the text of a schedule, and the other text is that of the report of its run, which is a run of the
 -- world, agrees with one list of commands in the order of real time, and is the only one if it is clean
@@ -51,16 +56,25 @@ pub data EndsOn (bytes : List ℕ) (status : ℕ) (old new : Printing) : Type 0 
   reported : (text : List ℕ) → IsReportOn bytes text → Prints text status old new → EndsOn bytes status old new
   refused : (refusal : Refusal) → IsFault IsEvent event_line bytes refusal → status ≡ status_of refusal → new ≡ old → EndsOn bytes status old new
 
--- a run on an input: on all its bytes; or one of its calls failed or memory was wanting, and standard output is as it was
-pub data EndsOnInput (from to : Reading) (status : ℕ) (old new : Printing) : Type 0 where
-  read : (bytes : List ℕ) → AreAllOf from.remaining bytes → EndsOn bytes status old new → EndsOnInput from to status old new
-  unread : status ≡ 5 → Grew from.faults to.faults → new ≡ old → EndsOnInput from to status old new
-  unheld : status ≡ 6 → new ≡ old → EndsOnInput from to status old new
+-- a run on these bytes: they are the text of a tape that is a tape run and agrees with one list, and the line of a yes is
+-- printed; or of a tape of which the world doesn't give some event next; or they are no tape or memory was wanting. Without
+-- a yes standard output is as it was
+pub data EndsOnTape (bytes : List ℕ) (status : ℕ) (old new : Printing) : Type 0 where
+  agreed : (tape : Taped) → IsTape tape → bytes ≡ tape_text tape → IsTapeRun tape.nodes tape.events → tapes.AgreesWithOneList tape.nodes tape.events → Prints (yes_text (length tape.events)) status old new → EndsOnTape bytes status old new
+  stopped : (tape : Taped) (number : ℕ) → IsTape tape → bytes ≡ tape_text tape → StopsAt tape.nodes tape.events number → status ≡ 7 → new ≡ old → EndsOnTape bytes status old new
+  no_tape : (refusal : Refusal) → IsFault IsTapeEvent tape_line bytes refusal → status ≡ status_of refusal → new ≡ old → EndsOnTape bytes status old new
 
--- a run on a file: on an input, of which nothing is known; or it can't be opened, and standard output is as it was
-pub data EndsOnFile (status : ℕ) (old new : Printing) : Type 0 where
-  opened : (from to : Reading) → EndsOnInput from to status old new → EndsOnFile status old new
-  unopened : IsStreamStatus status → new ≡ old → EndsOnFile status old new
+-- a run on an input: on all its bytes, in this way; or one of its calls failed or memory was wanting, and standard output
+-- is as it was
+pub data EndsOnInput (On : List ℕ → ℕ → Printing → Printing → Type 0) (from to : Reading) (status : ℕ) (old new : Printing) : Type 0 where
+  read : (bytes : List ℕ) → AreAllOf from.remaining bytes → On bytes status old new → EndsOnInput On from to status old new
+  unread : status ≡ 5 → Grew from.faults to.faults → new ≡ old → EndsOnInput On from to status old new
+  unheld : status ≡ 6 → new ≡ old → EndsOnInput On from to status old new
+
+-- a run on a file: on an input, of which nothing is known, in this way; or it can't be opened, and standard output is as it was
+pub data EndsOnFile (On : List ℕ → ℕ → Printing → Printing → Type 0) (status : ℕ) (old new : Printing) : Type 0 where
+  opened : (from to : Reading) → EndsOnInput On from to status old new → EndsOnFile On status old new
+  unopened : IsStreamStatus status → new ≡ old → EndsOnFile On status old new
 
 -- a run on a folder: the text on its areas is printed; or an area is broken or a device or memory failed, and standard
 -- output is as it was
@@ -105,9 +119,11 @@ pub data EndsBy (faults : Kinds) (task : Task) (from to : Reading) (status : ℕ
   by_help : (kind : ErrorKind) → IsAmong kind faults → kind ≡ DisplayHelp → Helps status old new → EndsBy faults task from to status old new
   by_version : (kind : ErrorKind) → IsAmong kind faults → kind ≡ DisplayVersion → Prints version_text status old new → EndsBy faults task from to status old new
   out_of_memory : status ≡ 6 → new ≡ old → EndsBy faults task from to status old new
-  by_standard_input : faults ≡ [] → task ≡ Simulate None → EndsOnInput from to status old new → EndsBy faults task from to status old new
-  by_file : (path : Text) → faults ≡ [] → task ≡ Simulate (Some path) → EndsOnFile status old new → EndsBy faults task from to status old new
+  by_standard_input : faults ≡ [] → task ≡ Simulate None → EndsOnInput EndsOn from to status old new → EndsBy faults task from to status old new
+  by_file : (path : Text) → faults ≡ [] → task ≡ Simulate (Some path) → EndsOnFile EndsOn status old new → EndsBy faults task from to status old new
   by_folder : (path : Text) → faults ≡ [] → task ≡ Show (Some path) → EndsOnFolder status old new → EndsBy faults task from to status old new
   without_folder : faults ≡ [] → task ≡ Show None → status ≡ 2 → new ≡ old → EndsBy faults task from to status old new
   by_numbers : (of_seed of_steps of_nodes : Text) → faults ≡ [] → task ≡ Draw (Some of_seed) (Some of_steps) (Some of_nodes) → EndsOnWords of_seed of_steps of_nodes status old new → EndsBy faults task from to status old new
   without_numbers : (of_seed of_steps of_nodes : Option Text) → faults ≡ [] → task ≡ Draw of_seed of_steps of_nodes → ((s k n : Text) → task ≡ Draw (Some s) (Some k) (Some n) → ⊥) → status ≡ 2 → new ≡ old → EndsBy faults task from to status old new
+  by_tape_in_standard_input : faults ≡ [] → task ≡ Audit None → EndsOnInput EndsOnTape from to status old new → EndsBy faults task from to status old new
+  by_tape_in_a_file : (path : Text) → faults ≡ [] → task ≡ Audit (Some path) → EndsOnFile EndsOnTape status old new → EndsBy faults task from to status old new

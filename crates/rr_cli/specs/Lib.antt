@@ -3,3 +3,4 @@ pub mod Ends
 pub mod Lines
 pub mod Refusals
 pub mod Draws
+pub mod Tapes

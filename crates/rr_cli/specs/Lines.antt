@@ -28,13 +28,17 @@ abbrev pub random_line : App
 random_line =
     with_rule (with_rule (with_rule (new_app (codes "random")) (number_rule (codes "SEED") (codes "seed") 0 18446744073709551615)) (number_rule (codes "STEPS") (codes "steps") 0 999930)) (number_rule (codes "NODES") (codes "nodes") 1 7)
 
+-- the subcommand audit, with a FILE that may be left out
+abbrev pub audit_line : App
+audit_line = with_rule (new_app (codes "audit")) (new_rule (codes "FILE"))
+
 -- a command with a version, which needs a subcommand
 abbrev pub rr_settings : App → App
 rr_settings = on_top (λ s. record s { has_version = true; arg_required_else_help = true; subcommand_required = true })
 
 -- the command line of rr
 abbrev pub rr_line : App
-rr_line = with_subcommand (with_subcommand (with_subcommand (rr_settings (new_app (codes "rr"))) sim_line.top) show_line.top) random_line.top
+rr_line = with_subcommand (with_subcommand (with_subcommand (with_subcommand (rr_settings (new_app (codes "rr"))) sim_line.top) show_line.top) random_line.top) audit_line.top
 
 -- what is wrong with the words, or asks for help or the version; nothing where they are a command
 abbrev pub faults_of : List Text → Kinds
@@ -42,18 +46,25 @@ faults_of words = fault_of rr_line words
 
 -- what a command asks for: the report of the schedule in this file or else in standard input; or the areas of the
 -- disk in this folder; or a random schedule by this seed, number of steps and number of nodes; only words that are
--- wrong leave those out
+-- wrong leave those out; or the audit of the tape in this file or else in standard input
 pub data Task : Type 0 where
   Simulate : Option Text → Task
   Show : Option Text → Task
   Draw : Option Text → Option Text → Option Text → Task
+  Audit : Option Text → Task
+
+-- the file that a word names; none, which stands for standard input, where the word is a hyphen or isn't there
+abbrev pub file_of : Option Text → Option Text
+file_of None = None
+file_of (Some word) = if bytes_eq word (codes "-") then None else Some word
 
 -- what a subcommand of this name and these arguments asks for
 abbrev pub task_by : Text × List Row → Task
 task_by p =
     if bytes_eq p.0 (codes "show") then Show (first_of (codes "DIR") p.1)
     else (if bytes_eq p.0 (codes "random") then Draw (first_of (codes "SEED") p.1) (first_of (codes "STEPS") p.1) (first_of (codes "NODES") p.1)
-    else Simulate (first_of (codes "FILE") p.1))
+    else (if bytes_eq p.0 (codes "audit") then Audit (file_of (first_of (codes "FILE") p.1))
+    else Simulate (file_of (first_of (codes "FILE") p.1))))
 
 -- what the words ask for
 abbrev pub task_of : List Text → Task
@@ -64,3 +75,4 @@ abbrev pub task_in : code.Task → Task
 task_in (read.Simulate file) = Simulate (option_map (λ s. s.now) file)
 task_in (read.Show folder) = Show (option_map (λ s. s.now) folder)
 task_in (read.Draw seed steps nodes) = Draw (option_map (λ s. s.now) seed) (option_map (λ s. s.now) steps) (option_map (λ s. s.now) nodes)
+task_in (read.Audit file) = Audit (option_map (λ s. s.now) file)

@@ -1,6 +1,7 @@
 //! The program `rr`, from its words and standard input to its exit status.
 #![tactic(auto)]
 
+mod audit;
 mod draw;
 mod program;
 mod refusals;
@@ -8,6 +9,7 @@ mod show;
 mod streams;
 mod words;
 
+pub use audit::audit_on;
 pub use draw::random_run;
 pub use program::{execute, report_on, run};
 pub use refusals::{print_refusal, status};

@@ -6,11 +6,12 @@ ghost use Rattle.std.specs.IoError.{error_kind};
 ghost use Rattle.rr_text.specs.Lines.{IsFault};
 ghost use Rattle.rr_text.specs.Scheduled.{IsEvent};
 ghost use Rattle.rr_text.specs.ScheduleTexts.{event_line};
-ghost use Rattle.rr_cli.specs.Lines.{Simulate, faults_of, task_of};
-ghost use Rattle.rr_cli.specs.Ends.{IsReportOn, EndsOnInput, EndsBy};
+ghost use Rattle.rr_cli.specs.Lines.{Simulate, Audit, faults_of, task_of};
+ghost use Rattle.rr_cli.specs.Ends.{IsReportOn, EndsOn, EndsOnInput, EndsBy};
 
+use crate::audit::{audit_file, audit_input};
 use crate::draw::{draw_by_words, end_without_numbers};
-use crate::refusals::end_by_refusal;
+use crate::refusals::end_by_schedule_fault;
 use crate::show::{end_without_folder, show_folder};
 use crate::streams::{end_by_stream, end_by_text, end_without_words};
 use crate::words::{Task, end_by_words, read_words};
@@ -44,7 +45,7 @@ fn simulate_input<I: Source, O: Sink, E: Write>(
     out: &mut O,
     err: &mut E,
 ) -> u8
-    ensures ends { EndsOnInput (I.reading input.old) (I.reading input.new) result (O.printing out.old) (O.printing out.new) }
+    ensures ends { EndsOnInput EndsOn (I.reading input.old) (I.reading input.new) result (O.printing out.old) (O.printing out.new) }
     ensures quiet { result ≡ 0 → Keeps (E.contents err.old) (E.contents err.new) }
 {
     let bytes = match read_all(alloc, input) {
@@ -53,7 +54,7 @@ fn simulate_input<I: Source, O: Sink, E: Write>(
     };
     match report_on(alloc, bytes.as_slice()) {
         Ok(text) => end_by_text(out, err, text.as_slice()),
-        Err(refusal) => end_by_refusal(err, &refusal),
+        Err(refusal) => end_by_schedule_fault(err, name, bytes.as_slice(), &refusal),
     }
 }
 
@@ -61,8 +62,10 @@ fn simulate_input<I: Source, O: Sink, E: Write>(
 ///
 /// `rr sim [FILE]` reads a schedule from FILE, or else from `input`, and prints its report on `out`. `rr show DIR`
 /// prints what the areas hold of the disk in the folder DIR. `rr random --seed SEED --steps STEPS --nodes NODES` prints
-/// a random schedule, a line `report` and the report of its run. What goes wrong is told on `err`. The statuses: 0
-/// done, 2 wrong words, 3 no schedule, 4 a damaged area, 5 a device, a file or a stream, 6 memory, 7 an audit.
+/// a random schedule, a line `report` and the report of its run. `rr audit [FILE]` reads a tape as `rr sim` does a
+/// schedule, and prints whether its events are what nodes do. What goes wrong is told on `err`. The statuses: 0 done,
+/// 2 wrong words, 3 no schedule or tape, 4 a damaged area, 5 a device, a file or a stream, 6 memory, 7 a tape with an
+/// event that isn't what its node does next.
 pub fn execute<R: Files + AllocGlobal, S: AsStr, I: Source, O: Sink, E: Write>(
     rt: &R,
     words: &[S],
@@ -73,7 +76,7 @@ pub fn execute<R: Files + AllocGlobal, S: AsStr, I: Source, O: Sink, E: Write>(
     ensures ends { EndsBy (faults_of (map S.text words.now)) (task_of (map S.text words.now))
         (I.reading input.old) (I.reading input.new) result (O.printing out.old) (O.printing out.new) }
     ensures quiet { result ≡ 0 → Keeps (E.contents err.old) (E.contents err.new) }
-    ensures untouched { task_of (map S.text words.now) ≢ Simulate None → I.reading input.new ≡ I.reading input.old }
+    ensures untouched { task_of (map S.text words.now) ≢ Simulate None → task_of (map S.text words.now) ≢ Audit None → I.reading input.new ≡ I.reading input.old }
 {
     match read_words(rt.alloc(), words) {
         Ok(Task::Simulate(None)) => {
@@ -96,6 +99,8 @@ pub fn execute<R: Files + AllocGlobal, S: AsStr, I: Source, O: Sink, E: Write>(
         Ok(Task::Draw(None, _, _)) => end_without_numbers(err),
         Ok(Task::Draw(_, None, _)) => end_without_numbers(err),
         Ok(Task::Draw(_, _, None)) => end_without_numbers(err),
+        Ok(Task::Audit(None)) => audit_input(rt.alloc(), "standard input", input, out, err),
+        Ok(Task::Audit(Some(path))) => audit_file(rt, path, out, err),
         Err(error) => end_by_words(rt.alloc(), out, err, &error),
     }
 }

@@ -4,6 +4,7 @@ ghost use Rattle.std.specs.Prelude.{◌≡◌, OnOk};
 ghost use Rattle.std.specs.Io.KnownBytes.{Appends};
 ghost use Rattle.rr_cli.specs.Refusals.{status_of, refusal_line};
 
+use rr_explain::{print_schedule_fault, print_tape_fault};
 use rr_text::text_report::refusal_name;
 use rr_types::Refusal;
 use std::io;
@@ -47,4 +48,32 @@ pub(crate) fn end_by_refusal<E: Write>(err: &mut E, refusal: &Refusal) -> u8
 {
     let _ = print_refusal(err, refusal);
     status(refusal)
+}
+
+// Ends by the refusal of a schedule of this name. A second line tells people where it is at fault and why.
+pub(crate) fn end_by_schedule_fault<E: Write>(
+    err: &mut E,
+    name: &str,
+    bytes: &[u8],
+    refusal: &Refusal,
+) -> u8
+    ensures { result ≡ status_of refusal.now }
+{
+    let ending = end_by_refusal(err, refusal);
+    let _ = print_schedule_fault(err, name, bytes, refusal);
+    ending
+}
+
+// The same of a tape.
+pub(crate) fn end_by_tape_fault<E: Write>(
+    err: &mut E,
+    name: &str,
+    bytes: &[u8],
+    refusal: &Refusal,
+) -> u8
+    ensures { result ≡ status_of refusal.now }
+{
+    let ending = end_by_refusal(err, refusal);
+    let _ = print_tape_fault(err, name, bytes, refusal);
+    ending
 }

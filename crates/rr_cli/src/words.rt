@@ -5,7 +5,7 @@ ghost use Rattle.std.specs.Io.KnownBytes.{Keeps};
 ghost use Rattle.clap.specs.Words.{app_of, kind_of, new_app, rule_of};
 ghost use Rattle.clap.specs.declared.builder.command.Command.TheViews.{out-Command};
 ghost use Rattle.clap.specs.Kinds.{FailsBy};
-ghost use Rattle.rr_cli.specs.Lines.{rr_line, rr_settings, sim_line, show_line, number_rule, random_line, faults_of, task_of, task_in};
+ghost use Rattle.rr_cli.specs.Lines.{rr_line, rr_settings, sim_line, show_line, number_rule, random_line, audit_line, file_of, faults_of, task_of, task_in};
 ghost use Rattle.rr_cli.specs.Ends.{IsMistake, Helps, Prints, statuses_text, version_text};
 
 use crate::refusals::end_by_refusal;
@@ -27,10 +27,12 @@ fn command_line<'a>(alloc: Global) -> Result<Command<'a>, AllocError>
     let sim = sim_line(alloc)?;
     let show = show_line(alloc)?;
     let random = random_line(alloc)?;
+    let audit = audit_line(alloc)?;
     top_line(alloc)
         .subcommand(sim)?
         .subcommand(show)?
-        .subcommand(random)
+        .subcommand(random)?
+        .subcommand(audit)
 }
 
 // The command line without its subcommands.
@@ -109,15 +111,38 @@ fn random_line<'a>(alloc: Global) -> Result<Command<'a>, AllocError>
         .arg(nodes)
 }
 
+// The command line of `rr audit`.
+fn audit_line<'a>(alloc: Global) -> Result<Command<'a>, AllocError>
+    ensures line { IfOk result (λ c. app_of c ≡ audit_line) }
+    ensures local { IfOk result (λ c. (out-Command c).has_globals ≡ false) }
+{
+    let file = Arg::new(alloc, "FILE").help("The tape [default: standard input]");
+    Command::new(alloc, "audit")
+        .about("Says whether the events of a tape are what nodes do")
+        .arg(file)
+}
+
 /// What words ask for.
 #[derive(Clone, Copy, Debug, PartialEq, Eq)]
 pub enum Task<'a> {
-    /// `rr sim [FILE]`: the report of the schedule in this file, or else in standard input.
+    /// `rr sim [FILE]`: the report of the schedule in this file, or else in standard input, as by the word `-`.
     Simulate(Option<&'a str>),
     /// `rr show DIR`: what the areas hold of the disk in this folder.
     Show(Option<&'a str>),
     /// `rr random --seed SEED --steps STEPS --nodes NODES`: a random schedule and the report of its run.
     Draw(Option<&'a str>, Option<&'a str>, Option<&'a str>),
+    /// `rr audit [FILE]`: whether the events are what nodes do of the tape in this file, or else in standard input.
+    Audit(Option<&'a str>),
+}
+
+// The file that a word names. None stands for standard input: the word is a hyphen or isn't there.
+fn file_of(word: Option<&str>) -> Option<&str>
+    ensures { option_map (λ s. s.now) result ≡ file_of (option_map (λ s. s.now) word.entry) }
+{
+    match word {
+        Some(path) => { if path == "-" { None } else { Some(path) } }
+        None => None,
+    }
 }
 
 /// What the words ask for. The first word is the program's name.
@@ -139,8 +164,11 @@ pub fn read_words<'a, S: AsStr>(alloc: Global, words: &'a [S]) -> Result<Task<'a
             random.get_str("NODES"),
         ));
     }
+    if let Some(audit) = matches.subcommand_matches("audit") {
+        return Ok(Task::Audit(file_of(audit.get_str("FILE"))));
+    }
     match matches.subcommand() {
-        Some((_, sim)) => Ok(Task::Simulate(sim.get_str("FILE"))),
+        Some((_, sim)) => Ok(Task::Simulate(file_of(sim.get_str("FILE")))),
         None => Ok(Task::Simulate(None)),
     }
 }

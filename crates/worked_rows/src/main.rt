@@ -1,8 +1,9 @@
 //! Says of each text that it is given by name whether it is printed as it was read, or what it is refused with:
 //! of tapes, whose names end in `.tape`, and of schedules. Behind the word `run` it prints the report of each
 //! schedule, behind the word `areas` the bytes that the areas of node 0 hold at its end, and behind the word
-//! `sweep` how many crashes in the switch with which it ends kept what it was of. At the word `full-list` it says
-//! what a node answers all of whose instances are decided.
+//! `sweep` how many crashes in the switch with which it ends kept what it was of. Behind the word `audit` it prints
+//! what an audit of each tape finds. At the word `full-list` it says what a node answers all of whose instances are
+//! decided.
 #![tactic(auto)]
 
 mod areas;
@@ -13,7 +14,8 @@ ghost use Rattle.std.specs.Prelude.{◌≡◌, IfOk};
 ghost use Rattle.rr_cli.specs.Ends.{IsReportOn};
 
 use crate::areas::areas_behind;
-use rr_cli::report_on;
+use rr_audit::Verdict;
+use rr_cli::{audit_on, print_refusal, report_on};
 use rr_tape::Tape;
 use rr_text::Schedule;
 use rr_types::Refusal;
@@ -28,6 +30,7 @@ enum Task {
     Run,
     Areas,
     Sweep,
+    Audit,
 }
 
 fn printed(alloc: Global, is_tape: bool, bytes: &[u8]) -> Result<Vec<u8>, Refusal>
@@ -79,6 +82,17 @@ fn print_areas(rt: &HostRuntime, path: &str, bytes: &[u8]) -> io::Result<()> {
     }
 }
 
+fn audit(rt: &HostRuntime, path: &str, bytes: &[u8]) -> io::Result<()> {
+    println!(rt; "{path} audited")?;
+    match audit_on(rt.alloc(), bytes) {
+        Ok(Verdict::Yes(count)) => println!(rt; "audit yes {count}"),
+        Ok(Verdict::No(number, _, _)) => {
+            print_refusal(&mut rt.stdout(), &Refusal::AuditNo(number))
+        }
+        Err(refusal) => print_refusal(&mut rt.stdout(), &refusal),
+    }
+}
+
 fn main(rt: HostRuntime) -> io::Result<()> {
     let mut task = Task::Read;
     for word in env::args(&rt)?.skip(1) {
@@ -86,6 +100,7 @@ fn main(rt: HostRuntime) -> io::Result<()> {
             "run" => task = Task::Run,
             "areas" => task = Task::Areas,
             "sweep" => task = Task::Sweep,
+            "audit" => task = Task::Audit,
             "full-list" => full_list::full_list(&rt)?,
             path => {
                 let bytes = fs::read(&rt, path)?;
@@ -94,6 +109,7 @@ fn main(rt: HostRuntime) -> io::Result<()> {
                     Task::Run => run(&rt, path, &bytes)?,
                     Task::Areas => print_areas(&rt, path, &bytes)?,
                     Task::Sweep => sweep::sweep(&rt, path, &bytes)?,
+                    Task::Audit => audit(&rt, path, &bytes)?,
                 }
             }
         }

@@ -1,8 +1,8 @@
 use Rattle.std.proofs.Common.{◌≡◌, ◌∙◌, ℕ, List, Option, option_map, Bor, refl, sym, ap, map, None, Some, inl, inr}
 use Rattle.clap.specs.Words.{Text, kind_of}
 use Rattle.rr_cli.specs.declared.words.Task.TheVariants as read
-use Rattle.rr_cli.specs.Lines.{Simulate, Show, Draw, task_of, task_in}
-use Rattle.rr_cli.specs.Ends.{opened, unopened, mistaken, by_help, by_version, out_of_memory, by_standard_input, by_file, by_folder, by_numbers, without_numbers}
+use Rattle.rr_cli.specs.Lines.{Simulate, Show, Draw, Audit, task_of, task_in}
+use Rattle.rr_cli.specs.Ends.{opened, unopened, mistaken, by_help, by_version, out_of_memory, by_standard_input, by_file, by_folder, by_numbers, without_numbers, by_tape_in_standard_input, by_tape_in_a_file}
 use Rattle.rr_cli.proofs.EndLemmas.{kind_cases}
 use Rattle.rr_cli.proofs.program.execute.Goals as goal
 
@@ -29,6 +29,18 @@ returns-in-Ok-Show-Some-clause-ends g c =
     let w = c.in-Ok-Show-Some in
     let task : task_of (map g.S.AsStr.text c.args.words.now) ≡ Show (Some w.folder.now) = sym w.ensures.task ∙ ap task_in w.field-0-is ∙ ap (λ folder. task_in (read.Show folder)) w.field-0-0-is in
     by_folder w.folder.now w.ensures.faults task c.show_folder.ensures.ends
+
+pub returns-in-Ok-Audit-None-clause-ends : goal.returns-in-Ok-Audit-None-clause-ends
+returns-in-Ok-Audit-None-clause-ends g c =
+    let w = c.in-Ok-Audit-None in
+    let task : task_of (map g.S.AsStr.text c.args.words.now) ≡ Audit None = sym w.ensures.task ∙ ap task_in w.field-0-is ∙ ap (λ file. task_in (read.Audit file)) w.field-0-0-is in
+    by_tape_in_standard_input w.ensures.faults task c.audit_input.ensures.ends
+
+pub returns-in-Ok-Audit-Some-clause-ends : goal.returns-in-Ok-Audit-Some-clause-ends
+returns-in-Ok-Audit-Some-clause-ends g c =
+    let w = c.in-Ok-Audit-Some in
+    let task : task_of (map g.S.AsStr.text c.args.words.now) ≡ Audit (Some w.path.now) = sym w.ensures.task ∙ ap task_in w.field-0-is ∙ ap (λ file. task_in (read.Audit file)) w.field-0-0-is in
+    by_tape_in_a_file w.path.now w.ensures.faults task c.audit_file.ensures.ends
 
 pub returns-in-Err-clause-ends : goal.returns-in-Err-clause-ends
 returns-in-Err-clause-ends g c =

@@ -3,8 +3,8 @@ use Rattle.clap.specs.Words.{App, Row, Text, app_of, found_of, is_simple, is_sim
 use Rattle.clap.specs.Faults.{fault_of}
 use Rattle.clap.specs.declared.parser.matches.ArgMatches.TheViews.{out-ArgMatches}
 use Rattle.clap.proofs.WalkLemmas.{first_value-rows}
-use Rattle.rr_cli.specs.Lines.{Simulate, Show, Draw, rr_line}
-use Rattle.rr_cli.proofs.WordLemmas.{is_simple_line, is_free_line, named, task_shown, task_drawn, task_simulated, not_there}
+use Rattle.rr_cli.specs.Lines.{Simulate, Show, Draw, Audit, file_of, rr_line}
+use Rattle.rr_cli.proofs.WordLemmas.{is_simple_line, is_free_line, named, task_shown, task_drawn, task_audited, task_simulated, not_there}
 use Rattle.rr_cli.proofs.words.read_words.Goals as goal
 
 abbrev name_of : Option (Text × List Row) → Option Text
@@ -39,10 +39,11 @@ returns-in-Some-subcommand-clause-task g c =
     let m = c.in_ok-matches.matches in
     let below : subcommand_rows_of m ≡ subcommand_of rr_line words = (c.in_ok-matches.ensures.matches (ap is_simple line_is ∙ is_simple_line)).1 ∙ ap (λ (a : App). subcommand_of a words) line_is in
     let sim = c.in-Some-subcommand.sim.now in
-    let other : name_of (subcommand_of rr_line words) ≡ Some (codes "show") → ⊥ = λ e. not_there c.subcommand_matches.result c.in_default.not-Some (c.subcommand_matches.ensures.found.1 (sym (named (out-ArgMatches m).subcommand) ∙ ap name_of below ∙ e)) in
-    let another : name_of (subcommand_of rr_line words) ≡ Some (codes "random") → ⊥ = λ e. not_there c.subcommand_matches-2.result c.in_default-subcommand_matches.not-Some (c.subcommand_matches-2.ensures.found.1 (sym (named (out-ArgMatches m).subcommand) ∙ ap name_of below ∙ e)) in
-    ap Simulate (c.get_str-in-Some-subcommand.ensures ∙ first_value-rows (found_of sim) (codes "FILE"))
-    ∙ task_simulated (subcommand_of rr_line words) (rows_of (found_of sim)) other another (c.in-Some-subcommand.ensures.rows ∙ ap arguments_of below)
+    let no_show : name_of (subcommand_of rr_line words) ≡ Some (codes "show") → ⊥ = λ e. not_there c.subcommand_matches.result c.in_default.not-Some (c.subcommand_matches.ensures.found.1 (sym (named (out-ArgMatches m).subcommand) ∙ ap name_of below ∙ e)) in
+    let no_random : name_of (subcommand_of rr_line words) ≡ Some (codes "random") → ⊥ = λ e. not_there c.subcommand_matches-2.result c.in_default-subcommand_matches.not-Some (c.subcommand_matches-2.ensures.found.1 (sym (named (out-ArgMatches m).subcommand) ∙ ap name_of below ∙ e)) in
+    let no_audit : name_of (subcommand_of rr_line words) ≡ Some (codes "audit") → ⊥ = λ e. not_there c.subcommand_matches-3.result c.in_default-subcommand_matches-2.not-Some (c.subcommand_matches-3.ensures.found.1 (sym (named (out-ArgMatches m).subcommand) ∙ ap name_of below ∙ e)) in
+    ap Simulate (c.file_of-in-Some-subcommand.ensures ∙ ap file_of (c.get_str-in-Some-subcommand.ensures ∙ first_value-rows (found_of sim) (codes "FILE")))
+    ∙ task_simulated (subcommand_of rr_line words) (rows_of (found_of sim)) no_show no_random no_audit (c.in-Some-subcommand.ensures.rows ∙ ap arguments_of below)
 
 pub returns-in-Some-subcommand-clause-faults : goal.returns-in-Some-subcommand-clause-faults
 returns-in-Some-subcommand-clause-faults g c =
@@ -67,6 +68,30 @@ returns-in-Some-subcommand_matches-clause-task g c =
 
 pub returns-in-Some-subcommand_matches-clause-faults : goal.returns-in-Some-subcommand_matches-clause-faults
 returns-in-Some-subcommand_matches-clause-faults g c =
+    let line_is : app_of c.in_ok-command_line.field-0 ≡ rr_line = c.in_ok-command_line.ensures in
+    let words = map g.S.AsStr.text c.args.words.now in
+    sym (ap (λ (a : App). fault_of a words) line_is) ∙ c.in_ok-matches.ensures.kinds (ap is_simple_and_free line_is ∙ is_free_line)
+
+pub returns-in-Some-subcommand_matches-2-clause-task : goal.returns-in-Some-subcommand_matches-2-clause-task
+returns-in-Some-subcommand_matches-2-clause-task g c =
+    let line_is : app_of c.in_ok-command_line.field-0 ≡ rr_line = c.in_ok-command_line.ensures in
+    let words = map g.S.AsStr.text c.args.words.now in
+    let m = c.in_ok-matches.matches in
+    let audit = c.in-Some-subcommand_matches-2.audit.now in
+    let below : subcommand_rows_of m ≡ subcommand_of rr_line words = (c.in_ok-matches.ensures.matches (ap is_simple line_is ∙ is_simple_line)).1 ∙ ap (λ (a : App). subcommand_of a words) line_is in
+    let name : name_of (subcommand_of rr_line words) ≡ Some (codes "audit") = sym (ap name_of below) ∙ named (out-ArgMatches m).subcommand ∙ c.in-Some-subcommand_matches-2.ensures.found.0 refl in
+    let rows : arguments_of (subcommand_of rr_line words) ≡ Some (rows_of (found_of audit)) = sym (ap arguments_of below) ∙ c.in-Some-subcommand_matches-2.ensures.rows in
+    ap Audit (c.file_of.ensures ∙ ap file_of (c.get_str-in-Some-subcommand_matches-2-2.ensures ∙ first_value-rows (found_of audit) (codes "FILE")))
+    ∙ task_audited (subcommand_of rr_line words) (rows_of (found_of audit)) name rows
+
+pub returns-in-Some-subcommand_matches-2-clause-faults : goal.returns-in-Some-subcommand_matches-2-clause-faults
+returns-in-Some-subcommand_matches-2-clause-faults g c =
+    let line_is : app_of c.in_ok-command_line.field-0 ≡ rr_line = c.in_ok-command_line.ensures in
+    let words = map g.S.AsStr.text c.args.words.now in
+    sym (ap (λ (a : App). fault_of a words) line_is) ∙ c.in_ok-matches.ensures.kinds (ap is_simple_and_free line_is ∙ is_free_line)
+
+pub returns-clause-faults : goal.returns-clause-faults
+returns-clause-faults g c =
     let line_is : app_of c.in_ok-command_line.field-0 ≡ rr_line = c.in_ok-command_line.ensures in
     let words = map g.S.AsStr.text c.args.words.now in
     sym (ap (λ (a : App). fault_of a words) line_is) ∙ c.in_ok-matches.ensures.kinds (ap is_simple_and_free line_is ∙ is_free_line)

@@ -1,0 +1,210 @@
+//! The audit of a tape: what it prints, and a no in plain words.
+
+ghost use Rattle.std.specs.Prelude.{◌≡◌, IfOk, IfErr, string_bytes};
+ghost use Rattle.std.specs.Io.KnownBytes.{Keeps};
+ghost use Rattle.rr_text.specs.Lines.{IsFault};
+ghost use Rattle.rr_tape.specs.Taped.{IsTapeEvent};
+ghost use Rattle.rr_tape.specs.TapeTexts.{tape_line};
+ghost use Rattle.rr_cli.specs.Tapes.{IsVerdictOn, yes_text};
+ghost use Rattle.rr_cli.specs.Ends.{EndsOnTape, EndsOnInput, EndsOnFile};
+
+use crate::refusals::{end_by_refusal, end_by_tape_fault};
+use crate::streams::{end_by_stream, end_by_text};
+use rr_audit::{Given, Verdict, examine};
+use rr_stream::{Counted, Sink, Source, read_all};
+use rr_tape::Tape;
+use rr_text::ReportLine;
+use rr_text::text_read::cut;
+use rr_text::text_report::push_report_words;
+use rr_types::{NodeId, Refusal};
+use std::alloc::{AllocError, Global};
+use std::io::{ErrorKind, Write};
+use std::rt::Files;
+use std::{fs, io};
+
+/// What an audit finds of the tape that the bytes are.
+///
+/// # Errors
+/// `BadNodes` and `BadEvent` for bytes that are no tape; `OutOfMemory`.
+pub fn audit_on(alloc: Global, bytes: &[u8]) -> Result<Verdict, Refusal>
+    ensures ok { IfOk result (λ verdict. IsVerdictOn bytes.now verdict) }
+    ensures fault { IfErr result (λ e. IsFault IsTapeEvent tape_line bytes.now e) }
+{
+    let tape = Tape::parse(alloc, bytes)?;
+    examine(alloc, &tape)
+}
+
+// Audits the tape that the input of this name holds, and tells what is found.
+pub(crate) fn audit_input<I: Source, O: Sink, E: Write>(
+    alloc: Global,
+    name: &str,
+    input: &mut I,
+    out: &mut O,
+    err: &mut E,
+) -> u8
+    ensures ends { EndsOnInput EndsOnTape (I.reading input.old) (I.reading input.new) result (O.printing out.old) (O.printing out.new) }
+    ensures quiet { result ≡ 0 → Keeps (E.contents err.old) (E.contents err.new) }
+{
+    match read_all(alloc, input) {
+        Ok(bytes) => audit_bytes(alloc, name, bytes.as_slice(), out, err),
+        Err(failure) => end_by_stream(err, name, &failure),
+    }
+}
+
+// Audits the tape in a file, and tells what is found.
+pub(crate) fn audit_file<R: Files + AllocGlobal, O: Sink, E: Write>(
+    rt: &R,
+    path: &str,
+    out: &mut O,
+    err: &mut E,
+) -> u8
+    ensures ends { EndsOnFile EndsOnTape result (O.printing out.old) (O.printing out.new) }
+    ensures quiet { result ≡ 0 → Keeps (E.contents err.old) (E.contents err.new) }
+{
+    match fs::open(rt, path) {
+        Ok(file) => audit_input(rt.alloc(), path, &mut Counted::new(file), out, err),
+        Err(failure) => end_by_stream(err, path, &failure),
+    }
+}
+
+// Audits the tape that the bytes are, and tells what is found.
+fn audit_bytes<O: Sink, E: Write>(
+    alloc: Global,
+    name: &str,
+    bytes: &[u8],
+    out: &mut O,
+    err: &mut E,
+) -> u8
+    ensures ends { EndsOnTape bytes.now result (O.printing out.old) (O.printing out.new) }
+    ensures quiet { result ≡ 0 → Keeps (E.contents err.old) (E.contents err.new) }
+{
+    match audit_on(alloc, bytes) {
+        Ok(verdict) => end_by_verdict(alloc, bytes, verdict, out, err),
+        Err(refusal) => end_by_tape_fault(err, name, bytes, &refusal),
+    }
+}
+
+// Tells what an audit has found of the tape that the bytes are.
+fn end_by_verdict<O: Sink, E: Write>(
+    alloc: Global,
+    bytes: &[u8],
+    verdict: Verdict,
+    out: &mut O,
+    err: &mut E,
+) -> u8
+    ensures ends { IsVerdictOn bytes.now verdict → EndsOnTape bytes.now result (O.printing out.old) (O.printing out.new) }
+    ensures quiet { result ≡ 0 → Keeps (E.contents err.old) (E.contents err.new) }
+{
+    match verdict {
+        Verdict::Yes(count) => match yes_text(alloc, count) {
+            Ok(text) => end_by_text(out, err, text.as_bytes()),
+            Err(_) => end_by_refusal(err, &Refusal::OutOfMemory),
+        },
+        Verdict::No(number, node, given) => end_by_no(alloc, bytes, number, node, &given, err),
+    }
+}
+
+// The line of a yes to a tape of so many events.
+fn yes_text(alloc: Global, count: u64) -> Result<String, AllocError>
+    ensures { IfOk result (λ text. string_bytes text ≡ yes_text count) }
+{
+    format!(in alloc; "audit yes {count}\n")
+}
+
+// Ends by a no to the event of this number. A second line tells it in plain words, where memory suffices for it.
+fn end_by_no<E: Write>(
+    alloc: Global,
+    bytes: &[u8],
+    number: u64,
+    node: NodeId,
+    given: &Given,
+    err: &mut E,
+) -> u8
+    ensures { result ≡ 7 }
+{
+    let ending = end_by_refusal(err, &Refusal::AuditNo(number));
+    if let Ok(text) = no_text(alloc, bytes, number, node, given) {
+        let _ = err.write_all(text.as_slice());
+    }
+    ending
+}
+
+// A no in plain words: what the tape has as its event of this number, and what the world gives there.
+fn no_text(
+    alloc: Global,
+    bytes: &[u8],
+    number: u64,
+    node: NodeId,
+    given: &Given,
+) -> io::Result<Vec<u8>> {
+    let mut text = Vec::new(alloc);
+    let line = number.saturating_add(1);
+    write!(text, "event {number} (line {line}): recorded \"")?;
+    text.extend_from_slice(line_behind(bytes, number))?;
+    write!(text, "\", but ")?;
+    push_given(&mut text, node, given)?;
+    text.push(b'\n')?;
+    Ok(text)
+}
+
+// The line of a text that stands behind so many others.
+fn line_behind(text: &[u8], count: u64) -> &[u8] {
+    let mut rest = text;
+    for _ in 0..count {
+        match cut(rest, b'\n') {
+            Some((_, behind)) => rest = behind,
+            None => return b"",
+        }
+    }
+    match cut(rest, b'\n') {
+        Some((line, _)) => line,
+        None => rest,
+    }
+}
+
+// Appends in words what is given at a node in the place of an event. A message or a reply is told as on a tape.
+fn push_given(text: &mut Vec<u8>, node: NodeId, given: &Given) -> io::Result<()> {
+    let at = node.index();
+    match given {
+        Given::NoNode => write!(text, "there is no node {at}"),
+        Given::Refused(refusal) => write!(text, "node {at} refuses it: {refusal}"),
+        Given::NoMessage => write!(text, "no message of this number is sent before it"),
+        Given::OtherNode(to) => {
+            let to = to.index();
+            write!(text, "that message is for node {to}")
+        }
+        Given::NothingStaged => write!(text, "node {at} has nothing to flush"),
+        Given::StillFlushing => write!(text, "node {at} hasn't marked its last group"),
+        Given::NothingFlushed => write!(text, "node {at} has no group to mark"),
+        Given::Number(next) => write!(text, "the next message has number {next}"),
+        Given::NothingToSend => write!(text, "node {at} has nothing to send"),
+        Given::Sends(number, message) => {
+            let number = u64::from(*number);
+            let message = *message;
+            push_next(text, at, &ReportLine::Send { number, message })
+        }
+        Given::NothingToAcknowledge => write!(text, "node {at} has nothing to acknowledge"),
+        Given::Acknowledges(request, reply) => {
+            let request = *request;
+            let reply = *reply;
+            push_next(
+                text,
+                at,
+                &ReportLine::Ack {
+                    node,
+                    request,
+                    reply,
+                },
+            )
+        }
+    }
+}
+
+// Appends what a node gives next, which is a line of a tape as of a report.
+fn push_next(text: &mut Vec<u8>, at: u8, next: &ReportLine) -> io::Result<()> {
+    write!(text, "node {at} gives \"")?;
+    match push_report_words(text, next) {
+        Ok(()) => write!(text, "\""),
+        Err(_) => Err(io::Error::from(ErrorKind::OutOfMemory)),
+    }
+}

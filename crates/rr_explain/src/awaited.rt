@@ -1,0 +1,166 @@
+//! What may stand next in a line of a schedule or a tape.
+
+use crate::recorded::Recorded;
+use rr_text::keyword::Keyword;
+use rr_text::text_read::{hex_byte, keyword, node, number, set, small_number};
+use rr_types::{Name, Nodes, Value};
+
+/// What may stand next in a line.
+#[derive(Clone, Copy, Debug)]
+pub(crate) enum Awaited {
+    Event,
+    Node(Keyword),
+    Client,
+    Request,
+    Operation,
+    Claimed,
+    Released,
+    Transferred,
+    Value,
+    Owner,
+    Message,
+    Suspects,
+    FirstCut,
+    SecondCut,
+    Fill,
+    Recorded(Recorded),
+    End,
+}
+
+impl Awaited {
+    /// What it is called.
+    pub(crate) fn called(self) -> &'static str {
+        match self {
+            Awaited::Event => "event",
+            Awaited::Node(_) => "node",
+            Awaited::Client => "client",
+            Awaited::Request => "request number",
+            Awaited::Operation => "operation",
+            Awaited::Claimed | Awaited::Released | Awaited::Transferred => "name",
+            Awaited::Value => "value",
+            Awaited::Owner => "owner",
+            Awaited::Message => "message number",
+            Awaited::Suspects => "set of nodes",
+            Awaited::FirstCut | Awaited::SecondCut => "cut",
+            Awaited::Fill => "fill",
+            Awaited::Recorded(recorded) => recorded.called(),
+            Awaited::End => "end of the line",
+        }
+    }
+
+    /// What is expected there.
+    pub(crate) fn expected(self, nodes: Nodes) -> &'static str {
+        match self {
+            Awaited::Event => {
+                "submit, hear, suspect, tick, advance, take, dev, fail, mark, send, ack, snap, crash or restart"
+            }
+            Awaited::Node(_) => digits(nodes),
+            Awaited::Operation => "claim, update, release or transfer",
+            Awaited::Request => "a number below 2^64 without leading zeros",
+            Awaited::Claimed | Awaited::Released | Awaited::Transferred => {
+                "1 to 64 of a to z, 0 to 9 and hyphen"
+            }
+            Awaited::Value => "1 to 64 printable ASCII characters",
+            Awaited::Client
+            | Awaited::Owner
+            | Awaited::Message
+            | Awaited::FirstCut
+            | Awaited::SecondCut => "a number below 2^32 without leading zeros",
+            Awaited::Suspects => "- or ascending digits of nodes",
+            Awaited::Fill => "- or pairs of the digits 0 to 9 and A to F",
+            Awaited::Recorded(recorded) => recorded.expected(nodes),
+            Awaited::End => "nothing more",
+        }
+    }
+
+    /// Whether the word may stand here.
+    pub(crate) fn fits(self, nodes: Nodes, word: &[u8]) -> bool {
+        match self {
+            Awaited::Event => keyword(word).is_some(),
+            Awaited::Node(_) => node(nodes, word).is_some(),
+            Awaited::Operation => behind_operation(word).is_some(),
+            Awaited::Request => number(word).is_some(),
+            Awaited::Claimed | Awaited::Released | Awaited::Transferred => Name::new(word).is_ok(),
+            Awaited::Value => !word.is_empty() && Value::new(word).is_ok(),
+            Awaited::Client
+            | Awaited::Owner
+            | Awaited::Message
+            | Awaited::FirstCut
+            | Awaited::SecondCut => small_number(word).is_some(),
+            Awaited::Suspects => set(nodes, word).is_some(),
+            Awaited::Fill => is_fill(word),
+            Awaited::Recorded(recorded) => recorded.fits(nodes, word),
+            Awaited::End => false,
+        }
+    }
+
+    /// What may stand behind the word, which fits here.
+    pub(crate) fn behind(self, word: &[u8]) -> Awaited {
+        match self {
+            Awaited::Event => match keyword(word) {
+                Some(keyword) => Awaited::Node(keyword),
+                None => Awaited::End,
+            },
+            Awaited::Node(Keyword::Submit) => Awaited::Client,
+            Awaited::Node(Keyword::Hear) => Awaited::Message,
+            Awaited::Node(Keyword::Suspect) => Awaited::Suspects,
+            Awaited::Node(Keyword::Fail) => Awaited::Fill,
+            Awaited::Node(Keyword::Crash) => Awaited::FirstCut,
+            Awaited::Node(_) => Awaited::End,
+            Awaited::Client => Awaited::Request,
+            Awaited::Request => Awaited::Operation,
+            Awaited::Operation => match behind_operation(word) {
+                Some(awaited) => awaited,
+                None => Awaited::End,
+            },
+            Awaited::Claimed => Awaited::Value,
+            Awaited::Transferred => Awaited::Owner,
+            Awaited::FirstCut => Awaited::SecondCut,
+            Awaited::SecondCut => Awaited::Fill,
+            Awaited::Recorded(recorded) => recorded.behind(word),
+            _ => Awaited::End,
+        }
+    }
+
+    /// Whether the line may end here.
+    pub(crate) fn may_end(self) -> bool {
+        matches!(self, Awaited::Value | Awaited::End)
+    }
+}
+
+/// The nodes that there are.
+pub(crate) fn digits(nodes: Nodes) -> &'static str {
+    match nodes.count() {
+        1 => "0",
+        2 => "0 or 1",
+        3 => "0 to 2",
+        4 => "0 to 3",
+        5 => "0 to 4",
+        6 => "0 to 5",
+        _ => "0 to 6",
+    }
+}
+
+// What may stand behind an operation of this name.
+fn behind_operation(word: &[u8]) -> Option<Awaited> {
+    if word == b"claim".as_slice() || word == b"update".as_slice() {
+        Some(Awaited::Claimed)
+    } else if word == b"release".as_slice() {
+        Some(Awaited::Released)
+    } else if word == b"transfer".as_slice() {
+        Some(Awaited::Transferred)
+    } else {
+        None
+    }
+}
+
+fn is_fill(word: &[u8]) -> bool {
+    if word == b"-".as_slice() {
+        return true;
+    }
+    !word.is_empty()
+        && word.chunks(2).all(|pair| match pair {
+            [high, low] => hex_byte(*high, *low).is_some(),
+            _ => false,
+        })
+}

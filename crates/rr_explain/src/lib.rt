@@ -1,0 +1,9 @@
+//! Faults of texts, told to people: where a schedule or a tape is at fault, what stands there, and what may.
+#![tactic(auto)]
+
+mod awaited;
+mod fault;
+mod faults;
+mod recorded;
+
+pub use faults::{print_schedule_fault, print_tape_fault};

@@ -1,0 +1,200 @@
+//! What may stand next in a line that only a tape has, and in a tape's lines at all.
+
+use crate::awaited::{Awaited, digits};
+use rr_text::keyword::Keyword;
+use rr_text::text_read::{cut, keyword, node, number, small_number};
+use rr_types::{Instance, Nodes, Round};
+
+/// What may stand next in a line of a tape, where a schedule's lines have no such place.
+#[derive(Clone, Copy, Debug)]
+pub(crate) enum Recorded {
+    Event,
+    Number,
+    Sender,
+    Addressee,
+    Message,
+    EstimateInstance,
+    EstimateRound,
+    // Behind a round of this number.
+    Stamp(u32),
+    ProposalInstance,
+    ProposalRound,
+    AnswerInstance,
+    AnswerRound,
+    DecisionInstance,
+    AskInstance,
+    Request,
+    Acknowledger,
+    Acknowledged,
+    Reply,
+}
+
+impl Recorded {
+    /// What it is called.
+    pub(crate) fn called(self) -> &'static str {
+        match self {
+            Recorded::Event => "event of a tape",
+            Recorded::Number => "message number",
+            Recorded::Sender | Recorded::Addressee | Recorded::Acknowledger => "node",
+            Recorded::Message => "message",
+            Recorded::EstimateInstance
+            | Recorded::ProposalInstance
+            | Recorded::AnswerInstance
+            | Recorded::DecisionInstance
+            | Recorded::AskInstance => "instance",
+            Recorded::EstimateRound | Recorded::ProposalRound | Recorded::AnswerRound => "round",
+            Recorded::Stamp(_) => "stamp",
+            Recorded::Request | Recorded::Acknowledged => "request",
+            Recorded::Reply => "reply",
+        }
+    }
+
+    /// What is expected there.
+    pub(crate) fn expected(self, nodes: Nodes) -> &'static str {
+        match self {
+            Recorded::Event => "submit, hear, suspect, tick, advance, take, mark, send or ack",
+            Recorded::Number => "a number below 2^32 without leading zeros",
+            Recorded::Sender | Recorded::Addressee | Recorded::Acknowledger => digits(nodes),
+            Recorded::Message => {
+                "estimate, proposal, ack, decision, request, nack, beat, suspects or ask"
+            }
+            Recorded::EstimateInstance
+            | Recorded::ProposalInstance
+            | Recorded::AnswerInstance
+            | Recorded::DecisionInstance
+            | Recorded::AskInstance => "a number below 1048576 without leading zeros",
+            Recorded::EstimateRound | Recorded::ProposalRound | Recorded::AnswerRound => {
+                "1 to 2147483647"
+            }
+            Recorded::Stamp(_) => "a number below the round without leading zeros",
+            Recorded::Request | Recorded::Acknowledged => {
+                "a client's number below 2^32, a point and its request number below 2^64"
+            }
+            Recorded::Reply => {
+                "claimed, updated, released, transferred, taken, unknown, notowner or full"
+            }
+        }
+    }
+
+    /// Whether the word may stand here.
+    pub(crate) fn fits(self, nodes: Nodes, word: &[u8]) -> bool {
+        match self {
+            Recorded::Event => behind_event(word).is_some(),
+            Recorded::Number => small_number(word).is_some(),
+            Recorded::Sender | Recorded::Addressee | Recorded::Acknowledger => {
+                node(nodes, word).is_some()
+            }
+            Recorded::Message => behind_message(word).is_some(),
+            Recorded::EstimateInstance
+            | Recorded::ProposalInstance
+            | Recorded::AnswerInstance
+            | Recorded::DecisionInstance
+            | Recorded::AskInstance => match small_number(word) {
+                Some(number) => Instance::new(number).is_some(),
+                None => false,
+            },
+            Recorded::EstimateRound | Recorded::ProposalRound | Recorded::AnswerRound => {
+                match small_number(word) {
+                    Some(number) => Round::new(number).is_some(),
+                    None => false,
+                }
+            }
+            Recorded::Stamp(round) => match small_number(word) {
+                Some(stamp) => stamp < round,
+                None => false,
+            },
+            Recorded::Request | Recorded::Acknowledged => is_request(word),
+            Recorded::Reply => behind_reply(word).is_some(),
+        }
+    }
+
+    /// What may stand behind the word, which fits here.
+    pub(crate) fn behind(self, word: &[u8]) -> Awaited {
+        let next = match self {
+            Recorded::Event => return or_end(behind_event(word)),
+            Recorded::Number => Recorded::Sender,
+            Recorded::Sender => Recorded::Addressee,
+            Recorded::Addressee => Recorded::Message,
+            Recorded::Message => return or_end(behind_message(word)),
+            Recorded::EstimateInstance => Recorded::EstimateRound,
+            Recorded::EstimateRound => match small_number(word) {
+                Some(round) => Recorded::Stamp(round),
+                None => return Awaited::End,
+            },
+            Recorded::ProposalInstance => Recorded::ProposalRound,
+            Recorded::Stamp(_) | Recorded::ProposalRound | Recorded::DecisionInstance => {
+                Recorded::Request
+            }
+            Recorded::AnswerInstance => Recorded::AnswerRound,
+            Recorded::AnswerRound | Recorded::AskInstance => return Awaited::End,
+            Recorded::Request => return Awaited::Operation,
+            Recorded::Acknowledger => Recorded::Acknowledged,
+            Recorded::Acknowledged => Recorded::Reply,
+            Recorded::Reply => return or_end(behind_reply(word)),
+        };
+        Awaited::Recorded(next)
+    }
+}
+
+fn or_end(awaited: Option<Awaited>) -> Awaited {
+    match awaited {
+        Some(awaited) => awaited,
+        None => Awaited::End,
+    }
+}
+
+// What may stand behind the first word of a line.
+fn behind_event(word: &[u8]) -> Option<Awaited> {
+    match keyword(word)? {
+        Keyword::Send => Some(Awaited::Recorded(Recorded::Number)),
+        Keyword::Ack => Some(Awaited::Recorded(Recorded::Acknowledger)),
+        Keyword::Device | Keyword::Fail | Keyword::Snap | Keyword::Crash | Keyword::Restart => None,
+        keyword => Some(Awaited::Node(keyword)),
+    }
+}
+
+// What may stand behind the word for a message.
+fn behind_message(word: &[u8]) -> Option<Awaited> {
+    let next = if word == b"estimate".as_slice() {
+        Recorded::EstimateInstance
+    } else if word == b"proposal".as_slice() {
+        Recorded::ProposalInstance
+    } else if word == b"ack".as_slice() || word == b"nack".as_slice() {
+        Recorded::AnswerInstance
+    } else if word == b"decision".as_slice() {
+        Recorded::DecisionInstance
+    } else if word == b"request".as_slice() {
+        Recorded::Request
+    } else if word == b"ask".as_slice() {
+        Recorded::AskInstance
+    } else if word == b"suspects".as_slice() {
+        return Some(Awaited::Suspects);
+    } else if word == b"beat".as_slice() {
+        return Some(Awaited::End);
+    } else {
+        return None;
+    };
+    Some(Awaited::Recorded(next))
+}
+
+// What may stand behind the word for a reply.
+fn behind_reply(word: &[u8]) -> Option<Awaited> {
+    if word == b"taken".as_slice() {
+        return Some(Awaited::Owner);
+    }
+    let is_whole = word == b"claimed".as_slice()
+        || word == b"updated".as_slice()
+        || word == b"released".as_slice()
+        || word == b"transferred".as_slice()
+        || word == b"unknown".as_slice()
+        || word == b"notowner".as_slice()
+        || word == b"full".as_slice();
+    if is_whole { Some(Awaited::End) } else { None }
+}
+
+fn is_request(word: &[u8]) -> bool {
+    match cut(word, b'.') {
+        Some((client, request)) => small_number(client).is_some() && number(request).is_some(),
+        None => false,
+    }
+}
