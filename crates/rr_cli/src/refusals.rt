@@ -10,7 +10,7 @@ use rr_types::Refusal;
 use std::io;
 use std::io::Write;
 
-/// The exit status of a refusal: 3 for a schedule, 4 for a damaged area, 5 for a device, 6 for memory and 7
+/// The exit status of a refusal: 3 for a schedule or a tape, 4 for a damaged area, 5 for a device, 6 for memory and 7
 /// for an audit.
 pub fn status(refusal: &Refusal) -> u8
     ensures { result ≡ status_of refusal.now }
