@@ -6,40 +6,24 @@ use Rattle.clap.specs.declared.error.kind.ErrorKind.{ErrorKind}
 use Rattle.clap.specs.declared.error.kind.ErrorKind.TheVariants.{DisplayHelp, DisplayVersion}
 use Rattle.rr_types.specs.declared.refusal.Refusal.{Refusal}
 use Rattle.rr_text.specs.Lines.{IsFault}
-use Rattle.rr_text.specs.Scheduled.{Scheduled, IsSchedule, IsEvent}
-use Rattle.rr_text.specs.Reported.{Reported}
-use Rattle.rr_text.specs.ScheduleTexts.{schedule_text, event_line}
-use Rattle.rr_text.specs.ReportTexts.{report_text, line}
+use Rattle.rr_text.specs.Scheduled.{IsEvent}
+use Rattle.rr_text.specs.ScheduleTexts.{event_line}
+use Rattle.rr_text.specs.ReportTexts.{line}
 use Rattle.rr_tape.specs.Taped.{Taped, IsTape, IsTapeEvent}
 use Rattle.rr_tape.specs.TapeTexts.{tape_text, tape_line}
 use Rattle.rr_audit.specs.Audits as tapes
 use Rattle.rr_audit.specs.Audits.{IsTapeRun, StopsAt}
-use Rattle.rr_sim.specs.Clusters.{IsReportOf, IsOnlyOneIfClean}
-use Rattle.rr_sim.specs.Headline.{IsRunOfTheWorld, AgreesWithOneList, KeepsRealTime}
+use Rattle.rr_sim.specs.Told.{IsReportOn, IsRandomRun}
 use Rattle.rr_disk.specs.Counts.{Grew}
 use Rattle.rr_disk.specs.declared.area.Area.{Area}
 use Rattle.rr_stream.specs.Streams.{Printing, Reading, IsPrinted, IsFrontPrinted, AreAllOf}
 use Rattle.rr_image.specs.declared.inspection.AreaReport.{AreaReport}
 use Rattle.rr_image.specs.Inspect.{Tells, Breaks, inspected}
 use Rattle.rr_cli.specs.Areas.{areas_text}
-use Rattle.rr_cli.specs.Draws.{AreNumbers, IsRandomRun}
+use Rattle.rr_cli.specs.Draws.{AreNumbers}
 use Rattle.rr_cli.specs.Lines.{Task, Simulate, Show, Draw, Audit}
 use Rattle.rr_cli.specs.Refusals.{status_of}
 use Rattle.rr_cli.specs.Tapes.{yes_text}
-
--- the bytes are the text of a schedule, and the other text is that of the report of its run, which is a run of the
--- world, agrees with one list of commands in the order of real time, and is the only one if it is clean
-pub record IsReportOn (bytes text : List ℕ) : Type 0 where
-  pub schedule : Scheduled
-  pub report : Reported
-  pub lawful : IsSchedule schedule
-  pub read : bytes ≡ schedule_text schedule
-  pub run : IsReportOf schedule.nodes schedule.events report
-  pub world : IsRunOfTheWorld schedule.nodes schedule.events report
-  pub one_list : AgreesWithOneList schedule.events report
-  pub real_time : KeepsRealTime schedule.nodes schedule.events report
-  pub clean : IsOnlyOneIfClean schedule.nodes schedule.events report
-  pub told : text ≡ report_text report
 
 -- the status of a stream that failed, by a device or by memory
 abbrev pub IsStreamStatus : ℕ → Type 0

@@ -2,14 +2,14 @@
 
 ghost use Rattle.std.specs.Prelude.{◌≡◌, ◌≤◌, ℕ, List, None, IfOk, IfErr, IfSome};
 ghost use Rattle.std.specs.Io.KnownBytes.{Keeps};
-ghost use Rattle.rr_cli.specs.Draws.{IsNumberIn, AreNumbers, IsRandomRun};
+ghost use Rattle.rr_cli.specs.Draws.{IsNumberIn, AreNumbers};
 ghost use Rattle.rr_cli.specs.Ends.{EndsOnDraw, EndsOnWords};
 
 use crate::refusals::end_by_refusal;
 use crate::streams::end_by_text;
-use rr_sim::{MAX_STEPS, random, simulate};
+use rr_sim::{MAX_STEPS, random_run};
 use rr_stream::Sink;
-use rr_types::{Nodes, Refusal};
+use rr_types::Nodes;
 use std::alloc::Global;
 use std::io::Write;
 
@@ -19,24 +19,6 @@ pub(crate) struct Draw {
     nodes: Nodes,
     seed: u64,
     steps: u32,
-}
-
-/// The text of a random schedule, a line `report`, and the text of the report of its run.
-///
-/// # Errors
-/// `OutOfMemory`.
-pub fn random_run(alloc: Global, nodes: Nodes, seed: u64, steps: u32) -> Result<Vec<u8>, Refusal>
-    requires { steps ≤ 999930 }
-    ensures ok { IfOk result (λ text. IsRandomRun nodes seed steps text.items) }
-    ensures err { IfErr result (λ e. e ≡ Refusal.OutOfMemory) }
-{
-    let schedule = random(alloc, nodes, seed, steps)?;
-    let report = simulate(alloc, nodes.count(), &schedule)?;
-    let mut text = schedule.text(alloc)?;
-    let told = report.text(alloc)?;
-    text.extend_from_slice(b"report\n")?;
-    text.extend_from_slice(told.as_slice())?;
-    Ok(text)
 }
 
 // The number that a text writes, where it lies in the range.

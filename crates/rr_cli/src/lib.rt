@@ -10,9 +10,9 @@ mod streams;
 mod words;
 
 pub use audit::audit_on;
-pub use draw::random_run;
-pub use program::{execute, report_on, run};
+pub use program::{execute, run};
 pub use refusals::{print_refusal, status};
+pub use rr_sim::{random_run, report_on};
 pub use show::show_disk;
 pub use streams::end_without_words;
 pub use words::{Task, read_words};

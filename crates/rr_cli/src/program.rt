@@ -3,11 +3,8 @@
 ghost use Rattle.std.specs.Prelude.{◌≡◌, ◌≢◌, IfOk, IfErr, OnErr, None, map, string_bytes};
 ghost use Rattle.std.specs.Io.KnownBytes.{Keeps};
 ghost use Rattle.std.specs.IoError.{error_kind};
-ghost use Rattle.rr_text.specs.Lines.{IsFault};
-ghost use Rattle.rr_text.specs.Scheduled.{IsEvent};
-ghost use Rattle.rr_text.specs.ScheduleTexts.{event_line};
 ghost use Rattle.rr_cli.specs.Lines.{Simulate, Audit, faults_of, task_of};
-ghost use Rattle.rr_cli.specs.Ends.{IsReportOn, EndsOn, EndsOnInput, EndsBy};
+ghost use Rattle.rr_cli.specs.Ends.{EndsOn, EndsOnInput, EndsBy};
 
 use crate::audit::{audit_file, audit_input};
 use crate::draw::{draw_by_words, end_without_numbers};
@@ -15,27 +12,13 @@ use crate::refusals::end_by_schedule_fault;
 use crate::show::{end_without_folder, show_folder};
 use crate::streams::{end_by_stream, end_by_text, end_without_words};
 use crate::words::{Task, end_by_words, read_words};
-use rr_sim::{Schedule, simulate};
+use rr_sim::report_on;
 use rr_stream::{Counted, Sink, Source, read_all};
-use rr_types::Refusal;
 use std::alloc::Global;
 use std::convert::AsStr;
 use std::io::{ErrorKind, Write};
 use std::rt::Files;
 use std::{fs, io};
-
-/// The text of the report on the schedule that the bytes are.
-///
-/// # Errors
-/// `BadNodes` and `BadEvent` for bytes that are no schedule; `OutOfMemory`.
-pub fn report_on(alloc: Global, bytes: &[u8]) -> Result<Vec<u8>, Refusal>
-    ensures ok { IfOk result (λ text. IsReportOn bytes.now text.items) }
-    ensures fault { IfErr result (λ e. IsFault IsEvent event_line bytes.now e) }
-{
-    let schedule = Schedule::parse(alloc, bytes)?;
-    let report = simulate(alloc, schedule.nodes().count(), &schedule)?;
-    report.text(alloc)
-}
 
 // Runs the schedule that the input of this name holds, and prints the report.
 fn simulate_input<I: Source, O: Sink, E: Write>(

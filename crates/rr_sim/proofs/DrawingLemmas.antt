@@ -32,7 +32,7 @@ opening_is_of_events : (n p : ℕ) → p < n → AllByRecursion (IsEvent n) (ope
 opening_is_of_events n p below = (record { node = below; fields = tt }, calls_are_events n p 9 below)
 
 -- the openings of k nodes from node a on
-openings_from : (n a k : ℕ) → a + k ≤ n → AllByRecursion (IsEvent n) (flat_map opening_of (range_with_len a k))
+pub openings_from : (n a k : ℕ) → a + k ≤ n → AllByRecursion (IsEvent n) (flat_map opening_of (range_with_len a k))
 openings_from n a zero within = tt
 openings_from n a (suc k) within =
     each_of_both (IsEvent n) (opening_of a) (flat_map opening_of (range_with_len (a + 1) k)) (opening_is_of_events n a (omega (within, arith))) (openings_from n (a + 1) k (omega (within, arith)))

@@ -14,3 +14,5 @@ pub mod WantLaws
 mod Wanting
 mod OpenedLaws
 mod CleanLaws
+mod ToldLaws
+mod DrawnLaws

@@ -1,13 +1,15 @@
 //! A cluster of nodes with their disks: what each event of a schedule does to it.
 
-ghost use Rattle.std.specs.Prelude.{◌≡◌, ◌⊎◌, ◌↔◌, ◌++◌, length, option_to_list, IsTrue, Ok, OnOk, IfOk, IfErr};
+ghost use Rattle.std.specs.Prelude.{◌≡◌, ◌⊎◌, ◌↔◌, ◌++◌, [], length, option_to_list, IsTrue, Ok, OnOk, IfOk, IfErr};
 ghost use Rattle.rr_sim.specs.Clusters.{shown, note_of, new_cluster, at_node, fail_at, hear_at, crash_at, IsEither, Steps, TellsOfWant, IsSpeltAt, IsSpeltBehind};
 ghost use Rattle.rr_sim.specs.Random.{IsFailing, StepsInMemory};
 ghost use Rattle.rr_node.specs.Runs.{sent_by};
+ghost use Rattle.rr_sim.specs.Told.{told};
 
 use rr_disk::MemDisk;
 use rr_node::{Node, NodeEvent, Outcome};
 use rr_registry::Holding;
+use rr_text::text_report::push_report_lines;
 use rr_text::{Binding, BoundNames, Event, ReportLine};
 use rr_types::{Message, Name, NodeId, Nodes, Refusal};
 use std::alloc::Global;
@@ -181,6 +183,20 @@ impl Cluster {
         lines
     }
 
+    /// Appends the lines of the report so far to a text, and keeps them no longer.
+    ///
+    /// # Errors
+    /// `OutOfMemory`.
+    pub fn tell(&mut self, text: &mut Vec<u8>) -> Result<(), Refusal>
+        ensures told { OnOk result (text.new.items ≡ text.old.items ++ told self.old.lines) }
+        ensures kept { OnOk result (self.new ≡ record self.old { lines = [] }) }
+        ensures err { IfErr result (λ e. e ≡ Refusal.OutOfMemory) }
+    {
+        push_report_lines(text, self.lines.as_slice())?;
+        self.lines.clear();
+        Ok(())
+    }
+
     fn at_node(
         &mut self,
         alloc: Global,
@@ -333,6 +349,7 @@ impl Cluster {
     #[tactic(auto, using(crate::proofs::WantLaws::failing_in_memory))]
     pub fn step_in_memory(&mut self, alloc: Global, line: u64, event: &Event) -> Result<(), Refusal>
         ensures ok { OnOk result (StepsInMemory line event.now self.old self.new) }
+        ensures spelt { OnOk result (IsSpeltBehind event.now self.old self.new) }
         ensures err { IfErr result (λ e. e ≡ Refusal.OutOfMemory) }
     {
         let told = self.count_of_lines();

@@ -1,6 +1,7 @@
 //! Random schedules: each step of one is drawn from the words of a generator.
 
 ghost use Rattle.std.specs.Prelude.{◌≡◌, ◌≤◌, ◌<◌, ◌+◌, ◌%◌, ◌^◌, ◌++◌, ◌∷◌, [], length, IfOk, IfErr, OnOk};
+ghost use Rattle.rr_sim.specs.Clusters.{new_cluster, LeadsSpelt};
 ghost use Rattle.rr_sim.specs.Random.{claim_of, hearing, event_of_kind, event_of_words, drawn, behind, opening_of, openings, opened, Draws, IsRandom};
 ghost use Rattle.rr_text.specs.Scheduled.{IsEvent};
 
@@ -44,7 +45,7 @@ pub fn random(alloc: Global, nodes: Nodes, seed: u64, steps: u32) -> Result<Sche
 
 /// The events by which each node opens its disk.
 #[tactic(auto, using(crate::proofs::DrawingLemmas::openings_more))]
-fn openings(alloc: Global, nodes: Nodes) -> Result<Vec<Event>, Refusal>
+pub(crate) fn openings(alloc: Global, nodes: Nodes) -> Result<Vec<Event>, Refusal>
     ensures ok { IfOk result (λ events. events.items ≡ openings nodes) }
     ensures err { IfErr result (λ e. e ≡ Refusal.OutOfMemory) }
 {
@@ -71,9 +72,10 @@ fn push_opening(events: &mut Vec<Event>, node: NodeId) -> Result<(), Refusal>
 
 /// The nodes behind the events by which they open their disks.
 #[tactic(auto, using(crate::proofs::DrawingLemmas::openings_count))]
-fn opened(alloc: Global, nodes: Nodes, events: &[Event]) -> Result<Cluster, Refusal>
+pub(crate) fn opened(alloc: Global, nodes: Nodes, events: &[Event]) -> Result<Cluster, Refusal>
     requires { events.now ≡ openings nodes }
     ensures ok { IfOk result (λ cluster. cluster ≡ opened nodes) }
+    ensures spelt { IfOk result (λ cluster. LeadsSpelt 2 events.now (new_cluster nodes) cluster) }
     ensures err { IfErr result (λ e. e ≡ Refusal.OutOfMemory) }
 {
     let mut cluster = Cluster::new(alloc, nodes)?;
@@ -109,7 +111,7 @@ fn draw_all(
 }
 
 /// The event that the next two words of a generator give.
-fn draw(
+pub(crate) fn draw(
     alloc: Global,
     nodes: Nodes,
     generator: &mut Pcg32,

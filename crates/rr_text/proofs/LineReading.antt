@@ -135,12 +135,25 @@ so_far_more {Fits} {line} are bytes rest after text xs x h room cut is_read =
       split = h.split ∙ ap (λ (w : List ℕ). flat_map line xs ++ w) t.1 ∙ sym (append_assoc (flat_map line xs) (line x) after) ∙ ap (λ (w : List ℕ). w ++ after) (sym (flat_map-push line xs x));
     }
 
-pub so_far_all : {X : Type 0} (Fits : X → Type 0) (line : X → List ℕ) (bytes rest : List ℕ) (xs : List X) → SoFar Fits line bytes xs rest → length rest ≡ 0 → ArePrinted Fits line xs bytes
-so_far_all Fits line bytes [] xs h none = record { each = h.each; short = h.short; split = h.split ∙ append-nil (flat_map line xs) }
-so_far_all Fits line bytes (b ∷ rest) xs h none = absurd (omega arith)
+-- a line at the front of what is left was read
+pub so_far_on : {X : Type 0} (Fits : X → Type 0) (line : X → List ℕ) (bytes rest after : List ℕ) (xs : List X) (x : X) → SoFar Fits line bytes xs rest → length xs < 1000000 → Fits x → rest ≡ line x ++ after → SoFar Fits line bytes (xs ++ x ∷ []) after
+so_far_on Fits line bytes rest after xs x h room fits is = record {
+  each = All-push Fits xs x h.each fits;
+  short = omega (arith, room, length-append xs (x ∷ []));
+  split = h.split ∙ ap (λ (w : List ℕ). flat_map line xs ++ w) is ∙ sym (append_assoc (flat_map line xs) (line x) after) ∙ ap (λ (w : List ℕ). w ++ after) (sym (flat_map-push line xs x));
+}
 
 pub so_far_full : {X : Type 0} (Fits : X → Type 0) (line : X → List ℕ) (bytes rest : List ℕ) (xs : List X) (number : ℕ) → SoFar Fits line bytes xs rest → 0 < length rest → number ≡ length xs + 2 → length xs ≡ 1000000 → StopsAt Fits line bytes number
 so_far_full Fits line bytes rest xs number h some counted full = record { before = xs; rest = rest; each = h.each; short = h.short; split = h.split; counted = counted; some = some; fault = inl full }
+
+-- no line may stand at the front of what is left
+pub so_far_stop : {X : Type 0} (Fits : X → Type 0) (line : X → List ℕ) (bytes rest : List ℕ) (xs : List X) (number : ℕ) → SoFar Fits line bytes xs rest → number ≡ length xs + 2 → 0 < length rest → (1000002 ≤ number) ⊎ HasNoLine Fits line rest → StopsAt Fits line bytes number
+so_far_stop Fits line bytes rest xs number h counted some (inl full) = so_far_full Fits line bytes rest xs number h some counted (omega (arith, full, counted, h.short))
+so_far_stop Fits line bytes rest xs number h counted some (inr none) = record { before = xs; rest = rest; each = h.each; short = h.short; split = h.split; counted = counted; some = some; fault = inr none }
+
+pub so_far_all : {X : Type 0} (Fits : X → Type 0) (line : X → List ℕ) (bytes rest : List ℕ) (xs : List X) → SoFar Fits line bytes xs rest → length rest ≡ 0 → ArePrinted Fits line xs bytes
+so_far_all Fits line bytes [] xs h none = record { each = h.each; short = h.short; split = h.split ∙ append-nil (flat_map line xs) }
+so_far_all Fits line bytes (b ∷ rest) xs h none = absurd (omega arith)
 
 pub so_far_uncut : {X : Type 0} {Fits : X → Type 0} {line : X → List ℕ} {read : List ℕ → Option X} (are : AreLines Fits line read) (bytes rest : List ℕ) (xs : List X) (number : ℕ) → SoFar Fits line bytes xs rest → 0 < length rest → number ≡ length xs + 2 → cut_at 10 rest ≡ None → StopsAt Fits line bytes number
 so_far_uncut are bytes rest xs number h some counted cut = record { before = xs; rest = rest; each = h.each; short = h.short; split = h.split; counted = counted; some = some; fault = inr (line_uncut are rest cut) }

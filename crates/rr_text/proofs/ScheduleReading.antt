@@ -1,17 +1,17 @@
 -- Schedules: what is read is printed so, and what is printed is read again.
-use Rattle.std.proofs.Common.{◌≡◌, ℕ, ◌≤◌, List, ◌∷◌, [], ◌++◌, Some, Result, Ok, Err, MatchResult, ap, ◌∙◌, sym}
+use Rattle.std.proofs.Common.{◌≡◌, ℕ, ◌≤◌, List, ◌∷◌, [], ◌++◌, Some, None, Result, Ok, Err, MatchResult, ap, ◌∙◌, sym}
 use Rattle.std.specs.Prelude.{IfOk, IfErr}
 use Rattle.std.proofs.lemmas.List.{append_assoc}
 use Rattle.rr_types.specs.declared.refusal.Refusal.{Refusal}
 use Rattle.rr_types.specs.declared.refusal.Refusal.TheVariants.{OutOfMemory}
 use Rattle.rr_text.specs.declared.event.Event.{Event}
-use Rattle.rr_text.specs.Lines.{IsFault}
+use Rattle.rr_text.specs.Lines.{HasNoLine, IsFault}
 use Rattle.rr_text.specs.Scheduled.{Scheduled, IsEvent, IsSchedule}
 use Rattle.rr_text.specs.ScheduleTexts.{event_text, event_line, schedule_text}
 use Rattle.rr_text.specs.Reading.{cut_at, event_at}
 use Rattle.rr_text.proofs.CutLemmas.{cut_takes}
 use Rattle.rr_text.proofs.EventReading.{event_takes, event_again, line_again}
-use Rattle.rr_text.proofs.LineReading.{AreLines}
+use Rattle.rr_text.proofs.LineReading.{AreLines, line_uncut, line_unread}
 use Rattle.rr_text.proofs.TextReading.{AreTexts, IsText, text_one, only_memory}
 
 -- what one line gives: its event, and the bytes behind it
@@ -27,6 +27,17 @@ event_lines n few = record {
   takes = λ bytes text rest e cut read. line_takes n bytes text rest e few cut read;
   again = λ e more fits. (event_text e, line_again n e more few fits, event_again n e few fits);
 }
+
+-- ---- the line at the front of bytes
+
+pub event_taken : (n : ℕ) (bytes text rest : List ℕ) (e : Event) → n ≤ 7 → cut_at 10 bytes ≡ Some (text, rest) → Some e ≡ event_at n text → IsEvent n e × (bytes ≡ event_line e ++ rest)
+event_taken n bytes text rest e few cut read = line_takes n bytes text rest e few cut read
+
+pub event_uncut : (n : ℕ) (bytes : List ℕ) → n ≤ 7 → cut_at 10 bytes ≡ None → HasNoLine (IsEvent n) event_line bytes
+event_uncut n bytes few cut = line_uncut (event_lines n few) bytes cut
+
+pub event_unread : (n : ℕ) (bytes text rest : List ℕ) → n ≤ 7 → cut_at 10 bytes ≡ Some (text, rest) → None ≡ event_at n text → HasNoLine (IsEvent n) event_line bytes
+event_unread n bytes text rest few cut unread = line_unread (event_lines n few) bytes text rest cut unread
 
 pub schedules : AreTexts IsEvent event_line event_at
 schedules = record { lines = event_lines }

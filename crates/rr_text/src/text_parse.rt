@@ -1,9 +1,9 @@
 //! Reading schedules.
 
-ghost use Rattle.std.specs.Prelude.{◌≡◌, ◌+◌, ◌<◌, ◌≤◌, ◌++◌, ◌∷◌, None, Some, MatchOption, MatchResult, IfOk, IfErr, length};
+ghost use Rattle.std.specs.Prelude.{◌≡◌, ◌⊎◌, ◌+◌, ◌<◌, ◌≤◌, ◌++◌, ◌∷◌, [], None, Some, MatchOption, MatchResult, IfOk, IfErr, length};
 ghost use Rattle.std.specs.List.{flat_map, AllByRecursion};
 ghost use Rattle.rr_text.specs.Scheduled.{Scheduled, IsEvent, IsSchedule};
-ghost use Rattle.rr_text.specs.Lines.{nodes_line, ArePrinted, IsStop, IsFirstFault, IsFault};
+ghost use Rattle.rr_text.specs.Lines.{nodes_line, HasNoLine, ArePrinted, IsStop, IsFirstFault, IsFault};
 ghost use Rattle.rr_text.specs.ScheduleTexts.{event_line, schedule_text};
 ghost use Rattle.rr_text.specs.Reading.{pairs_at, fill_at, first_node_at, cuts_at, fields_at, event_at, nodes_at, count_at};
 
@@ -247,28 +247,45 @@ pub fn first_line(bytes: &[u8]) -> Result<(Nodes, &[u8]), Refusal>
     }
 }
 
+/// The event of a schedule's next line, which has this number, and the bytes behind the line; none where no byte is left.
+///
+/// # Errors
+/// `BadEvent` of the line where no event stands at the front of the bytes, or a million stand before it; `OutOfMemory`.
+#[tactic(auto, using(crate::proofs::ScheduleReading::event_uncut, crate::proofs::ScheduleReading::event_unread))]
+pub fn next_event(
+    alloc: Global,
+    nodes: Nodes,
+    bytes: &[u8],
+    line: u64,
+) -> Result<Option<(Event, &[u8])>, Refusal>
+    ensures ok { IfOk result (λ next. MatchOption next (bytes.now ≡ []) (λ x. (line < 1000002) × IsEvent nodes x.0 × (bytes.now ≡ event_line x.0 ++ x.1.now))) }
+    ensures err { IfErr result (λ e. (e ≡ Refusal.OutOfMemory) ⊎ ((e ≡ Refusal.BadEvent line) × (0 < length bytes.now) × ((1000002 ≤ line) ⊎ HasNoLine (IsEvent nodes) event_line bytes.now))) }
+{
+    let _count = nodes.count();
+    if bytes.is_empty() {
+        return Ok(None);
+    }
+    if line >= MAX_EVENTS as u64 + 2 {
+        return Err(Refusal::BadEvent(line));
+    }
+    let Some((text, rest)) = cut(bytes, b'\n') else {
+        return Err(Refusal::BadEvent(line));
+    };
+    match event(alloc, nodes, text)? {
+        Some(event) => Ok(Some((event, rest))),
+        None => Err(Refusal::BadEvent(line)),
+    }
+}
+
 fn events(alloc: Global, nodes: Nodes, bytes: &[u8]) -> Result<Vec<Event>, Refusal>
     ensures ok { IfOk result (λ v. ArePrinted (IsEvent nodes) event_line v.items bytes.now) }
     ensures err { IfErr result (λ e. IsStop (IsEvent nodes) event_line bytes.now e) }
 {
-    let _count = nodes.count();
     let mut events = Vec::new(alloc);
     let mut rest = bytes;
-    while !rest.is_empty() {
-        let number = events.len() as u64 + 2;
-        if events.len() == MAX_EVENTS {
-            return Err(Refusal::BadEvent(number));
-        }
-        match cut(rest, b'\n') {
-            None => return Err(Refusal::BadEvent(number)),
-            Some((text, after)) => match event(alloc, nodes, text)? {
-                None => return Err(Refusal::BadEvent(number)),
-                Some(event) => {
-                    events.push(event)?;
-                    rest = after;
-                }
-            },
-        }
+    while let Some((event, behind)) = next_event(alloc, nodes, rest, events.len() as u64 + 2)? {
+        events.push(event)?;
+        rest = behind;
     }
     Ok(events)
 }

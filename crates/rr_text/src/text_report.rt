@@ -1,6 +1,6 @@
 //! Printing reports.
 
-ghost use Rattle.std.specs.Prelude.{◌≡◌, ◌+◌, ◌<◌, ◌^◌, [], ◌∷◌, ◌++◌, map, length, OnOk, IfOk, IfErr, decimal};
+ghost use Rattle.std.specs.Prelude.{◌≡◌, ◌+◌, ◌<◌, ◌^◌, [], ◌∷◌, ◌++◌, map, length, OnOk, IfOk, IfErr, codes, decimal};
 ghost use Rattle.std.specs.List.{flat_map};
 ghost use Rattle.rr_types.specs.Refusal.{number_of};
 ghost use Rattle.rr_text.specs.Words.{spaced, op_words};
@@ -227,7 +227,11 @@ fn push_report_line(out: &mut Vec<u8>, report_line: &ReportLine) -> Result<(), R
     push_byte(out, b'\n')
 }
 
-fn push_report_lines(out: &mut Vec<u8>, lines: &[ReportLine]) -> Result<(), Refusal>
+/// Appends the lines of a report.
+///
+/// # Errors
+/// `OutOfMemory`.
+pub fn push_report_lines(out: &mut Vec<u8>, lines: &[ReportLine]) -> Result<(), Refusal>
     ensures ok { OnOk result (out.new.items ≡ out.old.items ++ flat_map (λ l. line (report_words l)) lines.now) }
     ensures err { IfErr result (λ e. e ≡ Refusal.OutOfMemory) }
 {
@@ -256,6 +260,20 @@ fn push_decided(out: &mut Vec<u8>, commands: &[Command]) -> Result<(), Refusal>
     Ok(())
 }
 
+/// Appends the end of a report: how many commands are decided, and these.
+///
+/// # Errors
+/// `OutOfMemory`.
+pub fn push_decided_list(out: &mut Vec<u8>, commands: &[Command]) -> Result<(), Refusal>
+    ensures ok { OnOk result (out.new.items ≡ out.old.items ++ line (codes "decided" ∷ decimal (length commands.now) ∷ []) ++ decided_lines 0 commands.now) }
+    ensures err { IfErr result (λ e. e ≡ Refusal.OutOfMemory) }
+{
+    push_bytes(out, b"decided")?;
+    push_number_word(out, commands.len() as u64)?;
+    push_byte(out, b'\n')?;
+    push_decided(out, commands)
+}
+
 impl Report {
     /// The text of the report.
     ///
@@ -267,10 +285,7 @@ impl Report {
     {
         let mut out = Vec::new(alloc);
         push_report_lines(&mut out, self.lines())?;
-        push_bytes(&mut out, b"decided")?;
-        push_number_word(&mut out, self.decided().len() as u64)?;
-        push_byte(&mut out, b'\n')?;
-        push_decided(&mut out, self.decided())?;
+        push_decided_list(&mut out, self.decided())?;
         Ok(out)
     }
 }

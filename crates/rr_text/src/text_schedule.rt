@@ -79,7 +79,11 @@ pub fn push_event(out: &mut Vec<u8>, event: &Event) -> Result<(), Refusal>
     }
 }
 
-fn push_event_line(out: &mut Vec<u8>, event: &Event) -> Result<(), Refusal>
+/// Appends the line of an event.
+///
+/// # Errors
+/// `OutOfMemory`.
+pub fn push_event_line(out: &mut Vec<u8>, event: &Event) -> Result<(), Refusal>
     ensures ok { OnOk result (out.new.items ≡ out.old.items ++ event_line event.now) }
     ensures err { IfErr result (λ e. e ≡ Refusal.OutOfMemory) }
 {
@@ -87,7 +91,11 @@ fn push_event_line(out: &mut Vec<u8>, event: &Event) -> Result<(), Refusal>
     push_byte(out, b'\n')
 }
 
-fn push_event_lines(out: &mut Vec<u8>, events: &[Event]) -> Result<(), Refusal>
+/// Appends the lines of events.
+///
+/// # Errors
+/// `OutOfMemory`.
+pub fn push_event_lines(out: &mut Vec<u8>, events: &[Event]) -> Result<(), Refusal>
     ensures ok { OnOk result (out.new.items ≡ out.old.items ++ flat_map event_line events.now) }
     ensures err { IfErr result (λ e. e ≡ Refusal.OutOfMemory) }
 {

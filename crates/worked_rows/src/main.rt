@@ -11,7 +11,7 @@ mod full_list;
 mod sweep;
 
 ghost use Rattle.std.specs.Prelude.{◌≡◌, IfOk};
-ghost use Rattle.rr_cli.specs.Ends.{IsReportOn};
+ghost use Rattle.rr_sim.specs.Told.{IsReportOn};
 
 use crate::areas::areas_behind;
 use rr_audit::Verdict;

@@ -2,7 +2,8 @@ use Rattle.std.proofs.Common.{refl, subst, sym, inl, inr}
 use Rattle.rr_text.specs.Lines.{IsFault}
 use Rattle.rr_text.specs.Scheduled.{IsEvent}
 use Rattle.rr_text.specs.ScheduleTexts.{event_line}
-use Rattle.rr_cli.specs.Ends.{IsReportOn, reported, refused, read, unread, unheld}
+use Rattle.rr_sim.specs.Told.{IsReportOn}
+use Rattle.rr_cli.specs.Ends.{reported, refused, read, unread, unheld}
 use Rattle.rr_cli.proofs.program.simulate_input.Goals as goal
 
 pub returns-in-Err-clause-ends : goal.returns-in-Err-clause-ends

@@ -1,6 +1,7 @@
 use Rattle.std.proofs.Common.{List, arith, drop, refl, subst, sym}
 use Rattle.std.proofs.Math.ListN.{drop_of_length-le}
 use Rattle.rr_text.specs.declared.event.Event.{Event}
+use Rattle.rr_sim.specs.Clusters.{LeadsSpelt}
 use Rattle.rr_sim.proofs.OpenedLaws.{LeadsInMemory, opened_so}
 use Rattle.rr_sim.proofs.drawing.opened.Goals as goal
 
@@ -10,3 +11,10 @@ returns-clause-ok c =
     let none = drop_of_length-le c.args.events.now {i = c.loop-event.event-index} (omega (arith, c.loop-event-test.false)) in
     let led : LeadsInMemory c.loop-event.line (drop c.loop-event.event-index c.args.events.now) end end = subst (λ (es : List Event). LeadsInMemory c.loop-event.line es end end) (sym none) refl in
     opened_so c.args.nodes c.args.events.now end c.requires (c.loop-event.invariant.1 end led)
+
+pub returns-clause-spelt : goal.returns-clause-spelt
+returns-clause-spelt c =
+    let end = c.loop-event.cluster in
+    let none = drop_of_length-le c.args.events.now {i = c.loop-event.event-index} (omega (arith, c.loop-event-test.false)) in
+    let led : LeadsSpelt c.loop-event.line (drop c.loop-event.event-index c.args.events.now) end end = subst (λ (es : List Event). LeadsSpelt c.loop-event.line es end end) (sym none) refl in
+    c.loop-event.invariant.2 end led
