@@ -1,0 +1,5 @@
+pub mod Idle
+pub mod Endings
+pub mod Listed
+pub mod Flushed
+pub mod Recorded

@@ -1,0 +1,33 @@
+-- Events on a tape.
+use Rattle.std.specs.Prelude.{◌≡◌, ◌⊎◌, ℕ, ◌+◌, ◌++◌, ◌∷◌, [], Bool, true, false, List, length}
+use Rattle.std.specs.List.{count_by}
+use Rattle.rr_types.specs.declared.refusal.Refusal.{Refusal}
+use Rattle.rr_types.specs.declared.refusal.Refusal.TheVariants.{OutOfMemory, BadEvent}
+use Rattle.rr_tape.specs.declared.tape_event.TapeEvent.{TapeEvent}
+use Rattle.rr_tape.specs.declared.tape_event.TapeEvent.TheVariants.{Submit, Hear, Suspect, Tick, Advance, Take, Mark, Send, Ack}
+use Rattle.rr_tape.specs.Taped.{Taped, IsTapeEvent}
+
+-- whether a message is sent by the event
+abbrev pub is_send : TapeEvent → Bool
+is_send (Submit p c) = false
+is_send (Hear p k) = false
+is_send (Suspect p set) = false
+is_send (Tick p) = false
+is_send (Advance p) = false
+is_send (Take p) = false
+is_send (Mark p) = false
+is_send (Send k m) = true
+is_send (Ack p q reply) = false
+
+-- how many messages are sent on a tape, which is the number of the next
+abbrev pub sent_on : Taped → ℕ
+sent_on t = count_by is_send t.events
+
+-- the tape with one more event
+abbrev pub with_event : Taped → TapeEvent → Taped
+with_event t e = record t { events = t.events ++ e ∷ [] }
+
+-- why an event isn't recorded: no memory; or its line has no place, since a million events are on the tape, or since
+-- it is none of these nodes'
+abbrev pub HasNoPlace : Taped → TapeEvent → Refusal → Type 0
+HasNoPlace t event e = (e ≡ OutOfMemory) ⊎ ((e ≡ BadEvent (length t.events + 2)) × ((length t.events ≡ 1000000) ⊎ (IsTapeEvent t.nodes event → ⊥)))

@@ -1,0 +1,180 @@
+//! Which events are of which nodes. All else that the grammar of tapes asks of an event is kept by its types.
+
+ghost use Rattle.std.specs.Prelude.{◌≡◌, ◌↔◌, ◌<◌, ◌^◌, IsTrue};
+ghost use Rattle.rr_text.specs.Words.{IsOp, IsCommand};
+ghost use Rattle.rr_tape.specs.Taped.{IsInstance, IsRound, IsEstimate, IsBody, IsMessage, IsRequest, IsReply, IsTapeEvent};
+
+use rr_tape::TapeEvent;
+use rr_types::{
+    Body, Command, Estimate, Instance, Message, NodeId, NodeSet, Nodes, Op, Reply, RequestNo, Round,
+};
+
+/// An operation has what there can be. It does nothing when it runs, as the laws below.
+fn op_law(op: &Op)
+    ensures { IsOp op.now }
+{
+    match op {
+        Op::Claim(name, value) => {
+            let _name = name.as_bytes();
+            let _value = value.as_bytes();
+        }
+        Op::Update(name, value) => {
+            let _name = name.as_bytes();
+            let _value = value.as_bytes();
+        }
+        Op::Release(name) => {
+            let _name = name.as_bytes();
+        }
+        Op::Transfer(name, owner) => {
+            let _name = name.as_bytes();
+            let _owner = *owner;
+        }
+    }
+}
+
+/// The numbers of a request are in their ranges.
+fn request_law(request: RequestNo)
+    ensures { IsRequest request }
+{
+    let _client = request.client;
+    let _seq = request.seq;
+}
+
+fn command_law(command: &Command)
+    ensures { IsCommand command.now }
+{
+    op_law(&command.op);
+    request_law(command.request);
+}
+
+fn instance_law(instance: Instance)
+    ensures { IsInstance instance }
+{
+    let _number = instance.number();
+}
+
+fn round_law(round: Round)
+    ensures { IsRound round }
+{
+    let _number = round.number();
+}
+
+/// An estimate's stamp lies before its round.
+fn estimate_law(estimate: &Estimate)
+    ensures { IsEstimate estimate.now }
+{
+    let _round = estimate.round().number();
+    let _stamp = estimate.stamp();
+    command_law(&estimate.command());
+}
+
+fn reply_law(reply: Reply)
+    ensures { IsReply reply }
+{
+    if let Reply::Taken(owner) = reply {
+        let _owner = owner;
+    }
+}
+
+/// Whether a node is one of these.
+fn has_node(nodes: Nodes, node: NodeId) -> bool
+    ensures { IsTrue result ↔ (node < nodes) }
+{
+    node.index() < nodes.count()
+}
+
+/// Whether a set has these nodes alone.
+fn has_all(nodes: Nodes, set: NodeSet) -> bool
+    ensures { IsTrue result ↔ (set < 2 ^ nodes) }
+{
+    NodeSet::from_bits(nodes, set.bits()).is_some()
+}
+
+/// Whether what a message says is of these nodes.
+fn is_body_among(nodes: Nodes, body: &Body) -> bool
+    ensures { IsTrue result ↔ IsBody nodes body.now }
+{
+    let _parts: Option<(Body, Command, Estimate, Op)> = None;
+    match body {
+        Body::Estimate(instance, estimate) => {
+            instance_law(*instance);
+            estimate_law(estimate);
+            true
+        }
+        Body::Proposal(instance, round, command) => {
+            instance_law(*instance);
+            round_law(*round);
+            command_law(command);
+            true
+        }
+        Body::Ack(instance, round) => {
+            instance_law(*instance);
+            round_law(*round);
+            true
+        }
+        Body::Decision(instance, command) => {
+            instance_law(*instance);
+            command_law(command);
+            true
+        }
+        Body::Request(command) => {
+            command_law(command);
+            true
+        }
+        Body::Nack(instance, round) => {
+            instance_law(*instance);
+            round_law(*round);
+            true
+        }
+        Body::Beat => true,
+        Body::Suspects(set) => has_all(nodes, *set),
+        Body::Ask(instance) => {
+            instance_law(*instance);
+            true
+        }
+    }
+}
+
+/// Whether a message is of these nodes.
+fn is_message_among(nodes: Nodes, message: &Message) -> bool
+    ensures { IsTrue result ↔ IsMessage nodes message.now }
+{
+    has_node(nodes, message.from)
+        && has_node(nodes, message.to)
+        && is_body_among(nodes, &message.body)
+}
+
+/// Whether an event is of these nodes.
+pub fn is_among(nodes: Nodes, event: &TapeEvent) -> bool
+    ensures { IsTrue result ↔ IsTapeEvent nodes event.now }
+{
+    let _parts: Option<(Body, Command, Estimate, Message, Op, Reply)> = None;
+    match event {
+        TapeEvent::Submit { node, command } => {
+            command_law(command);
+            has_node(nodes, *node)
+        }
+        TapeEvent::Hear { node, message } => {
+            let _number = *message;
+            has_node(nodes, *node)
+        }
+        TapeEvent::Suspect { node, set } => has_node(nodes, *node) && has_all(nodes, *set),
+        TapeEvent::Tick { node } => has_node(nodes, *node),
+        TapeEvent::Advance { node } => has_node(nodes, *node),
+        TapeEvent::Take { node } => has_node(nodes, *node),
+        TapeEvent::Mark { node } => has_node(nodes, *node),
+        TapeEvent::Send { number, message } => {
+            let _number = *number;
+            is_message_among(nodes, message)
+        }
+        TapeEvent::Ack {
+            node,
+            request,
+            reply,
+        } => {
+            request_law(*request);
+            reply_law(*reply);
+            has_node(nodes, *node)
+        }
+    }
+}

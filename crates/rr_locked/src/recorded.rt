@@ -1,0 +1,159 @@
+//! Each event of a node together with its record. Whoever is lent the node and the tape makes both in one section, so
+//! that the tape has the events of all nodes as they were made.
+//!
+//! Where an event was made and couldn't be recorded, the tape has no place for it, and the run ends.
+
+ghost use Rattle.std.specs.Prelude.{◌≡◌, ◌≢◌, ◌⊎◌, [], None, Some, IfOk, IfErr, IfNone, IfSome, IsSome, OnOk, OnErr};
+ghost use Rattle.rr_model.specs.NodeState.{decided_prefix};
+ghost use Rattle.rr_model.specs.NodeStep as node;
+ghost use Rattle.rr_model.specs.NodeStep.{node_step, refusal_of, group_taken, running_group, marked_running, next_leaving, message_left, next_acknowledged, acknowledged};
+ghost use Rattle.rr_types.specs.Registry.{reply_of};
+ghost use Rattle.rr_tape.specs.declared.tape_event.TapeEvent.TheVariants as tape;
+ghost use Rattle.rr_locked.specs.Recorded.{sent_on, with_event, HasNoPlace};
+
+use crate::locked::Locked;
+use crate::recording::{Recording, Sent};
+use rr_journal::Synced;
+use rr_tape::TapeEvent;
+use rr_types::{Body, Command, Estimate, Group, Message, Op, Refusal, Reply, RequestNo};
+
+/// A client asks a node for a command.
+pub fn submit_on(
+    locked: &mut Locked,
+    recording: &mut Recording,
+    command: &Command,
+) -> Result<(), Refusal>
+    ensures step { OnOk result ((locked.new ≡ node_step (node.Submit command.now) locked.old) × (refusal_of (node.Submit command.now) locked.old ≡ None)) }
+    ensures event { OnOk result (recording.new ≡ with_event recording.old (tape.Submit locked.old.node command.now)) }
+    ensures kept { OnErr result (recording.new ≡ recording.old) }
+    ensures cause { IfErr result (λ e. ((locked.new ≡ locked.old) × ((e ≡ Refusal.OutOfMemory) ⊎ (refusal_of (node.Submit command.now) locked.old ≡ Some e)))
+        ⊎ ((locked.new ≡ node_step (node.Submit command.now) locked.old) × HasNoPlace recording.old (tape.Submit locked.old.node command.now) e)) }
+{
+    let _parts: Option<Op> = None;
+    let node = locked.node();
+    locked.submit(command)?;
+    let command = *command;
+    let event = TapeEvent::Submit { node, command };
+    recording.note(&event)
+}
+
+/// A node hears a message of this number.
+pub fn hear_on(locked: &mut Locked, recording: &mut Recording, sent: &Sent) -> Result<(), Refusal>
+    ensures step { OnOk result ((locked.new ≡ node_step (node.Hear sent.now.message) locked.old) × (refusal_of (node.Hear sent.now.message) locked.old ≡ None)) }
+    ensures event { OnOk result (recording.new ≡ with_event recording.old (tape.Hear locked.old.node sent.now.number)) }
+    ensures kept { OnErr result (recording.new ≡ recording.old) }
+    ensures cause { IfErr result (λ e. ((locked.new ≡ locked.old) × ((e ≡ Refusal.OutOfMemory) ⊎ (refusal_of (node.Hear sent.now.message) locked.old ≡ Some e)))
+        ⊎ ((locked.new ≡ node_step (node.Hear sent.now.message) locked.old) × HasNoPlace recording.old (tape.Hear locked.old.node sent.now.number) e)) }
+{
+    let node = locked.node();
+    locked.hear(&sent.message)?;
+    let message = sent.number;
+    let event = TapeEvent::Hear { node, message };
+    recording.note(&event)
+}
+
+/// A node ticks.
+pub fn tick_on(locked: &mut Locked, recording: &mut Recording) -> Result<(), Refusal>
+    ensures step { OnOk result ((locked.new ≡ node_step node.Tick locked.old) × (refusal_of node.Tick locked.old ≡ None)) }
+    ensures event { OnOk result (recording.new ≡ with_event recording.old (tape.Tick locked.old.node)) }
+    ensures kept { OnErr result (recording.new ≡ recording.old) }
+    ensures cause { IfErr result (λ e. ((locked.new ≡ locked.old) × ((e ≡ Refusal.OutOfMemory) ⊎ (refusal_of node.Tick locked.old ≡ Some e)))
+        ⊎ ((locked.new ≡ node_step node.Tick locked.old) × HasNoPlace recording.old (tape.Tick locked.old.node) e)) }
+{
+    let node = locked.node();
+    locked.tick()?;
+    let event = TapeEvent::Tick { node };
+    recording.note(&event)
+}
+
+/// The oldest staged facts of a node become its running group. `None`: nothing is staged, and nothing is recorded.
+pub fn take_on(locked: &mut Locked, recording: &mut Recording) -> Result<Option<Group>, Refusal>
+    ensures none { IfOk result (λ g. g ≡ None → (locked.new ≡ locked.old) × (locked.old.staged ≡ []) × (recording.new ≡ recording.old)) }
+    ensures some { IfOk result (λ g. IsSome g → (locked.new ≡ group_taken locked.old) × (g ≡ running_group locked.new)) }
+    ensures event { IfOk result (λ g. IsSome g → (locked.old.staged ≢ []) × (locked.old.running ≡ None) × (recording.new ≡ with_event recording.old (tape.Take locked.old.node))) }
+    ensures kept { OnErr result (recording.new ≡ recording.old) }
+    ensures cause { IfErr result (λ e. ((locked.new ≡ locked.old) × ((e ≡ Refusal.OutOfMemory) ⊎ ((e ≡ Refusal.Busy) × IsSome locked.old.running)))
+        ⊎ ((locked.new ≡ group_taken locked.old) × HasNoPlace recording.old (tape.Take locked.old.node) e)) }
+{
+    let node = locked.node();
+    match locked.take_group()? {
+        None => Ok(None),
+        Some(group) => {
+            let event = TapeEvent::Take { node };
+            recording.note(&event)?;
+            Ok(Some(group))
+        }
+    }
+}
+
+/// The running group of a node, synced, is marked. One that isn't its running group is `StrangeMark`.
+pub fn mark_on(
+    locked: &mut Locked,
+    recording: &mut Recording,
+    synced: Synced,
+) -> Result<(), Refusal>
+    ensures step { OnOk result ((locked.new ≡ marked_running locked.old) × (running_group locked.old ≡ Some synced.group) × (synced.node ≡ locked.old.node)) }
+    ensures event { OnOk result (recording.new ≡ with_event recording.old (tape.Mark locked.old.node)) }
+    ensures kept { OnErr result (recording.new ≡ recording.old) }
+    ensures cause { IfErr result (λ e. ((locked.new ≡ locked.old) × ((e ≡ Refusal.OutOfMemory) ⊎ ((e ≡ Refusal.StrangeMark) × ((synced.node ≢ locked.old.node) ⊎ (running_group locked.old ≢ Some synced.group)))))
+        ⊎ ((locked.new ≡ marked_running locked.old) × HasNoPlace recording.old (tape.Mark locked.old.node) e)) }
+{
+    let node = locked.node();
+    match locked.mark(synced) {
+        Err((refusal, _)) => Err(refusal),
+        Ok(()) => {
+            let event = TapeEvent::Mark { node };
+            recording.note(&event)
+        }
+    }
+}
+
+/// The oldest message of a node that may leave takes the next number of the tape. `None`: none may leave.
+pub fn send_on(locked: &mut Locked, recording: &mut Recording) -> Result<Option<Sent>, Refusal>
+    ensures none { IfOk result (λ sent. IfNone sent ((next_leaving locked.old ≡ None) × (locked.new ≡ locked.old) × (recording.new ≡ recording.old))) }
+    ensures some { IfOk result (λ sent. IfSome sent (λ sent. (next_leaving locked.old ≡ Some sent.message) × (locked.new ≡ message_left locked.old) × (sent.number ≡ sent_on recording.old))) }
+    ensures event { IfOk result (λ sent. IfSome sent (λ sent. recording.new ≡ with_event recording.old (tape.Send sent.number sent.message))) }
+    ensures kept { OnErr result (recording.new ≡ recording.old) }
+    ensures cause { IfErr result (λ e. (message : _) × (next_leaving locked.old ≡ Some message) × (locked.new ≡ message_left locked.old) × HasNoPlace recording.old (tape.Send (sent_on recording.old) message) e) }
+{
+    let _parts: Option<(Body, Command, Estimate, Op)> = None;
+    match locked.next_message() {
+        None => Ok(None),
+        Some(cleared) => {
+            let number = recording.sent();
+            let message = cleared.message();
+            let sent = Sent { number, message };
+            let message = cleared.message();
+            let event = TapeEvent::Send { number, message };
+            recording.note(&event)?;
+            Ok(Some(sent))
+        }
+    }
+}
+
+/// The oldest waiting request of a node that its decided prefix holds is acknowledged. `None`: none waits that it holds.
+pub fn ack_on(
+    locked: &mut Locked,
+    recording: &mut Recording,
+) -> Result<Option<(RequestNo, Reply)>, Refusal>
+    ensures none { IfOk result (λ a. IfNone a ((next_acknowledged locked.old ≡ None) × (locked.new ≡ locked.old) × (recording.new ≡ recording.old))) }
+    ensures some { IfOk result (λ a. IfSome a (λ a. (next_acknowledged locked.old ≡ Some a.0) × (reply_of (decided_prefix locked.old) a.0 ≡ Some a.1) × (locked.new ≡ acknowledged locked.old))) }
+    ensures event { IfOk result (λ a. IfSome a (λ a. recording.new ≡ with_event recording.old (tape.Ack locked.old.node a.0 a.1))) }
+    ensures kept { OnErr result (recording.new ≡ recording.old) }
+    ensures cause { IfErr result (λ e. (request : _) × (reply : _) × (next_acknowledged locked.old ≡ Some request) × (reply_of (decided_prefix locked.old) request ≡ Some reply)
+        × (locked.new ≡ acknowledged locked.old) × HasNoPlace recording.old (tape.Ack locked.old.node request reply) e) }
+{
+    let node = locked.node();
+    match locked.acknowledge() {
+        None => Ok(None),
+        Some((request, reply)) => {
+            let event = TapeEvent::Ack {
+                node,
+                request,
+                reply,
+            };
+            recording.note(&event)?;
+            Ok(Some((request, reply)))
+        }
+    }
+}

@@ -1,0 +1,25 @@
+//! Places at which whoever watches a run may hold it up.
+
+use rr_types::NodeId;
+
+/// A place in a run.
+#[derive(Clone, Copy, Debug, PartialEq, Eq)]
+pub enum Place {
+    /// A flush of the node is about to call its disk.
+    BeforeDevice,
+    /// The node has answered a submit.
+    AfterSubmit,
+}
+
+/// What is passed at each place of each node. It may hold up whoever passes.
+pub trait Turnstile {
+    fn pass(&self, node: NodeId, place: Place);
+}
+
+/// A turnstile that holds up nobody.
+#[derive(Clone, Copy, Debug)]
+pub struct Open;
+
+impl Turnstile for Open {
+    fn pass(&self, _node: NodeId, _place: Place) {}
+}
