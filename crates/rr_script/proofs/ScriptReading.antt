@@ -10,7 +10,6 @@ use Rattle.rr_types.specs.declared.refusal.Refusal.{Refusal}
 use Rattle.rr_types.specs.declared.refusal.Refusal.TheVariants.{OutOfMemory, BadEvent}
 use Rattle.rr_text.specs.declared.event.Event.TheVariants as events
 use Rattle.rr_text.specs.Words.{spaced, IsCommand}
-use Rattle.rr_text.specs.Lines.{HasNoLine}
 use Rattle.rr_text.specs.Reading.{◌>>=◌, cut_at, name_at, first_node_at, submitted_at}
 use Rattle.rr_text.proofs.CutLemmas.{AtLeast, bind_some, cut_again, cut_takes, plain_by_test}
 use Rattle.rr_text.proofs.NumberLemmas.{decimal_plain}
