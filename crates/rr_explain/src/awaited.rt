@@ -1,4 +1,4 @@
-//! What may stand next in a line of a schedule or a tape.
+//! What may stand next in a line of a schedule, a tape or a script.
 
 use crate::recorded::Recorded;
 use rr_text::keyword::Keyword;
@@ -24,6 +24,9 @@ pub(crate) enum Awaited {
     SecondCut,
     Fill,
     Recorded(Recorded),
+    Asked,
+    Looker,
+    Looked,
     End,
 }
 
@@ -32,11 +35,11 @@ impl Awaited {
     pub(crate) fn called(self) -> &'static str {
         match self {
             Awaited::Event => "event",
-            Awaited::Node(_) => "node",
+            Awaited::Node(_) | Awaited::Looker => "node",
             Awaited::Client => "client",
             Awaited::Request => "request number",
             Awaited::Operation => "operation",
-            Awaited::Claimed | Awaited::Released | Awaited::Transferred => "name",
+            Awaited::Claimed | Awaited::Released | Awaited::Transferred | Awaited::Looked => "name",
             Awaited::Value => "value",
             Awaited::Owner => "owner",
             Awaited::Message => "message number",
@@ -44,6 +47,7 @@ impl Awaited {
             Awaited::FirstCut | Awaited::SecondCut => "cut",
             Awaited::Fill => "fill",
             Awaited::Recorded(recorded) => recorded.called(),
+            Awaited::Asked => "line of a script",
             Awaited::End => "end of the line",
         }
     }
@@ -54,10 +58,10 @@ impl Awaited {
             Awaited::Event => {
                 "submit, hear, suspect, tick, advance, take, dev, fail, mark, send, ack, snap, crash or restart"
             }
-            Awaited::Node(_) => digits(nodes),
+            Awaited::Node(_) | Awaited::Looker => digits(nodes),
             Awaited::Operation => "claim, update, release or transfer",
             Awaited::Request => "a number below 2^64 without leading zeros",
-            Awaited::Claimed | Awaited::Released | Awaited::Transferred => {
+            Awaited::Claimed | Awaited::Released | Awaited::Transferred | Awaited::Looked => {
                 "1 to 64 of a to z, 0 to 9 and hyphen"
             }
             Awaited::Value => "1 to 64 printable ASCII characters",
@@ -69,6 +73,7 @@ impl Awaited {
             Awaited::Suspects => "- or ascending digits of nodes",
             Awaited::Fill => "- or pairs of the digits 0 to 9 and A to F",
             Awaited::Recorded(recorded) => recorded.expected(nodes),
+            Awaited::Asked => "submit or look",
             Awaited::End => "nothing more",
         }
     }
@@ -77,10 +82,12 @@ impl Awaited {
     pub(crate) fn fits(self, nodes: Nodes, word: &[u8]) -> bool {
         match self {
             Awaited::Event => keyword(word).is_some(),
-            Awaited::Node(_) => node(nodes, word).is_some(),
+            Awaited::Node(_) | Awaited::Looker => node(nodes, word).is_some(),
             Awaited::Operation => behind_operation(word).is_some(),
             Awaited::Request => number(word).is_some(),
-            Awaited::Claimed | Awaited::Released | Awaited::Transferred => Name::new(word).is_ok(),
+            Awaited::Claimed | Awaited::Released | Awaited::Transferred | Awaited::Looked => {
+                Name::new(word).is_ok()
+            }
             Awaited::Value => !word.is_empty() && Value::new(word).is_ok(),
             Awaited::Client
             | Awaited::Owner
@@ -90,6 +97,7 @@ impl Awaited {
             Awaited::Suspects => set(nodes, word).is_some(),
             Awaited::Fill => is_fill(word),
             Awaited::Recorded(recorded) => recorded.fits(nodes, word),
+            Awaited::Asked => behind_asked(word).is_some(),
             Awaited::End => false,
         }
     }
@@ -118,13 +126,37 @@ impl Awaited {
             Awaited::FirstCut => Awaited::SecondCut,
             Awaited::SecondCut => Awaited::Fill,
             Awaited::Recorded(recorded) => recorded.behind(word),
+            Awaited::Asked => match behind_asked(word) {
+                Some(awaited) => awaited,
+                None => Awaited::End,
+            },
+            Awaited::Looker => Awaited::Looked,
             _ => Awaited::End,
+        }
+    }
+
+    /// What is said of an empty line that was to begin with this.
+    pub(crate) fn empty(self) -> &'static str {
+        match self {
+            Awaited::Asked => "an empty line; expected submit or look",
+            _ => "an empty line; expected an event",
         }
     }
 
     /// Whether the line may end here.
     pub(crate) fn may_end(self) -> bool {
         matches!(self, Awaited::Value | Awaited::End)
+    }
+}
+
+// What may stand behind the first word of a line of a script.
+fn behind_asked(word: &[u8]) -> Option<Awaited> {
+    if word == b"submit".as_slice() {
+        Some(Awaited::Node(Keyword::Submit))
+    } else if word == b"look".as_slice() {
+        Some(Awaited::Looker)
+    } else {
+        None
     }
 }
 

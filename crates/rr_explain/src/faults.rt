@@ -1,4 +1,4 @@
-//! The fault of a schedule or a tape.
+//! The fault of a schedule, a tape or a script.
 
 use crate::awaited::Awaited;
 use crate::fault::{Fault, Kind};
@@ -46,13 +46,37 @@ pub fn print_tape_fault<W: Write>(
     }
 }
 
+/// The same of a script for these nodes, and of the refusal with which `Script::parse` answers.
+///
+/// # Errors
+/// Those of the writer.
+pub fn print_script_fault<W: Write>(
+    err: &mut W,
+    name: &str,
+    nodes: Nodes,
+    bytes: &[u8],
+    refusal: &Refusal,
+) -> io::Result<()> {
+    let fault = match refusal {
+        Refusal::BadEvent(line) => fault_in_line(Awaited::Asked, nodes, 1, *line, bytes),
+        _ => None,
+    };
+    match fault {
+        Some(fault) => fault.print(err, name),
+        None => Ok(()),
+    }
+}
+
 // What is wrong where these bytes are refused so, whose lines from the second on begin with what is awaited.
 fn fault_of<'a>(begin: Awaited, bytes: &'a [u8], refusal: &Refusal) -> Option<Fault<'a>> {
     match refusal {
         Refusal::BadNodes => fault_of_first(bytes),
         Refusal::BadEvent(1) => fault_of_first(bytes),
+        Refusal::BadEvent(line) if *line > MAX_EVENTS as u64 + 1 => {
+            said(*line, 1, "there are at most 1,000,000 events")
+        }
         Refusal::BadEvent(line) => match first_line(bytes) {
-            Ok((nodes, events)) => fault_in_line(begin, nodes, *line, events),
+            Ok((nodes, events)) => fault_in_line(begin, nodes, 2, *line, events),
             Err(_) => None,
         },
         _ => None,
@@ -109,18 +133,16 @@ fn fault_of_first<'a>(bytes: &'a [u8]) -> Option<Fault<'a>> {
     }
 }
 
-// What is wrong in the line of this number, from 2, of which the events are the lines from 2 on.
+// What is wrong in the line of this number, where the first of these lines has that number.
 fn fault_in_line<'a>(
     begin: Awaited,
     nodes: Nodes,
+    first: u64,
     number: u64,
-    events: &'a [u8],
+    lines: &'a [u8],
 ) -> Option<Fault<'a>> {
-    if number > MAX_EVENTS as u64 + 1 {
-        return said(number, 1, "there are at most 1,000,000 events");
-    }
-    let mut rest = events;
-    for _ in 2..number {
+    let mut rest = lines;
+    for _ in first..number {
         match cut(rest, b'\n') {
             Some((_, behind)) => rest = behind,
             None => return None,
@@ -141,7 +163,7 @@ fn fault_of_line<'a>(
 ) -> Option<Fault<'a>> {
     let length = line.len() as u64;
     match line {
-        [] => return said(number, 1, "an empty line; expected an event"),
+        [] => return said(number, 1, begin.empty()),
         [.., b'\r'] => {
             return said(
                 number,
@@ -153,7 +175,7 @@ fn fault_of_line<'a>(
     }
     let mut awaited = begin;
     let mut rest = line;
-    // No event has more than twelve words.
+    // No line has more than twelve words.
     for _ in 0..13 {
         let column = length.saturating_sub(rest.len() as u64).saturating_add(1);
         match cut(rest, b' ') {
@@ -181,7 +203,7 @@ fn fault_of_word<'a>(nodes: Nodes, awaited: Awaited, word: &'a [u8]) -> Option<K
     } else if awaited.fits(nodes, word) {
         None
     } else if let Awaited::End = awaited {
-        Some(Kind::Said("more words than the event has"))
+        Some(Kind::Said("more words than the line has"))
     } else {
         Some(Kind::Word(word, awaited.called(), awaited.expected(nodes)))
     }

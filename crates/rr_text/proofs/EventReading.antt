@@ -57,10 +57,10 @@ keyword_plain Restart = plain_by_test (codes "restart") refl
 node_plain : (n p : ℕ) → n ≤ 7 → p < n → AtLeast 33 (decimal p)
 node_plain n p few lt = decimal_plain p (omega arith)
 
-first_node_again : (n p : ℕ) (text : List ℕ) → n ≤ 7 → p < n → first_node_at n (decimal p ++ 32 ∷ text) ≡ Some (p, text)
+pub first_node_again : (n p : ℕ) (text : List ℕ) → n ≤ 7 → p < n → first_node_at n (decimal p ++ 32 ∷ text) ≡ Some (p, text)
 first_node_again n p text few lt = rw (cut_again 32 33 (decimal p) text (omega arith) (node_plain n p few lt), node_again n p few lt) refl
 
-first_node_takes : (n : ℕ) (text : List ℕ) (x : ℕ × List ℕ) → n ≤ 7 → first_node_at n text ≡ Some x → (decimal x.0 ++ 32 ∷ x.1 ≡ text) × (x.0 < n)
+pub first_node_takes : (n : ℕ) (text : List ℕ) (x : ℕ × List ℕ) → n ≤ 7 → first_node_at n text ≡ Some x → (decimal x.0 ++ 32 ∷ x.1 ≡ text) × (x.0 < n)
 first_node_takes n text x few e =
     let w = bind_some (cut_at 32 text) (λ w. node_at n w.0 >>= λ p. Some (p, w.1)) x e in
     let p = bind_some (node_at n w.0.0) (λ p. Some (p, w.0.1)) x w.2 in

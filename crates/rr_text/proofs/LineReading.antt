@@ -78,7 +78,7 @@ pub record HasLine {X : Type 0} (Fits : X → Type 0) (line : X → List ℕ) (b
   pub split : bytes ≡ line thing ++ more
 
 -- two ways to split bytes into lines and a rest: as many lines, or one rest begins with a line
-fronts : {X : Type 0} {Fits : X → Type 0} {line : X → List ℕ} {read : List ℕ → Option X} (are : AreLines Fits line read) (xs ys : List X) (v w : List ℕ) → AllByRecursion Fits xs → AllByRecursion Fits ys → flat_map line xs ++ v ≡ flat_map line ys ++ w
+pub fronts : {X : Type 0} {Fits : X → Type 0} {line : X → List ℕ} {read : List ℕ → Option X} (are : AreLines Fits line read) (xs ys : List X) (v w : List ℕ) → AllByRecursion Fits xs → AllByRecursion Fits ys → flat_map line xs ++ v ≡ flat_map line ys ++ w
     → (length xs ≡ length ys) ⊎ (((length xs < length ys) × HasLine Fits line v) ⊎ ((length ys < length xs) × HasLine Fits line w))
 fronts are [] [] v w p q same = inl refl
 fronts {line} are [] (y ∷ ys) v w p q same =
@@ -109,11 +109,11 @@ one_stop are bytes k l p q =
 
 -- ---- as the loop over the lines goes
 
-All-push : {X : Type 0} (P : X → Type 0) (xs : List X) (y : X) → AllByRecursion P xs → P y → AllByRecursion P (xs ++ y ∷ [])
+pub All-push : {X : Type 0} (P : X → Type 0) (xs : List X) (y : X) → AllByRecursion P xs → P y → AllByRecursion P (xs ++ y ∷ [])
 All-push P [] y h p = (p, tt)
 All-push P (x ∷ xs) y h p = (h.0, All-push P xs y h.1 p)
 
-flat_map-push : {X : Type 0} (line : X → List ℕ) (xs : List X) (y : X) → flat_map line (xs ++ y ∷ []) ≡ flat_map line xs ++ line y
+pub flat_map-push : {X : Type 0} (line : X → List ℕ) (xs : List X) (y : X) → flat_map line (xs ++ y ∷ []) ≡ flat_map line xs ++ line y
 flat_map-push line [] y = append-nil (line y)
 flat_map-push line (x ∷ xs) y = ap (λ (w : List ℕ). line x ++ w) (flat_map-push line xs y) ∙ sym (append_assoc (line x) (flat_map line xs) (line y))
 

@@ -10,7 +10,7 @@ pub mod text_parse;
 pub mod text_read;
 pub mod text_report;
 pub mod text_schedule;
-mod text_word;
+pub mod text_word;
 
 pub use event::{Event, Fill};
 pub use report::{Binding, BoundNames, Report, ReportLine};

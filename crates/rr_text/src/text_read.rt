@@ -96,7 +96,8 @@ pub fn node(nodes: Nodes, word: &[u8]) -> Option<NodeId>
     }
 }
 
-fn name(word: &[u8]) -> Option<Name>
+/// The name that a word is.
+pub fn name(word: &[u8]) -> Option<Name>
     ensures { result ≡ name_at word.now }
 {
     Name::new(word).ok()

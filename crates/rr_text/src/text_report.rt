@@ -13,7 +13,11 @@ use crate::text_word::{
 use rr_types::{Body, Command, Instance, Message, NodeId, Refusal, Reply, RequestNo, Round};
 use std::alloc::Global;
 
-fn push_request(out: &mut Vec<u8>, request: RequestNo) -> Result<(), Refusal>
+/// Appends a space and a request number.
+///
+/// # Errors
+/// `OutOfMemory`.
+pub fn push_request(out: &mut Vec<u8>, request: RequestNo) -> Result<(), Refusal>
     ensures ok { OnOk result (out.new.items ≡ out.old.items ++ 32 ∷ request_text request) }
     ensures err { IfErr result (λ e. e ≡ Refusal.OutOfMemory) }
 {

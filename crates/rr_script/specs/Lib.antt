@@ -1,0 +1,5 @@
+pub mod AnswerTexts
+pub mod Faults
+pub mod Reading
+pub mod Scripted
+pub mod ScriptTexts

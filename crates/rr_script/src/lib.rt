@@ -1,0 +1,15 @@
+//! The texts of scripts, which say what clients ask of nodes that run in threads, and of the answers.
+#![tactic(auto)]
+
+mod answer;
+mod answer_text;
+mod script;
+mod script_law;
+mod script_line;
+mod script_parse;
+mod script_text;
+
+pub use answer::{Answer, Answers};
+pub use script::Script;
+pub use script_law::one_script_fault;
+pub use script_line::ScriptLine;

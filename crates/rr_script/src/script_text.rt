@@ -1,0 +1,62 @@
+//! Printing scripts.
+
+ghost use Rattle.std.specs.Prelude.{◌≡◌, ◌++◌, OnOk, IfOk, IfErr};
+ghost use Rattle.std.specs.List.{flat_map};
+ghost use Rattle.rr_text.specs.Words.{spaced};
+ghost use Rattle.rr_script.specs.ScriptTexts.{script_words, script_line, script_text};
+
+use crate::script::Script;
+use crate::script_line::ScriptLine;
+use rr_text::Event;
+use rr_text::text_schedule::push_event;
+use rr_text::text_word::{push_byte, push_bytes, push_number_word, push_word};
+use rr_types::Refusal;
+use std::alloc::Global;
+
+fn push_script_words(out: &mut Vec<u8>, line: &ScriptLine) -> Result<(), Refusal>
+    ensures ok { OnOk result (out.new.items ≡ out.old.items ++ spaced (script_words line.now)) }
+    ensures err { IfErr result (λ e. e ≡ Refusal.OutOfMemory) }
+{
+    let line = *line;
+    match line {
+        ScriptLine::Submit { node, command } => push_event(out, &Event::Submit { node, command }),
+        ScriptLine::Look { node, name } => {
+            push_bytes(out, b"look")?;
+            push_number_word(out, u64::from(node.index()))?;
+            push_word(out, name.as_bytes())
+        }
+    }
+}
+
+fn push_script_line(out: &mut Vec<u8>, line: &ScriptLine) -> Result<(), Refusal>
+    ensures ok { OnOk result (out.new.items ≡ out.old.items ++ script_line line.now) }
+    ensures err { IfErr result (λ e. e ≡ Refusal.OutOfMemory) }
+{
+    push_script_words(out, line)?;
+    push_byte(out, b'\n')
+}
+
+fn push_script_lines(out: &mut Vec<u8>, lines: &[ScriptLine]) -> Result<(), Refusal>
+    ensures ok { OnOk result (out.new.items ≡ out.old.items ++ flat_map script_line lines.now) }
+    ensures err { IfErr result (λ e. e ≡ Refusal.OutOfMemory) }
+{
+    for line in lines {
+        push_script_line(out, line)?;
+    }
+    Ok(())
+}
+
+impl Script {
+    /// The text of the script.
+    ///
+    /// # Errors
+    /// `OutOfMemory`.
+    pub fn text(&self, alloc: Global) -> Result<Vec<u8>, Refusal>
+        ensures ok { IfOk result (λ v. v.items ≡ script_text self.now.lines) }
+        ensures err { IfErr result (λ e. e ≡ Refusal.OutOfMemory) }
+    {
+        let mut out = Vec::new(alloc);
+        push_script_lines(&mut out, self.lines())?;
+        Ok(out)
+    }
+}
