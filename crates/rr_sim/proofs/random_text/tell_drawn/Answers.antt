@@ -9,8 +9,8 @@ loop-step-init c =
 pub loop-step-preserved : goal.loop-step-preserved
 loop-step-preserved c =
     drawn_more c.args.nodes c.args.steps c.args.generator.now c.args.texts.now.schedule.items c.loop-step._step c.loop-step.line c.loop-step.generator c.loop-step.cluster c.loop-step.texts.schedule.items c.loop-step.texts.report.items
-      c.loop-step.invariant c.step_in_memory.new.self c.in_ok-event.event c.draw.new.generator c.tell.new.self c.push_event_line.new.out.items c.tell.new.text.items _
-      (search rules) c.in_ok-event.ensures.valid c.in_ok-event.ensures.words c.in_ok-step_in_memory.ensures.ok c.in_ok-step_in_memory.ensures.spelt c.in_ok-tell.ensures.kept c.in_ok-push_event_line.ensures.ok c.in_ok-tell.ensures.told (search rules)
+    c.loop-step.invariant c.step_in_memory.new.self c.in_ok-event.event c.draw.new.generator c.tell.new.self c.push_event_line.new.out.items c.tell.new.text.items _
+    (search rules) c.in_ok-event.ensures.valid c.in_ok-event.ensures.words c.in_ok-step_in_memory.ensures.ok c.in_ok-step_in_memory.ensures.spelt c.in_ok-tell.ensures.kept c.in_ok-push_event_line.ensures.ok c.in_ok-tell.ensures.told (search rules)
 
 pub returns-clause-ok : goal.returns-clause-ok
 returns-clause-ok c =

@@ -8,17 +8,17 @@ loop-event-init c = told_none c.args.nodes c.args.bytes.now c.args.cluster.now c
 pub loop-event-preserved-in_ok-tell : goal.loop-event-preserved-in_ok-tell
 loop-event-preserved-in_ok-tell c =
     told_more c.args.nodes c.args.bytes.now c.args.cluster.now c.args.text.now.items c.loop-event.line _ c.loop-event.rest.now c.in-Some.behind.now c.loop-event.cluster c.step.new.self c.tell.new.self c.loop-event.text.items c.tell.new.text.items c.in-Some.event
-      c.loop-event.invariant (search rules) c.in_ok-step.ensures.ok c.in_ok-step.ensures.spelt c.in_ok-tell.ensures.kept c.in_ok-tell.ensures.told refl
+    c.loop-event.invariant (search rules) c.in_ok-step.ensures.ok c.in_ok-step.ensures.spelt c.in_ok-tell.ensures.kept c.in_ok-tell.ensures.told refl
 
 pub loop-event-preserved-in_ok-tell-2 : goal.loop-event-preserved-in_ok-tell-2
 loop-event-preserved-in_ok-tell-2 c =
     told_more c.args.nodes c.args.bytes.now c.args.cluster.now c.args.text.now.items c.loop-event.line _ c.loop-event.rest.now c.in-Some.behind.now c.loop-event.cluster c.step.new.self c.tell.new.self c.loop-event.text.items c.tell.new.text.items c.in-Some.event
-      c.loop-event.invariant (search rules) c.in_ok-step.ensures.ok c.in_ok-step.ensures.spelt c.in_ok-tell.ensures.kept c.in_ok-tell.ensures.told refl
+    c.loop-event.invariant (search rules) c.in_ok-step.ensures.ok c.in_ok-step.ensures.spelt c.in_ok-tell.ensures.kept c.in_ok-tell.ensures.told refl
 
 pub loop-event-preserved : goal.loop-event-preserved
 loop-event-preserved c =
     told_more c.args.nodes c.args.bytes.now c.args.cluster.now c.args.text.now.items c.loop-event.line _ c.loop-event.rest.now c.in-Some.behind.now c.loop-event.cluster c.step.new.self c.tell.new.self c.loop-event.text.items c.tell.new.text.items c.in-Some.event
-      c.loop-event.invariant (search rules) c.in_ok-step.ensures.ok c.in_ok-step.ensures.spelt c.in_ok-tell.ensures.kept c.in_ok-tell.ensures.told refl
+    c.loop-event.invariant (search rules) c.in_ok-step.ensures.ok c.in_ok-step.ensures.spelt c.in_ok-tell.ensures.kept c.in_ok-tell.ensures.told refl
 
 pub returns-clause-ok : goal.returns-clause-ok
 returns-clause-ok c =
