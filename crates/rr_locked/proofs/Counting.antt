@@ -1,6 +1,5 @@
 -- Tapes that grow.
-use Rattle.std.proofs.Common.{◌≡◌, ℕ, ◌+◌, ◌≤◌, ◌++◌, ◌∷◌, [], length}
-use Rattle.std.specs.List.{count_by}
+use Rattle.std.proofs.Common.{◌≤◌, length}
 use Rattle.std.proofs.lemmas.List.Sums.{count_by-le-length}
 use Rattle.rr_tape.specs.Taped.{Taped}
 use Rattle.rr_locked.specs.Recorded.{is_send, sent_on}

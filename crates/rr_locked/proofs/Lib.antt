@@ -1,2 +1,3 @@
-pub mod Takes
 pub mod Counting
+pub mod Flushes
+pub mod Takes

@@ -1,4 +1,4 @@
-use Rattle.std.proofs.Common.{◌≡◌, ◌≤◌, ℕ, length, take}
+use Rattle.std.proofs.Common.{◌≡◌, ◌≤◌, length, take}
 use mathlib.Core.List.{IsPrefix}
 use Rattle.rr_model.specs.NodeState.{decided_prefix}
 use Rattle.rr_locked.specs.Listed.{listed}
