@@ -1,6 +1,7 @@
 //! What each input does at once.
 
-ghost use Rattle.std.specs.Prelude.{◌≡◌, true, None, Some, IfErr, OnOk, ◌⊎◌};
+ghost use Rattle.std.specs.Prelude.{◌≡◌, true, None, Some, Err, IfErr, OnOk, ◌⊎◌};
+ghost use Rattle.rr_types.specs.declared.refusal.Refusal.{Refusal};
 ghost use Rattle.rr_types.specs.declared.fact.Fact.TheVariants as staged;
 ghost use Rattle.rr_types.specs.declared.message.Body.TheVariants as say;
 ghost use Rattle.rr_types.specs.Standings.{round_of, is_undecided};
@@ -84,17 +85,18 @@ pub fn ticked_on(step: &mut Step<'_>, alloc: Global) -> Result<(), Refusal>
     }
 }
 
-/// The lowest open instance that has a round enters the next one; in the last round it is refused.
+/// The lowest open instance that has a round enters the next one; in the last round it is refused, for which it
+/// takes no memory.
 #[tactic(auto, unfolding(rr_model::specs::NodeStep::advanced))]
 pub fn advanced(step: &mut Step<'_>, alloc: Global) -> Result<(), Refusal>
     ensures ok { OnOk result (step.new ≡ stepped advanced step.old) }
     ensures allowed { OnOk result (advance_refusal step.old.state ≡ None) }
+    ensures order { (e : Refusal) → advance_refusal step.old.state ≡ Some e → result ≡ Err e }
     ensures err { IfErr result (λ e. (e ≡ Refusal.OutOfMemory) ⊎ (advance_refusal step.old.state ≡ Some e)) }
 {
-    match step.lowest_in_round(alloc) {
-        Err(refusal) => Err(refusal),
-        Ok(None) => Ok(()),
-        Ok(Some(instance)) => {
+    match step.lowest_in_round() {
+        None => Ok(()),
+        Some(instance) => {
             let round = step.round(instance);
             if round == rr_types::MAX_ROUND {
                 return Err(Refusal::RoundsOut);

@@ -1,11 +1,12 @@
 //! For each input what it changes: what the input does at once, and then all that is due.
 
-ghost use Rattle.std.specs.Prelude.{◌≡◌, ◌^◌, ◌<◌, ◌≤◌, ◌⊎◌, Some, IfOk, IfErr};
+ghost use Rattle.std.specs.Prelude.{◌≡◌, ◌^◌, ◌<◌, ◌≤◌, ◌⊎◌, Some, Err, IfOk, IfErr};
+ghost use Rattle.rr_types.specs.declared.refusal.Refusal.{Refusal};
 ghost use Rattle.rr_types.specs.Registry.{has_request};
 ghost use Rattle.rr_model.specs.NodeState.{next_number, decided_prefix, open_instances};
 ghost use Rattle.rr_model.specs.NodeParts.{restate_all};
 ghost use Rattle.rr_model.specs.NodeDue.{settle};
-ghost use Rattle.rr_model.specs.NodeStep.{Submit, Suspect, Tick, Advance, Hear, refusal_of, started};
+ghost use Rattle.rr_model.specs.NodeStep.{Submit, Suspect, Tick, Advance, Hear, submit_refusal, advance_refusal, refusal_of, started};
 ghost use Rattle.rr_step.specs.Steps.{combined, IsFitting};
 ghost use Rattle.rr_input.specs.Changes.{IsSettled, IsStep};
 
@@ -69,7 +70,8 @@ fn restatement(state: &State, alloc: Global) -> Result<Changes, Refusal>
     }
 }
 
-/// What a client's command changes. `is_held`: whether the decided prefix has its request number.
+/// What a client's command changes. `is_held`: whether the decided prefix has its request number. Where it is refused
+/// for what it is, this comes before want of memory.
 #[tactic(auto, using(crate::proofs::InputSteps::submit_is_step, crate::proofs::InputSteps::submit_large, crate::proofs::InputSteps::submit_err))]
 pub fn submit_step(
     state: &State,
@@ -79,6 +81,7 @@ pub fn submit_step(
 ) -> Result<Changes, Refusal>
     requires { is_held ≡ has_request (decided_prefix state.now) command.request }
     ensures ok { IfOk result (λ c. IsStep (Submit command) state.now c) }
+    ensures order { (e : Refusal) → submit_refusal command state.now ≡ Some e → result ≡ Err e }
     ensures refused { IfErr result (λ e. (e ≡ Refusal.OutOfMemory) ⊎ (refusal_of (Submit command) state.now ≡ Some e)) }
 {
     let asked = command;
@@ -129,10 +132,11 @@ pub fn tick_step(state: &State, alloc: Global) -> Result<Changes, Refusal>
     }
 }
 
-/// What an advance changes.
+/// What an advance changes. In the last round it is refused for that, also where memory is wanting.
 #[tactic(auto, using(crate::proofs::InputSteps::advance_is_step, crate::proofs::InputSteps::advance_large, crate::proofs::InputSteps::advance_err))]
 pub fn advance_step(state: &State, alloc: Global) -> Result<Changes, Refusal>
     ensures ok { IfOk result (λ c. IsStep Advance state.now c) }
+    ensures order { (e : Refusal) → advance_refusal state.now ≡ Some e → result ≡ Err e }
     ensures refused { IfErr result (λ e. (e ≡ Refusal.OutOfMemory) ⊎ (refusal_of Advance state.now ≡ Some e)) }
 {
     let mut step = Step::new(alloc, state);

@@ -1,15 +1,14 @@
 //! What a node within a step knows of its instances.
 
-ghost use Rattle.std.specs.Prelude.{◌≡◌, ◌≤◌, ◌<◌, ◌&&◌, nat_lt, IfOk, IfErr, IfSome, Some, find};
+ghost use Rattle.std.specs.Prelude.{◌≡◌, ◌≤◌};
 ghost use Rattle.rr_types.specs.Standings.{round_of, stamp_of, proposal_of, is_undecided};
 ghost use Rattle.rr_types.specs.Facts.{decision_of};
 ghost use Rattle.rr_model.specs.NodeState.{standing_at};
-ghost use Rattle.rr_model.specs.NodeStep.{is_list_full, lowest_in_round, has_proposed};
+ghost use Rattle.rr_model.specs.NodeStep.{is_list_full, has_proposed};
 
 use crate::step::Step;
 use rr_instance::{decision_in, proposal_in, round_in, stamp_in};
-use rr_types::{Command, INSTANCES, Instance, Refusal, Round, Standing};
-use std::alloc::Global;
+use rr_types::{Command, INSTANCES, Instance, Round, Standing};
 
 impl<'a> Step<'a> {
     /// The round of an instance; 0 where it has none.
@@ -72,30 +71,5 @@ impl<'a> Step<'a> {
         ensures { result ≡ is_list_full self.now.state }
     {
         INSTANCES <= self.first_undecided()
-    }
-
-    /// The lowest open instance that has a round.
-    pub fn lowest_in_round(&self, alloc: Global) -> Result<Option<Instance>, Refusal>
-        ensures value { IfOk result (λ found. found ≡ lowest_in_round self.now.state) }
-        ensures round { IfOk result (λ found. IfSome found (λ i. 0 < round_of (standing_at self.now.state i))) }
-        ensures err { IfErr result (λ e. e ≡ Refusal.OutOfMemory) }
-    {
-        match self.open_instances(alloc) {
-            Err(refusal) => Err(refusal),
-            Ok(open) => Ok(self.first_in_round(&open)),
-        }
-    }
-
-    /// The first of these instances that has a round.
-    fn first_in_round(&self, instances: &[Instance]) -> Option<Instance>
-        ensures value { result ≡ find (λ i. nat_lt 0 (round_of (standing_at self.now.state i))) instances.now }
-        ensures round { IfSome result (λ i. 0 < round_of (standing_at self.now.state i)) }
-    {
-        for instance in instances {
-            if self.round(*instance) > 0 {
-                return Some(*instance);
-            }
-        }
-        None
     }
 }

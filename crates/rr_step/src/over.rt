@@ -1,14 +1,15 @@
 //! The rows of a state with the rows that a step has changed, of which the newest stands first.
 
-ghost use Rattle.std.specs.Prelude.{◌≡◌, ◌≤◌, ◌<◌, ◌&&◌, ◌==◌, nat_lt, IsTrue, None, Some, MatchOption, IfOk, IfErr};
+ghost use Rattle.std.specs.Prelude.{◌≡◌, ◌≤◌, ◌<◌, ◌&&◌, ◌==◌, nat_lt, IsTrue, None, Some, find, option_map, MatchOption, IfOk, IfErr, IfSome};
 ghost use Rattle.std.specs.List.{list_any};
+ghost use Rattle.rr_types.specs.Standings.{round_of};
 ghost use Rattle.rr_model.specs.NodeState.{row_of, is_decided, undecided_from, lowest_undecided};
 ghost use Rattle.rr_list.specs.Rowed.{has_decided};
 ghost use Rattle.rr_step.specs.Steps.{put_rows, KeepDecisions};
 
 use crate::rows::{find_row, has_decided_request};
 use crate::state::State;
-use rr_instance::Row;
+use rr_instance::{Row, round_in};
 use rr_types::{Instance, Refusal, RequestNo};
 use std::alloc::Global;
 
@@ -97,6 +98,38 @@ pub fn is_lowest_over(base: &State, changed: &[Row], count: usize, instance: Ins
         }
     }
     false
+}
+
+/// Whether an instance has a round.
+fn has_round_over(base: &State, changed: &[Row], instance: Instance) -> bool
+    ensures { result ≡ nat_lt 0 (round_of (option_map (λ r. r.standing) (row_of (put_rows changed.now base.now.rows) instance))) }
+{
+    match row_over(base, changed, instance) {
+        Some(row) => round_in(row.standing) > 0,
+        None => false,
+    }
+}
+
+/// The first of the `count` lowest undecided instances that has a round.
+#[tactic(auto, using(crate::proofs::RowLemmas::lowest_next, crate::proofs::RowLemmas::lowest_end))]
+pub fn lowest_in_round_over(base: &State, changed: &[Row], count: usize) -> Option<Instance>
+    requires { KeepDecisions changed.now base.now.rows }
+    ensures value { result ≡ find (λ i. nat_lt 0 (round_of (option_map (λ r. r.standing) (row_of (put_rows changed.now base.now.rows) i)))) (lowest_undecided count 0 (put_rows changed.now base.now.rows)) }
+    ensures round { IfSome result (λ i. 0 < round_of (option_map (λ r. r.standing) (row_of (put_rows changed.now base.now.rows) i))) }
+{
+    let mut from = 0;
+    for _turn in 0..count {
+        match Instance::new(undecided_over(base, changed, from)) {
+            None => return None,
+            Some(lowest) => {
+                if has_round_over(base, changed, lowest) {
+                    return Some(lowest);
+                }
+                from = lowest.number() + 1;
+            }
+        }
+    }
+    None
 }
 
 /// Whether an instance has decided a command with this request number.

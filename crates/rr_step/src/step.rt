@@ -1,13 +1,14 @@
 //! A step of a node: what the node was before, borrowed, and beside it what the step has changed.
 
-ghost use Rattle.std.specs.Prelude.{◌≡◌, ◌++◌, ◌∷◌, [], ◌^◌, ◌<◌, ◌&&◌, nat_lt, None, Some, IsTrue, option_map, MatchOption, IfOk, IfErr, OnOk};
+ghost use Rattle.std.specs.Prelude.{◌≡◌, ◌++◌, ◌∷◌, [], ◌^◌, ◌<◌, ◌&&◌, nat_lt, None, Some, IsTrue, option_map, MatchOption, IfOk, IfErr, IfSome, OnOk};
 ghost use Rattle.std.specs.List.{list_any};
 ghost use Rattle.rr_types.specs.Registry.{has_request};
 ghost use Rattle.rr_types.specs.Facts.{instance_of, after_fact, decision_of};
+ghost use Rattle.rr_types.specs.Standings.{round_of};
 ghost use Rattle.rr_model.specs.NodeState.{next_number, standing_at, row_of, put_row, is_decided, first_undecided, open_instances, is_open, is_decided_request, everyone, others};
 ghost use Rattle.rr_model.specs.NodeDetector.{all_ticked, heard_beat, late_nodes, reduced};
 ghost use Rattle.rr_model.specs.NodeParts.{owe, pool_add, stage, rows_after, pool_after};
-ghost use Rattle.rr_model.specs.NodeStep.{wait_for, is_waiting};
+ghost use Rattle.rr_model.specs.NodeStep.{wait_for, is_waiting, lowest_in_round};
 ghost use Rattle.rr_mark.specs.Marks.{is_free};
 ghost use Rattle.rr_step.specs.Places.{first_free};
 ghost use Rattle.rr_step.specs.Steps.{stepped, combined, KeepsDecision, KeepsStanding, IsFitting, IsDecidedFact};
@@ -240,6 +241,15 @@ impl<'a> Step<'a> {
         ensures { result ≡ is_open self.now.state instance }
     {
         over::is_lowest_over(self.base, &self.rows, WINDOW, instance)
+    }
+
+    /// The lowest open instance that has a round. It takes no memory.
+    #[tactic(auto, unfolding(rr_model::specs::NodeState::open_instances))]
+    pub fn lowest_in_round(&self) -> Option<Instance>
+        ensures value { result ≡ lowest_in_round self.now.state }
+        ensures round { IfSome result (λ i. 0 < round_of (standing_at self.now.state i)) }
+    {
+        over::lowest_in_round_over(self.base, &self.rows, WINDOW)
     }
 
     /// Whether some instance has decided a command with this request number.
