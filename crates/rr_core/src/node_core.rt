@@ -1,8 +1,9 @@
 //! The core of a node: a state machine without input and output.
 
-ghost use Rattle.std.specs.Prelude.{◌≡◌, ◌≢◌, ◌^◌, ◌<◌, ◌≤◌, ◌⊎◌, true, None, Some, [], length, slice_get, IfOk, IfErr, IfSome, IsSome, MatchOption, OnOk, OnErr};
+ghost use Rattle.std.specs.Prelude.{◌≡◌, ◌≢◌, ◌^◌, ◌<◌, ◌≤◌, ◌⊎◌, true, None, Some, Err, [], length, slice_get, IfOk, IfErr, IfSome, IsSome, MatchOption, OnOk, OnErr};
 ghost use Rattle.rr_model.specs.NodeState.{decided_prefix};
-ghost use Rattle.rr_model.specs.NodeStep.{Submit, Suspect, Tick, Advance, Hear, node_step, refusal_of, group_taken, running_group, group_put_back, marked_running, next_leaving, message_left, next_acknowledged, acknowledged, started};
+ghost use Rattle.rr_model.specs.NodeStep.{Submit, Suspect, Tick, Advance, Hear, node_step, submit_refusal, advance_refusal, refusal_of, group_taken, running_group, group_put_back, marked_running, next_leaving, message_left, next_acknowledged, acknowledged, started};
+ghost use Rattle.rr_types.specs.declared.refusal.Refusal.{Refusal};
 ghost use Rattle.rr_types.specs.Promises.{all_fit};
 ghost use Rattle.rr_types.specs.Registry.{registry_of, reply_of};
 ghost use Rattle.rr_mark.specs.Marks.{IsFreeOrBacked};
@@ -89,11 +90,12 @@ impl Core {
     }
 
     /// A client asks for a command. It is `ListFull` where the command is new and all instances are decided
-    /// here, and `TooLarge` where a fact would have no number.
+    /// here, also where memory is wanting, and `TooLarge` where a fact would have no number.
     #[tactic(auto, using(crate::proofs::TakenLemmas::held))]
     pub fn submit(&mut self, command: Command) -> Result<(), Refusal>
         ensures ok { OnOk result (self.new ≡ node_step (Submit command) self.old) }
         ensures allowed { OnOk result (refusal_of (Submit command) self.old ≡ None) }
+        ensures order { (e : Refusal) → submit_refusal command self.old ≡ Some e → result ≡ Err e }
         ensures refused { IfErr result (λ e. (e ≡ Refusal.OutOfMemory) ⊎ (refusal_of (Submit command) self.old ≡ Some e)) }
         ensures err { OnErr result (self.new ≡ self.old) }
     {
@@ -145,10 +147,11 @@ impl Core {
     }
 
     /// The lowest open instance that has a round enters the next one. It is `RoundsOut` where that is the last
-    /// round already, and `TooLarge` where a fact would have no number.
+    /// round already, also where memory is wanting, and `TooLarge` where a fact would have no number.
     pub fn advance(&mut self) -> Result<(), Refusal>
         ensures ok { OnOk result (self.new ≡ node_step Advance self.old) }
         ensures allowed { OnOk result (refusal_of Advance self.old ≡ None) }
+        ensures order { (e : Refusal) → advance_refusal self.old ≡ Some e → result ≡ Err e }
         ensures refused { IfErr result (λ e. (e ≡ Refusal.OutOfMemory) ⊎ (refusal_of Advance self.old ≡ Some e)) }
         ensures err { OnErr result (self.new ≡ self.old) }
     {
