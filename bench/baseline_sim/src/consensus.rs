@@ -268,11 +268,10 @@ impl Core {
     /// A client submits a command.
     pub fn submit(&mut self, command: SharedCommand) -> Result<(), Refusal> {
         let request = command.request;
-        let is_waiting = self.waiting.contains(request);
-        let is_decided = self.instances.decided_requests.contains(&request);
-        if self.instances.window.is_empty() && !is_decided && !is_waiting {
+        if self.is_full_for(request) {
             return Err(Refusal::ListFull);
         }
+        let is_waiting = self.waiting.contains(request);
         self.waiting.push(request);
         if self.registry.reply(request).is_some() {
             self.waiting.make_due(request);
@@ -309,16 +308,32 @@ impl Core {
 
     /// The lowest open instance that has a round enters the next one.
     pub fn advance(&mut self) -> Result<(), Refusal> {
-        let mut window = self.instances.window.iter().copied();
-        if let Some(instance) = window.find(|&i| self.instances.round(i) > 0) {
-            let round = self.instances.round(instance);
-            if round == LAST_ROUND {
-                return Err(Refusal::RoundsOut);
-            }
-            self.enter(instance, round + 1, None);
+        if self.is_in_last_round() {
+            return Err(Refusal::RoundsOut);
+        }
+        if let Some(instance) = self.lowest_in_round() {
+            self.enter(instance, self.instances.round(instance) + 1, None);
         }
         self.settle();
         Ok(())
+    }
+
+    /// Whether a command with this request number is refused: it is new, and all instances are decided.
+    pub fn is_full_for(&self, request: RequestNo) -> bool {
+        self.instances.window.is_empty()
+            && !self.instances.decided_requests.contains(&request)
+            && !self.waiting.contains(request)
+    }
+
+    /// Whether an advance is refused: its instance is in the last round.
+    pub fn is_in_last_round(&self) -> bool {
+        self.lowest_in_round()
+            .is_some_and(|instance| self.instances.round(instance) == LAST_ROUND)
+    }
+
+    fn lowest_in_round(&self) -> Option<u32> {
+        let mut window = self.instances.window.iter().copied();
+        window.find(|&i| self.instances.round(i) > 0)
     }
 
     /// A message for this node arrives.

@@ -161,25 +161,25 @@ marking_none (Writing calls) seat = step_none at.Mark seat seat.doing (λ e. cc)
 marking_none Flushed seat = refl
 marking_none (Switching calls) seat = step_none at.Mark seat seat.doing (λ e. cc)
 
-serving_none : (event : NodeEvent) (flush : Flush) (seat : Seat) → event ≢ at.Device → MakesNone seat (starve_serving flush event seat)
-serving_none (at.Submit c) flush seat other = refl
-serving_none (at.Hear m) flush seat other = refl
-serving_none (at.Suspect set) flush seat other = refl
-serving_none at.Tick flush seat other = refl
-serving_none at.Advance flush seat other = refl
-serving_none at.Take flush seat other = beginning_none at.Take flush seat other
-serving_none at.Device flush seat other = absurd (other refl)
-serving_none at.Mark flush seat other = marking_none flush seat
-serving_none at.Send flush seat other = step_none at.Send seat seat.doing other
-serving_none at.Acknowledge flush seat other = step_none at.Acknowledge seat seat.doing other
-serving_none at.Snap flush seat other = beginning_none at.Snap flush seat other
-serving_none at.Restart flush seat other = step_none at.Restart seat seat.doing other
+serving_none : (event : NodeEvent) (s : NodeState) (flush : Flush) (seat : Seat) → event ≢ at.Device → MakesNone seat (starve_serving s flush event seat)
+serving_none (at.Submit c) s flush seat other = refl
+serving_none (at.Hear m) s flush seat other = refl
+serving_none (at.Suspect set) s flush seat other = refl
+serving_none at.Tick s flush seat other = refl
+serving_none at.Advance s flush seat other = refl
+serving_none at.Take s flush seat other = beginning_none at.Take flush seat other
+serving_none at.Device s flush seat other = absurd (other refl)
+serving_none at.Mark s flush seat other = marking_none flush seat
+serving_none at.Send s flush seat other = step_none at.Send seat seat.doing other
+serving_none at.Acknowledge s flush seat other = step_none at.Acknowledge seat seat.doing other
+serving_none at.Snap s flush seat other = beginning_none at.Snap flush seat other
+serving_none at.Restart s flush seat other = step_none at.Restart seat seat.doing other
 
 starve_none : (event : NodeEvent) (seat : Seat) (doing : Doing) → event ≢ at.Device → MakesNone seat (starve_doing doing event seat)
 starve_none event seat Stopped other = step_none event seat seat.doing other
 starve_none event seat Faulted other = step_none event seat seat.doing other
 starve_none event seat (Opening phase) other = awaiting_none event phase seat other
-starve_none event seat (Serving s journal flush) other = serving_none event flush seat other
+starve_none event seat (Serving s journal flush) other = serving_none event s flush seat other
 
 -- ---- a device event makes at most one
 

@@ -12,7 +12,7 @@ use Rattle.rr_types.specs.Promises.{all_fit}
 use Rattle.rr_types.specs.declared.promise.Entry.{Entry}
 use Rattle.rr_types.specs.Registry.{Bindings, registry_of}
 use Rattle.rr_model.specs.NodeState.{NodeState, decided_prefix}
-use Rattle.rr_model.specs.NodeStep.{Input, node_step, refusal_of, group_taken, group_put_back, marked_running, running_group, restored, started}
+use Rattle.rr_model.specs.NodeStep.{Input, node_step, input_refusal, refusal_of, group_taken, group_put_back, marked_running, running_group, restored, started}
 use Rattle.rr_model.specs.NodeStays.{StaysMarked}
 use Rattle.rr_model.proofs.NodeSteady.{input_stays, started_stays}
 use Rattle.rr_disk.specs.declared.area.Area.{Area}
@@ -39,7 +39,7 @@ use Rattle.rr_node.specs.declared.serving.Flush.TheVariants as flush
 use Rattle.rr_node.specs.declared.event.NodeEvent.TheVariants as at
 use Rattle.rr_node.specs.declared.event.Outcome.TheVariants.{Quiet, Opened}
 use Rattle.rr_node.specs.Seats as seats
-use Rattle.rr_node.specs.Seats.{Seat, Answer, Journaled, Fails, goes_on, refuse, told, take_up, payload_of, journal_behind}
+use Rattle.rr_node.specs.Seats.{Seat, Answer, Journaled, Fails, goes_on, refuse, told, starve_input, take_up, payload_of, journal_behind}
 use Rattle.rr_node.specs.Views.{NodeDisk, areas_in, IsBeside, journaled_of, flush_of, seat_of, IsJobOf, IsFlushOf, MaySnap, IsServing, IsOpened, CarriesOn, CarriesFailing, Serves, quiet}
 
 -- where the same group runs, a flush stays of it
@@ -131,12 +131,13 @@ serving_stays n p s t j f same h = record {
 pub record IsTold (input : Input) (s t : NodeState) (r : Result (Unit {0}) Refusal) : Type 0 where
   pub ok : OnOk r (t ≡ node_step input s)
   pub allowed : OnOk r (refusal_of input s ≡ None)
+  pub order : (e : Refusal) → input_refusal input s ≡ Some e → r ≡ Err e
   pub refused : IfErr r (λ e. (e ≡ because.OutOfMemory) ⊎ (refusal_of input s ≡ Some e))
   pub err : OnErr r (t ≡ s)
 
 -- the same, of a seat
 abbrev Tells : Input → NodeState → Journal NodeDisk → Flush → Seat → Answer → Type 0
-Tells input s j f seat given = (given ≡ told input s (journaled_of j) (flush_of f) seat) ⊎ (given ≡ refuse because.OutOfMemory seat)
+Tells input s j f seat given = (given ≡ told input s (journaled_of j) (flush_of f) seat) ⊎ (given ≡ starve_input input s seat)
 
 pub told_on : (input : Input) (s t : NodeState) (j : Journal NodeDisk) (f : Flush) (r : Result (Unit {0}) Refusal) (n p : ℕ) → IsTold input s t r → IsServing n p (record { core = s; slots = j; flush = f })
     → Tells input s j f (seat_of n p (does.Serving (record { core = s; slots = j; flush = f }))) (quiet r, seat_of n p (does.Serving (record { core = t; slots = j; flush = f })))
@@ -146,7 +147,14 @@ told_on input s t j f (Ok x) n p h steady =
 told_on input s t j f (Err e) n p h steady = rw h.err (by h.refused, steady)
   where
     by : (e ≡ because.OutOfMemory) ⊎ (refusal_of input s ≡ Some e) → Tells input s j f (seat_of n p (does.Serving (record { core = s; slots = j; flush = f }))) (Err e, seat_of n p (does.Serving (record { core = s; slots = j; flush = f })))
-    by (inl memory) = inr (rw memory refl)
+    by (inl memory) = inr (wants (input_refusal input s) refl)
+      where
+        same : (why : Refusal) → Path (Result (Unit {0}) Refusal) (Err e) (Err why) → e ≡ why
+        same why x = cc
+
+        wants : (o : Option Refusal) → input_refusal input s ≡ o → Path Answer (Err e, seat_of n p (does.Serving (record { core = s; slots = j; flush = f }))) (starve_input input s (seat_of n p (does.Serving (record { core = s; slots = j; flush = f }))))
+        wants None g = rw (memory, g) refl
+        wants (Some why) g = rw (same why (h.order why g), g) refl
     by (inr why) = inl (rw why refl)
 
 -- the marked group leaves none running

@@ -1,5 +1,6 @@
 -- Each event of a node with its disk is a run of the world's steps that keeps them in step.
 use Rattle.std.proofs.Common.{◌≡◌, inl, inr, ℕ, ◌≤◌, Bool, true, false, [], Ok, Err, refl, ap, subst, ◌∙◌, if◌then◌else◌}
+use Rattle.std.specs.Prelude.{unwrap_or}
 use Rattle.rr_types.specs.declared.refusal.Refusal.{Refusal}
 use Rattle.rr_types.specs.declared.refusal.Refusal.TheVariants as because
 use Rattle.rr_model.specs.World.{World}
@@ -17,6 +18,7 @@ use Rattle.rr_node.specs.Seats.{Flush, Resting, Writing, Flushed, Switching, Jou
 use Rattle.rr_node.specs.Worlds.{AreInOrder, EachHoldsSome, HoldsSome, IsDown, InStep}
 use Rattle.rr_node.specs.Runs.{MayCome, MayBe, IsSpelt, GoesOn, StepsInStep}
 use Rattle.rr_model.specs.NodeState.{NodeState}
+use Rattle.rr_model.specs.NodeStep.{Submit, Advance, input_refusal}
 use Rattle.rr_node.proofs.InOrder.{own_image, synced_in_order, rest_image}
 use Rattle.rr_node.proofs.Holding.{seat_holds}
 use Rattle.rr_node.proofs.Going.{stays, given}
@@ -157,12 +159,12 @@ module _ (n p k : ℕ) (few : n ≤ 7) (w : World) (areas : Areas) where
   marking_starves s journal (Switching calls) h = marks_in_step n p k w areas s journal (Switching calls) h
 
   serving_starves : (s : NodeState) (journal : Journaled) (flush : Flush) → InStep n p (seated n p k areas (Serving s journal flush)) w → (event : NodeEvent)
-      → (let x = starve_serving flush event (seated n p k areas (Serving s journal flush)) in IsSpelt x.1.doing → GoesOn n p (MayBe p event) w x.0 x.1)
-  serving_starves s journal flush h (at.Submit c) = λ spelt. refuses n p w (at.Submit c) (seated n p k areas (Serving s journal flush)) because.OutOfMemory h
+      → (let x = starve_serving s flush event (seated n p k areas (Serving s journal flush)) in IsSpelt x.1.doing → GoesOn n p (MayBe p event) w x.0 x.1)
+  serving_starves s journal flush h (at.Submit c) = λ spelt. refuses n p w (at.Submit c) (seated n p k areas (Serving s journal flush)) (unwrap_or (input_refusal (Submit c) s) because.OutOfMemory) h
   serving_starves s journal flush h (at.Hear m) = λ spelt. refuses n p w (at.Hear m) (seated n p k areas (Serving s journal flush)) because.OutOfMemory h
   serving_starves s journal flush h (at.Suspect set) = λ spelt. refuses n p w (at.Suspect set) (seated n p k areas (Serving s journal flush)) because.OutOfMemory h
   serving_starves s journal flush h at.Tick = λ spelt. refuses n p w at.Tick (seated n p k areas (Serving s journal flush)) because.OutOfMemory h
-  serving_starves s journal flush h at.Advance = λ spelt. refuses n p w at.Advance (seated n p k areas (Serving s journal flush)) because.OutOfMemory h
+  serving_starves s journal flush h at.Advance = λ spelt. refuses n p w at.Advance (seated n p k areas (Serving s journal flush)) (unwrap_or (input_refusal Advance s) because.OutOfMemory) h
   serving_starves s journal flush h at.Take = taking_starves s journal flush h
   serving_starves s journal flush h at.Device = λ spelt. starves_in_step n p k w areas s journal h.exists flush h
   serving_starves s journal flush h at.Mark = λ spelt. marking_starves s journal flush h

@@ -1,11 +1,11 @@
 -- A node with its disk, from its first restart on: what each event does to it.
-use Rattle.std.specs.Prelude.{◌≡◌, ◌⊎◌, ℕ, ◌+◌, ◌-◌, ◌^◌, Bool, false, ◌&&◌, ◌==◌, nat_lt, if◌then◌else◌, List, [], ◌∷◌, length, Result, Ok, Err}
+use Rattle.std.specs.Prelude.{◌≡◌, ◌⊎◌, ℕ, ◌+◌, ◌-◌, ◌^◌, Bool, false, ◌&&◌, ◌==◌, nat_lt, if◌then◌else◌, List, [], ◌∷◌, length, unwrap_or, Result, Ok, Err}
 use Rattle.std.specs.Option.{option_map_or}
 use Rattle.rr_types.specs.declared.refusal.Refusal.{Refusal}
 use Rattle.rr_types.specs.declared.refusal.Refusal.TheVariants as because
 use Rattle.rr_types.specs.Registry.{registry_of, reply_of}
 use Rattle.rr_model.specs.NodeState.{NodeState, decided_prefix}
-use Rattle.rr_model.specs.NodeStep.{Input, Submit, Hear, Suspect, Tick, Advance, node_step, refusal_of, group_taken, marked_running, running_group, next_leaving, message_left, next_acknowledged, acknowledged, started}
+use Rattle.rr_model.specs.NodeStep.{Input, Submit, Hear, Suspect, Tick, Advance, node_step, input_refusal, refusal_of, group_taken, marked_running, running_group, next_leaving, message_left, next_acknowledged, acknowledged, started}
 use Rattle.rr_disk.specs.declared.area.Area.{Area}
 use Rattle.rr_disk.specs.Areas.{Areas, extent_of, read_of, at_rest, synced}
 use Rattle.rr_disk.specs.Counts.{counted}
@@ -293,27 +293,31 @@ starve_marking (Writing calls) seat = seat_step at.Mark seat
 starve_marking Flushed seat = refuse because.OutOfMemory seat
 starve_marking (Switching calls) seat = seat_step at.Mark seat
 
+-- an input where memory is wanting: it is refused for that, unless it is refused for what it is
+abbrev pub starve_input : Input → NodeState → Seat → Answer
+starve_input input s seat = refuse (unwrap_or (input_refusal input s) because.OutOfMemory) seat
+
 -- an event at a serving node where memory is wanting: inputs are refused; sending, acknowledging and a restart take none
-abbrev pub starve_serving : Flush → NodeEvent → Seat → Answer
-starve_serving flush (at.Submit c) seat = refuse because.OutOfMemory seat
-starve_serving flush (at.Hear m) seat = refuse because.OutOfMemory seat
-starve_serving flush (at.Suspect set) seat = refuse because.OutOfMemory seat
-starve_serving flush at.Tick seat = refuse because.OutOfMemory seat
-starve_serving flush at.Advance seat = refuse because.OutOfMemory seat
-starve_serving flush at.Take seat = starve_beginning flush at.Take seat
-starve_serving flush at.Device seat = starve_flush flush seat
-starve_serving flush at.Mark seat = starve_marking flush seat
-starve_serving flush at.Send seat = seat_step at.Send seat
-starve_serving flush at.Acknowledge seat = seat_step at.Acknowledge seat
-starve_serving flush at.Snap seat = starve_beginning flush at.Snap seat
-starve_serving flush at.Restart seat = seat_step at.Restart seat
+abbrev pub starve_serving : NodeState → Flush → NodeEvent → Seat → Answer
+starve_serving s flush (at.Submit c) seat = starve_input (Submit c) s seat
+starve_serving s flush (at.Hear m) seat = starve_input (Hear m) s seat
+starve_serving s flush (at.Suspect set) seat = starve_input (Suspect set) s seat
+starve_serving s flush at.Tick seat = starve_input Tick s seat
+starve_serving s flush at.Advance seat = starve_input Advance s seat
+starve_serving s flush at.Take seat = starve_beginning flush at.Take seat
+starve_serving s flush at.Device seat = starve_flush flush seat
+starve_serving s flush at.Mark seat = starve_marking flush seat
+starve_serving s flush at.Send seat = seat_step at.Send seat
+starve_serving s flush at.Acknowledge seat = seat_step at.Acknowledge seat
+starve_serving s flush at.Snap seat = starve_beginning flush at.Snap seat
+starve_serving s flush at.Restart seat = seat_step at.Restart seat
 
 -- an event where memory is wanting, by what the node does: one that is down or has failed takes none
 abbrev pub starve_doing : Doing → NodeEvent → Seat → Answer
 starve_doing Stopped event seat = seat_step event seat
 starve_doing Faulted event seat = seat_step event seat
 starve_doing (Opening phase) event seat = starve_awaiting phase event seat
-starve_doing (Serving s journal flush) event seat = starve_serving flush event seat
+starve_doing (Serving s journal flush) event seat = starve_serving s flush event seat
 
 -- what an event answers, and the node after it, where memory is wanting for it
 abbrev pub starve : NodeEvent → Seat → Answer

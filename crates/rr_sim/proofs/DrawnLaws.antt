@@ -18,7 +18,7 @@ use Rattle.rr_sim.specs.Random.{openings, opened, seeded, drawn, behind, StepsIn
 use Rattle.rr_sim.specs.Told.{told, DrawsAll, IsRandomRun}
 use Rattle.rr_sim.proofs.CleanLaws.{only_one}
 use Rattle.rr_sim.proofs.DrawingLemmas.{each_of_both, openings_count, openings_from}
-use Rattle.rr_sim.proofs.HeadlineLaws.{is_report, is_world_run, agrees}
+use Rattle.rr_sim.proofs.HeadlineLaws.{is_world_run, agrees}
 use Rattle.rr_sim.proofs.NodeLaws.{node_laws}
 use Rattle.rr_sim.proofs.RealTimeLaws.{keeps_real_time}
 use Rattle.rr_sim.proofs.ToldLaws.{behind_lines, stepped, whole, spelt_behind, told_append, lines_push}
@@ -147,7 +147,7 @@ is_random_run n seed steps g kept before schedule report whole_report all decide
       world = world;
       one_list = agrees n events of_report world;
       real_time = keeps_real_time n events of_report world;
-      clean = only_one n events of_report (is_report n n (node_laws n few) events d.at_the_end of_report each leads refl by_the_wire);
+      clean = only_one n events of_report world;
       told =
           is ∙ ap (λ (t : List ℕ). (schedule ++ line (codes "report" ∷ [])) ++ t) (ends ∙ ap (λ (t : List ℕ). t ++ line (codes "decided" ∷ decimal (length decided) ∷ []) ++ decided_lines 0 decided) d.text)
           ∙ ap (λ (t : List ℕ). t ++ line (codes "report" ∷ []) ++ report_text of_report) text_is;

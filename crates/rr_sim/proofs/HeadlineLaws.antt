@@ -12,7 +12,7 @@ use Rattle.rr_model.proofs.Soundness.{sound}
 use Rattle.rr_text.specs.declared.event.Event.{Event}
 use Rattle.rr_text.specs.Reported.{Reported}
 use Rattle.rr_text.specs.Scheduled.{IsEvent}
-use Rattle.rr_sim.specs.Clusters.{Cluster, new_cluster, Leads, LeadsSpelt, IsReportOf}
+use Rattle.rr_sim.specs.Clusters.{Cluster, new_cluster, Leads, LeadsSpelt}
 use Rattle.rr_sim.specs.Headline.{told_in, TakesAlong, in_turn, IsRunOfTheWorld, AgreesWithOneList}
 use Rattle.rr_sim.proofs.ClusterLaws.{IsClusterInStep, NodeLaws, step_takes, starts_in_step}
 use Rattle.rr_sim.proofs.DecidedLaws.{decides_as_listed}
@@ -48,9 +48,6 @@ module _ (n m : ℕ) (laws : NodeLaws n) where
       (lines : report.lines ≡ new.lines) (decided : IsDecidedList n new.wire report.decided) where
     all : TookAll n 2 events (new_cluster n) empty_world new
     all = take_all 2 events (new_cluster n) new empty_world valid (starts_in_step n laws) leads
-
-    pub is_report : IsReportOf n events report
-    is_report = record { at_the_end = new; leads = leads_too 2 events (new_cluster n) new leads; lines = lines; decided = decided }
 
     pub is_world_run : IsRunOfTheWorld n events report
     unfolding all

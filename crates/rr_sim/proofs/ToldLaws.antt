@@ -25,7 +25,7 @@ use Rattle.rr_text.proofs.LineReading.{SoFar, so_far_none, so_far_on, so_far_all
 use Rattle.rr_sim.specs.Clusters.{Cluster, new_cluster, note_of, with_answer, at_node, fail_at, hear_at, event_step, Steps, LeadsSpelt, IsSpeltBehind}
 use Rattle.rr_sim.specs.Told.{told, TellsAll, IsReportOn}
 use Rattle.rr_sim.proofs.CleanLaws.{only_one}
-use Rattle.rr_sim.proofs.HeadlineLaws.{is_report, is_world_run, agrees}
+use Rattle.rr_sim.proofs.HeadlineLaws.{is_world_run, agrees}
 use Rattle.rr_sim.proofs.NodeLaws.{node_laws}
 use Rattle.rr_sim.proofs.RealTimeLaws.{keeps_real_time}
 
@@ -190,6 +190,6 @@ is_report_on n bytes rest kept text all decided some few split t its_list is =
       world = world;
       one_list = agrees n t.events report world;
       real_time = keeps_real_time n t.events report world;
-      clean = only_one n t.events report (is_report n n (node_laws n few) t.events t.at_the_end report t.printed.each t.leads refl by_the_wire);
+      clean = only_one n t.events report world;
       told = is ∙ ap (λ (w : List ℕ). w ++ line (codes "decided" ∷ decimal (length decided) ∷ []) ++ decided_lines 0 decided) t.text;
     }

@@ -1,13 +1,15 @@
 -- What a node answers where memory is wanting is told from what it answers where memory is there, or is the same.
-use Rattle.std.proofs.Common.{◌≡◌, ◌⊎◌, inl, inr, ℕ, Bool, true, false, List, [], ◌∷◌, Err, refl, ap, sym, ◌∙◌}
+use Rattle.std.proofs.Common.{◌≡◌, ◌⊎◌, inl, inr, ℕ, Bool, true, false, List, [], ◌∷◌, Err, Option, None, Some, refl, ap, sym, ◌∙◌}
 use Rattle.std.specs.Prelude.{if◌then◌else◌}
 use Rattle.rr_types.specs.declared.refusal.Refusal.{Refusal}
 use Rattle.rr_types.specs.declared.refusal.Refusal.TheVariants as because
+use Rattle.rr_model.specs.NodeState.{NodeState}
+use Rattle.rr_model.specs.NodeStep.{Input, Submit, Advance, input_refusal, refusal_of}
 use Rattle.rr_journal.specs.Calls.{Call, Read, Write, Sync, after_call, after_starved, after_failing}
 use Rattle.rr_journal.specs.Openings.{Phase, After, Goes, Opens, Stops, due_call, after_opening_call}
 use Rattle.rr_node.specs.declared.event.NodeEvent.{NodeEvent}
 use Rattle.rr_node.specs.declared.event.NodeEvent.TheVariants as node
-use Rattle.rr_node.specs.Seats.{Flush, Resting, Writing, Flushed, Switching, Doing, Stopped, Faulted, Opening, Serving, Seat, Answer, called, read_by, opens_on, by_doing, seat_step, fall, grows, starve, starve_doing, starve_serving, starve_marking, starve_beginning, starve_awaiting, starve_opening, starve_end, starve_call, starve_flush, fail_flush, fail_doing, seat_fails, starve_fails, after_failing_starved}
+use Rattle.rr_node.specs.Seats.{Flush, Resting, Writing, Flushed, Switching, Doing, Stopped, Faulted, Opening, Serving, Journaled, Seat, Answer, called, read_by, opens_on, told, by_doing, seat_step, fall, grows, starve, starve_doing, starve_input, starve_serving, starve_marking, starve_beginning, starve_awaiting, starve_opening, starve_end, starve_call, starve_flush, fail_flush, fail_doing, seat_fails, starve_fails, after_failing_starved}
 
 -- the answer is a refusal for want of memory, or by the device
 pub record IsWanting (answer : Answer) : Type 0 where
@@ -80,25 +82,37 @@ wanting_marking (Writing calls) seat = inr refl
 wanting_marking Flushed seat = inl (no_memory _ refl)
 wanting_marking (Switching calls) seat = inr refl
 
-wanting_serving : (flush : Flush) (event : NodeEvent) (seat : Seat) → WantsOrSame event seat (starve_serving flush event seat)
-wanting_serving flush (node.Submit c) seat = inl (no_memory _ refl)
-wanting_serving flush (node.Hear m) seat = inl (no_memory _ refl)
-wanting_serving flush (node.Suspect set) seat = inl (no_memory _ refl)
-wanting_serving flush node.Tick seat = inl (no_memory _ refl)
-wanting_serving flush node.Advance seat = inl (no_memory _ refl)
-wanting_serving flush node.Take seat = wanting_beginning flush node.Take seat
-wanting_serving flush node.Device seat = wanting_flush flush seat
-wanting_serving flush node.Mark seat = wanting_marking flush seat
-wanting_serving flush node.Send seat = inr refl
-wanting_serving flush node.Acknowledge seat = inr refl
-wanting_serving flush node.Snap seat = wanting_beginning flush node.Snap seat
-wanting_serving flush node.Restart seat = inr refl
+refused_for : (input : Input) (s : NodeState) (why : Refusal) → input_refusal input s ≡ Some why → refusal_of input s ≡ Some why
+unfolding refusal_of
+refused_for input s why e = rw e refl
+
+-- an input that is refused for what it is is refused for that where memory is wanting too
+wanting_input : (input : Input) (event : NodeEvent) (s : NodeState) (journal : Journaled) (flush : Flush) (seat : Seat) → seat_step event seat ≡ told input s journal flush seat → WantsOrSame event seat (starve_input input s seat)
+wanting_input input event s journal flush seat steps = by (input_refusal input s) refl
+  where
+    by : (o : Option Refusal) → input_refusal input s ≡ o → WantsOrSame event seat (starve_input input s seat)
+    by None e = inl (no_memory _ (rw e refl))
+    by (Some why) e = inr (sym (steps ∙ rw (refused_for input s why e, e) refl))
+
+wanting_serving : (s : NodeState) (journal : Journaled) (flush : Flush) (event : NodeEvent) (seat : Seat) → seat.doing ≡ Serving s journal flush → WantsOrSame event seat (starve_serving s flush event seat)
+wanting_serving s journal flush (node.Submit c) seat does = wanting_input (Submit c) (node.Submit c) s journal flush seat (ap (by_doing (node.Submit c) seat) does)
+wanting_serving s journal flush (node.Hear m) seat does = inl (no_memory _ refl)
+wanting_serving s journal flush (node.Suspect set) seat does = inl (no_memory _ refl)
+wanting_serving s journal flush node.Tick seat does = inl (no_memory _ refl)
+wanting_serving s journal flush node.Advance seat does = wanting_input Advance node.Advance s journal flush seat (ap (by_doing node.Advance seat) does)
+wanting_serving s journal flush node.Take seat does = wanting_beginning flush node.Take seat
+wanting_serving s journal flush node.Device seat does = wanting_flush flush seat
+wanting_serving s journal flush node.Mark seat does = wanting_marking flush seat
+wanting_serving s journal flush node.Send seat does = inr refl
+wanting_serving s journal flush node.Acknowledge seat does = inr refl
+wanting_serving s journal flush node.Snap seat does = wanting_beginning flush node.Snap seat
+wanting_serving s journal flush node.Restart seat does = inr refl
 
 wanting_doing : (doing : Doing) (event : NodeEvent) (seat : Seat) → seat.doing ≡ doing → WantsOrSame event seat (starve_doing doing event seat)
 wanting_doing Stopped event seat does = inr refl
 wanting_doing Faulted event seat does = inr refl
 wanting_doing (Opening phase) event seat does = wanting_awaiting phase event seat does
-wanting_doing (Serving s journal flush) event seat does = wanting_serving flush event seat
+wanting_doing (Serving s journal flush) event seat does = wanting_serving s journal flush event seat does
 
 -- each answer where memory is wanting is such a refusal, or the answer where it is there
 pub wanting_or_same : (event : NodeEvent) (seat : Seat) → IsWanting (starve event seat) ⊎ (starve event seat ≡ seat_step event seat)

@@ -123,13 +123,6 @@ TellsOfWant lines k = (at : ℕ) × ((slice_get lines k ≡ Some (line.Refuse at
 abbrev pub IsClean : Reported → Type 0
 IsClean report = (k : ℕ) → TellsOfWant report.lines k → ⊥
 
--- the report of a schedule run of n nodes: the events lead to its lines, and it ends with the decided list of the wire
-pub record IsReportOf (n : ℕ) (events : List Event) (report : Reported) : Type 0 where
-  pub at_the_end : Cluster
-  pub leads : Leads 2 events (new_cluster n) at_the_end
-  pub lines : report.lines ≡ at_the_end.lines
-  pub decided : IsDecidedList n at_the_end.wire report.decided
-
 -- a clean report is that of the one run in which memory was there for each event: its lines are a function of the schedule
 abbrev pub IsOnlyOneIfClean : ℕ → List Event → Reported → Type 0
 IsOnlyOneIfClean n events report = IsClean report →

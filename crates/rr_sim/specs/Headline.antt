@@ -91,9 +91,10 @@ DecidesAsListed list Faulted = Unit {0}
 DecidesAsListed list (Opening phase) = Unit {0}
 DecidesAsListed list (Serving s journal flush) = decided_prefix s ≡ take (length (decided_prefix s)) list
 
--- the schedule run of n nodes is a sound run of the world, of a piece for each event; cluster and world are alike before
--- the first event and behind each; the report has the lines of the last cluster and ends with the decided list of its
--- wire, of which each node there has decided a beginning
+-- the report is that of a schedule run of n nodes, which is a sound run of the world, of a piece for each event: by the
+-- events the clusters follow one another from nodes that are all down over empty disks; cluster and world are alike
+-- before the first event and behind each; the report has the lines of the last cluster and ends with the decided list of
+-- its wire, of which each node there has decided a beginning
 pub record IsRunOfTheWorld (n : ℕ) (events : List Event) (report : Reported) : Type 0 where
   pub pieces : List (List Step)
   pub at_the_end : Cluster

@@ -3,7 +3,7 @@
 ghost use Rattle.std.specs.Prelude.{◌≡◌, ◌↔◌, ◌<◌, ◌≤◌, ◌⊎◌, ℕ, length, Some, OnOk, IfOk, IfErr, IsErrOf};
 ghost use Rattle.rr_sim.specs.Clusters as cluster;
 ghost use Rattle.std.specs.List.{AllByRecursion};
-ghost use Rattle.rr_sim.specs.Clusters.{first_fault, Leads, LeadsSpelt, IsReportOf, IsOnlyOneIfClean, new_cluster};
+ghost use Rattle.rr_sim.specs.Clusters.{first_fault, Leads, LeadsSpelt, IsOnlyOneIfClean, new_cluster};
 ghost use Rattle.rr_sim.specs.Headline.{IsRunOfTheWorld, AgreesWithOneList, KeepsRealTime};
 ghost use Rattle.rr_text.specs.Scheduled.{node_of, IsEvent};
 
@@ -24,7 +24,6 @@ pub fn simulate(alloc: Global, nodes: u8, schedule: &Schedule) -> Result<Report,
     ensures bad_nodes { IsErrOf result Refusal.BadNodes ↔ ((nodes < 1) ⊎ (7 < nodes)) }
     ensures bad_event { (line : ℕ) → IsErrOf result (Refusal.BadEvent line)
         ↔ ((1 ≤ nodes) × (nodes ≤ 7) × (first_fault nodes 2 schedule.now.events ≡ Some line)) }
-    ensures report { IfOk result (λ report. IsReportOf nodes schedule.now.events report) }
     ensures world { IfOk result (λ report. IsRunOfTheWorld nodes schedule.now.events report) }
     ensures one_list { IfOk result (λ report. AgreesWithOneList schedule.now.events report) }
     ensures real_time { IfOk result (λ report. KeepsRealTime nodes schedule.now.events report) }
@@ -104,7 +103,6 @@ fn run(alloc: Global, nodes: Nodes, events: &[Event]) -> Result<Report, Refusal>
     requires short { length events.now ≤ 1000000 }
     requires few { nodes ≤ 7 }
     requires ranges { (m : ℕ) × AllByRecursion (IsEvent m) events.now }
-    ensures report { IfOk result (λ report. IsReportOf nodes events.now report) }
     ensures world { IfOk result (λ report. IsRunOfTheWorld nodes events.now report) }
     ensures err { IfErr result (λ e. e ≡ Refusal.OutOfMemory) }
 {

@@ -1,6 +1,7 @@
 //! What events do for which memory is wanting.
 
 use super::{Answer, Doing, Job, Node, Phase};
+use crate::consensus::Core;
 use crate::disk::Disk;
 use crate::journal::FrameJob;
 use crate::schedule::Action;
@@ -24,7 +25,9 @@ impl Node {
         let want = match &self.doing {
             Doing::Stopped | Doing::Failed => Want::Spared,
             Doing::Opening(phase) => starve_opening(phase, action, &mut self.disk),
-            Doing::Serving(serving) => starve_serving(&serving.job, action, &mut self.disk),
+            Doing::Serving(serving) => {
+                starve_serving(&serving.core, &serving.job, action, &mut self.disk)
+            }
         };
         match want {
             Want::Spared => None,
@@ -54,10 +57,12 @@ fn starve_opening(phase: &Phase, action: &Action, disk: &mut Disk) -> Want {
     }
 }
 
-/// Of a node that serves, inputs take memory, the beginning of a job, the
-/// marking of a group, and writes that make their area longer.
-fn starve_serving(job: &Job, action: &Action, disk: &mut Disk) -> Want {
+/// Of a node that serves, inputs take memory, unless they are refused for what they are,
+/// the beginning of a job, the marking of a group, and writes that make their area longer.
+fn starve_serving(core: &Core, job: &Job, action: &Action, disk: &mut Disk) -> Want {
     match (action, job) {
+        (Action::Submit(command), _) if core.is_full_for(command.request) => Want::Spared,
+        (Action::Advance, _) if core.is_in_last_round() => Want::Spared,
         (Action::Submit(_) | Action::Hear(_) | Action::Suspect(_), _) => Want::Refused,
         (Action::Tick | Action::Advance, _) => Want::Refused,
         (Action::Take | Action::Snap, Job::Resting) => Want::Refused,

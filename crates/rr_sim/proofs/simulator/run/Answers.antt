@@ -3,7 +3,7 @@ use Rattle.rr_types.specs.declared.command.Command.{Command}
 use Rattle.rr_types.specs.declared.message.Message.{Message}
 use Rattle.rr_model.specs.Sound.{IsDecidedList}
 use Rattle.rr_text.specs.Reported.{Reported}
-use Rattle.rr_sim.proofs.HeadlineLaws.{is_report, is_world_run}
+use Rattle.rr_sim.proofs.HeadlineLaws.{is_world_run}
 use Rattle.rr_sim.proofs.NodeLaws.{node_laws}
 use Rattle.rr_sim.proofs.simulator.run.Goals as goal
 
@@ -14,11 +14,6 @@ its_list : (c : goal.After-new) → IsDecidedList c.args.nodes c.in_ok-cluster.c
 its_list c =
     subst (λ (list : List Command). IsDecidedList c.args.nodes c.in_ok-cluster.cluster.wire list) (sym (ap (λ (r : Reported). r.decided) c.new.ensures))
     (subst (λ (wire : List Message). IsDecidedList c.args.nodes wire c.in_ok-decided.decided.items) c.wire.ensures c.in_ok-decided.ensures.list)
-
-pub returns-clause-report : goal.returns-clause-report
-returns-clause-report c =
-    let valid = c.requires.ranges in
-    is_report c.args.nodes valid.0 (node_laws c.args.nodes c.requires.few) c.args.events.now c.in_ok-cluster.cluster c.new.result valid.1 c.in_ok-cluster.ensures.spelt (same_lines c) (its_list c)
 
 pub returns-clause-world : goal.returns-clause-world
 returns-clause-world c =

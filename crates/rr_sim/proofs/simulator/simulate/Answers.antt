@@ -19,4 +19,4 @@ pub returns-in-None-clause-real_time : goal.returns-in-None-clause-real_time
 returns-in-None-clause-real_time c = run_keeps_real_time c.in-Ok.count c.args.nodes c.events-events.result.now c.args.schedule.now.events c.run.result c.in-Ok.ensures.value c.events-events.ensures.value c.run.ensures.world
 
 pub returns-in-None-clause-clean : goal.returns-in-None-clause-clean
-returns-in-None-clause-clean c = is_only_one c.in-Ok.count c.args.nodes c.events-events.result.now c.args.schedule.now.events c.run.result c.in-Ok.ensures.value c.events-events.ensures.value c.run.ensures.report
+returns-in-None-clause-clean c = is_only_one c.in-Ok.count c.args.nodes c.events-events.result.now c.args.schedule.now.events c.run.result c.in-Ok.ensures.value c.events-events.ensures.value c.run.ensures.world
