@@ -10,9 +10,9 @@ mod streams;
 mod words;
 
 pub use audit::audit_on;
-pub use draw::random_run;
+pub use draw::{nodes_of, random_run};
 pub use program::{execute, report_on, run};
-pub use refusals::{print_refusal, status};
+pub use refusals::{end_by_refusal, print_refusal, status};
 pub use show::show_disk;
-pub use streams::end_without_words;
-pub use words::{Task, read_words};
+pub use streams::{end_by_stream, end_by_text, end_without_words};
+pub use words::{Task, end_by_words, read_words};
