@@ -101,7 +101,7 @@ pub fn execute<R: Files + AllocGlobal, S: AsStr, I: Source, O: Sink, E: Write>(
         Ok(Task::Draw(_, _, None)) => end_without_numbers(err),
         Ok(Task::Audit(None)) => audit_input(rt.alloc(), "standard input", input, out, err),
         Ok(Task::Audit(Some(path))) => audit_file(rt, path, out, err),
-        Ok(Task::Run(_, _, _)) => end_without_threads(err),
+        Ok(Task::Run(_, _, _, _)) => end_without_threads(err),
         Err(error) => end_by_words(rt.alloc(), out, err, &error),
     }
 }

@@ -124,12 +124,12 @@ fn audit_line<'a>(alloc: Global) -> Result<Command<'a>, AllocError>
         .arg(file)
 }
 
-// An option that has to be there.
-fn option_arg<'a>(alloc: Global, id: &'a str, long: &'a str, help: &'a str) -> Arg<'a>
-    ensures rule { rule_of result ≡ option_rule id.entry.now long.entry.now }
+// An option, which has to be there or may be left out.
+fn option_arg<'a>(alloc: Global, id: &'a str, long: &'a str, help: &'a str, wanted: bool) -> Arg<'a>
+    ensures rule { rule_of result ≡ option_rule id.entry.now long.entry.now wanted }
     ensures local { result.global ≡ false }
 {
-    Arg::new(alloc, id).long(long).help(help).required(true)
+    Arg::new(alloc, id).long(long).help(help).required(wanted)
 }
 
 // The command line of `rr run`.
@@ -138,13 +138,21 @@ fn run_line<'a>(alloc: Global) -> Result<Command<'a>, AllocError>
     ensures local { IfOk result (λ c. (out-Command c).has_globals ≡ false) }
 {
     let nodes = number_arg(alloc, "NODES", "nodes", "How many nodes there are", 1, 7);
-    let dir = option_arg(alloc, "DIR", "dir", "The folder of the nodes' folders");
-    let script = option_arg(alloc, "FILE", "script", "The script");
+    let dir = option_arg(
+        alloc,
+        "DIR",
+        "dir",
+        "The folder of the nodes' folders",
+        true,
+    );
+    let script = option_arg(alloc, "SCRIPT", "script", "The script", true);
+    let tape = option_arg(alloc, "TAPE", "tape", "Where the tape is written", false);
     Command::new(alloc, "run")
         .about("Runs nodes in threads over folders, and prints the answers to a script")
         .arg(nodes)?
         .arg(dir)?
-        .arg(script)
+        .arg(script)?
+        .arg(tape)
 }
 
 /// What words ask for.
@@ -158,8 +166,9 @@ pub enum Task<'a> {
     Draw(Option<&'a str>, Option<&'a str>, Option<&'a str>),
     /// `rr audit [FILE]`: whether the events are what nodes do of the tape in this file, or else in standard input.
     Audit(Option<&'a str>),
-    /// `rr run --nodes NODES --dir DIR --script FILE`: a run of nodes in threads by the script in this file.
-    Run(Option<&'a str>, Option<&'a str>, Option<&'a str>),
+    /// `rr run --nodes NODES --dir DIR --script SCRIPT [--tape TAPE]`: a run of nodes in threads by the script in this
+    /// file, and its tape into this file.
+    Run(Option<&'a str>, Option<&'a str>, Option<&'a str>, Option<&'a str>),
 }
 
 // The file that a word names. None stands for standard input: the word is a hyphen or isn't there.
@@ -198,7 +207,8 @@ pub fn read_words<'a, S: AsStr>(alloc: Global, words: &'a [S]) -> Result<Task<'a
         return Ok(Task::Run(
             running.get_str("NODES"),
             running.get_str("DIR"),
-            running.get_str("FILE"),
+            running.get_str("SCRIPT"),
+            running.get_str("TAPE"),
         ));
     }
     match matches.subcommand() {

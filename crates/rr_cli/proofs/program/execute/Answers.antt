@@ -102,5 +102,5 @@ returns-in-Ok-Draw-default-default-None-clause-ends g c =
 pub returns-in-Ok-Run-clause-ends : goal.returns-in-Ok-Run-clause-ends
 returns-in-Ok-Run-clause-ends g c =
     let w = c.in-Ok-Run in
-    let task : task_of (map g.S.AsStr.text c.args.words.now) ≡ Run (text_of w.field-0-0) (text_of w.field-0-1) (text_of w.field-0-2) = sym w.ensures.task ∙ ap task_in w.field-0-is in
-    without_threads (text_of w.field-0-0) (text_of w.field-0-1) (text_of w.field-0-2) w.ensures.faults task c.end_without_threads.ensures refl
+    let task : task_of (map g.S.AsStr.text c.args.words.now) ≡ Run (text_of w.field-0-0) (text_of w.field-0-1) (text_of w.field-0-2) (text_of w.field-0-3) = sym w.ensures.task ∙ ap task_in w.field-0-is in
+    without_threads (text_of w.field-0-0) (text_of w.field-0-1) (text_of w.field-0-2) (text_of w.field-0-3) w.ensures.faults task c.end_without_threads.ensures refl
