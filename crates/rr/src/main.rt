@@ -1,7 +1,7 @@
-//! The program `rr`: its words and streams, handed to `rr_cli`.
+//! The program `rr`: its words, its streams and its threads, handed to `rr_run`.
 #![tactic(auto)]
 
-use rr_cli::run;
+use rr_run::run;
 use rr_stream::Counted;
 use std::process::ExitCode;
 use std::{env, io};

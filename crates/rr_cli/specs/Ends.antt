@@ -21,7 +21,7 @@ use Rattle.rr_image.specs.declared.inspection.AreaReport.{AreaReport}
 use Rattle.rr_image.specs.Inspect.{Tells, Breaks, inspected}
 use Rattle.rr_cli.specs.Areas.{areas_text}
 use Rattle.rr_cli.specs.Draws.{AreNumbers}
-use Rattle.rr_cli.specs.Lines.{Task, Simulate, Show, Draw, Audit}
+use Rattle.rr_cli.specs.Lines.{Task, Simulate, Show, Draw, Audit, Run}
 use Rattle.rr_cli.specs.Refusals.{status_of}
 use Rattle.rr_cli.specs.Tapes.{yes_text}
 
@@ -111,3 +111,4 @@ pub data EndsBy (faults : Kinds) (task : Task) (from to : Reading) (status : ℕ
   without_numbers : (of_seed of_steps of_nodes : Option Text) → faults ≡ [] → task ≡ Draw of_seed of_steps of_nodes → ((s k n : Text) → task ≡ Draw (Some s) (Some k) (Some n) → ⊥) → status ≡ 2 → new ≡ old → EndsBy faults task from to status old new
   by_tape_in_standard_input : faults ≡ [] → task ≡ Audit None → EndsOnInput EndsOnTape from to status old new → EndsBy faults task from to status old new
   by_tape_in_a_file : (path : Text) → faults ≡ [] → task ≡ Audit (Some path) → EndsOnFile EndsOnTape status old new → EndsBy faults task from to status old new
+  without_threads : (nodes dir script tape : Option Text) → faults ≡ [] → task ≡ Run nodes dir script tape → status ≡ 2 → new ≡ old → EndsBy faults task from to status old new

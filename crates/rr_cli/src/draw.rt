@@ -38,6 +38,18 @@ fn number_in(text: &str, least: u64, most: u64) -> Option<u64>
     }
 }
 
+/// The number of nodes, from 1 to 7, that a word names.
+pub fn nodes_of(word: &str) -> Option<Nodes>
+    ensures some { IfSome result (λ n. IsNumberIn 1 7 word.now n) }
+    ensures none { result ≡ None → (n : ℕ) → IsNumberIn 1 7 word.now n → ⊥ }
+{
+    let nodes = number_in(word, 1, 7)?;
+    match Nodes::new(nodes as u8) {
+        Ok(nodes) => Some(nodes),
+        Err(_) => unreachable!(),
+    }
+}
+
 // The numbers that three words name.
 fn numbers_of(seed: &str, steps: &str, nodes: &str) -> Option<Draw>
     ensures some { IfSome result (λ d. AreNumbers seed.now steps.now nodes.now d.seed d.steps d.nodes) }
@@ -46,15 +58,9 @@ fn numbers_of(seed: &str, steps: &str, nodes: &str) -> Option<Draw>
 {
     let seed = number_in(seed, 0, u64::MAX)?;
     let steps = number_in(steps, 0, u64::from(MAX_STEPS))?;
-    let nodes = number_in(nodes, 1, 7)?;
-    match Nodes::new(nodes as u8) {
-        Ok(nodes) => Some(Draw {
-            nodes,
-            seed,
-            steps: steps as u32,
-        }),
-        Err(_) => unreachable!(),
-    }
+    let nodes = nodes_of(nodes)?;
+    let steps = steps as u32;
+    Some(Draw { nodes, seed, steps })
 }
 
 // Prints a random schedule and the report of its run.

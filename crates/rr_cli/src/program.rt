@@ -10,7 +10,7 @@ use crate::audit::{audit_file, audit_input};
 use crate::draw::{draw_by_words, end_without_numbers};
 use crate::refusals::end_by_schedule_fault;
 use crate::show::{end_without_folder, show_folder};
-use crate::streams::{end_by_stream, end_by_text, end_without_words};
+use crate::streams::{end_by_stream, end_by_text, end_without_threads, end_without_words};
 use crate::words::{Task, end_by_words, read_words};
 use rr_sim::report_on;
 use rr_stream::{Counted, Sink, Source, read_all};
@@ -84,6 +84,7 @@ pub fn execute<R: Files + AllocGlobal, S: AsStr, I: Source, O: Sink, E: Write>(
         Ok(Task::Draw(_, _, None)) => end_without_numbers(err),
         Ok(Task::Audit(None)) => audit_input(rt.alloc(), "standard input", input, out, err),
         Ok(Task::Audit(Some(path))) => audit_file(rt, path, out, err),
+        Ok(Task::Run(_, _, _, _)) => end_without_threads(err),
         Err(error) => end_by_words(rt.alloc(), out, err, &error),
     }
 }

@@ -42,8 +42,8 @@ pub fn print_refusal<W: Write>(err: &mut W, refusal: &Refusal) -> io::Result<()>
     }
 }
 
-// Ends by a refusal. Where its line can't be printed the status still tells.
-pub(crate) fn end_by_refusal<E: Write>(err: &mut E, refusal: &Refusal) -> u8
+/// Ends by a refusal: prints its line, and gives its status. Where the line can't be printed the status still tells.
+pub fn end_by_refusal<E: Write>(err: &mut E, refusal: &Refusal) -> u8
     ensures { result ≡ status_of refusal.now }
 {
     let _ = print_refusal(err, refusal);

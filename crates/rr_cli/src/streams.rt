@@ -11,8 +11,8 @@ use rr_types::Refusal;
 use std::io;
 use std::io::{ErrorKind, Write};
 
-// Prints a text on standard output, and ends with 0 where that has taken it.
-pub(crate) fn end_by_text<O: Sink, E: Write>(out: &mut O, err: &mut E, text: &[u8]) -> u8
+/// Prints a text on standard output, and ends with 0 where that has taken it, with 5 or 6 where it failed.
+pub fn end_by_text<O: Sink, E: Write>(out: &mut O, err: &mut E, text: &[u8]) -> u8
     ensures ends { Prints text.now result (O.printing out.old) (O.printing out.new) }
     ensures quiet { result ≡ 0 → Keeps (E.contents err.old) (E.contents err.new) }
 {
@@ -22,8 +22,8 @@ pub(crate) fn end_by_text<O: Sink, E: Write>(out: &mut O, err: &mut E, text: &[u
     }
 }
 
-// Ends by a file or stream of this name that can't be read or written.
-pub(crate) fn end_by_stream<E: Write>(err: &mut E, name: &str, error: &io::Error) -> u8
+/// Ends by a file or stream of this name that can't be read or written: with 6 for want of memory, else with 5.
+pub fn end_by_stream<E: Write>(err: &mut E, name: &str, error: &io::Error) -> u8
     ensures memory { error_kind error.now ≡ ErrorKind.OutOfMemory → result ≡ 6 }
     ensures device { error_kind error.now ≢ ErrorKind.OutOfMemory → result ≡ 5 }
     ensures status { IsStreamStatus result }
@@ -44,5 +44,13 @@ pub fn end_without_words<E: Write>(err: &mut E, error: &io::Error) -> u8
         return end_by_refusal(err, &Refusal::OutOfMemory);
     }
     let _ = writeln!(err, "rr: words: {error}");
+    2
+}
+
+// Ends where a run is asked for of a program without threads.
+pub(crate) fn end_without_threads<E: Write>(err: &mut E) -> u8
+    ensures { result ≡ 2 }
+{
+    let _ = writeln!(err, "rr: run: there are no threads");
     2
 }

@@ -5,7 +5,7 @@ ghost use Rattle.std.specs.Io.KnownBytes.{Keeps};
 ghost use Rattle.clap.specs.Words.{app_of, kind_of, new_app, rule_of};
 ghost use Rattle.clap.specs.declared.builder.command.Command.TheViews.{out-Command};
 ghost use Rattle.clap.specs.Kinds.{FailsBy};
-ghost use Rattle.rr_cli.specs.Lines.{rr_line, rr_settings, sim_line, show_line, number_rule, random_line, audit_line, file_of, faults_of, task_of, task_in};
+ghost use Rattle.rr_cli.specs.Lines.{rr_line, rr_settings, sim_line, show_line, number_rule, random_line, audit_line, option_rule, run_line, file_of, faults_of, task_of, task_in};
 ghost use Rattle.rr_cli.specs.Ends.{IsMistake, Helps, Prints, statuses_text, version_text};
 
 use crate::refusals::end_by_refusal;
@@ -28,11 +28,13 @@ fn command_line<'a>(alloc: Global) -> Result<Command<'a>, AllocError>
     let show = show_line(alloc)?;
     let random = random_line(alloc)?;
     let audit = audit_line(alloc)?;
+    let run = run_line(alloc)?;
     top_line(alloc)
         .subcommand(sim)?
         .subcommand(show)?
         .subcommand(random)?
-        .subcommand(audit)
+        .subcommand(audit)?
+        .subcommand(run)
 }
 
 // The command line without its subcommands.
@@ -122,6 +124,37 @@ fn audit_line<'a>(alloc: Global) -> Result<Command<'a>, AllocError>
         .arg(file)
 }
 
+// An option, which has to be there or may be left out.
+fn option_arg<'a>(alloc: Global, id: &'a str, long: &'a str, help: &'a str, wanted: bool) -> Arg<'a>
+    ensures rule { rule_of result ≡ option_rule id.entry.now long.entry.now wanted }
+    ensures local { result.global ≡ false }
+{
+    Arg::new(alloc, id).long(long).help(help).required(wanted)
+}
+
+// The command line of `rr run`.
+fn run_line<'a>(alloc: Global) -> Result<Command<'a>, AllocError>
+    ensures line { IfOk result (λ c. app_of c ≡ run_line) }
+    ensures local { IfOk result (λ c. (out-Command c).has_globals ≡ false) }
+{
+    let nodes = number_arg(alloc, "NODES", "nodes", "How many nodes there are", 1, 7);
+    let dir = option_arg(
+        alloc,
+        "DIR",
+        "dir",
+        "The folder of the nodes' folders",
+        true,
+    );
+    let script = option_arg(alloc, "SCRIPT", "script", "The script", true);
+    let tape = option_arg(alloc, "TAPE", "tape", "Where the tape is written", false);
+    Command::new(alloc, "run")
+        .about("Runs nodes in threads over folders, and prints the answers to a script")
+        .arg(nodes)?
+        .arg(dir)?
+        .arg(script)?
+        .arg(tape)
+}
+
 /// What words ask for.
 #[derive(Clone, Copy, Debug, PartialEq, Eq)]
 pub enum Task<'a> {
@@ -133,6 +166,9 @@ pub enum Task<'a> {
     Draw(Option<&'a str>, Option<&'a str>, Option<&'a str>),
     /// `rr audit [FILE]`: whether the events are what nodes do of the tape in this file, or else in standard input.
     Audit(Option<&'a str>),
+    /// `rr run --nodes NODES --dir DIR --script SCRIPT [--tape TAPE]`: a run of nodes in threads by the script in this
+    /// file, and its tape into this file.
+    Run(Option<&'a str>, Option<&'a str>, Option<&'a str>, Option<&'a str>),
 }
 
 // The file that a word names. None stands for standard input: the word is a hyphen or isn't there.
@@ -167,19 +203,22 @@ pub fn read_words<'a, S: AsStr>(alloc: Global, words: &'a [S]) -> Result<Task<'a
     if let Some(audit) = matches.subcommand_matches("audit") {
         return Ok(Task::Audit(file_of(audit.get_str("FILE"))));
     }
+    if let Some(running) = matches.subcommand_matches("run") {
+        return Ok(Task::Run(
+            running.get_str("NODES"),
+            running.get_str("DIR"),
+            running.get_str("SCRIPT"),
+            running.get_str("TAPE"),
+        ));
+    }
     match matches.subcommand() {
         Some((_, sim)) => Ok(Task::Simulate(file_of(sim.get_str("FILE")))),
         None => Ok(Task::Simulate(None)),
     }
 }
 
-// Ends by words that are no command: a mistake is told on standard error, and what was asked for is printed.
-pub(crate) fn end_by_words<O: Sink, E: Write>(
-    alloc: Global,
-    out: &mut O,
-    err: &mut E,
-    error: &Error,
-) -> u8
+/// Ends by words that are no command: a mistake is told on standard error, and what was asked for is printed.
+pub fn end_by_words<O: Sink, E: Write>(alloc: Global, out: &mut O, err: &mut E, error: &Error) -> u8
     ensures memory { kind_of error.now ≡ ErrorKind.OutOfMemory
         → (result ≡ 6) × (O.printing out.new ≡ O.printing out.old) }
     ensures mistake { kind_of error.now ≢ ErrorKind.OutOfMemory → IsMistake (kind_of error.now)

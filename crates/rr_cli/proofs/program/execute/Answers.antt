@@ -1,8 +1,8 @@
 use Rattle.std.proofs.Common.{◌≡◌, ◌∙◌, ℕ, List, Option, option_map, Bor, refl, sym, ap, map, None, Some, inl, inr}
 use Rattle.clap.specs.Words.{Text, kind_of}
 use Rattle.rr_cli.specs.declared.words.Task.TheVariants as read
-use Rattle.rr_cli.specs.Lines.{Simulate, Show, Draw, Audit, task_of, task_in}
-use Rattle.rr_cli.specs.Ends.{opened, unopened, mistaken, by_help, by_version, out_of_memory, by_standard_input, by_file, by_folder, by_numbers, without_numbers, by_tape_in_standard_input, by_tape_in_a_file}
+use Rattle.rr_cli.specs.Lines.{Simulate, Show, Draw, Audit, Run, task_of, task_in}
+use Rattle.rr_cli.specs.Ends.{opened, unopened, mistaken, by_help, by_version, out_of_memory, by_standard_input, by_file, by_folder, by_numbers, without_numbers, by_tape_in_standard_input, by_tape_in_a_file, without_threads}
 use Rattle.rr_cli.proofs.EndLemmas.{kind_cases}
 use Rattle.rr_cli.proofs.program.execute.Goals as goal
 
@@ -98,3 +98,9 @@ returns-in-Ok-Draw-default-default-None-clause-ends g c =
     let task : task_of (map g.S.AsStr.text c.args.words.now) ≡ Draw (text_of w.field-0-0) (text_of w.field-0-1) None = sym w.ensures.task ∙ ap task_in w.field-0-is ∙ drawn_from _ _ _ _ _ _ refl refl w.field-0-2-is in
     without_numbers (text_of w.field-0-0) (text_of w.field-0-1) None w.ensures.faults task
     (λ s k n is. without_three (text_of w.field-0-0) (text_of w.field-0-1) s k n (sym task ∙ is)) c.end_without_numbers.ensures refl
+
+pub returns-in-Ok-Run-clause-ends : goal.returns-in-Ok-Run-clause-ends
+returns-in-Ok-Run-clause-ends g c =
+    let w = c.in-Ok-Run in
+    let task : task_of (map g.S.AsStr.text c.args.words.now) ≡ Run (text_of w.field-0-0) (text_of w.field-0-1) (text_of w.field-0-2) (text_of w.field-0-3) = sym w.ensures.task ∙ ap task_in w.field-0-is in
+    without_threads (text_of w.field-0-0) (text_of w.field-0-1) (text_of w.field-0-2) (text_of w.field-0-3) w.ensures.faults task c.end_without_threads.ensures refl

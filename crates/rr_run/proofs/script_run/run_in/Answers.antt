@@ -1,0 +1,9 @@
+use Rattle.std.proofs.Common.{None, refl}
+use Rattle.rr_run.specs.Runs.{refused}
+use Rattle.rr_run.proofs.script_run.run_in.Goals as goal
+
+pub returns-in-Ok-clause-ends : goal.returns-in-Ok-clause-ends
+returns-in-Ok-clause-ends g c = c.end_by_answers.ensures.ends None
+
+pub returns-in-Err-clause-ends : goal.returns-in-Err-clause-ends
+returns-in-Err-clause-ends g c = refused c.in-Err.refusal c.end_by_refusal.ensures refl

@@ -1,0 +1,49 @@
+-- How a run in threads ends: the program's exit status, and what standard output has taken.
+use Rattle.std.specs.Prelude.{◌≡◌, ℕ, List, [], Option, Some, IsSome}
+use Rattle.clap.specs.Kinds.{Kinds}
+use Rattle.clap.specs.Words.{Text}
+use Rattle.rr_types.specs.declared.refusal.Refusal.{Refusal}
+use Rattle.rr_stream.specs.Streams.{Printing, Reading}
+use Rattle.rr_script.specs.declared.answer.Answer.{Answer}
+use Rattle.rr_script.specs.Scripted.{Scripted, IsScript}
+use Rattle.rr_script.specs.ScriptTexts.{script_text}
+use Rattle.rr_script.specs.AnswerTexts.{answer_text}
+use Rattle.rr_script.specs.Faults.{IsScriptFault}
+use Rattle.rr_cli.specs.Draws.{IsNumberIn}
+use Rattle.rr_cli.specs.Ends.{EndsBy, EndsOnFile, IsStreamStatus, Prints}
+use Rattle.rr_cli.specs.Lines.{Task, Run}
+use Rattle.rr_cli.specs.Refusals.{status_of}
+
+-- a run in threads, with a file for its tape or none: answers are printed, a line each; or the folders or the run are
+-- refused; or there is to be a tape, and an area is formatted or the tape can't be written. Without answers standard output
+-- is as it was
+pub data EndsOnFolders (tape : Option Text) (status : ℕ) (old new : Printing) : Type 0 where
+  answered : (answers : List Answer) → Prints (answer_text answers) status old new → EndsOnFolders tape status old new
+  refused : (refusal : Refusal) → status ≡ status_of refusal → new ≡ old → EndsOnFolders tape status old new
+  stale : IsSome tape → status ≡ 2 → new ≡ old → EndsOnFolders tape status old new
+  unwritten : IsSome tape → IsStreamStatus status → new ≡ old → EndsOnFolders tape status old new
+
+-- a run of n nodes on the bytes of a script: in threads; or the bytes are no script for n nodes, and standard output is as
+-- it was
+pub data EndsOnScript (n : ℕ) (tape : Option Text) (bytes : List ℕ) (status : ℕ) (old new : Printing) : Type 0 where
+  asked : (script : Scripted) → IsScript script → script.nodes ≡ n → bytes ≡ script_text script.lines → EndsOnFolders tape status old new → EndsOnScript n tape bytes status old new
+  faulty : (refusal : Refusal) → IsScriptFault n bytes refusal → status ≡ status_of refusal → new ≡ old → EndsOnScript n tape bytes status old new
+
+-- a run by words: of the number of nodes that a word names, or it names none from 1 to 7
+pub data EndsOnRun (of_nodes : Text) (tape : Option Text) (status : ℕ) (old new : Printing) : Type 0 where
+  numbered : (n : ℕ) → IsNumberIn 1 7 of_nodes n → EndsOnFile (EndsOnScript n tape) status old new → EndsOnRun of_nodes tape status old new
+  unnumbered : ((n : ℕ) → IsNumberIn 1 7 of_nodes n → ⊥) → status ≡ 2 → new ≡ old → EndsOnRun of_nodes tape status old new
+
+-- words that ask for a run, and say all that has to be said of it
+pub record AsksForRun (task : Task) : Type 0 where
+  pub nodes : Text
+  pub dir : Text
+  pub script : Text
+  pub tape : Option Text
+  pub is : task ≡ Run (Some nodes) (Some dir) (Some script) tape
+
+-- the program with threads, by words: a run, or what the program without threads does, or no memory even to read them
+pub data EndsWithThreads (faults : Kinds) (task : Task) (from to : Reading) (status : ℕ) (old new : Printing) : Type 0 where
+  by_script : (asks : AsksForRun task) → faults ≡ [] → EndsOnRun asks.nodes asks.tape status old new → EndsWithThreads faults task from to status old new
+  by_others : (faults ≡ [] → AsksForRun task → ⊥) → EndsBy faults task from to status old new → EndsWithThreads faults task from to status old new
+  out_of_memory : status ≡ 6 → new ≡ old → EndsWithThreads faults task from to status old new

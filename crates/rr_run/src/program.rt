@@ -1,0 +1,70 @@
+//! The program with threads: its words and streams, and how it ends.
+
+ghost use Rattle.std.specs.Prelude.{◌≡◌, ◌≢◌, IfOk, IfErr, OnErr, map, string_bytes};
+ghost use Rattle.std.specs.Io.KnownBytes.{Keeps};
+ghost use Rattle.std.specs.IoError.{error_kind};
+ghost use Rattle.rr_cli.specs.Lines.{faults_of, task_of};
+ghost use Rattle.rr_run.specs.Runs.{EndsWithThreads};
+
+use crate::lock::Lockable;
+use crate::script_run::run_by_words;
+use rr_cli::{Task, end_by_words, end_without_words, read_words};
+use rr_stream::{Sink, Source};
+use std::convert::AsStr;
+use std::fs::OpenFile;
+use std::io;
+use std::io::{ErrorKind, Read, Seek, Write};
+use std::rt::Files;
+use std::sync::Wait;
+use std::thread::Threads;
+
+/// Runs the program `rr` by these words, of which the first is its name, and gives its exit status. It is
+/// `rr_cli::execute` with one command more.
+///
+/// `rr run --nodes NODES --dir DIR --script SCRIPT [--tape TAPE]` reads a script from the file SCRIPT, runs that many
+/// nodes in threads, node P over the disk in the folder DIR/P, and prints the answers to the script. Folders and files
+/// that are missing are made. With a TAPE all areas have to be unformatted, and the tape of the run is written to that
+/// file before the answers are printed. What goes wrong is told on `err`: the words, then the file, then its text, then
+/// the folders, ascending, then areas that are formatted, then the run, then the file TAPE.
+pub fn execute<
+    F: Read + Write + Seek + OpenFile + Drop + Send + Lockable,
+    R: Files<File = F> + AllocGlobal + Threads + Wait + Sync,
+    S: AsStr,
+    I: Source,
+    O: Sink,
+    E: Write,
+>(rt: &R, words: &[S], input: &mut I, out: &mut O, err: &mut E) -> u8
+    ensures ends { EndsWithThreads (faults_of (map S.text words.now)) (task_of (map S.text words.now))
+        (I.reading input.old) (I.reading input.new) result (O.printing out.old) (O.printing out.new) }
+    ensures quiet { result ≡ 0 → Keeps (E.contents err.old) (E.contents err.new) }
+{
+    match read_words(rt.alloc(), words) {
+        Ok(Task::Run(Some(nodes), Some(dir), Some(script), tape)) => {
+            run_by_words(rt, nodes, dir, tape, script, out, err)
+        }
+        Ok(_) => rr_cli::execute(rt, words, input, out, err),
+        Err(error) => end_by_words(rt.alloc(), out, err, &error),
+    }
+}
+
+/// Runs the program as `execute` does by words that may be wanting: then it ends with 6 for want of memory, else with
+/// 2, as for a word that is no text.
+pub fn run<
+    F: Read + Write + Seek + OpenFile + Drop + Send + Lockable,
+    R: Files<File = F> + AllocGlobal + Threads + Wait + Sync,
+    I: Source,
+    O: Sink,
+    E: Write,
+>(rt: &R, words: io::Result<Vec<String>>, input: &mut I, out: &mut O, err: &mut E) -> u8
+    ensures ends { IfOk words (λ words. EndsWithThreads (faults_of (map string_bytes words.items)) (task_of (map string_bytes words.items))
+        (I.reading input.old) (I.reading input.new) result (O.printing out.old) (O.printing out.new)) }
+    ensures memory { IfErr words (λ error. error_kind error ≡ ErrorKind.OutOfMemory → result ≡ 6) }
+    ensures no_text { IfErr words (λ error. error_kind error ≢ ErrorKind.OutOfMemory → result ≡ 2) }
+    ensures unprinted { OnErr words (O.printing out.new ≡ O.printing out.old) }
+    ensures quiet { result ≡ 0 → Keeps (E.contents err.old) (E.contents err.new) }
+{
+    match words {
+        Ok(words) => execute(rt, words.as_slice(), input, out, err),
+        Err(error) => end_without_words(err, &error),
+    }
+}

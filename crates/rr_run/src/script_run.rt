@@ -1,0 +1,272 @@
+//! The run of a script: what it reads, what it prints and how it ends.
+
+ghost use Rattle.std.specs.Prelude.{◌≡◌, ◌⊎◌, length, Option, None, Some, option_map, IfErr};
+ghost use Rattle.std.specs.Io.KnownBytes.{Keeps};
+ghost use Rattle.clap.specs.Words.{Text};
+ghost use Rattle.rr_types.specs.declared.refusal.Refusal.TheVariants.{OutOfMemory, Device};
+ghost use Rattle.rr_cli.specs.Ends.{EndsOnInput, EndsOnFile};
+ghost use Rattle.rr_cli.specs.Refusals.{status_of};
+ghost use Rattle.rr_run.specs.Runs.{EndsOnFolders, EndsOnScript, EndsOnRun};
+
+use crate::folder::{Folders, Opening, open_folders};
+use crate::lock::Lockable;
+use rr_cli::{end_by_refusal, end_by_stream, end_by_text, nodes_of};
+use rr_disk::Disk;
+use rr_explain::print_script_fault;
+use rr_image::inspect;
+use rr_locked::Open;
+use rr_script::{Answers, Script};
+use rr_stream::{Counted, Sink, Source, read_all};
+use rr_tape::Tape;
+use rr_threads::{Recorder, run_script};
+use rr_types::{Nodes, Refusal};
+use std::alloc::Global;
+use std::fs;
+use std::fs::OpenFile;
+use std::io::{Read, Seek, Write};
+use std::rt::Files;
+use std::sync::Wait;
+use std::thread::Threads;
+
+// Ends by a folder of a node that another program has locked. A second line tells it.
+fn end_in_use<E: Write>(err: &mut E, dir: &str, node: u8) -> u8
+    ensures { result ≡ 5 }
+{
+    let ending = end_by_refusal(err, &Refusal::Device);
+    let _ = writeln!(err, "{dir}/{node}: another program has locked it");
+    ending
+}
+
+// Ends by the refusal of a script of this name. A second line tells people where it is at fault and why.
+fn end_by_script_fault<E: Write>(
+    err: &mut E,
+    name: &str,
+    nodes: Nodes,
+    bytes: &[u8],
+    refusal: &Refusal,
+) -> u8
+    ensures { result ≡ status_of refusal.now }
+{
+    let ending = end_by_refusal(err, refusal);
+    let _ = print_script_fault(err, name, nodes, bytes, refusal);
+    ending
+}
+
+// Prints answers.
+fn end_by_answers<O: Sink, E: Write>(
+    alloc: Global,
+    answers: &Answers,
+    out: &mut O,
+    err: &mut E,
+) -> u8
+    ensures ends { (tape : Option Text) → EndsOnFolders tape result (O.printing out.old) (O.printing out.new) }
+    ensures quiet { result ≡ 0 → Keeps (E.contents err.old) (E.contents err.new) }
+{
+    match answers.text(alloc) {
+        Ok(text) => end_by_text(out, err, text.as_slice()),
+        Err(refusal) => end_by_refusal(err, &refusal),
+    }
+}
+
+// Whether both areas of each disk are unformatted. A damaged area is formatted.
+fn are_fresh<D: Disk>(alloc: Global, disks: &mut [D]) -> Result<bool, Refusal>
+    ensures cause { IfErr result (λ e. (e ≡ OutOfMemory) ⊎ (e ≡ Device)) }
+{
+    for disk in disks {
+        match inspect(alloc, disk) {
+            Ok((None, None)) => (),
+            Ok(_) | Err(Refusal::Damaged { .. }) => return Ok(false),
+            Err(refusal) => return Err(refusal),
+        }
+    }
+    Ok(true)
+}
+
+// Writes a tape to a file of this name, then prints answers.
+fn end_by_tape<R: Files + AllocGlobal, O: Sink, E: Write>(
+    rt: &R,
+    path: &str,
+    tape: &Tape,
+    answers: &Answers,
+    out: &mut O,
+    err: &mut E,
+) -> u8
+    ensures ends { EndsOnFolders (Some path.now) result (O.printing out.old) (O.printing out.new) }
+    ensures quiet { result ≡ 0 → Keeps (E.contents err.old) (E.contents err.new) }
+{
+    let text = match tape.text(rt.alloc()) {
+        Ok(text) => text,
+        Err(refusal) => return end_by_refusal(err, &refusal),
+    };
+    match fs::write(rt, path, text.as_slice()) {
+        Ok(()) => end_by_answers(rt.alloc(), answers, out, err),
+        Err(failure) => end_by_stream(err, path, &failure),
+    }
+}
+
+// Runs a script over folders that are open, and prints the answers. The locks are let go behind the run.
+fn run_in<
+    F: Read + Write + Seek + OpenFile + Drop + Send,
+    R: AllocGlobal + Threads + Wait + Sync,
+    O: Sink,
+    E: Write,
+>(rt: &R, folders: Folders<F>, script: &Script, out: &mut O, err: &mut E) -> u8
+    requires each { length folders.disks.items ≡ script.now.nodes }
+    ensures ends { EndsOnFolders None result (O.printing out.old) (O.printing out.new) }
+    ensures quiet { result ≡ 0 → Keeps (E.contents err.old) (E.contents err.new) }
+{
+    let Folders { locks, disks } = folders;
+    let ran = run_script(rt, rt.alloc(), disks, script, &Open, None);
+    drop(locks);
+    match ran {
+        Ok(answers) => end_by_answers(rt.alloc(), &answers, out, err),
+        Err(refusal) => end_by_refusal(err, &refusal),
+    }
+}
+
+// Runs a script over fresh folders that are open, writes the tape to a file of this name, and prints the answers.
+fn run_taped<
+    F: Read + Write + Seek + OpenFile + Drop + Send,
+    R: Files + AllocGlobal + Threads + Wait + Sync,
+    O: Sink,
+    E: Write,
+>(rt: &R, folders: Folders<F>, script: &Script, path: &str, out: &mut O, err: &mut E) -> u8
+    requires each { length folders.disks.items ≡ script.now.nodes }
+    ensures ends { EndsOnFolders (Some path.now) result (O.printing out.old) (O.printing out.new) }
+    ensures quiet { result ≡ 0 → Keeps (E.contents err.old) (E.contents err.new) }
+{
+    let Folders { locks, disks } = folders;
+    let mut disks = disks;
+    match are_fresh(rt.alloc(), disks.as_mut_slice()) {
+        Ok(true) => (),
+        Ok(false) => {
+            let _ = writeln!(err, "rr: --tape wants fresh folders");
+            return 2;
+        }
+        Err(refusal) => return end_by_refusal(err, &refusal),
+    }
+    let recorder = Recorder::new(rt.alloc(), script.nodes());
+    let ran = run_script(rt, rt.alloc(), disks, script, &Open, Some(&recorder));
+    drop(locks);
+    match ran {
+        Ok(answers) => end_by_tape(rt, path, &recorder.into_tape(), &answers, out, err),
+        Err(refusal) => end_by_refusal(err, &refusal),
+    }
+}
+
+// Runs a script over the folders in the folder DIR, and prints the answers; with a tape where a file is named for it.
+fn run_over<
+    F: Read + Write + Seek + OpenFile + Drop + Send + Lockable,
+    R: Files<File = F> + AllocGlobal + Threads + Wait + Sync,
+    O: Sink,
+    E: Write,
+>(rt: &R, dir: &str, script: &Script, tape: Option<&str>, out: &mut O, err: &mut E) -> u8
+    ensures ends { EndsOnFolders (option_map (λ s. s.now) tape.entry) result (O.printing out.old) (O.printing out.new) }
+    ensures quiet { result ≡ 0 → Keeps (E.contents err.old) (E.contents err.new) }
+{
+    let folders = match open_folders(rt, script.nodes(), dir) {
+        Ok(Opening::Folders(folders)) => folders,
+        Ok(Opening::InUse(node)) => return end_in_use(err, dir, node),
+        Err(refusal) => return end_by_refusal(err, &refusal),
+    };
+    match tape {
+        Some(path) => run_taped(rt, folders, script, path, out, err),
+        None => run_in(rt, folders, script, out, err),
+    }
+}
+
+// Runs the script that the bytes of this name are.
+fn run_bytes<
+    F: Read + Write + Seek + OpenFile + Drop + Send + Lockable,
+    R: Files<File = F> + AllocGlobal + Threads + Wait + Sync,
+    O: Sink,
+    E: Write,
+>(
+    rt: &R,
+    nodes: Nodes,
+    dir: &str,
+    tape: Option<&str>,
+    name: &str,
+    bytes: &[u8],
+    out: &mut O,
+    err: &mut E,
+) -> u8
+    ensures ends { EndsOnScript nodes (option_map (λ s. s.now) tape.entry) bytes.now result (O.printing out.old) (O.printing out.new) }
+    ensures quiet { result ≡ 0 → Keeps (E.contents err.old) (E.contents err.new) }
+{
+    match Script::parse(rt.alloc(), nodes, bytes) {
+        Ok(script) => run_over(rt, dir, &script, tape, out, err),
+        Err(refusal) => end_by_script_fault(err, name, nodes, bytes, &refusal),
+    }
+}
+
+// Runs the script that the input of this name holds.
+fn run_input<
+    F: Read + Write + Seek + OpenFile + Drop + Send + Lockable,
+    R: Files<File = F> + AllocGlobal + Threads + Wait + Sync,
+    I: Source,
+    O: Sink,
+    E: Write,
+>(
+    rt: &R,
+    nodes: Nodes,
+    dir: &str,
+    tape: Option<&str>,
+    name: &str,
+    input: &mut I,
+    out: &mut O,
+    err: &mut E,
+) -> u8
+    ensures ends { EndsOnInput (EndsOnScript nodes (option_map (λ s. s.now) tape.entry)) (I.reading input.old) (I.reading input.new) result (O.printing out.old) (O.printing out.new) }
+    ensures quiet { result ≡ 0 → Keeps (E.contents err.old) (E.contents err.new) }
+{
+    match read_all(rt.alloc(), input) {
+        Ok(bytes) => run_bytes(rt, nodes, dir, tape, name, bytes.as_slice(), out, err),
+        Err(failure) => end_by_stream(err, name, &failure),
+    }
+}
+
+// Runs the script in a file.
+fn run_file<
+    F: Read + Write + Seek + OpenFile + Drop + Send + Lockable,
+    R: Files<File = F> + AllocGlobal + Threads + Wait + Sync,
+    O: Sink,
+    E: Write,
+>(rt: &R, nodes: Nodes, dir: &str, tape: Option<&str>, path: &str, out: &mut O, err: &mut E) -> u8
+    ensures ends { EndsOnFile (EndsOnScript nodes (option_map (λ s. s.now) tape.entry)) result (O.printing out.old) (O.printing out.new) }
+    ensures quiet { result ≡ 0 → Keeps (E.contents err.old) (E.contents err.new) }
+{
+    match fs::open(rt, path) {
+        Ok(file) => run_input(
+            rt,
+            nodes,
+            dir,
+            tape,
+            path,
+            &mut Counted::new(file),
+            out,
+            err,
+        ),
+        Err(failure) => end_by_stream(err, path, &failure),
+    }
+}
+
+/// Runs as many nodes as a word names, over the folders in the folder DIR, by the script in a file, and prints the
+/// answers. A word that is no number from 1 to 7, which the command line doesn't let through, ends with 2.
+pub(crate) fn run_by_words<
+    F: Read + Write + Seek + OpenFile + Drop + Send + Lockable,
+    R: Files<File = F> + AllocGlobal + Threads + Wait + Sync,
+    O: Sink,
+    E: Write,
+>(rt: &R, nodes: &str, dir: &str, tape: Option<&str>, path: &str, out: &mut O, err: &mut E) -> u8
+    ensures ends { EndsOnRun nodes.now (option_map (λ s. s.now) tape.entry) result (O.printing out.old) (O.printing out.new) }
+    ensures quiet { result ≡ 0 → Keeps (E.contents err.old) (E.contents err.new) }
+{
+    match nodes_of(nodes) {
+        Some(nodes) => run_file(rt, nodes, dir, tape, path, out, err),
+        None => {
+            let _ = writeln!(err, "rr: run: there is no such number of nodes");
+            2
+        }
+    }
+}

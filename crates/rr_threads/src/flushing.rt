@@ -1,0 +1,80 @@
+//! A flusher.
+
+use crate::desk::Desk;
+use crate::rest::{LONG, Rest};
+use crate::running::Running;
+use rr_disk::Disk;
+use rr_inbox::{Giver, Taker, TrySendError};
+use rr_journal::{Journal, Synced};
+use rr_locked::{Turnstile, Unflushed, carry};
+use rr_types::{Group, NodeId};
+use rr_window::WindowName;
+use std::alloc::Global;
+use std::sync::Wait;
+use std::thread::yield_now;
+
+/// What a flusher owns: the disk of its node, and its ends of the hand-overs.
+#[derive(Drop)]
+pub struct Flusher<D: Disk> {
+    pub journal: Journal<D>,
+    pub groups: Taker<Group>,
+    pub backs: Giver<Result<Synced, Unflushed>>,
+}
+
+/// Gives back what became of a group, once there is room. Where nobody takes it, the run is over.
+fn give_back<R: Wait>(
+    rt: &R,
+    backs: &mut Giver<Result<Synced, Unflushed>>,
+    back: Result<Synced, Unflushed>,
+) {
+    let mut waiting = back;
+    for _ in rt.forever() {
+        match backs.give(rt, waiting) {
+            Err(TrySendError::Full(refused)) => waiting = refused,
+            _ => break,
+        }
+        yield_now();
+    }
+}
+
+/// A group that comes is flushed, and goes back. Answers whether one came.
+fn flush_next<D: Disk, T: Turnstile, R: Wait>(
+    rt: &R,
+    alloc: Global,
+    turnstile: &T,
+    node: NodeId,
+    flusher: &mut Flusher<D>,
+) -> bool {
+    match flusher.groups.take(rt) {
+        None => false,
+        Some(group) => {
+            let back = carry(turnstile, node, alloc, &mut flusher.journal, group);
+            give_back(rt, &mut flusher.backs, back);
+            true
+        }
+    }
+}
+
+/// Flushes the groups that come, until the run is over.
+pub fn flush_all<W: WindowName, D: Disk + Drop, T: Turnstile, R: Wait>(
+    rt: &R,
+    alloc: Global,
+    running: &Running,
+    desk: &Desk<W>,
+    turnstile: &T,
+    node: NodeId,
+    flusher: Flusher<D>,
+) {
+    let mut flusher = flusher;
+    let mut rest = Rest::new(LONG);
+    for _ in rt.forever() {
+        if flush_next(rt, alloc, turnstile, node, &mut flusher) {
+            rest.end();
+            running.ring(node);
+        } else if running.is_over() {
+            break;
+        } else {
+            rest.wait(rt, &desk.flusher);
+        }
+    }
+}

@@ -1,0 +1,242 @@
+//! The loop of a node.
+
+use crate::desk::Desk;
+use crate::recorder::Recorder;
+use crate::rest::{Rest, SHORT};
+use crate::running::Running;
+use rr_inbox::{Giver, Outlet, Port, Taker, TrySendError};
+use rr_journal::Synced;
+use rr_locked::{IdleTurns, Locked, Sent, Unflushed, hear_on, mark_on, send_on, take_on, tick_on};
+use rr_types::{Body, Command, Estimate, Group, Message, NodeId, Op, Refusal};
+use rr_window::WindowName;
+use std::sync::{Mutex, Wait};
+
+/// What the loop of a node owns: its inbox, an end for each node's inbox, and its ends of the hand-overs.
+#[derive(Drop)]
+pub struct Runner {
+    pub inbox: Outlet<Sent>,
+    pub ports: Vec<Port<Sent>>,
+    pub groups: Giver<Group>,
+    pub backs: Taker<Result<Synced, Unflushed>>,
+}
+
+/// The node hears a message.
+fn hear<R: Wait>(
+    rt: &R,
+    node: &Mutex<Locked>,
+    recorder: Option<&Recorder>,
+    sent: &Sent,
+) -> Result<(), Refusal> {
+    let mut locked = node.lock(rt);
+    match recorder {
+        None => locked.hear(&sent.message),
+        Some(recorder) => hear_on(&mut locked, &mut recorder.recording().lock(rt), sent),
+    }
+}
+
+/// A message of the inbox is heard. Answers whether there was one.
+fn hear_next<R: Wait>(
+    rt: &R,
+    node: &Mutex<Locked>,
+    recorder: Option<&Recorder>,
+    inbox: &mut Outlet<Sent>,
+) -> Result<bool, Refusal> {
+    match inbox.take(rt) {
+        None => Ok(false),
+        Some(sent) => {
+            hear(rt, node, recorder, &sent)?;
+            Ok(true)
+        }
+    }
+}
+
+/// The node's group, synced, is marked.
+fn mark<R: Wait>(
+    rt: &R,
+    node: &Mutex<Locked>,
+    recorder: Option<&Recorder>,
+    synced: Synced,
+) -> Result<(), Refusal> {
+    let mut locked = node.lock(rt);
+    match recorder {
+        None => match locked.mark(synced) {
+            Ok(()) => Ok(()),
+            Err((refusal, _)) => Err(refusal),
+        },
+        Some(recorder) => mark_on(&mut locked, &mut recorder.recording().lock(rt), synced),
+    }
+}
+
+/// What comes back of the flusher is marked. Answers whether something came. A group that wasn't flushed ends the run:
+/// the refusal is that of its flush.
+fn mark_next<R: Wait>(
+    rt: &R,
+    node: &Mutex<Locked>,
+    recorder: Option<&Recorder>,
+    backs: &mut Taker<Result<Synced, Unflushed>>,
+) -> Result<bool, Refusal> {
+    match backs.take(rt) {
+        None => Ok(false),
+        Some(Ok(synced)) => {
+            mark(rt, node, recorder, synced)?;
+            Ok(true)
+        }
+        Some(Err(Unflushed::Refused(refusal, _))) => Err(refusal),
+        Some(Err(Unflushed::Failed(refusal))) => Err(refusal),
+    }
+}
+
+/// The node's oldest staged facts, as a group; none where a group runs.
+fn take<R: Wait>(
+    rt: &R,
+    node: &Mutex<Locked>,
+    recorder: Option<&Recorder>,
+) -> Result<Option<Group>, Refusal> {
+    let taken = {
+        let mut locked = node.lock(rt);
+        match recorder {
+            None => locked.take_group(),
+            Some(recorder) => take_on(&mut locked, &mut recorder.recording().lock(rt)),
+        }
+    };
+    match taken {
+        Err(Refusal::Busy) => Ok(None),
+        _ => taken,
+    }
+}
+
+/// The oldest staged facts go to the flusher. Answers whether there were any. There is room for them, since the flusher
+/// has given back what it had.
+fn flush_next<R: Wait>(
+    rt: &R,
+    node: &Mutex<Locked>,
+    recorder: Option<&Recorder>,
+    groups: &mut Giver<Group>,
+) -> Result<bool, Refusal> {
+    let mut waiting = match take(rt, node, recorder)? {
+        None => return Ok(false),
+        Some(group) => group,
+    };
+    for _ in rt.forever() {
+        match groups.give(rt, waiting) {
+            Err(TrySendError::Full(group)) => waiting = group,
+            _ => break,
+        }
+    }
+    Ok(true)
+}
+
+/// The oldest message that may leave, with its number.
+fn leave<R: Wait>(
+    rt: &R,
+    node: &Mutex<Locked>,
+    recorder: Option<&Recorder>,
+) -> Result<Option<Sent>, Refusal> {
+    let _parts: Option<(Body, Command, Estimate, Message, Op)> = None;
+    let mut locked = node.lock(rt);
+    match recorder {
+        None => match locked.next_message() {
+            None => Ok(None),
+            Some(cleared) => {
+                let message = cleared.message();
+                Ok(Some(Sent { number: 0, message }))
+            }
+        },
+        Some(recorder) => send_on(&mut locked, &mut recorder.recording().lock(rt)),
+    }
+}
+
+/// A message goes into the inbox of its receiver, and is lost where that is full.
+fn put<R: Wait>(rt: &R, running: &Running, ports: &mut Vec<Port<Sent>>, sent: &Sent) {
+    let _parts: Option<(Body, Command, Estimate, Message, Op)> = None;
+    let to = sent.message.to;
+    if let Some(port) = ports.get_mut(usize::from(to.index())) {
+        let _lost = port.put(rt, *sent);
+        running.ring(to);
+    }
+}
+
+/// The oldest message that may leave goes into the inbox of its receiver, and is lost where that is full. Answers
+/// whether there was one.
+fn send_next<R: Wait>(
+    rt: &R,
+    running: &Running,
+    node: &Mutex<Locked>,
+    recorder: Option<&Recorder>,
+    ports: &mut Vec<Port<Sent>>,
+) -> Result<bool, Refusal> {
+    let _parts: Option<(Body, Command, Estimate, Message, Op)> = None;
+    match leave(rt, node, recorder)? {
+        None => Ok(false),
+        Some(sent) => {
+            put(rt, running, ports, &sent);
+            Ok(true)
+        }
+    }
+}
+
+/// The node ticks.
+fn tick<R: Wait>(rt: &R, node: &Mutex<Locked>, recorder: Option<&Recorder>) -> Result<(), Refusal> {
+    let mut locked = node.lock(rt);
+    match recorder {
+        None => locked.tick(),
+        Some(recorder) => tick_on(&mut locked, &mut recorder.recording().lock(rt)),
+    }
+}
+
+/// A turn of the loop: hears a message, marks what is flushed, flushes what is staged, sends a message, and ticks where
+/// it is time to. Answers whether there was something to do.
+fn turn<W: WindowName, R: Wait>(
+    rt: &R,
+    running: &Running,
+    desk: &Desk<W>,
+    recorder: Option<&Recorder>,
+    runner: &mut Runner,
+    idle: &mut IdleTurns,
+) -> Result<bool, Refusal> {
+    let node = &desk.locked;
+    let has_heard = hear_next(rt, node, recorder, &mut runner.inbox)?;
+    let has_marked = mark_next(rt, node, recorder, &mut runner.backs)?;
+    if has_marked {
+        desk.publisher.unpark();
+    }
+    let has_staged = flush_next(rt, node, recorder, &mut runner.groups)?;
+    if has_staged {
+        desk.flusher.unpark();
+    }
+    let has_sent = send_next(rt, running, node, recorder, &mut runner.ports)?;
+    let has_found = has_heard || has_marked || has_staged || has_sent;
+    if idle.count(has_found) {
+        tick(rt, node, recorder)?;
+    }
+    Ok(has_found)
+}
+
+/// Runs a node, until the run is over.
+pub fn run_node<W: WindowName, R: Wait>(
+    rt: &R,
+    running: &Running,
+    desk: &Desk<W>,
+    recorder: Option<&Recorder>,
+    node: NodeId,
+    runner: Runner,
+) {
+    let mut runner = runner;
+    let mut idle = IdleTurns::new();
+    let mut rest = Rest::new(SHORT);
+    for _ in rt.forever() {
+        if running.is_over() {
+            break;
+        }
+        match turn(rt, running, desk, recorder, &mut runner, &mut idle) {
+            Ok(true) => rest.end(),
+            Ok(false) => {
+                if let Some(bell) = running.bell(node) {
+                    rest.wait(rt, bell);
+                }
+            }
+            Err(refusal) => running.fail(rt, node, refusal),
+        }
+    }
+    desk.ring_all();
+}

@@ -1,0 +1,91 @@
+//! A publisher.
+
+use crate::desk::Desk;
+use crate::recorder::Recorder;
+use crate::rest::{LONG, Rest};
+use crate::running::Running;
+use rr_locked::{ack_on, follow};
+use rr_types::{NodeId, Refusal, Reply, RequestNo};
+use rr_window::{Publisher, WindowName};
+use std::alloc::Global;
+use std::collections::VecDeque;
+use std::sync::Wait;
+
+/// Takes on what is marked, and the oldest acknowledgement, in one section.
+fn follow_node<W: WindowName, R: Wait>(
+    rt: &R,
+    desk: &Desk<W>,
+    recorder: Option<&Recorder>,
+    publisher: &mut Publisher<W>,
+) -> Result<Option<(RequestNo, Reply)>, Refusal> {
+    let mut locked = desk.locked.lock(rt);
+    follow(locked.core(), publisher)?;
+    match recorder {
+        None => Ok(locked.acknowledge()),
+        Some(recorder) => ack_on(&mut locked, &mut recorder.recording().lock(rt)),
+    }
+}
+
+/// The client gets a receipt for the oldest request that was acknowledged, once its reply is published. Answers whether
+/// there was one.
+fn tell_next<W: WindowName, R: Wait>(
+    rt: &R,
+    desk: &Desk<W>,
+    publisher: &Publisher<W>,
+    acknowledged: &mut VecDeque<RequestNo>,
+) -> Result<bool, Refusal> {
+    let Some(request) = acknowledged.front() else {
+        return Ok(false);
+    };
+    let request = *request;
+    let Some(reply) = publisher.reply(request) else {
+        return Ok(false);
+    };
+    desk.give_receipt(rt, publisher.receipt(request, reply))?;
+    drop(acknowledged.pop_front());
+    Ok(true)
+}
+
+/// A turn: takes on what is marked, publishes it, and gives a receipt. Answers whether there was something to do.
+fn publish_next<W: WindowName, R: Wait>(
+    rt: &R,
+    desk: &Desk<W>,
+    recorder: Option<&Recorder>,
+    publisher: &mut Publisher<W>,
+    acknowledged: &mut VecDeque<RequestNo>,
+) -> Result<bool, Refusal> {
+    let before = publisher.count();
+    if let Some((request, _)) = follow_node(rt, desk, recorder, publisher)? {
+        acknowledged.push_back(request)?;
+    }
+    let has_more = before < publisher.count();
+    if has_more {
+        drop(publisher.publish(rt)?);
+    }
+    let has_told = tell_next(rt, desk, publisher, acknowledged)?;
+    Ok(has_more || has_told)
+}
+
+/// Publishes what is marked, until the run is over.
+pub fn publish_all<W: WindowName, R: Wait>(
+    rt: &R,
+    alloc: Global,
+    running: &Running,
+    desk: &Desk<W>,
+    recorder: Option<&Recorder>,
+    node: NodeId,
+    publisher: &mut Publisher<W>,
+) {
+    let mut acknowledged = VecDeque::new(alloc);
+    let mut rest = Rest::new(LONG);
+    for _ in rt.forever() {
+        if running.is_over() {
+            break;
+        }
+        match publish_next(rt, desk, recorder, publisher, &mut acknowledged) {
+            Ok(true) => rest.end(),
+            Ok(false) => rest.wait(rt, &desk.publisher),
+            Err(refusal) => running.fail(rt, node, refusal),
+        }
+    }
+}
