@@ -8,6 +8,7 @@
 #include <stddef.h>
 #include <stdio.h>
 #include <stdlib.h>
+#include <sys/syscall.h>
 #include <unistd.h>
 
 static unsigned long count, wanted, many;
@@ -76,4 +77,12 @@ __attribute__((destructor)) static void tell(void)
         (void)written;
         close(to);
     }
+}
+
+/* A program with threads ends by this call, and no destructor runs. */
+void _exit(int status)
+{
+    tell();
+    syscall(SYS_exit_group, status);
+    __builtin_unreachable();
 }

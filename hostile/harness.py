@@ -58,11 +58,11 @@ class Plain:
         return ending._replace(err=b"rr: %s\n" % ending.err if ending.err else b"")
 
     def sim(self, text):
-        return self.as_rr(f"sim 0 {len(text)}", text)
+        return self.as_rr(f"sim {len(text)}", text)
 
-    def starved(self, text, line):
-        """The report where the event of a line finds no memory; None where that event takes none."""
-        ending = self.ask(f"sim {line} {len(text)}", text)
+    def starved(self, text, *lines):
+        """The report where the events of these lines find no memory; None where none of them takes any."""
+        ending = self.ask(f"sim {len(text)} {' '.join(map(str, lines))}", text)
         return None if ending.err else ending.out
 
     def show(self, areas):

@@ -2,9 +2,10 @@
 
 A run ends with `rr: 1 OutOfMemory` and status 6, and standard output has got a front of the whole or nothing. Or it
 prints the report of the run in which memory was wanting for just one event. The plain Rust program says what that is.
-Where all later requests are refused too, the run ends without memory.
+Where all later requests are refused too, the run ends without memory, or with the report where just the events that it refuses found none.
 """
 import os
+import re
 
 import areas
 from harness import NO_MEMORY, Tally, compare, events_of, schedules, tell
@@ -39,7 +40,7 @@ def of_schedule(rig, options, tally, name):
     whole = rig.plain.sim(text)
     starved = starved_reports(rig, text) if whole.status == 0 else {}
     words = ["sim", rig.write("schedule", text)]
-    reached = refuse_each(rig, options, tally, f"sim {name}", words, whole, starved)
+    reached = refuse_each(rig, options, tally, f"sim {name}", words, whole, starved, text)
     count_events(tally, name, text, {line for line in starved.values()}, reached)
 
 
@@ -92,8 +93,9 @@ def of_draw(rig, options, tally, draw):
     refuse_each(rig, options, tally, f"random {seed} {steps} {nodes}", words, whole, starved)
 
 
-def refuse_each(rig, options, tally, what, words, whole, starved):
-    """Refuses each request of a run, and answers the lines of the events that were starved by it."""
+def refuse_each(rig, options, tally, what, words, whole, starved, text=None):
+    """Refuses each request of a run, alone and with all behind it, and answers the lines of the events that one starved. A report may have
+    room to spare for all that is left to tell; a run of the schedule `text` then ends well without any memory from an event on."""
     count = requests_of(rig, options, tally, what, words, whole)
     tally.counts["requests refused, " + words[0]] += count
     tally.counts["runs, " + words[0]] += 1
@@ -111,8 +113,16 @@ def refuse_each(rig, options, tally, what, words, whole, starved):
         holds = ending.err == b"" if line is not None else is_no_memory(ending, whole)
         tally.check(holds, lambda: f"{what}, request {number}: {tell(ending)}")
         last = refuse(rig, options, words, number, ALL)
-        tally.check(is_no_memory(last, whole), lambda: f"{what}, request {number} and all behind it: {tell(last)}")
+        holds = is_report_of_starved(rig, text, last) if last.status == 0 else is_no_memory(last, whole)
+        tally.counts["reports without memory from an event on"] += last.status == 0
+        tally.check(holds, lambda: f"{what}, request {number} and all behind it: {tell(last)}")
     return reached
+
+
+def is_report_of_starved(rig, text, ending):
+    """Whether it is the report where the events that it refuses for memory, or by the device, found no memory."""
+    refused = [int(line.split()[1]) for line in ending.out.splitlines() if re.match(rb"refuse \d+ [12] ", line)]
+    return text is not None and ending.err == b"" and refused != [] and ending.out == rig.plain.starved(text, *refused)
 
 
 def refuse(rig, options, words, first, many="1"):

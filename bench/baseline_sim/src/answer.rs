@@ -2,7 +2,7 @@
 //! a program for each.
 //!
 //! A question is a line, and behind it the bytes that the line counts:
-//! `sim LINE BYTES`, `audit BYTES`, `show BYTES BYTES`, `areas BYTES` or
+//! `sim BYTES LINES..`, `audit BYTES`, `show BYTES BYTES`, `areas BYTES` or
 //! `draw SEED STEPS NODES LINE`. An answer is the line
 //! `STATUS BYTES BYTES`, then standard output and the fault.
 
@@ -43,7 +43,10 @@ fn answer(line: &str, input: &mut impl BufRead) -> io::Result<Ending> {
         input.read_exact(&mut bytes).map(|()| bytes)
     };
     Ok(match (verb, &numbers[..]) {
-        ("sim", &[line, count]) => simulate(&bytes(count)?, line as u32),
+        ("sim", [count, lines @ ..]) => {
+            let starved: Vec<u32> = lines.iter().map(|line| *line as u32).collect();
+            simulate(&bytes(*count)?, &starved)
+        }
         ("audit", &[count]) => audit_tape(bytes(count)),
         ("show", &[first, second]) => show([&bytes(first)?, &bytes(second)?]).into(),
         ("areas", &[count]) => {

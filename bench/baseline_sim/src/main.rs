@@ -92,9 +92,9 @@ fn main() -> ExitCode {
 /// Does what the words say, and prints what there is to print.
 fn run(words: &[&str]) -> io::Result<Ending> {
     let ending = match words {
-        ["sim"] => simulate(&read_input()?, 0),
+        ["sim"] => simulate(&read_input()?, &[]),
         ["sim", "--long"] => simulate_long(&read_input()?),
-        ["sim", "--starve", line] => simulate(&read_input()?, number(line)? as u32),
+        ["sim", "--starve", line] => simulate(&read_input()?, &[number(line)? as u32]),
         ["audit"] | ["audit", "-"] => audit_tape(read_input()),
         ["audit", file] => audit_tape(fs::read(file)),
         ["show", folder] => {
@@ -137,23 +137,23 @@ fn read_input() -> io::Result<Vec<u8>> {
 }
 
 /// The cluster behind a schedule, and whether it made a difference that the
-/// event of the line `starved` found no memory.
-fn run_schedule(mut schedule: Schedule, starved: u32) -> Result<(Cluster, bool), Fault> {
+/// events of the lines `starved` found no memory.
+fn run_schedule(mut schedule: Schedule, starved: &[u32]) -> Result<(Cluster, bool), Fault> {
     let mut cluster = Cluster::new(schedule.nodes);
     let mut differs = false;
     while let Some((line, event)) = schedule.next()? {
-        differs |= cluster.step(line, event, line == starved);
+        differs |= cluster.step(line, event, starved.contains(&line));
     }
     Ok((cluster, differs))
 }
 
-/// The report of a schedule; line 0 is that of no event.
-fn simulate(text: &[u8], starved: u32) -> Ending {
+/// The report of a schedule in which the events of these lines find no memory.
+fn simulate(text: &[u8], starved: &[u32]) -> Ending {
     match Schedule::begin(text).and_then(|schedule| run_schedule(schedule, starved)) {
         Ok((cluster, differs)) => {
             let mut ending = printed(cluster.finish());
-            if starved > 0 && !differs {
-                ending.fault = format!("no event of line {starved} takes memory");
+            if !starved.is_empty() && !differs {
+                ending.fault = format!("no event of {starved:?} takes memory");
             }
             ending
         }
@@ -164,7 +164,7 @@ fn simulate(text: &[u8], starved: u32) -> Ending {
 /// The report of a schedule of any length.
 fn simulate_long(text: &[u8]) -> Ending {
     let schedule = Schedule::begin(text).map(Schedule::of_any_length);
-    match schedule.and_then(|schedule| run_schedule(schedule, 0)) {
+    match schedule.and_then(|schedule| run_schedule(schedule, &[])) {
         Ok((cluster, _)) => printed(cluster.finish()),
         Err(fault) => failed(3, fault.to_string()),
     }
@@ -186,6 +186,6 @@ fn audit_tape(text: io::Result<Vec<u8>>) -> Ending {
 fn areas_of(text: &[u8]) -> [Vec<u8>; 2] {
     let empty = |_| [Vec::new(), Vec::new()];
     Schedule::begin(text)
-        .and_then(|schedule| run_schedule(schedule, 0))
+        .and_then(|schedule| run_schedule(schedule, &[]))
         .map_or_else(empty, |(cluster, _)| cluster.areas())
 }

@@ -42,7 +42,13 @@ pub fn execute<
         Ok(Task::Run(Some(nodes), Some(dir), Some(script), tape)) => {
             run_by_words(rt, nodes, dir, tape, script, out, err)
         }
-        Ok(_) => rr_cli::execute(rt, words, input, out, err),
+        Ok(Task::Run(None, _, _, _)) => rr_cli::execute(rt, words, input, out, err),
+        Ok(Task::Run(_, None, _, _)) => rr_cli::execute(rt, words, input, out, err),
+        Ok(Task::Run(_, _, None, _)) => rr_cli::execute(rt, words, input, out, err),
+        Ok(Task::Simulate(_)) => rr_cli::execute(rt, words, input, out, err),
+        Ok(Task::Show(_)) => rr_cli::execute(rt, words, input, out, err),
+        Ok(Task::Draw(_, _, _)) => rr_cli::execute(rt, words, input, out, err),
+        Ok(Task::Audit(_)) => rr_cli::execute(rt, words, input, out, err),
         Err(error) => end_by_words(rt.alloc(), out, err, &error),
     }
 }

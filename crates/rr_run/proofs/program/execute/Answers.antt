@@ -1,9 +1,9 @@
-use Rattle.std.proofs.Common.{◌≡◌, ◌∙◌, List, Option, Some, [], option_map, refl, Bor, ℕ, sym, ap, subst, map, inl, inr}
-use Rattle.clap.specs.Words.{kind_of}
+use Rattle.std.proofs.Common.{◌≡◌, ◌∙◌, List, Option, None, Some, [], option_map, refl, Bor, ℕ, sym, ap, subst, map, inl, inr}
+use Rattle.clap.specs.Words.{Text, kind_of}
 use Rattle.clap.specs.Kinds.{Kinds, IsAmong}
 use Rattle.clap.specs.declared.error.kind.ErrorKind.{ErrorKind}
 use Rattle.rr_cli.specs.declared.words.Task.TheVariants as read
-use Rattle.rr_cli.specs.Lines.{Run, task_of, task_in}
+use Rattle.rr_cli.specs.Lines.{Simulate, Show, Draw, Audit, Run, task_of, task_in}
 use Rattle.rr_cli.specs.Ends.{mistaken, by_help, by_version}
 use Rattle.rr_cli.proofs.EndLemmas.{kind_cases}
 use Rattle.rr_run.specs.Runs.{by_script, by_others, out_of_memory}
@@ -17,9 +17,9 @@ run_from a b c d w x y p q r = rw (p, q, r) refl
 none_among : (kind : ErrorKind) (kinds : Kinds) → IsAmong kind kinds → kinds ≡ [] → ⊥
 none_among kind kinds among none = subst (λ ks. IsAmong kind ks) none among
 
-pub returns-in-Ok-Run-Some-Some-Some-tape-clause-ends : goal.returns-in-Ok-Run-Some-Some-Some-tape-clause-ends
-returns-in-Ok-Run-Some-Some-Some-tape-clause-ends g c =
-    let w = c.in-Ok-Run-Some-Some-Some-tape in
+pub returns-in-Ok-Run-Some-Some-Some-default-clause-ends : goal.returns-in-Ok-Run-Some-Some-Some-default-clause-ends
+returns-in-Ok-Run-Some-Some-Some-default-clause-ends g c =
+    let w = c.in-Ok-Run-Some-Some-Some-default in
     let task : task_of (map g.S.AsStr.text c.args.words.now) ≡ Run (Some w.nodes.now) (Some w.dir.now) (Some w.script.now) (option_map (λ s. s.now) w.tape) = sym w.ensures.task ∙ ap task_in w.field-0-is ∙ run_from _ _ _ _ _ _ _ w.field-0-0-is w.field-0-1-is w.field-0-2-is in
     by_script (record { nodes = w.nodes.now; dir = w.dir.now; script = w.script.now; tape = option_map (λ s. s.now) w.tape; is = task }) w.ensures.faults c.run_by_words.ensures.ends
 
@@ -34,3 +34,71 @@ returns-in-Err-clause-ends g c =
         | inr (inr (inr mistake)) ↦ let end = c.end_by_words.ensures.mistake mistake.0 mistake.1 in by_others (λ none. absurd (none_among (kind_of c.in-Err.error) _ among none)) (mistaken (kind_of c.in-Err.error) among mistake.1 end.0 end.1)
       ]
     ]
+
+-- the text of a word
+abbrev text_of : Option (Bor (List ℕ)) → Option Text
+text_of word = option_map (λ s. s.now) word
+
+-- what isn't a run with all its words
+without_nodes : (b c d : Option Text) (n x s : Text) (t : Option Text) → Run None b c d ≡ Run (Some n) (Some x) (Some s) t → ⊥
+without_nodes b c d n x s t is = absurd cc
+
+without_dir : (a c d : Option Text) (n x s : Text) (t : Option Text) → Run a None c d ≡ Run (Some n) (Some x) (Some s) t → ⊥
+without_dir a c d n x s t is = absurd cc
+
+without_script : (a b d : Option Text) (n x s : Text) (t : Option Text) → Run a b None d ≡ Run (Some n) (Some x) (Some s) t → ⊥
+without_script a b d n x s t is = absurd cc
+
+is_simulate : (a : Option Text) (n x s : Text) (t : Option Text) → Simulate a ≡ Run (Some n) (Some x) (Some s) t → ⊥
+is_simulate a n x s t is = absurd cc
+
+is_show : (a : Option Text) (n x s : Text) (t : Option Text) → Show a ≡ Run (Some n) (Some x) (Some s) t → ⊥
+is_show a n x s t is = absurd cc
+
+is_draw : (a b c : Option Text) (n x s : Text) (t : Option Text) → Draw a b c ≡ Run (Some n) (Some x) (Some s) t → ⊥
+is_draw a b c n x s t is = absurd cc
+
+is_audit : (a : Option Text) (n x s : Text) (t : Option Text) → Audit a ≡ Run (Some n) (Some x) (Some s) t → ⊥
+is_audit a n x s t is = absurd cc
+
+pub returns-in-Ok-Run-None-default-default-default-clause-ends : goal.returns-in-Ok-Run-None-default-default-default-clause-ends
+returns-in-Ok-Run-None-default-default-default-clause-ends g c =
+    let w = c.in-Ok-Run-None-default-default-default in
+    let task : task_of (map g.S.AsStr.text c.args.words.now) ≡ Run None (text_of w.field-0-1) (text_of w.field-0-2) (text_of w.field-0-3) = sym w.ensures.task ∙ ap task_in w.field-0-is ∙ run_from _ _ _ _ _ _ _ w.field-0-0-is refl refl in
+    by_others (λ none asks. without_nodes (text_of w.field-0-1) (text_of w.field-0-2) (text_of w.field-0-3) asks.nodes asks.dir asks.script asks.tape (sym task ∙ asks.is)) c.execute-in-Ok-Run-None-default-default-default.ensures.ends
+
+pub returns-in-Ok-Run-default-None-default-default-clause-ends : goal.returns-in-Ok-Run-default-None-default-default-clause-ends
+returns-in-Ok-Run-default-None-default-default-clause-ends g c =
+    let w = c.in-Ok-Run-default-None-default-default in
+    let task : task_of (map g.S.AsStr.text c.args.words.now) ≡ Run (text_of w.field-0-0) None (text_of w.field-0-2) (text_of w.field-0-3) = sym w.ensures.task ∙ ap task_in w.field-0-is ∙ run_from _ _ _ _ _ _ _ refl w.field-0-1-is refl in
+    by_others (λ none asks. without_dir (text_of w.field-0-0) (text_of w.field-0-2) (text_of w.field-0-3) asks.nodes asks.dir asks.script asks.tape (sym task ∙ asks.is)) c.execute-in-Ok-Run-default-None-default-default.ensures.ends
+
+pub returns-in-Ok-Run-default-default-None-default-clause-ends : goal.returns-in-Ok-Run-default-default-None-default-clause-ends
+returns-in-Ok-Run-default-default-None-default-clause-ends g c =
+    let w = c.in-Ok-Run-default-default-None-default in
+    let task : task_of (map g.S.AsStr.text c.args.words.now) ≡ Run (text_of w.field-0-0) (text_of w.field-0-1) None (text_of w.field-0-3) = sym w.ensures.task ∙ ap task_in w.field-0-is ∙ run_from _ _ _ _ _ _ _ refl refl w.field-0-2-is in
+    by_others (λ none asks. without_script (text_of w.field-0-0) (text_of w.field-0-1) (text_of w.field-0-3) asks.nodes asks.dir asks.script asks.tape (sym task ∙ asks.is)) c.execute.ensures.ends
+
+pub returns-in-Ok-Simulate-clause-ends : goal.returns-in-Ok-Simulate-clause-ends
+returns-in-Ok-Simulate-clause-ends g c =
+    let w = c.in-Ok-Simulate in
+    let task : task_of (map g.S.AsStr.text c.args.words.now) ≡ Simulate (text_of w.field-0-0) = sym w.ensures.task ∙ ap task_in w.field-0-is in
+    by_others (λ none asks. is_simulate (text_of w.field-0-0) asks.nodes asks.dir asks.script asks.tape (sym task ∙ asks.is)) c.execute-in-Ok-Simulate.ensures.ends
+
+pub returns-in-Ok-Show-clause-ends : goal.returns-in-Ok-Show-clause-ends
+returns-in-Ok-Show-clause-ends g c =
+    let w = c.in-Ok-Show in
+    let task : task_of (map g.S.AsStr.text c.args.words.now) ≡ Show (text_of w.field-0-0) = sym w.ensures.task ∙ ap task_in w.field-0-is in
+    by_others (λ none asks. is_show (text_of w.field-0-0) asks.nodes asks.dir asks.script asks.tape (sym task ∙ asks.is)) c.execute-in-Ok-Show.ensures.ends
+
+pub returns-in-Ok-Draw-clause-ends : goal.returns-in-Ok-Draw-clause-ends
+returns-in-Ok-Draw-clause-ends g c =
+    let w = c.in-Ok-Draw in
+    let task : task_of (map g.S.AsStr.text c.args.words.now) ≡ Draw (text_of w.field-0-0) (text_of w.field-0-1) (text_of w.field-0-2) = sym w.ensures.task ∙ ap task_in w.field-0-is in
+    by_others (λ none asks. is_draw (text_of w.field-0-0) (text_of w.field-0-1) (text_of w.field-0-2) asks.nodes asks.dir asks.script asks.tape (sym task ∙ asks.is)) c.execute-in-Ok-Draw.ensures.ends
+
+pub returns-in-Ok-Audit-clause-ends : goal.returns-in-Ok-Audit-clause-ends
+returns-in-Ok-Audit-clause-ends g c =
+    let w = c.in-Ok-Audit in
+    let task : task_of (map g.S.AsStr.text c.args.words.now) ≡ Audit (text_of w.field-0-0) = sym w.ensures.task ∙ ap task_in w.field-0-is in
+    by_others (λ none asks. is_audit (text_of w.field-0-0) asks.nodes asks.dir asks.script asks.tape (sym task ∙ asks.is)) c.execute-in-Ok-Audit.ensures.ends

@@ -4,7 +4,7 @@ use Rattle.rr_run.proofs.script_run.run_bytes.Goals as goal
 
 pub returns-in-Ok-clause-ends : goal.returns-in-Ok-clause-ends
 returns-in-Ok-clause-ends g c =
-    let (nodes, (lawful, text)) = c.in-Ok.ensures.found in
+    let (nodes, lawful, text) = c.in-Ok.ensures.found in
     asked c.in-Ok.script lawful nodes text c.run_over.ensures.ends
 
 pub returns-in-Err-clause-ends : goal.returns-in-Err-clause-ends

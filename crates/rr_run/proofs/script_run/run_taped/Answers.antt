@@ -3,10 +3,10 @@ use Rattle.rr_run.specs.Runs.{refused, stale}
 use Rattle.rr_run.proofs.script_run.run_taped.Goals as goal
 
 pub returns-in-Ok-false-clause-ends : goal.returns-in-Ok-false-clause-ends
-returns-in-Ok-false-clause-ends g c = stale tt refl refl
+returns-in-Ok-false-clause-ends g c = stale refl refl refl
 
 pub returns-in-Err-clause-ends : goal.returns-in-Err-clause-ends
 returns-in-Err-clause-ends g c = refused c.in-Err.refusal c.end_by_refusal.ensures refl
 
-pub returns-in-Err-run_script-clause-ends : goal.returns-in-Err-run_script-clause-ends
-returns-in-Err-run_script-clause-ends g c = refused c.in-Err-run_script.refusal c.end_by_refusal-in-Err-run_script.ensures refl
+pub returns-in-Err-ran-clause-ends : goal.returns-in-Err-ran-clause-ends
+returns-in-Err-ran-clause-ends g c = refused c.in-Err-ran.refusal c.end_by_refusal-in-Err-ran.ensures refl
