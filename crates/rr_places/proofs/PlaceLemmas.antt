@@ -39,6 +39,23 @@ module _ {K V : Type 0} where
   place_of_value test [] h = h
   place_of_value test (e ∷ es) h = place_of_first test e es (place_of_value test es) h (test e.0) refl
 
+  value_first : (test : K → Bool) (e : K × Option V) (es : List (K × Option V)) (v : V) → (lookup test es ≡ Some (Some v) → lookup test (filled es) ≡ Some v) → lookup test (e ∷ es) ≡ Some (Some v) → (b : Bool) → test e.0 ≡ b → lookup test (filled (e ∷ es)) ≡ Some v
+  value_first test e es v more h true at = let m : e.1 ≡ Some v = ap joined (rw at at h) in rw (m, at)
+  value_first test e es v more h false at = lookup_past test e.0 e.1 (filled es) at ∙ more (rw at at h)
+
+  -- a place that isn't free has a value
+  pub value_of_place : (test : K → Bool) (es : List (K × Option V)) (v : V) → lookup test es ≡ Some (Some v) → lookup test (filled es) ≡ Some v
+  value_of_place test [] v h = cc
+  value_of_place test (e ∷ es) v h = value_first test e es v (value_of_place test es v) h (test e.0) refl
+
+  -- and without a place there is no value
+  pub none_of_none : (test : K → Bool) (es : List (K × Option V)) → lookup test es ≡ None → is_some (lookup test (filled es)) ≡ false
+  none_of_none test es h = at (is_some (lookup test (filled es))) refl
+    where
+      at : (b : Bool) → is_some (lookup test (filled es)) ≡ b → b ≡ false
+      at true e = let p : is_some (lookup test es) ≡ true = place_of_value test es e in let n = ap is_some h in cc
+      at false e = refl
+
   length_cons : (k : K) (v : Option V) (es : List (K × V)) → length (filled_cons k v es) ≡ length es + held v
   length_cons k None es = omega arith
   length_cons k (Some v) es = omega arith

@@ -1,7 +1,7 @@
 //! Maps in which a key may have a place before it has a value. Making a place may need memory;
 //! giving a place a value, and taking it, needs none.
 
-ghost use Rattle.std.specs.Prelude.{◌≡◌, ◌+◌, cond, length, None, Some, IsTrue, IsSome, MatchOption, OnOk};
+ghost use Rattle.std.specs.Prelude.{◌≡◌, ◌+◌, false, cond, length, None, Some, is_some, IsTrue, IsSome, MatchOption, OnOk};
 ghost use Rattle.std.specs.BTreeMap.{is_at};
 ghost use Rattle.std.specs.Map.{lookup};
 ghost use Rattle.std.proofs.lemmas.Map.Lookups.{CmpEqualImpliesEq};
@@ -48,6 +48,7 @@ pub fn make_place<K: Ord + Copy + Drop, V: Drop>(
     ensures filled { filled map.new.entries ≡ filled map.old.entries }
     ensures made { OnOk result (IsTrue (has_place K.cmp map.new.entries key)) }
     ensures kept { (q : K) → IsTrue (has_place K.cmp map.old.entries q) → IsTrue (has_place K.cmp map.new.entries q) }
+    ensures only { (q : K) → is_at (K.cmp key) q ≡ false → has_place K.cmp map.new.entries q ≡ has_place K.cmp map.old.entries q }
 {
     if !map.contains_key(&key) {
         map.insert(key, None)?;
@@ -74,11 +75,17 @@ pub fn put<K: Ord + Copy + Drop, V: Drop>(
     }
 }
 
-/// Takes a key's place away if it is free.
+/// Takes a key's place away if it is free: the key then has a place just where it has a value.
 pub fn drop_free_place<K: Ord + Copy + Drop, V: Drop>(map: &mut BTreeMap<K, Option<V>>, key: &K)
-    ensures { filled map.new.entries ≡ filled map.old.entries }
+    ensures filled { filled map.new.entries ≡ filled map.old.entries }
+    ensures gone { has_place K.cmp map.new.entries key.now ≡ is_some (lookup (is_at (K.cmp key.now)) (filled map.old.entries)) }
+    ensures only { (q : K) → is_at (K.cmp key.now) q ≡ false → has_place K.cmp map.new.entries q ≡ has_place K.cmp map.old.entries q }
 {
-    if let Some(None) = map.get(key) {
-        map.remove(key);
+    match map.get(key) {
+        Some(None) => {
+            map.remove(key);
+        }
+        Some(Some(_)) => (),
+        None => (),
     }
 }

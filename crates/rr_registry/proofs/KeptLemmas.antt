@@ -31,7 +31,7 @@ module _ {K X : Type 0} (R : K → K → Ordering) where
   found_first t exact k v e es q more Greater h = rw h (ap (cond (is_at (R q) e.0) (Some e.1)) more ∙ found_past k v e (lookup (is_at (R q)) es) q t h (R q k) refl)
 
   -- what is found once a key has a value
-  lookup-insert_entry : IsTotalOrder R → CmpEqualImpliesEq R → (k : K) (v : X) (es : List (K × X)) (q : K) → lookup (is_at (R q)) (insert_entry R es k v) ≡ cond (is_at (R q) k) (Some v) (lookup (is_at (R q)) es)
+  pub lookup-insert_entry : IsTotalOrder R → CmpEqualImpliesEq R → (k : K) (v : X) (es : List (K × X)) (q : K) → lookup (is_at (R q)) (insert_entry R es k v) ≡ cond (is_at (R q) k) (Some v) (lookup (is_at (R q)) es)
   lookup-insert_entry t exact k v [] q = refl
   lookup-insert_entry t exact k v (e ∷ es) q = found_first t exact k v e es q (lookup-insert_entry t exact k v es q) (R k e.0) refl
 
@@ -39,7 +39,7 @@ requests_total : IsTotalOrder request_cmp
 requests_total = then_total (on_total (λ q. q.client) nat_cmp_total) (on_total (λ q. q.seq) nat_cmp_total)
 
 -- the reply to each request once one is kept
-reply_kept : (k : Kept) (r : RequestNo) (step : Bindings × Reply) (q : RequestNo) → kept_reply (keep k r step) q ≡ cond (is_same_request q r) (Some step.1) (kept_reply k q)
+pub reply_kept : (k : Kept) (r : RequestNo) (step : Bindings × Reply) (q : RequestNo) → kept_reply (keep k r step) q ≡ cond (is_same_request q r) (Some step.1) (kept_reply k q)
 reply_kept k r step q =
     sym (lookup-request q (insert_entry request_cmp k.replies r step.1))
     ∙ lookup-insert_entry request_cmp requests_total exact_requests r step.1 k.replies q
@@ -111,7 +111,7 @@ equal_of Equal h = refl
 equal_of Greater h = cc
 
 -- requests that are found to be one are one
-one_request : (p q : RequestNo) → is_same_request p q ≡ true → p ≡ q
+pub one_request : (p q : RequestNo) → is_same_request p q ≡ true → p ≡ q
 one_request p q h = exact_requests p q (equal_of (request_cmp p q) (eq-request_cmp p q ∙ h))
 
 reply_step : (k : Kept) (c : Command) (step : Bindings × Reply) (q : RequestNo) (later : Option Reply) → kept_reply k c.request ≡ None → (b : Bool) → is_same_request c.request q ≡ b → first_of (kept_reply (keep k c.request step) q) later ≡ first_of (kept_reply k q) (cond (is_same_request c.request q) (Some step.1) later)

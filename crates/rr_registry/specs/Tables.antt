@@ -1,4 +1,5 @@
-use Rattle.std.specs.Prelude.{◌≡◌, ℕ, Bool, true, ◌&&◌, List, length}
+use Rattle.std.specs.Prelude.{◌≡◌, ℕ, Bool, true, ◌&&◌, ◌||◌, List, [], length, is_some, IsTrue}
+use Rattle.std.specs.List.{list_any}
 use Rattle.std.specs.Ordering.{nat_cmp}
 use Rattle.std.specs.Cmp.Lexicographic.{slice_cmp}
 use Rattle.std.specs.Map.{remove_entry}
@@ -7,9 +8,9 @@ use Rattle.rr_types.specs.declared.command.RequestNo.{RequestNo}
 use Rattle.rr_types.specs.declared.command.Op.{Op}
 use Rattle.rr_types.specs.declared.command.Op.TheVariants.{Claim, Update, Release, Transfer}
 use Rattle.rr_types.specs.declared.command.Command.{Command}
-use Rattle.rr_types.specs.Registry.{Bindings}
+use Rattle.rr_types.specs.Registry.{Bindings, holding_of, is_same_request}
 use Rattle.rr_registry.specs.declared.tables.Tables.{Tables}
-use Rattle.rr_registry.specs.Kept.{Kept, request_cmp}
+use Rattle.rr_registry.specs.Kept.{Kept, request_cmp, kept_reply}
 use Rattle.rr_places.specs.Places.{filled, has_place}
 
 -- the bound names
@@ -53,3 +54,12 @@ name_of (Claim name value) = name
 name_of (Update name value) = name
 name_of (Release name) = name
 name_of (Transfer name owner) = name
+
+-- the free places are of these commands: each other name with a place is bound, and each other request with one has a reply
+pub record HasFreeOnlyFor (t : Tables) (cs : List Command) : Type 0 where
+  pub names : (n : List ℕ) → IsTrue (has_name_place t n) → IsTrue (is_some (holding_of (bindings_in t) n) || list_any (λ c. bytes_eq (name_of c.op) n) cs)
+  pub replies : (q : RequestNo) → IsTrue (has_reply_place t q) → IsTrue (is_some (kept_reply (kept_in t) q) || list_any (λ c. is_same_request c.request q) cs)
+
+-- no place is free: a registry keeps the places of its bound names and kept replies alone
+abbrev pub HasNoFree : Tables → Type 0
+HasNoFree t = HasFreeOnlyFor t []

@@ -13,7 +13,8 @@ use std::alloc::Global;
 use std::marker::Model;
 
 /// The names that are bound, and the reply to each request. It is the registry of a list of commands, of
-/// which each request counts once, where it first comes.
+/// which each request counts once, where it first comes. It keeps a place in memory for each bound name and each
+/// reply, and no other: the place of a released name goes.
 #[derive(Drop)]
 pub struct Registry {
     tables: Tables,
@@ -24,11 +25,11 @@ impl Model for Registry {
 
     ghost Value = { Kept };
 
-    ghost use Rattle.rr_registry.specs.Tables.{kept_in, IsCounted};
+    ghost use Rattle.rr_registry.specs.Tables.{kept_in, IsCounted, HasNoFree};
 
     ghost view = { λ r. kept_in r.tables };
 
-    ghost invariant = { λ r. IsCounted r.tables };
+    ghost invariant = { λ r. IsCounted r.tables × HasNoFree r.tables };
 }
 
 impl Registry {

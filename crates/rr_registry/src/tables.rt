@@ -1,15 +1,16 @@
 //! The two tables of a registry: the bound names, and the kept replies. A command is first given its
 //! places, which may need memory, and then applied, which needs none.
 
-ghost use Rattle.std.specs.Prelude.{◌≡◌, ℕ, List, [], ◌+◌, length, IsTrue, IsSome, OnOk, IfErr};
+ghost use Rattle.std.specs.Prelude.{◌≡◌, ℕ, false, List, [], ◌∷◌, ◌+◌, length, IsTrue, IsSome, OnOk, IfErr};
 ghost use Rattle.std.specs.List.{All};
+ghost use Rattle.std.specs.Str.{bytes_eq};
 ghost use Rattle.rr_types.specs.declared.command.Command.{Command};
 ghost use Rattle.rr_types.specs.Registry.{holding_of, claim, by_owner, apply_op, bind};
 ghost use Rattle.std.specs.BTreeMap.{insert_entry};
 ghost use Rattle.rr_types.specs.declared.command.RequestNo.{RequestNo};
 ghost use Rattle.rr_registry.specs.Kept.{request_cmp, kept_reply, applied, applied_all};
 ghost use Rattle.rr_places.specs.Places.{held};
-ghost use Rattle.rr_registry.specs.Tables.{unbind, bindings_in, kept_in, has_name_place, has_reply_place, has_op_place, has_places, name_of, IsCounted};
+ghost use Rattle.rr_registry.specs.Tables.{unbind, bindings_in, kept_in, has_name_place, has_reply_place, has_op_place, has_places, name_of, IsCounted, HasFreeOnlyFor, HasNoFree};
 
 use crate::entries::Entries;
 use crate::holding::Holding;
@@ -32,6 +33,7 @@ impl Tables {
     pub(crate) fn new(alloc: Global) -> Tables
         ensures kept { kept_in result ≡ record { bindings = []; replies = [] } }
         ensures counted { IsCounted result }
+        ensures free { HasNoFree result }
     {
         Tables {
             names: BTreeMap::new(alloc),
@@ -189,6 +191,7 @@ impl Tables {
         ensures kept { kept_in self.new ≡ applied (kept_in self.old) command.now }
         ensures counted { IsCounted self.new }
         ensures places { (c : Command) → has_places self.new c ≡ has_places self.old c }
+        ensures free { (cs : List Command) → HasFreeOnlyFor self.old cs → HasFreeOnlyFor self.new (command.now ∷ cs) }
     {
         if self.reply(command.request).is_none() {
             let reply = self.change(command.request.client, &command.op);
@@ -197,11 +200,14 @@ impl Tables {
     }
 
     /// Applies commands that have their places, in their order.
+    #[tactic(auto, using(crate::proofs::FreeLemmas::free_known))]
     pub(crate) fn perform_all(&mut self, commands: &[Command])
         requires places { All (λ c. IsTrue (has_places self.old c)) commands.now }
         requires counted { IsCounted self.old }
+        requires free { HasFreeOnlyFor self.old commands.now }
         ensures kept { kept_in self.new ≡ applied_all (kept_in self.old) commands.now }
         ensures counted { IsCounted self.new }
+        ensures free { HasFreeOnlyFor self.new commands.now }
     {
         for command in commands {
             self.perform(command);
@@ -214,6 +220,7 @@ impl Tables {
         ensures count { self.new.bound ≡ self.old.bound }
         ensures made { OnOk result (IsTrue (has_places self.new command.now)) }
         ensures stay { (c : Command) → IsTrue (has_places self.old c) → IsTrue (has_places self.new c) }
+        ensures free { (cs : List Command) → HasFreeOnlyFor self.old cs → HasFreeOnlyFor self.new (command.now ∷ cs) }
         ensures refused { IfErr result (λ e. e ≡ Refusal.OutOfMemory) }
     {
         make_place(&mut self.replies, command.request)?;
@@ -225,6 +232,7 @@ impl Tables {
         ensures others { (self.new.replies ≡ self.old.replies) × (self.new.bound ≡ self.old.bound) }
         ensures made { OnOk result (IsTrue (has_op_place self.new op.now)) }
         ensures stay { (n : List ℕ) → IsTrue (has_name_place self.old n) → IsTrue (has_name_place self.new n) }
+        ensures only { (n : List ℕ) → bytes_eq (name_of op.now) n ≡ false → has_name_place self.new n ≡ has_name_place self.old n }
         ensures refused { IfErr result (λ e. e ≡ Refusal.OutOfMemory) }
     {
         match op {
@@ -236,10 +244,13 @@ impl Tables {
     }
 
     /// The same for each of the commands.
+    #[tactic(auto, using(crate::proofs::FreeLemmas::free_all, crate::proofs::FreeLemmas::free_known))]
     pub(crate) fn make_all_places(&mut self, commands: &[Command]) -> Result<(), Refusal>
+        requires free { HasNoFree self.old }
         ensures kept { kept_in self.new ≡ kept_in self.old }
         ensures count { self.new.bound ≡ self.old.bound }
         ensures made { OnOk result (All (λ c. IsTrue (has_places self.new c)) commands.now) }
+        ensures free { HasFreeOnlyFor self.new commands.now }
         ensures refused { IfErr result (λ e. e ≡ Refusal.OutOfMemory) }
     {
         for command in commands {
@@ -248,14 +259,26 @@ impl Tables {
         Ok(())
     }
 
-    /// Takes away the places of these commands that are free.
-    pub(crate) fn drop_free_places(&mut self, commands: &[Command])
+    /// Takes away the places of a command that are free.
+    fn drop_places(&mut self, command: &Command)
         ensures kept { kept_in self.new ≡ kept_in self.old }
         ensures count { self.new.bound ≡ self.old.bound }
+        ensures free { (cs : List Command) → HasFreeOnlyFor self.old (command.now ∷ cs) → HasFreeOnlyFor self.new cs }
+    {
+        drop_free_place(&mut self.replies, &command.request);
+        drop_free_place(&mut self.names, name_of(&command.op));
+    }
+
+    /// The same for each of these commands: no free place is left.
+    #[tactic(auto, using(crate::proofs::FreeLemmas::free_next, crate::proofs::FreeLemmas::free_end))]
+    pub(crate) fn drop_free_places(&mut self, commands: &[Command])
+        requires free { HasFreeOnlyFor self.old commands.now }
+        ensures kept { kept_in self.new ≡ kept_in self.old }
+        ensures count { self.new.bound ≡ self.old.bound }
+        ensures free { HasNoFree self.new }
     {
         for command in commands {
-            drop_free_place(&mut self.replies, &command.request);
-            drop_free_place(&mut self.names, name_of(&command.op));
+            self.drop_places(command);
         }
     }
 }

@@ -1,10 +1,12 @@
-use Rattle.std.proofs.Common.{◌≡◌}
-use Rattle.rr_registry.specs.Tables.{kept_in}
+use Rattle.std.proofs.Common.{◌≡◌, drop}
+use Rattle.rr_registry.specs.Tables.{kept_in, HasFreeOnlyFor}
 use Rattle.rr_registry.proofs.tables.Tables.drop_free_places.Given as goal
 
+-- the free places are those of the commands that are left
 abbrev pub invariant-loop-command : goal.invariant-loop-command
 invariant-loop-command l =
     record {
       kept : kept_in l.self ≡ kept_in l.fn.self;
       count : l.self.bound ≡ l.fn.self.bound;
+      free : HasFreeOnlyFor l.self (drop l.command-index l.commands);
     }

@@ -1,6 +1,7 @@
 use Rattle.std.proofs.Common.{IsTrue, take, ◌∙◌}
 use Rattle.std.proofs.lemmas.List.Elements.{All-more, All-weaker}
 use Rattle.rr_registry.specs.Tables.{has_places}
+use Rattle.rr_registry.proofs.FreeLemmas.{free_known}
 use Rattle.rr_registry.proofs.tables.Tables.make_all_places.Goals as goal
 
 pub loop-command-preserved : goal.loop-command-preserved
@@ -14,4 +15,5 @@ loop-command-preserved c =
           All-more (λ x. IsTrue (has_places c.make_places.new.self x)) commands c.loop-command.command-index c.command-item.result c.loop-command-test.true
           (All-weaker (λ x. IsTrue (has_places c.loop-command.self x)) (λ x. IsTrue (has_places c.make_places.new.self x)) c.make_places.ensures.stay (take c.loop-command.command-index commands) c.loop-command.invariant.made)
           (rw (← c.command-item.is) place);
+      free = free_known c.make_places.new.self commands c.loop-command.command-index c.command-item.result c.loop-command-test.true c.command-item.is (c.make_places.ensures.free commands c.loop-command.invariant.free);
     }

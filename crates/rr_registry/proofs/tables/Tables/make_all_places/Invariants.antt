@@ -1,6 +1,6 @@
 use Rattle.std.proofs.Common.{◌≡◌, IsTrue, take}
 use Rattle.std.specs.List.{All}
-use Rattle.rr_registry.specs.Tables.{kept_in, has_places}
+use Rattle.rr_registry.specs.Tables.{kept_in, has_places, HasFreeOnlyFor}
 use Rattle.rr_registry.proofs.tables.Tables.make_all_places.Given as goal
 
 -- the commands so far have their places
@@ -10,4 +10,5 @@ invariant-loop-command l =
       kept : kept_in l.self ≡ kept_in l.fn.self;
       count : l.self.bound ≡ l.fn.self.bound;
       made : All (λ c. IsTrue (has_places l.self c)) (take l.command-index l.commands);
+      free : HasFreeOnlyFor l.self l.commands;
     }
