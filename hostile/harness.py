@@ -1,6 +1,5 @@
 """What the parts share: running rr, asking the plain Rust program, and counting what was tried."""
 import collections
-import contextlib
 import os
 import pathlib
 import shutil
@@ -60,6 +59,12 @@ class Plain:
     def sim(self, text):
         return self.as_rr(f"sim {len(text)}", text)
 
+    def audit(self, text):
+        return self.as_rr(f"audit {len(text)}", text)
+
+    def script(self, nodes, text):
+        return self.as_rr(f"script {nodes} {len(text)}", text)
+
     def starved(self, text, *lines):
         """The report where the events of these lines find no memory; None where none of them takes any."""
         ending = self.ask(f"sim {len(text)} {' '.join(map(str, lines))}", text)
@@ -89,9 +94,9 @@ def hang(number, frame):
 class Rig:
     """A process's own folder, the program rr in it, and a plain Rust program to ask."""
 
-    def __init__(self, rr, plain):
+    def __init__(self, rr, plain, many=None):
         memory = "/dev/shm" if os.path.isdir("/dev/shm") else None
-        self.rr = rr
+        self.rr, self.many = rr, many
         self.plain = Plain(plain)
         self.folder = tempfile.mkdtemp(prefix="hostile", dir=memory)
         flags = os.O_RDWR | os.O_CREAT | os.O_TRUNC
@@ -110,7 +115,7 @@ class Rig:
 
     def run(self, *words, env=None):
         """Runs rr by these words, in no other environment; a run that hangs is ended, and has no status. The second line
-        on the fault of a text, which the plain Rust program doesn't tell, goes to `why`."""
+        on the fault of a text or an event of a tape, which the plain Rust program doesn't tell, goes to `why`."""
         return self.run_all([self.rr, *words], env)
 
     def run_all(self, words, env=None):
@@ -122,10 +127,19 @@ class Rig:
         child = os.posix_spawn(words[0], words, env or {}, file_actions=actions)
         ending = Ending(self.end_of(child), self.printed(self.out), self.printed(self.err))
         self.why = b""
-        if ending.status == 3:
+        if ending.status in (3, 7):
             line, feed, self.why = ending.err.partition(b"\n")
             ending = ending._replace(err=line + feed)
         return ending
+
+    def ask_many(self, questions):
+        """What rr's libraries answer to questions, each its line and the bytes behind it, in one process for all of them.
+        Answers the endings; of one that ended before its time those that it gave, and None behind them."""
+        path = self.write("questions", b"".join(line.encode() + b"\n" + b"".join(parts) for line, *parts in questions))
+        with open(path, "rb") as file:
+            ran = subprocess.run([self.many], cwd=self.folder, stdin=file, stdout=subprocess.PIPE, env={}, check=False)
+        endings = list(answers_of(ran.stdout))
+        return endings + [None] * (len(questions) - len(endings))
 
     @staticmethod
     def end_of(child):
@@ -150,13 +164,15 @@ class Rig:
         shutil.rmtree(self.folder, ignore_errors=True)
 
 
-@contextlib.contextmanager
-def rig_of(rr, plain):
-    rig = Rig(rr, plain)
-    try:
-        yield rig
-    finally:
-        rig.close()
+def answers_of(text):
+    """The answers of many: a line of three numbers, standard output and standard error."""
+    at = 0
+    while at < len(text):
+        line, _, _ = text[at : at + 80].partition(b"\n")
+        status, out, err = map(int, line.split())
+        at += len(line) + 1
+        yield Ending(status, text[at : at + out], text[at + out : at + out + err])
+        at += out + err
 
 
 def schedules(names=None):

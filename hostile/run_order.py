@@ -23,9 +23,9 @@ LINE = re.compile(r"^(\d+) +(?:(\w+)\((.*)|<\.\.\. (\w+) resumed>(.*))$")
 ANSWER = re.compile(r"\) += (-?\d+)")
 AREA = re.compile(r"/nodes/(\d)/a([01])$")
 SEEDS = 60
-SHORT = 4
+SHORT = 2
 # One call of so many is followed by runs of what a power cut left.
-RUN_SHARE = 12
+RUN_SHARE = 60
 
 
 def tasks(options):
