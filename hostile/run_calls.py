@@ -19,6 +19,8 @@ ERRORS = {"EIO": errno.EIO, "ENOSPC": errno.ENOSPC, "EINTR": errno.EINTR}
 KINDS = ("open", "read", "write", "sync")
 HOWS = {"open": ("EIO", "ENOSPC", "EINTR"), "read": ("EIO", "EINTR", "short"), "write": ("EIO", "ENOSPC", "EINTR", "short", "torn"), "sync": ("EIO", "ENOSPC", "EINTR")}
 KILLS = ("kill", "killed")
+# Calls that no signal interrupts; where one is told so all the same, it has failed.
+NEVER_INTERRUPTED = ("lseek", "statx", "mkdir", "ftruncate")
 TRACED = ("openat", "mkdir", "flock", "statx", "lseek", "read", "write", "fdatasync", "fsync", "ftruncate")
 MOST_TRACED = 60
 ENOUGH = 3
@@ -71,7 +73,8 @@ def each_traced(made, tally, what, call, first, stride):
             ending = made.rig.run_all(words)
             is_injected = b"(INJECTED)" in scripts.bytes_of(made.count)
             tally.counts[f"{call} by strace"] += is_injected
-            made.judge(tally, f"{what}, {call} {number} by {how}, strace", how, ending, is_injected)
+            harm = "EIO" if call in NEVER_INTERRUPTED else how
+            made.judge(tally, f"{what}, {call} {number} by {how}, strace", harm, ending, is_injected)
             reached |= is_injected
         if not reached:
             break

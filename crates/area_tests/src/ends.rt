@@ -41,22 +41,19 @@ fn long_fact(rt: &impl Abort) -> Fact {
     entered(rt, &[b'a'; 64], &[b'x'; 64])
 }
 
-/// A group of so many of these facts and of the last one.
-fn group_of(
-    rt: &impl Abort,
-    alloc: Global,
-    serial: u64,
-    count: usize,
-    fact: Fact,
-    last: Fact,
-) -> Group {
-    let _parts: Option<(Command, Estimate, Op)> = None;
+/// A group of so many facts of 156 bytes and of a last one.
+fn group_of(rt: &impl Abort, alloc: Global, serial: u64, count: usize, last: Fact) -> Group {
     let mut facts = Vec::new(alloc);
     for _ in 0..count {
-        facts.push(fact).expect(rt, "memory");
+        facts.push(long_fact(rt)).expect(rt, "memory");
     }
     facts.push(last).expect(rt, "memory");
     Group::new(serial, facts).expect(rt, "a group")
+}
+
+/// A full group of these facts.
+fn full_group(rt: &impl Abort, alloc: Global, serial: u64) -> Group {
+    group_of(rt, alloc, serial, FACTS - 1, long_fact(rt))
 }
 
 /// The group that ends an area behind the full groups, but for so many bytes more in its last value.
@@ -64,7 +61,7 @@ fn last_group(rt: &impl Abort, alloc: Global, more: usize) -> Group {
     let value = [b'x'; 64];
     let last = entered(rt, b"a", &value[..LAST_VALUE.saturating_add(more).min(64)]);
     let serial = GROUPS.saturating_mul(FACTS as u64);
-    group_of(rt, alloc, serial, LAST_FACTS, long_fact(rt), last)
+    group_of(rt, alloc, serial, LAST_FACTS, last)
 }
 
 /// Flushes a group.
@@ -99,18 +96,15 @@ fn a_group_that_passes_the_last_byte_is_handed_back(rt: HostRuntime) {
     let node = NodeId::new(nodes, 0).expect(&rt, "a node");
     let opening = Journal::open(alloc, nodes, node, Nowhere::new());
     let (mut journal, _opened) = opening.expect(&rt, "an opening");
-    let fact = long_fact(&rt);
     for number in 0..GROUPS {
         let serial = number.saturating_mul(FACTS as u64);
-        let full = group_of(&rt, alloc, serial, FACTS - 1, fact, fact);
-        flush(&rt, alloc, &mut journal, full);
+        flush(&rt, alloc, &mut journal, full_group(&rt, alloc, serial));
     }
     let serial = GROUPS.saturating_mul(FACTS as u64);
-    let full = group_of(&rt, alloc, serial, FACTS - 1, fact, fact);
-    assert_too_large(&rt, alloc, &mut journal, full);
+    assert_too_large(&rt, alloc, &mut journal, full_group(&rt, alloc, serial));
     assert_too_large(&rt, alloc, &mut journal, last_group(&rt, alloc, 1));
     // A refusal changes nothing: what ends at the last byte is flushed, and then nothing more.
     flush(&rt, alloc, &mut journal, last_group(&rt, alloc, 0));
-    let small = group_of(&rt, alloc, serial, 0, fact, entered(&rt, b"a", b""));
+    let small = group_of(&rt, alloc, serial, 0, entered(&rt, b"a", b""));
     assert_too_large(&rt, alloc, &mut journal, small);
 }

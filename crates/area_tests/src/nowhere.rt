@@ -8,7 +8,7 @@ use rr_types::Refusal;
 use std::alloc::Global;
 
 /// A disk that keeps nothing and tells no bytes. Each of its calls is done, but a write past all numbers.
-#[derive(Drop)]
+#[derive(Debug, Drop)]
 pub struct Nowhere {
     calls: u64,
     faults: u64,
