@@ -9,7 +9,9 @@ import tempfile
 
 TREE = pathlib.Path(__file__).resolve().parent.parent
 DATA = TREE / "crates/worked_rows/data"
+# Seconds after which a run hangs: of one that goes its way, and of one that may wait for clocks.
 LIMIT = 20
+LONG = 150
 
 Ending = collections.namedtuple("Ending", "status out err")
 NO_MEMORY = b"rr: 1 OutOfMemory\n"
@@ -70,6 +72,9 @@ class Plain:
         ending = self.ask(f"sim {len(text)} {' '.join(map(str, lines))}", text)
         return None if ending.err else ending.out
 
+    def message(self, data):
+        return self.as_rr(f"message {len(data)}", data)
+
     def show(self, areas):
         return self.as_rr(f"show {len(areas[0])} {len(areas[1])}", *areas)
 
@@ -113,19 +118,19 @@ class Rig:
             file.write(data)
         return path
 
-    def run(self, *words, env=None):
+    def run(self, *words, env=None, limit=LIMIT):
         """Runs rr by these words, in no other environment; a run that hangs is ended, and has no status. The second line
         on the fault of a text or an event of a tape, which the plain Rust program doesn't tell, goes to `why`."""
-        return self.run_all([self.rr, *words], env)
+        return self.run_all([self.rr, *words], env, limit)
 
-    def run_all(self, words, env=None):
+    def run_all(self, words, env=None, limit=LIMIT):
         for to in (self.out, self.err):
             os.ftruncate(to, 0)
             os.lseek(to, 0, os.SEEK_SET)
         actions = [(os.POSIX_SPAWN_DUP2, self.out, 1), (os.POSIX_SPAWN_DUP2, self.err, 2)]
         actions.append((os.POSIX_SPAWN_OPEN, 0, "/dev/null", os.O_RDONLY, 0))
         child = os.posix_spawn(words[0], words, env or {}, file_actions=actions)
-        ending = Ending(self.end_of(child), self.printed(self.out), self.printed(self.err))
+        ending = Ending(self.end_of(child, limit), self.printed(self.out), self.printed(self.err))
         self.why = b""
         if ending.status in (3, 7):
             line, feed, self.why = ending.err.partition(b"\n")
@@ -142,9 +147,9 @@ class Rig:
         return endings + [None] * (len(questions) - len(endings))
 
     @staticmethod
-    def end_of(child):
+    def end_of(child, limit):
         """The status of a child; less than 0 where a signal ended it, None where it hung."""
-        signal.alarm(LIMIT)
+        signal.alarm(limit)
         try:
             return os.waitstatus_to_exitcode(os.waitpid(child, 0)[1])
         except Hung:

@@ -13,7 +13,7 @@ import shutil
 
 import run_memory
 import scripts
-from harness import Tally, tell
+from harness import LONG, Tally, tell
 
 ERRORS = {"EIO": errno.EIO, "ENOSPC": errno.ENOSPC, "EINTR": errno.EINTR}
 KINDS = ("open", "read", "write", "sync")
@@ -70,7 +70,7 @@ def each_traced(made, tally, what, call, first, stride):
                 words += ["-P", path]
             words += ["-e", f"trace={call}", "-e", f"inject={call}:error={how}:when={number}", made.rig.rr, *made.words]
             made.clear()
-            ending = made.rig.run_all(words)
+            ending = made.rig.run_all(words, limit=LONG)
             is_injected = b"(INJECTED)" in scripts.bytes_of(made.count)
             tally.counts[f"{call} by strace"] += is_injected
             harm = "EIO" if call in NEVER_INTERRUPTED else how
@@ -91,7 +91,7 @@ class Broken(run_memory.Made):
     def break_call(self, tally, what, how, env, number):
         """A run of which this call goes wrong, and one over its folders without faults. Answers whether it came to the call."""
         self.clear()
-        ending = self.rig.run(*self.words, env=env)
+        ending = self.rig.run(*self.words, env=env, limit=LONG)
         if how in KILLS:
             is_reached = ending.status == -9
         else:

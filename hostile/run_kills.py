@@ -13,7 +13,7 @@ import time
 
 import reading
 import scripts
-from harness import LIMIT, Tally, tell
+from harness import LONG, Tally, tell
 
 KILLS = 1000
 SHORT = 30
@@ -45,7 +45,7 @@ def work(rig, options, seed):
         for disk in disks:
             decided.decided.update(disk.decided)
     what = f"seed {seed}, {nodes} nodes, the last run"
-    ending = rig.run("run", "--nodes", str(nodes), "--dir", folder, "--script", rig.write("script", scripts.text_of(lines)))
+    ending = rig.run("run", "--nodes", str(nodes), "--dir", folder, "--script", rig.write("script", scripts.text_of(lines)), limit=LONG)
     disks = scripts.disks_of(folder, nodes)
     commands = scripts.check_disks(tally, what, lines, disks, decided)
     if tally.check(ending.status == 0 and not ending.err, lambda: f"{what}: {tell(ending)}"):
@@ -76,7 +76,7 @@ def seconds_of_a_run(rig, nodes):
     shutil.rmtree(folder, ignore_errors=True)
     script = rig.write("timed-script", scripts.text_of(scripts.draw(random.Random(1), nodes, 12)))
     begun = time.monotonic()
-    rig.run("run", "--nodes", str(nodes), "--dir", folder, "--script", script)
+    rig.run("run", "--nodes", str(nodes), "--dir", folder, "--script", script, limit=LONG)
     return time.monotonic() - begun
 
 
@@ -86,6 +86,6 @@ def killed(rig, words, seconds):
     actions = [(os.POSIX_SPAWN_DUP2, none, to) for to in (0, 1, 2)]
     child = os.posix_spawn(rig.rr, [rig.rr, *words], {}, file_actions=actions)
     os.close(none)
-    time.sleep(min(seconds, LIMIT))
+    time.sleep(min(seconds, LONG))
     os.kill(child, signal.SIGKILL)
     return os.waitstatus_to_exitcode(os.waitpid(child, 0)[1])

@@ -11,7 +11,7 @@ import random
 import shutil
 
 import scripts
-from harness import NO_MEMORY, Tally, tell
+from harness import LONG, NO_MEMORY, Tally, tell
 
 ALL = "1000000000"
 STRIPES = 8
@@ -62,7 +62,7 @@ class Made:
         """Has the folders hold what a run of these lines leaves."""
         shutil.rmtree(self.folder, ignore_errors=True)
         self.earlier = lines
-        self.rig.run(*self.words_of(lines, "first"))
+        self.rig.run(*self.words_of(lines, "first"), limit=LONG)
         shutil.rmtree(self.kept, ignore_errors=True)
         os.rename(self.folder, self.kept)
 
@@ -78,7 +78,7 @@ class Made:
         """A run of which this request is refused, and one over its folders without fault. Answers whether it was made."""
         self.clear()
         env = {"LD_PRELOAD": options.preload, "FAIL_ALLOC": str(number), "FAIL_MANY": many, "COUNT_ALLOC": self.count}
-        ending = self.rig.run(*self.words, env=env)
+        ending = self.rig.run(*self.words, env=env, limit=LONG)
         asked = int(scripts.bytes_of(self.count) or 0)
         disks = scripts.disks_of(self.folder, self.nodes)
         lines = self.earlier + self.lines
@@ -107,7 +107,7 @@ class Made:
 
     def again(self, tally, what, lines, before):
         """The folders are opened again, and all is asked once more."""
-        ending = self.rig.run(*self.words_of(lines, "again"))
+        ending = self.rig.run(*self.words_of(lines, "again"), limit=LONG)
         what = f"{what}, opened again"
         disks = scripts.disks_of(self.folder, self.nodes)
         for disk in before:

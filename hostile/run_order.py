@@ -16,7 +16,7 @@ import shutil
 
 import reading
 import scripts
-from harness import Tally, tell
+from harness import LONG, Tally, tell
 
 TRACED = "lseek,write,fdatasync,fsync"
 LINE = re.compile(r"^(\d+) +(?:(\w+)\((.*)|<\.\.\. (\w+) resumed>(.*))$")
@@ -64,7 +64,7 @@ def traced(rig, folder, nodes, lines):
     """Runs a script under strace: how it ended, and the calls on areas and standard output in their order."""
     trace, script = rig.path("trace"), rig.write("script", scripts.text_of(lines))
     words = [shutil.which("strace"), "-q", "-f", "-xx", "-y", "-s", "1000000", "-o", trace, "-e", f"trace={TRACED}"]
-    ending = rig.run_all([*words, rig.rr, "run", "--nodes", str(nodes), "--dir", folder, "--script", script])
+    ending = rig.run_all([*words, rig.rr, "run", "--nodes", str(nodes), "--dir", folder, "--script", script], limit=LONG)
     with open(trace) as file:
         events = list(events_of(file))
     os.remove(trace)
@@ -257,7 +257,7 @@ class Watched:
         script = self.rig.write("again", scripts.text_of(self.everything))
         before = [reading.Disk(its.synced) for its in self.nodes]
         found = scripts.acknowledged(self.lines, self.named)
-        ending = self.rig.run("run", "--nodes", str(self.count), "--dir", folder, "--script", script)
+        ending = self.rig.run("run", "--nodes", str(self.count), "--dir", folder, "--script", script, limit=LONG)
         disks = scripts.disks_of(folder, self.count)
         what = f"{self.what}, gone on behind a power cut"
         for disk in before:

@@ -1,9 +1,9 @@
-"""Each byte of some schedules, tapes and scripts takes each of its 256 values, with --short each fourth of some, and the
-text is cut at each place.
+"""Each byte of some schedules, tapes, scripts and messages takes each of its 256 values, with --short each fourth, and is
+cut at each place.
 
-What rr's libraries answer is what the plain Rust program does: a report, a verdict, or the line of the first fault.
-Behind each fault a second line tells people what is wrong in that line. One text of some is given to `rr` itself, which
-has to end as the libraries do.
+What rr's libraries answer is what the plain Rust program does: a report, a verdict, what was read, or the first fault.
+Behind the fault of a schedule or tape a second line tells people what is wrong in that line. One text of some is given to
+`rr` itself, which has to end as the libraries do.
 """
 import re
 
@@ -19,13 +19,28 @@ WHY_NO = re.compile(rb"event ([1-9]\d*) \(line [1-9]\d*\): [ -~]+\n")
 STRETCH = 4
 # One text of so many is given to rr itself.
 SHARE = 16
-QUESTIONS = {"schedule": "sim", "tape": "audit", "script": f"script {NODES}"}
+QUESTIONS = {"schedule": "sim", "tape": "audit", "script": f"script {NODES}", "message": "message"}
+MALFORMED = re.compile(rb"rr: 11 Malformed (?:0|[1-9]\d*)\n")
+# A message of each kind, from node 0 or 1 of 7: version, sender, addressee, kind, and the body.
+COMMANDS = {"claim": "00000007 0000000000000001 01 01 61 01 78", "transfer": "FFFFFFFF FFFFFFFFFFFFFFFF 04 02 612D 00000008"}
+BODIES = {
+    "estimate": "01 00000000 00000003 00000002 " + COMMANDS["claim"],
+    "proposal": "02 000FFFFF 7FFFFFFF " + COMMANDS["transfer"],
+    "ack": "03 00000001 00000002",
+    "decision": "04 00000000 " + COMMANDS["claim"],
+    "request": "05 " + COMMANDS["transfer"],
+    "nack": "06 00000000 00000001",
+    "beat": "07",
+    "suspects": "08 41",
+    "ask": "09 00000100",
+}
 
 
 def tasks(options):
     texts = [("schedule", name, DATA / f"{name}.schedule") for name in SCHEDULES] + [("tape", name, DATA / f"{name}.tape") for name in TAPES]
-    each = [(kind, "each_kind", TREE / f"hostile/each_kind.{kind}") for kind in QUESTIONS]
+    each = [(kind, "each_kind", TREE / f"hostile/each_kind.{kind}") for kind in QUESTIONS if kind != "message"]
     texts = [(kind, name, path.read_bytes()) for kind, name, path in (each if options.short else texts + each)]
+    texts += [("message", name, bytes.fromhex(f"02 00 01 {body}")) for name, body in BODIES.items()]
     return [(kind, name, text, at) for kind, name, text in texts for at in range(0, len(text), STRETCH)]
 
 
@@ -36,7 +51,7 @@ def work(rig, options, task):
     endings = rig.ask_many([(f"{QUESTIONS[kind]} {len(text)}", text) for _, text in cases])
     for number, ((what, text), ending) in enumerate(zip(cases, endings)):
         judge(rig, tally, kind, what, text, ending)
-        if number % SHARE == 0:
+        if number % SHARE == 0 and kind != "message":
             by_program(rig, tally, kind, what, text, ending)
     return tally
 
@@ -54,7 +69,9 @@ def altered(options, tally, kind, name, text, start):
 
 def judge(rig, tally, kind, what, text, ending):
     """A text has the answer or the fault that the plain Rust program gives it."""
-    wanted = {"schedule": rig.plain.sim, "tape": rig.plain.audit, "script": lambda text: rig.plain.script(NODES, text)}[kind](text)
+    plain = rig.plain
+    asked = {"schedule": plain.sim, "tape": plain.audit, "script": lambda text: plain.script(NODES, text), "message": plain.message}
+    wanted = asked[kind](text)
     tally.counts["answers" if wanted.status == 0 else "refusals of a tape's event" if wanted.status == 7 else "faults"] += 1
     if not tally.check(ending, f"{what}: no answer"):
         return
@@ -62,8 +79,9 @@ def judge(rig, tally, kind, what, text, ending):
     if not compare(tally, what, ending._replace(err=line + feed), wanted):
         return
     fault, no = FAULT.fullmatch(line + feed), NO.fullmatch(line + feed)
-    is_lawful = {0: not ending.err, 3: fault and not ending.out, 7: kind == "tape" and no and not ending.out}.get(ending.status)
-    tally.check(is_lawful, lambda: f"{what}: {tell(ending)}")
+    malformed = kind == "message" and MALFORMED.fullmatch(ending.err)
+    is_lawful = {0: not ending.err, 3: fault and not ending.out, 5: malformed and not ending.out, 7: kind == "tape" and no and not ending.out}
+    tally.check(is_lawful.get(ending.status), lambda: f"{what}: {tell(ending)}")
     if kind != "script" and (fault or no):
         told = WHY.fullmatch(why) if fault else WHY_NO.fullmatch(why)
         tally.check(told and told[1] == (fault[1] or b"1" if fault else no[1]), lambda: f"{what}: {tell(ending)}")

@@ -64,14 +64,29 @@ fn last_group(rt: &impl Abort, alloc: Global, more: usize) -> Group {
     group_of(rt, alloc, serial, LAST_FACTS, last)
 }
 
-/// Flushes a group.
-fn flush(rt: &impl Abort, alloc: Global, journal: &mut Journal<Nowhere>, group: Group) {
+/// Flushes a group, and gives its facts back.
+fn flush(
+    rt: &impl Abort,
+    alloc: Global,
+    journal: &mut Journal<Nowhere>,
+    group: Group,
+) -> Vec<Fact> {
     let job = journal.begin(alloc, group).expect(rt, "room");
     let job = job.step(journal).expect(rt, "a write");
     let job = job.step(journal).expect(rt, "a sync");
     let job = job.step(journal).expect(rt, "a write");
     let synced = job.step(journal).expect(rt, "a sync");
-    drop(synced.into_group());
+    synced.into_group().into_facts()
+}
+
+/// Flushes the full groups, one after another, with the same facts.
+fn fill(rt: &impl Abort, alloc: Global, journal: &mut Journal<Nowhere>) {
+    let mut facts = full_group(rt, alloc, 0).into_facts();
+    for number in 0..GROUPS {
+        let serial = number.saturating_mul(FACTS as u64);
+        let group = Group::new(serial, facts).expect(rt, "a group");
+        facts = flush(rt, alloc, journal, group);
+    }
 }
 
 /// A group finds no room, and is handed back.
@@ -96,15 +111,12 @@ fn a_group_that_passes_the_last_byte_is_handed_back(rt: HostRuntime) {
     let node = NodeId::new(nodes, 0).expect(&rt, "a node");
     let opening = Journal::open(alloc, nodes, node, Nowhere::new());
     let (mut journal, _opened) = opening.expect(&rt, "an opening");
-    for number in 0..GROUPS {
-        let serial = number.saturating_mul(FACTS as u64);
-        flush(&rt, alloc, &mut journal, full_group(&rt, alloc, serial));
-    }
+    fill(&rt, alloc, &mut journal);
     let serial = GROUPS.saturating_mul(FACTS as u64);
     assert_too_large(&rt, alloc, &mut journal, full_group(&rt, alloc, serial));
     assert_too_large(&rt, alloc, &mut journal, last_group(&rt, alloc, 1));
     // A refusal changes nothing: what ends at the last byte is flushed, and then nothing more.
-    flush(&rt, alloc, &mut journal, last_group(&rt, alloc, 0));
+    drop(flush(&rt, alloc, &mut journal, last_group(&rt, alloc, 0)));
     let small = group_of(&rt, alloc, serial, 0, entered(&rt, b"a", b""));
     assert_too_large(&rt, alloc, &mut journal, small);
 }
