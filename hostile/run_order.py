@@ -14,6 +14,7 @@ import random
 import re
 import shutil
 
+import disks
 import reading
 import scripts
 from harness import LONG, Tally, tell
@@ -29,12 +30,17 @@ RUN_SHARE = 60
 
 
 def tasks(options):
-    return list(range(options.seed, options.seed + (SHORT if options.short else SEEDS)))
+    return ["folders", *range(options.seed, options.seed + (SHORT if options.short else SEEDS))]
 
 
 def work(rig, options, seed):
     tally = Tally()
     if not tally.check(shutil.which("strace"), "no program strace is here; Debian's package strace has it"):
+        return tally
+    if seed == "folders":
+        folder, script = rig.path("made/b/c"), rig.write("script", b"look 0 a\n")
+        words = [rig.rr, "run", "--nodes", "2", "--dir", folder, "--script", script]
+        disks.made_folder(rig, tally, folder, words, ("", "/0", "/1"))
         return tally
     rng = random.Random(seed)
     nodes = rng.choice((1, 2, 3, 3, 4, 5))
@@ -47,10 +53,10 @@ def work(rig, options, seed):
         begun = files_of(folder, nodes)
         ending, events = traced(rig, folder, nodes, more)
         everything = more if more is lines else lines + more
-        disks = scripts.disks_of(folder, nodes)
-        commands = scripts.check_disks(tally, what, everything, disks)
+        held = scripts.disks_of(folder, nodes)
+        commands = scripts.check_disks(tally, what, everything, held)
         if tally.check(ending.status == 0 and not ending.err, lambda: f"{what}: {tell(ending)}"):
-            scripts.check_answers(tally, what, more, ending.out, disks, commands)
+            scripts.check_answers(tally, what, more, ending.out, held, commands)
         Watched(rig, tally, what, nodes, more, everything, begun, rng).go_over(events)
         tally.counts["runs"] += 1
     return tally
@@ -258,11 +264,11 @@ class Watched:
         before = [reading.Disk(its.synced) for its in self.nodes]
         found = scripts.acknowledged(self.lines, self.named)
         ending = self.rig.run("run", "--nodes", str(self.count), "--dir", folder, "--script", script, limit=LONG)
-        disks = scripts.disks_of(folder, self.count)
+        held = scripts.disks_of(folder, self.count)
         what = f"{self.what}, gone on behind a power cut"
         for disk in before:
-            commands = scripts.check_disks(self.tally, what, self.everything, disks, disk)
-        scripts.check_acknowledged(self.tally, what, found, disks)
+            commands = scripts.check_disks(self.tally, what, self.everything, held, disk)
+        scripts.check_acknowledged(self.tally, what, found, held)
         if self.tally.check(ending.status == 0 and not ending.err, lambda: f"{what}: {tell(ending)}"):
-            scripts.check_answers(self.tally, what, self.everything, ending.out, disks, commands)
+            scripts.check_answers(self.tally, what, self.everything, ending.out, held, commands)
         self.tally.counts["runs behind a power cut"] += 1
