@@ -63,7 +63,7 @@ def work(rig, options, task):
     endings = rig.ask_many([(f"show {len(both[0])} {len(both[1])}", *both) for _, both in cases])
     for number, ((what, both), ending) in enumerate(zip(cases, endings)):
         judge(rig, tally, what, both, ending)
-        if number % SHARE == 0 or area is None:
+        if rig.many and (number % SHARE == 0 or area is None):
             by_program(rig, tally, what, both, ending)
     return tally
 
@@ -84,6 +84,8 @@ def changed(areas, area, data):
 
 
 def values_at(options, data, at):
+    if not options.many_answers:
+        return [value for value in range(at % 8, 256, 8) if value != data[at]]
     if options.all or len(data) <= LONG or at < FRONT or at >= len(data) - BACK:
         return [value for value in range(256) if value != data[at]]
     return [data[at] ^ 1 << bit for bit in range(8)]

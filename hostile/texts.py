@@ -40,7 +40,8 @@ def tasks(options):
     texts = [("schedule", name, DATA / f"{name}.schedule") for name in SCHEDULES] + [("tape", name, DATA / f"{name}.tape") for name in TAPES]
     each = [(kind, "each_kind", TREE / f"hostile/each_kind.{kind}") for kind in QUESTIONS if kind != "message"]
     texts = [(kind, name, path.read_bytes()) for kind, name, path in (each if options.short else texts + each)]
-    texts += [("message", name, bytes.fromhex(f"02 00 01 {body}")) for name, body in BODIES.items()]
+    if options.many_answers:
+        texts += [("message", name, bytes.fromhex(f"02 00 01 {body}")) for name, body in BODIES.items()]
     return [(kind, name, text, at) for kind, name, text in texts for at in range(0, len(text), STRETCH)]
 
 
@@ -51,18 +52,19 @@ def work(rig, options, task):
     endings = rig.ask_many([(f"{QUESTIONS[kind]} {len(text)}", text) for _, text in cases])
     for number, ((what, text), ending) in enumerate(zip(cases, endings)):
         judge(rig, tally, kind, what, text, ending)
-        if number % SHARE == 0 and kind != "message":
+        if rig.many and number % SHARE == 0 and kind != "message":
             by_program(rig, tally, kind, what, text, ending)
     return tally
 
 
 def altered(options, tally, kind, name, text, start):
     """What was done to the text, and the text."""
+    stride = 1 if not options.short else 4 if options.many_answers else 32
     for at in range(start, min(start + STRETCH, len(text))):
         tally.counts[f"{kind}s: cuts"] += 1
         yield f"{name}.{kind} cut to {at} bytes", text[:at]
         for value in range(256):
-            if value != text[at] and not (options.short and (value + at) % 4):
+            if value != text[at] and (value + at) % stride == 0:
                 tally.counts[f"{kind}s: bytes set"] += 1
                 yield f"{name}.{kind}, byte {at} set to {value:02X}", text[:at] + bytes([value]) + text[at + 1 :]
 

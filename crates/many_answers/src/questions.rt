@@ -42,7 +42,7 @@ impl<'a> Questions<'a> {
     fn line(&mut self) -> Option<&'a str> {
         let end = self.rest.iter().position(|byte| *byte == b'\n')?;
         let line = self.rest.get(..end)?;
-        self.rest = self.rest.get(end + 1..)?;
+        self.rest = self.rest.get(end.saturating_add(1)..)?;
         str::from_utf8(line).ok()
     }
 
