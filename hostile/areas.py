@@ -1,9 +1,9 @@
 """Each byte of the areas that worked schedules leave takes each of its 256 values, and each area is cut at each place.
 
-`rr show` answers as the plain Rust program does, in the form that docs/FORMATS.md gives. Of an area above 512 bytes the
-bytes in the middle, which are those of facts like the ones before, have one bit turned each, unless --all is given.
+What rr's libraries show is what the plain Rust program does, in the form that docs/FORMATS.md gives. One folder of some is
+given to `rr` itself. Of an area above 512 bytes the bytes in the middle, which are those of facts like the ones before,
+have one bit turned each, unless --all is given.
 """
-import os
 import re
 
 from harness import Plain, Tally, compare, schedules, tell
@@ -29,6 +29,8 @@ LINE = rb"(?:unformatted|epoch [1-9]\d* node [0-6] of [1-7] facts (?:0|[1-9]\d*)
 SHOWN = re.compile(rb"area 0 " + LINE + rb"area 1 " + LINE)
 DAMAGED = re.compile(rb"rr: 3 Damaged [01] (?:0|[1-9]\d*)\n")
 STRETCH = 16
+# One folder of so many is given to rr itself.
+SHARE = 64
 LONG, FRONT, BACK = 512, 192, 64
 
 
@@ -54,54 +56,54 @@ def work(rig, options, task):
     tally = Tally()
     if area is None:
         tally.counts["folders"] += 1
-        for what, both in (("as it is", areas), ("exchanged", areas[::-1]), ("the first twice", areas[:1] * 2), ("both empty", (b"", b""))):
-            show(rig, tally, f"{name}, {what}", both)
-        return tally
-    for number in (0, 1):
-        rig.write(f"node/a{number}", areas[number])
-    end = min(start + STRETCH, len(areas[area]))
-    for at in range(start, end):
-        set_byte(rig, options, tally, name, areas, area, at)
-    for cut in range(start, end):
-        tally.counts["cuts"] += 1
-        show(rig, tally, f"{name}, area {area} cut to {cut} bytes", changed(areas, area, areas[area][:cut]))
+        ways = (("as it is", areas), ("exchanged", areas[::-1]), ("the first twice", areas[:1] * 2), ("both empty", (b"", b"")))
+        cases = [(f"{name}, {what}", both) for what, both in ways]
+    else:
+        cases = list(altered(options, tally, name, areas, area, start))
+    endings = rig.ask_many([(f"show {len(both[0])} {len(both[1])}", *both) for _, both in cases])
+    for number, ((what, both), ending) in enumerate(zip(cases, endings)):
+        judge(rig, tally, what, both, ending)
+        if rig.many and (number % SHARE == 0 or area is None):
+            by_program(rig, tally, what, both, ending)
     return tally
+
+
+def altered(options, tally, name, areas, area, start):
+    """What was done to an area, and both areas: its bytes get their other values, and it is cut."""
+    data = areas[area]
+    for at in range(start, min(start + STRETCH, len(data))):
+        for value in values_at(options, data, at):
+            tally.counts["bytes set"] += 1
+            yield f"{name}, byte {at} of area {area} set to {value:02X}", changed(areas, area, data[:at] + bytes([value]) + data[at + 1 :])
+        tally.counts["cuts"] += 1
+        yield f"{name}, area {area} cut to {at} bytes", changed(areas, area, data[:at])
 
 
 def changed(areas, area, data):
     return (data, areas[1]) if area == 0 else (areas[0], data)
 
 
-def show(rig, tally, what, areas):
-    for number in (0, 1):
-        rig.write(f"node/a{number}", areas[number])
-    judge(rig, tally, what, areas)
-
-
-def set_byte(rig, options, tally, name, areas, area, at):
-    """Gives a byte its other values, in the file, one after another."""
-    data = areas[area]
-    path = os.path.join(rig.path("node"), f"a{area}")
-    with open(path, "r+b", buffering=0) as file:
-        for value in values_at(options, data, at):
-            os.pwrite(file.fileno(), bytes([value]), at)
-            tally.counts["bytes set"] += 1
-            other = data[:at] + bytes([value]) + data[at + 1 :]
-            judge(rig, tally, f"{name}, byte {at} of area {area} set to {value:02X}", changed(areas, area, other))
-        os.pwrite(file.fileno(), data[at : at + 1], at)
-
-
 def values_at(options, data, at):
+    if not options.many_answers:
+        return [value for value in range(at % 8, 256, 8) if value != data[at]]
     if options.all or len(data) <= LONG or at < FRONT or at >= len(data) - BACK:
         return [value for value in range(256) if value != data[at]]
     return [data[at] ^ 1 << bit for bit in range(8)]
 
 
-def judge(rig, tally, what, areas):
-    ending = rig.run("show", rig.path("node"))
+def judge(rig, tally, what, areas, ending):
     wanted = rig.plain.show(areas)
     tally.counts[{0: "shown", 4: "damaged"}.get(wanted.status, "other")] += 1
-    if compare(tally, what, ending, wanted):
+    if tally.check(ending, f"{what}: no answer") and compare(tally, what, ending, wanted):
         shown = SHOWN.fullmatch(ending.out) and ending.status == 0 and not ending.err
         damaged = DAMAGED.fullmatch(ending.err) and ending.status == 4 and not ending.out
         tally.check(shown or damaged, lambda: f"{what}: {tell(ending)}")
+
+
+def by_program(rig, tally, what, areas, ending):
+    """`rr show` of a folder with these files ends as its libraries say."""
+    for number in (0, 1):
+        rig.write(f"node/a{number}", areas[number])
+    got = rig.run("show", rig.path("node"))
+    tally.counts["folders given to rr itself"] += 1
+    tally.check(got == ending, lambda: f"{what}: by rr itself {tell(got)}; wanted {ending}")

@@ -128,10 +128,37 @@ def each_way(rig, tally):
             tally.check(ending.out == b"Device\n" and stands(folder) == there, lambda: f"to {way} with a file missing: {tell(ending)}")
         ending = rig.run_all([rig.calls, folder, "make"])
         tally.check(set(stands(folder)) == set(FILES) and not ending.out, lambda: f"to make with a file missing: {tell(ending)}")
+    made_folders(rig, tally)
     ending = rig.run_all([rig.calls, rig.path("nothing"), "open"])
     tally.check(ending.out == b"Device\n" and stands(rig.path("nothing")) is None, lambda: f"to open no folder: {tell(ending)}")
     ending = rig.run_all([rig.calls, fresh(rig, held), "read", "s", "a0", "r0"])
     tally.check(ending.out == b"Device\nDevice\nok\n", lambda: f"writes of what was opened to read: {tell(ending)}")
+
+
+def made_folders(rig, tally):
+    """Folders that are missing are made, and their names last."""
+    for below in ("", "/b", "/b/c/"):
+        folder = rig.path("made") + below
+        made_folder(rig, tally, folder, [rig.calls, folder, "make"])
+        tally.check(set(stands(folder)) == set(FILES), lambda: f"making {folder}: {stands(folder)}")
+
+
+def made_folder(rig, tally, folder, words, holding=("",)):
+    """A program makes a folder in a new one. Behind each folder that it makes it syncs the one above, so that the name
+    lasts; and it syncs those in which it makes files."""
+    trace = rig.path("trace")
+    shutil.rmtree(rig.path("made"), ignore_errors=True)
+    ending = rig.run_all([shutil.which("strace"), "-q", "-f", "-y", "-o", trace, "-e", "trace=mkdir,fsync", *words])
+    with open(trace) as file:
+        calls = file.read()
+    os.remove(trace)
+    made = {match[1].rstrip("/"): match.start() for match in re.finditer(r'mkdir\("([^"]+)", \w+\) += 0', calls)}
+    synced = [(match.start(), match[1]) for match in re.finditer(r"fsync\(\d+<([^>]+)>\) += 0", calls)]
+    lost = [path for path, at in made.items() if not any(it == os.path.dirname(path) for when, it in synced if when > at)]
+    tally.counts["folders made"] += len(made)
+    tally.check(ending.status == 0 and made and not lost, lambda: f"making {folder}: {tell(ending)}, the names of {lost} aren't synced")
+    lost = [it for it in holding if os.path.normpath(folder + it) not in {path for _, path in synced}]
+    tally.check(not lost, f"making {folder}: the names of the files in {lost} aren't synced")
 
 
 def each_call(rig, tally, words, held):

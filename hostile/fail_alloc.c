@@ -1,17 +1,20 @@
-/* Fails one request for memory: the FAIL_ALLOC-th, counted from 1, and with FAIL_MANY so many from it on. Without FAIL_ALLOC
-   it fails none. The file COUNT_ALLOC gets the count.
+/* Fails one request for memory: the FAIL_ALLOC-th, counted from 1 over all threads, and with FAIL_MANY so many from it on.
+   Without FAIL_ALLOC it fails none. A thread that is to be made is a request too. The file COUNT_ALLOC gets the count.
    It leaves calloc alone, which rr doesn't call, but the loader does. */
 #define _GNU_SOURCE
 #include <dlfcn.h>
 #include <errno.h>
 #include <fcntl.h>
+#include <pthread.h>
+#include <stdatomic.h>
 #include <stddef.h>
 #include <stdio.h>
 #include <stdlib.h>
 #include <sys/syscall.h>
 #include <unistd.h>
 
-static unsigned long count, wanted, many;
+static atomic_ulong count;
+static unsigned long wanted, many;
 static int known;
 static const char *file;
 
@@ -24,8 +27,8 @@ static int fails(void)
         many = all ? strtoul(all, NULL, 10) : 1;
         file = getenv("COUNT_ALLOC");
     }
-    count++;
-    return wanted && count >= wanted && count - wanted < many;
+    unsigned long number = atomic_fetch_add(&count, 1) + 1;
+    return wanted && number >= wanted && number - wanted < many;
 }
 
 static void *refused(void)
@@ -64,6 +67,14 @@ void *aligned_alloc(size_t alignment, size_t size)
     if (!real)
         real = dlsym(RTLD_NEXT, "aligned_alloc");
     return fails() ? refused() : real(alignment, size);
+}
+
+int pthread_create(pthread_t *thread, const pthread_attr_t *how, void *(*body)(void *), void *argument)
+{
+    static int (*real)(pthread_t *, const pthread_attr_t *, void *(*)(void *), void *);
+    if (!real)
+        real = dlsym(RTLD_NEXT, "pthread_create");
+    return fails() ? EAGAIN : real(thread, how, body, argument);
 }
 
 /* Takes no memory: what the process asked for is told by a plain write. */

@@ -1,6 +1,5 @@
 """What the parts share: running rr, asking the plain Rust program, and counting what was tried."""
 import collections
-import contextlib
 import os
 import pathlib
 import shutil
@@ -10,7 +9,9 @@ import tempfile
 
 TREE = pathlib.Path(__file__).resolve().parent.parent
 DATA = TREE / "crates/worked_rows/data"
+# Seconds after which a run hangs: of one that goes its way, and of one that may wait for clocks.
 LIMIT = 20
+LONG = 150
 
 Ending = collections.namedtuple("Ending", "status out err")
 NO_MEMORY = b"rr: 1 OutOfMemory\n"
@@ -60,10 +61,19 @@ class Plain:
     def sim(self, text):
         return self.as_rr(f"sim {len(text)}", text)
 
+    def audit(self, text):
+        return self.as_rr(f"audit {len(text)}", text)
+
+    def script(self, nodes, text):
+        return self.as_rr(f"script {nodes} {len(text)}", text)
+
     def starved(self, text, *lines):
         """The report where the events of these lines find no memory; None where none of them takes any."""
         ending = self.ask(f"sim {len(text)} {' '.join(map(str, lines))}", text)
         return None if ending.err else ending.out
+
+    def message(self, data):
+        return self.as_rr(f"message {len(data)}", data)
 
     def show(self, areas):
         return self.as_rr(f"show {len(areas[0])} {len(areas[1])}", *areas)
@@ -89,9 +99,9 @@ def hang(number, frame):
 class Rig:
     """A process's own folder, the program rr in it, and a plain Rust program to ask."""
 
-    def __init__(self, rr, plain):
+    def __init__(self, rr, plain, many=None):
         memory = "/dev/shm" if os.path.isdir("/dev/shm") else None
-        self.rr = rr
+        self.rr, self.many = rr, many
         self.plain = Plain(plain)
         self.folder = tempfile.mkdtemp(prefix="hostile", dir=memory)
         flags = os.O_RDWR | os.O_CREAT | os.O_TRUNC
@@ -108,29 +118,56 @@ class Rig:
             file.write(data)
         return path
 
-    def run(self, *words, env=None):
+    def run(self, *words, env=None, limit=LIMIT):
         """Runs rr by these words, in no other environment; a run that hangs is ended, and has no status. The second line
-        on the fault of a text, which the plain Rust program doesn't tell, goes to `why`."""
-        return self.run_all([self.rr, *words], env)
+        on the fault of a text or an event of a tape, which the plain Rust program doesn't tell, goes to `why`."""
+        return self.run_all([self.rr, *words], env, limit)
 
-    def run_all(self, words, env=None):
+    def run_all(self, words, env=None, limit=LIMIT):
         for to in (self.out, self.err):
             os.ftruncate(to, 0)
             os.lseek(to, 0, os.SEEK_SET)
         actions = [(os.POSIX_SPAWN_DUP2, self.out, 1), (os.POSIX_SPAWN_DUP2, self.err, 2)]
         actions.append((os.POSIX_SPAWN_OPEN, 0, "/dev/null", os.O_RDONLY, 0))
         child = os.posix_spawn(words[0], words, env or {}, file_actions=actions)
-        ending = Ending(self.end_of(child), self.printed(self.out), self.printed(self.err))
+        ending = Ending(self.end_of(child, limit), self.printed(self.out), self.printed(self.err))
         self.why = b""
-        if ending.status == 3:
+        if ending.status in (3, 7):
             line, feed, self.why = ending.err.partition(b"\n")
             ending = ending._replace(err=line + feed)
         return ending
 
+    def ask_many(self, questions):
+        """What rr's libraries answer to questions, each its line and the bytes behind it, in one process for all of them.
+        Answers the endings; of one that ended before its time those that it gave, and None behind them. Without the program
+        many_answers rr itself is asked, each time anew."""
+        if not self.many:
+            return [self.ask_itself(*question) for question in questions]
+        path = self.write("questions", b"".join(line.encode() + b"\n" + b"".join(parts) for line, *parts in questions))
+        with open(path, "rb") as file:
+            ran = subprocess.run([self.many], cwd=self.folder, stdin=file, stdout=subprocess.PIPE, env={}, check=False)
+        endings = list(answers_of(ran.stdout))
+        return endings + [None] * (len(questions) - len(endings))
+
+    def ask_itself(self, line, *parts):
+        """What rr itself answers to a question. A script that it can read is one for which it can't make a folder."""
+        verb, *words = line.split()
+        if verb == "show":
+            for number in (0, 1):
+                self.write(f"node/a{number}", parts[number])
+            return self.run("show", self.path("node"))
+        path = self.write("text", parts[0])
+        if verb != "script":
+            ending = self.run(verb, path)
+            return ending._replace(err=ending.err + self.why)
+        ending = self.run("run", "--nodes", words[0], "--dir", "/proc/nowhere", "--script", path)
+        is_read = ending == (5, b"", b"rr: 2 Device\n")
+        return Ending(0, b"%d lines\n" % parts[0].count(b"\n"), b"") if is_read else ending
+
     @staticmethod
-    def end_of(child):
+    def end_of(child, limit):
         """The status of a child; less than 0 where a signal ended it, None where it hung."""
-        signal.alarm(LIMIT)
+        signal.alarm(limit)
         try:
             return os.waitstatus_to_exitcode(os.waitpid(child, 0)[1])
         except Hung:
@@ -150,13 +187,15 @@ class Rig:
         shutil.rmtree(self.folder, ignore_errors=True)
 
 
-@contextlib.contextmanager
-def rig_of(rr, plain):
-    rig = Rig(rr, plain)
-    try:
-        yield rig
-    finally:
-        rig.close()
+def answers_of(text):
+    """The answers of many: a line of three numbers, standard output and standard error."""
+    at = 0
+    while at < len(text):
+        line, _, _ = text[at : at + 80].partition(b"\n")
+        status, out, err = map(int, line.split())
+        at += len(line) + 1
+        yield Ending(status, text[at : at + out], text[at + out : at + out + err])
+        at += out + err
 
 
 def schedules(names=None):

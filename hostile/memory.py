@@ -6,11 +6,14 @@ Where all later requests are refused too, the run ends without memory, or with t
 """
 import os
 import re
+import subprocess
 
 import areas
-from harness import NO_MEMORY, Tally, compare, events_of, schedules, tell
+from harness import DATA, NO_MEMORY, TREE, Tally, compare, events_of, schedules, tell
 
 ALL = "1000000000"
+# Commands that nothing but a starved run of their own can alter: the words, and where the file stands that they name.
+COMMANDS = {"sweep": (["--seed", "1"], TREE / "examples/one_command.schedule")}
 DRAWS = ((1, 0, 2), (1, 40, 1), (2, 120, 2), (3, 200, 3), (1, 300, 7))
 SHORT = ("one_command", "snapshot", "second_snapshot_crashes", "failed_write_of_a_body", "heartbeats", "no_events")
 
@@ -20,7 +23,16 @@ def tasks(options):
     runs = [("sim", name) for name in schedules(named)]
     folders = areas.SHORT if options.short else areas.FOLDERS
     draws = DRAWS[:2] if options.short else DRAWS
-    return runs + [("show", name) for name in folders] + [("broken", ""), ("missing", "")] + [("draw", it) for it in draws]
+    tapes = [path.stem for path in sorted(DATA.glob("*.tape"))]
+    others = [("command", verb) for verb in COMMANDS if has_command(options, verb)]
+    runs += [("show", name) for name in folders] + [("broken", ""), ("missing", "")]
+    return runs + [("draw", it) for it in draws] + [("audit", name) for name in (tapes[:1] if options.short else tapes)] + others
+
+
+def has_command(options, verb):
+    """Whether the program has the command."""
+    told = subprocess.run([options.rr, "--help"], capture_output=True, text=True, check=False).stdout
+    return re.search(rf"^ +{verb} ", told, re.MULTILINE) is not None
 
 
 def work(rig, options, task):
@@ -30,6 +42,13 @@ def work(rig, options, task):
         of_schedule(rig, options, tally, what)
     elif kind == "draw":
         of_draw(rig, options, tally, what)
+    elif kind == "audit":
+        text = (DATA / f"{what}.tape").read_bytes()
+        refuse_each(rig, options, tally, f"audit {what}", ["audit", rig.write("tape", text)], rig.plain.audit(text), {})
+    elif kind == "command":
+        more, path = COMMANDS[what]
+        words = [what, rig.write("text", path.read_bytes()), *more]
+        refuse_each(rig, options, tally, f"{what} {path.name}", words, rig.run(*words), {})
     else:
         of_folder(rig, options, tally, kind, what)
     return tally
@@ -110,10 +129,10 @@ def refuse_each(rig, options, tally, what, words, whole, starved, text=None):
         if line is not None:
             reached.add(line)
             tally.counts["reports of a starved event"] += 1
-        holds = ending.err == b"" if line is not None else is_no_memory(ending, whole)
+        holds = ending.err == b"" if line is not None else is_no_memory(ending, whole) or is_bare_verdict(rig, tally, ending, whole)
         tally.check(holds, lambda: f"{what}, request {number}: {tell(ending)}")
         last = refuse(rig, options, words, number, ALL)
-        holds = is_report_of_starved(rig, text, last) if last.status == 0 else is_no_memory(last, whole)
+        holds = is_report_of_starved(rig, text, last) if last.status == 0 else is_no_memory(last, whole) or is_bare_verdict(rig, tally, last, whole)
         tally.counts["reports without memory from an event on"] += last.status == 0
         tally.check(holds, lambda: f"{what}, request {number} and all behind it: {tell(last)}")
     return reached
@@ -123,6 +142,13 @@ def is_report_of_starved(rig, text, ending):
     """Whether it is the report where the events that it refuses for memory, or by the device, found no memory."""
     refused = [int(line.split()[1]) for line in ending.out.splitlines() if re.match(rb"refuse \d+ [12] ", line)]
     return text is not None and ending.err == b"" and refused != [] and ending.out == rig.plain.starved(text, *refused)
+
+
+def is_bare_verdict(rig, tally, ending, whole):
+    """Whether it refuses an event of a tape, and memory was wanting just for the line that tells people why."""
+    is_bare = whole.status == 7 and ending == whole and not rig.why
+    tally.counts["verdicts without the line for people"] += is_bare
+    return is_bare
 
 
 def refuse(rig, options, words, first, many="1"):

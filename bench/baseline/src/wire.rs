@@ -1,6 +1,6 @@
 //! Messages as bytes, as docs/FORMATS.md states them.
 
-use crate::types::*;
+use super::types::*;
 
 const VERSION: u8 = 2;
 

@@ -2,15 +2,15 @@
 //! a program for each.
 //!
 //! A question is a line, and behind it the bytes that the line counts:
-//! `sim BYTES LINES..`, `audit BYTES`, `show BYTES BYTES`, `areas BYTES` or
-//! `draw SEED STEPS NODES LINE`. An answer is the line
-//! `STATUS BYTES BYTES`, then standard output and the fault.
+//! `sim BYTES LINES..`, `audit BYTES`, `show BYTES BYTES`, `script NODES
+//! BYTES`, `message BYTES`, `areas BYTES` or `draw SEED STEPS NODES LINE`. An
+//! answer is the line `STATUS BYTES BYTES`, then standard output and the fault.
 
 use std::io::{self, BufRead, Write};
 
 use crate::draw::draw;
 use crate::show::show;
-use crate::{areas_of, audit_tape, simulate, Ending};
+use crate::{areas_of, audit_tape, read_message, read_script, simulate, Ending};
 
 /// Answers each question of the input.
 pub fn answer_all(input: &mut impl BufRead, out: &mut impl Write) -> io::Result<()> {
@@ -49,6 +49,8 @@ fn answer(line: &str, input: &mut impl BufRead) -> io::Result<Ending> {
         }
         ("audit", &[count]) => audit_tape(bytes(count)),
         ("show", &[first, second]) => show([&bytes(first)?, &bytes(second)?]).into(),
+        ("script", &[nodes, count]) => read_script(nodes as u8, &bytes(count)?),
+        ("message", &[count]) => read_message(&bytes(count)?),
         ("areas", &[count]) => {
             let [first, second] = areas_of(&bytes(count)?);
             let fault = format!("{}", first.len());

@@ -6,7 +6,10 @@
 //! disk hold, the files `a0` and `a1`. `baseline_sim areas DIR <
 //! SCHEDULE` writes those of node 0 behind a schedule. `baseline_sim draw SEED
 //! STEPS NODES` prints a random schedule. `baseline_sim answer` does all of
-//! these for the questions on its input.
+//! these for the questions on its input. `baseline_sim mutate FOLDER SEED
+//! COUNT` prints questions on texts and bytes that seeds alter, for
+//! `crates/many_answers`, and `baseline_sim judge FOLDER SEED COUNT` compares
+//! the answers with its own.
 
 mod answer;
 mod audit;
@@ -17,13 +20,18 @@ mod detector;
 mod disk;
 mod draw;
 mod journal;
+mod judge;
+mod messages;
+mod mutants;
 mod node;
 mod promise;
 mod queues;
 mod registry;
 mod report;
 mod schedule;
+mod script;
 mod show;
+mod stock;
 mod tape;
 mod types;
 
@@ -36,6 +44,7 @@ use audit::Verdict;
 use cluster::Cluster;
 use journal::Damage;
 use schedule::{Fault, Schedule};
+use stock::Stock;
 
 /// How a run ends: its status, what it prints, and its fault where there is one.
 struct Ending {
@@ -111,13 +120,24 @@ fn run(words: &[&str]) -> io::Result<Ending> {
             let (steps, nodes) = (number(steps)? as u32, number(nodes)? as u8);
             printed(draw::draw(number(seed)?, steps, nodes, 0).into_bytes())
         }
+        ["mutate", folder, seed, count] => {
+            let stock = Stock::of_folder(Path::new(folder))?;
+            let out = &mut io::stdout().lock();
+            judge::ask(&stock, number(seed)?, number(count)?, out)?;
+            printed(Vec::new())
+        }
+        ["judge", folder, seed, count] => {
+            let stock = Stock::of_folder(Path::new(folder))?;
+            let input = &mut io::stdin().lock();
+            printed(judge::judge(&stock, number(seed)?, number(count)?, input)?)
+        }
         ["answer"] => {
             answer::answer_all(&mut io::stdin().lock(), &mut io::stdout().lock())?;
             printed(Vec::new())
         }
         _ => failed(
             2,
-            "words: sim [--starve LINE | --long], audit [FILE], show DIR, areas DIR, draw SEED STEPS NODES, answer"
+            "words: sim [--starve LINE | --long], audit [FILE], show DIR, areas DIR, draw SEED STEPS NODES, answer, mutate, judge"
                 .into(),
         ),
     };
@@ -179,6 +199,22 @@ fn audit_tape(text: io::Result<Vec<u8>>) -> Ending {
         Ok(Verdict::Yes(count)) => printed(format!("audit yes {count}\n").into_bytes()),
         Ok(Verdict::No(number)) => failed(7, format!("17 AuditNo {number}")),
         Err(fault) => failed(3, fault.to_string()),
+    }
+}
+
+/// What is read of a script among so many nodes.
+fn read_script(nodes: u8, text: &[u8]) -> Ending {
+    match script::count_lines(nodes, text) {
+        Ok(count) => printed(format!("{count} lines\n").into_bytes()),
+        Err(fault) => failed(3, fault.to_string()),
+    }
+}
+
+/// What is read of a message.
+fn read_message(bytes: &[u8]) -> Ending {
+    match messages::read(bytes) {
+        Ok(line) => printed(line),
+        Err(place) => failed(5, format!("11 Malformed {place}")),
     }
 }
 

@@ -71,6 +71,17 @@ impl<'a> Schedule<'a> {
         }
     }
 
+    /// Lines among so many nodes that no first line tells, of which there may
+    /// be any number.
+    pub fn without_head(nodes: u8, text: &'a [u8]) -> Self {
+        Schedule {
+            nodes,
+            rest: text,
+            line: 0,
+            last_line: usize::MAX,
+        }
+    }
+
     /// The same schedule, which may have any number of events.
     pub fn of_any_length(mut self) -> Self {
         self.last_line = usize::MAX;

@@ -80,8 +80,8 @@ impl<F: AreaFile + Drop> FileDisk<F> {
 }
 
 impl<F: Read + Write + Seek + OpenFile + Drop> FileDisk<OpenedFile<F>> {
-    /// The disk of the files `a0` and `a1` of a folder. Where `make` is true the folder and the files are made
-    /// that are missing. Nothing is truncated.
+    /// The disk of the files `a0` and `a1` of a folder. Where `make` is true the folder, those above it and the
+    /// files are made that are missing, and the folders synced in which something was made. Nothing is truncated.
     ///
     /// # Errors
     /// `OutOfMemory`; `Device` where the folder or a file can't be opened to read and write, or not be made, as
@@ -94,7 +94,7 @@ impl<F: Read + Write + Seek + OpenFile + Drop> FileDisk<OpenedFile<F>> {
         ensures counts { IfOk result (λ d. (d.calls ≡ 0) × (d.faults ≡ 0) × (d.doubted ≡ true)) }
         ensures cause { IfErr result (λ e. (e ≡ OutOfMemory) ⊎ (e ≡ Device)) }
     {
-        if make && fs::create_dir_all(rt, dir).is_err() {
+        if make && make_folder(rt, dir).is_err() {
             return Err(Refusal::Device);
         }
         let disk = open_areas(rt, dir, true, make)?;
@@ -170,6 +170,38 @@ fn open_file<R: Files>(
         }
     }
     options.open(rt, path)
+}
+
+/// Makes a folder, and those above it, where they are missing. Of each that is made the name lasts, as what is
+/// written in its files does.
+///
+/// # Errors
+/// Those of the system.
+pub fn make_folder<R: Files>(rt: &R, dir: &str) -> io::Result<()> {
+    let mut above = if dir.starts_with('/') { "/" } else { "." };
+    for (at, byte) in dir.as_bytes().iter().enumerate() {
+        if *byte == b'/' && at > 0 {
+            if let Some(folder) = dir.get(..at) {
+                make_in(rt, above, folder)?;
+                above = folder;
+            }
+        }
+    }
+    make_in(rt, above, dir)
+}
+
+// Makes a folder where it is missing. The one above it is synced then.
+fn make_in<R: Files>(rt: &R, above: &str, folder: &str) -> io::Result<()> {
+    match fs::create_dir(rt, folder) {
+        Ok(()) => sync_folder(rt, above),
+        Err(error) => {
+            if error.kind() == ErrorKind::AlreadyExists {
+                Ok(())
+            } else {
+                Err(error)
+            }
+        }
+    }
 }
 
 // Makes the names of new files last, as what is written in them does.

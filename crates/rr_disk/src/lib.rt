@@ -22,5 +22,5 @@ pub use area_file::{AreaFile, OpenedFile};
 pub use cell::Cell;
 pub use disk::Disk;
 pub use failing::FailingDisk;
-pub use file::FileDisk;
+pub use file::{FileDisk, make_folder};
 pub use memory::MemDisk;

@@ -5,7 +5,7 @@ ghost use Rattle.rr_types.specs.declared.refusal.Refusal.TheVariants.{OutOfMemor
 ghost use Rattle.rr_run.specs.Folders.{HasDisks};
 
 use crate::lock::Lockable;
-use rr_disk::{FileDisk, OpenedFile};
+use rr_disk::{FileDisk, OpenedFile, make_folder};
 use rr_types::{Nodes, Refusal};
 use std::fs;
 use std::fs::OpenFile;
@@ -35,7 +35,7 @@ fn lock_folder<F: Read + Write + Seek + OpenFile + Drop + Lockable, R: Files<Fil
 ) -> Result<Option<F>, Refusal>
     ensures { IfErr result (λ e. e ≡ Device) }
 {
-    if fs::create_dir_all(rt, path).is_err() {
+    if make_folder(rt, path).is_err() {
         return Err(Refusal::Device);
     }
     let Ok(folder) = fs::open(rt, path) else {

@@ -54,7 +54,15 @@ fn receipt_for<W: WindowName, R: Wait>(
     None
 }
 
-/// Submits a command, and learns of its receipt.
+/// Whether a submit that is refused so may have been made, and have no place on the tape.
+fn leaves_a_gap(refusal: &Refusal) -> bool {
+    match refusal {
+        Refusal::OutOfMemory | Refusal::BadEvent(_) => true,
+        _ => false,
+    }
+}
+
+/// Submits a command, and learns of its receipt. A run ends whose tape may lack the submit.
 fn submit<W: WindowName, T: Turnstile, R: Wait>(
     rt: &R,
     running: &Running,
@@ -68,7 +76,10 @@ fn submit<W: WindowName, T: Turnstile, R: Wait>(
     let request = command.request;
     let asked = ask(rt, desk, recorder, command);
     turnstile.pass(node, Place::AfterSubmit);
-    if asked.is_err() {
+    if let Err(refusal) = asked {
+        if recorder.is_some() && leaves_a_gap(&refusal) {
+            running.fail(rt, node, refusal);
+        }
         return Answer::Unacknowledged { node, request };
     }
     running.ring(node);
