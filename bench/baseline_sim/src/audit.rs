@@ -1,13 +1,11 @@
 //! Tells whether a tape is a run: the nodes are replayed, and each event has to
 //! be the one that its node gives next.
 
-use std::rc::Rc;
-
 use crate::consensus::Core;
 use crate::journal::Content;
 use crate::schedule::{Action, Event, Fault, Schedule};
 use crate::tape::{read_tape_event, Recorded, TapeEvent};
-use crate::types::{Message, NodeId, Place, Reply, RequestNo};
+use crate::types::{Message, NodeId, Place, Reply, RequestNo, Shared};
 
 /// What an audit finds.
 pub enum Verdict {
@@ -65,7 +63,7 @@ impl Replay {
     fn does(&mut self, event: Event) -> bool {
         let core = &mut self.nodes[usize::from(event.node)];
         match event.action {
-            Action::Submit(command) => core.submit(Rc::new(command)).is_ok(),
+            Action::Submit(command) => core.submit(Shared::new(command)).is_ok(),
             Action::Hear(number) => match self.wire.get(number as usize) {
                 Some(message) if message.to == event.node => {
                     core.hear(message);

@@ -1,12 +1,11 @@
 //! A cluster of nodes, and what each event of a schedule does to it.
 
 use std::collections::{BTreeMap, HashMap};
-use std::rc::Rc;
 
 use crate::node::{Answer, Node, Outcome};
 use crate::report::Report;
 use crate::schedule::{Action, Event};
-use crate::types::{Body, Message, NodeSet, Place, SharedCommand};
+use crate::types::{Body, Message, NodeSet, Place, Shared, SharedCommand};
 
 pub struct Cluster {
     nodes: Vec<Node>,
@@ -65,7 +64,7 @@ impl Cluster {
         let answer = match event.action {
             Action::Submit(command) => node
                 .core()
-                .and_then(|core| core.submit(Rc::new(command)))
+                .and_then(|core| core.submit(Shared::new(command)))
                 .map(quiet),
             Action::Hear(number) => match self.wire.get(number as usize) {
                 Some(message) if message.to == event.node => {

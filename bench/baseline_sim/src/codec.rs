@@ -1,12 +1,10 @@
 //! Groups of facts and snapshots as bytes, big-endian, each value with one
 //! spelling.
 
-use std::rc::Rc;
-
 use crate::promise::{OpenStanding, Promise, Standing};
 use crate::types::{
-    is_name, is_value, Command, Fact, Op, Place, RequestNo, SharedCommand, Text, GROUP, INSTANCES,
-    LAST_ROUND, MAX_NODES,
+    is_name, is_value, Command, Fact, Op, Place, RequestNo, Shared, SharedCommand, Text, GROUP,
+    INSTANCES, LAST_ROUND, MAX_NODES,
 };
 
 const VERSION: u8 = 2;
@@ -180,7 +178,7 @@ impl<'a> Reader<'a> {
             },
             _ => return None,
         };
-        Some(Rc::new(Command { request, op }))
+        Some(Shared::new(Command { request, op }))
     }
 
     fn instance(&mut self) -> Option<u32> {

@@ -81,6 +81,12 @@ impl Registry {
         self.replies.get(&request).copied()
     }
 
+    /// Who has a name, and its value.
+    #[cfg(feature = "threads")]
+    pub fn binding(&self, name: &[u8]) -> Option<&Holding> {
+        self.bindings.get(name)
+    }
+
     /// The bound names in byte order.
     pub fn bindings(&self) -> impl Iterator<Item = (&[u8], &Holding)> {
         self.bindings

@@ -1,7 +1,5 @@
 //! The vocabulary: requests, commands, facts, messages, replies and refusals.
 
-use std::rc::Rc;
-
 /// How many instances there are.
 pub const INSTANCES: u32 = 1_048_576;
 /// The last round of an instance.
@@ -105,8 +103,14 @@ impl Command {
     }
 }
 
+#[cfg(not(feature = "threads"))]
+pub use std::rc::Rc as Shared;
+/// Nodes in threads send commands to one another.
+#[cfg(feature = "threads")]
+pub use std::sync::Arc as Shared;
+
 /// A command that facts, messages and tables share.
-pub type SharedCommand = Rc<Command>;
+pub type SharedCommand = Shared<Command>;
 
 /// Whether a name may have this byte.
 pub fn is_name_byte(byte: &u8) -> bool {
