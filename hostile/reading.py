@@ -75,26 +75,38 @@ def facts_of(payload):
 class Disk:
     """What a node's two areas hold: the epoch, the number of the next fact, its facts and what it has decided.
 
-    Facts that a snapshot has taken the place of are not among `facts`, but what they decided is in `decided`."""
+    Facts that a snapshot has taken the place of are not among `facts`, but what they decided is in `decided`. `shown` is what
+    is to be shown of each area: epoch, node, nodes, facts and decided, of the area that isn't active its snapshot's."""
 
     def __init__(self, areas):
-        self.epoch, self.next, self.facts, self.decided = 0, 0, [], {}
-        heads = [(self.head_of(payloads[0]), payloads) for payloads in map(frames, areas) if payloads]
+        self.epoch, self.next, self.facts, self.decided, self.shown = 0, 0, [], {}, [None, None]
+        heads = []
+        for area, payloads in enumerate(map(frames, areas)):
+            if payloads:
+                self.read_snapshot(payloads[0])
+                self.shown[area] = (self.epoch, *self.owner, self.next, len(self.prefix()))
+                heads.append((self.epoch, area, payloads))
         if heads:
-            (self.epoch, self.next), payloads = max(heads, key=lambda it: it[0][0])
+            _, area, payloads = max(heads)
             self.read_snapshot(payloads[0])
             for payload in payloads[1:]:
                 self.read_group(payload)
+            self.shown[area] = (self.epoch, *self.owner, self.next, len(self.prefix()))
 
-    @staticmethod
-    def head_of(payload):
-        fields = Fields(payload)
-        fields.bytes(3)
-        return fields.number(8), fields.number(8)
+    def numbered(self):
+        """The facts by their numbers."""
+        return dict(enumerate(self.facts, self.next - len(self.facts)))
+
+    def text(self):
+        """The two lines that show it."""
+        lines = ("epoch %d node %d of %d facts %d decided %d" % it if it else "unformatted" for it in self.shown)
+        return "".join(f"area {area} {line}\n" for area, line in enumerate(lines)).encode()
 
     def read_snapshot(self, payload):
         fields = Fields(payload)
-        fields.bytes(19)
+        fields.bytes(1)
+        self.owner, self.facts, self.decided = (fields.number(1), fields.number(1)), [], {}
+        self.epoch, self.next = fields.number(8), fields.number(8)
         for _ in range(fields.number(4)):
             instance, kind = fields.number(4), fields.number(1)
             if kind == 1:

@@ -4,7 +4,8 @@ Those were derived from the rules before rr ran them. What the other parts expec
 """
 import re
 
-from harness import TREE, Tally, schedules
+import reading
+from harness import TREE, Tally, schedules, tell
 
 STORED = TREE / "crates/worked_rows/stdout"
 RUN = re.compile(r"(\S+)\.schedule run")
@@ -47,5 +48,7 @@ def work(rig, options, task):
     for name, both in areas.items():
         bytes_of = tuple(bytes.fromhex("".join(area)) for area in both)
         tally.check(rig.plain.areas(texts[name]) == bytes_of, f"{name}: the plain Rust program leaves other areas")
+        shown, text = rig.plain.show(bytes_of), reading.Disk(bytes_of).text()
+        tally.check(shown.out == text, f"{name}: reading.py finds {text}, and the plain Rust program {tell(shown)}")
     tally.counts.update({"reports": len(reports), "faults": len(faults), "folders": len(areas)})
     return tally
