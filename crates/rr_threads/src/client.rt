@@ -2,7 +2,7 @@
 
 use crate::desk::Desk;
 use crate::recorder::Recorder;
-use crate::rest::{Rest, SHORT};
+use crate::rest::{LONG, Rest};
 use crate::running::Running;
 use rr_locked::{Place, Turnstile, submit_on};
 use rr_script::{Answer, ScriptLine};
@@ -20,18 +20,19 @@ pub struct Answered {
     pub answer: Answer,
 }
 
-/// The node is asked for a command.
+/// The node is asked for a command. Answers whether the reply is there already.
 fn ask<W: WindowName, R: Wait>(
     rt: &R,
     desk: &Desk<W>,
     recorder: Option<&Recorder>,
     command: &Command,
-) -> Result<(), Refusal> {
+) -> Result<bool, Refusal> {
     let mut locked = desk.locked.lock(rt);
     match recorder {
-        None => locked.submit(command),
-        Some(recorder) => submit_on(&mut locked, &mut recorder.recording().lock(rt), command),
+        None => locked.submit(command)?,
+        Some(recorder) => submit_on(&mut locked, &mut recorder.recording().lock(rt), command)?,
     }
+    Ok(locked.reply(command.request).is_some())
 }
 
 /// The receipt for a request, once it is there.
@@ -41,7 +42,7 @@ fn receipt_for<W: WindowName, R: Wait>(
     desk: &Desk<W>,
     request: RequestNo,
 ) -> Option<Receipt<W>> {
-    let mut rest = Rest::new(SHORT);
+    let mut rest = Rest::new(LONG);
     for _ in 0..POLLS {
         if let Some(receipt) = desk.take_receipt(rt, request) {
             return Some(receipt);
@@ -76,14 +77,16 @@ fn submit<W: WindowName, T: Turnstile, R: Wait>(
     let request = command.request;
     let asked = ask(rt, desk, recorder, command);
     turnstile.pass(node, Place::AfterSubmit);
-    if let Err(refusal) = asked {
-        if recorder.is_some() && leaves_a_gap(&refusal) {
-            running.fail(rt, node, refusal);
+    match asked {
+        Err(refusal) => {
+            if recorder.is_some() && leaves_a_gap(&refusal) {
+                running.fail(rt, node, refusal);
+            }
+            return Answer::Unacknowledged { node, request };
         }
-        return Answer::Unacknowledged { node, request };
+        Ok(true) => desk.publisher.unpark(),
+        Ok(false) => running.ring(node),
     }
-    running.ring(node);
-    desk.publisher.unpark();
     match receipt_for(rt, running, desk, request) {
         None => Answer::Unacknowledged { node, request },
         Some(receipt) => {

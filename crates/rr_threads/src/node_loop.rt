@@ -11,6 +11,9 @@ use rr_types::{Body, Command, Estimate, Group, Message, NodeId, Op, Refusal};
 use rr_window::WindowName;
 use std::sync::{Mutex, Wait};
 
+/// So many messages are heard in a turn at most, and so many are sent.
+const BATCH: usize = 64;
+
 /// What the loop of a node owns: its inbox, an end for each node's inbox, and its ends of the hand-overs.
 #[derive(Drop)]
 pub struct Runner {
@@ -34,51 +37,56 @@ fn hear<R: Wait>(
     }
 }
 
-/// A message of the inbox is heard. Answers whether there was one.
-fn hear_next<R: Wait>(
+/// The messages of the inbox are heard, of many the first. Answers whether there was one.
+fn hear_all<R: Wait>(
     rt: &R,
     node: &Mutex<Locked>,
     recorder: Option<&Recorder>,
     inbox: &mut Outlet<Sent>,
 ) -> Result<bool, Refusal> {
-    match inbox.take(rt) {
-        None => Ok(false),
-        Some(sent) => {
-            hear(rt, node, recorder, &sent)?;
-            Ok(true)
+    for heard in 0..BATCH {
+        match inbox.take(rt) {
+            None => return Ok(heard > 0),
+            Some(sent) => hear(rt, node, recorder, &sent)?,
         }
     }
+    Ok(true)
 }
 
-/// The node's group, synced, is marked.
+/// The node's group, synced, is marked. Answers whether more is decided by it.
 fn mark<R: Wait>(
     rt: &R,
     node: &Mutex<Locked>,
     recorder: Option<&Recorder>,
     synced: Synced,
-) -> Result<(), Refusal> {
+) -> Result<bool, Refusal> {
     let mut locked = node.lock(rt);
+    let before = locked.core().decided_count();
     match recorder {
-        None => match locked.mark(synced) {
-            Ok(()) => Ok(()),
-            Err((refusal, _)) => Err(refusal),
-        },
-        Some(recorder) => mark_on(&mut locked, &mut recorder.recording().lock(rt), synced),
+        None => {
+            if let Err((refusal, _)) = locked.mark(synced) {
+                return Err(refusal);
+            }
+        }
+        Some(recorder) => mark_on(&mut locked, &mut recorder.recording().lock(rt), synced)?,
     }
+    Ok(before < locked.core().decided_count())
 }
 
-/// What comes back of the flusher is marked. Answers whether something came. A group that wasn't flushed ends the run:
-/// the refusal is that of its flush.
-fn mark_next<R: Wait>(
+/// What comes back of the flusher is marked, and the publisher is rung where more is decided. Answers whether something
+/// came. A group that wasn't flushed ends the run: the refusal is that of its flush.
+fn mark_next<W: WindowName, R: Wait>(
     rt: &R,
-    node: &Mutex<Locked>,
+    desk: &Desk<W>,
     recorder: Option<&Recorder>,
     backs: &mut Taker<Result<Synced, Unflushed>>,
 ) -> Result<bool, Refusal> {
     match backs.take(rt) {
         None => Ok(false),
         Some(Ok(synced)) => {
-            mark(rt, node, recorder, synced)?;
+            if mark(rt, &desk.locked, recorder, synced)? {
+                desk.publisher.unpark();
+            }
             Ok(true)
         }
         Some(Err(Unflushed::Refused(refusal, _))) => Err(refusal),
@@ -156,9 +164,8 @@ fn put<R: Wait>(rt: &R, running: &Running, ports: &mut Vec<Port<Sent>>, sent: &S
     }
 }
 
-/// The oldest message that may leave goes into the inbox of its receiver, and is lost where that is full. Answers
-/// whether there was one.
-fn send_next<R: Wait>(
+/// The messages that may leave go into the inboxes of their receivers, of many the oldest. Answers whether there was one.
+fn send_all<R: Wait>(
     rt: &R,
     running: &Running,
     node: &Mutex<Locked>,
@@ -166,13 +173,13 @@ fn send_next<R: Wait>(
     ports: &mut Vec<Port<Sent>>,
 ) -> Result<bool, Refusal> {
     let _parts: Option<(Body, Command, Estimate, Message, Op)> = None;
-    match leave(rt, node, recorder)? {
-        None => Ok(false),
-        Some(sent) => {
-            put(rt, running, ports, &sent);
-            Ok(true)
+    for sent in 0..BATCH {
+        match leave(rt, node, recorder)? {
+            None => return Ok(sent > 0),
+            Some(message) => put(rt, running, ports, &message),
         }
     }
+    Ok(true)
 }
 
 /// The node ticks.
@@ -184,8 +191,8 @@ fn tick<R: Wait>(rt: &R, node: &Mutex<Locked>, recorder: Option<&Recorder>) -> R
     }
 }
 
-/// A turn of the loop: hears a message, marks what is flushed, flushes what is staged, sends a message, and ticks where
-/// it is time to. Answers whether there was something to do.
+/// A turn of the loop: hears messages, marks what is flushed, flushes what is staged, sends messages, and ticks where it is
+/// time to. Answers whether there was something to do.
 fn turn<W: WindowName, R: Wait>(
     rt: &R,
     running: &Running,
@@ -195,16 +202,13 @@ fn turn<W: WindowName, R: Wait>(
     idle: &mut IdleTurns,
 ) -> Result<bool, Refusal> {
     let node = &desk.locked;
-    let has_heard = hear_next(rt, node, recorder, &mut runner.inbox)?;
-    let has_marked = mark_next(rt, node, recorder, &mut runner.backs)?;
-    if has_marked {
-        desk.publisher.unpark();
-    }
+    let has_heard = hear_all(rt, node, recorder, &mut runner.inbox)?;
+    let has_marked = mark_next(rt, desk, recorder, &mut runner.backs)?;
     let has_staged = flush_next(rt, node, recorder, &mut runner.groups)?;
     if has_staged {
         desk.flusher.unpark();
     }
-    let has_sent = send_next(rt, running, node, recorder, &mut runner.ports)?;
+    let has_sent = send_all(rt, running, node, recorder, &mut runner.ports)?;
     let has_found = has_heard || has_marked || has_staged || has_sent;
     if idle.count(has_found) {
         tick(rt, node, recorder)?;
