@@ -19,7 +19,7 @@ ENOUGH = 3
 # How many nodes, how many lines, whether the folders hold something before, and whether a tape is recorded.
 CASES = ((1, 5, False, False), (3, 6, False, False), (2, 6, True, False), (3, 5, False, True))
 # With --short: the case, and how many requests are left out between two.
-SHORT = ((2, 4, False, False), 41)
+SHORT = ((2, 4, False, True), 41)
 
 
 def tasks(options):
