@@ -3,3 +3,4 @@ pub mod Alike
 pub mod TapeRuns
 pub mod Follows
 pub mod Going
+pub mod ReadLaws

@@ -1,5 +1,5 @@
 -- What the calls of a replay answer to an event of a tape.
-use Rattle.std.specs.Prelude.{◌≡◌, List, Option, None, Some, Result, Ok, Err}
+use Rattle.std.specs.Prelude.{◌≡◌, ℕ, List, Option, None, Some, Result, Ok, Err}
 use Rattle.rr_types.specs.declared.message.Message.{Message}
 use Rattle.rr_types.specs.declared.refusal.Refusal.{Refusal}
 use Rattle.rr_types.specs.declared.refusal.Refusal.TheVariants.{OutOfMemory}
@@ -7,7 +7,9 @@ use Rattle.rr_model.specs.NodeLaws.{NodeEvent, after_event}
 use Rattle.rr_model.specs.NodeState.{NodeState}
 use Rattle.rr_tape.specs.declared.tape_event.TapeEvent.{TapeEvent}
 use Rattle.rr_audit.specs.declared.given.Given.{Given}
-use Rattle.rr_audit.specs.Audits.{Replay, IsNextAt, IsNext, replayed}
+use Rattle.rr_model.specs.World.{Step}
+use Rattle.rr_audit.specs.declared.progress.Progress.{Progress}
+use Rattle.rr_audit.specs.Audits.{Replay, IsNextAt, IsNext, replayed, new_replay, Leads, StopsAt}
 
 -- nothing else is given where the node gives it, and then it is in its next state
 abbrev pub Tells : Type 0 → NodeState → NodeState → Option Given → Type 0
@@ -30,3 +32,12 @@ abbrev pub Steps : TapeEvent → Replay → Replay → Result (Option Given) Ref
 Steps e old new (Ok None) = (next : IsNext old e) × (new ≡ replayed e next.state next.does old)
 Steps e old new (Ok (Some given)) = IsNext old e → ⊥
 Steps e old new (Err refusal) = refusal ≡ OutOfMemory
+
+-- the events so far lead from n new nodes to here, or the one of this number is the first that isn't next
+abbrev pub IsFoundSoFar : ℕ → List TapeEvent → Replay → Option (ℕ × ℕ × Given) → Type 0
+IsFoundSoFar n events here None = (steps : List Step) × Leads events (new_replay n) steps here
+IsFoundSoFar n events here (Some (number, node, given)) = StopsAt n events number
+
+-- the same of an audit that goes on
+abbrev pub IsUnderWay : ℕ → List TapeEvent → Progress → Type 0
+IsUnderWay n events progress = IsFoundSoFar n events progress.replay progress.stopped

@@ -1,3 +1,4 @@
 pub mod Same
 pub mod Audits
 pub mod Following
+pub mod AuditTexts

@@ -4,7 +4,7 @@ ghost use Rattle.std.specs.Prelude.{◌≡◌, ◌⊎◌, ℕ, length, Err, IfOk
 ghost use Rattle.rr_audit.specs.Audits.{IsTapeRun, AgreesWithOneList, StopsAt, IsVerdict};
 
 use crate::given::Given;
-use crate::replay::{Replay, node_of};
+use crate::progress::Progress;
 use rr_tape::Tape;
 use rr_types::{Body, Command, Message, NodeId, Op, Refusal};
 use std::alloc::Global;
@@ -28,16 +28,14 @@ pub fn examine(alloc: Global, tape: &Tape) -> Result<Verdict, Refusal>
     ensures verdict { IfOk result (λ v. IsVerdict tape.now.nodes tape.now.events v) }
     ensures err { IfErr result (λ e. e ≡ Refusal.OutOfMemory) }
 {
-    let mut replay = Replay::new(alloc, tape.nodes())?;
+    let mut progress = Progress::new(alloc, tape.nodes())?;
     let mut count = 0u64;
     let events = tape.events();
     for event in events {
-        if let Some(given) = replay.step(event)? {
-            return Ok(Verdict::No(count + 1, node_of(event), given));
-        }
+        progress.follow(count + 1, event)?;
         count += 1;
     }
-    Ok(Verdict::Yes(count))
+    Ok(progress.verdict(count))
 }
 
 /// Audits a tape, and answers how many events it has.

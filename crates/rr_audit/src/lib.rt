@@ -4,11 +4,14 @@
 mod auditing;
 mod given;
 mod paper;
+mod progress;
+mod reading;
 mod replay;
 mod replay_node;
 mod same;
 
 pub use auditing::{Verdict, audit, examine};
 pub use given::Given;
+pub use reading::audit_on;
 pub use replay::Replay;
 pub use replay_node::ReplayNode;

@@ -4,7 +4,8 @@ use Rattle.rr_stream.specs.Streams.{Printing}
 use Rattle.rr_audit.specs.declared.given.Given.{Given}
 use Rattle.rr_audit.specs.declared.auditing.Verdict.TheVariants.{Yes, No}
 use Rattle.rr_cli.specs.Ends.{Prints, EndsOnTape, agreed, stopped}
-use Rattle.rr_cli.specs.Tapes.{IsVerdictOn, yes_text}
+use Rattle.rr_audit.specs.AuditTexts.{IsVerdictOn}
+use Rattle.rr_cli.specs.Tapes.{yes_text}
 
 -- the line of a yes was printed
 pub yes_ends : (bytes : List ℕ) (count status : ℕ) (old new : Printing) → IsVerdictOn bytes (Yes count) → Prints (yes_text count) status old new → EndsOnTape bytes status old new

@@ -5,14 +5,14 @@ ghost use Rattle.std.specs.Io.KnownBytes.{Keeps};
 ghost use Rattle.rr_text.specs.Lines.{IsFault};
 ghost use Rattle.rr_tape.specs.Taped.{IsTapeEvent};
 ghost use Rattle.rr_tape.specs.TapeTexts.{tape_line};
-ghost use Rattle.rr_cli.specs.Tapes.{IsVerdictOn, yes_text};
+ghost use Rattle.rr_audit.specs.AuditTexts.{IsVerdictOn};
+ghost use Rattle.rr_cli.specs.Tapes.{yes_text};
 ghost use Rattle.rr_cli.specs.Ends.{EndsOnTape, EndsOnInput, EndsOnFile};
 
 use crate::refusals::{end_by_refusal, end_by_tape_fault};
 use crate::streams::{end_by_stream, end_by_text};
-use rr_audit::{Given, Verdict, examine};
+use rr_audit::{Given, Verdict, audit_on};
 use rr_stream::{Counted, Sink, Source, read_all};
-use rr_tape::Tape;
 use rr_text::ReportLine;
 use rr_text::text_read::cut;
 use rr_text::text_report::push_report_words;
@@ -21,18 +21,6 @@ use std::alloc::{AllocError, Global};
 use std::io::{ErrorKind, Write};
 use std::rt::Files;
 use std::{fs, io};
-
-/// What an audit finds of the tape that the bytes are.
-///
-/// # Errors
-/// `BadNodes` and `BadEvent` for bytes that are no tape; `OutOfMemory`.
-pub fn audit_on(alloc: Global, bytes: &[u8]) -> Result<Verdict, Refusal>
-    ensures ok { IfOk result (λ verdict. IsVerdictOn bytes.now verdict) }
-    ensures fault { IfErr result (λ e. IsFault IsTapeEvent tape_line bytes.now e) }
-{
-    let tape = Tape::parse(alloc, bytes)?;
-    examine(alloc, &tape)
-}
 
 // Audits the tape that the input of this name holds, and tells what is found.
 pub(crate) fn audit_input<I: Source, O: Sink, E: Write>(

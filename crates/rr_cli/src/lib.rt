@@ -9,10 +9,10 @@ mod show;
 mod streams;
 mod words;
 
-pub use audit::audit_on;
 pub use draw::nodes_of;
 pub use program::{execute, run};
 pub use refusals::{end_by_refusal, print_refusal, status};
+pub use rr_audit::audit_on;
 pub use rr_sim::{random_run, report_on};
 pub use show::show_disk;
 pub use streams::{end_by_stream, end_by_text, end_without_words};

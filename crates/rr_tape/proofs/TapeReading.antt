@@ -1,5 +1,5 @@
 -- Tapes: what is read is printed so, and what is printed is read again.
-use Rattle.std.proofs.Common.{◌≡◌, ℕ, ◌^◌, ◌<◌, ◌≤◌, List, [], ◌∷◌, ◌++◌, Option, Some, Result, Ok, Err, MatchResult, codes, decimal, refl, ap, subst, ◌∙◌, sym, arith}
+use Rattle.std.proofs.Common.{◌≡◌, ℕ, ◌^◌, ◌<◌, ◌≤◌, List, [], ◌∷◌, ◌++◌, Option, None, Some, Result, Ok, Err, MatchResult, codes, decimal, refl, ap, subst, ◌∙◌, sym, arith}
 use Rattle.std.specs.Prelude.{IfOk, IfErr}
 use Rattle.std.proofs.lemmas.List.{append_assoc}
 use Rattle.std.proofs.lemmas.Option.{same_Some}
@@ -12,7 +12,7 @@ use Rattle.rr_text.specs.declared.event.Event.TheVariants as events
 use Rattle.rr_text.specs.declared.keyword.Keyword.{Keyword}
 use Rattle.rr_text.specs.declared.keyword.Keyword.TheVariants as keywords
 use Rattle.rr_text.specs.Words.{spaced, set_text}
-use Rattle.rr_text.specs.Lines.{IsFault}
+use Rattle.rr_text.specs.Lines.{HasNoLine, IsFault}
 use Rattle.rr_text.specs.Scheduled.{IsEvent}
 use Rattle.rr_text.specs.ScheduleTexts.{event_text}
 use Rattle.rr_text.specs.ReportTexts.{request_text, message_words, reply_words}
@@ -20,7 +20,7 @@ use Rattle.rr_text.specs.Reading.{◌>>=◌, cut_at, small_at, node_at, keyword_
 use Rattle.rr_text.proofs.CutLemmas.{AtLeast, bind_some, cut_again, cut_takes}
 use Rattle.rr_text.proofs.OpReading.{submitted_text}
 use Rattle.rr_text.proofs.EventReading.{joined, keyword_takes, keyword_again, keyword_plain, submit_text, fields_takes, event_again, event_plain}
-use Rattle.rr_text.proofs.LineReading.{AreLines}
+use Rattle.rr_text.proofs.LineReading.{AreLines, line_uncut, line_unread}
 use Rattle.rr_text.proofs.TextReading.{AreTexts, IsText, text_one, only_memory}
 use Rattle.rr_tape.specs.declared.tape_event.TapeEvent.{TapeEvent}
 use Rattle.rr_tape.specs.declared.tape_event.TapeEvent.TheVariants.{Submit, Hear, Suspect, Tick, Advance, Take, Mark, Send, Ack}
@@ -136,6 +136,17 @@ tape_lines n few = record {
   again = λ t more fits.
       (words_of t, ap (cut_at 10) (append_assoc (words_of t) (10 ∷ []) more) ∙ cut_again 10 32 (words_of t) more (omega arith) (tape_event_plain n t few fits), tape_event_again n t few fits);
 }
+
+-- ---- the line at the front of bytes
+
+pub event_taken : (n : ℕ) (bytes text rest : List ℕ) (t : TapeEvent) → n ≤ 7 → cut_at 10 bytes ≡ Some (text, rest) → Some t ≡ tape_event_at n text → IsTapeEvent n t × (bytes ≡ tape_line t ++ rest)
+event_taken n bytes text rest t few cut read = (tape_lines n few).takes bytes text rest t cut read
+
+pub event_uncut : (n : ℕ) (bytes : List ℕ) → n ≤ 7 → cut_at 10 bytes ≡ None → HasNoLine (IsTapeEvent n) tape_line bytes
+event_uncut n bytes few cut = line_uncut (tape_lines n few) bytes cut
+
+pub event_unread : (n : ℕ) (bytes text rest : List ℕ) → n ≤ 7 → cut_at 10 bytes ≡ Some (text, rest) → None ≡ tape_event_at n text → HasNoLine (IsTapeEvent n) tape_line bytes
+event_unread n bytes text rest few cut unread = line_unread (tape_lines n few) bytes text rest cut unread
 
 pub tapes : AreTexts IsTapeEvent tape_line tape_event_at
 tapes = record { lines = tape_lines }

@@ -11,3 +11,4 @@ mod tape_text;
 pub use tape::Tape;
 pub use tape_event::TapeEvent;
 pub use tape_law::one_tape_fault;
+pub use tape_parse::next_tape_event;

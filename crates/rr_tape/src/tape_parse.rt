@@ -1,8 +1,8 @@
 //! Reading tapes.
 
-ghost use Rattle.std.specs.Prelude.{◌≡◌, ◌+◌, ◌<◌, ◌≤◌, ◌++◌, None, Some, MatchResult, IfOk, IfErr, length};
+ghost use Rattle.std.specs.Prelude.{◌≡◌, ◌+◌, ◌<◌, ◌≤◌, ◌++◌, ◌⊎◌, [], None, Some, MatchOption, MatchResult, IfOk, IfErr, length};
 ghost use Rattle.std.specs.List.{flat_map, AllByRecursion};
-ghost use Rattle.rr_text.specs.Lines.{nodes_line, ArePrinted, IsStop, IsFirstFault, IsFault};
+ghost use Rattle.rr_text.specs.Lines.{nodes_line, ArePrinted, HasNoLine, IsStop, IsFirstFault, IsFault};
 ghost use Rattle.rr_tape.specs.Reading.{message_at, sent_at, acked_at, tape_fields_at, tape_event_at};
 ghost use Rattle.rr_tape.specs.Taped.{Taped, IsTapeEvent, IsTape};
 ghost use Rattle.rr_tape.specs.TapeTexts.{tape_line, tape_text};
@@ -84,32 +84,56 @@ fn tape_event(alloc: Global, nodes: Nodes, text: &[u8]) -> Result<Option<TapeEve
     }
 }
 
-fn tape_events(alloc: Global, nodes: Nodes, bytes: &[u8]) -> Result<Vec<TapeEvent>, Refusal>
-    ensures ok { IfOk result (λ v. ArePrinted (IsTapeEvent nodes) tape_line v.items bytes.now) }
-    ensures err { IfErr result (λ e. IsStop (IsTapeEvent nodes) tape_line bytes.now e) }
+/// The event of a tape's next line, which has this number, and the bytes behind the line; none where no byte is left.
+///
+/// # Errors
+/// `BadEvent` of the line where no event stands at the front of the bytes, or a million stand before it; `OutOfMemory`.
+#[tactic(auto, using(crate::proofs::TapeReading::event_uncut, crate::proofs::TapeReading::event_unread))]
+pub fn next_tape_event(
+    alloc: Global,
+    nodes: Nodes,
+    bytes: &[u8],
+    line: u64,
+) -> Result<Option<(TapeEvent, &[u8])>, Refusal>
+    ensures ok { IfOk result (λ next. MatchOption next (bytes.now ≡ []) (λ x. (line < 1000002) × IsTapeEvent nodes x.0 × (bytes.now ≡ tape_line x.0 ++ x.1.now))) }
+    ensures err { IfErr result (λ e. (e ≡ Refusal.OutOfMemory) ⊎ ((e ≡ Refusal.BadEvent line) × (0 < length bytes.now) × ((1000002 ≤ line) ⊎ HasNoLine (IsTapeEvent nodes) tape_line bytes.now))) }
 {
     // The check learns what an event is made of from the types of a function's variables.
     let _parts: Option<(Body, Command, Message, Op, Reply)> = None;
     let _count = nodes.count();
+    if bytes.is_empty() {
+        return Ok(None);
+    }
+    if line >= MAX_EVENTS as u64 + 2 {
+        return Err(Refusal::BadEvent(line));
+    }
+    let Some((text, rest)) = cut(bytes, b'\n') else {
+        return Err(Refusal::BadEvent(line));
+    };
+    match tape_event(alloc, nodes, text)? {
+        Some(event) => Ok(Some((event, rest))),
+        None => Err(Refusal::BadEvent(line)),
+    }
+}
+
+#[tactic(auto, using(rr_text::proofs::LineReading::so_far_none, rr_text::proofs::LineReading::so_far_on, rr_text::proofs::LineReading::so_far_all, rr_text::proofs::LineReading::so_far_stop))]
+fn tape_events(alloc: Global, nodes: Nodes, bytes: &[u8]) -> Result<Vec<TapeEvent>, Refusal>
+    ensures ok { IfOk result (λ v. ArePrinted (IsTapeEvent nodes) tape_line v.items bytes.now) }
+    ensures err { IfErr result (λ e. IsStop (IsTapeEvent nodes) tape_line bytes.now e) }
+{
+    let _parts: Option<(Body, Command, Message, Op, Reply)> = None;
     let mut events = Vec::new(alloc);
     let mut rest = bytes;
-    while !rest.is_empty() {
-        let number = events.len() as u64 + 2;
-        if events.len() == MAX_EVENTS {
-            return Err(Refusal::BadEvent(number));
-        }
-        match cut(rest, b'\n') {
-            None => return Err(Refusal::BadEvent(number)),
-            Some((text, after)) => match tape_event(alloc, nodes, text)? {
-                None => return Err(Refusal::BadEvent(number)),
-                Some(event) => {
-                    events.push(event)?;
-                    rest = after;
-                }
-            },
+    loop {
+        match next_tape_event(alloc, nodes, rest, events.len() as u64 + 2) {
+            Err(refusal) => return Err(refusal),
+            Ok(None) => return Ok(events),
+            Ok(Some((event, behind))) => {
+                events.push(event)?;
+                rest = behind;
+            }
         }
     }
-    Ok(events)
 }
 
 fn tape(alloc: Global, bytes: &[u8]) -> Result<Tape, Refusal>

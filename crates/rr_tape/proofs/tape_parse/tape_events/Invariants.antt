@@ -5,8 +5,8 @@ use Rattle.rr_text.proofs.LineReading.{SoFar}
 use Rattle.rr_tape.proofs.tape_parse.tape_events.Given as goal
 
 -- the events so far and the rest make the whole
-abbrev pub invariant-loop-rest : goal.invariant-loop-rest
-invariant-loop-rest l = SoFar (IsTapeEvent l.nodes) tape_line l.bytes l.events.items l.rest
+abbrev pub invariant-loop-refusal : goal.invariant-loop-refusal
+invariant-loop-refusal l = SoFar (IsTapeEvent l.nodes) tape_line l.bytes l.events.items l.rest
 
-abbrev pub decreases-loop-rest : goal.decreases-loop-rest
-decreases-loop-rest l = length l.rest
+abbrev pub decreases-loop-refusal : goal.decreases-loop-refusal
+decreases-loop-refusal l = length l.rest
