@@ -5,8 +5,9 @@
 //! audit` does. `baseline_sim show DIR` tells what the areas of a node's
 //! disk hold, the files `a0` and `a1`. `baseline_sim areas DIR <
 //! SCHEDULE` writes those of node 0 behind a schedule. `baseline_sim draw SEED
-//! STEPS NODES` prints a random schedule. `baseline_sim answer` does all of
-//! these for the questions on its input.
+//! STEPS NODES` prints a random schedule. `baseline_sim sweep SEED < SCHEDULE`
+//! tells what a node restarts with after a crash behind each device call.
+//! `baseline_sim answer` does the others for the questions on its input.
 
 mod answer;
 mod audit;
@@ -24,6 +25,7 @@ mod registry;
 mod report;
 mod schedule;
 mod show;
+mod sweep;
 mod tape;
 mod types;
 
@@ -111,13 +113,20 @@ fn run(words: &[&str]) -> io::Result<Ending> {
             let (steps, nodes) = (number(steps)? as u32, number(nodes)? as u8);
             printed(draw::draw(number(seed)?, steps, nodes, 0).into_bytes())
         }
+        ["sweep", seed] => {
+            let text = read_input()?;
+            match sweep::sweep(&text, number(seed)?, &mut io::stdout().lock())? {
+                Ok(()) => printed(Vec::new()),
+                Err(fault) => failed(3, fault.to_string()),
+            }
+        }
         ["answer"] => {
             answer::answer_all(&mut io::stdin().lock(), &mut io::stdout().lock())?;
             printed(Vec::new())
         }
         _ => failed(
             2,
-            "words: sim [--starve LINE | --long], audit [FILE], show DIR, areas DIR, draw SEED STEPS NODES, answer"
+            "words: sim [--starve LINE | --long], audit [FILE], show DIR, areas DIR, draw SEED STEPS NODES, sweep SEED, answer"
                 .into(),
         ),
     };
