@@ -113,7 +113,7 @@ def compare(given):
     seed = given.first
     while made < given.count:
         nodes = 1 + made % 7
-        lines = draw(seed, nodes, 4 + seed % 9, given.rr)
+        lines = draw(seed, nodes, 6 + 2 * nodes + seed % 9, given.rr)
         report = simulate(given.rr, lines)
         count = next(int(line[8:]) for line in report if line.startswith("decided "))
         seed += 1
