@@ -159,6 +159,23 @@ first_node_at n text = cut_at 32 text >>= λ w. node_at n w.0 >>= λ p. Some (p,
 abbrev pub cuts_at : List ℕ → Option (ℕ × ℕ × List ℕ)
 cuts_at text = cut_at 32 text >>= λ a. small_at a.0 >>= λ cut_0. cut_at 32 a.1 >>= λ b. small_at b.0 >>= λ cut_1. fill_at b.1 >>= λ fill. Some (cut_0, cut_1, fill)
 
+-- behind a keyword stands a node and nothing else
+abbrev pub IsLone : Keyword → Type 0
+IsLone Submit = ⊥
+IsLone Hear = ⊥
+IsLone Suspect = ⊥
+IsLone Tick = Unit {0}
+IsLone Advance = Unit {0}
+IsLone Take = Unit {0}
+IsLone Device = Unit {0}
+IsLone Fail = ⊥
+IsLone Mark = Unit {0}
+IsLone Send = Unit {0}
+IsLone Ack = Unit {0}
+IsLone Snap = Unit {0}
+IsLone Crash = ⊥
+IsLone Restart = Unit {0}
+
 -- the event of this keyword among n nodes
 abbrev pub fields_at : ℕ → Keyword → List ℕ → Option Event
 fields_at n Submit text = first_node_at n text >>= λ p. submitted_at p.1 >>= λ c. Some (events.Submit p.0 c)

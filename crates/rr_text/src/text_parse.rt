@@ -5,7 +5,7 @@ ghost use Rattle.std.specs.List.{flat_map, AllByRecursion};
 ghost use Rattle.rr_text.specs.Scheduled.{Scheduled, IsEvent, IsSchedule};
 ghost use Rattle.rr_text.specs.Lines.{nodes_line, HasNoLine, ArePrinted, IsStop, IsFirstFault, IsFault};
 ghost use Rattle.rr_text.specs.ScheduleTexts.{event_line, schedule_text};
-ghost use Rattle.rr_text.specs.Reading.{pairs_at, fill_at, first_node_at, cuts_at, fields_at, event_at, nodes_at, count_at};
+ghost use Rattle.rr_text.specs.Reading.{pairs_at, fill_at, first_node_at, cuts_at, IsLone, fields_at, event_at, nodes_at, count_at};
 
 use crate::event::{Event, Fill};
 use crate::keyword::Keyword;
@@ -169,17 +169,41 @@ pub fn fields(
         Keyword::Submit => Ok(submit(nodes, text)),
         Keyword::Hear => Ok(hear(nodes, text)),
         Keyword::Suspect => Ok(suspect(nodes, text)),
-        Keyword::Tick => Ok(node(nodes, text).map(|node| Event::Tick { node })),
-        Keyword::Advance => Ok(node(nodes, text).map(|node| Event::Advance { node })),
-        Keyword::Take => Ok(node(nodes, text).map(|node| Event::Take { node })),
-        Keyword::Device => Ok(node(nodes, text).map(|node| Event::Device { node })),
         Keyword::Fail => fail(alloc, nodes, text),
-        Keyword::Mark => Ok(node(nodes, text).map(|node| Event::Mark { node })),
-        Keyword::Send => Ok(node(nodes, text).map(|node| Event::Send { node })),
-        Keyword::Ack => Ok(node(nodes, text).map(|node| Event::Ack { node })),
-        Keyword::Snap => Ok(node(nodes, text).map(|node| Event::Snap { node })),
         Keyword::Crash => crash(alloc, nodes, text),
-        Keyword::Restart => Ok(node(nodes, text).map(|node| Event::Restart { node })),
+        Keyword::Tick
+        | Keyword::Advance
+        | Keyword::Take
+        | Keyword::Device
+        | Keyword::Mark
+        | Keyword::Send
+        | Keyword::Ack
+        | Keyword::Snap
+        | Keyword::Restart => Ok(lone(nodes, keyword, text)),
+    }
+}
+
+/// The event of a keyword behind which a node stands and nothing else.
+fn lone(nodes: Nodes, keyword: Keyword, text: &[u8]) -> Option<Event>
+    requires { IsLone keyword }
+    ensures { result ≡ fields_at nodes keyword text.now }
+{
+    let Some(node) = node(nodes, text) else {
+        return None;
+    };
+    match keyword {
+        Keyword::Tick => Some(Event::Tick { node }),
+        Keyword::Advance => Some(Event::Advance { node }),
+        Keyword::Take => Some(Event::Take { node }),
+        Keyword::Device => Some(Event::Device { node }),
+        Keyword::Mark => Some(Event::Mark { node }),
+        Keyword::Send => Some(Event::Send { node }),
+        Keyword::Ack => Some(Event::Ack { node }),
+        Keyword::Snap => Some(Event::Snap { node }),
+        Keyword::Restart => Some(Event::Restart { node }),
+        Keyword::Submit | Keyword::Hear | Keyword::Suspect | Keyword::Fail | Keyword::Crash => {
+            unreachable!()
+        }
     }
 }
 
