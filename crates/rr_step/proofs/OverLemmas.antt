@@ -1,5 +1,5 @@
 -- Rows with changed ones over them.
-use Rattle.std.proofs.Common.{◌≡◌, ◌≢◌, ◌+◌, ◌<◌, ◌≤◌, ℕ, arith, Bool, true, false, ltb, eqb, cond, ◌&&◌, ◌||◌, not, List, [], ◌∷◌, ◌++◌, reverse, ap, sym, ◌∙◌, refl, subst, Option, Some, None, option_map}
+use Rattle.std.proofs.Common.{◌≡◌, ◌≢◌, ◌+◌, ◌<◌, ◌≤◌, ℕ, zero, suc, arith, Bool, true, false, ltb, eqb, cond, ◌&&◌, ◌||◌, not, List, [], ◌∷◌, ◌++◌, reverse, ap, sym, ◌∙◌, refl, subst, Option, Some, None, option_map}
 use Rattle.std.proofs.lemmas.List.{reverse-append}
 use Rattle.std.specs.List.{list_any}
 use Rattle.std.specs.Option.{option_map_or}
@@ -13,7 +13,7 @@ use Rattle.rr_types.specs.declared.fact.Fact.{Fact}
 use Rattle.rr_types.specs.Facts.{decision_of, instance_of, after_fact}
 use Rattle.rr_types.specs.Standings.{is_undecided}
 use Rattle.rr_types.specs.declared.fact.Fact.TheVariants.{Enter, Propose, Adopt, Decide}
-use Rattle.rr_model.specs.NodeState.{NodeState, next_number, Row, row_of, put_row, is_decided, decided_command, undecided_from}
+use Rattle.rr_model.specs.NodeState.{NodeState, next_number, Row, row_of, put_row, is_decided, decided_command, undecided_from, lowest_undecided}
 use Rattle.rr_model.specs.NodeParts.{row_after, fresh_row, rows_after}
 use Rattle.rr_list.specs.Rowed.{AscendFrom, has_decided}
 use Rattle.rr_list.specs.Listed as listed
@@ -263,6 +263,28 @@ pub none_between : (rs rows : List Row) (j : ℕ) → KeepDecisions rs rows → 
 none_between rs rows j k d e =
     let off : is_decided_at j (put_rows rs rows) ≡ false = over_decides rs rows j k ∙ rw (d, e) refl in
     undecided_stays j (put_rows rs rows) off
+
+-- a row that has decided is among the changed ones, if one of this instance is
+none_at : (j : ℕ) (rs : List Row) → list_any (λ r. is_decided r) rs ≡ false → is_decided_at j rs ≡ false
+none_at j [] h = refl
+none_at j (r ∷ rs) h = by (is_decided r) (eqb r.instance j) refl h
+  where
+    by : (a b : Bool) → is_decided r ≡ a → (a || list_any (λ q. is_decided q) rs) ≡ false → ((b && is_decided r) || is_decided_at j rs) ≡ false
+    by true b e k = absurd (false≢true (sym k))
+    by false true e k = rw e (none_at j rs k)
+    by false false e k = none_at j rs k
+
+same_lowest : (rs rows : List Row) → AscendFrom 0 rows → KeepDecisions rs rows → list_any (λ r. is_decided r) rs ≡ false → (i : ℕ) → undecided_from i (put_rows rs rows) ≡ undecided_from i rows
+same_lowest rs rows a k none i =
+    let u = undecided_from i rows in
+    sym (from_base rs rows i u a k refl) ∙ none_between rs rows u k (none_at u rs none) (lowest_open rows i u a refl)
+
+-- the lowest undecided instances stay where no changed row has decided
+pub open_stays : (rs rows : List Row) → AscendFrom 0 rows → KeepDecisions rs rows → list_any (λ r. is_decided r) rs ≡ false → (n i : ℕ) → lowest_undecided n i (put_rows rs rows) ≡ lowest_undecided n i rows
+open_stays rs rows a k none zero i = refl
+open_stays rs rows a k none (suc n) i =
+    rw (same_lowest rs rows a k none i)
+    (ap (λ (xs : List ℕ). cond (ltb (undecided_from i rows) 1048576) (undecided_from i rows ∷ xs) []) (open_stays rs rows a k none n (undecided_from i rows + 1)))
 
 -- by the changed rows, or else by those below
 pub above_then : (first : ℕ) (rs rows : List Row) (x : Bool) → KeepDecisions rs rows → x ≡ list_any (λ (r : Row). ltb first r.instance && is_decided r) rs → x ≡ true → x ≡ list_any (λ (r : Row). ltb first r.instance && is_decided r) (put_rows rs rows)

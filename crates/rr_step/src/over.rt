@@ -1,6 +1,6 @@
 //! The rows of a state with the rows that a step has changed, of which the newest stands first.
 
-ghost use Rattle.std.specs.Prelude.{◌≡◌, ◌≤◌, ◌<◌, ◌&&◌, ◌==◌, nat_lt, IsTrue, None, Some, find, option_map, MatchOption, IfOk, IfErr, IfSome};
+ghost use Rattle.std.specs.Prelude.{◌≡◌, ◌≤◌, ◌<◌, ◌&&◌, ◌==◌, nat_lt, IsTrue, None, Some, find, option_map, MatchOption, IfSome};
 ghost use Rattle.std.specs.List.{list_any};
 ghost use Rattle.rr_types.specs.Standings.{round_of};
 ghost use Rattle.rr_model.specs.NodeState.{row_of, is_decided, undecided_from, lowest_undecided};
@@ -10,8 +10,8 @@ ghost use Rattle.rr_step.specs.Steps.{put_rows, KeepDecisions};
 use crate::rows::{find_row, has_decided_request};
 use crate::state::State;
 use rr_instance::{Row, round_in};
-use rr_types::{Instance, Refusal, RequestNo};
-use std::alloc::Global;
+use rr_list::{Window, is_any_decided};
+use rr_types::{Instance, RequestNo, WINDOW};
 
 /// The row of an instance.
 #[tactic(auto, using(crate::proofs::OverLemmas::row_changed, crate::proofs::OverLemmas::row_same))]
@@ -53,30 +53,36 @@ pub fn undecided_over(base: &State, changed: &[Row], from: u32) -> u32
     lowest
 }
 
-/// The `count` lowest undecided instances, ascending.
-#[tactic(auto, using(crate::proofs::RowLemmas::lowest_next, crate::proofs::RowLemmas::lowest_done, crate::proofs::RowLemmas::push_next))]
-pub fn lowest_over(
-    alloc: Global,
-    base: &State,
-    changed: &[Row],
-    count: usize,
-) -> Result<Vec<Instance>, Refusal>
+/// The open instances, ascending: those of the state, where no changed row has decided.
+pub fn open_over(base: &State, changed: &[Row]) -> Window
     requires { KeepDecisions changed.now base.now.rows }
-    ensures value { IfOk result (λ found. found.items ≡ lowest_undecided count 0 (put_rows changed.now base.now.rows)) }
-    ensures err { IfErr result (λ e. e ≡ Refusal.OutOfMemory) }
+    ensures { result ≡ lowest_undecided 8 0 (put_rows changed.now base.now.rows) }
 {
-    let mut found = Vec::new(alloc);
+    if is_any_decided(changed) {
+        lowest_over(base, changed)
+    } else {
+        base.window()
+    }
+}
+
+/// The eight lowest undecided instances, ascending.
+#[tactic(auto, using(crate::proofs::RowLemmas::lowest_next, crate::proofs::RowLemmas::lowest_done, crate::proofs::RowLemmas::push_next))]
+fn lowest_over(base: &State, changed: &[Row]) -> Window
+    requires { KeepDecisions changed.now base.now.rows }
+    ensures { result ≡ lowest_undecided 8 0 (put_rows changed.now base.now.rows) }
+{
+    let mut found = Window::new();
     let mut from = 0;
-    for _turn in 0..count {
+    for _turn in 0..WINDOW {
         match Instance::new(undecided_over(base, changed, from)) {
-            None => return Ok(found),
+            None => return found,
             Some(instance) => {
-                found.push(instance)?;
+                found.push(instance);
                 from = instance.number() + 1;
             }
         }
     }
-    Ok(found)
+    found
 }
 
 /// Whether an instance is one of the `count` lowest undecided ones.
