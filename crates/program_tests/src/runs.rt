@@ -106,14 +106,14 @@ fn tells_each_refusal_in_the_same_words(rt: HostRuntime) -> Result<(), Fail> {
 fn reads_words(rt: HostRuntime) -> Result<(), Fail> {
     let version = run(&rt, &["rr", "--version"], &mut &b""[..])?;
     assert_eq!(rt; version.status, 0);
-    assert_eq!(rt; version.out.as_str(), "rr 0.1.0\n");
+    assert_eq!(rt; version.out.as_str(), "rr 0.1.0, proved with rattle-kit-13b logic dac8208d650f15bf\n");
     let help = run(&rt, &["rr", "--help"], &mut &b""[..])?;
     assert_eq!(rt; help.status, 0);
     assert!(rt; help.out.as_str().contains("Usage: rr <COMMAND>"));
     assert!(rt;
         help.out
             .as_str()
-            .contains("\nExit status: 0 done, 2 wrong words")
+            .contains("\nExit status: 0 done, 1 a difference, 2 wrong words")
     );
     assert!(rt; help.err.is_empty());
     let wrong: [(&[&str], &str); 7] = [
@@ -193,7 +193,7 @@ impl Read for Torn {
     }
 }
 
-/// A writer that takes nothing.
+/// A writer whose reader has gone away.
 #[derive(Drop)]
 struct Closed;
 
@@ -217,7 +217,7 @@ fn tells_streams_that_fail(rt: HostRuntime) -> Result<(), Fail> {
     let mut input = Counted::new(&b"nodes 3\n"[..]);
     let mut out = Counted::new(Closed);
     let status = execute(&rt, &["rr", "sim"], &mut input, &mut out, &mut err);
-    assert!(rt; err.as_slice() == b"rr: standard output: closed\n".as_slice());
+    assert!(rt; err.is_empty(), "nothing is said of a reader that has gone away");
     assert_eq!(rt; status, 5);
     for word in ["--help", "--version"] {
         let status = execute(&rt, &["rr", word], &mut input, &mut out, &mut Closed);

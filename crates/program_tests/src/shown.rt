@@ -119,10 +119,26 @@ fn tells_what_stands_before_a_closed_gate(rt: HostRuntime) -> Result<(), Fail> {
     Ok(())
 }
 
-/// Whether `rr show` refuses areas with this line, and prints nothing.
+/// Whether `rr show` refuses areas with this line and one more, and prints nothing.
 fn is_refused(rt: &HostRuntime, first: &[u8], second: &[u8], line: &str) -> Result<bool, Fail> {
     let ran = shown(rt, "rr_cli_broken", first, second)?;
-    Ok(ran.status == 4 && ran.err.as_str() == line && ran.out.is_empty())
+    let is_told = ran.err.as_str().starts_with(line) && ran.err.as_str().len() > line.len();
+    Ok(ran.status == 4 && is_told && ran.out.is_empty())
+}
+
+#[test]
+fn shows_the_bytes_where_an_area_is_broken(rt: HostRuntime) -> Result<(), Fail> {
+    let inside = shown(&rt, "rr_cli_bytes", cut(area(), 155), &[])?;
+    assert_eq!(rt;
+        inside.err.as_str(),
+        "rr: 3 Damaged 0 114\nrr_cli_bytes/a0: damaged from byte 114 on, where these stand: A5 00 00 00 24 00 00 00 00 00 00 00 02 00 01 03\n"
+    );
+    let end = shown(&rt, "rr_cli_bytes", cut(area(), 157), &[])?;
+    assert_eq!(rt;
+        end.err.as_str(),
+        "rr: 3 Damaged 0 155\nrr_cli_bytes/a0: damaged from byte 155 on, where these stand: A5 00\n"
+    );
+    Ok(())
 }
 
 #[test]
@@ -150,8 +166,14 @@ fn tells_which_of_two_areas_is_broken(rt: HostRuntime) -> Result<(), Fail> {
 fn tells_folders_that_are_none(rt: HostRuntime) -> Result<(), Fail> {
     let folder = "rr_cli_no_folder";
     let _ = fs::remove_dir_all(&rt, folder);
-    let device = "rr: 2 Device\n";
+    let missing = "rr: 2 Device\nrr_cli_no_folder/a0: No such file or directory (os error 2)\n";
     for step in 0..5 {
+        let device = match step {
+            0 => "rr: 2 Device\nrr_cli_no_folder: No such file or directory (os error 2)\n",
+            3 => "rr: 2 Device\nrr_cli_no_folder/a0: Is a directory (os error 21)\n",
+            4 => "rr: 2 Device\nrr_cli_no_folder/a1: No such file or directory (os error 2)\n",
+            _ => missing,
+        };
         match step {
             1 => fs::create_dir(&rt, folder)?,
             2 => fs::write(&rt, "rr_cli_no_folder/a1", snapshot())?,
@@ -171,7 +193,11 @@ fn tells_folders_that_are_none(rt: HostRuntime) -> Result<(), Fail> {
     }
     assert!(rt; !fs::exists(&rt, "rr_cli_no_folder/a1")?, "no file is made");
     let ran = run(&rt, &["rr", "show", "rr_cli_no_folder/a0"], &mut &b""[..])?;
-    assert_eq!(rt; ran.err.as_str(), device, "a file as a folder");
+    assert_eq!(rt;
+        ran.err.as_str(),
+        "rr: 2 Device\nrr_cli_no_folder/a0/a0: Not a directory (os error 20)\n",
+        "a file as a folder"
+    );
     assert_eq!(rt; ran.status, 5);
     fs::remove_dir_all(&rt, folder)?;
     Ok(())
@@ -188,7 +214,10 @@ fn tells_a_file_that_may_not_be_read(rt: HostRuntime) -> Result<(), Fail> {
     fs::set_permissions(&rt, "rr_cli_not_readable/a0", Permissions::from_mode(0))?;
     if fs::read(&rt, "rr_cli_not_readable/a0").is_err() {
         let ran = run(&rt, &["rr", "show", folder], &mut &b""[..])?;
-        assert_eq!(rt; ran.err.as_str(), "rr: 2 Device\n");
+        assert_eq!(rt;
+            ran.err.as_str(),
+            "rr: 2 Device\nrr_cli_not_readable/a0: Permission denied (os error 13)\n"
+        );
         assert_eq!(rt; ran.status, 5);
         assert!(rt; ran.out.is_empty());
     }

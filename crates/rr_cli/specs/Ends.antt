@@ -1,5 +1,5 @@
 -- How a run of the program ends: its exit status, and what standard output has taken.
-use Rattle.std.specs.Prelude.{◌≡◌, ◌≢◌, ◌⊎◌, ℕ, List, [], ◌∷◌, ◌++◌, length, Option, Some, None, codes}
+use Rattle.std.specs.Prelude.{◌≡◌, ◌≢◌, ◌⊎◌, ℕ, Bool, List, [], ◌∷◌, ◌++◌, length, Option, Some, None, codes}
 use Rattle.clap.specs.Kinds.{Kinds, IsAmong}
 use Rattle.clap.specs.Words.{Text}
 use Rattle.clap.specs.declared.error.kind.ErrorKind.{ErrorKind}
@@ -13,15 +13,15 @@ use Rattle.rr_tape.specs.Taped.{Taped, IsTape, IsTapeEvent}
 use Rattle.rr_tape.specs.TapeTexts.{tape_text, tape_line}
 use Rattle.rr_audit.specs.Audits as tapes
 use Rattle.rr_audit.specs.Audits.{IsTapeRun, StopsAt}
-use Rattle.rr_sim.specs.Told.{IsReportOn, IsRandomRun}
+use Rattle.rr_sim.specs.Told.{IsReportOn}
 use Rattle.rr_disk.specs.Counts.{Grew}
 use Rattle.rr_disk.specs.declared.area.Area.{Area}
 use Rattle.rr_stream.specs.Streams.{Printing, Reading, IsPrinted, IsFrontPrinted, AreAllOf}
 use Rattle.rr_image.specs.declared.inspection.AreaReport.{AreaReport}
 use Rattle.rr_image.specs.Inspect.{Tells, Breaks, inspected}
 use Rattle.rr_cli.specs.Areas.{areas_text}
-use Rattle.rr_cli.specs.Draws.{AreNumbers}
-use Rattle.rr_cli.specs.Lines.{Task, Simulate, Show, Draw, Audit, Run}
+use Rattle.rr_cli.specs.Draws.{AreNumbers, IsDrawnText}
+use Rattle.rr_cli.specs.Lines.{Task, View, Simulate, Viewing, Show, Draw, Audit, Run}
 use Rattle.rr_cli.specs.Refusals.{status_of}
 use Rattle.rr_cli.specs.Tapes.{yes_text}
 
@@ -67,17 +67,17 @@ pub data EndsOnFolder (status : ℕ) (old new : Printing) : Type 0 where
   broken : (first second : List ℕ) (area : Area) (offset : ℕ) → inspected first second ≡ Breaks area offset → status ≡ 4 → new ≡ old → EndsOnFolder status old new
   failed : IsStreamStatus status → new ≡ old → EndsOnFolder status old new
 
--- a run on the numbers of a random schedule: the text of its run is printed; or memory was wanting, and standard output
--- is as it was
-pub data EndsOnDraw (n seed steps : ℕ) (status : ℕ) (old new : Printing) : Type 0 where
-  drawn : (text : List ℕ) → IsRandomRun n seed steps text → Prints text status old new → EndsOnDraw n seed steps status old new
-  cut_off : status ≡ 6 → new ≡ old → EndsOnDraw n seed steps status old new
+-- a run on the numbers of a random schedule, which is to be printed alone or with the report of its run: the text of that
+-- is printed; or memory was wanting, and standard output is as it was
+pub data EndsOnDraw (alone : Bool) (n seed steps : ℕ) (status : ℕ) (old new : Printing) : Type 0 where
+  drawn : (text : List ℕ) → IsDrawnText alone n seed steps text → Prints text status old new → EndsOnDraw alone n seed steps status old new
+  cut_off : status ≡ 6 → new ≡ old → EndsOnDraw alone n seed steps status old new
 
 -- a run on the words of a random schedule: by the numbers that they write, or they write none and standard output is as
 -- it was
-pub data EndsOnWords (of_seed of_steps of_nodes : Text) (status : ℕ) (old new : Printing) : Type 0 where
-  numbered : (seed steps nodes : ℕ) → AreNumbers of_seed of_steps of_nodes seed steps nodes → EndsOnDraw nodes seed steps status old new → EndsOnWords of_seed of_steps of_nodes status old new
-  unnumbered : ((seed steps nodes : ℕ) → AreNumbers of_seed of_steps of_nodes seed steps nodes → ⊥) → status ≡ 2 → new ≡ old → EndsOnWords of_seed of_steps of_nodes status old new
+pub data EndsOnWords (alone : Bool) (of_seed of_steps of_nodes : Text) (status : ℕ) (old new : Printing) : Type 0 where
+  numbered : (seed steps nodes : ℕ) → AreNumbers of_seed of_steps of_nodes seed steps nodes → EndsOnDraw alone nodes seed steps status old new → EndsOnWords alone of_seed of_steps of_nodes status old new
+  unnumbered : ((seed steps nodes : ℕ) → AreNumbers of_seed of_steps of_nodes seed steps nodes → ⊥) → status ≡ 2 → new ≡ old → EndsOnWords alone of_seed of_steps of_nodes status old new
 
 -- words that are wrong
 abbrev pub IsMistake : ErrorKind → Type 0
@@ -85,12 +85,12 @@ IsMistake kind = (kind ≢ DisplayHelp) × (kind ≢ DisplayVersion)
 
 -- the text on the version
 abbrev pub version_text : List ℕ
-version_text = line (codes "rr 0.1.0" ∷ [])
+version_text = line (codes "rr 0.1.0, proved with rattle-kit-13b logic dac8208d650f15bf" ∷ [])
 
 -- the line with which the help ends, behind an empty one
 abbrev pub statuses_text : List ℕ
 statuses_text =
-    10 ∷ codes "Exit status: 0 done, 2 wrong words, 3 no schedule, 4 a damaged area, 5 a stream, a file or a device, 6 memory, 7 an audit" ++ 10 ∷ []
+    10 ∷ codes "Exit status: 0 done, 1 a difference, 2 wrong words, 3 no schedule or tape, 4 a damaged area, 5 a stream, a file or a device, 6 memory, 7 an audit" ++ 10 ∷ []
 
 -- the help is printed, which ends with the line on statuses; or memory was wanting, and standard output is as it was
 pub data Helps (status : ℕ) (old new : Printing) : Type 0 where
@@ -107,8 +107,9 @@ pub data EndsBy (faults : Kinds) (task : Task) (from to : Reading) (status : ℕ
   by_file : (path : Text) → faults ≡ [] → task ≡ Simulate (Some path) → EndsOnFile EndsOn status old new → EndsBy faults task from to status old new
   by_folder : (path : Text) → faults ≡ [] → task ≡ Show (Some path) → EndsOnFolder status old new → EndsBy faults task from to status old new
   without_folder : faults ≡ [] → task ≡ Show None → status ≡ 2 → new ≡ old → EndsBy faults task from to status old new
-  by_numbers : (of_seed of_steps of_nodes : Text) → faults ≡ [] → task ≡ Draw (Some of_seed) (Some of_steps) (Some of_nodes) → EndsOnWords of_seed of_steps of_nodes status old new → EndsBy faults task from to status old new
-  without_numbers : (of_seed of_steps of_nodes : Option Text) → faults ≡ [] → task ≡ Draw of_seed of_steps of_nodes → ((s k n : Text) → task ≡ Draw (Some s) (Some k) (Some n) → ⊥) → status ≡ 2 → new ≡ old → EndsBy faults task from to status old new
+  by_numbers : (alone : Bool) (of_seed of_steps of_nodes : Text) → faults ≡ [] → task ≡ Draw (Some of_seed) (Some of_steps) (Some of_nodes) alone → EndsOnWords alone of_seed of_steps of_nodes status old new → EndsBy faults task from to status old new
+  without_numbers : (alone : Bool) (of_seed of_steps of_nodes : Option Text) → faults ≡ [] → task ≡ Draw of_seed of_steps of_nodes alone → ((s k n : Text) → task ≡ Draw (Some s) (Some k) (Some n) alone → ⊥) → status ≡ 2 → new ≡ old → EndsBy faults task from to status old new
   by_tape_in_standard_input : faults ≡ [] → task ≡ Audit None → EndsOnInput EndsOnTape from to status old new → EndsBy faults task from to status old new
   by_tape_in_a_file : (path : Text) → faults ≡ [] → task ≡ Audit (Some path) → EndsOnFile EndsOnTape status old new → EndsBy faults task from to status old new
+  without_views : (view : View) → faults ≡ [] → task ≡ Viewing view → status ≡ 2 → new ≡ old → EndsBy faults task from to status old new
   without_threads : (nodes dir script tape : Option Text) → faults ≡ [] → task ≡ Run nodes dir script tape → status ≡ 2 → new ≡ old → EndsBy faults task from to status old new

@@ -1,15 +1,15 @@
 //! Random schedules, drawn by the numbers that words name, run and told as text.
 
-ghost use Rattle.std.specs.Prelude.{◌≡◌, ◌≤◌, ℕ, List, None, IfOk, IfErr, IfSome};
+ghost use Rattle.std.specs.Prelude.{◌≡◌, ◌≤◌, ℕ, List, None, true, IfOk, IfErr, IfSome};
 ghost use Rattle.std.specs.Io.KnownBytes.{Keeps};
-ghost use Rattle.rr_cli.specs.Draws.{IsNumberIn, AreNumbers};
+ghost use Rattle.rr_cli.specs.Draws.{IsNumberIn, AreNumbers, IsDrawnText};
 ghost use Rattle.rr_cli.specs.Ends.{EndsOnDraw, EndsOnWords};
 
 use crate::refusals::end_by_refusal;
 use crate::streams::end_by_text;
-use rr_sim::{MAX_STEPS, random_run};
+use rr_sim::{MAX_STEPS, random, random_run};
 use rr_stream::Sink;
-use rr_types::Nodes;
+use rr_types::{Nodes, Refusal};
 use std::alloc::Global;
 use std::io::Write;
 
@@ -63,33 +63,63 @@ fn numbers_of(seed: &str, steps: &str, nodes: &str) -> Option<Draw>
     Some(Draw { nodes, seed, steps })
 }
 
-// Prints a random schedule and the report of its run.
-fn print_draw<O: Sink, E: Write>(alloc: Global, draw: Draw, out: &mut O, err: &mut E) -> u8
+// The text of a random schedule.
+fn lone_schedule(alloc: Global, draw: Draw) -> Result<Vec<u8>, Refusal>
     requires { draw.steps ≤ 999930 }
-    ensures ends { EndsOnDraw draw.nodes draw.seed draw.steps result (O.printing out.old) (O.printing out.new) }
+    ensures ok { IfOk result (λ text. IsDrawnText true draw.nodes draw.seed draw.steps text.items) }
+    ensures err { IfErr result (λ e. e ≡ Refusal.OutOfMemory) }
+{
+    let schedule = random(alloc, draw.nodes, draw.seed, draw.steps)?;
+    schedule.text(alloc)
+}
+
+// The text of a random schedule: alone, or with a line `report` and the report of its run.
+fn drawn_text(alloc: Global, draw: Draw, alone: bool) -> Result<Vec<u8>, Refusal>
+    requires { draw.steps ≤ 999930 }
+    ensures ok { IfOk result (λ text. IsDrawnText alone draw.nodes draw.seed draw.steps text.items) }
+    ensures err { IfErr result (λ e. e ≡ Refusal.OutOfMemory) }
+{
+    if alone {
+        lone_schedule(alloc, draw)
+    } else {
+        random_run(alloc, draw.nodes, draw.seed, draw.steps)
+    }
+}
+
+// Prints a random schedule, alone or with the report of its run.
+fn print_draw<O: Sink, E: Write>(
+    alloc: Global,
+    draw: Draw,
+    alone: bool,
+    out: &mut O,
+    err: &mut E,
+) -> u8
+    requires { draw.steps ≤ 999930 }
+    ensures ends { EndsOnDraw alone draw.nodes draw.seed draw.steps result (O.printing out.old) (O.printing out.new) }
     ensures quiet { result ≡ 0 → Keeps (E.contents err.old) (E.contents err.new) }
 {
-    match random_run(alloc, draw.nodes, draw.seed, draw.steps) {
+    match drawn_text(alloc, draw, alone) {
         Ok(text) => end_by_text(out, err, text.as_slice()),
         Err(refusal) => end_by_refusal(err, &refusal),
     }
 }
 
-/// Prints the random schedule that three words name by their numbers, and the report of its run. Words that are no
-/// such numbers, which the command line doesn't let through, end with 2.
+/// Prints the random schedule that three words name by their numbers, alone or with the report of its run. Words that
+/// are no such numbers, which the command line doesn't let through, end with 2.
 pub(crate) fn draw_by_words<O: Sink, E: Write>(
     alloc: Global,
     seed: &str,
     steps: &str,
     nodes: &str,
+    alone: bool,
     out: &mut O,
     err: &mut E,
 ) -> u8
-    ensures ends { EndsOnWords seed.now steps.now nodes.now result (O.printing out.old) (O.printing out.new) }
+    ensures ends { EndsOnWords alone seed.now steps.now nodes.now result (O.printing out.old) (O.printing out.new) }
     ensures quiet { result ≡ 0 → Keeps (E.contents err.old) (E.contents err.new) }
 {
     match numbers_of(seed, steps, nodes) {
-        Some(draw) => print_draw(alloc, draw, out, err),
+        Some(draw) => print_draw(alloc, draw, alone, out, err),
         None => {
             let _ = writeln!(err, "rr: random: a number is out of its range");
             2

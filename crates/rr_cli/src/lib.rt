@@ -3,6 +3,8 @@
 
 mod audit;
 mod draw;
+mod faults;
+mod helps;
 mod program;
 mod refusals;
 mod show;
@@ -11,9 +13,10 @@ mod words;
 
 pub use audit::audit_on;
 pub use draw::nodes_of;
+pub use faults::end_by_disk_fault;
 pub use program::{execute, run};
 pub use refusals::{end_by_refusal, print_refusal, status};
 pub use rr_sim::{random_run, report_on};
 pub use show::show_disk;
 pub use streams::{end_by_stream, end_by_text, end_without_words};
-pub use words::{Task, end_by_words, read_words};
+pub use words::{Form, Task, View, end_by_words, read_words};

@@ -10,7 +10,7 @@ use crate::audit::{audit_file, audit_input};
 use crate::draw::{draw_by_words, end_without_numbers};
 use crate::refusals::end_by_schedule_fault;
 use crate::show::{end_without_folder, show_folder};
-use crate::streams::{end_by_stream, end_by_text, end_without_threads, end_without_words};
+use crate::streams::{end_by_stream, end_by_text, end_without_threads, end_without_views, end_without_words};
 use crate::words::{Task, end_by_words, read_words};
 use rr_sim::report_on;
 use rr_stream::{Counted, Sink, Source, read_all};
@@ -45,10 +45,11 @@ fn simulate_input<I: Source, O: Sink, E: Write>(
 ///
 /// `rr sim [FILE]` reads a schedule from FILE, or else from `input`, and prints its report on `out`. `rr show DIR`
 /// prints what the areas hold of the disk in the folder DIR. `rr random --seed SEED --steps STEPS --nodes NODES` prints
-/// a random schedule, a line `report` and the report of its run. `rr audit [FILE]` reads a tape as `rr sim` does a
-/// schedule, and prints whether its events are what nodes do. What goes wrong is told on `err`. The statuses: 0 done,
-/// 2 wrong words, 3 no schedule or tape, 4 a damaged area, 5 a device, a file or a stream, 6 memory, 7 a tape with an
-/// event that isn't what its node does next.
+/// a random schedule, a line `report` and the report of its run, and with `--schedule-only` the schedule alone.
+/// `rr audit [FILE]` reads a tape as `rr sim` does a schedule, and prints whether its events are what nodes do. Views of
+/// runs are `rr_view`'s, and runs in threads `rr_run`'s: here they end with 2. What goes wrong is told on `err`. The
+/// statuses: 0 done, 2 wrong words, 3 no schedule or tape, 4 a damaged area, 5 a device, a file or a stream, 6 memory,
+/// 7 a tape with an event that isn't what its node does next.
 pub fn execute<R: Files + AllocGlobal, S: AsStr, I: Source, O: Sink, E: Write>(
     rt: &R,
     words: &[S],
@@ -71,19 +72,21 @@ pub fn execute<R: Files + AllocGlobal, S: AsStr, I: Source, O: Sink, E: Write>(
         },
         Ok(Task::Show(Some(folder))) => show_folder(rt, folder, out, err),
         Ok(Task::Show(None)) => end_without_folder(err),
-        Ok(Task::Draw(Some(seed), Some(steps), Some(nodes))) => draw_by_words(
+        Ok(Task::Draw(Some(seed), Some(steps), Some(nodes), alone)) => draw_by_words(
             rt.alloc(),
             seed,
             steps,
             nodes,
+            alone,
             out,
             err,
         ),
-        Ok(Task::Draw(None, _, _)) => end_without_numbers(err),
-        Ok(Task::Draw(_, None, _)) => end_without_numbers(err),
-        Ok(Task::Draw(_, _, None)) => end_without_numbers(err),
+        Ok(Task::Draw(None, _, _, _)) => end_without_numbers(err),
+        Ok(Task::Draw(_, None, _, _)) => end_without_numbers(err),
+        Ok(Task::Draw(_, _, None, _)) => end_without_numbers(err),
         Ok(Task::Audit(None)) => audit_input(rt.alloc(), "standard input", input, out, err),
         Ok(Task::Audit(Some(path))) => audit_file(rt, path, out, err),
+        Ok(Task::View(_)) => end_without_views(err),
         Ok(Task::Run(_, _, _, _)) => end_without_threads(err),
         Err(error) => end_by_words(rt.alloc(), out, err, &error),
     }

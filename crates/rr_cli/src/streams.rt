@@ -11,15 +11,26 @@ use rr_types::Refusal;
 use std::io;
 use std::io::{ErrorKind, Write};
 
-/// Prints a text on standard output, and ends with 0 where that has taken it, with 5 or 6 where it failed.
+/// Prints a text on standard output, and ends with 0 where that has taken it, with 5 or 6 where it failed. Of a reader
+/// that has gone away nothing is said.
 pub fn end_by_text<O: Sink, E: Write>(out: &mut O, err: &mut E, text: &[u8]) -> u8
     ensures ends { Prints text.now result (O.printing out.old) (O.printing out.new) }
     ensures quiet { result ≡ 0 → Keeps (E.contents err.old) (E.contents err.new) }
 {
     match print_all(out, text) {
         Ok(()) => 0,
-        Err(failure) => end_by_stream(err, "standard output", &failure),
+        Err(failure) => end_by_output(err, &failure),
     }
+}
+
+// Ends by standard output that can't be written. Of a reader that has gone away nothing is said.
+fn end_by_output<E: Write>(err: &mut E, error: &io::Error) -> u8
+    ensures { IsStreamStatus result }
+{
+    if error.kind() == ErrorKind::BrokenPipe {
+        return 5;
+    }
+    end_by_stream(err, "standard output", error)
 }
 
 /// Ends by a file or stream of this name that can't be read or written: with 6 for want of memory, else with 5.
@@ -44,6 +55,14 @@ pub fn end_without_words<E: Write>(err: &mut E, error: &io::Error) -> u8
         return end_by_refusal(err, &Refusal::OutOfMemory);
     }
     let _ = writeln!(err, "rr: words: {error}");
+    2
+}
+
+// Ends where a view of a run is asked for of a program without views.
+pub(crate) fn end_without_views<E: Write>(err: &mut E) -> u8
+    ensures { result ≡ 2 }
+{
+    let _ = writeln!(err, "rr: there are no views");
     2
 }
 

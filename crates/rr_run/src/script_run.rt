@@ -37,6 +37,28 @@ fn end_in_use<E: Write>(err: &mut E, dir: &str, node: u8) -> u8
     ending
 }
 
+// Ends by the refusal of the folders of so many nodes. A second line names one that can't be made or opened, and why.
+fn end_by_folders_fault<R: Files + AllocGlobal, E: Write>(
+    rt: &R,
+    err: &mut E,
+    dir: &str,
+    nodes: Nodes,
+    refusal: &Refusal,
+) -> u8
+    ensures { result ≡ status_of refusal.now }
+{
+    let ending = end_by_refusal(err, refusal);
+    for node in 0..nodes.count() {
+        if let Ok(path) = format!(in rt.alloc(); "{dir}/{node}") {
+            if let Err(failure) = fs::create_dir_all(rt, path.as_str()) {
+                let _ = writeln!(err, "{path}: {failure}");
+                return ending;
+            }
+        }
+    }
+    ending
+}
+
 // Ends by the refusal of a script of this name. A second line tells people where it is at fault and why.
 fn end_by_script_fault<E: Write>(
     err: &mut E,
@@ -167,7 +189,7 @@ fn run_over<
     let folders = match open_folders(rt, script.nodes(), dir) {
         Ok(Opening::Folders(folders)) => folders,
         Ok(Opening::InUse(node)) => return end_in_use(err, dir, node),
-        Err(refusal) => return end_by_refusal(err, &refusal),
+        Err(refusal) => return end_by_folders_fault(rt, err, dir, script.nodes(), &refusal),
     };
     match tape {
         Some(path) => run_taped(rt, folders, script, path, out, err),

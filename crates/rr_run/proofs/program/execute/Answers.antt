@@ -1,10 +1,11 @@
-use Rattle.std.proofs.Common.{◌≡◌, ◌∙◌, List, Option, None, Some, [], option_map, refl, Bor, ℕ, sym, ap, subst, map, inl, inr}
+use Rattle.std.proofs.Common.{◌≡◌, ◌∙◌, Bool, List, Option, None, Some, [], option_map, refl, Bor, ℕ, sym, ap, subst, map, inl, inr}
 use Rattle.clap.specs.Words.{Text, kind_of}
 use Rattle.clap.specs.Kinds.{Kinds, IsAmong}
 use Rattle.clap.specs.declared.error.kind.ErrorKind.{ErrorKind}
 use Rattle.rr_cli.specs.declared.words.Task.TheVariants as read
-use Rattle.rr_cli.specs.Lines.{Simulate, Show, Draw, Audit, Run, task_of, task_in}
+use Rattle.rr_cli.specs.Lines.{View, Simulate, Viewing, Show, Draw, Audit, Run, task_of, task_in, view_in}
 use Rattle.rr_cli.specs.Ends.{mistaken, by_help, by_version}
+use Rattle.rr_view.specs.Views.{by_others as by_no_view}
 use Rattle.rr_cli.proofs.EndLemmas.{kind_cases}
 use Rattle.rr_run.specs.Runs.{by_script, by_others, out_of_memory}
 use Rattle.rr_run.proofs.program.execute.Goals as goal
@@ -29,9 +30,9 @@ returns-in-Err-clause-ends g c =
       | inl memory ↦ let end = c.end_by_words.ensures.memory memory in out_of_memory end.0 end.1
       | inr among ↦ elim (kind_cases (kind_of c.in-Err.error)) [
         | inl memory ↦ let end = c.end_by_words.ensures.memory memory in out_of_memory end.0 end.1
-        | inr (inl help) ↦ by_others (λ none. absurd (none_among (kind_of c.in-Err.error) _ among none)) (by_help (kind_of c.in-Err.error) among help (c.end_by_words.ensures.help help))
-        | inr (inr (inl version)) ↦ by_others (λ none. absurd (none_among (kind_of c.in-Err.error) _ among none)) (by_version (kind_of c.in-Err.error) among version (c.end_by_words.ensures.version version))
-        | inr (inr (inr mistake)) ↦ let end = c.end_by_words.ensures.mistake mistake.0 mistake.1 in by_others (λ none. absurd (none_among (kind_of c.in-Err.error) _ among none)) (mistaken (kind_of c.in-Err.error) among mistake.1 end.0 end.1)
+        | inr (inl help) ↦ by_others (λ none. absurd (none_among (kind_of c.in-Err.error) _ among none)) (by_no_view (λ none view task. absurd (none_among (kind_of c.in-Err.error) _ among none)) (by_help (kind_of c.in-Err.error) among help (c.end_by_words.ensures.help help)))
+        | inr (inr (inl version)) ↦ by_others (λ none. absurd (none_among (kind_of c.in-Err.error) _ among none)) (by_no_view (λ none view task. absurd (none_among (kind_of c.in-Err.error) _ among none)) (by_version (kind_of c.in-Err.error) among version (c.end_by_words.ensures.version version)))
+        | inr (inr (inr mistake)) ↦ let end = c.end_by_words.ensures.mistake mistake.0 mistake.1 in by_others (λ none. absurd (none_among (kind_of c.in-Err.error) _ among none)) (by_no_view (λ none view task. absurd (none_among (kind_of c.in-Err.error) _ among none)) (mistaken (kind_of c.in-Err.error) among mistake.1 end.0 end.1))
       ]
     ]
 
@@ -55,8 +56,11 @@ is_simulate a n x s t is = absurd cc
 is_show : (a : Option Text) (n x s : Text) (t : Option Text) → Show a ≡ Run (Some n) (Some x) (Some s) t → ⊥
 is_show a n x s t is = absurd cc
 
-is_draw : (a b c : Option Text) (n x s : Text) (t : Option Text) → Draw a b c ≡ Run (Some n) (Some x) (Some s) t → ⊥
-is_draw a b c n x s t is = absurd cc
+is_viewing : (v : View) (n x s : Text) (t : Option Text) → Viewing v ≡ Run (Some n) (Some x) (Some s) t → ⊥
+is_viewing v n x s t is = absurd cc
+
+is_draw : (a b c : Option Text) (alone : Bool) (n x s : Text) (t : Option Text) → Draw a b c alone ≡ Run (Some n) (Some x) (Some s) t → ⊥
+is_draw a b c alone n x s t is = absurd cc
 
 is_audit : (a : Option Text) (n x s : Text) (t : Option Text) → Audit a ≡ Run (Some n) (Some x) (Some s) t → ⊥
 is_audit a n x s t is = absurd cc
@@ -91,11 +95,17 @@ returns-in-Ok-Show-clause-ends g c =
     let task : task_of (map g.S.AsStr.text c.args.words.now) ≡ Show (text_of w.field-0-0) = sym w.ensures.task ∙ ap task_in w.field-0-is in
     by_others (λ none asks. is_show (text_of w.field-0-0) asks.nodes asks.dir asks.script asks.tape (sym task ∙ asks.is)) c.execute-in-Ok-Show.ensures.ends
 
+pub returns-in-Ok-View-clause-ends : goal.returns-in-Ok-View-clause-ends
+returns-in-Ok-View-clause-ends g c =
+    let w = c.in-Ok-View in
+    let task : task_of (map g.S.AsStr.text c.args.words.now) ≡ Viewing (view_in w.field-0-0) = sym w.ensures.task ∙ ap task_in w.field-0-is in
+    by_others (λ none asks. is_viewing (view_in w.field-0-0) asks.nodes asks.dir asks.script asks.tape (sym task ∙ asks.is)) c.execute-in-Ok-View.ensures.ends
+
 pub returns-in-Ok-Draw-clause-ends : goal.returns-in-Ok-Draw-clause-ends
 returns-in-Ok-Draw-clause-ends g c =
     let w = c.in-Ok-Draw in
-    let task : task_of (map g.S.AsStr.text c.args.words.now) ≡ Draw (text_of w.field-0-0) (text_of w.field-0-1) (text_of w.field-0-2) = sym w.ensures.task ∙ ap task_in w.field-0-is in
-    by_others (λ none asks. is_draw (text_of w.field-0-0) (text_of w.field-0-1) (text_of w.field-0-2) asks.nodes asks.dir asks.script asks.tape (sym task ∙ asks.is)) c.execute-in-Ok-Draw.ensures.ends
+    let task : task_of (map g.S.AsStr.text c.args.words.now) ≡ Draw (text_of w.field-0-0) (text_of w.field-0-1) (text_of w.field-0-2) w.field-0-3 = sym w.ensures.task ∙ ap task_in w.field-0-is in
+    by_others (λ none asks. is_draw (text_of w.field-0-0) (text_of w.field-0-1) (text_of w.field-0-2) w.field-0-3 asks.nodes asks.dir asks.script asks.tape (sym task ∙ asks.is)) c.execute-in-Ok-Draw.ensures.ends
 
 pub returns-in-Ok-Audit-clause-ends : goal.returns-in-Ok-Audit-clause-ends
 returns-in-Ok-Audit-clause-ends g c =

@@ -1,0 +1,11 @@
+//! Views of the run of a schedule: with reasons, as JSON, in counts, and beside another report. All other commands are
+//! those of `rr_cli`.
+#![tactic(auto)]
+
+mod input;
+mod program;
+mod views;
+mod watching;
+
+pub use program::execute;
+pub use watching::{account_on, watch};
