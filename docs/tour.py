@@ -88,7 +88,7 @@ TOUR = [
             "printf '\\377' | dd of=node/a0 bs=1 seek=7 conv=notrunc status=none; rr show node",
             "rr show nowhere",
             "rr audit tape",
-            "sed 's/claim a x/claim a y/' tape | rr audit",
+            "sed 3d tape | rr audit",
         ],
     ),
 ]

@@ -45,16 +45,29 @@ fn draws_no_steps(rt: HostRuntime) -> Result<(), Fail> {
 #[test]
 fn draws_a_schedule_alone(rt: HostRuntime) -> Result<(), Fail> {
     let words = [
-        "rr", "random", "--schedule-only", "--seed", "1", "--steps", "0", "--nodes", "2",
+        "rr",
+        "random",
+        "--schedule-only",
+        "--seed",
+        "1",
+        "--steps",
+        "0",
+        "--nodes",
+        "2",
     ];
     let ran = run(&rt, &words, &mut &b""[..])?;
-    let Some(schedule) = WITHOUT_STEPS.strip_suffix("report\nrestart 0 0 0\nrestart 1 0 0\ndecided 0\n") else {
+    let Some(schedule) = WITHOUT_STEPS.strip_suffix(
+        "report\nrestart 0 0 0\nrestart 1 0 0\ndecided 0\n",
+    ) else {
         return Err(Fail::from("the report has changed"));
     };
     assert_eq!(rt; ran.out.as_str(), schedule);
     assert_eq!(rt; ran.status, 0);
     let report = run(&rt, &["rr", "sim"], &mut ran.out.as_bytes())?;
-    assert_eq!(rt; report.out.as_str(), "restart 0 0 0\nrestart 1 0 0\ndecided 0\n");
+    assert_eq!(rt;
+        report.out.as_str(),
+        "restart 0 0 0\nrestart 1 0 0\ndecided 0\n"
+    );
     Ok(())
 }
 

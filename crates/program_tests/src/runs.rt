@@ -106,7 +106,10 @@ fn tells_each_refusal_in_the_same_words(rt: HostRuntime) -> Result<(), Fail> {
 fn reads_words(rt: HostRuntime) -> Result<(), Fail> {
     let version = run(&rt, &["rr", "--version"], &mut &b""[..])?;
     assert_eq!(rt; version.status, 0);
-    assert_eq!(rt; version.out.as_str(), "rr 0.1.0, proved with rattle-kit-13b logic dac8208d650f15bf\n");
+    assert_eq!(rt;
+        version.out.as_str(),
+        "rr 0.1.0, proved with rattle-kit-13f logic dac8208d650f15bf\n"
+    );
     let help = run(&rt, &["rr", "--help"], &mut &b""[..])?;
     assert_eq!(rt; help.status, 0);
     assert!(rt; help.out.as_str().contains("Usage: rr <COMMAND>"));
@@ -217,7 +220,10 @@ fn tells_streams_that_fail(rt: HostRuntime) -> Result<(), Fail> {
     let mut input = Counted::new(&b"nodes 3\n"[..]);
     let mut out = Counted::new(Closed);
     let status = execute(&rt, &["rr", "sim"], &mut input, &mut out, &mut err);
-    assert!(rt; err.is_empty(), "nothing is said of a reader that has gone away");
+    assert!(rt;
+        err.is_empty(),
+        "nothing is said of a reader that has gone away"
+    );
     assert_eq!(rt; status, 5);
     for word in ["--help", "--version"] {
         let status = execute(&rt, &["rr", word], &mut input, &mut out, &mut Closed);

@@ -1,12 +1,13 @@
 -- Texts that grow by a piece.
-use Rattle.std.proofs.Common.{◌≡◌, ◌≤◌, ◌++◌, ◌+◌, ◌-◌, ◌∷◌, [], ℕ, List, length, take, drop, refl, ap, subst, sym, ◌∙◌, arith}
+use Rattle.std.proofs.Common.{◌≡◌, ◌≤◌, ◌++◌, ◌+◌, ◌-◌, ◌∷◌, [], ℕ, List, length, take, drop, codes, decimal, refl, ap, subst, sym, ◌∙◌, arith}
 use Rattle.std.specs.Prelude.{slice_range}
 use Rattle.std.specs.List.{AllByRecursion, flat_map}
 use Rattle.std.proofs.lemmas.List.{append-nil, length-append, take-append-drop}
 use Rattle.std.proofs.Math.Seq.{take-add}
 use Rattle.std.proofs.lemmas.Grind.{flat_map-append}
 use Rattle.rr_text.specs.declared.report.ReportLine.{ReportLine}
-use Rattle.rr_text.specs.ReportTexts.{line, report_words}
+use Rattle.rr_text.specs.ReportTexts.{line, report_words, decided_lines, report_text}
+use Rattle.rr_text.specs.Reported.{Reported}
 use Rattle.rr_account.specs.Texts.{Piece, Told, Note, shown, told, told_lines, note_line, object_line, IsNoted, AreObjects}
 
 flat_map_more : {X : Type 0} (f : X → List ℕ) (xs : List X) (x : X) → flat_map f (xs ++ x ∷ []) ≡ flat_map f xs ++ f x
@@ -53,13 +54,14 @@ noted_line lines count text words before =
     let told_is : told_lines (take (count + 1) lines) ≡ told_lines (take count lines) ++ told_lines (slice_range lines count (count + 1)) = ap told_lines split ∙ flat_map-append (λ l. line (report_words l)) (take count lines) (slice_range lines count (count + 1)) in
     subst (λ (report : List ℕ). IsNoted report (text ++ told_lines (slice_range lines count (count + 1)) ++ note_line words)) (sym told_is)
     (noted_note (told_lines (take count lines) ++ told_lines (slice_range lines count (count + 1))) (text ++ told_lines (slice_range lines count (count + 1))) words
-     (noted_told (told_lines (take count lines)) text (told_lines (slice_range lines count (count + 1))) before))
+    (noted_told (told_lines (take count lines)) text (told_lines (slice_range lines count (count + 1))) before))
 
 -- the lines of a report that are left, and its end
-pub noted_rest : (lines : List ReportLine) (count : ℕ) (text end : List ℕ) → IsNoted (told_lines (take count lines)) text
-    → IsNoted (told_lines lines ++ end) (text ++ told_lines (drop count lines) ++ end)
-noted_rest lines count text end before =
-    let told_is : told_lines (take count lines) ++ told_lines (drop count lines) ≡ told_lines lines = sym (flat_map-append (λ l. line (report_words l)) (take count lines) (drop count lines)) ∙ ap told_lines (take-append-drop count lines) in
-    subst (λ (report : List ℕ). IsNoted (report ++ end) (text ++ told_lines (drop count lines) ++ end)) told_is
-    (noted_told (told_lines (take count lines) ++ told_lines (drop count lines)) (text ++ told_lines (drop count lines)) end
-     (noted_told (told_lines (take count lines)) text (told_lines (drop count lines)) before))
+pub noted_whole : (report : Reported) (count : ℕ) (text : List ℕ) → IsNoted (told_lines (take count report.lines)) text
+    → IsNoted (report_text report) (text ++ told_lines (drop count report.lines) ++ line (codes "decided" ∷ decimal (length report.decided) ∷ []) ++ decided_lines 0 report.decided)
+noted_whole report count text before =
+    let rest = told_lines (drop count report.lines) in
+    let told_is : told_lines (take count report.lines) ++ told_lines (drop count report.lines) ≡ told_lines report.lines = sym (flat_map-append (λ l. line (report_words l)) (take count report.lines) (drop count report.lines)) ∙ ap told_lines (take-append-drop count report.lines) in
+    let all : IsNoted (told_lines report.lines) (text ++ rest) = subst (λ (told_so_far : List ℕ). IsNoted told_so_far (text ++ rest)) told_is (noted_told (told_lines (take count report.lines)) text rest before) in
+    let counted = line (codes "decided" ∷ decimal (length report.decided) ∷ []) in
+    noted_told (told_lines report.lines ++ counted) (text ++ rest ++ counted) (decided_lines 0 report.decided) (noted_told (told_lines report.lines) (text ++ rest) counted all)

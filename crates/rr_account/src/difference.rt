@@ -34,7 +34,10 @@ fn front<'a>(text: &'a [u8]) -> (Option<&'a [u8]>, &'a [u8]) {
         return (None, text);
     }
     match cut(text, b'\n') {
-        Some((line, behind)) => (Some(&text[..line.len().saturating_add(1).min(text.len())]), behind),
+        Some((line, behind)) => (
+            Some(&text[..line.len().saturating_add(1).min(text.len())]),
+            behind,
+        ),
         None => (Some(text), b""),
     }
 }

@@ -9,13 +9,20 @@ use serde::Serialize;
 use serde_json::to_vec;
 use std::alloc::Global;
 
+// A byte as a line has it: a space for a line feed.
+fn unbroken(byte: u8) -> u8
+    ensures { result ≡ unbroken byte }
+{
+    if byte == b'\n' { b' ' } else { byte }
+}
+
 // Appends bytes, with a space for each line feed.
 fn push_unbroken(text: &mut Vec<u8>, bytes: &[u8]) -> Result<(), Refusal>
     ensures ok { OnOk result (text.new.items ≡ text.old.items ++ map unbroken bytes.now) }
     ensures err { IfErr result (λ e. e ≡ Refusal.OutOfMemory) }
 {
     for byte in bytes {
-        text.push(if *byte == b'\n' { b' ' } else { *byte })?;
+        text.push(unbroken(*byte))?;
     }
     Ok(())
 }
@@ -49,7 +56,10 @@ pub(crate) fn push_object<T: Serialize>(
     ensures err { IfErr result (λ e. e ≡ Refusal.OutOfMemory) }
 {
     match to_vec(alloc, value) {
-        Ok(object) => push_line(text, object.as_slice()),
+        Ok(object) => {
+            push_line(text, object.as_slice())?;
+            Ok(())
+        }
         Err(_) => Err(Refusal::OutOfMemory),
     }
 }

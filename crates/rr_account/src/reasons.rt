@@ -1,8 +1,8 @@
 //! Why an event was refused or came to nothing, in plain words.
 
 use crate::outcome::Idle;
-use rr_text::{Event, ReportLine};
 use rr_text::text_schedule::push_event;
+use rr_text::{Event, ReportLine};
 use rr_types::{NodeId, Refusal};
 use std::alloc::Global;
 use std::io;
@@ -116,7 +116,10 @@ fn push_refused(note: &mut Vec<u8>, event: &Event, refusal: Refusal) -> io::Resu
         (Refusal::ListFull, _) => write!(note, ": node {node} has decided all instances"),
         (Refusal::RoundsOut, _) => write!(note, ": the instance is in its last round"),
         (Refusal::TooLarge, _) => {
-            write!(note, ": the area, the epoch or the facts' numbers would pass their limit")
+            write!(
+                note,
+                ": the area, the epoch or the facts' numbers would pass their limit"
+            )
         }
         (other, _) => write!(note, ": {other}"),
     }
@@ -127,7 +130,10 @@ fn push_idle(note: &mut Vec<u8>, event: &Event, idle: Idle) -> io::Result<()> {
     let node = node_of(event).index();
     match (idle, event) {
         (Idle::NoMessage(sent), Event::Hear { message, .. }) => {
-            write!(note, ": message {message} isn't on the wire, {sent} were sent")
+            write!(
+                note,
+                ": message {message} isn't on the wire, {sent} were sent"
+            )
         }
         (Idle::NoMessage(sent), _) => write!(note, ": {sent} messages were sent"),
         (Idle::OtherAddressee(to), Event::Hear { message, .. }) => {

@@ -56,7 +56,10 @@ fn push_events(text: &mut Vec<u8>, statistics: &Statistics) -> io::Result<()> {
             let told = row.told;
             let refused = row.refused;
             let idle = row.idle;
-            writeln!(text, "{kind:<9} {events:>8} {told:>8} {refused:>8} {idle:>8}")?;
+            writeln!(
+                text,
+                "{kind:<9} {events:>8} {told:>8} {refused:>8} {idle:>8}"
+            )?;
             sum = sum.saturating_add(events);
         }
     }
@@ -111,5 +114,8 @@ fn push_share(text: &mut Vec<u8>, name: &str, sum: u64, decided: u64) -> io::Res
     let hundredths = sum.saturating_mul(100) / decided;
     let whole = hundredths / 100;
     let part = hundredths % 100;
-    writeln!(text, "{name:<9} {sum:>8}, {whole}.{part:02} for each decision")
+    writeln!(
+        text,
+        "{name:<9} {sum:>8}, {whole}.{part:02} for each decision"
+    )
 }

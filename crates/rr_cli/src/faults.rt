@@ -5,10 +5,9 @@ ghost use Rattle.rr_cli.specs.Refusals.{status_of};
 
 use crate::refusals::end_by_refusal;
 use rr_types::Refusal;
-use std::fs;
-use std::io;
 use std::io::{Read, Seek, SeekFrom, Write};
 use std::rt::Files;
+use std::{fs, io};
 
 // How many bytes of a damaged area are shown.
 const SHOWN: usize = 16;

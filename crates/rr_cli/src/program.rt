@@ -10,7 +10,9 @@ use crate::audit::{audit_file, audit_input};
 use crate::draw::{draw_by_words, end_without_numbers};
 use crate::refusals::end_by_schedule_fault;
 use crate::show::{end_without_folder, show_folder};
-use crate::streams::{end_by_stream, end_by_text, end_without_threads, end_without_views, end_without_words};
+use crate::streams::{
+    end_by_stream, end_by_text, end_without_threads, end_without_views, end_without_words,
+};
 use crate::words::{Task, end_by_words, read_words};
 use rr_sim::report_on;
 use rr_stream::{Counted, Sink, Source, read_all};

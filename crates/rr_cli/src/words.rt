@@ -59,9 +59,7 @@ fn subcommand<'a>(alloc: Global, name: &'a str, about: &'a str, more: &'a str) -
     ensures app { app_of result ≡ new_app name.entry.now }
     ensures local { (out-Command result).has_globals ≡ false }
 {
-    Command::new(alloc, name)
-        .about(about)
-        .after_long_help(more)
+    Command::new(alloc, name).about(about).after_long_help(more)
 }
 
 // A word, which has to be there or may be left out.
@@ -452,7 +450,11 @@ pub fn end_by_words<O: Sink, E: Write>(alloc: Global, out: &mut O, err: &mut E, 
 {
     match error.kind() {
         ErrorKind::OutOfMemory => end_by_refusal(err, &Refusal::OutOfMemory),
-        ErrorKind::DisplayVersion => end_by_text(out, err, b"rr 0.1.0, proved with rattle-kit-13b logic dac8208d650f15bf\n"),
+        ErrorKind::DisplayVersion => end_by_text(
+            out,
+            err,
+            b"rr 0.1.0, proved with rattle-kit-13f logic dac8208d650f15bf\n",
+        ),
         ErrorKind::DisplayHelp => end_by_help(alloc, out, err, error),
         _ => {
             let _ = write!(err, "{error}");

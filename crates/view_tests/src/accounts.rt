@@ -8,7 +8,8 @@ use rr_types::{Body, Command, Message, Name, NodeId, Nodes, Op, Refusal, Request
 use std::alloc::Global;
 use std::test::Fail;
 
-const SCHEDULE: &[u8] = b"nodes 2\nrestart 0\ndev 0\nhear 0 5\nsubmit 0 7 1 claim a x\nsend 0\nhear 1 0\nfail 0 A5\nack 0\n";
+const SCHEDULE: &[u8] =
+    b"nodes 2\nrestart 0\ndev 0\nhear 0 5\nsubmit 0 7 1 claim a x\nsend 0\nhear 1 0\nfail 0 A5\nack 0\n";
 
 fn node(index: u8) -> NodeId {
     NodeId::new(Nodes::new(2).unwrap(), index).unwrap()
@@ -61,19 +62,14 @@ fn account(alloc: Global) -> Result<Account, Refusal> {
         line: 9,
         refusal: Refusal::Failed,
     })?;
-    Ok(Account::new(
-        schedule,
-        outcomes,
-        Report::new(lines, Vec::new(alloc)),
-    ))
+    Ok(Account::new(schedule, outcomes, Report::new(lines, Vec::new(alloc))))
 }
 
 #[test]
 fn an_explanation_has_the_events_and_reasons(rt: HostRuntime) -> Result<(), Fail> {
     let account = account(rt.alloc()).expect(&rt, "an account");
     let text = explanation(rt.alloc(), &account).expect(&rt, "an explanation");
-    assert_eq!(
-        rt;
+    assert_eq!(rt;
         text.as_slice(),
         b"restart 0 0 0\n    line 3: dev 0\n    line 4: hear 0 5: message 5 isn't on the wire, 0 were sent\nsend 0 0 1 request 7.1 claim a x\n    line 6: send 0\nrefuse 7 5 Down\n    line 7: hear 1 0: node 1 is down or opens its disk\nrefuse 8 2 Device\n    line 8: fail 0 A5: the device call failed, and so has node 0\nrefuse 9 4 Failed\n    line 9: ack 0: a device call of node 0 has failed, and it waits for a restart\ndecided 0\n".as_slice()
     );
@@ -84,8 +80,7 @@ fn an_explanation_has_the_events_and_reasons(rt: HostRuntime) -> Result<(), Fail
 fn a_report_is_an_object_a_line(rt: HostRuntime) -> Result<(), Fail> {
     let account = account(rt.alloc()).expect(&rt, "an account");
     let text = json_report(rt.alloc(), &account).expect(&rt, "objects");
-    assert_eq!(
-        rt;
+    assert_eq!(rt;
         text.as_slice(),
         b"{\"kind\":\"restart\",\"node\":0,\"facts\":0,\"decided\":0,\"names\":[]}\n{\"kind\":\"send\",\"number\":0,\"from\":0,\"to\":1,\"message\":{\"kind\":\"request\",\"command\":{\"client\":7,\"request\":1,\"operation\":\"claim\",\"name\":\"a\",\"value\":\"x\"}}}\n{\"kind\":\"refuse\",\"line\":7,\"number\":5,\"name\":\"Down\"}\n{\"kind\":\"refuse\",\"line\":8,\"number\":2,\"name\":\"Device\"}\n{\"kind\":\"refuse\",\"line\":9,\"number\":4,\"name\":\"Failed\"}\n{\"kind\":\"decided\",\"commands\":0}\n".as_slice()
     );
@@ -97,8 +92,7 @@ fn statistics_count_what_came_of_events(rt: HostRuntime) -> Result<(), Fail> {
     let account = account(rt.alloc()).expect(&rt, "an account");
     let statistics = statistics_of(rt.alloc(), &account).expect(&rt, "statistics");
     let table = statistics_table(rt.alloc(), &statistics).expect(&rt, "a table");
-    assert_eq!(
-        rt;
+    assert_eq!(rt;
         table.as_slice(),
         b"event       events     told  refused     idle\nsubmit           1        0        0        0\nhear             2        0        1        1\ndev              1        1        0        0\nfail             1        0        1        0\nsend             1        1        0        0\nack              1        0        1        0\nrestart          1        0        0        0\nall              8\n\nmessage       sent    heard    again    never\nrequest          1        0        0        1\nall              1\n\nrefusal      count\nDevice           1\nFailed           1\nDown             1\n\ndecided          0\nrounds           0\ncalls            2\n".as_slice()
     );

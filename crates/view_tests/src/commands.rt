@@ -43,23 +43,34 @@ fn prints(rt: &HostRuntime, words: &[&str], input: &str, text: &str) -> Result<b
 
 #[test]
 fn explains_a_run(rt: HostRuntime) -> Result<(), Fail> {
-    let text = "refuse 2 5 Down\n    line 2: submit 0 7 1 claim a x: node 0 is down or opens its disk\n    line 4: hear 0 5: message 5 isn't on the wire, 0 were sent\nrefuse 5 5 Down\n    line 5: send 0: node 0 is down or opens its disk\ndecided 0\n";
+    let text =
+        "refuse 2 5 Down\n    line 2: submit 0 7 1 claim a x: node 0 is down or opens its disk\n    line 4: hear 0 5: message 5 isn't on the wire, 0 were sent\nrefuse 5 5 Down\n    line 5: send 0: node 0 is down or opens its disk\ndecided 0\n";
     assert!(rt; prints(&rt, &["rr", "sim", "--explain"], SCHEDULE, text)?);
     Ok(())
 }
 
 #[test]
 fn prints_a_run_as_json(rt: HostRuntime) -> Result<(), Fail> {
-    let text = "{\"kind\":\"refuse\",\"line\":2,\"number\":5,\"name\":\"Down\"}\n{\"kind\":\"refuse\",\"line\":5,\"number\":5,\"name\":\"Down\"}\n{\"kind\":\"decided\",\"commands\":0}\n";
+    let text =
+        "{\"kind\":\"refuse\",\"line\":2,\"number\":5,\"name\":\"Down\"}\n{\"kind\":\"refuse\",\"line\":5,\"number\":5,\"name\":\"Down\"}\n{\"kind\":\"decided\",\"commands\":0}\n";
     assert!(rt; prints(&rt, &["rr", "sim", "--json", "-"], SCHEDULE, text)?);
-    let explained = "{\"kind\":\"refuse\",\"line\":2,\"number\":5,\"name\":\"Down\",\"event\":{\"line\":2,\"text\":\"submit 0 7 1 claim a x\",\"why\":\"node 0 is down or opens its disk\"}}\n{\"kind\":\"idle\",\"event\":{\"line\":4,\"text\":\"hear 0 5\",\"why\":\"message 5 isn't on the wire, 0 were sent\"}}\n{\"kind\":\"refuse\",\"line\":5,\"number\":5,\"name\":\"Down\",\"event\":{\"line\":5,\"text\":\"send 0\",\"why\":\"node 0 is down or opens its disk\"}}\n{\"kind\":\"decided\",\"commands\":0}\n";
-    assert!(rt; prints(&rt, &["rr", "sim", "--json", "--explain"], SCHEDULE, explained)?);
+    let explained =
+        "{\"kind\":\"refuse\",\"line\":2,\"number\":5,\"name\":\"Down\",\"event\":{\"line\":2,\"text\":\"submit 0 7 1 claim a x\",\"why\":\"node 0 is down or opens its disk\"}}\n{\"kind\":\"idle\",\"event\":{\"line\":4,\"text\":\"hear 0 5\",\"why\":\"message 5 isn't on the wire, 0 were sent\"}}\n{\"kind\":\"refuse\",\"line\":5,\"number\":5,\"name\":\"Down\",\"event\":{\"line\":5,\"text\":\"send 0\",\"why\":\"node 0 is down or opens its disk\"}}\n{\"kind\":\"decided\",\"commands\":0}\n";
+    assert!(rt;
+        prints(
+            &rt,
+            &["rr", "sim", "--json", "--explain"],
+            SCHEDULE,
+            explained
+        )?
+    );
     Ok(())
 }
 
 #[test]
 fn counts_a_run(rt: HostRuntime) -> Result<(), Fail> {
-    let table = "event       events     told  refused     idle\nsubmit           1        0        1        0\nhear             1        0        0        1\nsend             1        0        1        0\nrestart          1        0        0        0\nall              4\n\nmessage       sent    heard    again    never\nall              0\n\nrefusal      count\nDown             2\n\ndecided          0\nrounds           0\ncalls            0\n";
+    let table =
+        "event       events     told  refused     idle\nsubmit           1        0        1        0\nhear             1        0        0        1\nsend             1        0        1        0\nrestart          1        0        0        0\nall              4\n\nmessage       sent    heard    again    never\nall              0\n\nrefusal      count\nDown             2\n\ndecided          0\nrounds           0\ncalls            0\n";
     assert!(rt; prints(&rt, &["rr", "stats"], SCHEDULE, table)?);
     Ok(())
 }
@@ -77,7 +88,11 @@ fn compares_a_report(rt: HostRuntime) -> Result<(), Fail> {
         "line 2 of the report differs\n  the run: refuse 5 5 Down\n  standard input: refuse 5 4 Failed\n  the event: line 5: send 0\n"
     );
     assert!(rt; ended.err.is_empty());
-    let short = run(&rt, &["rr", "check", file, "-"], "refuse 2 5 Down\nrefuse 5 5 Down\n")?;
+    let short = run(
+        &rt,
+        &["rr", "check", file, "-"],
+        "refuse 2 5 Down\nrefuse 5 5 Down\n",
+    )?;
     assert_eq!(rt;
         short.out.as_str(),
         "line 3 of the report differs\n  the run: decided 0\n  standard input: (the text has ended)\n"

@@ -21,7 +21,7 @@ returns-in-Some-clause-task g c =
     let found : subcommand_rows_of m ≡ subcommand_of rr_line words = (c.in_ok-matches.ensures.matches (ap is_simple line_is ∙ is_simple_line)).1 ∙ ap (λ (a : App). subcommand_of a words) line_is in
     c.task_by.ensures
     ∙ asked (subcommand_of rr_line words) c.in-Some.name.now (rows_of (found_of c.in-Some.below.now))
-      (c.in-Some.ensures.name ∙ sym (named (out-ArgMatches m).subcommand) ∙ ap name_of found) (c.in-Some.ensures.rows ∙ ap arguments_of found)
+    (c.in-Some.ensures.name ∙ sym (named (out-ArgMatches m).subcommand) ∙ ap name_of found) (c.in-Some.ensures.rows ∙ ap arguments_of found)
 
 pub returns-in-Some-clause-faults : goal.returns-in-Some-clause-faults
 returns-in-Some-clause-faults g c =
