@@ -14,5 +14,5 @@ pub mod WantLaws
 mod Wanting
 mod OpenedLaws
 mod CleanLaws
-mod ToldLaws
+pub mod ToldLaws
 mod DrawnLaws
