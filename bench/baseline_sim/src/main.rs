@@ -5,7 +5,8 @@
 //! audit` does. `baseline_sim show DIR` tells what the areas of a node's
 //! disk hold, the files `a0` and `a1`. `baseline_sim areas DIR <
 //! SCHEDULE` writes those of node 0 behind a schedule. `baseline_sim draw SEED
-//! STEPS NODES` prints a random schedule. `baseline_sim answer` does all of
+//! STEPS NODES` prints a random schedule, `baseline_sim lively SEED STEPS NODES
+//! FAULTS` one in which something happens. `baseline_sim answer` does most of
 //! these for the questions on its input.
 
 mod answer;
@@ -17,6 +18,7 @@ mod detector;
 mod disk;
 mod draw;
 mod journal;
+mod lively;
 mod node;
 mod promise;
 mod queues;
@@ -111,13 +113,18 @@ fn run(words: &[&str]) -> io::Result<Ending> {
             let (steps, nodes) = (number(steps)? as u32, number(nodes)? as u8);
             printed(draw::draw(number(seed)?, steps, nodes, 0).into_bytes())
         }
+        ["lively", seed, steps, nodes, faults] => {
+            let (steps, nodes) = (number(steps)? as u32, number(nodes)? as u8);
+            let faults = number(faults)? as u32;
+            printed(lively::draw(number(seed)?, steps, nodes, faults).into_bytes())
+        }
         ["answer"] => {
             answer::answer_all(&mut io::stdin().lock(), &mut io::stdout().lock())?;
             printed(Vec::new())
         }
         _ => failed(
             2,
-            "words: sim [--starve LINE | --long], audit [FILE], show DIR, areas DIR, draw SEED STEPS NODES, answer"
+            "words: sim [--starve LINE | --long], audit [FILE], show DIR, areas DIR, draw SEED STEPS NODES, lively SEED STEPS NODES FAULTS, answer"
                 .into(),
         ),
     };
