@@ -9,7 +9,7 @@ use crate::area::Area;
 use crate::disk::Disk;
 use crate::strip::Strip;
 use rr_types::Refusal;
-use std::alloc::Global;
+use std::alloc::{AllocError, Global};
 use std::marker::Model;
 
 /// A disk in memory, which tells its bytes. No call of it fails but a write that starts past the end or finds
@@ -42,6 +42,16 @@ impl MemDisk {
             calls: 0,
             faults: 0,
         }
+    }
+
+    /// A disk with these bytes in its areas, nothing of them loose. Where memory runs out there is none.
+    pub fn with_areas(alloc: Global, first: &[u8], second: &[u8]) -> Result<MemDisk, AllocError>
+        ensures { IfOk result (λ d. d ≡ record { areas = restarted (record { of_first = first.now; of_second = second.now }); calls = 0; faults = 0 }) }
+    {
+        let mut disk = MemDisk::new(alloc);
+        disk.first = Strip::with_bytes(alloc, first)?;
+        disk.second = Strip::with_bytes(alloc, second)?;
+        Ok(disk)
     }
 
     /// A law of it, and nothing else: its bytes as they stand are among the images that a crash may leave.
