@@ -11,11 +11,10 @@ loop-event-preserved c =
     let at = c.loop-event.event-index in
     let more : take (c.loop-event.event-index + 1) c.events-events.result.now ≡ take c.loop-event.event-index c.events-events.result.now ++ c.event-item.result ∷ [] =
     take_more es at c.event-item.result c.loop-event-test.true ∙ ap (λ (x : TapeEvent). take c.loop-event.event-index c.events-events.result.now ++ x ∷ []) (sym c.event-item.is) in
-    let counted : length (take c.loop-event.event-index c.events-events.result.now) ≡ c.loop-event.event-index = length-take-le at es (omega (arith, c.loop-event-test.true)) in
-    (
+    let counted : length (take c.loop-event.event-index c.events-events.result.now) ≡ c.loop-event.event-index = length-take-le at es (omega (arith, c.loop-event-test.true)) in (
       omega (arith, c.loop-event.invariant.0),
       subst (λ (xs : List TapeEvent). IsUnderWay c.args.tape.now.nodes xs c.follow.new.self) (sym more)
-      (c.in_ok-follow.ensures.ok c.args.tape.now.nodes (take at es) (omega (arith, c.loop-event.invariant.0, counted)) c.loop-event.invariant.1),
+          (c.in_ok-follow.ensures.ok c.args.tape.now.nodes (take at es) (omega (arith, c.loop-event.invariant.0, counted)) c.loop-event.invariant.1),
     )
 
 pub returns-clause-verdict : goal.returns-clause-verdict
