@@ -559,7 +559,8 @@ def main():
     return 0
 
 
-try:
-    sys.exit(main())
-except Unfit as error:
-    sys.exit(f"tapes.py: {error}")
+if __name__ == "__main__":
+    try:
+        sys.exit(main())
+    except Unfit as error:
+        sys.exit(f"tapes.py: {error}")

@@ -30,6 +30,11 @@ impl Cluster {
         &self.wire
     }
 
+    /// A node.
+    pub fn node(&self, node: u8) -> &Node {
+        &self.nodes[usize::from(node)]
+    }
+
     /// The areas of node 0.
     pub fn areas(&self) -> [Vec<u8>; 2] {
         self.nodes[0].areas()

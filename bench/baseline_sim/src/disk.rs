@@ -4,7 +4,7 @@ use std::ops::Range;
 
 /// An area: its bytes, the length that no crash goes below, and the ranges in
 /// which a crash may leave other bytes, ascending and apart.
-#[derive(Default)]
+#[derive(Clone, Default)]
 struct Area {
     bytes: Vec<u8>,
     safe: usize,
@@ -70,7 +70,7 @@ impl Area {
 }
 
 /// A disk with its areas 0 and 1.
-#[derive(Default)]
+#[derive(Clone, Default)]
 pub struct Disk {
     areas: [Area; 2],
 }

@@ -8,7 +8,7 @@ use crate::schedule::Schedule;
 const MULTIPLIER: u64 = 6_364_136_223_846_793_005;
 
 /// The generator PCG-XSH-RR of 64 bits of state and 32 of output.
-struct Pcg32 {
+pub struct Pcg32 {
     state: u64,
     increment: u64,
 }
@@ -16,7 +16,7 @@ struct Pcg32 {
 impl Pcg32 {
     /// Of a seed of 64 bits: it is spread over the 128 of state and increment
     /// by the same generator with another increment.
-    fn of_seed(seed: u64) -> Self {
+    pub fn of_seed(seed: u64) -> Self {
         let mut spread = Pcg32 {
             state: seed,
             increment: 11_634_580_027_462_260_723,
@@ -46,7 +46,7 @@ impl Pcg32 {
         (folded as u32).rotate_right((self.state >> 59) as u32)
     }
 
-    fn word(&mut self) -> u32 {
+    pub fn word(&mut self) -> u32 {
         let word = self.output();
         self.step();
         word

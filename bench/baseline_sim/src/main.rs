@@ -5,11 +5,12 @@
 //! audit` does. `baseline_sim show DIR` tells what the areas of a node's
 //! disk hold, the files `a0` and `a1`. `baseline_sim areas DIR <
 //! SCHEDULE` writes those of node 0 behind a schedule. `baseline_sim draw SEED
-//! STEPS NODES` prints a random schedule. `baseline_sim answer` does all of
-//! these for the questions on its input. `baseline_sim mutate FOLDER SEED
-//! COUNT` prints questions on texts and bytes that seeds alter, for
-//! `crates/many_answers`, and `baseline_sim judge FOLDER SEED COUNT` compares
-//! the answers with its own.
+//! STEPS NODES` prints a random schedule. `baseline_sim sweep SEED < SCHEDULE`
+//! tells what a node restarts with after a crash behind each device call.
+//! `baseline_sim answer` does all of these but sweeps for the questions on its
+//! input. `baseline_sim mutate FOLDER SEED COUNT` prints questions on texts and
+//! bytes that seeds alter, for `crates/many_answers`, and `baseline_sim judge
+//! FOLDER SEED COUNT` compares the answers with its own.
 
 mod answer;
 mod audit;
@@ -32,6 +33,7 @@ mod schedule;
 mod script;
 mod show;
 mod stock;
+mod sweep;
 mod tape;
 mod types;
 
@@ -131,13 +133,20 @@ fn run(words: &[&str]) -> io::Result<Ending> {
             let input = &mut io::stdin().lock();
             printed(judge::judge(&stock, number(seed)?, number(count)?, input)?)
         }
+        ["sweep", seed] => {
+            let text = read_input()?;
+            match sweep::sweep(&text, number(seed)?, &mut io::stdout().lock())? {
+                Ok(()) => printed(Vec::new()),
+                Err(fault) => failed(3, fault.to_string()),
+            }
+        }
         ["answer"] => {
             answer::answer_all(&mut io::stdin().lock(), &mut io::stdout().lock())?;
             printed(Vec::new())
         }
         _ => failed(
             2,
-            "words: sim [--starve LINE | --long], audit [FILE], show DIR, areas DIR, draw SEED STEPS NODES, answer, mutate, judge"
+            "words: sim [--starve LINE | --long], audit [FILE], show DIR, areas DIR, draw SEED STEPS NODES, sweep SEED, answer, mutate, judge"
                 .into(),
         ),
     };

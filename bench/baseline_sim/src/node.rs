@@ -152,6 +152,17 @@ impl Node {
         self.disk.crash(cuts, fill);
     }
 
+    /// The node as a crash would leave it, over a copy of its disk.
+    pub fn after_crash(&self, cuts: [usize; 2], fill: &[u8]) -> Node {
+        let mut disk = self.disk.clone();
+        disk.crash(cuts, fill);
+        Node {
+            place: self.place,
+            doing: Doing::Stopped,
+            disk,
+        }
+    }
+
     /// Makes the next device call.
     pub fn device(&mut self) -> Answer {
         match &mut self.doing {

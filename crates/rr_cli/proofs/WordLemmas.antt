@@ -12,7 +12,7 @@ use Rattle.clap.specs.declared.error.Error.{Error}
 use Rattle.clap.specs.declared.parser.matches.SubCommand.{SubCommand}
 use Rattle.clap.specs.declared.parser.matches.ArgMatches.TheViews.{out-SubCommand}
 use Rattle.clap.proofs.OnLiterals.{clap_on_literals}
-use Rattle.rr_cli.specs.Lines.{Simulate, Show, Draw, Audit, Run, file_of, rr_line, task_by}
+use Rattle.rr_cli.specs.Lines.{Simulate, Show, Draw, Audit, Run, Sweep, file_of, rr_line, task_by}
 
 pub is_simple_line : is_simple rr_line ≡ true
 unfolding clap_on_literals
@@ -63,23 +63,33 @@ task_run (Some (text, own)) rows name is =
     let all : own ≡ rows = cc in
     rw (same, all) refl
 
+-- the subcommand sweep, with these rows
+pub task_swept : (found : Option (Text × List Row)) (rows : List Row) → option_map (λ (p : Text × List Row). p.0) found ≡ Some (codes "sweep") → option_map (λ (p : Text × List Row). p.1) found ≡ Some rows
+    → Sweep (file_of (first_of (codes "FILE") rows)) (first_of (codes "SEED") rows) ≡ option_map_or task_by found (Simulate None)
+task_swept None rows name is = absurd cc
+task_swept (Some (text, own)) rows name is =
+    let same : text ≡ codes "sweep" = cc in
+    let all : own ≡ rows = cc in
+    rw (same, all) refl
+
 -- another subcommand, with these rows
 pub task_simulated : (found : Option (Text × List Row)) (rows : List Row) → (option_map (λ (p : Text × List Row). p.0) found ≡ Some (codes "show") → ⊥)
     → (option_map (λ (p : Text × List Row). p.0) found ≡ Some (codes "random") → ⊥) → (option_map (λ (p : Text × List Row). p.0) found ≡ Some (codes "audit") → ⊥)
-    → (option_map (λ (p : Text × List Row). p.0) found ≡ Some (codes "run") → ⊥)
+    → (option_map (λ (p : Text × List Row). p.0) found ≡ Some (codes "run") → ⊥) → (option_map (λ (p : Text × List Row). p.0) found ≡ Some (codes "sweep") → ⊥)
     → Some rows ≡ option_map (λ (p : Text × List Row). p.1) found
     → Simulate (file_of (first_of (codes "FILE") rows)) ≡ option_map_or task_by found (Simulate None)
-task_simulated None rows no_show no_random no_audit no_run is = absurd cc
-task_simulated (Some (text, own)) rows no_show no_random no_audit no_run is =
-    by_name (bytes_eq text (codes "show")) refl (bytes_eq text (codes "random")) refl (bytes_eq text (codes "audit")) refl (bytes_eq text (codes "run")) refl
+task_simulated None rows no_show no_random no_audit no_run no_sweep is = absurd cc
+task_simulated (Some (text, own)) rows no_show no_random no_audit no_run no_sweep is =
+    by_name (bytes_eq text (codes "show")) refl (bytes_eq text (codes "random")) refl (bytes_eq text (codes "audit")) refl (bytes_eq text (codes "run")) refl (bytes_eq text (codes "sweep")) refl
   where
     by_name : (b : Bool) → bytes_eq text (codes "show") ≡ b → (d : Bool) → bytes_eq text (codes "random") ≡ d → (h : Bool) → bytes_eq text (codes "audit") ≡ h → (k : Bool) → bytes_eq text (codes "run") ≡ k
-        → Simulate (file_of (first_of (codes "FILE") rows)) ≡ option_map_or task_by (Some (text, own)) (Simulate None)
-    by_name true e d f h i k l = absurd (no_show (ap (λ (t : Text). Some t) ((bytes_eq-Decides text (codes "show")).0 e)))
-    by_name false e true f h i k l = absurd (no_random (ap (λ (t : Text). Some t) ((bytes_eq-Decides text (codes "random")).0 f)))
-    by_name false e false f true i k l = absurd (no_audit (ap (λ (t : Text). Some t) ((bytes_eq-Decides text (codes "audit")).0 i)))
-    by_name false e false f false i true l = absurd (no_run (ap (λ (t : Text). Some t) ((bytes_eq-Decides text (codes "run")).0 l)))
-    by_name false e false f false i false l = let all : own ≡ rows = cc in rw (e, f, i, l, all) refl
+        → (m : Bool) → bytes_eq text (codes "sweep") ≡ m → Simulate (file_of (first_of (codes "FILE") rows)) ≡ option_map_or task_by (Some (text, own)) (Simulate None)
+    by_name true e d f h i k l m n = absurd (no_show (ap (λ (t : Text). Some t) ((bytes_eq-Decides text (codes "show")).0 e)))
+    by_name false e true f h i k l m n = absurd (no_random (ap (λ (t : Text). Some t) ((bytes_eq-Decides text (codes "random")).0 f)))
+    by_name false e false f true i k l m n = absurd (no_audit (ap (λ (t : Text). Some t) ((bytes_eq-Decides text (codes "audit")).0 i)))
+    by_name false e false f false i true l m n = absurd (no_run (ap (λ (t : Text). Some t) ((bytes_eq-Decides text (codes "run")).0 l)))
+    by_name false e false f false i false l true n = absurd (no_sweep (ap (λ (t : Text). Some t) ((bytes_eq-Decides text (codes "sweep")).0 n)))
+    by_name false e false f false i false l false n = let all : own ≡ rows = cc in rw (e, f, i, l, n, all) refl
 
 -- no subcommand
 pub task_without : (found : Option (Text × List Row)) → None ≡ option_map (λ (p : Text × List Row). p.1) found → Simulate None ≡ option_map_or task_by found (Simulate None)

@@ -1,27 +1,32 @@
 -- How a run of the program ends: its exit status, and what standard output has taken.
-use Rattle.std.specs.Prelude.{◌≡◌, ◌≢◌, ◌⊎◌, ℕ, List, [], ◌∷◌, ◌++◌, length, Option, Some, None, codes}
+use Rattle.std.specs.Prelude.{◌≡◌, ◌≢◌, ◌⊎◌, ◌<◌, ◌-◌, ◌^◌, ℕ, List, [], ◌∷◌, ◌++◌, length, Option, Some, None, codes}
+use Rattle.std.specs.List.{flat_map}
 use Rattle.clap.specs.Kinds.{Kinds, IsAmong}
 use Rattle.clap.specs.Words.{Text}
 use Rattle.clap.specs.declared.error.kind.ErrorKind.{ErrorKind}
 use Rattle.clap.specs.declared.error.kind.ErrorKind.TheVariants.{DisplayHelp, DisplayVersion}
 use Rattle.rr_types.specs.declared.refusal.Refusal.{Refusal}
 use Rattle.rr_text.specs.Lines.{IsFault}
-use Rattle.rr_text.specs.Scheduled.{IsEvent}
-use Rattle.rr_text.specs.ScheduleTexts.{event_line}
+use Rattle.rr_text.specs.declared.event.Event.{Event}
+use Rattle.rr_text.specs.Scheduled.{Scheduled, IsSchedule, IsEvent}
+use Rattle.rr_text.specs.ScheduleTexts.{schedule_text, event_line}
 use Rattle.rr_text.specs.ReportTexts.{line}
 use Rattle.rr_tape.specs.Taped.{Taped, IsTape, IsTapeEvent}
 use Rattle.rr_tape.specs.TapeTexts.{tape_text, tape_line}
 use Rattle.rr_audit.specs.Audits as tapes
 use Rattle.rr_audit.specs.Audits.{IsTapeRun, StopsAt}
 use Rattle.rr_sim.specs.Told.{IsReportOn, IsRandomRun}
+use Rattle.rr_sweep.specs.declared.sweeping.SweepLine.{SweepLine}
+use Rattle.rr_sweep.specs.Sweeps.{IsSweep}
+use Rattle.rr_sweep.specs.SweepTexts.{sweep_line}
 use Rattle.rr_disk.specs.Counts.{Grew}
 use Rattle.rr_disk.specs.declared.area.Area.{Area}
 use Rattle.rr_stream.specs.Streams.{Printing, Reading, IsPrinted, IsFrontPrinted, AreAllOf}
 use Rattle.rr_image.specs.declared.inspection.AreaReport.{AreaReport}
 use Rattle.rr_image.specs.Inspect.{Tells, Breaks, inspected}
 use Rattle.rr_cli.specs.Areas.{areas_text}
-use Rattle.rr_cli.specs.Draws.{AreNumbers}
-use Rattle.rr_cli.specs.Lines.{Task, Simulate, Show, Draw, Audit, Run}
+use Rattle.rr_cli.specs.Draws.{IsNumberIn, AreNumbers}
+use Rattle.rr_cli.specs.Lines.{Task, Simulate, Show, Draw, Audit, Run, Sweep}
 use Rattle.rr_cli.specs.Refusals.{status_of}
 use Rattle.rr_cli.specs.Tapes.{yes_text}
 
@@ -79,6 +84,24 @@ pub data EndsOnWords (of_seed of_steps of_nodes : Text) (status : ℕ) (old new 
   numbered : (seed steps nodes : ℕ) → AreNumbers of_seed of_steps of_nodes seed steps nodes → EndsOnDraw nodes seed steps status old new → EndsOnWords of_seed of_steps of_nodes status old new
   unnumbered : ((seed steps nodes : ℕ) → AreNumbers of_seed of_steps of_nodes seed steps nodes → ⊥) → status ≡ 2 → new ≡ old → EndsOnWords of_seed of_steps of_nodes status old new
 
+-- lines of a sweep as text
+abbrev pub sweep_text : List SweepLine → List ℕ
+sweep_text lines = flat_map sweep_line lines
+
+-- a sweep with this seed on these bytes: they are a schedule, and the lines of its sweep are printed; or memory was wanting or
+-- standard output failed, which by then has taken a front of the lines of a front of the events; or there are more events than
+-- a sweep takes, or the bytes are no schedule or memory was wanting for reading it, and standard output is as it was
+pub data EndsOnSweep (seed : ℕ) (bytes : List ℕ) (status : ℕ) (old new : Printing) : Type 0 where
+  swept : (schedule : Scheduled) (lines : List SweepLine) → IsSchedule schedule → bytes ≡ schedule_text schedule → IsSweep schedule.nodes schedule.events seed lines → status ≡ 0 → IsPrinted old new (sweep_text lines) → EndsOnSweep seed bytes status old new
+  broken_off : (schedule : Scheduled) (before after : List Event) (lines : List SweepLine) → IsSchedule schedule → bytes ≡ schedule_text schedule → schedule.events ≡ before ++ after → IsSweep schedule.nodes before seed lines → IsFrontPrinted old new (sweep_text lines) → (status ≡ 6) ⊎ (IsStreamStatus status × Grew old.faults new.faults) → EndsOnSweep seed bytes status old new
+  too_long : (schedule : Scheduled) → IsSchedule schedule → bytes ≡ schedule_text schedule → 999989 < length schedule.events → status ≡ 3 → new ≡ old → EndsOnSweep seed bytes status old new
+  faulty : (refusal : Refusal) → IsFault IsEvent event_line bytes refusal → status ≡ status_of refusal → new ≡ old → EndsOnSweep seed bytes status old new
+
+-- a sweep of an input, by a word that writes its seed; or it writes none, and standard output is as it was
+pub data EndsOnSeed (On : (List ℕ → ℕ → Printing → Printing → Type 0) → ℕ → Printing → Printing → Type 0) (of_seed : Text) (status : ℕ) (old new : Printing) : Type 0 where
+  seeded : (seed : ℕ) → IsNumberIn 0 (2 ^ 64 - 1) of_seed seed → On (EndsOnSweep seed) status old new → EndsOnSeed On of_seed status old new
+  unseeded : ((seed : ℕ) → IsNumberIn 0 (2 ^ 64 - 1) of_seed seed → ⊥) → status ≡ 2 → new ≡ old → EndsOnSeed On of_seed status old new
+
 -- words that are wrong
 abbrev pub IsMistake : ErrorKind → Type 0
 IsMistake kind = (kind ≢ DisplayHelp) × (kind ≢ DisplayVersion)
@@ -111,4 +134,7 @@ pub data EndsBy (faults : Kinds) (task : Task) (from to : Reading) (status : ℕ
   without_numbers : (of_seed of_steps of_nodes : Option Text) → faults ≡ [] → task ≡ Draw of_seed of_steps of_nodes → ((s k n : Text) → task ≡ Draw (Some s) (Some k) (Some n) → ⊥) → status ≡ 2 → new ≡ old → EndsBy faults task from to status old new
   by_tape_in_standard_input : faults ≡ [] → task ≡ Audit None → EndsOnInput EndsOnTape from to status old new → EndsBy faults task from to status old new
   by_tape_in_a_file : (path : Text) → faults ≡ [] → task ≡ Audit (Some path) → EndsOnFile EndsOnTape status old new → EndsBy faults task from to status old new
+  by_sweep_of_standard_input : (of_seed : Text) → faults ≡ [] → task ≡ Sweep None (Some of_seed) → EndsOnSeed (λ on. EndsOnInput on from to) of_seed status old new → EndsBy faults task from to status old new
+  by_sweep_of_a_file : (path of_seed : Text) → faults ≡ [] → task ≡ Sweep (Some path) (Some of_seed) → EndsOnSeed EndsOnFile of_seed status old new → EndsBy faults task from to status old new
+  without_seed : (file : Option Text) → faults ≡ [] → task ≡ Sweep file None → status ≡ 2 → new ≡ old → EndsBy faults task from to status old new
   without_threads : (nodes dir script tape : Option Text) → faults ≡ [] → task ≡ Run nodes dir script tape → status ≡ 2 → new ≡ old → EndsBy faults task from to status old new

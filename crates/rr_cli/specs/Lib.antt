@@ -4,3 +4,4 @@ pub mod Lines
 pub mod Refusals
 pub mod Draws
 pub mod Tapes
+pub mod Sweeping

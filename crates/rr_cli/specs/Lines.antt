@@ -44,13 +44,20 @@ run_line =
     (with_rule (with_rule (with_rule (new_app (codes "run")) (number_rule (codes "NODES") (codes "nodes") 1 7)) (option_rule (codes "DIR") (codes "dir") true)) (option_rule (codes "SCRIPT") (codes "script") true))
     (option_rule (codes "TAPE") (codes "tape") false)
 
+-- the subcommand sweep, with a FILE that may be left out, and a seed
+abbrev pub sweep_line : App
+sweep_line = with_rule (with_rule (new_app (codes "sweep")) (new_rule (codes "FILE"))) (number_rule (codes "SEED") (codes "seed") 0 18446744073709551615)
+
 -- a command with a version, which needs a subcommand
 abbrev pub rr_settings : App → App
 rr_settings = on_top (λ s. record s { has_version = true; arg_required_else_help = true; subcommand_required = true })
 
 -- the command line of rr
 abbrev pub rr_line : App
-rr_line = with_subcommand (with_subcommand (with_subcommand (with_subcommand (with_subcommand (rr_settings (new_app (codes "rr"))) sim_line.top) show_line.top) random_line.top) audit_line.top) run_line.top
+rr_line =
+    with_subcommand
+    (with_subcommand (with_subcommand (with_subcommand (with_subcommand (with_subcommand (rr_settings (new_app (codes "rr"))) sim_line.top) show_line.top) random_line.top) audit_line.top) run_line.top)
+    sweep_line.top
 
 -- what is wrong with the words, or asks for help or the version; nothing where they are a command
 abbrev pub faults_of : List Text → Kinds
@@ -59,13 +66,15 @@ faults_of words = fault_of rr_line words
 -- what a command asks for: the report of the schedule in this file or else in standard input; or the areas of the
 -- disk in this folder; or a random schedule by this seed, number of steps and number of nodes; only words that are
 -- wrong leave those out; or the audit of the tape in this file or else in standard input; or a run of this number of
--- nodes in threads, over the folders in this folder, by the script in this file, with its tape in this file or none
+-- nodes in threads, over the folders in this folder, by the script in this file, with its tape in this file or none; or a
+-- sweep of the schedule in this file or else in standard input, with this seed, which only wrong words leave out
 pub data Task : Type 0 where
   Simulate : Option Text → Task
   Show : Option Text → Task
   Draw : Option Text → Option Text → Option Text → Task
   Audit : Option Text → Task
   Run : Option Text → Option Text → Option Text → Option Text → Task
+  Sweep : Option Text → Option Text → Task
 
 -- the file that a word names; none, which stands for standard input, where the word is a hyphen or isn't there
 abbrev pub file_of : Option Text → Option Text
@@ -79,7 +88,8 @@ task_by p =
     else (if bytes_eq p.0 (codes "random") then Draw (first_of (codes "SEED") p.1) (first_of (codes "STEPS") p.1) (first_of (codes "NODES") p.1)
     else (if bytes_eq p.0 (codes "audit") then Audit (file_of (first_of (codes "FILE") p.1))
     else (if bytes_eq p.0 (codes "run") then Run (first_of (codes "NODES") p.1) (first_of (codes "DIR") p.1) (first_of (codes "SCRIPT") p.1) (first_of (codes "TAPE") p.1)
-    else Simulate (file_of (first_of (codes "FILE") p.1)))))
+    else (if bytes_eq p.0 (codes "sweep") then Sweep (file_of (first_of (codes "FILE") p.1)) (first_of (codes "SEED") p.1)
+    else Simulate (file_of (first_of (codes "FILE") p.1))))))
 
 -- what the words ask for
 abbrev pub task_of : List Text → Task
@@ -92,3 +102,4 @@ task_in (read.Show folder) = Show (option_map (λ s. s.now) folder)
 task_in (read.Draw seed steps nodes) = Draw (option_map (λ s. s.now) seed) (option_map (λ s. s.now) steps) (option_map (λ s. s.now) nodes)
 task_in (read.Audit file) = Audit (option_map (λ s. s.now) file)
 task_in (read.Run nodes dir script tape) = Run (option_map (λ s. s.now) nodes) (option_map (λ s. s.now) dir) (option_map (λ s. s.now) script) (option_map (λ s. s.now) tape)
+task_in (read.Sweep file seed) = Sweep (option_map (λ s. s.now) file) (option_map (λ s. s.now) seed)

@@ -22,7 +22,7 @@ pub(crate) struct Draw {
 }
 
 // The number that a text writes, where it lies in the range.
-fn number_in(text: &str, least: u64, most: u64) -> Option<u64>
+pub(crate) fn number_in(text: &str, least: u64, most: u64) -> Option<u64>
     ensures some { IfSome result (λ n. IsNumberIn least most text.now n) }
     ensures none { result ≡ None → (n : ℕ) → IsNumberIn least most text.now n → ⊥ }
 {

@@ -7,6 +7,7 @@ mod program;
 mod refusals;
 mod show;
 mod streams;
+mod sweep;
 mod words;
 
 pub use draw::nodes_of;

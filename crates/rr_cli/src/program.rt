@@ -1,9 +1,10 @@
 //! The program: what it reads, what it prints and how it ends.
 
-ghost use Rattle.std.specs.Prelude.{◌≡◌, ◌≢◌, IfOk, IfErr, OnErr, None, map, string_bytes};
+ghost use Rattle.std.specs.Prelude.{◌≡◌, ◌≢◌, Option, IfOk, IfErr, OnErr, None, map, string_bytes};
 ghost use Rattle.std.specs.Io.KnownBytes.{Keeps};
 ghost use Rattle.std.specs.IoError.{error_kind};
-ghost use Rattle.rr_cli.specs.Lines.{Simulate, Audit, faults_of, task_of};
+ghost use Rattle.clap.specs.Words.{Text};
+ghost use Rattle.rr_cli.specs.Lines.{Simulate, Audit, Sweep, faults_of, task_of};
 ghost use Rattle.rr_cli.specs.Ends.{EndsOn, EndsOnInput, EndsBy};
 
 use crate::audit::{audit_file, audit_input};
@@ -11,6 +12,7 @@ use crate::draw::{draw_by_words, end_without_numbers};
 use crate::refusals::end_by_schedule_fault;
 use crate::show::{end_without_folder, show_folder};
 use crate::streams::{end_by_stream, end_by_text, end_without_threads, end_without_words};
+use crate::sweep::{end_without_seed, sweep_by_word, sweep_file};
 use crate::words::{Task, end_by_words, read_words};
 use rr_sim::report_on;
 use rr_stream::{Counted, Sink, Source, read_all};
@@ -46,7 +48,8 @@ fn simulate_input<I: Source, O: Sink, E: Write>(
 /// `rr sim [FILE]` reads a schedule from FILE, or else from `input`, and prints its report on `out`. `rr show DIR`
 /// prints what the areas hold of the disk in the folder DIR. `rr random --seed SEED --steps STEPS --nodes NODES` prints
 /// a random schedule, a line `report` and the report of its run. `rr audit [FILE]` reads a tape as `rr sim` does a
-/// schedule, and prints whether its events are what nodes do. What goes wrong is told on `err`. The statuses: 0 done,
+/// schedule, and prints whether its events are what nodes do. `rr sweep [FILE] --seed SEED` reads a schedule, crashes a node
+/// after each device call, and prints what it restarts with, as it goes. What goes wrong is told on `err`. The statuses: 0 done,
 /// 2 wrong words, 3 no schedule or tape, 4 a damaged area, 5 a device, a file or a stream, 6 memory, 7 a tape with an
 /// event that isn't what its node does next.
 pub fn execute<R: Files + AllocGlobal, S: AsStr, I: Source, O: Sink, E: Write>(
@@ -59,7 +62,8 @@ pub fn execute<R: Files + AllocGlobal, S: AsStr, I: Source, O: Sink, E: Write>(
     ensures ends { EndsBy (faults_of (map S.text words.now)) (task_of (map S.text words.now))
         (I.reading input.old) (I.reading input.new) result (O.printing out.old) (O.printing out.new) }
     ensures quiet { result ≡ 0 → Keeps (E.contents err.old) (E.contents err.new) }
-    ensures untouched { task_of (map S.text words.now) ≢ Simulate None → task_of (map S.text words.now) ≢ Audit None → I.reading input.new ≡ I.reading input.old }
+    ensures untouched { task_of (map S.text words.now) ≢ Simulate None → task_of (map S.text words.now) ≢ Audit None
+        → ((seed : Option Text) → task_of (map S.text words.now) ≢ Sweep None seed) → I.reading input.new ≡ I.reading input.old }
 {
     match read_words(rt.alloc(), words) {
         Ok(Task::Simulate(None)) => {
@@ -85,6 +89,11 @@ pub fn execute<R: Files + AllocGlobal, S: AsStr, I: Source, O: Sink, E: Write>(
         Ok(Task::Audit(None)) => audit_input(rt.alloc(), "standard input", input, out, err),
         Ok(Task::Audit(Some(path))) => audit_file(rt, path, out, err),
         Ok(Task::Run(_, _, _, _)) => end_without_threads(err),
+        Ok(Task::Sweep(None, Some(seed))) => {
+            sweep_by_word(rt.alloc(), "standard input", seed, input, out, err)
+        }
+        Ok(Task::Sweep(Some(path), Some(seed))) => sweep_file(rt, path, seed, out, err),
+        Ok(Task::Sweep(_, None)) => end_without_seed(err),
         Err(error) => end_by_words(rt.alloc(), out, err, &error),
     }
 }

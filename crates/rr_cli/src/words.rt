@@ -5,7 +5,7 @@ ghost use Rattle.std.specs.Io.KnownBytes.{Keeps};
 ghost use Rattle.clap.specs.Words.{app_of, kind_of, new_app, rule_of};
 ghost use Rattle.clap.specs.declared.builder.command.Command.TheViews.{out-Command};
 ghost use Rattle.clap.specs.Kinds.{FailsBy};
-ghost use Rattle.rr_cli.specs.Lines.{rr_line, rr_settings, sim_line, show_line, number_rule, random_line, audit_line, option_rule, run_line, file_of, faults_of, task_of, task_in};
+ghost use Rattle.rr_cli.specs.Lines.{rr_line, rr_settings, sim_line, show_line, number_rule, random_line, audit_line, option_rule, run_line, sweep_line, file_of, faults_of, task_of, task_in};
 ghost use Rattle.rr_cli.specs.Ends.{IsMistake, Helps, Prints, statuses_text, version_text};
 
 use crate::refusals::end_by_refusal;
@@ -29,12 +29,14 @@ fn command_line<'a>(alloc: Global) -> Result<Command<'a>, AllocError>
     let random = random_line(alloc)?;
     let audit = audit_line(alloc)?;
     let run = run_line(alloc)?;
+    let sweep = sweep_line(alloc)?;
     top_line(alloc)
         .subcommand(sim)?
         .subcommand(show)?
         .subcommand(random)?
         .subcommand(audit)?
-        .subcommand(run)
+        .subcommand(run)?
+        .subcommand(sweep)
 }
 
 // The command line without its subcommands.
@@ -155,6 +157,28 @@ fn run_line<'a>(alloc: Global) -> Result<Command<'a>, AllocError>
         .arg(tape)
 }
 
+// The command line of `rr sweep`.
+fn sweep_line<'a>(alloc: Global) -> Result<Command<'a>, AllocError>
+    ensures line { IfOk result (λ c. app_of c ≡ sweep_line) }
+    ensures local { IfOk result (λ c. (out-Command c).has_globals ≡ false) }
+{
+    let file = Arg::new(alloc, "FILE").help("The schedule [default: standard input]");
+    let seed = number_arg(
+        alloc,
+        "SEED",
+        "seed",
+        "The seed of the last ending's words",
+        0,
+        u64::MAX,
+    );
+    Command::new(alloc, "sweep")
+        .about(
+            "Crashes a node after each device call of a schedule, and tells what it restarts with",
+        )
+        .arg(file)?
+        .arg(seed)
+}
+
 /// What words ask for.
 #[derive(Clone, Copy, Debug, PartialEq, Eq)]
 pub enum Task<'a> {
@@ -169,6 +193,9 @@ pub enum Task<'a> {
     /// `rr run --nodes NODES --dir DIR --script SCRIPT [--tape TAPE]`: a run of nodes in threads by the script in this
     /// file, and its tape into this file.
     Run(Option<&'a str>, Option<&'a str>, Option<&'a str>, Option<&'a str>),
+    /// `rr sweep [FILE] --seed SEED`: what a node restarts with after a crash behind each device call of the schedule in
+    /// this file, or else in standard input; with the seed of the words of the last ending.
+    Sweep(Option<&'a str>, Option<&'a str>),
 }
 
 // The file that a word names. None stands for standard input: the word is a hyphen or isn't there.
@@ -210,6 +237,9 @@ pub fn read_words<'a, S: AsStr>(alloc: Global, words: &'a [S]) -> Result<Task<'a
             running.get_str("SCRIPT"),
             running.get_str("TAPE"),
         ));
+    }
+    if let Some(sweep) = matches.subcommand_matches("sweep") {
+        return Ok(Task::Sweep(file_of(sweep.get_str("FILE")), sweep.get_str("SEED")));
     }
     match matches.subcommand() {
         Some((_, sim)) => Ok(Task::Simulate(file_of(sim.get_str("FILE")))),

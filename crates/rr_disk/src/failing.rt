@@ -11,7 +11,7 @@ use crate::cells::fill_byte;
 use crate::disk::Disk;
 use crate::memory::MemDisk;
 use rr_types::Refusal;
-use std::alloc::Global;
+use std::alloc::{AllocError, Global};
 use std::marker::Model;
 
 /// A disk whose calls fail on demand, over any other. Its counts are its own.
@@ -75,6 +75,21 @@ impl<D> FailingDisk<D> {
 }
 
 impl FailingDisk<MemDisk> {
+    /// A copy of it, with what is loose and its counts, at which no failure is due.
+    ///
+    /// # Errors
+    /// Where memory is wanting.
+    pub fn copied(&self, alloc: Global) -> Result<FailingDisk<MemDisk>, AllocError>
+        ensures { IfOk result (λ copy. copy ≡ record self.now { due = None }) }
+    {
+        Ok(FailingDisk {
+            below: self.below.copied(alloc)?,
+            due: None,
+            calls: self.calls,
+            faults: self.faults,
+        })
+    }
+
     /// What a crash leaves, as `MemDisk::crash` says. A failure that is due stays due.
     pub fn crash(&mut self, cut_first: u64, cut_second: u64, fill: &[u8])
         ensures { self.new ≡ record self.old { below = record self.old.below { areas = restarted (crash_images cut_first cut_second fill.now self.old.below.areas) } } }

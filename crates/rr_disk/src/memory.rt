@@ -9,7 +9,7 @@ use crate::area::Area;
 use crate::disk::Disk;
 use crate::strip::Strip;
 use rr_types::Refusal;
-use std::alloc::Global;
+use std::alloc::{AllocError, Global};
 use std::marker::Model;
 
 /// A disk in memory, which tells its bytes. No call of it fails but a write that starts past the end or finds
@@ -42,6 +42,21 @@ impl MemDisk {
             calls: 0,
             faults: 0,
         }
+    }
+
+    /// A copy of it, with what is loose and its counts.
+    ///
+    /// # Errors
+    /// Where memory is wanting.
+    pub fn copied(&self, alloc: Global) -> Result<MemDisk, AllocError>
+        ensures { IfOk result (λ copy. copy ≡ self.now) }
+    {
+        Ok(MemDisk {
+            first: self.first.copied(alloc)?,
+            second: self.second.copied(alloc)?,
+            calls: self.calls,
+            faults: self.faults,
+        })
     }
 
     /// A law of it, and nothing else: its bytes as they stand are among the images that a crash may leave.

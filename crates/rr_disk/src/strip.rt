@@ -47,6 +47,18 @@ impl Strip {
         }
     }
 
+    /// A copy of it, with what is loose.
+    pub fn copied(&self, alloc: Global) -> Result<Strip, AllocError>
+        ensures { IfOk result (λ copy. copy ≡ self.now) }
+    {
+        Ok(Strip {
+            cells: Vec::from_slice(alloc, &self.cells)?,
+            safe: self.safe,
+            low: self.low,
+            high: self.high,
+        })
+    }
+
     /// How many bytes it has.
     pub fn len(&self) -> u64
         ensures { result ≡ length self.now.cells }

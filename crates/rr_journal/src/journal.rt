@@ -68,6 +68,13 @@ impl<D: Disk> Journal<D> {
         self.next
     }
 
+    /// The disk.
+    pub fn disk(&self) -> &D
+        ensures { result.now ≡ self.now.disk }
+    {
+        &self.disk
+    }
+
     /// The disk, which then has to be opened again.
     pub fn into_disk(self) -> D
         ensures { result ≡ self.disk }

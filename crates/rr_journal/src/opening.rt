@@ -104,6 +104,13 @@ impl<D: Disk> Opening<D> {
         }
     }
 
+    /// The disk that is opened.
+    pub fn disk(&self) -> &D
+        ensures { result.now ≡ self.now.disk }
+    {
+        &self.disk
+    }
+
     /// Gives the opening up, and the disk back.
     pub fn into_disk(self) -> D
         ensures { result ≡ self.disk }

@@ -35,6 +35,20 @@ pub enum Doing {
 }
 
 impl Doing {
+    /// The disk.
+    pub fn disk(&self) -> &NodeDisk
+        ensures areas { result.now.below.areas ≡ areas_of self.now }
+        ensures due { result.now.due ≡ due_of self.now }
+        ensures calls { result.now.calls ≡ calls_of self.now }
+    {
+        match self {
+            Doing::Stopped(disk) => disk,
+            Doing::Faulted(disk) => disk,
+            Doing::Opening(opening) => opening.disk(),
+            Doing::Serving(serving) => serving.disk(),
+        }
+    }
+
     /// The disk; whatever ran over it is given up.
     pub fn into_disk(self) -> NodeDisk
         ensures areas { result.below.areas ≡ areas_of self }

@@ -1,6 +1,6 @@
 //! A node over its disk.
 
-ghost use Rattle.std.specs.Prelude.{◌≡◌, ◌≢◌, ◌<◌};
+ghost use Rattle.std.specs.Prelude.{◌≡◌, ◌≢◌, ◌<◌, IfOk, IfErr};
 ghost use Rattle.rr_node.specs.Runs.{IsSpelt};
 ghost use Rattle.rr_node.specs.Seats.{Stopped, Gives, Fails, AtMostOneCall, crashed};
 ghost use Rattle.rr_node.specs.Views.{Takes};
@@ -120,6 +120,29 @@ impl Node {
         let mut disk = doing.into_disk();
         disk.crash(u64::from(cut_first), u64::from(cut_second), fill);
         drop(mem::replace(&mut self.doing, Doing::Stopped(disk)).into_disk());
+    }
+
+    /// The node as this crash would leave it, over a copy of its disk. The node itself goes on.
+    ///
+    /// # Errors
+    /// `OutOfMemory`.
+    pub fn after_crash(
+        &self,
+        alloc: Global,
+        cut_first: u32,
+        cut_second: u32,
+        fill: &[u8],
+    ) -> Result<Node, Refusal>
+        ensures left { IfOk result (λ node. node ≡ crashed cut_first cut_second fill.now self.now) }
+        ensures err { IfErr result (λ e. e ≡ Refusal.OutOfMemory) }
+    {
+        let mut disk = self.doing.disk().copied(alloc)?;
+        disk.crash(u64::from(cut_first), u64::from(cut_second), fill);
+        Ok(Node {
+            nodes: self.nodes,
+            node: self.node,
+            doing: Doing::Stopped(disk),
+        })
     }
 
     /// The node's disk, of which whatever ran over it is given up.

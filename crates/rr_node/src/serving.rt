@@ -58,6 +58,13 @@ impl Serving {
         }
     }
 
+    /// The disk.
+    pub fn disk(&self) -> &NodeDisk
+        ensures { result.now ≡ self.now.slots.disk }
+    {
+        self.slots.disk()
+    }
+
     /// The disk; a job that runs is given up.
     pub fn into_disk(self) -> NodeDisk
         ensures { result ≡ self.slots.disk }

@@ -53,7 +53,7 @@ all_parts : {X : Type 0} (P : X → Type 0) (xs ys : List X) → AllByRecursion 
 all_parts P [] ys h k = k
 all_parts P (x ∷ xs) ys h k = (h.0, all_parts P xs ys h.1 k)
 
-all_at : {X : Type 0} (P : X → Type 0) (xs : List X) (k : ℕ) (x : X) → AllByRecursion P xs → slice_get xs k ≡ Some x → P x
+pub all_at : {X : Type 0} (P : X → Type 0) (xs : List X) (k : ℕ) (x : X) → AllByRecursion P xs → slice_get xs k ≡ Some x → P x
 all_at P [] k x h e = absurd (let no : None ≡ Some x = e in cc)
 all_at P (y ∷ xs) zero x h e = let f : y ≡ x = (let g : Some y ≡ Some x = e in cc) in subst P f h.0
 all_at P (y ∷ xs) (suc k) x h e = all_at P xs k x h.1 e
@@ -64,7 +64,7 @@ contains_at (y ∷ xs) zero x e = (0, omega arith, let f : y ≡ x = (let g : So
 contains_at (y ∷ xs) (suc k) x e = let r = contains_at xs k x e in (suc r.0, omega (arith, r.1), r.2)
 
 -- what a list of bytes is by its elements
-bytes_of : (bytes : List ℕ) → IsFill bytes → All (λ b. b < 256) bytes
+pub bytes_of : (bytes : List ℕ) → IsFill bytes → All (λ b. b < 256) bytes
 bytes_of [] h k d l = absurd (omega (arith, l))
 bytes_of (b ∷ bytes) h zero d l = h.0
 bytes_of (b ∷ bytes) h (suc k) d l = bytes_of bytes h.1 k d (omega (arith, l))

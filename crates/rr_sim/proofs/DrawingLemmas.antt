@@ -28,7 +28,7 @@ calls_are_events : (n p k : ℕ) → p < n → AllByRecursion (IsEvent n) (repli
 calls_are_events n p zero below = tt
 calls_are_events n p (suc k) below = (record { node = below; fields = tt }, calls_are_events n p k below)
 
-opening_is_of_events : (n p : ℕ) → p < n → AllByRecursion (IsEvent n) (opening_of p)
+pub opening_is_of_events : (n p : ℕ) → p < n → AllByRecursion (IsEvent n) (opening_of p)
 opening_is_of_events n p below = (record { node = below; fields = tt }, calls_are_events n p 9 below)
 
 -- the openings of k nodes from node a on

@@ -3,6 +3,7 @@ use Rattle.std.proofs.Common.{◌≡◌, ℕ, ◌+◌, List, [], ◌∷◌, sym,
 use Rattle.std.specs.Prelude.{IfOk, Result, Ok, Err}
 use Rattle.rr_types.specs.declared.refusal.Refusal.{Refusal}
 use Rattle.std.specs.List.{AllByRecursion}
+use Rattle.rr_types.specs.declared.command.Command.{Command}
 use Rattle.rr_types.specs.declared.message.Message.{Message}
 use Rattle.rr_model.specs.Laws.{after_steps}
 use Rattle.rr_model.specs.Sound.{IsDecidedList}
@@ -43,6 +44,20 @@ module _ (n m : ℕ) (laws : NodeLaws n) where
         run = run_on n w took.steps (in_turn behind.pieces) took.run behind.run;
         in_step = subst (λ (v : World). IsClusterInStep n new v) (sym (joined w took.steps behind.pieces)) behind.in_step;
       }
+
+  module _ (events : List Event) (new : Cluster) (valid : AllByRecursion (IsEvent m) events) (leads : LeadsSpelt 2 events (new_cluster n) new) where
+    -- events lead to a cluster that is in step with some world
+    pub leads_in_step : (w : World) × IsClusterInStep n new w
+    leads_in_step =
+        let took = take_all 2 events (new_cluster n) new empty_world valid (starts_in_step n laws) leads in
+        (after_steps empty_world (in_turn took.pieces), took.in_step)
+
+    -- and of whose wire there is a decided list
+    pub leads_to_a_list : (list : List Command) × IsDecidedList n new.wire list
+    leads_to_a_list =
+        let took = take_all 2 events (new_cluster n) new empty_world valid (starts_in_step n laws) leads in
+        let exists = (sound n (in_turn took.pieces) took.run).a_decided_list_exists in
+        (exists.0, subst (λ (ms : List Message). IsDecidedList n ms exists.0) took.in_step.alike.wire exists.1)
 
   module _ (events : List Event) (new : Cluster) (report : Reported) (valid : AllByRecursion (IsEvent m) events) (leads : LeadsSpelt 2 events (new_cluster n) new)
       (lines : report.lines ≡ new.lines) (decided : IsDecidedList n new.wire report.decided) where

@@ -7,12 +7,12 @@ pub mod HeadlineLaws
 pub mod NodeLaws
 pub mod RefusedLaws
 mod ScheduleLaws
-mod DrawingLemmas
+pub mod DrawingLemmas
 pub mod FailingLaws
 mod DecidedLaws
 pub mod WantLaws
-mod Wanting
+pub mod Wanting
 mod OpenedLaws
-mod CleanLaws
-mod ToldLaws
+pub mod CleanLaws
+pub mod ToldLaws
 mod DrawnLaws

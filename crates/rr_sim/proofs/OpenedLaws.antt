@@ -5,13 +5,8 @@ use Rattle.std.specs.List.{AllByRecursion, flat_map, range_with_len}
 use Rattle.rr_text.specs.declared.event.Event.{Event}
 use Rattle.rr_text.specs.declared.event.Event.TheVariants.{Device}
 use Rattle.rr_sim.specs.Clusters.{Cluster, new_cluster, event_step, after_events}
-use Rattle.rr_sim.specs.Random.{opening_of, openings, IsFailing, StepsInMemory, opened}
+use Rattle.rr_sim.specs.Random.{opening_of, openings, IsFailing, StepsInMemory, LeadsInMemory, opened}
 use Rattle.rr_sim.proofs.DrawingLemmas.{each_of_both}
-
--- the events, of which the first stands on this line, lead from one cluster to another as they do where memory is there
-abbrev pub LeadsInMemory : ℕ → List Event → Cluster → Cluster → Type 0
-LeadsInMemory at [] old new = new ≡ old
-LeadsInMemory at (e ∷ es) old new = (next : Cluster) × StepsInMemory at e old next × LeadsInMemory (at + 1) es next new
 
 -- none of the events is a failing device call
 abbrev pub AreCalm : List Event → Type 0

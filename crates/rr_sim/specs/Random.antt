@@ -79,6 +79,11 @@ IsFailing e = (p : ℕ) × (fill : List ℕ) × (e ≡ Fail p fill)
 abbrev pub StepsInMemory : ℕ → Event → Cluster → Cluster → Type 0
 StepsInMemory at e old new = (new ≡ event_step at false e old) ⊎ (IsFailing e × (new ≡ event_step at true e old))
 
+-- the events, of which the first stands on this line, lead from one cluster to another as they do where memory is there
+abbrev pub LeadsInMemory : ℕ → List Event → Cluster → Cluster → Type 0
+LeadsInMemory at [] old new = new ≡ old
+LeadsInMemory at (e ∷ es) old new = (next : Cluster) × StepsInMemory at e old next × LeadsInMemory (at + 1) es next new
+
 -- n nodes that have opened their disks
 abbrev pub opened : ℕ → Cluster
 opened n = after_events 2 (openings n) (new_cluster n)

@@ -1,6 +1,6 @@
 //! A cluster of nodes with their disks: what each event of a schedule does to it.
 
-ghost use Rattle.std.specs.Prelude.{◌≡◌, ◌⊎◌, ◌↔◌, ◌++◌, [], length, option_to_list, IsTrue, Ok, OnOk, IfOk, IfErr};
+ghost use Rattle.std.specs.Prelude.{◌≡◌, ◌⊎◌, ◌↔◌, ◌++◌, [], length, slice_get, option_to_list, None, Some, IsTrue, MatchOption, Ok, OnOk, IfOk, IfErr};
 ghost use Rattle.rr_sim.specs.Clusters.{shown, note_of, new_cluster, at_node, fail_at, hear_at, crash_at, IsEither, Steps, TellsOfWant, IsSpeltAt, IsSpeltBehind};
 ghost use Rattle.rr_sim.specs.Random.{IsFailing, StepsInMemory};
 ghost use Rattle.rr_node.specs.Runs.{sent_by};
@@ -43,7 +43,10 @@ fn binding(entry: &(Name, Holding)) -> Binding
 }
 
 /// The bound names as a report shows them.
-fn shown(alloc: Global, names: &rr_node::BoundNames) -> Result<BoundNames, Refusal>
+///
+/// # Errors
+/// `OutOfMemory`.
+pub fn shown(alloc: Global, names: &rr_node::BoundNames) -> Result<BoundNames, Refusal>
     ensures ok { IfOk result (λ b. b ≡ shown names.now) }
     ensures err { IfErr result (λ e. e ≡ Refusal.OutOfMemory) }
 {
@@ -151,6 +154,13 @@ impl Cluster {
         })
     }
 
+    /// The node of this number, where there is one.
+    pub fn node(&self, node: NodeId) -> Option<&Node>
+        ensures { MatchOption result (slice_get self.now.seats node ≡ None) (λ seat. slice_get self.now.seats node ≡ Some seat.now) }
+    {
+        self.seats.get(usize::from(node.index()))
+    }
+
     /// The nodes by their numbers.
     pub fn into_nodes(self) -> Vec<Node>
         ensures { result.items ≡ self.seats }
@@ -195,6 +205,13 @@ impl Cluster {
         push_report_lines(text, self.lines.as_slice())?;
         self.lines.clear();
         Ok(())
+    }
+
+    /// Keeps the lines of the report so far no longer.
+    pub fn forget_lines(&mut self)
+        ensures { self.new ≡ record self.old { lines = [] } }
+    {
+        self.lines.clear();
     }
 
     fn at_node(

@@ -9,9 +9,9 @@ mod simulator;
 mod telling;
 
 pub use chosen::decided_list;
-pub use cluster::Cluster;
+pub use cluster::{Cluster, shown};
 pub use drawing::{MAX_STEPS, random};
 pub use random_text::random_run;
 pub use rr_text::{Binding, BoundNames, Event, Fill, MAX_EVENTS, Report, ReportLine, Schedule};
-pub use simulator::{nodes_after, simulate};
+pub use simulator::{first_fault, nodes_after, simulate};
 pub use telling::report_on;

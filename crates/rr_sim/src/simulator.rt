@@ -63,7 +63,7 @@ pub fn nodes_after(alloc: Global, nodes: u8, schedule: &Schedule) -> Result<Vec<
 }
 
 /// The line of the first event whose node isn't there.
-fn first_fault(nodes: Nodes, events: &[Event]) -> Option<u64>
+pub fn first_fault(nodes: Nodes, events: &[Event]) -> Option<u64>
     requires { length events.now ≤ 1000000 }
     ensures { result ≡ first_fault nodes 2 events.now }
 {

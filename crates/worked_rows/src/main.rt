@@ -1,7 +1,8 @@
 //! Says of each text that it is given by name whether it is printed as it was read, or what it is refused with:
 //! of tapes, whose names end in `.tape`, and of schedules. Behind the word `run` it prints the report of each
 //! schedule, behind the word `areas` the bytes that the areas of node 0 hold at its end, and behind the word
-//! `sweep` how many crashes in the switch with which it ends kept what it was of. Behind the word `audit` it prints
+//! `sweep` how many crashes in the switch with which it ends kept what it was of, and behind the word `restarts` the
+//! sweep of its device calls. Behind the word `audit` it prints
 //! what an audit of each tape finds. At the word `full-list` it says what a node answers all of whose instances are
 //! decided.
 #![tactic(auto)]
@@ -16,6 +17,7 @@ ghost use Rattle.rr_sim.specs.Told.{IsReportOn};
 use crate::areas::areas_behind;
 use rr_audit::Verdict;
 use rr_cli::{audit_on, print_refusal, report_on};
+use rr_sweep::push_sweep_lines;
 use rr_tape::Tape;
 use rr_text::Schedule;
 use rr_types::Refusal;
@@ -30,6 +32,7 @@ enum Task {
     Run,
     Areas,
     Sweep,
+    Restarts,
     Audit,
 }
 
@@ -82,6 +85,25 @@ fn print_areas(rt: &HostRuntime, path: &str, bytes: &[u8]) -> io::Result<()> {
     }
 }
 
+/// The sweep of the schedule of these bytes, with the words of seed 0.
+fn sweep_text(alloc: Global, bytes: &[u8]) -> Result<Vec<u8>, Refusal> {
+    let schedule = Schedule::parse(alloc, bytes)?;
+    let lines = rr_sweep::sweep(alloc, schedule.nodes().count(), &schedule, 0)?;
+    let mut text = Vec::new(alloc);
+    push_sweep_lines(&mut text, lines.as_slice())?;
+    Ok(text)
+}
+
+fn print_restarts(rt: &HostRuntime, path: &str, bytes: &[u8]) -> io::Result<()> {
+    match sweep_text(rt.alloc(), bytes) {
+        Ok(text) => {
+            println!(rt; "{path} swept")?;
+            rt.stdout().write_all(&text)
+        }
+        Err(refusal) => println!(rt; "{path} {refusal}"),
+    }
+}
+
 fn audit(rt: &HostRuntime, path: &str, bytes: &[u8]) -> io::Result<()> {
     println!(rt; "{path} audited")?;
     match audit_on(rt.alloc(), bytes) {
@@ -100,6 +122,7 @@ fn main(rt: HostRuntime) -> io::Result<()> {
             "run" => task = Task::Run,
             "areas" => task = Task::Areas,
             "sweep" => task = Task::Sweep,
+            "restarts" => task = Task::Restarts,
             "audit" => task = Task::Audit,
             "full-list" => full_list::full_list(&rt)?,
             path => {
@@ -109,6 +132,7 @@ fn main(rt: HostRuntime) -> io::Result<()> {
                     Task::Run => run(&rt, path, &bytes)?,
                     Task::Areas => print_areas(&rt, path, &bytes)?,
                     Task::Sweep => sweep::sweep(&rt, path, &bytes)?,
+                    Task::Restarts => print_restarts(&rt, path, &bytes)?,
                     Task::Audit => audit(&rt, path, &bytes)?,
                 }
             }

@@ -1,8 +1,8 @@
 use Rattle.std.proofs.Common.{◌≡◌, ◌∙◌, ℕ, List, Option, option_map, Bor, refl, sym, ap, map, None, Some, inl, inr}
 use Rattle.clap.specs.Words.{Text, kind_of}
 use Rattle.rr_cli.specs.declared.words.Task.TheVariants as read
-use Rattle.rr_cli.specs.Lines.{Simulate, Show, Draw, Audit, Run, task_of, task_in}
-use Rattle.rr_cli.specs.Ends.{opened, unopened, mistaken, by_help, by_version, out_of_memory, by_standard_input, by_file, by_folder, by_numbers, without_numbers, by_tape_in_standard_input, by_tape_in_a_file, without_threads}
+use Rattle.rr_cli.specs.Lines.{Simulate, Show, Draw, Audit, Run, Sweep, task_of, task_in}
+use Rattle.rr_cli.specs.Ends.{opened, unopened, mistaken, by_help, by_version, out_of_memory, by_standard_input, by_file, by_folder, by_numbers, without_numbers, by_tape_in_standard_input, by_tape_in_a_file, by_sweep_of_standard_input, by_sweep_of_a_file, without_seed, without_threads}
 use Rattle.rr_cli.proofs.EndLemmas.{kind_cases}
 use Rattle.rr_cli.proofs.program.execute.Goals as goal
 
@@ -104,3 +104,25 @@ returns-in-Ok-Run-clause-ends g c =
     let w = c.in-Ok-Run in
     let task : task_of (map g.S.AsStr.text c.args.words.now) ≡ Run (text_of w.field-0-0) (text_of w.field-0-1) (text_of w.field-0-2) (text_of w.field-0-3) = sym w.ensures.task ∙ ap task_in w.field-0-is in
     without_threads (text_of w.field-0-0) (text_of w.field-0-1) (text_of w.field-0-2) (text_of w.field-0-3) w.ensures.faults task c.end_without_threads.ensures refl
+
+-- the task that a file and a seed make
+swept_from : (a b x y : Option (Bor (List ℕ))) → a ≡ x → b ≡ y → task_in (read.Sweep a b) ≡ task_in (read.Sweep x y)
+swept_from a b x y p q = rw (p, q) refl
+
+pub returns-in-Ok-Sweep-None-Some-clause-ends : goal.returns-in-Ok-Sweep-None-Some-clause-ends
+returns-in-Ok-Sweep-None-Some-clause-ends g c =
+    let w = c.in-Ok-Sweep-None-Some in
+    let task : task_of (map g.S.AsStr.text c.args.words.now) ≡ Sweep None (Some w.seed.now) = sym w.ensures.task ∙ ap task_in w.field-0-is ∙ swept_from _ _ _ _ w.field-0-0-is w.field-0-1-is in
+    by_sweep_of_standard_input w.seed.now w.ensures.faults task c.sweep_by_word.ensures.ends
+
+pub returns-in-Ok-Sweep-Some-Some-clause-ends : goal.returns-in-Ok-Sweep-Some-Some-clause-ends
+returns-in-Ok-Sweep-Some-Some-clause-ends g c =
+    let w = c.in-Ok-Sweep-Some-Some in
+    let task : task_of (map g.S.AsStr.text c.args.words.now) ≡ Sweep (Some w.path.now) (Some w.seed.now) = sym w.ensures.task ∙ ap task_in w.field-0-is ∙ swept_from _ _ _ _ w.field-0-0-is w.field-0-1-is in
+    by_sweep_of_a_file w.path.now w.seed.now w.ensures.faults task c.sweep_file.ensures.ends
+
+pub returns-in-Ok-Sweep-default-None-clause-ends : goal.returns-in-Ok-Sweep-default-None-clause-ends
+returns-in-Ok-Sweep-default-None-clause-ends g c =
+    let w = c.in-Ok-Sweep-default-None in
+    let task : task_of (map g.S.AsStr.text c.args.words.now) ≡ Sweep (text_of w.field-0-0) None = sym w.ensures.task ∙ ap task_in w.field-0-is ∙ swept_from _ _ _ _ refl w.field-0-1-is in
+    without_seed (text_of w.field-0-0) w.ensures.faults task c.end_without_seed.ensures refl

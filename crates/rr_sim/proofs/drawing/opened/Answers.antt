@@ -2,7 +2,8 @@ use Rattle.std.proofs.Common.{List, arith, drop, refl, subst, sym}
 use Rattle.std.proofs.Math.ListN.{drop_of_length-le}
 use Rattle.rr_text.specs.declared.event.Event.{Event}
 use Rattle.rr_sim.specs.Clusters.{LeadsSpelt}
-use Rattle.rr_sim.proofs.OpenedLaws.{LeadsInMemory, opened_so}
+use Rattle.rr_sim.specs.Random.{LeadsInMemory}
+use Rattle.rr_sim.proofs.OpenedLaws.{opened_so}
 use Rattle.rr_sim.proofs.drawing.opened.Goals as goal
 
 pub returns-clause-ok : goal.returns-clause-ok

@@ -1,0 +1,6 @@
+mod Alone
+mod InCluster
+mod Restarts
+mod Swept
+mod Texts
+mod Whole

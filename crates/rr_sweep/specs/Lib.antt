@@ -1,0 +1,4 @@
+pub mod Endings
+pub mod Openings
+pub mod Sweeps
+pub mod SweepTexts
