@@ -3,4 +3,4 @@ mod InCluster
 mod Restarts
 mod Swept
 mod Texts
-mod Whole
+mod AllEvents
