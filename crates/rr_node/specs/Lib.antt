@@ -1,4 +1,5 @@
 pub mod Runs
 pub mod Seats
+pub mod Stances
 pub mod Views
 pub mod Worlds

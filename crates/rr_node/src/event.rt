@@ -78,3 +78,20 @@ pub enum Outcome {
     /// An opening ended: the number of the next fact, the length of the decided prefix, and its registry.
     Opened(u64, u64, BoundNames),
 }
+
+/// What a node waits for.
+#[derive(Clone, Copy, Debug, PartialEq, Eq)]
+pub enum Stance {
+    /// A restart: it is down.
+    Down,
+    /// A restart: a device call of it has failed.
+    Failed,
+    /// The next device call of its opening.
+    Opening,
+    /// It is up, and no job runs.
+    Resting,
+    /// It is up, and the next device call of a flush or a switch is due.
+    Calling,
+    /// It is up, and a synced group waits for its mark.
+    Flushed,
+}

@@ -7,6 +7,6 @@ mod laws;
 mod node;
 mod serving;
 
-pub use event::{BoundNames, NodeEvent, Outcome};
+pub use event::{BoundNames, NodeEvent, Outcome, Stance};
 pub use laws::laws_of_seats;
 pub use node::Node;

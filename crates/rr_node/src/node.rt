@@ -3,12 +3,13 @@
 ghost use Rattle.std.specs.Prelude.{◌≡◌, ◌≢◌, ◌<◌, IfOk, IfErr};
 ghost use Rattle.rr_node.specs.Runs.{IsSpelt};
 ghost use Rattle.rr_node.specs.Seats.{Stopped, Gives, Fails, AtMostOneCall, crashed};
+ghost use Rattle.rr_node.specs.Stances.{stance_of, synced_of};
 ghost use Rattle.rr_node.specs.Views.{Takes};
 
 use crate::doing::{Doing, fail, go_on};
-use crate::event::{NodeEvent, Outcome};
+use crate::event::{NodeEvent, Outcome, Stance};
 use rr_disk::{FailingDisk, MemDisk};
-use rr_types::{NodeId, Nodes, Refusal};
+use rr_types::{Fact, NodeId, Nodes, Refusal};
 use std::alloc::Global;
 use std::marker::Model;
 use std::mem;
@@ -54,6 +55,30 @@ impl Node {
             nodes,
             node,
             doing: Doing::Stopped(FailingDisk::new(disk)),
+        }
+    }
+
+    /// What the node waits for.
+    pub fn stance(&self) -> Stance
+        ensures { result ≡ stance_of self.now.doing }
+    {
+        match &self.doing {
+            Doing::Stopped(_) => Stance::Down,
+            Doing::Faulted(_) => Stance::Failed,
+            Doing::Opening(_) => Stance::Opening,
+            Doing::Serving(serving) => serving.stance(),
+        }
+    }
+
+    /// The facts of its group that is synced and not marked yet; none where there is no such group.
+    pub fn synced(&self) -> &[Fact]
+        ensures { result.now ≡ synced_of self.now.doing }
+    {
+        match &self.doing {
+            Doing::Stopped(_) => &[],
+            Doing::Faulted(_) => &[],
+            Doing::Opening(_) => &[],
+            Doing::Serving(serving) => serving.synced(),
         }
     }
 

@@ -1,15 +1,17 @@
 //! A node that is up: its core over the areas of its disk, and the job that runs.
 
-ghost use Rattle.std.specs.Prelude.{◌≡◌, ℕ, Ok, Err, Some};
+ghost use Rattle.std.specs.Prelude.{◌≡◌, ℕ, [], Ok, Err, Some};
+ghost use Rattle.std.specs.Option.{option_map_or};
 ghost use Rattle.rr_model.specs.NodeState.{NodeState};
 ghost use Rattle.rr_model.specs.NodeStep.{running_group, group_put_back};
-ghost use Rattle.rr_node.specs.Views.{IsServing, CarriesOn, CarriesFailing, quiet};
+ghost use Rattle.rr_node.specs.Stances.{stance_by, synced_by};
+ghost use Rattle.rr_node.specs.Views.{IsServing, IsFlushOf, CarriesOn, CarriesFailing, flush_of, quiet};
 
 use crate::doing::{Doing, NodeDisk};
-use crate::event::{NodeEvent, Outcome};
+use crate::event::{NodeEvent, Outcome, Stance};
 use rr_core::Core;
 use rr_journal::{Body, BodyOut, BodySafe, GateSet, Job, Journal, SwitchJob, Switching, Synced};
-use rr_types::{Group, Refusal};
+use rr_types::{Fact, Group, Refusal};
 use std::alloc::Global;
 
 /// The job that runs: none, the flush of a group in one of its states, a synced group that isn't marked yet, or a
@@ -25,6 +27,21 @@ pub enum Flush {
 }
 
 impl Flush {
+    /// What its node waits for.
+    fn stance(&self) -> Stance
+        ensures { result ≡ stance_by (flush_of self.now) }
+    {
+        match self {
+            Flush::Resting => Stance::Resting,
+            Flush::Body(_) => Stance::Calling,
+            Flush::BodyOut(_) => Stance::Calling,
+            Flush::BodySafe(_) => Stance::Calling,
+            Flush::GateSet(_) => Stance::Calling,
+            Flush::Flushed(_) => Stance::Flushed,
+            Flush::Switching(_) => Stance::Calling,
+        }
+    }
+
     /// What is left of a job is given up with its node.
     fn abandon(self) {
         match self {
@@ -63,6 +80,24 @@ impl Serving {
         ensures { result.now ≡ self.now.slots.disk }
     {
         self.slots.disk()
+    }
+
+    /// What the node waits for.
+    pub fn stance(&self) -> Stance
+        ensures { result ≡ stance_by (flush_of self.now.flush) }
+    {
+        self.flush.stance()
+    }
+
+    /// The facts of a group that is synced and not marked yet.
+    pub fn synced(&self) -> &[Fact]
+        requires { IsFlushOf self.now.core self.now.slots self.now.flush }
+        ensures { result.now ≡ synced_by (option_map_or (λ facts. facts) self.now.core.running []) (flush_of self.now.flush) }
+    {
+        match &self.flush {
+            Flush::Flushed(synced) => synced.group().facts(),
+            _ => &[],
+        }
     }
 
     /// The disk; a job that runs is given up.

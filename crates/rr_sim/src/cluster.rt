@@ -173,6 +173,14 @@ impl Cluster {
         seats
     }
 
+    /// The nodes by their numbers.
+    pub fn nodes(&self) -> &[Node]
+        ensures { result.now ≡ self.now.seats }
+    {
+        let seats = &self.seats;
+        seats
+    }
+
     /// All messages ever sent.
     pub fn wire(&self) -> &[Message]
         ensures { result.now ≡ self.now.wire }

@@ -77,7 +77,8 @@ pub fn first_fault(nodes: Nodes, events: &[Event]) -> Option<u64>
     None
 }
 
-fn node_of(event: &Event) -> NodeId
+/// The node at which an event is.
+pub fn node_of(event: &Event) -> NodeId
     ensures { result ≡ node_of event.now }
 {
     match event {

@@ -1,0 +1,35 @@
+-- What a node waits for, and which group of it is synced.
+use Rattle.std.specs.Prelude.{List, []}
+use Rattle.std.specs.Option.{option_map_or}
+use Rattle.rr_types.specs.declared.fact.Fact.{Fact}
+use Rattle.rr_node.specs.declared.event.Stance.{Stance}
+use Rattle.rr_node.specs.declared.event.Stance.TheVariants as waits
+use Rattle.rr_node.specs.Seats.{Doing, Stopped, Faulted, Opening, Serving, Flush, Resting, Writing, Flushed, Switching}
+
+-- what a node that is up waits for, by its job
+abbrev pub stance_by : Flush → Stance
+stance_by Resting = waits.Resting
+stance_by (Writing calls) = waits.Calling
+stance_by Flushed = waits.Flushed
+stance_by (Switching calls) = waits.Calling
+
+-- what a node waits for
+abbrev pub stance_of : Doing → Stance
+stance_of Stopped = waits.Down
+stance_of Faulted = waits.Failed
+stance_of (Opening phase) = waits.Opening
+stance_of (Serving s journal flush) = stance_by flush
+
+-- the facts of a group that is synced and not marked yet
+abbrev pub synced_by : List Fact → Flush → List Fact
+synced_by running Resting = []
+synced_by running (Writing calls) = []
+synced_by running Flushed = running
+synced_by running (Switching calls) = []
+
+-- the facts of a node's group that is synced and not marked yet
+abbrev pub synced_of : Doing → List Fact
+synced_of Stopped = []
+synced_of Faulted = []
+synced_of (Opening phase) = []
+synced_of (Serving s journal flush) = synced_by (option_map_or (λ facts. facts) s.running []) flush
