@@ -1,0 +1,64 @@
+//! Which events of a run a picture shows.
+
+ghost use Rattle.std.specs.Prelude.{◌≡◌, ◌==◌, true, false, IsSome};
+ghost use Rattle.std.specs.Option.{option_map_or};
+ghost use Rattle.rr_draw.specs.Pictures.{shows};
+
+use rr_sim::node_of;
+use rr_text::Event;
+use rr_types::{Body, Instance, Message, NodeId};
+
+/// Which events a picture shows: those on the lines `from` to `to` of the schedule, of one node or of all. Of an
+/// instance it shows those alone that send or hear a message which speaks of it.
+#[derive(Clone, Copy, Debug)]
+pub struct Cut {
+    pub from: u64,
+    pub to: u64,
+    pub node: Option<NodeId>,
+    pub instance: Option<Instance>,
+}
+
+impl Cut {
+    /// Whether the event of a line lies within the lines and the node.
+    pub(crate) fn shows(&self, line: u64, event: &Event) -> bool
+        ensures { result ≡ shows self.now line event.now }
+    {
+        self.from <= line && line <= self.to && self.has_node(node_of(event))
+    }
+
+    fn has_node(&self, node: NodeId) -> bool
+        ensures { result ≡ option_map_or (λ p. p == node) self.now.node true }
+    {
+        match self.node {
+            Some(one) => one == node,
+            None => true,
+        }
+    }
+
+    /// Whether a message that is sent or heard speaks of the instance, where one is given.
+    pub(crate) fn speaks(&self, message: Option<&Message>) -> bool
+        ensures { result ≡ false → IsSome self.now.instance }
+    {
+        match (self.instance, message) {
+            (None, _) => true,
+            (Some(instance), Some(message)) => match instance_of(&message.body) {
+                Some(spoken) => spoken.number() == instance.number(),
+                None => false,
+            },
+            (Some(_), None) => false,
+        }
+    }
+}
+
+/// The instance that a message speaks of.
+fn instance_of(body: &Body) -> Option<Instance> {
+    match body {
+        Body::Estimate(instance, _)
+        | Body::Proposal(instance, _, _)
+        | Body::Ack(instance, _)
+        | Body::Decision(instance, _)
+        | Body::Nack(instance, _)
+        | Body::Ask(instance) => Some(*instance),
+        Body::Request(_) | Body::Beat | Body::Suspects(_) => None,
+    }
+}

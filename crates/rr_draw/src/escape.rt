@@ -1,0 +1,33 @@
+//! Text within SVG.
+
+ghost use Rattle.std.specs.Prelude.{◌≡◌, ◌++◌, OnOk, IfErr};
+ghost use Rattle.std.specs.List.{flat_map};
+ghost use Rattle.rr_draw.specs.Pictures.{escaped};
+
+use rr_text::text_word::{push_byte, push_bytes};
+use rr_types::Refusal;
+
+/// Appends a byte of a text. Those that SVG reads as its own are spelt by name.
+fn push_escaped_byte(out: &mut Vec<u8>, byte: u8) -> Result<(), Refusal>
+    ensures ok { OnOk result (out.new.items ≡ out.old.items ++ escaped byte) }
+    ensures err { IfErr result (λ e. e ≡ Refusal.OutOfMemory) }
+{
+    match byte {
+        b'&' => push_bytes(out, b"&amp;"),
+        b'<' => push_bytes(out, b"&lt;"),
+        b'>' => push_bytes(out, b"&gt;"),
+        b'"' => push_bytes(out, b"&quot;"),
+        _ => push_byte(out, byte),
+    }
+}
+
+/// Appends a text, whose bytes SVG shows as they are.
+pub(crate) fn push_escaped(out: &mut Vec<u8>, text: &[u8]) -> Result<(), Refusal>
+    ensures ok { OnOk result (out.new.items ≡ out.old.items ++ flat_map escaped text.now) }
+    ensures err { IfErr result (λ e. e ≡ Refusal.OutOfMemory) }
+{
+    for byte in text {
+        push_escaped_byte(out, *byte)?;
+    }
+    Ok(())
+}

@@ -1,0 +1,55 @@
+//! The lines of nodes.
+
+use rr_types::Nodes;
+use std::alloc::{AllocError, Global};
+
+/// Between the lines of two nodes.
+const APART: u64 = 190;
+/// Before the first line: the room for what clients ask.
+const BEFORE: u64 = 130;
+/// Behind the last line: the room for what clients are told.
+const BEHIND: u64 = 170;
+
+/// What a node does with its disk: a flush or a switch, since where.
+#[derive(Clone, Copy, Debug)]
+pub(crate) struct Job {
+    pub(crate) since: u64,
+    pub(crate) is_switch: bool,
+}
+
+/// The line of a node, as far as it is drawn.
+#[derive(Debug, Drop)]
+pub(crate) struct Lane {
+    /// How far from the left it stands.
+    pub(crate) x: u64,
+    /// Since where the node is up, or opens.
+    pub(crate) since: Option<u64>,
+    /// Whether it is up.
+    pub(crate) is_up: bool,
+    pub(crate) job: Option<Job>,
+    /// The instances that its synced group decides.
+    pub(crate) decides: Vec<u32>,
+    /// Where its next label may stand, on the left and on the right.
+    pub(crate) label: [u64; 2],
+}
+
+/// The lines of so many nodes.
+pub(crate) fn lanes_of(alloc: Global, nodes: Nodes) -> Result<Vec<Lane>, AllocError> {
+    let mut lanes = Vec::new(alloc);
+    for index in 0..nodes.count() {
+        lanes.push(Lane {
+            x: BEFORE + u64::from(index) * APART,
+            since: None,
+            is_up: false,
+            job: None,
+            decides: Vec::new(alloc),
+            label: [0, 0],
+        })?;
+    }
+    Ok(lanes)
+}
+
+/// How wide a picture of so many nodes is.
+pub(crate) fn width_of(nodes: Nodes) -> u64 {
+    BEFORE + u64::from(nodes.count() - 1) * APART + BEHIND
+}

@@ -1,0 +1,13 @@
+//! A space-time diagram of a schedule's run, as an SVG text. Time goes down, and each node has a line.
+#![tactic(auto)]
+
+mod cut;
+mod drawing;
+mod escape;
+mod glyphs;
+mod lane;
+mod picture;
+mod style;
+
+pub use cut::Cut;
+pub use picture::picture_of;

@@ -1,0 +1,183 @@
+//! The picture of a run, from the text of its schedule.
+
+ghost use Rattle.std.specs.Prelude.{◌≡◌, ◌≤◌, ◌++◌, [], true, None, OnOk, IfOk, IfErr};
+ghost use Rattle.rr_text.specs.Lines.{nodes_line, IsStop, IsFault};
+ghost use Rattle.rr_text.specs.Scheduled.{IsEvent};
+ghost use Rattle.rr_text.specs.ScheduleTexts.{event_line};
+ghost use Rattle.rr_draw.specs.Pictures.{element, title_of, Adds, ShowsAll, IsPictureOf};
+
+use crate::cut::Cut;
+use crate::drawing::{Art, Drawing};
+use crate::escape::push_escaped;
+use rr_sim::{Cluster, decided_list};
+use rr_text::Event;
+use rr_text::text_parse::{first_line, next_event};
+use rr_text::text_report::push_decided_list;
+use rr_text::text_schedule::push_event_line;
+use rr_text::text_word::{push_bytes, push_number};
+use rr_types::{Message, Nodes, Refusal};
+use std::alloc::Global;
+use std::io;
+
+/// A text that is written fails where memory is wanting, and for nothing else.
+fn written<T: Drop>(text: io::Result<T>) -> Result<T, Refusal>
+    ensures err { IfErr result (λ e. e ≡ Refusal.OutOfMemory) }
+{
+    match text {
+        Ok(text) => Ok(text),
+        Err(_) => Err(Refusal::OutOfMemory),
+    }
+}
+
+/// The message that an event has sent or hears.
+fn message_of<'a>(event: &Event, told: &[u8], wire: &'a [Message]) -> Option<&'a Message> {
+    match event {
+        Event::Send { .. } => {
+            if told.starts_with(b"send") {
+                wire.last()
+            } else {
+                None
+            }
+        }
+        Event::Hear { message, .. } => wire.get(*message as usize),
+        _ => None,
+    }
+}
+
+/// Appends an element with a title.
+fn push_element(out: &mut Vec<u8>, title: &[u8], art: &Art) -> Result<(), Refusal>
+    ensures ok { OnOk result (out.new.items ≡ out.old.items ++ element title.now art.now.more.items art.now.shapes.items) }
+    ensures err { IfErr result (λ e. e ≡ Refusal.OutOfMemory) }
+{
+    push_bytes(out, b"<g><title>")?;
+    push_escaped(out, title)?;
+    push_bytes(out, art.more.as_slice())?;
+    push_bytes(out, b"</title>")?;
+    push_bytes(out, art.shapes.as_slice())?;
+    push_bytes(out, b"</g>\n")
+}
+
+/// What the title of the event of a line begins with.
+fn title_of(alloc: Global, line: u64, event: &Event, told: &[u8]) -> Result<Vec<u8>, Refusal>
+    ensures ok { IfOk result (λ title. title.items ≡ title_of line (record { event = event.now; told = told.now })) }
+    ensures err { IfErr result (λ e. e ≡ Refusal.OutOfMemory) }
+{
+    let mut title = Vec::new(alloc);
+    push_bytes(&mut title, b"line ")?;
+    push_number(&mut title, line)?;
+    push_bytes(&mut title, b": ")?;
+    push_event_line(&mut title, event)?;
+    push_bytes(&mut title, told)?;
+    Ok(title)
+}
+
+/// Draws the event of a line, which has told these lines, where the cut shows it. The cluster is behind it.
+fn draw_event(
+    alloc: Global,
+    cut: &Cut,
+    line: u64,
+    event: &Event,
+    told: &[u8],
+    cluster: &Cluster,
+    drawing: &mut Drawing,
+    elements: &mut Vec<u8>,
+) -> Result<(), Refusal>
+    ensures ok { OnOk result (Adds cut.now line (record { event = event.now; told = told.now }) elements.old.items elements.new.items) }
+    ensures err { IfErr result (λ e. e ≡ Refusal.OutOfMemory) }
+{
+    let speaks = cut.speaks(message_of(event, told, cluster.wire()));
+    let is_shown = cut.shows(line, event);
+    let art = written(drawing.draw(line, event, told, cluster, is_shown && speaks))?;
+    if !is_shown {
+        return Ok(());
+    }
+    if !speaks {
+        return Ok(());
+    }
+    let title = title_of(alloc, line, event, told)?;
+    push_element(elements, title.as_slice(), &art)?;
+    Ok(())
+}
+
+/// Makes the events of the lines, appends what the report has of them, and draws them.
+fn draw_events(
+    alloc: Global,
+    nodes: Nodes,
+    bytes: &[u8],
+    cut: &Cut,
+    cluster: &mut Cluster,
+    drawing: &mut Drawing,
+    report: &mut Vec<u8>,
+) -> Result<Vec<u8>, Refusal>
+    requires { cluster.old.lines ≡ [] }
+    ensures ok { IfOk result (λ elements. ShowsAll nodes bytes.now cut.now cluster.old cluster.new report.old.items report.new.items elements.items) }
+    ensures err { IfErr result (λ e. IsStop (IsEvent nodes) event_line bytes.now e) }
+{
+    let mut elements = Vec::new(alloc);
+    let mut line = 2u64;
+    let mut rest = bytes;
+    while let Some((event, behind)) = next_event(alloc, nodes, rest, line)? {
+        cluster.step(alloc, line, &event)?;
+        let mut told = Vec::new(alloc);
+        cluster.tell(&mut told)?;
+        push_bytes(report, told.as_slice())?;
+        draw_event(
+            alloc,
+            cut,
+            line,
+            &event,
+            told.as_slice(),
+            cluster,
+            drawing,
+            &mut elements,
+        )?;
+        rest = behind;
+        line += 1;
+    }
+    Ok(elements)
+}
+
+/// The picture of the run of a schedule on so many nodes, of whose lines behind the first the bytes are.
+fn picture_behind(alloc: Global, nodes: Nodes, bytes: &[u8], cut: &Cut) -> Result<Vec<u8>, Refusal>
+    requires some { 1 ≤ nodes }
+    requires few { nodes ≤ 7 }
+    ensures ok { IfOk result (λ text. IsPictureOf cut.now (nodes_line nodes ++ bytes.now) text.items) }
+    ensures err { IfErr result (λ e. IsStop (IsEvent nodes) event_line bytes.now e) }
+{
+    let mut cluster = Cluster::new(alloc, nodes)?;
+    let mut drawing = written(Drawing::new(alloc, nodes))?;
+    let mut report = Vec::new(alloc);
+    let elements = draw_events(
+        alloc,
+        nodes,
+        bytes,
+        cut,
+        &mut cluster,
+        &mut drawing,
+        &mut report,
+    )?;
+    let decided = decided_list(alloc, nodes, cluster.wire())?;
+    push_decided_list(&mut report, decided.as_slice())?;
+    let mut picture = written(drawing.front())?;
+    push_bytes(&mut picture, elements.as_slice())?;
+    let back = written(drawing.back(cluster.wire()))?;
+    push_bytes(&mut picture, back.as_slice())?;
+    Ok(picture)
+}
+
+/// The picture of the run of the schedule whose text the bytes are, of what a cut shows of it.
+///
+/// # Errors
+/// `BadNodes` and `BadEvent` for bytes that are no schedule, as of `Schedule::parse`; `OutOfMemory`.
+pub fn picture_of(alloc: Global, bytes: &[u8], cut: &Cut) -> Result<Vec<u8>, Refusal>
+    ensures ok { IfOk result (λ text. IsPictureOf cut.now bytes.now text.items) }
+    ensures fault { IfErr result (λ e. IsFault IsEvent event_line bytes.now e) }
+{
+    match first_line(bytes) {
+        Err(refusal) => Err(refusal),
+        Ok((nodes, rest)) => {
+            let _count = nodes.count();
+            picture_behind(alloc, nodes, rest, cut)
+        }
+    }
+}
