@@ -9,11 +9,11 @@ import re
 import subprocess
 
 import areas
-from harness import DATA, NO_MEMORY, TREE, Tally, compare, events_of, schedules, tell
+from harness import DATA, NO_MEMORY, TREE, Ending, Tally, compare, events_of, schedules, tell
 
 ALL = "1000000000"
-# Commands that nothing but a starved run of their own can alter: the words, and where the file stands that they name.
-COMMANDS = {"sweep": (["--seed", "1"], TREE / "examples/one_command.schedule")}
+SWEPT = TREE / "examples/one_command.schedule"
+SEED = "1"
 DRAWS = ((1, 0, 2), (1, 40, 1), (2, 120, 2), (3, 200, 3), (1, 300, 7))
 SHORT = ("one_command", "snapshot", "second_snapshot_crashes", "failed_write_of_a_body", "heartbeats", "no_events")
 
@@ -24,7 +24,7 @@ def tasks(options):
     folders = areas.SHORT if options.short else areas.FOLDERS
     draws = DRAWS[:2] if options.short else DRAWS
     tapes = [path.stem for path in sorted(DATA.glob("*.tape"))]
-    others = [("command", verb) for verb in COMMANDS if has_command(options, verb)]
+    others = [("sweep", "")] if has_command(options, "sweep") else []
     runs += [("show", name) for name in folders] + [("broken", ""), ("missing", "")]
     return runs + [("draw", it) for it in draws] + [("audit", name) for name in (tapes[:1] if options.short else tapes)] + others
 
@@ -45,13 +45,19 @@ def work(rig, options, task):
     elif kind == "audit":
         text = (DATA / f"{what}.tape").read_bytes()
         refuse_each(rig, options, tally, f"audit {what}", ["audit", rig.write("tape", text)], rig.plain.audit(text), {})
-    elif kind == "command":
-        more, path = COMMANDS[what]
-        words = [what, rig.write("text", path.read_bytes()), *more]
-        refuse_each(rig, options, tally, f"{what} {path.name}", words, rig.run(*words), {})
+    elif kind == "sweep":
+        text = SWEPT.read_bytes()
+        words = ["sweep", rig.write("text", text), "--seed", SEED]
+        refuse_each(rig, options, tally, f"sweep {SWEPT.name}", words, swept(options, text), {})
     else:
         of_folder(rig, options, tally, kind, what)
     return tally
+
+
+def swept(options, text):
+    """The sweep of a schedule by plain Rust."""
+    ran = subprocess.run([options.plain, "sweep", SEED], input=text, stdout=subprocess.PIPE, check=True)
+    return Ending(0, ran.stdout, b"")
 
 
 def of_schedule(rig, options, tally, name):
