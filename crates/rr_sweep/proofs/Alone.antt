@@ -1,5 +1,5 @@
 -- A node that a crash has left opens its disk within nine device calls, and is refused for want of memory alone.
-use Rattle.std.proofs.Common.{◌≡◌, ◌⊎◌, inl, inr, ℕ, zero, suc, ◌+◌, ◌-◌, ◌^◌, ◌<◌, ◌≤◌, Bool, true, false, List, [], ◌∷◌, ◌++◌, length, take, Result, Ok, Err, refl, sym, ◌∙◌, ap, subst, arith, if◌then◌else◌}
+use Rattle.std.proofs.Common.{◌≡◌, ◌⊎◌, inl, inr, ℕ, zero, suc, ◌+◌, ◌-◌, ◌^◌, ◌<◌, ◌≤◌, Bool, true, false, List, [], ◌∷◌, ◌++◌, length, take, Option, None, Some, MatchOption, Result, Ok, Err, refl, sym, ◌∙◌, ap, subst, arith, if◌then◌else◌}
 use Rattle.rr_types.specs.declared.fact.Fact.{Fact}
 use Rattle.rr_types.specs.declared.refusal.Refusal.{Refusal}
 use Rattle.rr_types.specs.declared.refusal.Refusal.TheVariants as because
@@ -10,15 +10,15 @@ use Rattle.rr_disk.specs.Areas.{Areas, extent_of, read_of}
 use Rattle.rr_frame.specs.SnapshotFormat.{snapshot_bytes}
 use Rattle.rr_image.specs.Image.{Content, Found, Unformatted, Broken, Active, found}
 use Rattle.rr_image.specs.Held.{StandsFor}
-use Rattle.rr_journal.specs.Calls.{Call, must_close, rewrite_calls, format_calls}
+use Rattle.rr_journal.specs.Calls.{Call, after_call, must_close, rewrite_calls, format_calls}
 use Rattle.rr_journal.specs.Openings as phase
-use Rattle.rr_journal.specs.Openings.{after_found}
+use Rattle.rr_journal.specs.Openings.{after_found, due_call}
 use Rattle.rr_journal.proofs.OpeningLaws.{read_at_rest}
 use Rattle.rr_node.specs.declared.event.NodeEvent.TheVariants.{Device, Restart}
 use Rattle.rr_node.specs.declared.event.Outcome.{Outcome}
 use Rattle.rr_node.specs.declared.event.Outcome.TheVariants.{Quiet, Left, Replied, Opened}
 use Rattle.rr_node.specs.Runs.{IsSpelt}
-use Rattle.rr_node.specs.Seats.{Seat, Doing, Stopped, Faulted, Opening, Serving, Resting, Answer, Gives, opens_on, by_doing, seat_step, starve, starve_doing}
+use Rattle.rr_node.specs.Seats.{Seat, Doing, Stopped, Faulted, Opening, Serving, Resting, Answer, Gives, opens_on, by_doing, called, seat_step, starve, starve_doing}
 use Rattle.rr_node.specs.Worlds.{InStep}
 use Rattle.rr_node.proofs.Falling.{seated}
 use Rattle.rr_node.proofs.Stepping.{steps_in_step}
@@ -81,7 +81,7 @@ module _ (n p : ℕ) (w : World) (m q k : ℕ) (areas : Areas) where
   comes_by left Faulted h some = absurd some
   comes_by left (Opening phase.Settling) h some = goes _ refl (omega (arith, some))
   comes_by left (Opening phase.ReadingFirst) h some = goes _ refl (omega (arith, some))
-  comes_by left (Opening (phase.ReadingSecond first)) h some = finds left first h some _ (found m q first (read_of 0 (2 ^ 64 - 1) (extent_of areas Second))) refl
+  comes_by left (Opening (phase.ReadingSecond first)) h some = finds left first h some (called (after_call (due_call (phase.ReadingSecond first)) areas) (seated m q k areas (Opening (phase.ReadingSecond first)))) (found m q first (read_of 0 (2 ^ 64 - 1) (extent_of areas Second))) refl
   comes_by left (Opening (phase.Formatting [])) h some = absurd (omega (arith, some.0))
   comes_by left (Opening (phase.Formatting (call ∷ []))) h some = ends _ _ _ _ refl (record { state = _; journal = _; is = refl })
   comes_by left (Opening (phase.Formatting (call ∷ next ∷ calls))) h some = goes _ refl (omega arith, omega (arith, some.1))
@@ -139,6 +139,32 @@ call_made n p left seat next outcome o gives spelt = record { step = is; how = b
     by (ends facts decided names after given rest) =
         let here : after ≡ next = sym (seat_behind _ _ given) ∙ seat_behind _ _ is in
         inr (facts, decided, names, same_outcome outcome (Opened facts decided names) (seat_step Device seat).0 (answered _ _ is) (answered _ _ given), subst (λ (s : Seat). HasOpened s.doing) here rest)
+
+-- which an ending that is told of, or that is not, says
+pub ended_is : (n p left : ℕ) (seat next : Seat) (outcome : Outcome) (ended : Option (ℕ × ℕ × Bindings)) → CallMade n p left seat outcome next
+    → MatchOption ended ((facts decided : ℕ) (names : Bindings) → outcome ≡ Opened facts decided names → ⊥) (λ x. outcome ≡ Opened x.0 x.1 x.2)
+    → MatchOption ended ((seat_step Device seat ≡ (Ok Quiet, next)) × IsOpening n p left next) (λ x. (seat_step Device seat ≡ (Ok (Opened x.0 x.1 x.2), next)) × HasOpened next.doing)
+ended_is n p left seat next outcome None made none = by made.how
+  where
+    by : ((outcome ≡ Quiet) × IsOpening n p left next) ⊎ ((facts : ℕ) × (decided : ℕ) × (names : Bindings) × (outcome ≡ Opened facts decided names) × HasOpened next.doing) → (seat_step Device seat ≡ (Ok Quiet, next)) × IsOpening n p left next
+    by (inl (quiet, more)) = (made.step ∙ ap (λ (o : Outcome). (Ok o, next)) quiet, more)
+    by (inr (facts, decided, names, is, opened)) = absurd (none facts decided names is)
+ended_is n p left seat next outcome (Some x) made some = by made.how
+  where
+    quiet_opens : outcome ≡ Quiet → outcome ≡ Opened x.0 x.1 x.2 → ⊥
+    quiet_opens one other = cc
+
+    by : ((outcome ≡ Quiet) × IsOpening n p left next) ⊎ ((facts : ℕ) × (decided : ℕ) × (names : Bindings) × (outcome ≡ Opened facts decided names) × HasOpened next.doing) → (seat_step Device seat ≡ (Ok (Opened x.0 x.1 x.2), next)) × HasOpened next.doing
+    by (inl (quiet, more)) = absurd (quiet_opens quiet some)
+    by (inr (facts, decided, names, is, opened)) = (made.step ∙ ap (λ (o : Outcome). (Ok o, next)) some, opened)
+
+-- what stands of an answer that is there, and of one that isn't
+pub where_some : {X : Type 0} (A : Type 0) (B : X → Type 0) (o : Option X) (x : X) → o ≡ Some x → MatchOption o A B → B x
+where_some A B o x is holds = subst (λ (o : Option _). MatchOption o A B) is holds
+
+pub where_none : {X : Type 0} (A : Type 0) (B : X → Type 0) (o : Option X) → ((x : X) → o ≡ Some x → ⊥) → MatchOption o A B → A
+where_none A B None not holds = holds
+where_none A B (Some x) not holds = absurd (not x refl)
 
 -- none is left of no opening
 pub some_are_left : (n p : ℕ) (seat : Seat) → IsOpening n p 0 seat → ⊥
@@ -203,14 +229,16 @@ open_is_left seat now k o below = (o.n, o.p, o.left - 1, subst (λ j. IsOpening 
 pub open_goes_on : (seat now next : Seat) (k : ℕ) → OpeningSoFar seat k now → k < 9
     → ((n p left : ℕ) → IsOpening n p (left + 1) now → (seat_step Device now ≡ (Ok Quiet, next)) × IsOpening n p left next) → IsSpelt next.doing → OpeningSoFar seat (k + 1) next
 open_goes_on seat now next k o below made spelt =
-    let some = open_is_left seat now k o below in
-    let on = made some.0 some.1 some.2 some.3 in
+    let left : ℕ = o.left - 1 in
+    let some : o.left ≡ left + 1 = (let all = o.all in omega (arith, below, all)) in
+    let goes : IsOpening o.n o.p (left + 1) now = subst (λ j. IsOpening o.n o.p j now) some o.goes in
+    let on = made o.n o.p left goes in
     record {
-      made = subst (λ j. MakesCalls j (record seat { doing = Opening phase.Settling }) next) (omega arith) (calls_more k (record seat { doing = Opening phase.Settling }) now next o.made on.0 spelt);
-      n = some.0;
-      p = some.1;
-      left = some.2;
-      all = (let all = o.all in omega (arith, below, all));
+      made = (let one : suc k ≡ k + 1 = omega arith in subst (λ j. MakesCalls j (record seat { doing = Opening phase.Settling }) next) one (calls_more k (record seat { doing = Opening phase.Settling }) now next o.made on.0 spelt));
+      n = o.n;
+      p = o.p;
+      left = left;
+      all = (let all = o.all in omega (arith, some, all));
       goes = on.1;
     }
 

@@ -24,18 +24,18 @@ use Rattle.rr_sweep.specs.Openings.{MakesCalls, Opens}
 -- ---- lists
 
 set_twice : {X : Type 0} (xs : List X) (p : ℕ) (x y : X) → slice_set (slice_set xs p x) p y ≡ slice_set xs p y
-set_twice [] p x y = refl
-set_twice (z ∷ xs) zero x y = refl
-set_twice (z ∷ xs) (suc p) x y = ap (λ (ys : List X). z ∷ ys) (set_twice xs p x y)
+set_twice {X = X} [] p x y = refl
+set_twice {X = X} (z ∷ xs) zero x y = refl
+set_twice {X = X} (z ∷ xs) (suc p) x y = ap (λ (ys : List X). z ∷ ys) (set_twice xs p x y)
 
 set_same : {X : Type 0} (xs : List X) (p : ℕ) (x : X) → slice_get xs p ≡ Some x → slice_set xs p x ≡ xs
-set_same [] p x e = refl
-set_same (z ∷ xs) zero x e = let same : z ≡ x = (let both : Some z ≡ Some x = e in cc) in ap (λ (y : X). y ∷ xs) (sym same)
-set_same (z ∷ xs) (suc p) x e = ap (λ (ys : List X). z ∷ ys) (set_same xs p x e)
+set_same {X = X} [] p x e = refl
+set_same {X = X} (z ∷ xs) zero x e = let same : z ≡ x = (let both : Some z ≡ Some x = e in cc) in ap (λ (y : X). y ∷ xs) (sym same)
+set_same {X = X} (z ∷ xs) (suc p) x e = ap (λ (ys : List X). z ∷ ys) (set_same xs p x e)
 
 replicate_parts : {X : Type 0} (k m : ℕ) (x : X) → replicate (k + suc m) x ≡ replicate k x ++ x ∷ replicate m x
-replicate_parts zero m x = let e : 0 + suc m ≡ suc m = omega arith in ap (λ j. replicate j x) e
-replicate_parts (suc k) m x = let e : suc k + suc m ≡ suc (k + suc m) = omega arith in ap (λ j. replicate j x) e ∙ ap (λ (ys : List X). x ∷ ys) (replicate_parts k m x)
+replicate_parts {X = X} zero m x = let e : 0 + suc m ≡ suc m = omega arith in ap (λ j. replicate j x) e
+replicate_parts {X = X} (suc k) m x = let e : suc k + suc m ≡ suc (k + suc m) = omega arith in ap (λ j. replicate j x) e ∙ ap (λ (ys : List X). x ∷ ys) (replicate_parts k m x)
 
 -- ---- a run of events
 

@@ -1,4 +1,5 @@
 mod Alone
+mod Five
 mod InCluster
 mod Restarts
 mod Swept

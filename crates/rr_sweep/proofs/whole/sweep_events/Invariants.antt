@@ -6,4 +6,4 @@ use Rattle.rr_sweep.proofs.whole.sweep_events.Given as goal
 
 -- the events so far are swept
 abbrev pub invariant-loop-event : goal.invariant-loop-event
-invariant-loop-event l = (l.line ≡ l.event-index + 2) × ((m : ℕ) → AllByRecursion (IsEvent m) l.events → HasSwept l.nodes m l.seed (take l.event-index l.events) l.lines.items l.sweeping)
+invariant-loop-event l = (l.line ≡ l.event-index + 2) × ((m : ℕ) → AllByRecursion (IsEvent m) l.events → HasSwept l.fn.nodes m l.seed (take l.event-index l.events) l.lines.items l.sweeping)
