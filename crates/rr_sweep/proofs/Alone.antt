@@ -1,6 +1,5 @@
 -- A node that a crash has left opens its disk within nine device calls, and is refused for want of memory alone.
-use Rattle.std.proofs.Common.{◌≡◌, ◌⊎◌, inl, inr, ℕ, zero, suc, ◌+◌, ◌-◌, ◌^◌, ◌<◌, ◌≤◌, Bool, true, false, List, [], ◌∷◌, ◌++◌, length, take, Option, None, Some, MatchOption, Result, Ok, Err, refl, sym, ◌∙◌, ap, subst, arith, if◌then◌else◌}
-use Rattle.rr_types.specs.declared.fact.Fact.{Fact}
+use Rattle.std.proofs.Common.{◌≡◌, ◌⊎◌, inl, inr, ℕ, zero, suc, ◌+◌, ◌-◌, ◌^◌, ◌<◌, ◌≤◌, Bool, true, false, List, [], ◌∷◌, ◌++◌, length, take, Option, None, Some, MatchOption, Result, Ok, Err, refl, sym, ◌∙◌, ap, subst, arith}
 use Rattle.rr_types.specs.declared.refusal.Refusal.{Refusal}
 use Rattle.rr_types.specs.declared.refusal.Refusal.TheVariants as because
 use Rattle.rr_types.specs.Registry.{Bindings}
@@ -8,17 +7,17 @@ use Rattle.rr_model.specs.World.{World}
 use Rattle.rr_disk.specs.declared.area.Area.TheVariants.{First, Second}
 use Rattle.rr_disk.specs.Areas.{Areas, extent_of, read_of}
 use Rattle.rr_frame.specs.SnapshotFormat.{snapshot_bytes}
-use Rattle.rr_image.specs.Image.{Content, Found, Unformatted, Broken, Active, found}
+use Rattle.rr_image.specs.Image.{Found, Unformatted, Broken, Active, found}
 use Rattle.rr_image.specs.Held.{StandsFor}
-use Rattle.rr_journal.specs.Calls.{Call, after_call, must_close, rewrite_calls, format_calls}
+use Rattle.rr_journal.specs.Calls.{after_call, must_close, rewrite_calls}
 use Rattle.rr_journal.specs.Openings as phase
 use Rattle.rr_journal.specs.Openings.{after_found, due_call}
 use Rattle.rr_journal.proofs.OpeningLaws.{read_at_rest}
 use Rattle.rr_node.specs.declared.event.NodeEvent.TheVariants.{Device, Restart}
 use Rattle.rr_node.specs.declared.event.Outcome.{Outcome}
-use Rattle.rr_node.specs.declared.event.Outcome.TheVariants.{Quiet, Left, Replied, Opened}
+use Rattle.rr_node.specs.declared.event.Outcome.TheVariants.{Quiet, Opened}
 use Rattle.rr_node.specs.Runs.{IsSpelt}
-use Rattle.rr_node.specs.Seats.{Seat, Doing, Stopped, Faulted, Opening, Serving, Resting, Answer, Gives, opens_on, by_doing, called, seat_step, starve, starve_doing}
+use Rattle.rr_node.specs.Seats.{Seat, Doing, Stopped, Faulted, Opening, Serving, Answer, Gives, opens_on, by_doing, called, seat_step, starve, starve_doing}
 use Rattle.rr_node.specs.Worlds.{InStep}
 use Rattle.rr_node.proofs.Falling.{seated}
 use Rattle.rr_node.proofs.Stepping.{steps_in_step}

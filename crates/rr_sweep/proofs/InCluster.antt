@@ -1,22 +1,19 @@
 -- What a node does alone after a crash it does in its cluster, and no other node hears of it.
-use Rattle.std.proofs.Common.{◌≡◌, inl, inr, ℕ, zero, suc, ◌+◌, List, [], ◌∷◌, ◌++◌, length, append-nil, replicate, Ok, Option, None, Some, refl, sym, ◌∙◌, ap, subst, arith}
+use Rattle.std.proofs.Common.{◌≡◌, inl, inr, ℕ, zero, suc, ◌+◌, List, [], ◌∷◌, ◌++◌, length, append-nil, replicate, Ok, Option, Some, refl, sym, ◌∙◌, ap, subst, arith}
 use Rattle.std.specs.Prelude.{false, if◌then◌else◌, slice_get, slice_set}
 use Rattle.std.specs.Option.{option_map_or}
 use Rattle.std.proofs.lemmas.List.{length-replicate}
-use Rattle.rr_types.specs.Registry.{Bindings}
 use Rattle.rr_types.specs.declared.message.Message.{Message}
 use Rattle.rr_journal.specs.Openings as phase
 use Rattle.rr_node.specs.declared.event.NodeEvent.{NodeEvent}
 use Rattle.rr_node.specs.declared.event.NodeEvent.TheVariants as event
-use Rattle.rr_node.specs.declared.event.Outcome.{Outcome}
 use Rattle.rr_node.specs.declared.event.Outcome.TheVariants.{Quiet, Opened}
 use Rattle.rr_node.specs.Runs.{IsSpelt}
-use Rattle.rr_node.specs.Seats.{Seat, Doing, Stopped, Opening, Answer, by_doing, seat_step, starve, crashed}
+use Rattle.rr_node.specs.Seats.{Seat, Stopped, Opening, Answer, by_doing, seat_step, starve, crashed}
 use Rattle.rr_text.specs.declared.event.Event.{Event}
 use Rattle.rr_text.specs.declared.event.Event.TheVariants.{Device, Crash, Restart}
 use Rattle.rr_text.specs.declared.report.ReportLine.{ReportLine}
-use Rattle.rr_text.specs.declared.report.ReportLine.TheVariants as line
-use Rattle.rr_sim.specs.Clusters.{Cluster, shown, with_answer, at_node, crash_at, event_step, LeadsSpelt, IsSpeltAt, IsSpeltBehind}
+use Rattle.rr_sim.specs.Clusters.{Cluster, with_answer, at_node, crash_at, event_step, LeadsSpelt, IsSpeltAt, IsSpeltBehind}
 use Rattle.rr_sim.specs.Random.{LeadsInMemory, opening_of}
 use Rattle.rr_sim.proofs.ClusterLaws.{get_here}
 use Rattle.rr_sweep.specs.Openings.{MakesCalls, Opens}

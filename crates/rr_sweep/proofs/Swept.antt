@@ -2,20 +2,19 @@
 use Rattle.std.proofs.Common.{◌≡◌, inl, inr, ℕ, ◌+◌, ◌<◌, ◌≤◌, List, [], ◌∷◌, ◌++◌, length, Some, append-nil, append_assoc, refl, sym, ◌∙◌, ap, subst, arith}
 use Rattle.std.specs.Prelude.{false, true, slice_get}
 use Rattle.std.specs.List.{AllByRecursion}
-use Rattle.rand_pcg.specs.Lcg.{Lcg}
 use Rattle.rr_node.specs.Seats.{Seat}
 use Rattle.rr_text.specs.declared.event.Event.{Event}
 use Rattle.rr_text.specs.declared.event.Event.TheVariants.{Device}
 use Rattle.rr_text.specs.declared.report.ReportLine.{ReportLine}
 use Rattle.rr_text.specs.Scheduled.{IsEvent, node_of}
-use Rattle.rr_sim.specs.Clusters.{Cluster, new_cluster, LeadsSpelt, Steps, IsSpeltBehind}
-use Rattle.rr_sim.specs.Random.{LeadsInMemory, StepsInMemory, seeded, word, behind}
+use Rattle.rr_sim.specs.Clusters.{Cluster, new_cluster, Steps, IsSpeltBehind}
+use Rattle.rr_sim.specs.Random.{StepsInMemory, seeded, word}
 use Rattle.rr_sim.proofs.DrawingLemmas.{each_of_both}
 use Rattle.rr_sim.proofs.ToldLaws.{behind_lines, stepped, whole, spelt_behind, length_push}
 use Rattle.rr_sweep.specs.declared.ending.Ending.{Ending}
 use Rattle.rr_sweep.specs.declared.sweeping.SweepLine.{SweepLine}
 use Rattle.rr_sweep.specs.declared.sweeping.Sweeping.{Sweeping}
-use Rattle.rr_sweep.specs.Endings.{all_endings, crash_and_opening}
+use Rattle.rr_sweep.specs.Endings.{all_endings}
 use Rattle.rr_sweep.specs.Openings.{IsInSome}
 use Rattle.rr_sweep.specs.Sweeps.{AreEndings, AreLinesOf, behind_event, AreSwept, IsSweep, HasSwept, IsNext, AreCrashes, MayCrash, AreCrashesBehind}
 use Rattle.rr_sweep.proofs.InCluster.{Goes, goes_on}

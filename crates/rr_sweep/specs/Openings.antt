@@ -1,5 +1,5 @@
 -- A node that a crash has left, and which opens its disk alone.
-use Rattle.std.specs.Prelude.{◌≡◌, ℕ, zero, suc, ◌+◌, ◌≤◌, List, [], ◌∷◌, length, Ok}
+use Rattle.std.specs.Prelude.{◌≡◌, ℕ, zero, suc, ◌+◌, ◌≤◌, length, Ok}
 use Rattle.rr_types.specs.Registry.{Bindings}
 use Rattle.rr_model.specs.NodeState.{NodeState}
 use Rattle.rr_model.specs.World.{World}

@@ -1,6 +1,6 @@
 use Rattle.std.proofs.Common.{ap}
 use Rattle.rr_text.specs.declared.report.ReportLine.TheVariants as line
-use Rattle.rr_sweep.proofs.Alone.{open_begins, open_goes_on, open_ends, open_ends_in_time, where_some, where_none}
+use Rattle.rr_sweep.proofs.Alone.{open_begins, open_goes_on, open_ends, where_some, where_none}
 use Rattle.rr_sweep.proofs.opening.open.Goals as goal
 
 pub loop-call-init : goal.loop-call-init

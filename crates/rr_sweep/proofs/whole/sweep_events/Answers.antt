@@ -1,8 +1,6 @@
-use Rattle.std.proofs.Common.{refl, ◌≡◌, ◌+◌, ◌∷◌, ◌++◌, [], ℕ, List, length, take, subst, sym, ap, arith}
-use Rattle.std.specs.List.{AllByRecursion}
+use Rattle.std.proofs.Common.{refl, ◌≡◌, ◌∷◌, ◌++◌, [], List, take, subst, sym, arith}
 use Rattle.std.proofs.lemmas.List.{take_all}
 use Rattle.rr_text.specs.declared.event.Event.{Event}
-use Rattle.rr_text.specs.Scheduled.{IsEvent}
 use Rattle.rr_sweep.specs.declared.sweeping.SweepLine.{SweepLine}
 use Rattle.rr_sweep.specs.Sweeps.{HasSwept, IsNext}
 use Rattle.rr_sweep.proofs.AllEvents.{is_next, taken_on}
