@@ -4,7 +4,7 @@ use crate::glyphs::{
     class_of, push_arrow, push_fact_name, push_mark, push_message_name, push_text,
 };
 use crate::lane::{Job, Lane, lanes_of, width_of};
-use crate::style::{LEGEND, STYLE};
+use crate::style::{LEGEND, LEGEND_WIDTH, STYLE};
 use rr_sim::{Cluster, Stance};
 use rr_text::Event;
 use rr_types::{Command, Fact, Message, NodeId, Nodes};
@@ -510,7 +510,7 @@ impl Drawing {
             }
         }
         let mut out = Vec::new(self.alloc);
-        let width = width_of(self.nodes);
+        let width = width_of(self.nodes).max(LEGEND_WIDTH);
         let height = self.y.saturating_add(30);
         write!(
             out,

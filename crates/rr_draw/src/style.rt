@@ -26,6 +26,9 @@ text.q,tspan.q{fill:var(--req);stroke:none}text.o,tspan.o{fill:var(--dim);stroke
 </defs>
 ";
 
+/// How wide the legend is.
+pub(crate) const LEGEND_WIDTH: u64 = 460;
+
 /// What the marks mean.
 pub(crate) const LEGEND: &[u8] =
     b"<text x=\"4\" y=\"10\"><tspan class=\"e\">estimate</tspan>, <tspan class=\"p\">proposal</tspan>, <tspan class=\"a\">ack</tspan>, <tspan class=\"d\">decision</tspan>, <tspan class=\"q\">request</tspan>, <tspan class=\"o\">others</tspan>; dot: not heard; dashed: heard again</text>
