@@ -12,7 +12,7 @@ use Rattle.clap.specs.declared.error.Error.{Error}
 use Rattle.clap.specs.declared.parser.matches.SubCommand.{SubCommand}
 use Rattle.clap.specs.declared.parser.matches.ArgMatches.TheViews.{out-SubCommand}
 use Rattle.clap.proofs.OnLiterals.{clap_on_literals}
-use Rattle.rr_cli.specs.Lines.{Simulate, Show, Draw, Audit, Run, Sweep, file_of, rr_line, task_by}
+use Rattle.rr_cli.specs.Lines.{Simulate, Show, Draw, Audit, Run, Sweep, Picture, file_of, cut_words_of, rr_line, task_by}
 
 pub is_simple_line : is_simple rr_line ≡ true
 unfolding clap_on_literals
@@ -72,24 +72,36 @@ task_swept (Some (text, own)) rows name is =
     let all : own ≡ rows = cc in
     rw (same, all) refl
 
+-- the subcommand draw, with these rows
+pub task_pictured : (found : Option (Text × List Row)) (rows : List Row) → option_map (λ (p : Text × List Row). p.0) found ≡ Some (codes "draw") → option_map (λ (p : Text × List Row). p.1) found ≡ Some rows
+    → Picture (file_of (first_of (codes "FILE") rows)) (cut_words_of rows) ≡ option_map_or task_by found (Simulate None)
+task_pictured None rows name is = absurd cc
+task_pictured (Some (text, own)) rows name is =
+    let same : text ≡ codes "draw" = cc in
+    let all : own ≡ rows = cc in
+    rw (same, all) refl
+
 -- another subcommand, with these rows
 pub task_simulated : (found : Option (Text × List Row)) (rows : List Row) → (option_map (λ (p : Text × List Row). p.0) found ≡ Some (codes "show") → ⊥)
     → (option_map (λ (p : Text × List Row). p.0) found ≡ Some (codes "random") → ⊥) → (option_map (λ (p : Text × List Row). p.0) found ≡ Some (codes "audit") → ⊥)
     → (option_map (λ (p : Text × List Row). p.0) found ≡ Some (codes "run") → ⊥) → (option_map (λ (p : Text × List Row). p.0) found ≡ Some (codes "sweep") → ⊥)
+    → (option_map (λ (p : Text × List Row). p.0) found ≡ Some (codes "draw") → ⊥)
     → Some rows ≡ option_map (λ (p : Text × List Row). p.1) found
     → Simulate (file_of (first_of (codes "FILE") rows)) ≡ option_map_or task_by found (Simulate None)
-task_simulated None rows no_show no_random no_audit no_run no_sweep is = absurd cc
-task_simulated (Some (text, own)) rows no_show no_random no_audit no_run no_sweep is =
+task_simulated None rows no_show no_random no_audit no_run no_sweep no_draw is = absurd cc
+task_simulated (Some (text, own)) rows no_show no_random no_audit no_run no_sweep no_draw is =
     by_name (bytes_eq text (codes "show")) refl (bytes_eq text (codes "random")) refl (bytes_eq text (codes "audit")) refl (bytes_eq text (codes "run")) refl (bytes_eq text (codes "sweep")) refl
+    (bytes_eq text (codes "draw")) refl
   where
     by_name : (b : Bool) → bytes_eq text (codes "show") ≡ b → (d : Bool) → bytes_eq text (codes "random") ≡ d → (h : Bool) → bytes_eq text (codes "audit") ≡ h → (k : Bool) → bytes_eq text (codes "run") ≡ k
-        → (m : Bool) → bytes_eq text (codes "sweep") ≡ m → Simulate (file_of (first_of (codes "FILE") rows)) ≡ option_map_or task_by (Some (text, own)) (Simulate None)
-    by_name true e d f h i k l m n = absurd (no_show (ap (λ (t : Text). Some t) ((bytes_eq-Decides text (codes "show")).0 e)))
-    by_name false e true f h i k l m n = absurd (no_random (ap (λ (t : Text). Some t) ((bytes_eq-Decides text (codes "random")).0 f)))
-    by_name false e false f true i k l m n = absurd (no_audit (ap (λ (t : Text). Some t) ((bytes_eq-Decides text (codes "audit")).0 i)))
-    by_name false e false f false i true l m n = absurd (no_run (ap (λ (t : Text). Some t) ((bytes_eq-Decides text (codes "run")).0 l)))
-    by_name false e false f false i false l true n = absurd (no_sweep (ap (λ (t : Text). Some t) ((bytes_eq-Decides text (codes "sweep")).0 n)))
-    by_name false e false f false i false l false n = let all : own ≡ rows = cc in rw (e, f, i, l, n, all) refl
+        → (m : Bool) → bytes_eq text (codes "sweep") ≡ m → (o : Bool) → bytes_eq text (codes "draw") ≡ o → Simulate (file_of (first_of (codes "FILE") rows)) ≡ option_map_or task_by (Some (text, own)) (Simulate None)
+    by_name true e d f h i k l m n o q = absurd (no_show (ap (λ (t : Text). Some t) ((bytes_eq-Decides text (codes "show")).0 e)))
+    by_name false e true f h i k l m n o q = absurd (no_random (ap (λ (t : Text). Some t) ((bytes_eq-Decides text (codes "random")).0 f)))
+    by_name false e false f true i k l m n o q = absurd (no_audit (ap (λ (t : Text). Some t) ((bytes_eq-Decides text (codes "audit")).0 i)))
+    by_name false e false f false i true l m n o q = absurd (no_run (ap (λ (t : Text). Some t) ((bytes_eq-Decides text (codes "run")).0 l)))
+    by_name false e false f false i false l true n o q = absurd (no_sweep (ap (λ (t : Text). Some t) ((bytes_eq-Decides text (codes "sweep")).0 n)))
+    by_name false e false f false i false l false n true q = absurd (no_draw (ap (λ (t : Text). Some t) ((bytes_eq-Decides text (codes "draw")).0 q)))
+    by_name false e false f false i false l false n false q = let all : own ≡ rows = cc in rw (e, f, i, l, n, q, all) refl
 
 -- no subcommand
 pub task_without : (found : Option (Text × List Row)) → None ≡ option_map (λ (p : Text × List Row). p.1) found → Simulate None ≡ option_map_or task_by found (Simulate None)

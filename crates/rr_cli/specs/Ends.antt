@@ -19,6 +19,8 @@ use Rattle.rr_sim.specs.Told.{IsReportOn, IsRandomRun}
 use Rattle.rr_sweep.specs.declared.sweeping.SweepLine.{SweepLine}
 use Rattle.rr_sweep.specs.Sweeps.{IsSweep}
 use Rattle.rr_sweep.specs.SweepTexts.{sweep_line}
+use Rattle.rr_draw.specs.declared.cut.Cut.{Cut}
+use Rattle.rr_draw.specs.Pictures.{IsPictureOf}
 use Rattle.rr_disk.specs.Counts.{Grew}
 use Rattle.rr_disk.specs.declared.area.Area.{Area}
 use Rattle.rr_stream.specs.Streams.{Printing, Reading, IsPrinted, IsFrontPrinted, AreAllOf}
@@ -26,7 +28,8 @@ use Rattle.rr_image.specs.declared.inspection.AreaReport.{AreaReport}
 use Rattle.rr_image.specs.Inspect.{Tells, Breaks, inspected}
 use Rattle.rr_cli.specs.Areas.{areas_text}
 use Rattle.rr_cli.specs.Draws.{IsNumberIn, AreNumbers}
-use Rattle.rr_cli.specs.Lines.{Task, Simulate, Show, Draw, Audit, Run, Sweep}
+use Rattle.rr_cli.specs.Cuts.{IsCutBy}
+use Rattle.rr_cli.specs.Lines.{CutWords, Task, Simulate, Show, Draw, Audit, Run, Sweep, Picture}
 use Rattle.rr_cli.specs.Refusals.{status_of}
 use Rattle.rr_cli.specs.Tapes.{yes_text}
 
@@ -102,6 +105,17 @@ pub data EndsOnSeed (On : (List ℕ → ℕ → Printing → Printing → Type 0
   seeded : (seed : ℕ) → IsNumberIn 0 (2 ^ 64 - 1) of_seed seed → On (EndsOnSweep seed) status old new → EndsOnSeed On of_seed status old new
   unseeded : ((seed : ℕ) → IsNumberIn 0 (2 ^ 64 - 1) of_seed seed → ⊥) → status ≡ 2 → new ≡ old → EndsOnSeed On of_seed status old new
 
+-- a picture of this cut of these bytes: it is printed; or the bytes are no schedule or memory was wanting, and standard
+-- output is as it was
+pub data EndsOnPicture (cut : Cut) (bytes : List ℕ) (status : ℕ) (old new : Printing) : Type 0 where
+  pictured : (text : List ℕ) → IsPictureOf cut bytes text → Prints text status old new → EndsOnPicture cut bytes status old new
+  unpictured : (refusal : Refusal) → IsFault IsEvent event_line bytes refusal → status ≡ status_of refusal → new ≡ old → EndsOnPicture cut bytes status old new
+
+-- a picture of an input, of the cut that words write; or they write none, and standard output is as it was
+pub data EndsOnCut (On : (List ℕ → ℕ → Printing → Printing → Type 0) → ℕ → Printing → Printing → Type 0) (words : CutWords) (status : ℕ) (old new : Printing) : Type 0 where
+  cut_so : (cut : Cut) → IsCutBy words cut → On (EndsOnPicture cut) status old new → EndsOnCut On words status old new
+  uncut : ((cut : Cut) → IsCutBy words cut → ⊥) → status ≡ 2 → new ≡ old → EndsOnCut On words status old new
+
 -- words that are wrong
 abbrev pub IsMistake : ErrorKind → Type 0
 IsMistake kind = (kind ≢ DisplayHelp) × (kind ≢ DisplayVersion)
@@ -137,4 +151,6 @@ pub data EndsBy (faults : Kinds) (task : Task) (from to : Reading) (status : ℕ
   by_sweep_of_standard_input : (of_seed : Text) → faults ≡ [] → task ≡ Sweep None (Some of_seed) → EndsOnSeed (λ on. EndsOnInput on from to) of_seed status old new → EndsBy faults task from to status old new
   by_sweep_of_a_file : (path of_seed : Text) → faults ≡ [] → task ≡ Sweep (Some path) (Some of_seed) → EndsOnSeed EndsOnFile of_seed status old new → EndsBy faults task from to status old new
   without_seed : (file : Option Text) → faults ≡ [] → task ≡ Sweep file None → status ≡ 2 → new ≡ old → EndsBy faults task from to status old new
+  by_picture_of_standard_input : (words : CutWords) → faults ≡ [] → task ≡ Picture None words → EndsOnCut (λ on. EndsOnInput on from to) words status old new → EndsBy faults task from to status old new
+  by_picture_of_a_file : (path : Text) (words : CutWords) → faults ≡ [] → task ≡ Picture (Some path) words → EndsOnCut EndsOnFile words status old new → EndsBy faults task from to status old new
   without_threads : (nodes dir script tape : Option Text) → faults ≡ [] → task ≡ Run nodes dir script tape → status ≡ 2 → new ≡ old → EndsBy faults task from to status old new

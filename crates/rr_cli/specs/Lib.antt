@@ -3,5 +3,6 @@ pub mod Ends
 pub mod Lines
 pub mod Refusals
 pub mod Draws
+pub mod Cuts
 pub mod Tapes
 pub mod Sweeping

@@ -3,6 +3,7 @@
 
 mod audit;
 mod draw;
+mod picture;
 mod program;
 mod refusals;
 mod show;
@@ -17,4 +18,4 @@ pub use rr_audit::audit_on;
 pub use rr_sim::{random_run, report_on};
 pub use show::show_disk;
 pub use streams::{end_by_stream, end_by_text, end_without_words};
-pub use words::{Task, end_by_words, read_words};
+pub use words::{CutWords, Task, end_by_words, read_words};

@@ -4,11 +4,12 @@ ghost use Rattle.std.specs.Prelude.{◌≡◌, ◌≢◌, Option, IfOk, IfErr, O
 ghost use Rattle.std.specs.Io.KnownBytes.{Keeps};
 ghost use Rattle.std.specs.IoError.{error_kind};
 ghost use Rattle.clap.specs.Words.{Text};
-ghost use Rattle.rr_cli.specs.Lines.{Simulate, Audit, Sweep, faults_of, task_of};
+ghost use Rattle.rr_cli.specs.Lines.{CutWords, Simulate, Audit, Sweep, Picture, faults_of, task_of};
 ghost use Rattle.rr_cli.specs.Ends.{EndsOn, EndsOnInput, EndsBy};
 
 use crate::audit::{audit_file, audit_input};
 use crate::draw::{draw_by_words, end_without_numbers};
+use crate::picture::{picture_file, picture_input};
 use crate::refusals::end_by_schedule_fault;
 use crate::show::{end_without_folder, show_folder};
 use crate::streams::{end_by_stream, end_by_text, end_without_threads, end_without_words};
@@ -49,9 +50,11 @@ fn simulate_input<I: Source, O: Sink, E: Write>(
 /// prints what the areas hold of the disk in the folder DIR. `rr random --seed SEED --steps STEPS --nodes NODES` prints
 /// a random schedule, a line `report` and the report of its run. `rr audit [FILE]` reads a tape as `rr sim` does a
 /// schedule, and prints whether its events are what nodes do. `rr sweep [FILE] --seed SEED` reads a schedule, crashes a node
-/// after each device call, and prints what it restarts with, as it goes. What goes wrong is told on `err`. The statuses: 0 done,
-/// 2 wrong words, 3 no schedule or tape, 4 a damaged area, 5 a device, a file or a stream, 6 memory, 7 a tape with an
-/// event that isn't what its node does next.
+/// after each device call, and prints what it restarts with, as it goes.
+/// `rr draw [FILE] [--from FROM] [--to TO] [--node NODE] [--instance INSTANCE]` reads a schedule, and prints the picture
+/// of its run: of the lines FROM to TO, of one node or of all, and of the messages of one instance or of every event.
+/// What goes wrong is told on `err`. The statuses: 0 done, 2 wrong words, 3 no schedule or tape, 4 a damaged area, 5 a
+/// device, a file or a stream, 6 memory, 7 a tape with an event that isn't what its node does next.
 pub fn execute<R: Files + AllocGlobal, S: AsStr, I: Source, O: Sink, E: Write>(
     rt: &R,
     words: &[S],
@@ -63,7 +66,8 @@ pub fn execute<R: Files + AllocGlobal, S: AsStr, I: Source, O: Sink, E: Write>(
         (I.reading input.old) (I.reading input.new) result (O.printing out.old) (O.printing out.new) }
     ensures quiet { result ≡ 0 → Keeps (E.contents err.old) (E.contents err.new) }
     ensures untouched { task_of (map S.text words.now) ≢ Simulate None → task_of (map S.text words.now) ≢ Audit None
-        → ((seed : Option Text) → task_of (map S.text words.now) ≢ Sweep None seed) → I.reading input.new ≡ I.reading input.old }
+        → ((seed : Option Text) → task_of (map S.text words.now) ≢ Sweep None seed)
+        → ((cut : CutWords) → task_of (map S.text words.now) ≢ Picture None cut) → I.reading input.new ≡ I.reading input.old }
 {
     match read_words(rt.alloc(), words) {
         Ok(Task::Simulate(None)) => {
@@ -89,11 +93,15 @@ pub fn execute<R: Files + AllocGlobal, S: AsStr, I: Source, O: Sink, E: Write>(
         Ok(Task::Audit(None)) => audit_input(rt.alloc(), "standard input", input, out, err),
         Ok(Task::Audit(Some(path))) => audit_file(rt, path, out, err),
         Ok(Task::Run(_, _, _, _)) => end_without_threads(err),
+        Ok(Task::Sweep(_, None)) => end_without_seed(err),
         Ok(Task::Sweep(None, Some(seed))) => {
             sweep_by_word(rt.alloc(), "standard input", seed, input, out, err)
         }
         Ok(Task::Sweep(Some(path), Some(seed))) => sweep_file(rt, path, seed, out, err),
-        Ok(Task::Sweep(_, None)) => end_without_seed(err),
+        Ok(Task::Picture(None, cut)) => {
+            picture_input(rt.alloc(), "standard input", &cut, input, out, err)
+        }
+        Ok(Task::Picture(Some(path), cut)) => picture_file(rt, path, &cut, out, err),
         Err(error) => end_by_words(rt.alloc(), out, err, &error),
     }
 }

@@ -2,23 +2,26 @@
 
 ghost use Rattle.std.specs.Prelude.{◌≡◌, ◌≢◌, ℕ, false, List, ◌++◌, IfOk, codes, map, option_map, string_bytes};
 ghost use Rattle.std.specs.Io.KnownBytes.{Keeps};
-ghost use Rattle.clap.specs.Words.{app_of, kind_of, new_app, rule_of};
+ghost use Rattle.clap.specs.Words.{app_of, found_of, kind_of, new_app, rows_of, rule_of};
 ghost use Rattle.clap.specs.declared.builder.command.Command.TheViews.{out-Command};
 ghost use Rattle.clap.specs.Kinds.{FailsBy};
-ghost use Rattle.rr_cli.specs.Lines.{rr_line, rr_settings, sim_line, show_line, number_rule, random_line, audit_line, option_rule, run_line, sweep_line, file_of, faults_of, task_of, task_in};
+ghost use Rattle.rr_cli.specs.Lines.{rr_line, rr_settings, sim_line, show_line, number_rule, random_line, audit_line, option_rule, run_line, sweep_line, optional_number_rule, draw_line, file_of, cut_words_of, cut_words_in, faults_of, task_of, task_in};
 ghost use Rattle.rr_cli.specs.Ends.{IsMistake, Helps, Prints, statuses_text, version_text};
 
 use crate::refusals::end_by_refusal;
 use crate::streams::end_by_text;
 use clap::builder::ValueParser;
 use clap::error::ErrorKind;
-use clap::{Arg, Command, Error};
+use clap::{Arg, ArgMatches, Command, Error};
 use rr_sim::MAX_STEPS;
 use rr_stream::Sink;
 use rr_types::Refusal;
 use std::alloc::{AllocError, Global};
 use std::convert::AsStr;
 use std::io::Write;
+
+// The greatest line that a word names.
+pub(crate) const LAST_LINE: u64 = 4_294_967_295;
 
 // The command line of `rr` that `clap` reads words by.
 fn command_line<'a>(alloc: Global) -> Result<Command<'a>, AllocError>
@@ -30,13 +33,15 @@ fn command_line<'a>(alloc: Global) -> Result<Command<'a>, AllocError>
     let audit = audit_line(alloc)?;
     let run = run_line(alloc)?;
     let sweep = sweep_line(alloc)?;
+    let draw = draw_line(alloc)?;
     top_line(alloc)
         .subcommand(sim)?
         .subcommand(show)?
         .subcommand(random)?
         .subcommand(audit)?
         .subcommand(run)?
-        .subcommand(sweep)
+        .subcommand(sweep)?
+        .subcommand(draw)
 }
 
 // The command line without its subcommands.
@@ -179,6 +184,71 @@ fn sweep_line<'a>(alloc: Global) -> Result<Command<'a>, AllocError>
         .arg(seed)
 }
 
+// An option that may be left out, with a number in a range.
+fn optional_number_arg<'a>(
+    alloc: Global,
+    id: &'a str,
+    long: &'a str,
+    help: &'a str,
+    least: u64,
+    most: u64,
+) -> Arg<'a>
+    ensures rule { rule_of result ≡ optional_number_rule id.entry.now long.entry.now least most }
+    ensures local { result.global ≡ false }
+{
+    Arg::new(alloc, id)
+        .long(long)
+        .help(help)
+        .value_parser(ValueParser::unsigned(least, most))
+}
+
+// An option that may be left out, with a line.
+fn line_arg<'a>(alloc: Global, id: &'a str, long: &'a str, help: &'a str) -> Arg<'a>
+    ensures rule { rule_of result ≡ optional_number_rule id.entry.now long.entry.now 1 4294967295 }
+    ensures local { result.global ≡ false }
+{
+    optional_number_arg(alloc, id, long, help, 1, LAST_LINE)
+}
+
+// The command line of `rr draw`.
+fn draw_line<'a>(alloc: Global) -> Result<Command<'a>, AllocError>
+    ensures line { IfOk result (λ c. app_of c ≡ draw_line) }
+    ensures local { IfOk result (λ c. (out-Command c).has_globals ≡ false) }
+{
+    let file = Arg::new(alloc, "FILE").help("The schedule [default: standard input]");
+    let from = line_arg(alloc, "FROM", "from", "The first line [default: 1]");
+    let to = line_arg(alloc, "TO", "to", "The last line [default: the end]");
+    let node = optional_number_arg(alloc, "NODE", "node", "The node [default: all nodes]", 0, 6);
+    let instance = optional_number_arg(
+        alloc,
+        "INSTANCE",
+        "instance",
+        "The instance of the messages [default: all events]",
+        0,
+        1_048_575,
+    );
+    Command::new(alloc, "draw")
+        .about("Draws the run of a schedule as an SVG picture")
+        .arg(file)?
+        .arg(from)?
+        .arg(to)?
+        .arg(node)?
+        .arg(instance)
+}
+
+/// The words of a cut: which part of a run a picture shows. The whole run is shown without any.
+#[derive(Clone, Copy, Debug, PartialEq, Eq)]
+pub struct CutWords<'a> {
+    /// The first line of the schedule that is shown.
+    pub from: Option<&'a str>,
+    /// The last line that is shown.
+    pub to: Option<&'a str>,
+    /// The node whose events are shown.
+    pub node: Option<&'a str>,
+    /// The instance whose messages are shown.
+    pub instance: Option<&'a str>,
+}
+
 /// What words ask for.
 #[derive(Clone, Copy, Debug, PartialEq, Eq)]
 pub enum Task<'a> {
@@ -196,6 +266,9 @@ pub enum Task<'a> {
     /// `rr sweep [FILE] --seed SEED`: what a node restarts with after a crash behind each device call of the schedule in
     /// this file, or else in standard input; with the seed of the words of the last ending.
     Sweep(Option<&'a str>, Option<&'a str>),
+    /// `rr draw [FILE] [--from FROM] [--to TO] [--node NODE] [--instance INSTANCE]`: the picture of the schedule in this
+    /// file, or else in standard input, of the cut that these words write.
+    Picture(Option<&'a str>, CutWords<'a>),
 }
 
 // The file that a word names. None stands for standard input: the word is a hyphen or isn't there.
@@ -205,6 +278,18 @@ fn file_of(word: Option<&str>) -> Option<&str>
     match word {
         Some(path) => { if path == "-" { None } else { Some(path) } }
         None => None,
+    }
+}
+
+// The words of a cut among the arguments of `rr draw`.
+fn cut_words<'a>(draw: &ArgMatches<'a>) -> CutWords<'a>
+    ensures { cut_words_in result ≡ cut_words_of (rows_of (found_of draw.now)) }
+{
+    CutWords {
+        from: draw.get_str("FROM"),
+        to: draw.get_str("TO"),
+        node: draw.get_str("NODE"),
+        instance: draw.get_str("INSTANCE"),
     }
 }
 
@@ -240,6 +325,9 @@ pub fn read_words<'a, S: AsStr>(alloc: Global, words: &'a [S]) -> Result<Task<'a
     }
     if let Some(sweep) = matches.subcommand_matches("sweep") {
         return Ok(Task::Sweep(file_of(sweep.get_str("FILE")), sweep.get_str("SEED")));
+    }
+    if let Some(draw) = matches.subcommand_matches("draw") {
+        return Ok(Task::Picture(file_of(draw.get_str("FILE")), cut_words(draw)));
     }
     match matches.subcommand() {
         Some((_, sim)) => Ok(Task::Simulate(file_of(sim.get_str("FILE")))),

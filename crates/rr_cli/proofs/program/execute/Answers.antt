@@ -1,8 +1,8 @@
 use Rattle.std.proofs.Common.{◌≡◌, ◌∙◌, ℕ, List, Option, option_map, Bor, refl, sym, ap, map, None, Some, inl, inr}
 use Rattle.clap.specs.Words.{Text, kind_of}
 use Rattle.rr_cli.specs.declared.words.Task.TheVariants as read
-use Rattle.rr_cli.specs.Lines.{Simulate, Show, Draw, Audit, Run, Sweep, task_of, task_in}
-use Rattle.rr_cli.specs.Ends.{opened, unopened, mistaken, by_help, by_version, out_of_memory, by_standard_input, by_file, by_folder, by_numbers, without_numbers, by_tape_in_standard_input, by_tape_in_a_file, by_sweep_of_standard_input, by_sweep_of_a_file, without_seed, without_threads}
+use Rattle.rr_cli.specs.Lines.{Simulate, Show, Draw, Audit, Run, Sweep, Picture, cut_words_in, task_of, task_in}
+use Rattle.rr_cli.specs.Ends.{opened, unopened, mistaken, by_help, by_version, out_of_memory, by_standard_input, by_file, by_folder, by_numbers, without_numbers, by_tape_in_standard_input, by_tape_in_a_file, by_sweep_of_standard_input, by_sweep_of_a_file, by_picture_of_standard_input, by_picture_of_a_file, without_seed, without_threads}
 use Rattle.rr_cli.proofs.EndLemmas.{kind_cases}
 use Rattle.rr_cli.proofs.program.execute.Goals as goal
 
@@ -126,3 +126,15 @@ returns-in-Ok-Sweep-default-None-clause-ends g c =
     let w = c.in-Ok-Sweep-default-None in
     let task : task_of (map g.S.AsStr.text c.args.words.now) ≡ Sweep (text_of w.field-0-0) None = sym w.ensures.task ∙ ap task_in w.field-0-is ∙ swept_from _ _ _ _ refl w.field-0-1-is in
     without_seed (text_of w.field-0-0) w.ensures.faults task c.end_without_seed.ensures refl
+
+pub returns-in-Ok-Picture-None-default-clause-ends : goal.returns-in-Ok-Picture-None-default-clause-ends
+returns-in-Ok-Picture-None-default-clause-ends g c =
+    let w = c.in-Ok-Picture-None-default in
+    let task : task_of (map g.S.AsStr.text c.args.words.now) ≡ Picture None (cut_words_in w.cut) = sym w.ensures.task ∙ ap task_in w.field-0-is ∙ ap (λ file. task_in (read.Picture file w.cut)) w.field-0-0-is in
+    by_picture_of_standard_input (cut_words_in w.cut) w.ensures.faults task c.picture_input.ensures.ends
+
+pub returns-in-Ok-Picture-Some-default-clause-ends : goal.returns-in-Ok-Picture-Some-default-clause-ends
+returns-in-Ok-Picture-Some-default-clause-ends g c =
+    let w = c.in-Ok-Picture-Some-default in
+    let task : task_of (map g.S.AsStr.text c.args.words.now) ≡ Picture (Some w.path.now) (cut_words_in w.cut) = sym w.ensures.task ∙ ap task_in w.field-0-is ∙ ap (λ file. task_in (read.Picture file w.cut)) w.field-0-0-is in
+    by_picture_of_a_file w.path.now (cut_words_in w.cut) w.ensures.faults task c.picture_file.ensures.ends

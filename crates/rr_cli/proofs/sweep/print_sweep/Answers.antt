@@ -48,6 +48,6 @@ loop-event-preserved g c =
     record {
       number = omega (arith, c.loop-event.invariant.number);
       printed = printed_more s.nodes c.args.seed (take i s.events) (take (i + 1) s.events) (g.O.Sink.printing c.args.out.now) (g.O.Sink.printing c.loop-event.out) (g.O.Sink.printing c.print_event.new.out) more p
-        (is_sweep s.nodes s.nodes c.args.seed (take (i + 1) s.events) (p.lines ++ more) c.print_event.new.sweeping has) found.2 c.print_event.ensures.faults;
+          (is_sweep s.nodes s.nodes c.args.seed (take (i + 1) s.events) (p.lines ++ more) c.print_event.new.sweeping has) found.2 c.print_event.ensures.faults;
       swept = has;
     }

@@ -4,8 +4,8 @@ use Rattle.clap.specs.Faults.{fault_of}
 use Rattle.clap.specs.Kinds.{HasKind}
 use Rattle.clap.specs.declared.parser.matches.ArgMatches.TheViews.{out-ArgMatches}
 use Rattle.clap.proofs.WalkLemmas.{first_value-rows}
-use Rattle.rr_cli.specs.Lines.{Simulate, Show, Draw, Audit, Run, Sweep, file_of, rr_line}
-use Rattle.rr_cli.proofs.WordLemmas.{is_simple_line, is_free_line, named, task_shown, task_drawn, task_audited, task_run, task_swept, task_simulated, task_without, refused_by, not_there}
+use Rattle.rr_cli.specs.Lines.{Simulate, Show, Draw, Audit, Run, Sweep, Picture, CutWords, file_of, rr_line}
+use Rattle.rr_cli.proofs.WordLemmas.{is_simple_line, is_free_line, named, task_shown, task_drawn, task_audited, task_run, task_swept, task_pictured, task_simulated, task_without, refused_by, not_there}
 use Rattle.rr_cli.proofs.words.read_words.Goals as goal
 
 abbrev name_of : Option (Text × List Row) → Option Text
@@ -48,8 +48,9 @@ returns-in-Some-subcommand-clause-task g c =
     let no_audit : name_of (subcommand_of rr_line words) ≡ Some (codes "audit") → ⊥ = λ e. not_there c.subcommand_matches-3.result c.in_default-subcommand_matches-2.not-Some (c.subcommand_matches-3.ensures.found.1 (sym (named (out-ArgMatches m).subcommand) ∙ ap name_of below ∙ e)) in
     let no_run : name_of (subcommand_of rr_line words) ≡ Some (codes "run") → ⊥ = λ e. not_there c.subcommand_matches-4.result c.in_default-subcommand_matches-3.not-Some (c.subcommand_matches-4.ensures.found.1 (sym (named (out-ArgMatches m).subcommand) ∙ ap name_of below ∙ e)) in
     let no_sweep : name_of (subcommand_of rr_line words) ≡ Some (codes "sweep") → ⊥ = λ e. not_there c.subcommand_matches-5.result c.in_default-subcommand_matches-4.not-Some (c.subcommand_matches-5.ensures.found.1 (sym (named (out-ArgMatches m).subcommand) ∙ ap name_of below ∙ e)) in
+    let no_draw : name_of (subcommand_of rr_line words) ≡ Some (codes "draw") → ⊥ = λ e. not_there c.subcommand_matches-6.result c.in_default-subcommand_matches-5.not-Some (c.subcommand_matches-6.ensures.found.1 (sym (named (out-ArgMatches m).subcommand) ∙ ap name_of below ∙ e)) in
     ap Simulate (c.file_of-in-Some-subcommand.ensures ∙ ap file_of (c.get_str-in-Some-subcommand.ensures ∙ first_value-rows (found_of sim) (codes "FILE")))
-    ∙ task_simulated (subcommand_of rr_line words) (rows_of (found_of sim)) no_show no_random no_audit no_run no_sweep (c.in-Some-subcommand.ensures.rows ∙ ap arguments_of below)
+    ∙ task_simulated (subcommand_of rr_line words) (rows_of (found_of sim)) no_show no_random no_audit no_run no_sweep no_draw (c.in-Some-subcommand.ensures.rows ∙ ap arguments_of below)
 
 pub returns-in-Some-subcommand-clause-faults : goal.returns-in-Some-subcommand-clause-faults
 returns-in-Some-subcommand-clause-faults g c =
@@ -131,12 +132,35 @@ returns-in-Some-subcommand_matches-4-clause-task g c =
     let name : name_of (subcommand_of rr_line words) ≡ Some (codes "sweep") = sym (ap name_of below) ∙ named (out-ArgMatches m).subcommand ∙ c.in-Some-subcommand_matches-4.ensures.found.0 refl in
     let rows : arguments_of (subcommand_of rr_line words) ≡ Some (rows_of (found_of sweep)) = sym (ap arguments_of below) ∙ c.in-Some-subcommand_matches-4.ensures.rows in
     swept_by _ _ _ _
-    (c.file_of-in-Some-subcommand_matches-4.ensures ∙ ap file_of (c.get_str-in-Some-subcommand_matches-4-2.ensures ∙ first_value-rows (found_of sweep) (codes "FILE")))
-    (c.get_str-in-Some-subcommand_matches-4-3.ensures ∙ first_value-rows (found_of sweep) (codes "SEED"))
+    (c.file_of-in-Some-subcommand_matches-4.ensures ∙ ap file_of (c.get_str-in-Some-subcommand_matches-4.ensures ∙ first_value-rows (found_of sweep) (codes "FILE")))
+    (c.get_str-in-Some-subcommand_matches-4-2.ensures ∙ first_value-rows (found_of sweep) (codes "SEED"))
     ∙ task_swept (subcommand_of rr_line words) (rows_of (found_of sweep)) name rows
 
 pub returns-in-Some-subcommand_matches-4-clause-faults : goal.returns-in-Some-subcommand_matches-4-clause-faults
 returns-in-Some-subcommand_matches-4-clause-faults g c =
+    let line_is : app_of c.in_ok-command_line.field-0 ≡ rr_line = c.in_ok-command_line.ensures in
+    let words = map g.S.AsStr.text c.args.words.now in
+    sym (ap (λ (a : App). fault_of a words) line_is) ∙ c.in_ok-matches.ensures.kinds (ap is_simple_and_free line_is ∙ is_free_line)
+
+pictured_by : (a x : Option Text) (b y : CutWords) → a ≡ x → b ≡ y → Picture a b ≡ Picture x y
+pictured_by a x b y p q = rw (p, q) refl
+
+pub returns-in-Some-subcommand_matches-5-clause-task : goal.returns-in-Some-subcommand_matches-5-clause-task
+returns-in-Some-subcommand_matches-5-clause-task g c =
+    let line_is : app_of c.in_ok-command_line.field-0 ≡ rr_line = c.in_ok-command_line.ensures in
+    let words = map g.S.AsStr.text c.args.words.now in
+    let m = c.in_ok-matches.matches in
+    let draw = c.in-Some-subcommand_matches-5.draw.now in
+    let below : subcommand_rows_of m ≡ subcommand_of rr_line words = (c.in_ok-matches.ensures.matches (ap is_simple line_is ∙ is_simple_line)).1 ∙ ap (λ (a : App). subcommand_of a words) line_is in
+    let name : name_of (subcommand_of rr_line words) ≡ Some (codes "draw") = sym (ap name_of below) ∙ named (out-ArgMatches m).subcommand ∙ c.in-Some-subcommand_matches-5.ensures.found.0 refl in
+    let rows : arguments_of (subcommand_of rr_line words) ≡ Some (rows_of (found_of draw)) = sym (ap arguments_of below) ∙ c.in-Some-subcommand_matches-5.ensures.rows in
+    pictured_by _ _ _ _
+    (c.file_of-in-Some-subcommand_matches-5.ensures ∙ ap file_of (c.get_str-in-Some-subcommand_matches-5.ensures ∙ first_value-rows (found_of draw) (codes "FILE")))
+    c.cut_words.ensures
+    ∙ task_pictured (subcommand_of rr_line words) (rows_of (found_of draw)) name rows
+
+pub returns-in-Some-subcommand_matches-5-clause-faults : goal.returns-in-Some-subcommand_matches-5-clause-faults
+returns-in-Some-subcommand_matches-5-clause-faults g c =
     let line_is : app_of c.in_ok-command_line.field-0 ≡ rr_line = c.in_ok-command_line.ensures in
     let words = map g.S.AsStr.text c.args.words.now in
     sym (ap (λ (a : App). fault_of a words) line_is) ∙ c.in_ok-matches.ensures.kinds (ap is_simple_and_free line_is ∙ is_free_line)

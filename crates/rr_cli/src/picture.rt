@@ -1,0 +1,158 @@
+//! The picture of a schedule's run, of the cut that words write.
+
+ghost use Rattle.std.specs.Prelude.{◌≡◌, ℕ, None, IfSome, Option, option_map};
+ghost use Rattle.std.specs.Io.KnownBytes.{Keeps};
+ghost use Rattle.rr_draw.specs.declared.cut.Cut.{Cut as SomeCut};
+ghost use Rattle.rr_cli.specs.Cuts.{IsNumberOr, IsNumberIfAny, IsCutBy};
+ghost use Rattle.rr_cli.specs.Ends.{EndsOnPicture, EndsOnCut, EndsOnInput, EndsOnFile};
+ghost use Rattle.rr_cli.specs.Lines.{cut_words_in};
+
+use crate::draw::number_in;
+use crate::refusals::end_by_schedule_fault;
+use crate::streams::{end_by_stream, end_by_text};
+use crate::words::{CutWords, LAST_LINE};
+use rr_draw::{Cut, picture_of};
+use rr_stream::{Counted, Sink, Source, read_all};
+use rr_types::{Instance, NodeId};
+use std::alloc::Global;
+use std::fs;
+use std::io::Write;
+use std::rt::Files;
+
+// Prints the picture of the schedule that the input of this name holds, of the cut that words write.
+pub(crate) fn picture_input<I: Source, O: Sink, E: Write>(
+    alloc: Global,
+    name: &str,
+    words: &CutWords,
+    input: &mut I,
+    out: &mut O,
+    err: &mut E,
+) -> u8
+    ensures ends { EndsOnCut (λ on. EndsOnInput on (I.reading input.old) (I.reading input.new)) (cut_words_in words.now) result (O.printing out.old) (O.printing out.new) }
+    ensures quiet { result ≡ 0 → Keeps (E.contents err.old) (E.contents err.new) }
+{
+    match cut_of(words) {
+        Some(cut) => print_input(alloc, name, &cut, input, out, err),
+        None => end_without_cut(err),
+    }
+}
+
+// Prints the picture of the schedule in a file, of the cut that words write.
+pub(crate) fn picture_file<R: Files + AllocGlobal, O: Sink, E: Write>(
+    rt: &R,
+    path: &str,
+    words: &CutWords,
+    out: &mut O,
+    err: &mut E,
+) -> u8
+    ensures ends { EndsOnCut EndsOnFile (cut_words_in words.now) result (O.printing out.old) (O.printing out.new) }
+    ensures quiet { result ≡ 0 → Keeps (E.contents err.old) (E.contents err.new) }
+{
+    let Some(cut) = cut_of(words) else {
+        return end_without_cut(err);
+    };
+    match fs::open(rt, path) {
+        Ok(file) => print_input(rt.alloc(), path, &cut, &mut Counted::new(file), out, err),
+        Err(failure) => end_by_stream(err, path, &failure),
+    }
+}
+
+// The cut that words write.
+fn cut_of(words: &CutWords) -> Option<Cut>
+    ensures some { IfSome result (λ cut. IsCutBy (cut_words_in words.now) cut) }
+    ensures none { result ≡ None → (cut : SomeCut) → IsCutBy (cut_words_in words.now) cut → ⊥ }
+{
+    let from = line_or(words.from, 1)?;
+    let to = line_or(words.to, u64::MAX)?;
+    let node = node_if_any(words.node)?;
+    let instance = instance_if_any(words.instance)?;
+    Some(Cut {
+        from,
+        to,
+        node,
+        instance,
+    })
+}
+
+// The line that a word names, or this one where there is no word.
+fn line_or(word: Option<&str>, other: u64) -> Option<u64>
+    ensures some { IfSome result (λ n. IsNumberOr other 1 4294967295 (option_map (λ s. s.now) word.entry) n) }
+    ensures none { result ≡ None → (n : ℕ) → IsNumberOr other 1 4294967295 (option_map (λ s. s.now) word.entry) n → ⊥ }
+{
+    match word {
+        Some(word) => number_in(word, 1, LAST_LINE),
+        None => Some(other),
+    }
+}
+
+// The node that a word names, where there is a word.
+fn node_if_any(word: Option<&str>) -> Option<Option<NodeId>>
+    ensures some { IfSome result (λ n. IsNumberIfAny 0 6 (option_map (λ s. s.now) word.entry) n) }
+    ensures none { result ≡ None → (n : Option ℕ) → IsNumberIfAny 0 6 (option_map (λ s. s.now) word.entry) n → ⊥ }
+{
+    match word {
+        Some(word) => match NodeId::at(number_in(word, 0, 6)? as u8) {
+            Some(node) => Some(Some(node)),
+            None => unreachable!(),
+        },
+        None => Some(None),
+    }
+}
+
+// The instance that a word names, where there is a word.
+fn instance_if_any(word: Option<&str>) -> Option<Option<Instance>>
+    ensures some { IfSome result (λ n. IsNumberIfAny 0 1048575 (option_map (λ s. s.now) word.entry) n) }
+    ensures none { result ≡ None → (n : Option ℕ) → IsNumberIfAny 0 1048575 (option_map (λ s. s.now) word.entry) n → ⊥ }
+{
+    match word {
+        Some(word) => match Instance::new(number_in(word, 0, 1_048_575)? as u32) {
+            Some(instance) => Some(Some(instance)),
+            None => unreachable!(),
+        },
+        None => Some(None),
+    }
+}
+
+// Prints the picture of the schedule that the input of this name holds, of a cut.
+fn print_input<I: Source, O: Sink, E: Write>(
+    alloc: Global,
+    name: &str,
+    cut: &Cut,
+    input: &mut I,
+    out: &mut O,
+    err: &mut E,
+) -> u8
+    ensures ends { EndsOnInput (EndsOnPicture cut.now) (I.reading input.old) (I.reading input.new) result (O.printing out.old) (O.printing out.new) }
+    ensures quiet { result ≡ 0 → Keeps (E.contents err.old) (E.contents err.new) }
+{
+    match read_all(alloc, input) {
+        Ok(bytes) => print_picture(alloc, name, bytes.as_slice(), cut, out, err),
+        Err(failure) => end_by_stream(err, name, &failure),
+    }
+}
+
+// Prints the picture of the schedule that the bytes are, of a cut.
+fn print_picture<O: Sink, E: Write>(
+    alloc: Global,
+    name: &str,
+    bytes: &[u8],
+    cut: &Cut,
+    out: &mut O,
+    err: &mut E,
+) -> u8
+    ensures ends { EndsOnPicture cut.now bytes.now result (O.printing out.old) (O.printing out.new) }
+    ensures quiet { result ≡ 0 → Keeps (E.contents err.old) (E.contents err.new) }
+{
+    match picture_of(alloc, bytes, cut) {
+        Ok(text) => end_by_text(out, err, text.as_slice()),
+        Err(refusal) => end_by_schedule_fault(err, name, bytes, &refusal),
+    }
+}
+
+// Ends where a word names no number of its range, which the command line doesn't let through.
+fn end_without_cut<E: Write>(err: &mut E) -> u8
+    ensures { result ≡ 2 }
+{
+    let _ = writeln!(err, "rr: draw: a number is out of its range");
+    2
+}
