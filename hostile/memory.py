@@ -4,6 +4,7 @@ A run ends with `rr: 1 OutOfMemory` and status 6, and standard output has got a 
 prints the report of the run in which memory was wanting for just one event. The plain Rust program says what that is.
 Where all later requests are refused too, the run ends without memory, or with the report where just the events that it refuses found none.
 """
+import html
 import os
 import re
 import subprocess
@@ -12,7 +13,7 @@ import areas
 from harness import DATA, NO_MEMORY, TREE, Ending, Tally, compare, events_of, schedules, tell
 
 ALL = "1000000000"
-SWEPT = TREE / "examples/one_command.schedule"
+EXAMPLE = TREE / "examples/one_command.schedule"
 SEED = "1"
 DRAWS = ((1, 0, 2), (1, 40, 1), (2, 120, 2), (3, 200, 3), (1, 300, 7))
 SHORT = ("one_command", "snapshot", "second_snapshot_crashes", "failed_write_of_a_body", "heartbeats", "no_events")
@@ -24,9 +25,9 @@ def tasks(options):
     folders = areas.SHORT if options.short else areas.FOLDERS
     draws = DRAWS[:2] if options.short else DRAWS
     tapes = [path.stem for path in sorted(DATA.glob("*.tape"))]
-    others = [("sweep", "")] if has_command(options, "sweep") else []
+    others = [(verb, "") for verb in ("sweep", "draw") if has_command(options, verb)]
     runs += [("show", name) for name in folders] + [("broken", ""), ("missing", "")]
-    return runs + [("draw", it) for it in draws] + [("audit", name) for name in (tapes[:1] if options.short else tapes)] + others
+    return runs + [("random", it) for it in draws] + [("audit", name) for name in (tapes[:1] if options.short else tapes)] + others
 
 
 def has_command(options, verb):
@@ -40,15 +41,17 @@ def work(rig, options, task):
     tally = Tally()
     if kind == "sim":
         of_schedule(rig, options, tally, what)
-    elif kind == "draw":
+    elif kind == "random":
         of_draw(rig, options, tally, what)
     elif kind == "audit":
         text = (DATA / f"{what}.tape").read_bytes()
         refuse_each(rig, options, tally, f"audit {what}", ["audit", rig.write("tape", text)], rig.plain.audit(text), {})
     elif kind == "sweep":
-        text = SWEPT.read_bytes()
+        text = EXAMPLE.read_bytes()
         words = ["sweep", rig.write("text", text), "--seed", SEED]
-        refuse_each(rig, options, tally, f"sweep {SWEPT.name}", words, swept(options, text), {})
+        refuse_each(rig, options, tally, f"sweep {EXAMPLE.name}", words, swept(options, text), {})
+    elif kind == "draw":
+        of_picture(rig, options, tally, EXAMPLE.read_bytes())
     else:
         of_folder(rig, options, tally, kind, what)
     return tally
@@ -58,6 +61,25 @@ def swept(options, text):
     """The sweep of a schedule by plain Rust."""
     ran = subprocess.run([options.plain, "sweep", SEED], input=text, stdout=subprocess.PIPE, check=True)
     return Ending(0, ran.stdout, b"")
+
+
+def of_picture(rig, options, tally, text):
+    """A picture has the lines of a report in its titles, but for the list."""
+    starved = {before_list(report): line for report, line in starved_reports(rig, text).items()}
+    words = ["draw", rig.write("text", text)]
+    whole = rig.run(*words)
+    tally.check(told_in(whole.out) == before_list(rig.plain.sim(text).out), lambda: "draw: its titles have another report")
+    refuse_each(rig, options, tally, f"draw {EXAMPLE.name}", words, whole, starved, text, told_in, before_list)
+
+
+def told_in(picture):
+    """The lines of a report in the titles of a picture."""
+    titles = html.unescape("".join(re.findall(r"<title>([^<]*)</title>", picture.decode())))
+    return "".join(re.findall(r"^(?:send|ack|restart|refuse) .*\n", titles, re.MULTILINE)).encode()
+
+
+def before_list(report):
+    return report[: report.index(b"decided ")]
 
 
 def of_schedule(rig, options, tally, name):
@@ -118,9 +140,10 @@ def of_draw(rig, options, tally, draw):
     refuse_each(rig, options, tally, f"random {seed} {steps} {nodes}", words, whole, starved)
 
 
-def refuse_each(rig, options, tally, what, words, whole, starved, text=None):
+def refuse_each(rig, options, tally, what, words, whole, starved, text=None, told=bytes, of_report=bytes):
     """Refuses each request of a run, alone and with all behind it, and answers the lines of the events that one starved. A report may have
-    room to spare for all that is left to tell; a run of the schedule `text` then ends well without any memory from an event on."""
+    room to spare for all that is left to tell; a run of the schedule `text` then ends well without any memory from an event on. What is
+    `told` in standard output is what `of_report` leaves of the report."""
     count = requests_of(rig, options, tally, what, words, whole)
     tally.counts["requests refused, " + words[0]] += count
     tally.counts["runs, " + words[0]] += 1
@@ -131,23 +154,23 @@ def refuse_each(rig, options, tally, what, words, whole, starved, text=None):
             # What grows asks for room to spare, and where that is refused once more for what it needs.
             tally.counts["requests made again, refused with the next"] += 1
             ending = refuse(rig, options, words, number, "2")
-        line = starved.get(ending.out) if ending.status == 0 else None
+        line = starved.get(told(ending.out)) if ending.status == 0 else None
         if line is not None:
             reached.add(line)
             tally.counts["reports of a starved event"] += 1
         holds = ending.err == b"" if line is not None else is_no_memory(ending, whole) or is_bare_verdict(rig, tally, ending, whole)
         tally.check(holds, lambda: f"{what}, request {number}: {tell(ending)}")
         last = refuse(rig, options, words, number, ALL)
-        holds = is_report_of_starved(rig, text, last) if last.status == 0 else is_no_memory(last, whole) or is_bare_verdict(rig, tally, last, whole)
+        holds = is_report_of_starved(rig, text, last._replace(out=told(last.out)), of_report) if last.status == 0 else is_no_memory(last, whole) or is_bare_verdict(rig, tally, last, whole)
         tally.counts["reports without memory from an event on"] += last.status == 0
         tally.check(holds, lambda: f"{what}, request {number} and all behind it: {tell(last)}")
     return reached
 
 
-def is_report_of_starved(rig, text, ending):
+def is_report_of_starved(rig, text, ending, of_report):
     """Whether it is the report where the events that it refuses for memory, or by the device, found no memory."""
     refused = [int(line.split()[1]) for line in ending.out.splitlines() if re.match(rb"refuse \d+ [12] ", line)]
-    return text is not None and ending.err == b"" and refused != [] and ending.out == rig.plain.starved(text, *refused)
+    return text is not None and ending.err == b"" and refused != [] and ending.out == of_report(rig.plain.starved(text, *refused))
 
 
 def is_bare_verdict(rig, tally, ending, whole):
