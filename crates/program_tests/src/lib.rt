@@ -6,6 +6,8 @@ mod audited;
 #[cfg(test)]
 mod drawn;
 #[cfg(test)]
+mod pictured;
+#[cfg(test)]
 mod rows;
 #[cfg(test)]
 mod runs;
@@ -13,3 +15,5 @@ mod runs;
 mod shown;
 #[cfg(test)]
 mod streams;
+#[cfg(test)]
+mod swept;

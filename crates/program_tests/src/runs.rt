@@ -195,7 +195,7 @@ impl Read for Torn {
 
 /// A writer that takes nothing.
 #[derive(Drop)]
-struct Closed;
+pub struct Closed;
 
 impl Write for Closed {
     fn write(&mut self, _buf: &[u8]) -> io::Result<usize> {

@@ -1,5 +1,5 @@
 -- How the printing of a sweep goes on, or is broken off.
-use Rattle.std.specs.Prelude.{◌≡◌, ◌≤◌, ℕ, List, [], ◌∷◌, ◌++◌}
+use Rattle.std.specs.Prelude.{◌≡◌, ◌≤◌, ℕ, List, ◌++◌}
 use Rattle.std.specs.Io.KnownBytes.{Appends}
 use Rattle.rr_types.specs.declared.refusal.Refusal.TheVariants.{OutOfMemory}
 use Rattle.rr_disk.specs.Counts.{Grew}
