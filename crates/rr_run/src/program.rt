@@ -50,6 +50,7 @@ pub fn execute<
         Ok(Task::Draw(_, _, _)) => rr_cli::execute(rt, words, input, out, err),
         Ok(Task::Audit(_)) => rr_cli::execute(rt, words, input, out, err),
         Ok(Task::Sweep(_, _)) => rr_cli::execute(rt, words, input, out, err),
+        Ok(Task::Picture(_, _)) => rr_cli::execute(rt, words, input, out, err),
         Err(error) => end_by_words(rt.alloc(), out, err, &error),
     }
 }

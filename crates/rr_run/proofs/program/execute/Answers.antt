@@ -3,7 +3,7 @@ use Rattle.clap.specs.Words.{Text, kind_of}
 use Rattle.clap.specs.Kinds.{Kinds, IsAmong}
 use Rattle.clap.specs.declared.error.kind.ErrorKind.{ErrorKind}
 use Rattle.rr_cli.specs.declared.words.Task.TheVariants as read
-use Rattle.rr_cli.specs.Lines.{Simulate, Show, Draw, Audit, Run, task_of, task_in}
+use Rattle.rr_cli.specs.Lines.{Simulate, Show, Draw, Audit, Run, Sweep, Picture, CutWords, cut_words_in, task_of, task_in}
 use Rattle.rr_cli.specs.Ends.{mistaken, by_help, by_version}
 use Rattle.rr_cli.proofs.EndLemmas.{kind_cases}
 use Rattle.rr_run.specs.Runs.{by_script, by_others, out_of_memory}
@@ -61,6 +61,12 @@ is_draw a b c n x s t is = absurd cc
 is_audit : (a : Option Text) (n x s : Text) (t : Option Text) → Audit a ≡ Run (Some n) (Some x) (Some s) t → ⊥
 is_audit a n x s t is = absurd cc
 
+is_sweep : (a b : Option Text) (n x s : Text) (t : Option Text) → Sweep a b ≡ Run (Some n) (Some x) (Some s) t → ⊥
+is_sweep a b n x s t is = absurd cc
+
+is_picture : (a : Option Text) (b : CutWords) (n x s : Text) (t : Option Text) → Picture a b ≡ Run (Some n) (Some x) (Some s) t → ⊥
+is_picture a b n x s t is = absurd cc
+
 pub returns-in-Ok-Run-None-default-default-default-clause-ends : goal.returns-in-Ok-Run-None-default-default-default-clause-ends
 returns-in-Ok-Run-None-default-default-default-clause-ends g c =
     let w = c.in-Ok-Run-None-default-default-default in
@@ -102,3 +108,15 @@ returns-in-Ok-Audit-clause-ends g c =
     let w = c.in-Ok-Audit in
     let task : task_of (map g.S.AsStr.text c.args.words.now) ≡ Audit (text_of w.field-0-0) = sym w.ensures.task ∙ ap task_in w.field-0-is in
     by_others (λ none asks. is_audit (text_of w.field-0-0) asks.nodes asks.dir asks.script asks.tape (sym task ∙ asks.is)) c.execute-in-Ok-Audit.ensures.ends
+
+pub returns-in-Ok-Sweep-clause-ends : goal.returns-in-Ok-Sweep-clause-ends
+returns-in-Ok-Sweep-clause-ends g c =
+    let w = c.in-Ok-Sweep in
+    let task : task_of (map g.S.AsStr.text c.args.words.now) ≡ Sweep (text_of w.field-0-0) (text_of w.field-0-1) = sym w.ensures.task ∙ ap task_in w.field-0-is in
+    by_others (λ none asks. is_sweep (text_of w.field-0-0) (text_of w.field-0-1) asks.nodes asks.dir asks.script asks.tape (sym task ∙ asks.is)) c.execute-in-Ok-Sweep.ensures.ends
+
+pub returns-in-Ok-Picture-clause-ends : goal.returns-in-Ok-Picture-clause-ends
+returns-in-Ok-Picture-clause-ends g c =
+    let w = c.in-Ok-Picture in
+    let task : task_of (map g.S.AsStr.text c.args.words.now) ≡ Picture (text_of w.field-0-0) (cut_words_in w.field-0-1) = sym w.ensures.task ∙ ap task_in w.field-0-is in
+    by_others (λ none asks. is_picture (text_of w.field-0-0) (cut_words_in w.field-0-1) asks.nodes asks.dir asks.script asks.tape (sym task ∙ asks.is)) c.execute-in-Ok-Picture.ensures.ends
