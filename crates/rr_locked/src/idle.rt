@@ -5,10 +5,10 @@ ghost use Rattle.rr_locked.specs.Idle.{idle_after, is_tick_due};
 
 use std::marker::Model;
 
-/// So many turns in a row that find nothing to do end with a tick.
+/// So many turns that find nothing to do end with a tick.
 const TURNS: u32 = 1000;
 
-/// How many turns in a row have found nothing to do.
+/// How many turns since the last tick have found nothing to do.
 #[derive(Debug, Drop)]
 pub struct IdleTurns {
     count: u32,
@@ -33,13 +33,13 @@ impl IdleTurns {
     }
 
     /// One more turn, which has found something to do or nothing. Answers whether the node ticks now: at the thousandth
-    /// idle turn in a row, from which on they are counted anew.
+    /// idle turn, from which on they are counted anew. A busy turn leaves the count as it is. If it began anew there, the
+    /// beats of a node that ticks would keep the others from ticking for ever.
     pub fn count(&mut self, has_found: bool) -> bool
         ensures due { result ≡ is_tick_due has_found self.old }
         ensures count { self.new ≡ idle_after has_found self.old }
     {
         if has_found {
-            self.count = 0;
             return false;
         }
         self.count += 1;

@@ -8,10 +8,10 @@ use std::time::Duration;
 const BUSY_TURNS: u32 = 3;
 
 /// The first rest, in microseconds.
-const FIRST: u64 = 1_000;
+const FIRST: u64 = 500;
 
 /// The longest rests, in microseconds: of who has a clock to keep, and of who is rung for all that comes.
-pub const SHORT: u64 = 2_000;
+pub const SHORT: u64 = 1_000;
 
 pub const LONG: u64 = 50_000;
 
