@@ -47,8 +47,38 @@ fn send(core: &mut Core) -> Result<(), Refusal> {
     Ok(())
 }
 
-/// Opens a disk and submits a command, then flushes, sends and acknowledges until nothing is left to do.
-fn serve<D: Disk + Drop>(rt: &HostRuntime, disk: D, command: Command) -> Result<()>
+/// Flushes, sends and acknowledges once. It tells whether there was something to flush.
+fn turn<D: Disk>(rt: &HostRuntime, core: &mut Core, journal: &mut Journal<D>) -> Result<bool> {
+    let was_staged = flush(rt.alloc(), core, journal)?;
+    send(core)?;
+    if let Some((request, reply)) = core.next_ack() {
+        println!(rt;
+            "request {} of client {}: {reply:?}",
+            request.seq, request.client
+        )?;
+    }
+    Ok(was_staged)
+}
+
+/// Submits a command, and takes turns until nothing is left to do.
+fn serve<D: Disk>(
+    rt: &HostRuntime,
+    core: &mut Core,
+    journal: &mut Journal<D>,
+    command: Command,
+) -> Result<()> {
+    println!(rt; "opened with {} facts", core.facts())?;
+    core.submit(command)?;
+    for _ in 0..64 {
+        if !turn(rt, core, journal)? {
+            break;
+        }
+    }
+    Ok(())
+}
+
+/// Opens a disk, and serves a command over it.
+fn open_and_serve<D: Disk + Drop>(rt: &HostRuntime, disk: D, command: Command) -> Result<()>
     requires alike { (one other : D) → D.tells one → D.tells other }
 {
     let nodes = Nodes::new(1)?;
@@ -57,23 +87,9 @@ fn serve<D: Disk + Drop>(rt: &HostRuntime, disk: D, command: Command) -> Result<
         Ok(opened) => opened,
         Err((refusal, _)) => return Err(refusal.into()),
     };
-    println!(rt; "opened with {} facts", core.facts())?;
-    core.submit(command)?;
-    for _ in 0..64 {
-        let was_staged = flush(rt.alloc(), &mut core, &mut journal)?;
-        send(&mut core)?;
-        if let Some((request, reply)) = core.next_ack() {
-            println!(rt;
-                "request {} of client {}: {reply:?}",
-                request.seq, request.client
-            )?;
-        }
-        if !was_staged {
-            break;
-        }
-    }
+    let served = serve(rt, &mut core, &mut journal, command);
     drop(journal.into_disk());
-    Ok(())
+    served
 }
 
 fn main(rt: HostRuntime) -> Result<()> {
@@ -82,7 +98,7 @@ fn main(rt: HostRuntime) -> Result<()> {
         let disk = FileDisk::open(&rt, "node0", true)?;
         let request = RequestNo { client, seq };
         let op = Op::Claim(name, Value::new(b"blue")?);
-        serve(&rt, disk, Command { request, op })?;
+        open_and_serve(&rt, disk, Command { request, op })?;
     }
     Ok(())
 }
