@@ -112,7 +112,7 @@ class Broken(run_memory.Made):
             holds = is_reached and how not in ("EINTR", "short") and self.is_ended_by(how, ending)
             tally.check(holds, lambda: f"{what}: {tell(ending)}")
             tally.counts["runs that ended by a call"] += 1
-        self.check_tape(tally, what)
+        self.check_tape(tally, what, is_cut=self.tape.encode() in ending.err)
         self.again(tally, what, lines, disks)
 
     def is_ended_by(self, how, ending):

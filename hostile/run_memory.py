@@ -98,8 +98,11 @@ class Made:
         self.again(tally, what, lines, disks)
         return is_reached
 
-    def check_tape(self, tally, what):
+    def check_tape(self, tally, what, is_cut=False):
+        """A tape is accepted; of one whose writing failed, the whole lines that it has."""
         tape = scripts.bytes_of(self.tape)
+        if is_cut:
+            tape = tape[: tape.rfind(b"\n") + 1]
         if tape:
             ending = self.rig.plain.ask(f"audit {len(tape)}", tape)
             tally.check(ending.status == 0, lambda: f"{what}: the tape isn't accepted, {tell(ending)}")
