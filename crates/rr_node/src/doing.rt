@@ -128,10 +128,7 @@ pub fn go_on(
 fn take_out(alloc: Global, doing: &mut Doing) -> Doing
     ensures { result ≡ doing.old }
 {
-    mem::replace(
-        doing,
-        Doing::Stopped(FailingDisk::new(MemDisk::new(alloc))),
-    )
+    mem::replace(doing, Doing::Stopped(FailingDisk::new(MemDisk::new(alloc))))
 }
 
 /// Puts in what the node does from now on.
