@@ -57,6 +57,7 @@ impl Doing {
         ensures areas { result.below.areas ≡ areas_of self }
         ensures due { result.due ≡ due_of self }
         ensures calls { result.calls ≡ calls_of self }
+        ensures serving { (s : Serving) → self ≡ Doing.Serving s → result ≡ s.slots.disk }
     {
         match self {
             Doing::Stopped(disk) => disk,
