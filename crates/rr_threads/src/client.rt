@@ -8,20 +8,23 @@ use rr_locked::{Place, Turnstile, submit_on};
 use rr_script::{Answer, ScriptLine};
 use rr_types::{Command, Name, NodeId, Op, Refusal, Reply, RequestNo, Value};
 use rr_window::{Receipt, Seat, Sight, WindowName};
-use std::sync::{Mutex, Wait};
+use std::sync::Wait;
+use std::thread::Parker;
 
 /// So many times a client looks for its receipt before it gives up.
 const POLLS: u32 = 10_000_000;
 
-/// An answer, and the place of its line in the script.
-#[derive(Clone, Copy, Debug)]
-pub struct Answered {
-    pub place: usize,
-    pub answer: Answer,
+/// Someone who asks one node, in a thread of its own and with a seat of its own.
+pub trait Client {
+    /// What it asks next, as a line that the node answers, whichever node the line names. None: it is done.
+    fn ask(&mut self) -> Option<ScriptLine>;
+
+    /// What it asked last is answered. An error ends the run.
+    fn hear(&mut self, answer: Answer) -> Result<(), Refusal>;
 }
 
 /// The node is asked for a command. Answers whether the reply is there already.
-fn ask<W: WindowName, R: Wait>(
+fn submit_in<W: WindowName, R: Wait>(
     rt: &R,
     desk: &Desk<W>,
     recorder: Option<&Recorder>,
@@ -40,6 +43,7 @@ fn receipt_for<W: WindowName, R: Wait>(
     rt: &R,
     running: &Running,
     desk: &Desk<W>,
+    bell: &Parker,
     request: RequestNo,
 ) -> Option<Receipt<W>> {
     let mut rest = Rest::new(LONG);
@@ -50,7 +54,7 @@ fn receipt_for<W: WindowName, R: Wait>(
         if running.is_over() {
             break;
         }
-        rest.wait(rt, &desk.client);
+        rest.wait(rt, bell);
     }
     None
 }
@@ -68,6 +72,7 @@ fn submit<W: WindowName, T: Turnstile, R: Wait>(
     rt: &R,
     running: &Running,
     desk: &Desk<W>,
+    bell: &Parker,
     recorder: Option<&Recorder>,
     turnstile: &T,
     node: NodeId,
@@ -75,9 +80,9 @@ fn submit<W: WindowName, T: Turnstile, R: Wait>(
     command: &Command,
 ) -> Answer {
     let request = command.request;
-    let asked = ask(rt, desk, recorder, command);
+    let submitted = submit_in(rt, desk, recorder, command);
     turnstile.pass(node, Place::AfterSubmit);
-    match asked {
+    match submitted {
         Err(refusal) => {
             if recorder.is_some() && leaves_a_gap(&refusal) {
                 running.fail(rt, node, refusal);
@@ -87,7 +92,7 @@ fn submit<W: WindowName, T: Turnstile, R: Wait>(
         Ok(true) => desk.publisher.unpark(),
         Ok(false) => running.ring(node),
     }
-    match receipt_for(rt, running, desk, request) {
+    match receipt_for(rt, running, desk, bell, request) {
         None => Answer::Unacknowledged { node, request },
         Some(receipt) => {
             seat.learn(&receipt);
@@ -124,6 +129,7 @@ fn answer<W: WindowName, T: Turnstile, R: Wait>(
     rt: &R,
     running: &Running,
     desk: &Desk<W>,
+    bell: &Parker,
     recorder: Option<&Recorder>,
     turnstile: &T,
     node: NodeId,
@@ -133,35 +139,36 @@ fn answer<W: WindowName, T: Turnstile, R: Wait>(
     let _parts: Option<(Answer, ScriptLine, Command, Op, Name, Reply, Value)> = None;
     match line {
         ScriptLine::Submit { node: _, command } => submit(
-            rt, running, desk, recorder, turnstile, node, seat, command,
+            rt, running, desk, bell, recorder, turnstile, node, seat, command,
         ),
         ScriptLine::Look { node: _, name } => look(node, seat, name),
     }
 }
 
-/// Asks what the lines of a script ask of this node, in their order, until the run is over.
-pub fn serve<W: WindowName, T: Turnstile, R: Wait>(
+/// Asks a node what a client asks, line by line, until the client is done or the run is over.
+pub fn serve<W: WindowName, T: Turnstile, R: Wait, C: Client + Drop>(
     rt: &R,
     running: &Running,
     desk: &Desk<W>,
     recorder: Option<&Recorder>,
     turnstile: &T,
     node: NodeId,
+    place: usize,
     seat: Seat<W>,
-    lines: &[ScriptLine],
-    answers: &Mutex<Vec<Answered>>,
+    client: C,
 ) {
-    let _parts: Option<(Answer, ScriptLine, Command, Op, Name, Reply, Value)> = None;
     let mut seat = seat;
-    for place in 0..lines.len() {
-        let line = &lines[place];
-        if line.node().index() == node.index() {
+    let mut client = client;
+    if let Some(bell) = desk.bell(place) {
+        for _ in rt.forever() {
+            let Some(line) = client.ask() else {
+                break;
+            };
             let answer = answer(
-                rt, running, desk, recorder, turnstile, node, &mut seat, line,
+                rt, running, desk, bell, recorder, turnstile, node, &mut seat, &line,
             );
-            let pushed = answers.lock(rt).push(Answered { place, answer });
-            if pushed.is_err() {
-                running.fail(rt, node, Refusal::OutOfMemory);
+            if let Err(refusal) = client.hear(answer) {
+                running.fail(rt, node, refusal);
             }
             if running.is_over() {
                 break;

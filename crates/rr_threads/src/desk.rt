@@ -13,48 +13,63 @@ pub struct Desk<W: WindowName> {
     pub locked: Mutex<Locked>,
     pub flusher: Parker,
     pub publisher: Parker,
-    pub client: Parker,
+    clients: Vec<Parker>,
     receipts: Mutex<Vec<Receipt<W>>>,
 }
 
 impl<W: WindowName> Desk<W> {
-    /// A node that is up.
-    pub fn new(alloc: Global, locked: Locked) -> Desk<W> {
-        Desk {
+    /// A node that is up, with so many clients.
+    pub fn new(alloc: Global, locked: Locked, count: usize) -> Result<Desk<W>, Refusal> {
+        let mut clients = Vec::new(alloc);
+        for _ in 0..count {
+            clients.push(Parker::new())?;
+        }
+        Ok(Desk {
             locked: Mutex::new(locked),
             flusher: Parker::new(),
             publisher: Parker::new(),
-            client: Parker::new(),
+            clients,
             receipts: Mutex::new(Vec::new(alloc)),
-        }
+        })
+    }
+
+    /// The bell of a client, if there are so many.
+    pub fn bell(&self, client: usize) -> Option<&Parker> {
+        self.clients.get(client)
     }
 
     /// Rings for all of the node's threads but its loop.
     pub fn ring_all(&self) {
         self.flusher.unpark();
         self.publisher.unpark();
-        self.client.unpark();
+        self.ring_clients();
     }
 
-    /// A receipt waits for the client.
+    fn ring_clients(&self) {
+        for client in &self.clients {
+            client.unpark();
+        }
+    }
+
+    /// A receipt waits for its client.
     pub fn give_receipt<R: Wait>(&self, rt: &R, receipt: Receipt<W>) -> Result<(), Refusal> {
         let pushed = self.receipts.lock(rt).push(receipt);
         match pushed {
             Ok(()) => {
-                self.client.unpark();
+                self.ring_clients();
                 Ok(())
             }
             Err(_) => Err(Refusal::OutOfMemory),
         }
     }
 
-    /// The newest receipt, if there is one. One for another request is of a client that gave up.
+    /// The receipt for a request, if it is there. One stays whose client gave up.
     pub fn take_receipt<R: Wait>(&self, rt: &R, request: RequestNo) -> Option<Receipt<W>> {
-        let receipt = self.receipts.lock(rt).pop()?;
-        if receipt.request().is_same(request) {
-            Some(receipt)
-        } else {
-            None
-        }
+        let mut guard = self.receipts.lock(rt);
+        let receipts = &mut *guard;
+        let place = receipts
+            .iter()
+            .position(|receipt| receipt.request().is_same(request))?;
+        Some(receipts.swap_remove(place))
     }
 }

@@ -134,7 +134,7 @@ fn nodes_agree_on_the_claims_of_their_clients(rt: HostRuntime) -> Result<(), Fai
 fn the_tape_of_a_run_is_accepted(rt: HostRuntime) -> Result<(), Fail> {
     let dir = "rr_run_taped";
     let _ = fs::remove_dir_all(&rt, dir);
-    let (script, answers) = claims(rt.alloc(), 3, 5)?;
+    let (script, answers) = claims(rt.alloc(), 3, 14)?;
     fs::write(&rt, "rr_run_taped.script", script.as_bytes())?;
     let words = [
         "rr",
