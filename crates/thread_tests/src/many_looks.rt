@@ -2,7 +2,7 @@
 
 ghost use Rattle.std.specs.Prelude.{◌≡◌};
 
-use rr_types::{Command, Name, Op, RequestNo, Value};
+use rr_types::{Command, Name, Op, Refusal, RequestNo, Value};
 use rr_window::{NewList, Publisher, SEATS, Seat, Seats, Sight, WindowName, open};
 use std::alloc::Global;
 use std::marker::Brand;
@@ -10,47 +10,84 @@ use std::process::Abort;
 use std::sync::Wait;
 use std::thread::{Threads, join, map_vec, yield_now};
 
-/// So many times each seat looks.
-const LOOKS: u32 = 20_000;
+/// So many times each seat looks at least.
+const LOOKS: u32 = 100_000;
+
+/// More looks than any seat needs.
+const TURNS: u32 = 20_000_000;
 
 /// So many commands are published meanwhile.
-const COMMANDS: u64 = 1_000;
+const COMMANDS: u32 = 1_000;
 
-/// A name that comes to be bound, and stays.
-fn name_of(rt: &impl Abort) -> Name {
-    Name::new(b"a").expect(rt, "a name")
+/// The value after so many commands. All are equally long, and a later one is greater.
+fn value_after(count: u32) -> Result<Value, Refusal> {
+    let first = b'a' + (count / 676 % 26) as u8;
+    let second = b'a' + (count / 26 % 26) as u8;
+    let third = b'a' + (count % 26) as u8;
+    Value::new(&[first, second, third])
 }
 
-/// Looks at the name, and says whether it stayed bound once it was.
-fn stays_bound<W: WindowName>(seat: Seat<W>, name: &Name) -> bool {
+/// The value that a look at the name tells, if client 7 has it.
+fn seen<W: WindowName>(seat: &mut Seat<W>, name: &Name) -> Option<Value> {
+    match seat.look(name) {
+        Ok(Sight::Bound(7, value)) => Some(value),
+        _ => None,
+    }
+}
+
+/// Whether a name that was bound is free again, or has an earlier value.
+fn went_back(before: &Option<Value>, now: &Option<Value>) -> bool {
+    match (before, now) {
+        (None, _) => false,
+        (Some(_), None) => true,
+        (Some(earlier), Some(later)) => later.as_bytes() < earlier.as_bytes(),
+    }
+}
+
+fn is_last(now: &Option<Value>, last: &Value) -> bool {
+    match now {
+        None => false,
+        Some(value) => value.as_bytes() == last.as_bytes(),
+    }
+}
+
+/// Looks at the name so often, and then until it has the last value. False where it ever went back.
+fn sees_the_last<W: WindowName>(seat: Seat<W>, name: &Name, last: &Value) -> bool {
     let mut seat = seat;
-    let mut was_bound = false;
-    for _ in 0..LOOKS {
-        let is_bound = matches!(seat.look(name), Ok(Sight::Bound(7, _)));
-        if was_bound && !is_bound {
+    let mut before = None;
+    for turn in 0..TURNS {
+        if turn >= LOOKS {
+            if is_last(&before, last) {
+                return true;
+            }
+            yield_now();
+        }
+        let now = seen(&mut seat, name);
+        if went_back(&before, &now) {
             return false;
         }
-        was_bound = is_bound;
+        before = now;
     }
-    true
+    false
 }
 
-/// Publishes a claim of the name, and then updates of it one by one.
-fn publish_all<W: WindowName, R: Wait>(
-    rt: &R,
-    publisher: &mut Publisher<W>,
-    name: &Name,
-    value: &Value,
-) -> bool {
+/// Publishes a claim of the name, and then one update of it after another.
+fn publish_all<W: WindowName, R: Wait>(rt: &R, publisher: &mut Publisher<W>, name: &Name) -> bool {
     let _parts: Option<Op> = None;
-    for seq in 0..COMMANDS {
-        let op = if seq == 0 {
-            Op::Claim(*name, *value)
-        } else {
-            Op::Update(*name, *value)
+    for count in 0..COMMANDS {
+        let Ok(value) = value_after(count) else {
+            return false;
         };
-        let request = RequestNo { client: 7, seq };
-        if publisher.count() > COMMANDS || publisher.append(Command { request, op }).is_err() {
+        let op = if count == 0 {
+            Op::Claim(*name, value)
+        } else {
+            Op::Update(*name, value)
+        };
+        let request = RequestNo {
+            client: 7,
+            seq: u64::from(count),
+        };
+        if publisher.count() > 1_000_000 || publisher.append(Command { request, op }).is_err() {
             return false;
         }
         if publisher.publish(rt).is_err() {
@@ -76,16 +113,16 @@ fn look_beside_a_publisher<W: WindowName + Send + Sync, R: Threads + Wait + Sync
     mut publisher: Publisher<W>,
     seats: Vec<Seat<W>>,
     name: &Name,
-    value: &Value,
+    last: &Value,
 ) -> (bool, bool) {
     let lent = &mut publisher;
     let (looked, published) = join(
         rt,
-        move || match map_vec(rt, seats, &|seat| stays_bound(seat, name)) {
-            Ok(all) => all.iter().all(|stayed| *stayed),
+        move || match map_vec(rt, seats, &|seat| sees_the_last(seat, name, last)) {
+            Ok(all) => all.iter().all(|is_right| *is_right),
             Err(_) => false,
         },
-        move || publish_all(rt, lent, name, value),
+        move || publish_all(rt, lent, name),
     );
     publisher.close(rt);
     (looked, published)
@@ -98,12 +135,12 @@ fn all_seats_look<W: WindowName + Send + Sync, R: Threads + Wait + Abort + Sync>
 )
     requires { list ≡ W.book }
 {
-    let name = name_of(rt);
-    let value = Value::new(b"x").expect(rt, "a value");
+    let name = Name::new(b"a").expect(rt, "a name");
+    let last = value_after(COMMANDS - 1).expect(rt, "a value");
     let window = open::<W>(alloc, list).expect(rt, "a window");
     let (publisher, seats) = window.split();
     let taken = take_all(rt, alloc, &seats);
-    let (looked, published) = look_beside_a_publisher(rt, publisher, taken, &name, &value);
+    let (looked, published) = look_beside_a_publisher(rt, publisher, taken, &name, &last);
     assert!(rt; published);
     assert!(rt; looked);
 }

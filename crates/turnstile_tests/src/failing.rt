@@ -1,16 +1,19 @@
 //! Runs in which the disk of a node fails while the others go on.
 
+use crate::asking::{claimers, comes, numbered};
 use rr_disk::{AreaFile, FileDisk};
-use rr_locked::Open;
+use rr_locked::{Open, Place, Turnstile};
 use rr_script::{Answers, Script};
-use rr_threads::run_script;
-use rr_types::{Nodes, Refusal};
+use rr_threads::{run_clients, run_script};
+use rr_types::{NodeId, Nodes, Refusal};
 use std::alloc::Global;
 use std::io;
 use std::io::ErrorKind;
 use std::process::Abort;
 use std::sync::Wait;
+use std::sync::atomic::{AtomicBool, AtomicU64, Ordering};
 use std::thread::Threads;
+use std::time::Clock;
 
 /// A file in memory whose writes fail after the first so many.
 #[derive(Drop)]
@@ -121,4 +124,46 @@ fn a_disk_that_fails_in_an_opening_ends_the_run(rt: HostRuntime) {
         let ran = ran(&rt, [1_000_000, 1_000_000, writes]);
         assert!(rt; matches!(ran, Err(Refusal::Device)));
     }
+}
+
+/// Holds each flush of the last of three nodes until the clients of the others have their replies.
+#[derive(Drop)]
+struct UntilOthers<'a, R> {
+    rt: &'a R,
+    answered: AtomicU64,
+    gave_up: AtomicBool,
+}
+
+impl<'a, R: Clock> Turnstile for UntilOthers<'a, R> {
+    fn pass(&self, node: NodeId, place: Place) {
+        if place == Place::BeforeDevice && node.index() == 2 && !comes(self.rt, &self.answered, 2) {
+            self.gave_up.store(true, Ordering::SeqCst);
+        }
+    }
+}
+
+/// Three nodes, of which the last can't write after its opening. The others acknowledge their claims before it fails.
+fn others_go_on<R: Threads + Wait + Clock + Abort + AllocGlobal + Sync>(rt: &R) {
+    let turnstile = UntilOthers {
+        rt,
+        answered: AtomicU64::new(0),
+        gave_up: AtomicBool::new(false),
+    };
+    let nodes = numbered(rt, 3);
+    let clients = claimers(rt, nodes, &turnstile.answered);
+    let mut disks = Vec::new(rt.alloc());
+    for left in [1_000_000, 1_000_000, OPENING] {
+        disks
+            .push(worn_disk(rt, rt.alloc(), left))
+            .expect(rt, "memory");
+    }
+    let ran = run_clients(rt, rt.alloc(), nodes, disks, clients, &turnstile, None);
+    assert!(rt; matches!(ran, Err(Refusal::Device)));
+    assert!(rt; !turnstile.gave_up.load(Ordering::SeqCst));
+    assert!(rt; turnstile.answered.load(Ordering::SeqCst) == 2);
+}
+
+#[test]
+fn nodes_acknowledge_beside_one_whose_disk_fails(rt: HostRuntime) {
+    others_go_on(&rt);
 }

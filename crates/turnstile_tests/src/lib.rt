@@ -3,6 +3,10 @@
 #![tactic(auto)]
 
 #[cfg(test)]
+mod asking;
+#[cfg(test)]
 mod failing;
 #[cfg(test)]
 mod nodes;
+#[cfg(test)]
+mod taped;
