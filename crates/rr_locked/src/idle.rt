@@ -34,7 +34,7 @@ impl IdleTurns {
 
     /// One more turn, which has found something to do or nothing. Answers whether the node ticks now: at the thousandth
     /// idle turn, from which on they are counted anew. A busy turn leaves the count as it is. If it began anew there, the
-    /// beats of a node that ticks would keep the others from ticking for ever.
+    /// beats of a node that ticks would hold up the ticks of the others.
     pub fn count(&mut self, has_found: bool) -> bool
         ensures due { result ≡ is_tick_due has_found self.old }
         ensures count { self.new ≡ idle_after has_found self.old }
