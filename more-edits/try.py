@@ -4,19 +4,21 @@
     more-edits/try.py [--gate] [--anew] [--since COMMIT] [--jobs N] [CRATE ..]
 
 With --since it takes the crates of which a source, a definition, a proof or an edit has changed since that commit; else those that
-are named, or all. With --gate it tries the gate's own edits, crates/*/must-fail. It runs the kit's `rt must-fail`, which begins with
-what checks on this machine have kept, proves a library that is missing, and tries nothing again that hasn't changed, but with --anew.
-N checks run side by side, one if left out.
+are named, or all. With --gate it tries the gate's own edits, crates/*/must-fail. It runs the kit's `rt ci` over these crates and
+those below. So it takes what earlier runs on this machine proved or tried, but with --anew. N checks run side by side, as many as
+there are processors if left out.
 
 The gate leaves these edits out for its time: they turn the meaning of what stands inside a crate, or of a public function that another
-edit turns in the gate. At the end it names the edits of which proof files alone complain, and no goal of a source: there a proof by hand
-no longer fits, and whether the contract is broken has to be read."""
+edit turns in the gate. At the end it says how many were refused, and names those that weren't. It also names the edits of this run of
+which proof files alone complain, and no goal of a source: there a proof by hand no longer fits, and whether the contract is broken has
+to be read."""
 import argparse
 import importlib.machinery
 import importlib.util
 import os
 import pathlib
 import re
+import resource
 import shutil
 import subprocess
 import sys
@@ -56,12 +58,12 @@ def copy_tree(copy, edits):
 
 
 def kit():
-    """Loads the kit's command as a module, and notes the edits of which proof files alone complain."""
+    """Loads the kit's command as a module. Notes what it says of each edit, and the edits of which proof files alone complain."""
     sys.dont_write_bytecode = True
     loader = importlib.machinery.SourceFileLoader("rt_command", os.path.realpath(shutil.which("rt")))
     rt = importlib.util.module_from_spec(importlib.util.spec_from_loader("rt_command", loader))
     loader.exec_module(rt)
-    checked, must_fail, last, by_hand = rt.checked, rt.must_fail, threading.local(), set()
+    checked, must_fail, say, last, by_hand, verdicts = rt.checked, rt.must_fail, rt.say, threading.local(), set(), {}
 
     def noted(*given):
         last.ran = checked(*given)
@@ -72,10 +74,32 @@ def kit():
         told = re.findall(r"^(?:note: )?(?:\./)?(\w+)/\S+:\d+:\d+:", last.ran.stdout, re.MULTILINE)
         if kind == rt.REFUSED and told and set(told) == {"proofs"}:
             by_hand.add(f"{crate.name}/{os.path.basename(edit)}")
+        print(f"tried {crate.name}/{os.path.basename(edit)}: {kind}", file=sys.stderr, flush=True)
         return kind, text
 
-    rt.checked, rt.must_fail = noted, judged
-    return rt, by_hand
+    def said(text, *given):
+        told = re.match(r"must-fail (\S+): (.*)", text)
+        if told:
+            verdicts[told[1]] = told[2]
+        say(text, *given)
+
+    rt.checked, rt.must_fail, rt.say = noted, judged, said
+    return rt, by_hand, verdicts
+
+
+def tell(verdicts, by_hand, asked, minutes):
+    """Tells what the edits came to, and gives whether all that were asked for are refused."""
+    refused = {it for it, text in verdicts.items() if text.startswith("refused, as it must be")}
+    for edit in sorted(by_hand):
+        print(f"of this one proof files alone complain: {edit}")
+    for edit in sorted(it for it in refused if "only by a limit" in verdicts[it]):
+        print(f"this one only a limit of the prover refuses: {edit}")
+    for edit in sorted(asked - refused):
+        print(f"this one is not refused: {edit}")
+    used = [resource.getrusage(it) for it in (resource.RUSAGE_SELF, resource.RUSAGE_CHILDREN)]
+    seconds = sum(it.ru_utime + it.ru_stime for it in used)
+    print(f"{len(refused)} of {len(asked)} edits refused, {minutes:.1f} minutes by the clock, {seconds:.0f} processor seconds")
+    return asked <= refused
 
 
 def main():
@@ -83,7 +107,7 @@ def main():
     words.add_argument("--gate", action="store_true")
     words.add_argument("--anew", action="store_true")
     words.add_argument("--since", metavar="COMMIT")
-    words.add_argument("--jobs", type=int, default=1)
+    words.add_argument("--jobs", type=int)
     words.add_argument("crates", nargs="*", metavar="CRATE")
     asked = words.parse_args()
     edits = edits_of(asked.gate)
@@ -98,14 +122,15 @@ def main():
     with tempfile.TemporaryDirectory() as room:
         copy_tree(pathlib.Path(room), {name: edits[name] for name in names})
         os.chdir(room)
-        os.environ["RT_JOBS"] = str(max(asked.jobs, 1))
-        subprocess.run(["git", "init", "--quiet"], check=True)
-        rt, by_hand = kit()
-        status = rt.main(["must-fail", *(["--anew"] if asked.anew else []), *sorted(names)])
-    for edit in sorted(by_hand):
-        print(f"of this one proof files alone complain: {edit}")
-    print(f"{(time.monotonic() - begun) / 60:.1f} minutes")
-    return status
+        os.environ.pop("CI", None)
+        if asked.jobs:
+            os.environ["RT_JOBS"] = str(asked.jobs)
+        rt, by_hand, verdicts = kit()
+        status = rt.main(["ci", *(["--anew"] if asked.anew else []), *sorted(names)])
+        os.chdir(TREE)
+    wanted = {f"{name}/{edit.name}" for name in names for edit in edits[name].glob("*.edit")}
+    is_well = tell(verdicts, by_hand, wanted, (time.monotonic() - begun) / 60)
+    return status or not is_well
 
 
 sys.exit(main())
