@@ -1,12 +1,12 @@
 #!/usr/bin/env python3
 """Tries the edits in the folders beside it, named after their crates, on a copy of the tree: the prover must refuse each.
 
-    more-edits/try.py [--gate] [--anew] [--since COMMIT] [--jobs N] [CRATE ..]
+    more-edits/try.py [--gate | --all] [--anew] [--since COMMIT] [--jobs N] [CRATE ..]
 
 With --since it takes the crates of which a source, a definition, a proof or an edit has changed since that commit; else those that
-are named, or all. With --gate it tries the gate's own edits, crates/*/must-fail. It runs the kit's `rt ci` over these crates and
-those below. So it takes what earlier runs on this machine proved or tried, but with --anew. N checks run side by side, as many as
-there are processors if left out.
+are named, or all. With --gate it tries the gate's own edits, crates/*/must-fail, and with --all both. It runs the kit's `rt ci` over
+these crates and those below. So it takes what earlier runs on this machine proved or tried, but with --anew. N checks run side by
+side, as many as there are processors if left out.
 
 The gate leaves these edits out for its time: they turn the meaning of what stands inside a crate, or of a public function that another
 edit turns in the gate. At the end it says how many were refused, and names those that weren't. It also names the edits of this run of
@@ -41,10 +41,12 @@ def changed_since(commit):
     return {part[1] for part in parts if len(part) > 2 and part[0] in ("crates", "more-edits")}
 
 
-def edits_of(is_gate):
-    """The folders of edits, by crate."""
-    folders = TREE.glob("crates/*/must-fail") if is_gate else (it for it in FOLDER.iterdir() if it.is_dir())
-    return {it.parent.name if is_gate else it.name: it for it in folders}
+def edits_of(gate, more):
+    """The files of edits, by crate: those of the gate, or those beside this script, or both."""
+    found = {}
+    for edit in [*(TREE.glob("crates/*/must-fail/*.edit") if gate else ()), *(FOLDER.glob("*/*.edit") if more else ())]:
+        found.setdefault(edit.parent.name if edit.parent.parent == FOLDER else edit.parent.parent.name, []).append(edit)
+    return found
 
 
 def copy_tree(copy, edits):
@@ -53,8 +55,10 @@ def copy_tree(copy, edits):
         if (TREE / path).is_file() and "/must-fail/" not in path:
             (copy / path).parent.mkdir(parents=True, exist_ok=True)
             shutil.copy2(TREE / path, copy / path)
-    for name, folder in edits.items():
-        shutil.copytree(folder, copy / "crates" / name / "must-fail")
+    for name, files in edits.items():
+        (copy / "crates" / name / "must-fail").mkdir()
+        for file in files:
+            shutil.copy2(file, copy / "crates" / name / "must-fail")
 
 
 def kit():
@@ -104,13 +108,15 @@ def tell(verdicts, by_hand, asked, minutes):
 
 def main():
     words = argparse.ArgumentParser()
-    words.add_argument("--gate", action="store_true")
+    which = words.add_mutually_exclusive_group()
+    which.add_argument("--gate", action="store_true")
+    which.add_argument("--all", action="store_true")
     words.add_argument("--anew", action="store_true")
     words.add_argument("--since", metavar="COMMIT")
     words.add_argument("--jobs", type=int)
     words.add_argument("crates", nargs="*", metavar="CRATE")
     asked = words.parse_args()
-    edits = edits_of(asked.gate)
+    edits = edits_of(asked.gate or asked.all, not asked.gate)
     names = set(edits)
     if asked.crates:
         names &= set(asked.crates)
@@ -128,7 +134,7 @@ def main():
         rt, by_hand, verdicts = kit()
         status = rt.main(["ci", *(["--anew"] if asked.anew else []), *sorted(names)])
         os.chdir(TREE)
-    wanted = {f"{name}/{edit.name}" for name in names for edit in edits[name].glob("*.edit")}
+    wanted = {f"{name}/{edit.name}" for name in names for edit in edits[name]}
     is_well = tell(verdicts, by_hand, wanted, (time.monotonic() - begun) / 60)
     return status or not is_well
 
