@@ -5,8 +5,8 @@
 
 With --since it takes the crates of which a source, a definition, a proof or an edit has changed since that commit; else those that
 are named, or all. With --gate it tries the gate's own edits, crates/*/must-fail, and with --all both. It runs the kit's `rt ci` over
-these crates and those below. So it takes what earlier runs on this machine proved or tried, but with --anew. N checks run side by
-side, as many as there are processors if left out.
+a copy of these crates and those below. Where the kit keeps what earlier runs on this machine proved or tried, it takes that, but with
+--anew. N checks run side by side, as many as there are processors if left out.
 
 The gate leaves these edits out for its time: they turn the meaning of what stands inside a crate, or of a public function that another
 edit turns in the gate. At the end it says how many were refused, and names those that weren't. It also names the edits of this run of
@@ -49,12 +49,26 @@ def edits_of(gate, more):
     return found
 
 
+def with_those_below(names):
+    """Gives the lines of crates.txt on these crates and all below them, by crate."""
+    lines = {line.split()[0].rstrip(":"): line for line in (TREE / "crates.txt").read_text().splitlines() if line and line[0] != "#"}
+    kept, left = {}, list(names)
+    while left:
+        name = left.pop()
+        if name in lines and name not in kept:
+            kept[name] = lines[name]
+            left += lines[name].partition(":")[2].split()
+    return kept
+
+
 def copy_tree(copy, edits):
-    """Copies what git knows of, with these edits alone."""
-    for path in lines_of("git", "ls-files", "--cached", "--others", "--exclude-standard"):
+    """Copies what git knows of these crates and those below, with these edits alone."""
+    lines = with_those_below(edits)
+    for path in lines_of("git", "ls-files", "--cached", "--others", "--exclude-standard", "HANDLES", *(f"crates/{name}" for name in lines)):
         if (TREE / path).is_file() and "/must-fail/" not in path:
             (copy / path).parent.mkdir(parents=True, exist_ok=True)
             shutil.copy2(TREE / path, copy / path)
+    (copy / "crates.txt").write_text("".join(line + "\n" for line in lines.values()))
     for name, files in edits.items():
         (copy / "crates" / name / "must-fail").mkdir()
         for file in files:
@@ -76,7 +90,8 @@ def kit():
     def judged(crate, edit, *given):
         kind, text = must_fail(crate, edit, *given)
         told = re.findall(r"^(?:note: )?(?:\./)?(\w+)/\S+:\d+:\d+:", last.ran.stdout, re.MULTILINE)
-        if kind == rt.REFUSED and told and set(told) == {"proofs"}:
+        # (one kit gives a kind here, another whether it is refused)
+        if kind == getattr(rt, "REFUSED", True) and told and set(told) == {"proofs"}:
             by_hand.add(f"{crate.name}/{os.path.basename(edit)}")
         print(f"tried {crate.name}/{os.path.basename(edit)}: {kind}", file=sys.stderr, flush=True)
         return kind, text
@@ -132,7 +147,7 @@ def main():
         if asked.jobs:
             os.environ["RT_JOBS"] = str(asked.jobs)
         rt, by_hand, verdicts = kit()
-        status = rt.main(["ci", *(["--anew"] if asked.anew else []), *sorted(names)])
+        status = rt.main(["ci", *(["--anew"] if asked.anew else [])])
         os.chdir(TREE)
     wanted = {f"{name}/{edit.name}" for name in names for edit in edits[name]}
     is_well = tell(verdicts, by_hand, wanted, (time.monotonic() - begun) / 60)
