@@ -1,5 +1,4 @@
 pub mod EndLemmas
 pub mod ShowLemmas
 pub mod TapeLemmas
-pub mod WordLemmas
 pub mod SweepLemmas

@@ -29,7 +29,7 @@ use Rattle.rr_image.specs.Inspect.{Tells, Breaks, inspected}
 use Rattle.rr_cli.specs.Areas.{areas_text}
 use Rattle.rr_cli.specs.Draws.{IsNumberIn, AreNumbers}
 use Rattle.rr_cli.specs.Cuts.{IsCutBy}
-use Rattle.rr_cli.specs.Lines.{CutWords, Task, Simulate, Show, Draw, Audit, Run, Sweep, Picture}
+use Rattle.rr_words.specs.Tasks.{CutWords, Task, Simulate, Show, Draw, Audit, Run, Sweep, Picture}
 use Rattle.rr_cli.specs.Refusals.{status_of}
 use Rattle.rr_cli.specs.Tapes.{yes_text}
 

@@ -1,6 +1,5 @@
 pub mod Areas
 pub mod Ends
-pub mod Lines
 pub mod Refusals
 pub mod Draws
 pub mod Cuts

@@ -13,6 +13,9 @@ use rr_types::Nodes;
 use std::alloc::Global;
 use std::io::Write;
 
+// The words name as many steps as a schedule may have.
+const _: () = prove!(rr_words::MAX_STEPS == MAX_STEPS as u64);
+
 /// The numbers of a random schedule: how many nodes it has, the seed of its words, and how many steps it has.
 #[derive(Clone, Copy, Debug)]
 pub(crate) struct Draw {

@@ -16,6 +16,7 @@ pub use program::{execute, run};
 pub use refusals::{end_by_refusal, print_refusal, status};
 pub use rr_audit::audit_on;
 pub use rr_sim::{random_run, report_on};
+pub use rr_words::{CutWords, Task, read_words};
 pub use show::show_disk;
 pub use streams::{end_by_stream, end_by_text, end_without_words};
-pub use words::{CutWords, Task, end_by_words, read_words};
+pub use words::end_by_words;

@@ -4,7 +4,7 @@ ghost use Rattle.std.specs.Prelude.{◌≡◌, ◌≢◌, Option, IfOk, IfErr, O
 ghost use Rattle.std.specs.Io.KnownBytes.{Keeps};
 ghost use Rattle.std.specs.IoError.{error_kind};
 ghost use Rattle.clap.specs.Words.{Text};
-ghost use Rattle.rr_cli.specs.Lines.{CutWords, Simulate, Audit, Sweep, Picture, faults_of, task_of};
+ghost use Rattle.rr_words.specs.Tasks.{CutWords, Simulate, Audit, Sweep, Picture, faults_of, task_of};
 ghost use Rattle.rr_cli.specs.Ends.{EndsOn, EndsOnInput, EndsBy};
 
 use crate::audit::{audit_file, audit_input};
@@ -14,9 +14,10 @@ use crate::refusals::end_by_schedule_fault;
 use crate::show::{end_without_folder, show_folder};
 use crate::streams::{end_by_stream, end_by_text, end_without_threads, end_without_words};
 use crate::sweep::{end_without_seed, sweep_by_word, sweep_file};
-use crate::words::{Task, end_by_words, read_words};
+use crate::words::end_by_words;
 use rr_sim::report_on;
 use rr_stream::{Counted, Sink, Source, read_all};
+use rr_words::{Task, read_words};
 use std::alloc::Global;
 use std::convert::AsStr;
 use std::io::{ErrorKind, Write};

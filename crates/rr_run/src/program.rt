@@ -3,7 +3,7 @@
 ghost use Rattle.std.specs.Prelude.{◌≡◌, ◌≢◌, IfOk, IfErr, OnErr, map, string_bytes};
 ghost use Rattle.std.specs.Io.KnownBytes.{Keeps};
 ghost use Rattle.std.specs.IoError.{error_kind};
-ghost use Rattle.rr_cli.specs.Lines.{faults_of, task_of};
+ghost use Rattle.rr_words.specs.Tasks.{faults_of, task_of};
 ghost use Rattle.rr_run.specs.Runs.{EndsWithThreads};
 
 use crate::lock::Lockable;

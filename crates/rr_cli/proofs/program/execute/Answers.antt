@@ -1,7 +1,7 @@
 use Rattle.std.proofs.Common.{◌≡◌, ◌∙◌, ℕ, List, Option, option_map, Bor, refl, sym, ap, map, None, Some, inl, inr}
 use Rattle.clap.specs.Words.{Text, kind_of}
-use Rattle.rr_cli.specs.declared.words.Task.TheVariants as read
-use Rattle.rr_cli.specs.Lines.{Simulate, Show, Draw, Audit, Run, Sweep, Picture, cut_words_in, task_of, task_in}
+use Rattle.rr_words.specs.declared.tasks.Task.TheVariants as read
+use Rattle.rr_words.specs.Tasks.{Simulate, Show, Draw, Audit, Run, Sweep, Picture, cut_words_in, task_of, task_in}
 use Rattle.rr_cli.specs.Ends.{opened, unopened, mistaken, by_help, by_version, out_of_memory, by_standard_input, by_file, by_folder, by_numbers, without_numbers, by_tape_in_standard_input, by_tape_in_a_file, by_sweep_of_standard_input, by_sweep_of_a_file, by_picture_of_standard_input, by_picture_of_a_file, without_seed, without_threads}
 use Rattle.rr_cli.proofs.EndLemmas.{kind_cases}
 use Rattle.rr_cli.proofs.program.execute.Goals as goal

@@ -2,8 +2,8 @@ use Rattle.std.proofs.Common.{◌≡◌, ◌∙◌, List, Option, None, Some, []
 use Rattle.clap.specs.Words.{Text, kind_of}
 use Rattle.clap.specs.Kinds.{Kinds, IsAmong}
 use Rattle.clap.specs.declared.error.kind.ErrorKind.{ErrorKind}
-use Rattle.rr_cli.specs.declared.words.Task.TheVariants as read
-use Rattle.rr_cli.specs.Lines.{Simulate, Show, Draw, Audit, Run, Sweep, Picture, CutWords, cut_words_in, task_of, task_in}
+use Rattle.rr_words.specs.declared.tasks.Task.TheVariants as read
+use Rattle.rr_words.specs.Tasks.{Simulate, Show, Draw, Audit, Run, Sweep, Picture, CutWords, cut_words_in, task_of, task_in}
 use Rattle.rr_cli.specs.Ends.{mistaken, by_help, by_version}
 use Rattle.rr_cli.proofs.EndLemmas.{kind_cases}
 use Rattle.rr_run.specs.Runs.{by_script, by_others, out_of_memory}
