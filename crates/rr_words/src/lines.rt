@@ -3,10 +3,11 @@
 ghost use Rattle.std.specs.Prelude.{◌≡◌, false, IfOk, codes};
 ghost use Rattle.clap.specs.Words.{app_of, new_app, rule_of};
 ghost use Rattle.clap.specs.declared.builder.command.Command.TheViews.{out-Command};
-ghost use Rattle.rr_words.specs.Lines.{rr_line, rr_settings, sim_line, show_line, word_rule, number_rule, option_rule, optional_number_rule, random_line, audit_line, run_line, sweep_line, draw_line};
+ghost use Rattle.rr_words.specs.Lines.{rr_line, rr_settings, sim_line, show_line, migrate_line, word_rule, number_rule, option_rule, optional_number_rule, flag_rule, random_line, audit_line, run_line, sweep_line, draw_line};
 
+use crate::helps;
 use clap::builder::ValueParser;
-use clap::{Arg, Command};
+use clap::{Arg, ArgAction, Command};
 use std::alloc::{AllocError, Global};
 
 /// The greatest line that a word names.
@@ -26,6 +27,7 @@ pub(crate) fn command_line<'a>(alloc: Global) -> Result<Command<'a>, AllocError>
     let running = run_line(alloc)?;
     let sweep = sweep_line(alloc)?;
     let draw = draw_line(alloc)?;
+    let migrate = migrate_line(alloc)?;
     top_line(alloc)
         .subcommand(sim)?
         .subcommand(show)?
@@ -33,7 +35,8 @@ pub(crate) fn command_line<'a>(alloc: Global) -> Result<Command<'a>, AllocError>
         .subcommand(audit)?
         .subcommand(running)?
         .subcommand(sweep)?
-        .subcommand(draw)
+        .subcommand(draw)?
+        .subcommand(migrate)
 }
 
 // The command line without its subcommands.
@@ -43,16 +46,17 @@ fn top_line<'a>(alloc: Global) -> Command<'a>
     Command::new(alloc, "rr")
         .version("0.1.0")
         .about("A replicated name registry that recovers from crashes")
+        .after_long_help(helps::program())
         .arg_required_else_help(true)
         .subcommand_required(true)
 }
 
-// A subcommand without its arguments: what it does.
-fn subcommand<'a>(alloc: Global, name: &'a str, about: &'a str) -> Command<'a>
+// A subcommand without its arguments: what it does, and what its long help ends with.
+fn subcommand<'a>(alloc: Global, name: &'a str, about: &'a str, more: &'a str) -> Command<'a>
     ensures app { app_of result ≡ new_app name.entry.now }
     ensures local { (out-Command result).has_globals ≡ false }
 {
-    Command::new(alloc, name).about(about)
+    Command::new(alloc, name).about(about).after_long_help(more)
 }
 
 // A word, which has to be there or may be left out.
@@ -61,19 +65,6 @@ fn word_arg<'a>(alloc: Global, id: &'a str, help: &'a str, wanted: bool) -> Arg<
     ensures local { result.global ≡ false }
 {
     Arg::new(alloc, id).help(help).required(wanted)
-}
-
-// The schedule of a command.
-fn schedule_arg<'a>(alloc: Global) -> Arg<'a>
-    ensures rule { rule_of result ≡ word_rule (codes "FILE") false }
-    ensures local { result.global ≡ false }
-{
-    word_arg(
-        alloc,
-        "FILE",
-        "The schedule [default: standard input]",
-        false,
-    )
 }
 
 // An option that has to be there, with a number in a range.
@@ -121,13 +112,30 @@ fn option_arg<'a>(alloc: Global, id: &'a str, long: &'a str, help: &'a str, want
     Arg::new(alloc, id).long(long).help(help).required(wanted)
 }
 
+// An option without a text, which may be left out.
+fn flag_arg<'a>(alloc: Global, id: &'a str, long: &'a str, help: &'a str) -> Arg<'a>
+    ensures rule { rule_of result ≡ flag_rule id.entry.now long.entry.now }
+    ensures local { result.global ≡ false }
+{
+    Arg::new(alloc, id)
+        .long(long)
+        .help(help)
+        .action(ArgAction::SetTrue)
+}
+
 // The command line of `rr sim`.
 fn sim_line<'a>(alloc: Global) -> Result<Command<'a>, AllocError>
     ensures line { IfOk result (λ c. app_of c ≡ sim_line) }
     ensures local { IfOk result (λ c. (out-Command c).has_globals ≡ false) }
 {
-    let file = schedule_arg(alloc);
-    subcommand(alloc, "sim", "Runs a schedule and prints its report").arg(file)
+    let file = word_arg(alloc, "FILE", helps::schedule(), false);
+    subcommand(
+        alloc,
+        "sim",
+        "Runs a schedule and prints its report",
+        helps::sim(),
+    )
+    .arg(file)
 }
 
 // The command line of `rr show`.
@@ -136,7 +144,13 @@ fn show_line<'a>(alloc: Global) -> Result<Command<'a>, AllocError>
     ensures local { IfOk result (λ c. (out-Command c).has_globals ≡ false) }
 {
     let folder = word_arg(alloc, "DIR", "The folder of the node", true);
-    subcommand(alloc, "show", "Tells what the areas of a node's disk hold").arg(folder)
+    subcommand(
+        alloc,
+        "show",
+        "Tells what the areas of a node's disk hold",
+        helps::show(),
+    )
+    .arg(folder)
 }
 
 // The command line of `rr random`.
@@ -154,14 +168,22 @@ fn random_line<'a>(alloc: Global) -> Result<Command<'a>, AllocError>
         MAX_STEPS,
     );
     let nodes = number_arg(alloc, "NODES", "nodes", "How many nodes there are", 1, 7);
+    let alone = flag_arg(
+        alloc,
+        "ALONE",
+        "schedule-only",
+        "Prints the schedule alone, without the report",
+    );
     subcommand(
         alloc,
         "random",
         "Draws a random schedule, prints it and the report of its run",
+        helps::random(),
     )
     .arg(seed)?
     .arg(steps)?
-    .arg(nodes)
+    .arg(nodes)?
+    .arg(alone)
 }
 
 // The command line of `rr audit`.
@@ -174,6 +196,7 @@ fn audit_line<'a>(alloc: Global) -> Result<Command<'a>, AllocError>
         alloc,
         "audit",
         "Says whether the events of a tape are what nodes do",
+        helps::audit(),
     )
     .arg(file)
 }
@@ -197,6 +220,7 @@ fn run_line<'a>(alloc: Global) -> Result<Command<'a>, AllocError>
         alloc,
         "run",
         "Runs nodes in threads over folders, and prints the answers to a script",
+        helps::run(),
     )
     .arg(nodes)?
     .arg(dir)?
@@ -209,7 +233,7 @@ fn sweep_line<'a>(alloc: Global) -> Result<Command<'a>, AllocError>
     ensures line { IfOk result (λ c. app_of c ≡ sweep_line) }
     ensures local { IfOk result (λ c. (out-Command c).has_globals ≡ false) }
 {
-    let file = schedule_arg(alloc);
+    let file = word_arg(alloc, "FILE", helps::schedule(), false);
     let seed = number_arg(
         alloc,
         "SEED",
@@ -222,17 +246,10 @@ fn sweep_line<'a>(alloc: Global) -> Result<Command<'a>, AllocError>
         alloc,
         "sweep",
         "Crashes a node after each device call of a schedule, and tells what it restarts with",
+        helps::sweep(),
     )
     .arg(file)?
     .arg(seed)
-}
-
-// An option that may be left out, with a line.
-fn line_arg<'a>(alloc: Global, id: &'a str, long: &'a str, help: &'a str) -> Arg<'a>
-    ensures rule { rule_of result ≡ optional_number_rule id.entry.now long.entry.now 1 4294967295 }
-    ensures local { result.global ≡ false }
-{
-    optional_number_arg(alloc, id, long, help, 1, LAST_LINE)
 }
 
 // The command line of `rr draw`.
@@ -240,9 +257,23 @@ fn draw_line<'a>(alloc: Global) -> Result<Command<'a>, AllocError>
     ensures line { IfOk result (λ c. app_of c ≡ draw_line) }
     ensures local { IfOk result (λ c. (out-Command c).has_globals ≡ false) }
 {
-    let file = schedule_arg(alloc);
-    let from = line_arg(alloc, "FROM", "from", "The first line [default: 1]");
-    let to = line_arg(alloc, "TO", "to", "The last line [default: the end]");
+    let file = word_arg(alloc, "FILE", helps::schedule(), false);
+    let from = optional_number_arg(
+        alloc,
+        "FROM",
+        "from",
+        "The first line [default: 1]",
+        1,
+        LAST_LINE,
+    );
+    let to = optional_number_arg(
+        alloc,
+        "TO",
+        "to",
+        "The last line [default: the end]",
+        1,
+        LAST_LINE,
+    );
     let node = optional_number_arg(alloc, "NODE", "node", "The node [default: all nodes]", 0, 6);
     let instance = optional_number_arg(
         alloc,
@@ -256,10 +287,30 @@ fn draw_line<'a>(alloc: Global) -> Result<Command<'a>, AllocError>
         alloc,
         "draw",
         "Draws the run of a schedule as an SVG picture",
+        helps::draw(),
     )
     .arg(file)?
     .arg(from)?
     .arg(to)?
     .arg(node)?
     .arg(instance)
+}
+
+// The command line of `rr migrate`.
+fn migrate_line<'a>(alloc: Global) -> Result<Command<'a>, AllocError>
+    ensures line { IfOk result (λ c. app_of c ≡ migrate_line) }
+    ensures local { IfOk result (λ c. (out-Command c).has_globals ≡ false) }
+{
+    let folder = word_arg(alloc, "DIR", "The folder of the node", true);
+    let node = number_arg(alloc, "NODE", "node", "Which node it is", 0, 6);
+    let nodes = number_arg(alloc, "NODES", "nodes", "How many nodes there are", 1, 7);
+    subcommand(
+        alloc,
+        "migrate",
+        "Opens the disk of a node in the format of today, and tells what its areas hold",
+        helps::migrate(),
+    )
+    .arg(folder)?
+    .arg(node)?
+    .arg(nodes)
 }

@@ -2,7 +2,7 @@
 
 ghost use Rattle.std.specs.Prelude.{◌≡◌, option_map};
 ghost use Rattle.clap.specs.Words.{first_of, found_of, rows_of};
-ghost use Rattle.rr_words.specs.Tasks.{file_of, cut_words_of, cut_words_in, random_task, run_task, sweep_task, picture_task, task_by, task_in};
+ghost use Rattle.rr_words.specs.Tasks.{file_of, is_set, cut_words_of, cut_words_in, random_task, run_task, sweep_task, picture_task, migrate_task, task_by, task_in};
 
 use clap::ArgMatches;
 
@@ -19,6 +19,19 @@ pub struct CutWords<'a> {
     pub instance: Option<&'a str>,
 }
 
+/// The words of a random schedule.
+#[derive(Clone, Copy, Debug, PartialEq, Eq)]
+pub struct DrawWords<'a> {
+    /// The seed of the generator.
+    pub seed: Option<&'a str>,
+    /// How many steps follow the openings.
+    pub steps: Option<&'a str>,
+    /// How many nodes there are.
+    pub nodes: Option<&'a str>,
+    /// Whether the schedule is printed alone, without the report of its run.
+    pub alone: bool,
+}
+
 /// What words ask for.
 #[derive(Clone, Copy, Debug, PartialEq, Eq)]
 pub enum Task<'a> {
@@ -26,8 +39,9 @@ pub enum Task<'a> {
     Simulate(Option<&'a str>),
     /// `rr show DIR`: what the areas hold of the disk in this folder.
     Show(Option<&'a str>),
-    /// `rr random --seed SEED --steps STEPS --nodes NODES`: a random schedule and the report of its run.
-    Draw(Option<&'a str>, Option<&'a str>, Option<&'a str>),
+    /// `rr random --seed SEED --steps STEPS --nodes NODES [--schedule-only]`: a random schedule, and the report of its run
+    /// unless the schedule is printed alone.
+    Draw(DrawWords<'a>),
     /// `rr audit [FILE]`: whether the events are what nodes do of the tape in this file, or else in standard input.
     Audit(Option<&'a str>),
     /// `rr run --nodes NODES --dir DIR --script SCRIPT [--tape TAPE]`: a run of nodes in threads by the script in this
@@ -39,6 +53,9 @@ pub enum Task<'a> {
     /// `rr draw [FILE] [--from FROM] [--to TO] [--node NODE] [--instance INSTANCE]`: the picture of the schedule in this
     /// file, or else in standard input, of the cut that these words write.
     Picture(Option<&'a str>, CutWords<'a>),
+    /// `rr migrate DIR --node NODE --nodes NODES`: an opening of the disk in this folder, which is this node's of so many, and
+    /// what its areas hold then.
+    Migrate(Option<&'a str>, Option<&'a str>, Option<&'a str>),
 }
 
 // The file that a word names. None stands for standard input: the word is a hyphen or isn't there.
@@ -58,6 +75,16 @@ fn word_of<'a>(matches: &ArgMatches<'a>, id: &str) -> Option<&'a str>
     matches.get_str(id)
 }
 
+// Whether an option without a text was read under this name.
+fn is_set(matches: &ArgMatches<'_>, id: &str) -> bool
+    ensures { result ≡ is_set id.now (rows_of (found_of matches.now)) }
+{
+    match word_of(matches, id) {
+        Some(value) => value == "true",
+        None => false,
+    }
+}
+
 // The words of a cut among the arguments of `rr draw`.
 fn cut_words<'a>(matches: &ArgMatches<'a>) -> CutWords<'a>
     ensures { cut_words_in result ≡ cut_words_of (rows_of (found_of matches.now)) }
@@ -74,11 +101,12 @@ fn cut_words<'a>(matches: &ArgMatches<'a>) -> CutWords<'a>
 fn random_task<'a>(matches: &ArgMatches<'a>) -> Task<'a>
     ensures { task_in result ≡ random_task (rows_of (found_of matches.now)) }
 {
-    Task::Draw(
-        word_of(matches, "SEED"),
-        word_of(matches, "STEPS"),
-        word_of(matches, "NODES"),
-    )
+    Task::Draw(DrawWords {
+        seed: word_of(matches, "SEED"),
+        steps: word_of(matches, "STEPS"),
+        nodes: word_of(matches, "NODES"),
+        alone: is_set(matches, "ALONE"),
+    })
 }
 
 // What `rr run` is asked for.
@@ -107,6 +135,17 @@ fn picture_task<'a>(matches: &ArgMatches<'a>) -> Task<'a>
     Task::Picture(file_of(word_of(matches, "FILE")), cut_words(matches))
 }
 
+// What `rr migrate` is asked for.
+fn migrate_task<'a>(matches: &ArgMatches<'a>) -> Task<'a>
+    ensures { task_in result ≡ migrate_task (rows_of (found_of matches.now)) }
+{
+    Task::Migrate(
+        word_of(matches, "DIR"),
+        word_of(matches, "NODE"),
+        word_of(matches, "NODES"),
+    )
+}
+
 // What a subcommand of this name is asked for.
 pub(crate) fn task_by<'a>(name: &str, matches: &ArgMatches<'a>) -> Task<'a>
     ensures { task_in result ≡ task_by (name.now, rows_of (found_of matches.now)) }
@@ -123,6 +162,8 @@ pub(crate) fn task_by<'a>(name: &str, matches: &ArgMatches<'a>) -> Task<'a>
         sweep_task(matches)
     } else if name == "draw" {
         picture_task(matches)
+    } else if name == "migrate" {
+        migrate_task(matches)
     } else {
         Task::Simulate(file_of(word_of(matches, "FILE")))
     }

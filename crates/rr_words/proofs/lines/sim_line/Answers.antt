@@ -6,8 +6,8 @@ use Rattle.rr_words.proofs.lines.sim_line.Goals as goal
 pub returns-clause-line : goal.returns-clause-line
 unfolding sim_line
 returns-clause-line c =
-    IfOk-weaker c.arg.result _ _ (λ r added. with_arg c.subcommand.result r c.schedule_arg-file.result _ _ c.subcommand.ensures.app added c.schedule_arg-file.ensures.rule c.schedule_arg-file.ensures.local) c.arg.ensures
+    IfOk-weaker c.arg.result _ _ (λ r added. with_arg c.subcommand.result r c.word_arg-file.result _ _ c.subcommand.ensures.app added c.word_arg-file.ensures.rule c.word_arg-file.ensures.local) c.arg.ensures
 
 pub returns-clause-local : goal.returns-clause-local
 returns-clause-local c =
-    IfOk-weaker c.arg.result _ _ (λ r added. stays_local c.subcommand.result r c.schedule_arg-file.result c.subcommand.ensures.local added c.schedule_arg-file.ensures.local) c.arg.ensures
+    IfOk-weaker c.arg.result _ _ (λ r added. stays_local c.subcommand.result r c.word_arg-file.result c.subcommand.ensures.local added c.word_arg-file.ensures.local) c.arg.ensures

@@ -16,6 +16,7 @@ unfolding rr_settings
 returns c =
     ap app_of_fields c.subcommand_required.ensures
     ∙ (ap (λ (f : Command-F Command). app_of_fields (required f)) c.arg_required_else_help.ensures
+    ∙ (ap (λ (f : Command-F Command). app_of_fields (helped f)) c.after_long_help.ensures
     ∙ (ap (λ (f : Command-F Command). app_of_fields (helped f)) c.about.ensures
     ∙ (ap (λ (f : Command-F Command). app_of_fields (helped f)) c.version.ensures
-    ∙ ap rr_settings c.new.ensures.app)))
+    ∙ ap rr_settings c.new.ensures.app))))
