@@ -2,3 +2,4 @@ pub mod EndLemmas
 pub mod ShowLemmas
 pub mod TapeLemmas
 pub mod SweepLemmas
+pub mod MigrateLemmas

@@ -5,3 +5,4 @@ pub mod Draws
 pub mod Cuts
 pub mod Tapes
 pub mod Sweeping
+pub mod Migrations

@@ -14,6 +14,9 @@ use rr_types::Refusal;
 use std::alloc::{AllocError, Global};
 use std::io::Write;
 
+// The version, and the kit that the proofs are checked with.
+const VERSION: &[u8] = b"rr 0.1.0, proved with rattle-kit-13b logic dac8208d650f15bf\n";
+
 /// Ends by words that are no command: a mistake is told on standard error, and what was asked for is printed.
 pub fn end_by_words<O: Sink, E: Write>(alloc: Global, out: &mut O, err: &mut E, error: &Error) -> u8
     ensures memory { kind_of error.now ≡ ErrorKind.OutOfMemory
@@ -26,7 +29,7 @@ pub fn end_by_words<O: Sink, E: Write>(alloc: Global, out: &mut O, err: &mut E, 
 {
     match error.kind() {
         ErrorKind::OutOfMemory => end_by_refusal(err, &Refusal::OutOfMemory),
-        ErrorKind::DisplayVersion => end_by_text(out, err, b"rr 0.1.0\n"),
+        ErrorKind::DisplayVersion => end_by_text(out, err, VERSION),
         ErrorKind::DisplayHelp => end_by_help(alloc, out, err, error),
         _ => {
             let _ = write!(err, "{error}");

@@ -47,10 +47,11 @@ pub fn execute<
         Ok(Task::Run(_, _, None, _)) => rr_cli::execute(rt, words, input, out, err),
         Ok(Task::Simulate(_)) => rr_cli::execute(rt, words, input, out, err),
         Ok(Task::Show(_)) => rr_cli::execute(rt, words, input, out, err),
-        Ok(Task::Draw(_, _, _)) => rr_cli::execute(rt, words, input, out, err),
+        Ok(Task::Draw(_)) => rr_cli::execute(rt, words, input, out, err),
         Ok(Task::Audit(_)) => rr_cli::execute(rt, words, input, out, err),
         Ok(Task::Sweep(_, _)) => rr_cli::execute(rt, words, input, out, err),
         Ok(Task::Picture(_, _)) => rr_cli::execute(rt, words, input, out, err),
+        Ok(Task::Migrate(_, _, _)) => rr_cli::execute(rt, words, input, out, err),
         Err(error) => end_by_words(rt.alloc(), out, err, &error),
     }
 }
