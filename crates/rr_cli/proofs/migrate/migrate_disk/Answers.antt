@@ -19,13 +19,13 @@ returns-in-Ok-clause-refused g c = λ tells.
     let behind = c.show_opened.ensures.told (subst g.D.Disk.tells (sym c.into_disk.ensures) (c.in-Ok.ensures.tells tells)) in
     unshown_so _ c.show_opened.result _ (subst (λ both. IsShown c.show_opened.result (inspected (bytes_of both.first) (bytes_of both.second)) ⊎ (c.show_opened.result ≡ Err Device)) areas behind)
 
-pub returns-in-Err-clause-refused : goal.returns-in-Err-clause-refused
-returns-in-Err-clause-refused g c = λ tells.
+pub returns-clause-refused : goal.returns-clause-refused
+returns-clause-refused g c = λ tells.
     elim (c.in-Err.ensures.ends tells) [
       | inl memory ↦ inl memory
       | inr (inl device) ↦ inr (inl device)
       | inr (inr stops) ↦ inr (inr (inl stops))
     ]
 
-pub returns-in-Err-clause-cause : goal.returns-in-Err-clause-cause
-returns-in-Err-clause-cause g c = unopened g.D.Disk.faults c.args.disk _ c.in-Err.refusal c.in-Err.ensures.cause
+pub returns-clause-cause : goal.returns-clause-cause
+returns-clause-cause g c = unopened g.D.Disk.faults c.args.disk _ c.in-Err.refusal c.in-Err.ensures.cause
