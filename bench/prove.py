@@ -1,0 +1,152 @@
+#!/usr/bin/env python3
+"""Proves the crates of a tree as `rt ci` does, without edits, and keeps what is proved by its content.
+
+    bench/prove.py [--tree FOLDER] [--kept FOLDER] [--no-tests] [CRATE ..]
+
+It takes the crates that are named and those below them, or all. A later run, of this tree or another, proves only what changed
+and what stands on it. So a change is checked in minutes while it is made; the verdict is the gate's, which takes nothing from
+here. What is kept fits one kit alone, and may be removed at any time. Programs and tests are built and run too. What a crate's
+check said lies in FOLDER/said. Run it with `nice`, and leave the tree as it is while it runs."""
+import argparse
+import copy
+import importlib.machinery
+import importlib.util
+import os
+import pathlib
+import shutil
+import subprocess
+import sys
+import tempfile
+import time
+
+TREE = pathlib.Path(__file__).resolve().parent.parent
+
+
+def kit():
+    """Loads the kit's command as a module, as it is when it runs `rt ci`."""
+    sys.dont_write_bytecode = True
+    loader = importlib.machinery.SourceFileLoader("rt_command", os.path.realpath(shutil.which("rt")))
+    rt = importlib.util.module_from_spec(importlib.util.spec_from_loader("rt_command", loader))
+    loader.exec_module(rt)
+    rt.Crate.cuts_libraries = True
+    rt.rtlib.Crate = rt.Crate
+    rt.rtlib.guarded()
+    made = rt.Crate.__init__
+
+    def make(self, *given, **named):
+        made(self, *given, **named)
+        rt.read_files(self)
+
+    rt.Crate.__init__ = make
+    for name in ("stamp", "below"):
+        setattr(rt.Crate, name, once_a_folder(getattr(rt.Crate, name)))
+    return rt
+
+
+def once_a_folder(method):
+    """The method, asked once for each crate: the kit walks every path between two crates."""
+    answers = {}
+
+    def asked(self):
+        if self.folder not in answers:
+            answers[self.folder] = method(self)
+        return answers[self.folder]
+
+    return asked
+
+
+class Proofs:
+    """Proves crates, and keeps what is proved."""
+
+    def __init__(self, rt, kept):
+        self.rt, self.kept, self.failed = rt, kept, []
+        (kept / "said").mkdir(parents=True, exist_ok=True)
+
+    def prove(self, crate, tests, given, jobs):
+        if not all(given[dep.name, "proof"] for dep in crate.below()):
+            return self.tell(crate, tests, "a library below it is not proved")
+        if tests and not crate.has_tests():
+            return True
+        room = self.kept / f"{crate.stamp()}-{'tests' if tests else 'proof'}"
+        out = pathlib.Path(crate.folder) / "out"
+        is_library = not (tests or crate.is_program)
+        if is_library:
+            shutil.rmtree(out / "rlib", ignore_errors=True)
+        if room.is_dir():
+            if is_library:
+                link(room / "rlib", out / "rlib")
+            return True
+        out.mkdir(exist_ok=True)
+        begun = time.monotonic()
+        why = self.check(crate, tests, jobs)
+        if why:
+            return self.tell(crate, tests, why)
+        part = room.with_suffix(".part")
+        shutil.rmtree(part, ignore_errors=True)
+        part.mkdir()
+        if is_library:
+            link(out / "rlib", part / "rlib")
+        part.rename(room)
+        print(f"{crate.name}{' (tests)' if tests else ''} proved in {time.monotonic() - begun:.0f} s", flush=True)
+        return True
+
+    def check(self, crate, tests, jobs):
+        """Why the crate or its tests aren't proved, or fail when they run; nothing if all is well."""
+        rt, crate = self.rt, copy.copy(crate)
+        with tempfile.TemporaryFile("w+", errors="replace") as crate.out:
+            try:
+                laid_out = tests or not rt.rtlib.fmt(crate.folder, "--check", crate.out)
+                status = crate.ci(["--jobs", str(jobs)], tests) if laid_out else 1
+            except SystemExit:
+                status = 1
+            crate.out.seek(0)
+            said = self.kept / "said" / f"{crate.name}{'_tests' if tests else ''}"
+            said.write_text(crate.out.read())
+        if status:
+            return f"not proved: {said}"
+        made = f"{crate.folder}/out/{crate.name}{'_tests' if tests else ''}"
+        ends = [end for end in rt.BACKENDS.values() if (tests or crate.is_program) and os.path.isfile(made + end)]
+        return None if all(rt.run(crate, tests, end) for end in ends) else "proved, and it doesn't run as it should"
+
+    def tell(self, crate, tests, why):
+        self.failed.append(crate.name)
+        print(f"{crate.name}{' (tests)' if tests else ''}: {why}", flush=True)
+        return False
+
+
+def link(folder, to):
+    to.parent.mkdir(parents=True, exist_ok=True)
+    subprocess.run(["cp", "-al", folder, to], check=True)
+
+
+def main():
+    words = argparse.ArgumentParser()
+    words.add_argument("--tree", type=pathlib.Path, default=TREE)
+    words.add_argument("--kept", type=pathlib.Path, default=pathlib.Path("/var/tmp/proved"))
+    words.add_argument("--no-tests", action="store_true")
+    words.add_argument("crates", nargs="*", metavar="CRATE")
+    asked = words.parse_args()
+    kept = asked.kept.resolve()
+    os.chdir(asked.tree)
+    rt = kit()
+    rt.Crate.allowed = rt.handles_of(os.getcwd())
+    crates = rt.rtlib.crates_below(os.getcwd())
+    if asked.crates:
+        named = [crate for crate in crates if crate.name in asked.crates]
+        wanted = {crate.name for crate in named} | {dep.name for crate in named for dep in crate.below()}
+        crates = [crate for crate in crates if crate.name in wanted]
+    crates.sort(key=lambda crate: len(crate.below()))
+    proofs, tasks = Proofs(rt, kept), {}
+    for crate in crates:
+        waits, lines, memory = [(dep.name, "proof") for dep in crate.below()], crate.count(rb"\n"), rt.need(crate)
+        for kind in ("proof",) if asked.no_tests else ("proof", "tests"):
+            tests = kind == "tests"
+            size = lines * crate.has_tests() if tests else lines
+            call = lambda given, jobs, crate=crate, tests=tests: proofs.prove(crate, tests, given, jobs)
+            tasks[crate.name, kind] = (waits, size, memory, call)
+    rt.in_lanes(tasks)
+    print(f"not well: {' '.join(sorted(set(proofs.failed)))}" if proofs.failed else "all well")
+    return 1 if proofs.failed else 0
+
+
+sys.exit(main())
