@@ -1,7 +1,7 @@
 //! Spelled examples of each kind, with each byte at each of its values, and cut at each place.
 
 use rr_frame::{
-    Snapshot, decode_fact, decode_group, decode_snapshot, encode_fact, encode_group,
+    Snapshot, Version, decode_fact, decode_group, decode_snapshot, encode_fact, encode_group,
     encode_snapshot,
 };
 use rr_types::{Command, Op, Refusal, Standing};
@@ -85,9 +85,16 @@ fn rewritten(alloc: Global, form: Form, bytes: &[u8]) -> Result<Vec<u8>, Refusal
     // The check learns what these are made of from the types of a function's variables.
     let _parts: Option<(Command, Op, Standing)> = None;
     match form {
-        Form::Fact => encode_fact(alloc, &decode_fact(bytes)?),
-        Form::Group => encode_group(alloc, &decode_group(alloc, bytes)?),
-        Form::Snapshot => encode_snapshot(alloc, &decode_snapshot(alloc, bytes)?),
+        Form::Fact => encode_fact(alloc, &decode_fact(Version::Two, bytes)?),
+        Form::Group => encode_group(alloc, &decode_group(alloc, Version::Two, bytes)?),
+        Form::Snapshot => {
+            let (version, snapshot) = decode_snapshot(alloc, bytes)?;
+            let mut again = encode_snapshot(alloc, &snapshot)?;
+            if let Some(first) = again.first_mut() {
+                *first = version.number();
+            }
+            Ok(again)
+        }
     }
 }
 

@@ -1,8 +1,8 @@
 //! Spelled examples, faults and their offsets.
 
 use rr_frame::{
-    Reader, Snapshot, decode_fact, decode_group, decode_snapshot, encode_fact, encode_snapshot,
-    put_command, read_command,
+    Reader, Snapshot, Version, decode_fact, decode_group, decode_snapshot, encode_fact,
+    encode_snapshot, put_command, read_command,
 };
 use rr_types::{
     Command, Estimate, Fact, Group, Instance, Name, NodeId, Nodes, Op, Promise, Refusal, RequestNo,
@@ -55,7 +55,7 @@ fn changed(rt: &impl Abort, alloc: Global, bytes: &[u8], place: usize, byte: u8)
 
 /// Whether bytes are refused as a group at this offset.
 fn is_no_group(alloc: Global, bytes: &[u8], offset: u64) -> bool {
-    matches!(decode_group(alloc, bytes), Err(Refusal::Malformed(found)) if found == offset)
+    matches!(decode_group(alloc, Version::Two, bytes), Err(Refusal::Malformed(found)) if found == offset)
 }
 
 /// Whether bytes are refused as a snapshot at this offset.
@@ -76,7 +76,9 @@ fn a_transfer_is_spelled_in_19_bytes(rt: HostRuntime) {
         [0, 0, 0, 7, 0, 0, 0, 0, 0, 0, 0, 2, 4, 1, 0x61, 0, 0, 0, 9].as_slice()
     );
     let mut reader = Reader::new(&bytes);
-    let read = read_command(&mut reader).ok().expect(&rt, "a command");
+    let read = read_command(Version::Two, &mut reader)
+        .ok()
+        .expect(&rt, "a command");
     assert!(rt; read.is_same(&command));
     assert_eq!(rt; reader.left(), 0);
 }
@@ -104,12 +106,12 @@ fn a_fact_is_read_as_it_was_written(rt: HostRuntime) {
         ]
         .as_slice()
     );
-    assert!(rt; matches!(decode_fact(&bytes), Ok(Fact::Enter(_, _))));
+    assert!(rt; matches!(decode_fact(Version::Two, &bytes), Ok(Fact::Enter(_, _))));
     // A stamp that is not below its round.
     let mut bent = bytes;
     assert_eq!(rt; bent.len(), 30);
     bent[12] = 1;
-    assert!(rt; matches!(decode_fact(&bent), Err(Refusal::Malformed(9))));
+    assert!(rt; matches!(decode_fact(Version::Two, &bent), Err(Refusal::Malformed(9))));
 }
 
 #[test]
@@ -156,7 +158,8 @@ fn snapshots(rt: HostRuntime) {
             .as_slice(),
         empty()
     );
-    let read = decode_snapshot(alloc, proposed()).expect(&rt, "memory");
+    let (version, read) = decode_snapshot(alloc, proposed()).expect(&rt, "memory");
+    assert_eq!(rt; version, Version::Two);
     assert_eq!(rt; (read.epoch(), read.next()), (2, 2));
     assert_eq!(rt; read.promise().entries().len(), 1);
     assert_eq!(rt;
@@ -171,7 +174,8 @@ fn snapshots(rt: HostRuntime) {
 fn faults_of_a_snapshot(rt: HostRuntime) {
     // Version, node and count, epoch 0, entries before the first fact, kind, round 0, stamp above the round, flag.
     let faults = [
-        (0, 1, 0),
+        (0, 0, 0),
+        (0, 3, 0),
         (1, 1, 2),
         (2, 8, 2),
         (10, 0, 3),

@@ -83,6 +83,14 @@ fn with_byte<const N: usize>(bytes: &[u8; N], place: usize, byte: u8) -> [u8; N]
     changed
 }
 
+/// As version 1 spells that instance 65,535 has decided `7.1 claim a x`, from node 2 to node 0.
+const OLD_DECISION: [u8; 25] = [
+    1, 2, 0, 4, 0, 0, 255, 255, 0, 0, 0, 7, 0, 0, 0, 0, 0, 0, 0, 1, 1, 1, b'a', 1, b'x',
+];
+
+/// As version 1 spells the request `7.3 release b`, from node 0 to node 1.
+const OLD_REQUEST: [u8; 19] = [1, 0, 1, 5, 0, 0, 0, 7, 0, 0, 0, 0, 0, 0, 0, 3, 3, 1, b'b'];
+
 /// Whether two messages say the same.
 fn is_same(body: &Body, other: &Body) -> bool {
     match (body, other) {
@@ -217,12 +225,14 @@ fn each_message_both_ways(rt: HostRuntime) {
     }
 }
 
-/// Asserts that bytes are refused within them, or are the spelling of what is read of them.
+/// Asserts that bytes are refused within them, or are the spelling of what is read of them, which versions 1 and 2
+/// begin otherwise.
 fn assert_exact(rt: &impl Abort, alloc: Global, nodes: Nodes, bytes: &[u8]) {
     match decode(nodes, bytes) {
         Ok(message) => {
             let spelled = encode(alloc, &message).expect(rt, "memory");
-            assert_eq!(rt; spelled.as_slice(), bytes);
+            assert_eq!(rt; spelled.get(1..), bytes.get(1..));
+            assert!(rt; matches!(bytes.first(), Some(1 | 2)));
         }
         Err(Refusal::Malformed(offset)) => assert!(rt; offset <= bytes.len() as u64),
         Err(_) => assert!(rt; false, "another refusal"),
@@ -276,6 +286,90 @@ fn each_byte_and_each_cut(rt: HostRuntime) {
         (7, &BEAT, &[0, 1, 2, 3]),
         (3, &SUSPECTS, &[0, 1, 2, 3, 4]),
         (2, &ASK, &[0, 1, 2, 3, 4]),
+    ];
+    for (nodes, example, fields) in rows {
+        sweep(&rt, rt.alloc(), nodes, example, fields);
+    }
+}
+
+/// The message among seven nodes that these bytes spell.
+fn read(rt: &impl Abort, bytes: &[u8]) -> Message {
+    decode(Nodes::new(7).expect(rt, "nodes"), bytes).expect(rt, "a message")
+}
+
+#[test]
+fn version_1_says_the_same(rt: HostRuntime) {
+    let rows: [(&[u8], &[u8]); 9] = [
+        (&with_byte(&ESTIMATE, 0, 1), &ESTIMATE),
+        (&with_byte(&PROPOSAL, 0, 1), &PROPOSAL),
+        (&with_byte(&ACK, 0, 1), &ACK),
+        (&OLD_DECISION, &with_byte(&OLD_DECISION, 0, 2)),
+        (&OLD_REQUEST, &with_byte(&OLD_REQUEST, 0, 2)),
+        (&with_byte(&NACK, 0, 1), &NACK),
+        (&with_byte(&BEAT, 0, 1), &BEAT),
+        (&with_byte(&SUSPECTS, 0, 1), &SUSPECTS),
+        (&with_byte(&ASK, 0, 1), &ASK),
+    ];
+    for (old, new) in rows {
+        let message = read(&rt, old);
+        let same = read(&rt, new);
+        assert_eq!(rt; (message.from, message.to), (same.from, same.to));
+        assert!(rt; is_same(&message.body, &same.body));
+    }
+}
+
+#[test]
+fn version_1_has_its_own_limits(rt: HostRuntime) {
+    let alloc = rt.alloc();
+    // The name is one byte too long: 33, behind which its bytes don't count.
+    let mut long = OLD_REQUEST.to_vec(alloc).expect(&rt, "memory");
+    put_at(&mut long, 17, 33);
+    long.resize(18, 0).expect(&rt, "memory");
+    long.resize(51, b'b').expect(&rt, "memory");
+    let mut longest = long.to_vec(alloc).expect(&rt, "memory");
+    put_at(&mut longest, 17, 32);
+    longest.truncate(50);
+    put_at(&mut long, 0, 1);
+    let rows: [(u8, &[u8], u64); 5] = [
+        (7, &with_byte(&DECISION, 0, 1), 4),
+        (2, &with_byte(&REQUEST, 0, 1), 16),
+        (2, &long, 17),
+        (7, &with_byte(&OLD_DECISION, 5, 1), 4),
+        (3, &with_byte(&with_byte(&ACK, 0, 1), 11, 0), 8),
+    ];
+    for (nodes, bytes, offset) in rows {
+        assert_refused(&rt, nodes, bytes, offset);
+    }
+    assert!(rt; matches!(read(&rt, &longest).body, Body::Request(_)));
+    // Version 2 takes it.
+    put_at(&mut long, 0, 2);
+    assert!(rt; matches!(read(&rt, &long).body, Body::Request(_)));
+}
+
+#[test]
+fn each_byte_and_each_cut_of_version_1(rt: HostRuntime) {
+    let rows: [(u8, &[u8], &[u8]); 9] = [
+        (
+            3,
+            &with_byte(&ESTIMATE, 0, 1),
+            &[0, 1, 2, 3, 4, 8, 12, 16, 20, 28, 29, 30, 31, 32],
+        ),
+        (
+            7,
+            &with_byte(&PROPOSAL, 0, 1),
+            &[0, 1, 2, 3, 4, 8, 12, 16, 24, 25, 26, 27, 28],
+        ),
+        (3, &with_byte(&ACK, 0, 1), &[0, 1, 2, 3, 4, 8]),
+        (
+            7,
+            &OLD_DECISION,
+            &[0, 1, 2, 3, 4, 8, 12, 20, 21, 22, 23, 24],
+        ),
+        (2, &OLD_REQUEST, &[0, 1, 2, 3, 4, 8, 16, 17, 18]),
+        (2, &with_byte(&NACK, 0, 1), &[0, 1, 2, 3, 4, 8]),
+        (7, &with_byte(&BEAT, 0, 1), &[0, 1, 2, 3]),
+        (3, &with_byte(&SUSPECTS, 0, 1), &[0, 1, 2, 3, 4]),
+        (2, &with_byte(&ASK, 0, 1), &[0, 1, 2, 3, 4]),
     ];
     for (nodes, example, fields) in rows {
         sweep(&rt, rt.alloc(), nodes, example, fields);
