@@ -59,7 +59,10 @@ impl MemDisk {
         })
     }
 
-    /// A disk with these bytes in its areas, nothing of them loose. Where memory runs out there is none.
+    /// A disk with these bytes in its areas, nothing of them loose.
+    ///
+    /// # Errors
+    /// Where memory is wanting.
     pub fn with_areas(alloc: Global, first: &[u8], second: &[u8]) -> Result<MemDisk, AllocError>
         ensures { IfOk result (λ d. d ≡ record { areas = restarted (record { of_first = first.now; of_second = second.now }); calls = 0; faults = 0 }) }
     {

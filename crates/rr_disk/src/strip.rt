@@ -60,6 +60,9 @@ impl Strip {
     }
 
     /// An area with these bytes, nothing loose and all of it safe.
+    ///
+    /// # Errors
+    /// Where memory is wanting.
     pub fn with_bytes(alloc: Global, bytes: &[u8]) -> Result<Strip, AllocError>
         ensures { IfOk result (λ s. s ≡ at_rest bytes.now) }
     {

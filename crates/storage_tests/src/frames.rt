@@ -53,9 +53,9 @@ fn changed(rt: &impl Abort, alloc: Global, bytes: &[u8], place: usize, byte: u8)
     bytes
 }
 
-/// Whether bytes are refused as a group at this offset.
-fn is_no_group(alloc: Global, bytes: &[u8], offset: u64) -> bool {
-    matches!(decode_group(alloc, Version::Two, bytes), Err(Refusal::Malformed(found)) if found == offset)
+/// Whether bytes are refused as a group of a version at this offset.
+fn is_no_group(alloc: Global, version: Version, bytes: &[u8], offset: u64) -> bool {
+    matches!(decode_group(alloc, version, bytes), Err(Refusal::Malformed(found)) if found == offset)
 }
 
 /// Whether bytes are refused as a snapshot at this offset.
@@ -130,13 +130,16 @@ fn faults_of_a_group(rt: HostRuntime) {
     ];
     for (place, value, offset) in faults {
         let bytes = changed(&rt, alloc, decided(), place, value);
-        assert!(rt; is_no_group(alloc, &bytes, offset), "{value} at {place}");
+        assert!(rt;
+            is_no_group(alloc, Version::Two, &bytes, offset),
+            "{value} at {place}"
+        );
     }
     let longer = [decided(), [0].as_slice()]
         .concat(alloc)
         .expect(&rt, "memory");
-    assert!(rt; is_no_group(alloc, &longer, 32));
-    assert!(rt; is_no_group(alloc, &[], 0));
+    assert!(rt; is_no_group(alloc, Version::Two, &longer, 32));
+    assert!(rt; is_no_group(alloc, Version::Two, &[], 0));
 }
 
 #[test]
@@ -192,4 +195,82 @@ fn faults_of_a_snapshot(rt: HostRuntime) {
             "{value} at {place}"
         );
     }
+}
+
+/// A group of one fact: instance 0 decides `7.1 claim`, of a name of so many letters b.
+fn of_long_name(rt: &impl Abort, alloc: Global, count: u8) -> Vec<u8> {
+    let mut bytes = changed(rt, alloc, decided(), 28, count);
+    bytes.truncate(29);
+    bytes
+        .resize(29 + usize::from(count), b'b')
+        .expect(rt, "memory");
+    bytes.push(0).expect(rt, "memory");
+    bytes
+}
+
+#[test]
+fn names_are_as_long_as_the_version_has_them(rt: HostRuntime) {
+    let alloc = rt.alloc();
+    for (version, longest) in [(Version::One, 32), (Version::Two, 64)] {
+        let bytes = of_long_name(&rt, alloc, longest);
+        assert!(rt; decode_group(alloc, version, &bytes).is_ok());
+        let longer = of_long_name(&rt, alloc, longest + 1);
+        assert!(rt; is_no_group(alloc, version, &longer, 28));
+    }
+}
+
+#[test]
+fn facts_of_version_1(rt: HostRuntime) {
+    let alloc = rt.alloc();
+    // Instances 65,535 and 65,536 decide `7.3 release b`; instance 0 decides `7.2 transfer a 9`.
+    let last = [
+        4, 0, 0, 255, 255, 0, 0, 0, 7, 0, 0, 0, 0, 0, 0, 0, 3, 3, 1, 0x62,
+    ];
+    let far = [
+        4, 0, 1, 0, 0, 0, 0, 0, 7, 0, 0, 0, 0, 0, 0, 0, 3, 3, 1, 0x62,
+    ];
+    let transfer = [
+        4, 0, 0, 0, 0, 0, 0, 0, 7, 0, 0, 0, 0, 0, 0, 0, 2, 4, 1, 0x61, 0, 0, 0, 9,
+    ];
+    match decode_fact(Version::One, &last) {
+        Ok(Fact::Decide(instance, command)) => {
+            assert_eq!(rt; instance.number(), 65_535);
+            assert!(rt; matches!(command.op, Op::Release(_)));
+        }
+        _ => assert!(rt; false, "another fact"),
+    }
+    assert!(rt; matches!(decode_fact(Version::One, &far), Err(Refusal::Malformed(1))));
+    assert!(rt; decode_fact(Version::Two, &far).is_ok());
+    assert!(rt;
+        matches!(
+            decode_fact(Version::One, &transfer),
+            Err(Refusal::Malformed(17))
+        )
+    );
+    assert!(rt; decode_fact(Version::Two, &transfer).is_ok());
+    assert!(rt; decode_group(alloc, Version::One, decided()).is_ok());
+    let far = changed(&rt, alloc, decided(), 12, 1);
+    assert!(rt; is_no_group(alloc, Version::One, &far, 11));
+    assert!(rt; decode_group(alloc, Version::Two, &far).is_ok());
+}
+
+#[test]
+fn snapshots_of_version_1(rt: HostRuntime) {
+    let alloc = rt.alloc();
+    let old = changed(&rt, alloc, proposed(), 0, 1);
+    let (version, read) = decode_snapshot(alloc, &old).expect(&rt, "memory");
+    assert_eq!(rt; version, Version::One);
+    assert_eq!(rt;
+        encode_snapshot(alloc, &read)
+            .expect(&rt, "memory")
+            .as_slice(),
+        proposed()
+    );
+    // Instance 65,536, a transfer, a name of 33 bytes, a proposal that is a transfer.
+    for (place, value, offset) in [(24, 1, 23), (48, 4, 48), (49, 33, 49), (66, 4, 66)] {
+        let bytes = changed(&rt, alloc, &old, place, value);
+        assert!(rt; is_no_snapshot(alloc, &bytes, offset), "{value} at {place}");
+    }
+    let far = changed(&rt, alloc, proposed(), 24, 1);
+    assert!(rt; decode_snapshot(alloc, &far).is_ok());
 }
