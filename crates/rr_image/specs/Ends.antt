@@ -23,7 +23,7 @@ Ends (Err (Broken offset)) content = content ≡ Err offset
 abbrev pub IsFront : List ℕ → Front → grammar.Front → Type 0
 IsFront bytes fronts.Blank front = front ≡ grammar.Blank
 IsFront bytes fronts.Faulty front = front ≡ grammar.Faulty
-IsFront bytes (fronts.Begins c) front = (c.gate ≤ length bytes) × (front ≡ grammar.Begins c (drop c.gate bytes))
+IsFront bytes (fronts.Begins version c) front = (c.gate ≤ length bytes) × (front ≡ grammar.Begins version c (drop c.gate bytes))
 
 -- the number of an area
 abbrev pub area_number : Area → ℕ

@@ -1,12 +1,13 @@
 //! What the two areas of a disk stand for.
 
 ghost use Rattle.std.specs.Prelude.{◌≡◌, ◌≤◌, length, drop, IfOk, IfErr};
+ghost use Rattle.rr_frame.specs.declared.version.Version.TheVariants.{Two};
 ghost use Rattle.rr_image.specs.Image.{front_of, content_behind, active, found};
 ghost use Rattle.rr_image.specs.Ends.{IsFront, Finds, area_number};
 
 use crate::content::{Content, Halt, OPEN_GATE, frame_behind, read_groups};
 use rr_disk::Area;
-use rr_frame::decode_snapshot;
+use rr_frame::{Version, decode_snapshot};
 use rr_types::{Command, NodeId, Nodes, Op, Refusal, Standing};
 use std::alloc::{AllocError, Global};
 
@@ -17,8 +18,8 @@ pub enum Front {
     Blank,
     /// An open gate stands before bytes that are no snapshot of this node.
     Faulty,
-    /// A snapshot, with which this content begins.
-    Begins(Content),
+    /// A snapshot of this version, with which this content begins.
+    Begins(Version, Content),
 }
 
 /// What the two areas stand for, where no fault is found.
@@ -41,8 +42,8 @@ fn front_of(alloc: Global, nodes: Nodes, node: NodeId, bytes: &[u8]) -> Result<F
     let Some((payload, _)) = frame_behind(&bytes[1..]) else {
         return Ok(Front::Faulty);
     };
-    let snapshot = match decode_snapshot(alloc, payload) {
-        Ok(snapshot) => snapshot,
+    let (version, snapshot) = match decode_snapshot(alloc, payload) {
+        Ok(read) => read,
         Err(Refusal::OutOfMemory) => return Err(AllocError),
         Err(_) => return Ok(Front::Faulty),
     };
@@ -52,7 +53,8 @@ fn front_of(alloc: Global, nodes: Nodes, node: NodeId, bytes: &[u8]) -> Result<F
     let epoch = snapshot.epoch();
     let next = snapshot.next();
     let gate = 5 + payload.len() as u64;
-    Ok(Front::Begins(Content::new(epoch, snapshot.into_promise(), next, gate)))
+    let content = Content::new(epoch, snapshot.into_promise(), next, gate);
+    Ok(Front::Begins(version, content))
 }
 
 /// The area with this number is broken at an offset.
@@ -65,9 +67,9 @@ fn broken(area: Area, offset: u64) -> Refusal
     }
 }
 
-/// An active area whose content begins so.
+/// An active area of version 2 whose content begins so.
 #[tactic(auto, unfolding(crate::specs::Image::content_behind))]
-fn active(
+fn read_active(
     alloc: Global,
     nodes: Nodes,
     node: NodeId,
@@ -76,19 +78,38 @@ fn active(
     bytes: &[u8],
 ) -> Result<Image, Refusal>
     requires { content.gate ≤ length bytes.now }
-    ensures { Finds result (active area (content_behind nodes node content (drop content.gate bytes.now))) }
+    ensures { Finds result (active Two area (content_behind Two nodes node content (drop content.gate bytes.now))) }
 {
     let gate = content.gate() as usize;
     let (_, rest) = bytes.split_at(gate);
-    match read_groups(alloc, nodes, node, content, rest) {
+    match read_groups(alloc, Version::Two, nodes, node, content, rest) {
         Ok(content) => Ok(Image::Active(area, content)),
         Err(Halt::OutOfMemory) => Err(Refusal::OutOfMemory),
         Err(Halt::Broken(offset)) => Err(broken(area, offset)),
     }
 }
 
+/// An active area of this version whose content begins so. No opening reads one of version 1.
+fn active(
+    alloc: Global,
+    nodes: Nodes,
+    node: NodeId,
+    area: Area,
+    version: Version,
+    content: Content,
+    bytes: &[u8],
+) -> Result<Image, Refusal>
+    requires { content.gate ≤ length bytes.now }
+    ensures { Finds result (active version area (content_behind version nodes node content (drop content.gate bytes.now))) }
+{
+    match version {
+        Version::One => Err(broken(area, 0)),
+        Version::Two => read_active(alloc, nodes, node, area, content, bytes),
+    }
+}
+
 /// What the two areas of a node of so many nodes stand for. Errors: `OutOfMemory`; `Damaged` at the open
-/// gate that stands before bytes that are no lawful frame there.
+/// gate that stands before bytes that are no lawful frame there, or before the snapshot of an active area of version 1.
 #[tactic(auto, unfolding(crate::specs::Image::found))]
 pub fn read_image(
     alloc: Global,
@@ -112,18 +133,20 @@ pub fn read_image(
         Front::Blank => match front_2 {
             Front::Faulty => Err(broken(Area::Second, 0)),
             Front::Blank => Ok(Image::Unformatted),
-            Front::Begins(content) => active(alloc, nodes, node, Area::Second, content, second),
+            Front::Begins(version, content) => {
+                active(alloc, nodes, node, Area::Second, version, content, second)
+            }
         },
-        Front::Begins(content) => match front_2 {
+        Front::Begins(version, content) => match front_2 {
             Front::Faulty => Err(broken(Area::Second, 0)),
-            Front::Blank => active(alloc, nodes, node, Area::First, content, first),
-            Front::Begins(other) => {
+            Front::Blank => active(alloc, nodes, node, Area::First, version, content, first),
+            Front::Begins(version_2, other) => {
                 if content.epoch() == other.epoch() {
                     Err(broken(Area::Second, 0))
                 } else if other.epoch() < content.epoch() {
-                    active(alloc, nodes, node, Area::First, content, first)
+                    active(alloc, nodes, node, Area::First, version, content, first)
                 } else {
-                    active(alloc, nodes, node, Area::Second, other, second)
+                    active(alloc, nodes, node, Area::Second, version_2, other, second)
                 }
             }
         },

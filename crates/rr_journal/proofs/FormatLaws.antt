@@ -6,6 +6,8 @@ use Rattle.rr_types.specs.declared.fact.Fact.{Fact}
 use Rattle.rr_disk.specs.declared.area.Area.{Area}
 use Rattle.rr_disk.specs.declared.area.Area.TheVariants.{First, Second}
 use Rattle.rr_disk.specs.Crash.{Images}
+use Rattle.rr_frame.specs.declared.version.Version.{Version}
+use Rattle.rr_frame.specs.declared.version.Version.TheVariants.{One, Two}
 use Rattle.rr_frame.specs.Numbers.{number_bytes}
 use Rattle.rr_frame.specs.Snapshots.{Snapped}
 use Rattle.rr_frame.specs.SnapshotFormat.{snapshot_in, snapshot_bytes, IsLawfulSnapshot}
@@ -26,13 +28,13 @@ never_blank : (n p : ℕ) (f : Option (List ℕ × List ℕ)) → front_behind n
 never_blank n p None e = absurd cc
 never_blank n p (Some x) e = by_snapshot (snapshot_in x.0) e
   where
-    by_own : (t : Bool) (c : Content) (rest : List ℕ) → cond t (Begins c rest) Faulty ≡ Blank → ⊥
-    by_own true c rest e = absurd cc
-    by_own false c rest e = absurd cc
+    by_own : (t : Bool) (version : Version) (c : Content) (rest : List ℕ) → cond t (Begins version c rest) Faulty ≡ Blank → ⊥
+    by_own true version c rest e = absurd cc
+    by_own false version c rest e = absurd cc
 
-    by_snapshot : (r : Result Snapped ℕ) → elim r [ Err offset ↦ Faulty | Ok s ↦ of_node n p s (length x.0) x.1 ] ≡ Blank → ⊥
+    by_snapshot : (r : Result (Version × Snapped) ℕ) → elim r [ Err offset ↦ Faulty | Ok s ↦ of_node n p s.0 s.1 (length x.0) x.1 ] ≡ Blank → ⊥
     by_snapshot (Err k) e = absurd cc
-    by_snapshot (Ok s) e = by_own _ _ _ e
+    by_snapshot (Ok s) e = by_own _ _ _ _ e
 
 blank_bytes : (n p : ℕ) (bytes : List ℕ) → front_of n p bytes ≡ Blank → is_formatted bytes ≡ false
 blank_bytes n p bytes e = by_test (is_formatted bytes) refl e
@@ -77,27 +79,28 @@ open_at_front (g ∷ bytes) due = (omega arith, eqb-false g 165 due)
 
 -- ---- disks of which no area is formatted
 
-not_active : (area : Area) (r : Result Content ℕ) → active area r ≡ Unformatted → ⊥
-not_active area (Ok c) e = absurd cc
-not_active area (Err k) e = absurd cc
+not_active : (version : Version) (area : Area) (r : Result Content ℕ) → active version area r ≡ Unformatted → ⊥
+not_active One area r e = absurd cc
+not_active Two area (Ok c) e = absurd cc
+not_active Two area (Err k) e = absurd cc
 
 pub blanks : (n p : ℕ) (first second : List ℕ) → found n p first second ≡ Unformatted → (front_of n p first ≡ Blank) × (front_of n p second ≡ Blank)
 unfolding found
 blanks n p first second e = by_fronts (front_of n p first) (front_of n p second) e
   where
-    by_epoch : (same older : Bool) (one two : Result Content ℕ) → cond same (Broken Second 0) (cond older (active First one) (active Second two)) ≡ Unformatted → ⊥
-    by_epoch true older one two e = absurd cc
-    by_epoch false true one two e = not_active First one e
-    by_epoch false false one two e = not_active Second two e
+    by_epoch : (same older : Bool) (v w : Version) (one two : Result Content ℕ) → cond same (Broken Second 0) (cond older (active v First one) (active w Second two)) ≡ Unformatted → ⊥
+    by_epoch true older v w one two e = absurd cc
+    by_epoch false true v w one two e = not_active v First one e
+    by_epoch false false v w one two e = not_active w Second two e
 
     by_fronts : (one two : Front) → found_by n p one two ≡ Unformatted → (one ≡ Blank) × (two ≡ Blank)
     by_fronts Faulty two e = absurd cc
     by_fronts Blank Faulty e = absurd cc
     by_fronts Blank Blank e = (refl, refl)
-    by_fronts Blank (Begins c rest) e = absurd (not_active Second _ e)
-    by_fronts (Begins c rest) Faulty e = absurd cc
-    by_fronts (Begins c rest) Blank e = absurd (not_active First _ e)
-    by_fronts (Begins c rest) (Begins d rest_2) e = absurd (by_epoch (eqb c.epoch d.epoch) (ltb d.epoch c.epoch) (content_behind n p c rest) (content_behind n p d rest_2) e)
+    by_fronts Blank (Begins v c rest) e = absurd (not_active v Second _ e)
+    by_fronts (Begins v c rest) Faulty e = absurd cc
+    by_fronts (Begins v c rest) Blank e = absurd (not_active v First _ e)
+    by_fronts (Begins v c rest) (Begins w d rest_2) e = absurd (by_epoch (eqb c.epoch d.epoch) (ltb d.epoch c.epoch) v w (content_behind v n p c rest) (content_behind w n p d rest_2) e)
 
 pub both_blank : (n p : ℕ) (first second : List ℕ) → front_of n p first ≡ Blank → front_of n p second ≡ Blank → found n p first second ≡ Unformatted
 unfolding found
@@ -126,10 +129,10 @@ found_formatted n p image second lawful blank e =
     sym (take-append-drop (1 + length (frame_bytes (snapshot_bytes (first_snapshot n p)))) image)
     ∙ ap (λ (b : List ℕ). b ++ junk) e
     ∙ ap (λ (b : List ℕ). 165 ∷ b) (frame_split (snapshot_bytes (first_snapshot n p)) junk) in
-    let front : front_of n p image ≡ Begins c (0 ∷ junk) = ap (front_of n p) whole ∙ begun (first_snapshot n p) 0 junk lawful short in
+    let front : front_of n p image ≡ Begins Two c (0 ∷ junk) = ap (front_of n p) whole ∙ begun (first_snapshot n p) 0 junk lawful short in
     ap (λ (f : Front). found_by n p f (front_of n p second)) front
-    ∙ ap (λ (f : Front). found_by n p (Begins c (0 ∷ junk)) f) blank
-    ∙ ap (active First) (at_closed (length (0 ∷ junk)) n p c (0 ∷ junk) (λ z. absurd (omega (arith, z))))
+    ∙ ap (λ (f : Front). found_by n p (Begins Two c (0 ∷ junk)) f) blank
+    ∙ ap (active Two First) (at_closed Two (length (0 ∷ junk)) n p c (0 ∷ junk) (λ z. absurd (omega (arith, z))))
     ∙ ap (Active First) same
 
 pub holds_formatted : (n p : ℕ) (start : Images) (image : List ℕ) (facts : List Fact) → IsLawfulSnapshot (first_snapshot n p)

@@ -9,6 +9,7 @@ use Rattle.rr_disk.specs.declared.area.Area.TheVariants.{First, Second}
 use Rattle.rr_disk.specs.Areas.{Extent, Torn, replaced, at_rest, firm_cell}
 use Rattle.rr_disk.specs.Crash.{Images, restarted}
 use Rattle.rr_disk.proofs.Agreeing.{agrees_length, torn_back}
+use Rattle.rr_frame.specs.declared.version.Version.TheVariants.{Two}
 use Rattle.rr_frame.specs.Numbers.{number_bytes}
 use Rattle.rr_frame.specs.Snapshots.{Snapped}
 use Rattle.rr_frame.specs.SnapshotFormat.{snapshot_bytes, IsLawfulSnapshot}
@@ -32,8 +33,8 @@ content_of s = record { epoch = s.epoch; promise = s.entries; next = s.next; gat
 -- an area that begins with a snapshot's frame, and a closed gate behind it
 pub record IsSnapped (s : Snapped) (image : List ℕ) : Type 0 where
   pub rest : List ℕ
-  pub front : front_of s.nodes s.node image ≡ Begins (content_of s) rest
-  pub content : content_behind s.nodes s.node (content_of s) rest ≡ Ok (content_of s)
+  pub front : front_of s.nodes s.node image ≡ Begins Two (content_of s) rest
+  pub content : content_behind Two s.nodes s.node (content_of s) rest ≡ Ok (content_of s)
 
 pub snapped : (s : Snapped) (image : List ℕ) → IsLawfulSnapshot s → length (snapshot_bytes s) < 2 ^ 32 → take (1 + length (frame_bytes (snapshot_bytes s))) image ≡ 165 ∷ frame_bytes (snapshot_bytes s) → IsSnapped s image
 unfolding content_behind
@@ -46,7 +47,7 @@ snapped s image lawful short e =
     record {
       rest = 0 ∷ junk;
       front = ap (front_of s.nodes s.node) whole ∙ begun s 0 junk lawful short;
-      content = at_closed (length (0 ∷ junk)) s.nodes s.node (content_of s) (0 ∷ junk) (λ z. absurd (omega (arith, z)));
+      content = at_closed Two (length (0 ∷ junk)) s.nodes s.node (content_of s) (0 ∷ junk) (λ z. absurd (omega (arith, z)));
     }
 
 -- the snapshot of an active content's promise with the next epoch

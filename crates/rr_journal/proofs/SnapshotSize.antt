@@ -3,11 +3,11 @@ use Rattle.std.proofs.Common.{◌≡◌, ℕ, ◌<◌, List, [], length, arith, 
 use Rattle.std.specs.List.{flat_map, list_all}
 use Rattle.rr_types.specs.declared.promise.Entry.{Entry}
 use Rattle.rr_frame.specs.Snapshots.{Snapped, IsSnapshot, proposes_lawfully}
-use Rattle.rr_frame.specs.SnapshotFormat.{snapshot_bytes, entry_bytes, owner_bytes, contents_bytes}
+use Rattle.rr_frame.specs.SnapshotFormat.{snapshot_bytes, snapshot_bytes_in, entry_bytes, owner_bytes, contents_bytes}
 use Rattle.rr_frame.proofs.FieldLaws.{length-number_bytes}
 
 pub length-snapshot_bytes : (s : Snapped) → s.entries ≡ [] → length (snapshot_bytes s) ≡ 23
-unfolding snapshot_bytes owner_bytes contents_bytes
+unfolding snapshot_bytes_in owner_bytes contents_bytes
 length-snapshot_bytes s e =
     let nothing : length (flat_map entry_bytes s.entries) ≡ 0 = ap (λ (es : List Entry). length (flat_map entry_bytes es)) e in
     simp (length-append, length-number_bytes) (omega (arith, nothing))

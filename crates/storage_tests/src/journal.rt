@@ -3,7 +3,7 @@
 ghost use Rattle.std.specs.Prelude.{◌<◌};
 
 use rr_disk::{Area, Disk, FailingDisk, MemDisk};
-use rr_frame::decode_group;
+use rr_frame::{Version, decode_group};
 use rr_image::{Image, read_image};
 use rr_journal::{Journal, Opening, Progress};
 use rr_types::{
@@ -99,7 +99,13 @@ fn areas_cut_short(rt: HostRuntime) {
 #[test]
 fn areas_with_one_byte_changed(rt: HostRuntime) {
     let alloc = rt.alloc();
-    for (place, value, offset) in [(159, 33, 155), (167, 4, 155), (170, 5, 155), (6, 2, 0)] {
+    for (place, value, offset) in [
+        (159, 33, 155),
+        (167, 4, 155),
+        (170, 5, 155),
+        (6, 2, 0),
+        (5, 1, 0),
+    ] {
         let bytes = changed(&rt, alloc, area(), place, value);
         assert!(rt; is_damaged(alloc, &bytes, offset));
     }
@@ -131,6 +137,12 @@ fn two_areas(rt: HostRuntime) {
         Ok(Image::Active(Area::Second, content)) => assert_eq!(rt; content.epoch(), 2),
         _ => assert!(rt; false),
     }
+    // The other area may be of version 1.
+    let old = changed(&rt, alloc, area(), 5, 1);
+    match opened(alloc, &old, &later) {
+        Ok(Image::Active(Area::Second, content)) => assert_eq!(rt; content.epoch(), 2),
+        _ => assert!(rt; false),
+    }
     let other = changed(&rt, alloc, &later, 6, 1);
     assert!(rt; is_broken(alloc, area(), &other, 1));
     assert!(rt; is_broken(alloc, &other, &other, 0));
@@ -138,7 +150,7 @@ fn two_areas(rt: HostRuntime) {
 
 /// A group of one fact, the first of `AREA`: the node enters round 1 of instance 0 with `7.1 claim a x`.
 fn entered(rt: &impl Abort, alloc: Global) -> Group {
-    decode_group(alloc, behind(cut(area(), 73), 33)).expect(rt, "a group")
+    decode_group(alloc, Version::Two, behind(cut(area(), 73), 33)).expect(rt, "a group")
 }
 
 /// The disk behind a flush of that group over an empty one, which opens with no facts.

@@ -4,7 +4,7 @@
 
 use crate::journal::{area, changed, cut, more, opened, put_at};
 use rr_disk::{Area, Disk, MemDisk};
-use rr_frame::{Reader, decode_group, decode_snapshot, encode_group, encode_snapshot};
+use rr_frame::{Reader, Version, decode_group, decode_snapshot, encode_group, encode_snapshot};
 use rr_image::Image;
 use rr_journal::{Opening, frame};
 use rr_types::{
@@ -50,9 +50,10 @@ fn assert_spelled(
             break;
         };
         let again = if frame == 0 {
-            encode_snapshot(alloc, &decode_snapshot(alloc, payload)?)?
+            let (_, snapshot) = decode_snapshot(alloc, payload)?;
+            encode_snapshot(alloc, &snapshot)?
         } else {
-            encode_group(alloc, &decode_group(alloc, payload)?)?
+            encode_group(alloc, &decode_group(alloc, Version::Two, payload)?)?
         };
         assert_eq!(rt; again.as_slice(), payload);
         gate = gate.saturating_add(payload.len()).saturating_add(5);
@@ -134,7 +135,7 @@ fn what_the_areas_hold(rt: HostRuntime) {
         _ => assert!(rt; false),
     }
     // The snapshot before the groups of area 0.
-    let first = decode_snapshot(alloc, payload_at(area(), 0).expect(&rt, "a frame")).expect(
+    let (_, first) = decode_snapshot(alloc, payload_at(area(), 0).expect(&rt, "a frame")).expect(
         &rt, "memory",
     );
     assert_eq!(rt;
