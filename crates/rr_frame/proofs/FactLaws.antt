@@ -132,17 +132,17 @@ fact_with_takes version kind i bytes y low high fits e = elim (chosen (eqb kind 
       let a = bind_ok (estimate_at version bytes) (λ (e : Estimated × List ℕ). Ok (Enter i e.0, e.1)) y c.1 in
       let t = estimate_takes version bytes a.0 fits a.1 in
       let made : Fact × List ℕ = (Enter i a.0.0, a.0.1) in
-      rw k (subst (λ (z : Fact × List ℕ). Behind 1 i bytes z.0 z.1) (ok_is made y a.2) (record { kinds = refl; instance = refl; taken = t.0; lawful = t.1 }))
+      rw k (subst (λ (z : Fact × List ℕ). Behind version 1 i bytes z.0 z.1) (ok_is made y a.2) (record { kinds = refl; instance = refl; taken = t.0; lawful = t.1 }))
   | inr c ↦ elim (chosen (eqb kind 2) _ _ _ c.1) [
     | inl d ↦
         let k : kind ≡ 2 = eqb-true _ _ d.0 in
         let a = round_and_command version bytes (λ r v rest. (Propose i r v, rest)) y fits d.1 in
-        rw k (subst (λ (z : Fact × List ℕ). Behind 2 i bytes z.0 z.1) a.4 (record { kinds = refl; instance = refl; taken = a.3.taken; lawful = (a.3.round, a.3.command) }))
+        rw k (subst (λ (z : Fact × List ℕ). Behind version 2 i bytes z.0 z.1) a.4 (record { kinds = refl; instance = refl; taken = a.3.taken; lawful = (a.3.round, a.3.command) }))
     | inr d ↦ elim (chosen (eqb kind 3) _ _ _ d.1) [
       | inl f ↦
           let k : kind ≡ 3 = eqb-true _ _ f.0 in
           let a = round_and_command version bytes (λ r v rest. (Adopt i r v, rest)) y fits f.1 in
-          rw k (subst (λ (z : Fact × List ℕ). Behind 3 i bytes z.0 z.1) a.4 (record { kinds = refl; instance = refl; taken = a.3.taken; lawful = (a.3.round, a.3.command) }))
+          rw k (subst (λ (z : Fact × List ℕ). Behind version 3 i bytes z.0 z.1) a.4 (record { kinds = refl; instance = refl; taken = a.3.taken; lawful = (a.3.round, a.3.command) }))
       | inr f ↦
           let ne1 = eqb-false _ _ c.0 in
           let ne2 = eqb-false _ _ d.0 in
@@ -151,7 +151,7 @@ fact_with_takes version kind i bytes y low high fits e = elim (chosen (eqb kind 
           let a = bind_ok (command_at version bytes) (λ (v : Command × List ℕ). Ok (Decide i v.0, v.1)) y f.1 in
           let t = command_takes version bytes a.0 fits a.1 in
           let made : Fact × List ℕ = (Decide i a.0.0, a.0.1) in
-          rw k (subst (λ (z : Fact × List ℕ). Behind 4 i bytes z.0 z.1) (ok_is made y a.2) (record { kinds = refl; instance = refl; taken = t.0; lawful = t.1 }))
+          rw k (subst (λ (z : Fact × List ℕ). Behind version 4 i bytes z.0 z.1) (ok_is made y a.2) (record { kinds = refl; instance = refl; taken = t.0; lawful = t.1 }))
     ]
   ]
 ]

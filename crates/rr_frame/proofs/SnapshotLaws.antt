@@ -293,7 +293,7 @@ contents_again version n p next es rest lt none lawful up =
     let b0 : List ℕ = number_bytes 4 (length es) ++ b1 in
     let e0 : (number_bytes 4 (length es) ++ flat_map entry_bytes es) ++ rest ≡ b0 = append_assoc (number_bytes 4 (length es)) (flat_map entry_bytes es) rest in
     let e : (number_bytes 8 next ++ (number_bytes 4 (length es) ++ flat_map entry_bytes es)) ++ rest ≡ number_bytes 8 next ++ b0 = append_assoc (number_bytes 8 next) (number_bytes 4 (length es) ++ flat_map entry_bytes es) rest ∙ ap (λ (t : List ℕ). number_bytes 8 next ++ t) e0 in
-    let small = ascending_length 0 n p es (omega arith) up lawful in
+    let small = ascending_length version 0 n p es (omega arith) up lawful in
     ap (contents_at version n p) e
     ∙ plain_again 8 next b0 _ (omega arith)
     ∙ checked_again 4 (count_passes next) (length es) b1 _ (omega arith) (count_may next es none)
@@ -304,7 +304,6 @@ unfolding snapshot_at snapshot_bytes_in
 snapshot_takes bytes y fits e =
     let o = bind_ok (owner_at bytes) _ y e in
     let t0 = owner_takes bytes o.0 fits o.1 in
-    let version = o.0.0.0 in
     let c = checked_takes 8 (λ k. leb 1 k) o.0.1 _ y t0.0.rest_fits o.2 in
     let d = bind_ok (contents_at o.0.0.0 o.0.0.2 o.0.0.1 c.0.1) _ y c.4 in
     let t2 = contents_take o.0.0.0 o.0.0.2 o.0.0.1 c.0.1 d.0 c.1.rest_fits d.1 in
