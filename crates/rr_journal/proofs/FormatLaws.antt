@@ -1,25 +1,14 @@
--- Formatting a disk of which no area is formatted is a flush of no facts.
-use Rattle.std.proofs.Common.{◌≡◌, ◌≢◌, ℕ, ◌+◌, ◌^◌, ◌<◌, ◌≤◌, Bool, true, false, cond, eqb, leb, ltb, ◌&&◌, List, [], ◌∷◌, ◌++◌, length, take, drop, get_or, Option, None, Some, Result, Ok, Err, refl, sym, ap, subst, ◌∙◌, arith}
+-- Areas that aren't formatted, and disks of which no area is.
+use Rattle.std.proofs.Common.{◌≡◌, ◌≢◌, ℕ, ◌<◌, ◌≤◌, Bool, true, false, cond, eqb, leb, ltb, ◌&&◌, List, [], ◌∷◌, length, drop, get_or, Option, None, Some, Result, Ok, Err, refl, ap, ◌∙◌, arith}
 use Rattle.std.proofs.lemmas.Bool.{ne_eqb, eqb-false, le-leb}
-use Rattle.std.proofs.lemmas.List.{append-nil, take-append-drop, nil_from_length}
 use Rattle.rr_disk.specs.declared.area.Area.{Area}
 use Rattle.rr_disk.specs.declared.area.Area.TheVariants.{First, Second}
-use Rattle.rr_disk.specs.Crash.{Images}
 use Rattle.rr_frame.specs.declared.version.Version.{Version}
 use Rattle.rr_frame.specs.declared.version.Version.TheVariants.{One, Two}
-use Rattle.rr_frame.specs.Numbers.{number_bytes}
 use Rattle.rr_frame.specs.Snapshots.{Snapped}
-use Rattle.rr_frame.specs.SnapshotFormat.{snapshot_in, snapshot_bytes, IsLawfulSnapshot}
-use Rattle.rr_journal.specs.Moments.{with_image, IsGrounded}
-use Rattle.rr_journal.specs.Calls.{frame_bytes, must_close}
-use Rattle.rr_image.specs.Image.{Content, Found, Unformatted, Broken, Active, Front, Blank, Faulty, Begins, is_formatted, frame_behind, of_node, front_behind, front_of, content_behind, active, found_by, found}
-use Rattle.rr_image.specs.Held.{StandsFor, Holds}
-use Rattle.rr_journal.specs.Openings.{formatted}
-use Rattle.rr_journal.specs.OpeningTable.{first_snapshot, formatting, IsBlank}
-use Rattle.rr_image.proofs.FrameLaws.{begun}
-use Rattle.rr_journal.proofs.FlushLaws.{frame_split}
-use Rattle.rr_image.proofs.ReadingLaws.{at_closed}
-use Rattle.rr_journal.proofs.SnapshotSize.{length-snapshot_bytes}
+use Rattle.rr_frame.specs.SnapshotFormat.{snapshot_in}
+use Rattle.rr_journal.specs.Calls.{must_close}
+use Rattle.rr_image.specs.Image.{Content, Unformatted, Broken, Front, Blank, Faulty, Begins, is_formatted, frame_behind, of_node, front_behind, front_of, content_behind, active, found_by, found}
 
 -- ---- areas that aren't formatted
 

@@ -1,8 +1,10 @@
 -- From one stage of writing an area anew to the next, and what a crash may leave behind a device call of it.
-use Rattle.std.proofs.Common.{◌≡◌, ◌≢◌, ◌⊎◌, ⊎_elim, inl, inr, ℕ, ◌+◌, ◌^◌, ◌<◌, Bool, true, false, ltb, List, [], ◌∷◌, ◌++◌, length, get_or, take, drop, Option, None, Some, refl, sym, ap, subst, ◌∙◌, arith}
-use Rattle.std.proofs.lemmas.Bool.{and_parts, cases_eq, eqb-true, ltb-true}
+use Rattle.std.proofs.Common.{◌≡◌, ◌≢◌, ◌⊎◌, ⊎_elim, inl, inr, ℕ, ◌+◌, ◌^◌, ◌<◌, ◌≤◌, Bool, true, false, ltb, ◌&&◌, List, [], ◌∷◌, ◌++◌, length, get_or, take, drop, Option, None, Some, refl, sym, ap, subst, ◌∙◌, arith}
+use Rattle.std.proofs.lemmas.Bool.{and_parts, and_from, cases_eq, eqb-true, ltb-true, lt-ltb, le-ltb}
 use Rattle.std.proofs.lemmas.List.{append-nil, length-map, nil_from_length}
 use Rattle.rr_types.specs.declared.fact.Fact.{Fact}
+use Rattle.rr_types.specs.declared.refusal.Refusal.{Refusal}
+use Rattle.rr_types.specs.declared.refusal.Refusal.TheVariants.{OutOfMemory, TooLarge}
 use Rattle.rr_disk.specs.declared.area.Area.{Area}
 use Rattle.rr_disk.specs.declared.area.Area.TheVariants.{First, Second}
 use Rattle.rr_disk.specs.Areas.{Extent, Areas, Torn, extent_of, replaced, written, at_rest, firm_cell}
@@ -18,14 +20,14 @@ use Rattle.rr_journal.specs.Flushes.{Flush}
 use Rattle.rr_journal.specs.Moments.{image_of, with_image, with_group, gate_opened, body_written, IsGrounded, IsAt, EachHolds, body_due, body_out, body_safe, gate_set}
 use Rattle.rr_journal.specs.Calls.{Write, after_call, frame_bytes, must_close}
 use Rattle.rr_journal.specs.OpeningTable.{IsLeftBy}
-use Rattle.rr_journal.specs.Openings.{snapshot_size, snapshot_with}
-use Rattle.rr_journal.specs.Rewrites.{writes_anew, area_anew, content_anew, flush_anew, IsInStage}
+use Rattle.rr_journal.specs.Openings.{snapshot_size, snapshot_with, migrated, may_migrate}
+use Rattle.rr_journal.specs.Rewrites.{writes_anew, area_anew, content_anew, IsSized, flush_anew, IsInStage}
 use Rattle.rr_journal.specs.declared.stage.Stage.{Stage}
 use Rattle.rr_journal.specs.declared.stage.Stage.TheVariants.{Closing, SettlingClosed, WritingBody, SettlingBody, OpeningGate, SettlingGate}
 use Rattle.rr_journal.specs.Stages.{call_at, stage_behind}
 use Rattle.rr_journal.proofs.BesideLaws.{blank_beside, newer_beside}
 use Rattle.rr_journal.proofs.Content.{extent_restarted, image_of_with, one_area, synced_written}
-use Rattle.rr_journal.proofs.FlushLaws.{opened}
+use Rattle.rr_journal.proofs.FlushLaws.{opened, length-frame}
 use Rattle.rr_journal.proofs.FormatLaws.{closed_blank, short_blank, open_at_front, blanks, both_blank}
 use Rattle.rr_journal.proofs.GroundLaws.{content_of, snapped}
 use Rattle.rr_journal.proofs.HeldLaws.{either_held, rest_held}
@@ -46,6 +48,35 @@ short_anew n p (Active area c) due = absurd cc
 short_anew n p (Outdated area c) due =
     let both = and_parts (ltb (c.epoch + 1) (2 ^ 64)) (ltb (6 + snapshot_size c.promise) (2 ^ 32)) due in
     omega (arith, ltb-true (6 + snapshot_size c.promise) (2 ^ 32) both.1, snapshot_sized (snapshot_with n p (content_anew (Outdated area c))))
+
+-- the frame ends with the gate of what the area holds then
+pub sized_anew : (n p : ℕ) (was : Found) (body : List ℕ) (stage : Stage) → writes_anew was ≡ true → body ≡ (flush_anew n p was).body → IsSized (record { found = was; body = body; stage = stage })
+sized_anew n p was body stage due is = record {
+  due = due;
+  gate = ap (λ (b : List ℕ). length b) is
+      ∙ omega (arith, length-frame (snapshot_bytes (snapshot_with n p (content_anew was))), snapshot_sized (snapshot_with n p (content_anew was)), gate_anew was due);
+}
+
+-- a snapshot that has its place
+pub may_be : (n p : ℕ) (c : Content) (s : Snapped) → s ≡ snapshot_with n p (migrated c) → c.epoch + 1 < 2 ^ 64 → 6 + length (snapshot_bytes s) < 2 ^ 32 → may_migrate c ≡ true
+may_be n p c s is newer short =
+    let size : length (snapshot_bytes s) ≡ snapshot_size c.promise = snapshot_sized s ∙ ap (λ (x : Snapped). snapshot_size x.entries) is in
+    and_from (ltb (c.epoch + 1) (2 ^ 64)) (ltb (6 + snapshot_size c.promise) (2 ^ 32)) (lt-ltb (c.epoch + 1) (2 ^ 64) newer) (lt-ltb (6 + snapshot_size c.promise) (2 ^ 32) (omega (arith, size, short)))
+
+-- and one that hasn't
+too_large : (n p : ℕ) (c : Content) (s : Snapped) → s ≡ snapshot_with n p (migrated c) → 2 ^ 32 ≤ 6 + length (snapshot_bytes s) → may_migrate c ≡ false
+too_large n p c s is long =
+    let size : length (snapshot_bytes s) ≡ snapshot_size c.promise = snapshot_sized s ∙ ap (λ (x : Snapped). snapshot_size x.entries) is in
+    by (ltb (c.epoch + 1) (2 ^ 64)) (ltb (6 + snapshot_size c.promise) (2 ^ 32)) (le-ltb (6 + snapshot_size c.promise) (2 ^ 32) (omega (arith, size, long)))
+  where
+    by : (a b : Bool) → b ≡ false → (a && b) ≡ false
+    by true b e = e
+    by false b e = refl
+
+pub refused_migration : (n p : ℕ) (c : Content) (s : Snapped) (e : Refusal) → s ≡ snapshot_with n p (migrated c) → (e ≡ OutOfMemory) ⊎ ((e ≡ TooLarge) × (2 ^ 32 ≤ 6 + length (snapshot_bytes s)))
+    → (e ≡ OutOfMemory) ⊎ ((e ≡ TooLarge) × (may_migrate c ≡ false))
+refused_migration n p c s e is (inl memory) = inl memory
+refused_migration n p c s e is (inr large) = inr (large.0, too_large n p c s is large.1)
 
 -- what the snapshot begins
 pub content_is : (n p : ℕ) (was : Found) → writes_anew was ≡ true → content_of (snapshot_with n p (content_anew was)) ≡ content_anew was

@@ -1,5 +1,5 @@
 -- What an opening makes of the bytes as they stand: what it finds, the device calls that are left, and how it ends.
-use Rattle.std.specs.Prelude.{◌≡◌, ◌⊎◌, ℕ, ◌+◌, ◌-◌, ◌^◌, min, if◌then◌else◌, List, [], ◌∷◌, length, Result, Ok, Err}
+use Rattle.std.specs.Prelude.{◌≡◌, ◌⊎◌, ℕ, ◌+◌, ◌-◌, ◌^◌, min, true, if◌then◌else◌, List, [], ◌∷◌, length, Result, Ok, Err}
 use Rattle.rr_types.specs.declared.refusal.Refusal.{Refusal}
 use Rattle.rr_types.specs.declared.refusal.Refusal.TheVariants.{OutOfMemory, Device, Damaged, TooLarge}
 use Rattle.rr_disk.specs.declared.area.Area.{Area}
@@ -17,7 +17,7 @@ use Rattle.rr_journal.specs.Openings.{Phase, Settling, ReadingFirst, ReadingSeco
 use Rattle.rr_journal.specs.OtherAreas.{other_area}
 use Rattle.rr_journal.specs.OpeningStates.{OpeningState}
 use Rattle.rr_journal.specs.Phases.{phase_of}
-use Rattle.rr_journal.specs.Rewrites.{area_kept}
+use Rattle.rr_journal.specs.Rewrites.{writes_anew, area_kept}
 
 -- the device calls that are left at most
 abbrev pub calls_left : Phase → ℕ
@@ -91,6 +91,13 @@ IsAsBefore old new = (new ≡ old) ⊎ (new ≡ synced old)
 -- an area is as it was, or synced
 abbrev pub IsLeftAlone : Extent → Extent → Type 0
 IsLeftAlone old new = (new ≡ old) ⊎ (new ≡ settled old)
+
+-- an opening writes an area anew only where what it found asks for that
+abbrev pub IsDue : Phase → Type 0
+IsDue Settling = Unit {0}
+IsDue ReadingFirst = Unit {0}
+IsDue (ReadingSecond first) = Unit {0}
+IsDue (Rewriting found calls) = writes_anew found ≡ true
 
 -- an opening that writes nothing yet leaves both areas as they were; its first call syncs them. One that writes an area anew leaves the other alone
 abbrev pub IsUntouched : Phase → Areas → Areas → Type 0

@@ -13,7 +13,7 @@ ghost use Rattle.rr_image.specs.Image.{Content, Outdated, found};
 ghost use Rattle.rr_journal.specs.Openings.{Settling, ReadingSecond, Rewriting, Done, Refused, bytes_in, snapshot_with, migrated, end_by, due_call, after_found, after_opening_call};
 ghost use Rattle.rr_journal.specs.Fronts.{front_beside, KnowsFronts, KnowsRead, KnowsOther};
 ghost use Rattle.rr_journal.specs.Phases.{phase_of, Follows};
-ghost use Rattle.rr_journal.specs.OpeningCourse.{calls_left, found_from, calls_from, EndsBy, StaysOnCourse, IsRefused, IsUndamaged, IsUntouched, IsAsBefore, IsLeftAlone, IsDone};
+ghost use Rattle.rr_journal.specs.OpeningCourse.{calls_left, found_from, calls_from, EndsBy, StaysOnCourse, IsRefused, IsUndamaged, IsDue, IsUntouched, IsAsBefore, IsLeftAlone, IsDone};
 ghost use Rattle.rr_journal.specs.OpeningStates.{OpeningState, IsOwn};
 ghost use Rattle.rr_journal.specs.OpeningSteps.{Steps, MaySnap, MayGoOn};
 ghost use Rattle.rr_journal.specs.OpeningTable.{IsReadBy, IsLeftBy, IsResting, Rests, contents, OpensAny, OpensWith, GoesOnAny, GoesOnWith, ComesToAny, ComesTo, IsKept, disk_after};
@@ -147,6 +147,7 @@ impl<D: Disk> Opening<D> {
         ensures cause { IfErr result (λ r. IsRefused D.faults self.disk r) }
         ensures tells { D.tells self.disk → D.tells (disk_after result) }
         ensures course { D.tells self.disk → StaysOnCourse D.areas self result }
+        ensures due { IsDue (phase_of self.phase) }
         ensures untouched { D.tells self.disk → IsUntouched (phase_of self.phase) (D.areas self.disk) (D.areas (disk_after result)) }
         ensures images { D.tells self.disk → MayStand (D.areas self.disk) → IsReading (phase_of self.phase) → AddsNone (D.areas self.disk) (D.areas (disk_after result)) }
         ensures rests { D.tells self.disk → OpensAny self.nodes self.node self.phase (D.areas self.disk) → IfOk result (λ progress. ComesToAny D.areas progress) }
@@ -282,6 +283,7 @@ fn make_step<D: Disk>(
     ensures cause { IfErr result (λ r. IsRefused D.faults disk r) }
     ensures tells { D.tells disk → D.tells (disk_after result) }
     ensures course { D.tells disk → StaysOnCourse D.areas (record { disk = disk; nodes = nodes; node = node; phase = phase; fronts = fronts }) result }
+    ensures due { IsDue (phase_of phase) }
     ensures untouched { D.tells disk → IsUntouched (phase_of phase) (D.areas disk) (D.areas (disk_after result)) }
     ensures images { D.tells disk → MayStand (D.areas disk) → IsReading (phase_of phase) → AddsNone (D.areas disk) (D.areas (disk_after result)) }
     ensures rests { D.tells disk → OpensAny nodes node phase (D.areas disk) → IfOk result (λ progress. ComesToAny D.areas progress) }
@@ -335,6 +337,7 @@ enum Next {
 
 /// Makes the device call that is due; a read gives its bytes.
 fn call<D: Disk>(alloc: Global, disk: &mut D, phase: &Phase) -> Result<Vec<u8>, Refusal>
+    ensures due { IsDue (phase_of phase.now) }
     ensures done { IfOk result (λ v. Done D.read_gives D.write_gives D.sync_gives (due_call (phase_of phase.now)) disk.old v disk.new) }
     ensures refused { IfErr result (λ e. Refused D.read_gives D.write_gives D.sync_gives (due_call (phase_of phase.now)) disk.old e disk.new) }
     ensures cause { IfErr result (λ e. (e ≡ OutOfMemory) ⊎ ((e ≡ Device) × Grew (D.faults disk.old) (D.faults disk.new))) }
@@ -354,6 +357,7 @@ fn call<D: Disk>(alloc: Global, disk: &mut D, phase: &Phase) -> Result<Vec<u8>, 
 
 /// Makes the device call that is due in the writing of an area.
 fn write_on<D: Disk>(alloc: Global, disk: &mut D, rewrite: &Rewrite) -> Result<Vec<u8>, Refusal>
+    ensures due { writes_anew rewrite.now.found ≡ true }
     ensures done { IfOk result (λ v. Done D.read_gives D.write_gives D.sync_gives (due_call (Rewriting rewrite.now.found (stage_calls (area_anew rewrite.now.found) rewrite.now.body rewrite.now.stage))) disk.old v disk.new) }
     ensures refused { IfErr result (λ e. Refused D.read_gives D.write_gives D.sync_gives (due_call (Rewriting rewrite.now.found (stage_calls (area_anew rewrite.now.found) rewrite.now.body rewrite.now.stage))) disk.old e disk.new) }
     ensures cause { IfErr result (λ e. (e ≡ Device) × Grew (D.faults disk.old) (D.faults disk.new)) }

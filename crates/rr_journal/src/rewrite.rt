@@ -11,7 +11,7 @@ ghost use Rattle.rr_image.specs.Image.{Unformatted, Outdated};
 ghost use Rattle.rr_journal.specs.Calls.{frame_bytes, after_call};
 ghost use Rattle.rr_journal.specs.Openings.{Opens, snapshot_with, formatted, migrated, may_migrate, end_by};
 ghost use Rattle.rr_journal.specs.OpeningTable.{IsLeftBy};
-ghost use Rattle.rr_journal.specs.Rewrites.{IsSized, area_anew};
+ghost use Rattle.rr_journal.specs.Rewrites.{IsSized, writes_anew, area_anew};
 ghost use Rattle.rr_journal.specs.Stages.{first_stage, call_at, Gave};
 
 use crate::journal::frame;
@@ -101,7 +101,10 @@ impl Rewrite {
             Ok(snapshot) => snapshot,
             Err(_) => unreachable!(),
         };
-        let body = frame_of(alloc, &snapshot)?;
+        let body = match frame_of(alloc, &snapshot) {
+            Ok(body) => body,
+            Err(refusal) => return Err(refusal),
+        };
         let content = Content::new(epoch, snapshot.into_promise(), next, gate);
         Ok(Rewrite::new(Image::Outdated(area, content), body, closes))
     }
@@ -127,6 +130,7 @@ impl Rewrite {
     /// Makes the device call that is due.
     /// Errors: `Device`.
     pub fn call<D: Disk>(&self, disk: &mut D) -> Result<(), Refusal>
+        ensures due { writes_anew self.now.found ≡ true }
         ensures gave { Gave D.write_gives D.sync_gives (call_at (area_anew self.now.found) self.now.body self.now.stage) disk.old result disk.new }
         ensures cause { IfErr result (λ e. (e ≡ Device) × Grew (D.faults disk.old) (D.faults disk.new)) }
         ensures call { D.calls disk.new ≡ counted (D.calls disk.old) }
