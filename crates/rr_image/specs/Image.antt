@@ -27,6 +27,8 @@ pub data Found : Type 0 where
   Broken : Area → ℕ → Found
   -- this area is active
   Active : Area → Content → Found
+  -- this area is active, and of version 1
+  Outdated : Area → Content → Found
 
 -- behind an open gate: the payload, and the bytes from the next gate on; None where the frame isn't whole
 abbrev pub frame_behind : List ℕ → Option (List ℕ × List ℕ)
@@ -82,11 +84,15 @@ front_of n p bytes = if is_formatted bytes then front_behind n p (frame_behind (
 unfoldable pub content_behind : Version → ℕ → ℕ → Content → List ℕ → Result Content ℕ
 content_behind version n p c rest = content_from version (length rest) n p c rest
 
--- an active area of version 2 with its content, or broken at a later frame; no opening reads one of version 1
+-- an active area of a version with its content
+abbrev pub active_in : Version → Area → Content → Found
+active_in One area c = Outdated area c
+active_in Two area c = Active area c
+
+-- an active area of a version with its content, or broken at a later frame
 abbrev pub active : Version → Area → Result Content ℕ → Found
-active One area content = Broken area 0
-active Two area (Ok c) = Active area c
-active Two area (Err offset) = Broken area offset
+active version area (Ok c) = active_in version area c
+active version area (Err offset) = Broken area offset
 
 -- the first frames of both areas decide which is active: the formatted one of the greatest epoch
 abbrev pub found_by : ℕ → ℕ → Front → Front → Found

@@ -1,7 +1,6 @@
 //! What the two areas of a disk stand for.
 
 ghost use Rattle.std.specs.Prelude.{◌≡◌, ◌≤◌, length, drop, IfOk, IfErr};
-ghost use Rattle.rr_frame.specs.declared.version.Version.TheVariants.{Two};
 ghost use Rattle.rr_image.specs.Image.{front_of, content_behind, active, found};
 ghost use Rattle.rr_image.specs.Ends.{IsFront, Finds, area_number};
 
@@ -29,6 +28,8 @@ pub enum Image {
     Unformatted,
     /// This area is active.
     Active(Area, Content),
+    /// This area is active, and of version 1.
+    Outdated(Area, Content),
 }
 
 /// The first frame of an area of these bytes.
@@ -67,29 +68,8 @@ fn broken(area: Area, offset: u64) -> Refusal
     }
 }
 
-/// An active area of version 2 whose content begins so.
+/// An active area of this version whose content begins so.
 #[tactic(auto, unfolding(crate::specs::Image::content_behind))]
-fn read_active(
-    alloc: Global,
-    nodes: Nodes,
-    node: NodeId,
-    area: Area,
-    content: Content,
-    bytes: &[u8],
-) -> Result<Image, Refusal>
-    requires { content.gate ≤ length bytes.now }
-    ensures { Finds result (active Two area (content_behind Two nodes node content (drop content.gate bytes.now))) }
-{
-    let gate = content.gate() as usize;
-    let (_, rest) = bytes.split_at(gate);
-    match read_groups(alloc, Version::Two, nodes, node, content, rest) {
-        Ok(content) => Ok(Image::Active(area, content)),
-        Err(Halt::OutOfMemory) => Err(Refusal::OutOfMemory),
-        Err(Halt::Broken(offset)) => Err(broken(area, offset)),
-    }
-}
-
-/// An active area of this version whose content begins so. No opening reads one of version 1.
 fn active(
     alloc: Global,
     nodes: Nodes,
@@ -102,14 +82,20 @@ fn active(
     requires { content.gate ≤ length bytes.now }
     ensures { Finds result (active version area (content_behind version nodes node content (drop content.gate bytes.now))) }
 {
-    match version {
-        Version::One => Err(broken(area, 0)),
-        Version::Two => read_active(alloc, nodes, node, area, content, bytes),
+    let gate = content.gate() as usize;
+    let (_, rest) = bytes.split_at(gate);
+    match read_groups(alloc, version, nodes, node, content, rest) {
+        Ok(content) => match version {
+            Version::One => Ok(Image::Outdated(area, content)),
+            Version::Two => Ok(Image::Active(area, content)),
+        },
+        Err(Halt::OutOfMemory) => Err(Refusal::OutOfMemory),
+        Err(Halt::Broken(offset)) => Err(broken(area, offset)),
     }
 }
 
 /// What the two areas of a node of so many nodes stand for. Errors: `OutOfMemory`; `Damaged` at the open
-/// gate that stands before bytes that are no lawful frame there, or before the snapshot of an active area of version 1.
+/// gate that stands before bytes that are no lawful frame there.
 #[tactic(auto, unfolding(crate::specs::Image::found))]
 pub fn read_image(
     alloc: Global,

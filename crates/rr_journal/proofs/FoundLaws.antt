@@ -10,7 +10,7 @@ use Rattle.rr_frame.specs.declared.version.Version.TheVariants.{One, Two}
 use Rattle.rr_frame.specs.Snapshots.{Snapped}
 use Rattle.rr_frame.specs.SnapshotFormat.{snapshot_in}
 use Rattle.rr_journal.specs.Moments.{image_of, with_image}
-use Rattle.rr_image.specs.Image.{Content, Broken, Active, Front, Blank, Faulty, Begins, frame_behind, content_from, of_node, front_behind, front_of, content_behind, active, found_by, found}
+use Rattle.rr_image.specs.Image.{Content, Unformatted, Broken, Active, Front, Blank, Faulty, Begins, frame_behind, content_from, of_node, front_behind, front_of, content_behind, active_in, active, found_by, found}
 use Rattle.rr_image.proofs.ContentLemmas.{front_begins}
 use Rattle.rr_image.proofs.ReadingLaws.{frame_parts, frame_same, same_front, same_part, reaches}
 
@@ -95,88 +95,107 @@ area_read version n p c d bytes rest front content =
           );
     }
 
-active_is : (v : Version) (a b : Area) (r : Result Content ℕ) (c : Content) → active v a r ≡ Active b c → (v ≡ Two) × (a ≡ b) × (r ≡ Ok c)
-active_is One a b r c e = absurd cc
-active_is Two a b (Ok d) c e = let same : a ≡ b = cc in let content : d ≡ c = cc in (refl, same, ap (λ (x : Content). Ok x) content)
-active_is Two a b (Err k) c e = absurd cc
+no_break : (v : Version) (a b : Area) (k : ℕ) (c : Content) → Broken a k ≡ active_in v b c → ⊥
+no_break One a b k c e = absurd cc
+no_break Two a b k c e = absurd cc
 
--- how the active area begins, and that it stays active if it still begins so
-pub record IsActive (n p : ℕ) (images : Images) (area : Area) (d : Content) : Type 0 where
+no_blank : (v : Version) (a : Area) (c : Content) → Unformatted ≡ active_in v a c → ⊥
+no_blank One a c e = absurd cc
+no_blank Two a c e = absurd cc
+
+pub active_is : (v w : Version) (a b : Area) (r : Result Content ℕ) (c : Content) → active v a r ≡ active_in w b c → (v ≡ w) × (a ≡ b) × (r ≡ Ok c)
+active_is One One a b (Ok d) c e = let same : a ≡ b = cc in let content : d ≡ c = cc in (refl, same, ap (λ (x : Content). Ok x) content)
+active_is One Two a b (Ok d) c e = absurd cc
+active_is Two One a b (Ok d) c e = absurd cc
+active_is Two Two a b (Ok d) c e = let same : a ≡ b = cc in let content : d ≡ c = cc in (refl, same, ap (λ (x : Content). Ok x) content)
+active_is One w a b (Err k) c e = absurd (no_break w a b k c e)
+active_is Two w a b (Err k) c e = absurd (no_break w a b k c e)
+
+-- how the active area begins, of this version, and that it stays active if it still begins so
+pub record IsActive (version : Version) (n p : ℕ) (images : Images) (area : Area) (d : Content) : Type 0 where
   pub begin : Content
   pub rest : List ℕ
-  pub front : front_of n p (image_of images area) ≡ Begins Two begin rest
-  pub content : content_behind Two n p begin rest ≡ Ok d
-  pub again : (other more : List ℕ) → front_of n p other ≡ Begins Two begin more → found n p (with_image images area other).of_first (with_image images area other).of_second ≡ active Two area (content_behind Two n p begin more)
+  pub front : front_of n p (image_of images area) ≡ Begins version begin rest
+  pub content : content_behind version n p begin rest ≡ Ok d
+  pub again : (other more : List ℕ) → front_of n p other ≡ Begins version begin more → found n p (with_image images area other).of_first (with_image images area other).of_second ≡ active version area (content_behind version n p begin more)
 
-first_active : (n p : ℕ) (first second : List ℕ) (d : Content) → found n p first second ≡ Active First d → IsActive n p (record { of_first = first; of_second = second }) First d
+first_active : (version : Version) (n p : ℕ) (first second : List ℕ) (d : Content) → found n p first second ≡ active_in version First d → IsActive version n p (record { of_first = first; of_second = second }) First d
 unfolding found
-first_active n p first second d e = by_fronts (front_of n p first) (front_of n p second) refl refl e
+first_active version n p first second d e = by_fronts (front_of n p first) (front_of n p second) refl refl e
   where
+    of_version : (v : Version) (r : Result Content ℕ) → active v First r ≡ active_in version First d → IsActive v n p (record { of_first = first; of_second = second }) First d → IsActive version n p (record { of_first = first; of_second = second }) First d
+    of_version v r now is = subst (λ (u : Version). IsActive u n p (record { of_first = first; of_second = second }) First d) (active_is v version First First r d now).0 is
+
+    not_second : (w : Version) (r : Result Content ℕ) → active w Second r ≡ active_in version First d → ⊥
+    not_second w r now = let other : Second ≡ First = (active_is w version Second First r d now).1 in absurd cc
+
     by_epoch : (v w : Version) (b x : Content) (rest_1 rest_2 : List ℕ) (same older : Bool) → eqb b.epoch x.epoch ≡ same → ltb x.epoch b.epoch ≡ older → front_of n p first ≡ Begins v b rest_1 → front_of n p second ≡ Begins w x rest_2
-        → cond same (Broken Second 0) (cond older (active v First (content_behind v n p b rest_1)) (active w Second (content_behind w n p x rest_2))) ≡ Active First d → IsActive n p (record { of_first = first; of_second = second }) First d
-    by_epoch v w b x rest_1 rest_2 true older same is one two now = absurd cc
-    by_epoch v w b x rest_1 rest_2 false false same is one two now = let other : Second ≡ First = (active_is w Second First _ d now).1 in absurd cc
-    by_epoch One w b x rest_1 rest_2 false true same is one two now = absurd cc
-    by_epoch Two w b x rest_1 rest_2 false true same is one two now = record {
+        → cond same (Broken Second 0) (cond older (active v First (content_behind v n p b rest_1)) (active w Second (content_behind w n p x rest_2))) ≡ active_in version First d → IsActive version n p (record { of_first = first; of_second = second }) First d
+    by_epoch v w b x rest_1 rest_2 true older same is one two now = absurd (no_break version Second First 0 d now)
+    by_epoch v w b x rest_1 rest_2 false false same is one two now = absurd (not_second w _ now)
+    by_epoch v w b x rest_1 rest_2 false true same is one two now = of_version v (content_behind v n p b rest_1) now (record {
       begin = b;
       rest = rest_1;
       front = one;
-      content = (active_is Two First First _ d now).2;
-      again = λ other more begins. ap (λ (f : Front). found_by n p f (front_of n p second)) begins ∙ ap (λ (f : Front). found_by n p (Begins Two b more) f) two ∙ rw (same, is) refl;
-    }
+      content = (active_is v version First First _ d now).2;
+      again = λ other more begins. ap (λ (f : Front). found_by n p f (front_of n p second)) begins ∙ ap (λ (f : Front). found_by n p (Begins v b more) f) two ∙ rw (same, is) refl;
+    })
 
-    by_fronts : (one two : Front) → front_of n p first ≡ one → front_of n p second ≡ two → found_by n p one two ≡ Active First d → IsActive n p (record { of_first = first; of_second = second }) First d
-    by_fronts Faulty two is_1 is_2 now = absurd cc
-    by_fronts Blank Faulty is_1 is_2 now = absurd cc
-    by_fronts Blank Blank is_1 is_2 now = absurd cc
-    by_fronts Blank (Begins w x rest_2) is_1 is_2 now = let other : Second ≡ First = (active_is w Second First _ d now).1 in absurd cc
-    by_fronts (Begins v b rest_1) Faulty is_1 is_2 now = absurd cc
-    by_fronts (Begins One b rest_1) Blank is_1 is_2 now = absurd cc
-    by_fronts (Begins Two b rest_1) Blank is_1 is_2 now = record {
+    by_fronts : (one two : Front) → front_of n p first ≡ one → front_of n p second ≡ two → found_by n p one two ≡ active_in version First d → IsActive version n p (record { of_first = first; of_second = second }) First d
+    by_fronts Faulty two is_1 is_2 now = absurd (no_break version First First 0 d now)
+    by_fronts Blank Faulty is_1 is_2 now = absurd (no_break version Second First 0 d now)
+    by_fronts Blank Blank is_1 is_2 now = absurd (no_blank version First d now)
+    by_fronts Blank (Begins w x rest_2) is_1 is_2 now = absurd (not_second w _ now)
+    by_fronts (Begins v b rest_1) Faulty is_1 is_2 now = absurd (no_break version Second First 0 d now)
+    by_fronts (Begins v b rest_1) Blank is_1 is_2 now = of_version v (content_behind v n p b rest_1) now (record {
       begin = b;
       rest = rest_1;
       front = is_1;
-      content = (active_is Two First First _ d now).2;
-      again = λ other more begins. ap (λ (f : Front). found_by n p f (front_of n p second)) begins ∙ ap (λ (f : Front). found_by n p (Begins Two b more) f) is_2;
-    }
+      content = (active_is v version First First _ d now).2;
+      again = λ other more begins. ap (λ (f : Front). found_by n p f (front_of n p second)) begins ∙ ap (λ (f : Front). found_by n p (Begins v b more) f) is_2;
+    })
     by_fronts (Begins v b rest_1) (Begins w x rest_2) is_1 is_2 now = by_epoch v w b x rest_1 rest_2 (eqb b.epoch x.epoch) (ltb x.epoch b.epoch) refl refl is_1 is_2 now
 
-second_active : (n p : ℕ) (first second : List ℕ) (d : Content) → found n p first second ≡ Active Second d → IsActive n p (record { of_first = first; of_second = second }) Second d
+second_active : (version : Version) (n p : ℕ) (first second : List ℕ) (d : Content) → found n p first second ≡ active_in version Second d → IsActive version n p (record { of_first = first; of_second = second }) Second d
 unfolding found
-second_active n p first second d e = by_fronts (front_of n p first) (front_of n p second) refl refl e
+second_active version n p first second d e = by_fronts (front_of n p first) (front_of n p second) refl refl e
   where
+    of_version : (v : Version) (r : Result Content ℕ) → active v Second r ≡ active_in version Second d → IsActive v n p (record { of_first = first; of_second = second }) Second d → IsActive version n p (record { of_first = first; of_second = second }) Second d
+    of_version v r now is = subst (λ (u : Version). IsActive u n p (record { of_first = first; of_second = second }) Second d) (active_is v version Second Second r d now).0 is
+
+    not_first : (v : Version) (r : Result Content ℕ) → active v First r ≡ active_in version Second d → ⊥
+    not_first v r now = let other : First ≡ Second = (active_is v version First Second r d now).1 in absurd cc
+
     by_epoch : (v w : Version) (b x : Content) (rest_1 rest_2 : List ℕ) (same older : Bool) → eqb b.epoch x.epoch ≡ same → ltb x.epoch b.epoch ≡ older → front_of n p first ≡ Begins v b rest_1 → front_of n p second ≡ Begins w x rest_2
-        → cond same (Broken Second 0) (cond older (active v First (content_behind v n p b rest_1)) (active w Second (content_behind w n p x rest_2))) ≡ Active Second d → IsActive n p (record { of_first = first; of_second = second }) Second d
-    by_epoch v w b x rest_1 rest_2 true older same is one two now = absurd cc
-    by_epoch v w b x rest_1 rest_2 false true same is one two now = let other : First ≡ Second = (active_is v First Second _ d now).1 in absurd cc
-    by_epoch v One b x rest_1 rest_2 false false same is one two now = absurd cc
-    by_epoch v Two b x rest_1 rest_2 false false same is one two now = record {
+        → cond same (Broken Second 0) (cond older (active v First (content_behind v n p b rest_1)) (active w Second (content_behind w n p x rest_2))) ≡ active_in version Second d → IsActive version n p (record { of_first = first; of_second = second }) Second d
+    by_epoch v w b x rest_1 rest_2 true older same is one two now = absurd (no_break version Second Second 0 d now)
+    by_epoch v w b x rest_1 rest_2 false true same is one two now = absurd (not_first v _ now)
+    by_epoch v w b x rest_1 rest_2 false false same is one two now = of_version w (content_behind w n p x rest_2) now (record {
       begin = x;
       rest = rest_2;
       front = two;
-      content = (active_is Two Second Second _ d now).2;
-      again = λ other more begins. ap (λ (f : Front). found_by n p (front_of n p first) f) begins ∙ ap (λ (f : Front). found_by n p f (Begins Two x more)) one ∙ rw (same, is) refl;
-    }
+      content = (active_is w version Second Second _ d now).2;
+      again = λ other more begins. ap (λ (f : Front). found_by n p (front_of n p first) f) begins ∙ ap (λ (f : Front). found_by n p f (Begins w x more)) one ∙ rw (same, is) refl;
+    })
 
-    by_fronts : (one two : Front) → front_of n p first ≡ one → front_of n p second ≡ two → found_by n p one two ≡ Active Second d → IsActive n p (record { of_first = first; of_second = second }) Second d
-    by_fronts Faulty two is_1 is_2 now = absurd cc
-    by_fronts Blank Faulty is_1 is_2 now = absurd cc
-    by_fronts Blank Blank is_1 is_2 now = absurd cc
-    by_fronts Blank (Begins One x rest_2) is_1 is_2 now = absurd cc
-    by_fronts Blank (Begins Two x rest_2) is_1 is_2 now = record {
+    by_fronts : (one two : Front) → front_of n p first ≡ one → front_of n p second ≡ two → found_by n p one two ≡ active_in version Second d → IsActive version n p (record { of_first = first; of_second = second }) Second d
+    by_fronts Faulty two is_1 is_2 now = absurd (no_break version First Second 0 d now)
+    by_fronts Blank Faulty is_1 is_2 now = absurd (no_break version Second Second 0 d now)
+    by_fronts Blank Blank is_1 is_2 now = absurd (no_blank version Second d now)
+    by_fronts Blank (Begins w x rest_2) is_1 is_2 now = of_version w (content_behind w n p x rest_2) now (record {
       begin = x;
       rest = rest_2;
       front = is_2;
-      content = (active_is Two Second Second _ d now).2;
-      again = λ other more begins. ap (λ (f : Front). found_by n p (front_of n p first) f) begins ∙ ap (λ (f : Front). found_by n p f (Begins Two x more)) is_1;
-    }
-    by_fronts (Begins v b rest_1) Faulty is_1 is_2 now = absurd cc
-    by_fronts (Begins v b rest_1) Blank is_1 is_2 now = let other : First ≡ Second = (active_is v First Second _ d now).1 in absurd cc
+      content = (active_is w version Second Second _ d now).2;
+      again = λ other more begins. ap (λ (f : Front). found_by n p (front_of n p first) f) begins ∙ ap (λ (f : Front). found_by n p f (Begins w x more)) is_1;
+    })
+    by_fronts (Begins v b rest_1) Faulty is_1 is_2 now = absurd (no_break version Second Second 0 d now)
+    by_fronts (Begins v b rest_1) Blank is_1 is_2 now = absurd (not_first v _ now)
     by_fronts (Begins v b rest_1) (Begins w x rest_2) is_1 is_2 now = by_epoch v w b x rest_1 rest_2 (eqb b.epoch x.epoch) (ltb x.epoch b.epoch) refl refl is_1 is_2 now
 
-pub is_active : (n p : ℕ) (images : Images) (area : Area) (d : Content) → found n p images.of_first images.of_second ≡ Active area d → IsActive n p images area d
-is_active n p images First d e = first_active n p images.of_first images.of_second d e
-is_active n p images Second d e = second_active n p images.of_first images.of_second d e
+pub is_active : (version : Version) (n p : ℕ) (images : Images) (area : Area) (d : Content) → found n p images.of_first images.of_second ≡ active_in version area d → IsActive version n p images area d
+is_active version n p images First d e = first_active version n p images.of_first images.of_second d e
+is_active version n p images Second d e = second_active version n p images.of_first images.of_second d e
 
 -- the active area's last gate is within it and closed, and with other bytes that begin so both areas stand for its content and what stands behind the gate
 pub record IsFound (n p : ℕ) (images : Images) (area : Area) (d : Content) : Type 0 where
@@ -187,7 +206,7 @@ pub record IsFound (n p : ℕ) (images : Images) (area : Area) (d : Content) : T
 
 pub is_found : (n p : ℕ) (images : Images) (area : Area) (d : Content) → found n p images.of_first images.of_second ≡ Active area d → IsFound n p images area d
 is_found n p images area d e =
-    let is = is_active n p images area d e in
+    let is = is_active Two n p images area d e in
     let read = area_read Two n p is.begin d (image_of images area) is.rest is.front is.content in
     record {
       there = read.there;

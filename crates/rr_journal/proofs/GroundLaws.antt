@@ -61,7 +61,7 @@ made n p k area d facts = record { nodes = n; node = p; area = other_area area; 
 module _ (n p k : ℕ) (start : Images) (facts : List Fact) (area : Area) (d : Content) (holds : Holds n p start facts) (is : found n p start.of_first start.of_second ≡ Active area d) where
   -- as long as the other area isn't formatted, the facts are held
   pub held_beside : (image : List ℕ) → front_of n p image ≡ Blank → Holds n p (with_image start (other_area area) image) facts
-  held_beside image blank = record { fit = holds.fit; stands = subst (λ (f : Found). StandsFor f facts) (is ∙ sym (blank_beside n p start area d image is blank)) holds.stands }
+  held_beside image blank = record { fit = holds.fit; stands = subst (λ (f : Found). StandsFor f facts) (is ∙ sym (blank_beside Two n p start area d image is blank)) holds.stands }
 
   as_before : (image : List ℕ) → image ≡ image_of start (other_area area) → Holds n p (with_image start (other_area area) image) facts
   as_before image same = subst (λ (b : List ℕ). Holds n p (with_image start (other_area area) b) facts) (sym same) (own area)
@@ -102,7 +102,7 @@ module _ (n p k : ℕ) (start : Images) (facts : List Fact) (area : Area) (d : C
         → found n p (with_image start (other_area area) image).of_first (with_image start (other_area area) image).of_second ≡ Active (other_area area) (content_of (snap_of n p d facts))
     found_snapped image e =
         let own = snapped (snap_of n p d facts) image spelt short e in
-        newer_beside n p start area d (content_of (snap_of n p d facts)) image own.rest is own.front refl own.content
+        newer_beside Two n p start area d (content_of (snap_of n p d facts)) image own.rest is own.front refl own.content
 
     -- and holds the same facts
     pub held_snapped : (image : List ℕ) → take (1 + length (made n p k area d facts).body) image ≡ 165 ∷ (made n p k area d facts).body → Holds n p (with_image start (other_area area) image) facts

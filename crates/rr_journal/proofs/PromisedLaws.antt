@@ -14,7 +14,6 @@ use Rattle.rr_types.specs.Standings.{fits}
 use Rattle.rr_types.specs.Groups.{Grouped}
 use Rattle.rr_disk.specs.declared.area.Area.{Area}
 use Rattle.rr_frame.specs.declared.version.Version.{Version}
-use Rattle.rr_frame.specs.declared.version.Version.TheVariants.{Two}
 use Rattle.rr_frame.specs.Reading.{if_lawful, number_at}
 use Rattle.rr_frame.specs.GroupFormat.{group_in}
 use Rattle.rr_frame.specs.Snapshots.{Snapped, IsSnapshot, IsContents, proposes_lawfully}
@@ -23,8 +22,7 @@ use Rattle.rr_frame.proofs.FactLaws.{at_end_ok}
 use Rattle.rr_frame.proofs.FieldLaws.{bind_ok, ok_is}
 use Rattle.rr_frame.proofs.SnapshotShapes.{contents_stand}
 use Rattle.rr_journal.specs.Moments.{image_of}
-use Rattle.rr_image.specs.Image.{Content, Found, Unformatted, Broken, Active, Blank, Faulty, Begins, frame_behind, with_group, after_payload, after_frame, content_from, is_formatted, of_node, front_behind, front_of, content_behind, found}
-use Rattle.rr_journal.specs.Openings.{Phase, Settling, ReadingFirst, ReadingSecond, Formatting, Opens, formatted, after_found, after_opening_call}
+use Rattle.rr_image.specs.Image.{Content, Blank, Faulty, Begins, frame_behind, with_group, after_payload, after_frame, content_from, is_formatted, of_node, front_behind, front_of, content_behind, active_in, found}
 use Rattle.rr_journal.proofs.FoundLaws.{is_active}
 use Rattle.rr_image.proofs.ReadingLaws.{after_parts}
 
@@ -168,25 +166,11 @@ begins_promised version n p c bytes rest e = by_test (is_formatted bytes) e
     by_test true now = by_frame (frame_behind (drop 1 bytes)) now
 
 -- so the content of an active area is such
-pub found_promised : (n p : ℕ) (first second : List ℕ) (area : Area) (c : Content) → found n p first second ≡ Active area c → IsPromised n p c
+pub found_promised : (version : Version) (n p : ℕ) (first second : List ℕ) (area : Area) (c : Content) → found n p first second ≡ active_in version area c → IsPromised n p c
 unfolding content_behind
-found_promised n p first second area c is =
-    let a = is_active n p (record { of_first = first; of_second = second }) area c is in
-    content_promised Two (length a.rest) n p a.begin c a.rest (begins_promised Two n p a.begin (image_of (record { of_first = first; of_second = second }) area) a.rest a.front) a.content
-
--- and the content with which an opening ends
-pub opens_promised : (n p : ℕ) (bytes : List ℕ) (phase : Phase) (area : Area) (c : Content) → after_opening_call n p bytes phase ≡ Opens area c → IsPromised n p c
-opens_promised n p bytes Settling area c is = absurd cc
-opens_promised n p bytes ReadingFirst area c is = absurd cc
-opens_promised n p bytes (ReadingSecond first) area c is = by (found n p first bytes) refl is
-  where
-    by : (f : Found) → found n p first bytes ≡ f → after_found n p first f ≡ Opens area c → IsPromised n p c
-    by Unformatted finds now = absurd cc
-    by (Broken place offset) finds now = absurd cc
-    by (Active place d) finds now = let same : d ≡ c = cc in subst (IsPromised n p) same (found_promised n p first bytes place d finds)
-opens_promised n p bytes (Formatting []) area c is = let same : formatted ≡ c = cc in subst (IsPromised n p) same (record { empty = λ start. refl; stands = refl })
-opens_promised n p bytes (Formatting (call ∷ [])) area c is = let same : formatted ≡ c = cc in subst (IsPromised n p) same (record { empty = λ start. refl; stands = refl })
-opens_promised n p bytes (Formatting (call ∷ next ∷ calls)) area c is = absurd cc
+found_promised version n p first second area c is =
+    let a = is_active version n p (record { of_first = first; of_second = second }) area c is in
+    content_promised version (length a.rest) n p a.begin c a.rest (begins_promised version n p a.begin (image_of (record { of_first = first; of_second = second }) area) a.rest a.front) a.content
 
 -- of one of the nodes: a snapshot can hold it
 pub promised_snapshot : (n p epoch : ℕ) (c : Content) → p < n → IsPromised n p c → IsSnapshot (record { node = p; nodes = n; epoch = epoch + 1; next = c.next; entries = c.promise })

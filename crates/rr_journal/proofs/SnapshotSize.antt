@@ -1,10 +1,15 @@
--- The size of an empty snapshot, and that it is one.
+-- The size of a snapshot, and that there is an empty one.
 use Rattle.std.proofs.Common.{◌≡◌, ℕ, ◌<◌, List, [], length, arith, ap, length-append}
 use Rattle.std.specs.List.{flat_map, list_all}
 use Rattle.rr_types.specs.declared.promise.Entry.{Entry}
 use Rattle.rr_frame.specs.Snapshots.{Snapped, IsSnapshot, proposes_lawfully}
 use Rattle.rr_frame.specs.SnapshotFormat.{snapshot_bytes, snapshot_bytes_in, entry_bytes, owner_bytes, contents_bytes}
 use Rattle.rr_frame.proofs.FieldLaws.{length-number_bytes}
+use Rattle.rr_journal.specs.Openings.{snapshot_size}
+
+pub snapshot_sized : (s : Snapped) → length (snapshot_bytes s) ≡ snapshot_size s.entries
+unfolding snapshot_bytes_in owner_bytes contents_bytes
+snapshot_sized s = simp (length-append, length-number_bytes) (omega arith)
 
 pub length-snapshot_bytes : (s : Snapped) → s.entries ≡ [] → length (snapshot_bytes s) ≡ 23
 unfolding snapshot_bytes_in owner_bytes contents_bytes

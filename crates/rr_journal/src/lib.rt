@@ -12,6 +12,7 @@ mod job;
 mod journal;
 mod opened;
 mod opening;
+mod rewrite;
 mod snapshot;
 mod stage;
 mod switch;
