@@ -255,7 +255,7 @@ fn facts_of_version_1(rt: HostRuntime) {
 }
 
 #[test]
-fn snapshots_of_version_1(rt: HostRuntime) {
+fn a_snapshot_of_version_1(rt: HostRuntime) {
     let alloc = rt.alloc();
     let old = changed(&rt, alloc, proposed(), 0, 1);
     let (version, read) = decode_snapshot(alloc, &old).expect(&rt, "memory");
@@ -266,11 +266,20 @@ fn snapshots_of_version_1(rt: HostRuntime) {
             .as_slice(),
         proposed()
     );
+}
+
+#[test]
+fn faults_of_a_snapshot_of_version_1(rt: HostRuntime) {
     // Instance 65,536, a transfer, a name of 33 bytes, a proposal that is a transfer.
-    for (place, value, offset) in [(24, 1, 23), (48, 4, 48), (49, 33, 49), (66, 4, 66)] {
-        let bytes = changed(&rt, alloc, &old, place, value);
-        assert!(rt; is_no_snapshot(alloc, &bytes, offset), "{value} at {place}");
+    let faults = [(24, 1, 23), (48, 4, 48), (49, 33, 49), (66, 4, 66)];
+    let old = changed(&rt, rt.alloc(), proposed(), 0, 1);
+    for (place, value, offset) in faults {
+        let bytes = changed(&rt, rt.alloc(), &old, place, value);
+        assert!(rt;
+            is_no_snapshot(rt.alloc(), &bytes, offset),
+            "{value} at {place}"
+        );
     }
-    let far = changed(&rt, alloc, proposed(), 24, 1);
-    assert!(rt; decode_snapshot(alloc, &far).is_ok());
+    let far = changed(&rt, rt.alloc(), proposed(), 24, 1);
+    assert!(rt; decode_snapshot(rt.alloc(), &far).is_ok());
 }
