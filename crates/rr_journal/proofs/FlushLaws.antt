@@ -21,7 +21,7 @@ use Rattle.rr_journal.proofs.Content.{body_front, body_back, front_less}
 use Rattle.rr_journal.specs.declared.journal.Journal.{Journal}
 use Rattle.rr_journal.specs.Calls.{frame_bytes}
 use Rattle.rr_image.specs.Image as grammar
-use Rattle.rr_image.specs.Image.{Content, Found, Active, frame_behind, after_payload, content_from, active, found}
+use Rattle.rr_image.specs.Image.{Content, Found, Active, after_payload, content_from, active, found}
 use Rattle.rr_image.specs.Held.{StandsFor, Holds}
 use Rattle.rr_journal.specs.Journals.{IsOver, once_flushed}
 use Rattle.rr_image.proofs.FrameLaws.{frame_again}

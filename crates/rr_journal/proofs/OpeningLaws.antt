@@ -1,5 +1,5 @@
 -- From one phase of an opening to the next, and what a crash may leave behind a device call of it.
-use Rattle.std.proofs.Common.{◌≡◌, ℕ, ◌-◌, ◌^◌, ◌<◌, ◌⊎◌, inl, inr, Bool, true, false, Option, None, Some, List, [], ◌∷◌, map, length, refl, sym, ap, subst, ◌∙◌, arith}
+use Rattle.std.proofs.Common.{◌≡◌, ℕ, ◌-◌, ◌^◌, ◌<◌, inl, inr, Bool, true, false, Option, None, Some, List, [], ◌∷◌, map, length, refl, sym, ap, subst, ◌∙◌, arith}
 use Rattle.std.proofs.lemmas.List.{length-map}
 use Rattle.rr_types.specs.declared.fact.Fact.{Fact}
 use Rattle.rr_types.specs.declared.promise.Entry.{Entry}
@@ -7,7 +7,7 @@ use Rattle.rr_types.specs.Promises.{promise_of}
 use Rattle.rr_disk.specs.declared.area.Area.{Area}
 use Rattle.rr_disk.specs.declared.area.Area.TheVariants.{First, Second}
 use Rattle.rr_disk.specs.Areas.{Areas, extent_of, read_of, at_rest, firm_cell}
-use Rattle.rr_disk.specs.Crash.{Images, restarted}
+use Rattle.rr_disk.specs.Crash.{Images}
 use Rattle.rr_frame.specs.SnapshotFormat.{IsLawfulSnapshot}
 use Rattle.rr_journal.specs.Moments.{image_of, EachHolds}
 use Rattle.rr_journal.specs.declared.journal.Journal.{Journal}
@@ -18,7 +18,7 @@ use Rattle.rr_journal.specs.Calls.{Call, after_call, must_close}
 use Rattle.rr_image.specs.Image.{Content, Found, Unformatted, Broken, Active, Outdated, found}
 use Rattle.rr_image.specs.Held.{StandsFor, Holds}
 use Rattle.rr_journal.specs.Journals.{IsOver}
-use Rattle.rr_journal.specs.Openings.{Rewriting, After, Opens, bytes_in, snapshot_with, may_migrate, end_by, due_call}
+use Rattle.rr_journal.specs.Openings.{Rewriting, Opens, bytes_in, snapshot_with, may_migrate, end_by, due_call}
 use Rattle.rr_journal.specs.Phases.{phase_of}
 use Rattle.rr_journal.specs.OpeningTable.{IsReadBy, IsLeftBy, IsResting, Rests, OpensWith, IsKept}
 use Rattle.rr_journal.specs.Rewrites.{Rewrite, writes_anew, area_anew, content_anew, flush_anew, IsInStage, IsRewriting}

@@ -1,5 +1,5 @@
 -- From one stage of writing an area anew to the next, and what a crash may leave behind a device call of it.
-use Rattle.std.proofs.Common.{◌≡◌, ◌≢◌, ◌⊎◌, ⊎_elim, inl, inr, ℕ, ◌+◌, ◌^◌, ◌<◌, ◌≤◌, Bool, true, false, ltb, ◌&&◌, List, [], ◌∷◌, ◌++◌, length, get_or, take, drop, Option, None, Some, refl, sym, ap, subst, ◌∙◌, arith}
+use Rattle.std.proofs.Common.{◌≡◌, ◌≢◌, ◌⊎◌, ⊎_elim, inl, inr, ℕ, ◌+◌, ◌^◌, ◌<◌, ◌≤◌, Bool, true, false, ltb, ◌&&◌, List, [], ◌∷◌, length, get_or, take, drop, Option, None, Some, refl, sym, ap, subst, ◌∙◌, arith}
 use Rattle.std.proofs.lemmas.Bool.{and_parts, and_from, cases_eq, eqb-true, ltb-true, lt-ltb, le-ltb}
 use Rattle.std.proofs.lemmas.List.{append-nil, length-map, nil_from_length}
 use Rattle.rr_types.specs.declared.fact.Fact.{Fact}
@@ -18,7 +18,7 @@ use Rattle.rr_image.specs.Image.{Content, Found, Unformatted, Broken, Active, Ou
 use Rattle.rr_image.specs.Held.{StandsFor, Holds}
 use Rattle.rr_journal.specs.Flushes.{Flush}
 use Rattle.rr_journal.specs.Moments.{image_of, with_image, with_group, gate_opened, body_written, IsGrounded, IsAt, EachHolds, body_due, body_out, body_safe, gate_set}
-use Rattle.rr_journal.specs.Calls.{Write, after_call, frame_bytes, must_close}
+use Rattle.rr_journal.specs.Calls.{Write, after_call, must_close}
 use Rattle.rr_journal.specs.OpeningTable.{IsLeftBy}
 use Rattle.rr_journal.specs.Openings.{snapshot_size, snapshot_with, migrated, may_migrate}
 use Rattle.rr_journal.specs.Rewrites.{writes_anew, area_anew, content_anew, IsSized, flush_anew, IsInStage}

@@ -3,12 +3,11 @@ use Rattle.std.specs.Prelude.{◌≡◌, Bool}
 use Rattle.rr_disk.specs.declared.area.Area.{Area}
 use Rattle.rr_disk.specs.declared.area.Area.TheVariants.{First, Second}
 use Rattle.rr_disk.specs.Areas.{Areas}
-use Rattle.rr_journal.specs.declared.journal.Journal.{Journal}
 use Rattle.rr_journal.specs.declared.opening.Fronts.{Fronts}
 use Rattle.rr_journal.specs.declared.opening.Progress as code
 use Rattle.rr_journal.specs.declared.opening.Progress.TheVariants as progress
 use Rattle.rr_journal.specs.Openings.{Phase, Settling, ReadingFirst, ReadingSecond, Rewriting}
-use Rattle.rr_journal.specs.OtherAreas.{other_area, closes_in, IsOtherKnown}
+use Rattle.rr_journal.specs.OtherAreas.{closes_in, IsOtherKnown}
 use Rattle.rr_journal.specs.Rewrites.{area_anew, area_kept}
 use Rattle.rr_journal.specs.Phases.{phase_of}
 

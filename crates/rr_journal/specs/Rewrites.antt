@@ -1,5 +1,5 @@
 -- An area that an opening writes anew: the first of a disk that isn't formatted, or the one beside an area of version 1.
-use Rattle.std.specs.Prelude.{◌≡◌, ℕ, ◌+◌, Bool, true, false, List, [], ◌∷◌, length}
+use Rattle.std.specs.Prelude.{◌≡◌, ℕ, Bool, true, false, List, [], ◌∷◌, length}
 use Rattle.rr_disk.specs.declared.area.Area.{Area}
 use Rattle.rr_disk.specs.declared.area.Area.TheVariants.{First, Second}
 use Rattle.rr_disk.specs.Areas.{Areas}

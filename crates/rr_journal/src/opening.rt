@@ -9,8 +9,8 @@ ghost use Rattle.rr_disk.specs.Failing.{FailingRead, FailingWrite, FailingSync};
 ghost use Rattle.rr_frame.specs.Snapshots.{IsSnapshot};
 ghost use Rattle.rr_journal.specs.Calls.{must_close, after_call};
 ghost use Rattle.rr_journal.specs.CrashedDisks.{MayStand, EachHoldsSome, SomeHolds, IsOpenWithOneOf, IsReading, AddsNone, AddsSameAlone};
-ghost use Rattle.rr_image.specs.Image.{Content, Outdated, found};
-ghost use Rattle.rr_journal.specs.Openings.{Settling, ReadingSecond, Rewriting, Done, Refused, bytes_in, snapshot_with, migrated, end_by, due_call, after_found, after_opening_call};
+ghost use Rattle.rr_image.specs.Image.{Outdated, found};
+ghost use Rattle.rr_journal.specs.Openings.{Settling, ReadingSecond, Rewriting, Done, Refused, bytes_in, snapshot_with, due_call, after_found, after_opening_call};
 ghost use Rattle.rr_journal.specs.Fronts.{front_beside, KnowsFronts, KnowsRead, KnowsOther};
 ghost use Rattle.rr_journal.specs.Phases.{phase_of, Follows};
 ghost use Rattle.rr_journal.specs.OpeningCourse.{calls_left, found_from, calls_from, EndsBy, StaysOnCourse, IsRefused, IsUndamaged, IsDue, IsUntouched, IsAsBefore, IsLeftAlone, IsDone};
@@ -21,7 +21,7 @@ ghost use Rattle.rr_journal.specs.OpenDisks.{IsOpenWith, IsOpenAtRest, IsReady, 
 ghost use Rattle.rr_image.specs.Held.{Holds};
 ghost use Rattle.rr_journal.specs.Stages.{calls_from as stage_calls};
 ghost use Rattle.rr_journal.specs.OtherAreas.{other_area, IsOtherKnown};
-ghost use Rattle.rr_journal.specs.Rewrites.{Rewrite as RewriteOf, IsRewriting, writes_anew, area_anew, area_kept, content_anew};
+ghost use Rattle.rr_journal.specs.Rewrites.{IsRewriting, writes_anew, area_anew, area_kept, content_anew};
 
 use crate::journal::Journal;
 use crate::opened::Opened;

@@ -1,7 +1,7 @@
 //! The writing of an area anew in an opening: the first of a disk that isn't formatted, or the one beside an area of
 //! version 1.
 
-ghost use Rattle.std.specs.Prelude.{◌≡◌, ◌⊎◌, ◌+◌, ◌<◌, ◌≤◌, true, false, length, OnOk, OnErr, IfOk, IfErr};
+ghost use Rattle.std.specs.Prelude.{◌≡◌, ◌⊎◌, ◌+◌, ◌<◌, ◌≤◌, true, false, OnOk, OnErr, IfOk, IfErr};
 ghost use Rattle.rr_types.specs.declared.refusal.Refusal.TheVariants.{OutOfMemory, Device, TooLarge};
 ghost use Rattle.rr_disk.specs.Counts.{counted, Grew};
 ghost use Rattle.rr_frame.specs.Snapshots.{IsSnapshot};

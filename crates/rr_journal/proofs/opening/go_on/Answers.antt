@@ -1,7 +1,5 @@
 use Rattle.std.proofs.Common.{◌≡◌, ap, sym, subst, ◌∙◌, List, ℕ, Ok}
 use Rattle.std.specs.Prelude.{IfErr, IfOk}
-use Rattle.rr_types.specs.declared.refusal.Refusal.{Refusal}
-use Rattle.rr_disk.specs.Areas.{Areas}
 use Rattle.rr_image.specs.Image.{Found, found}
 use Rattle.rr_journal.specs.declared.opening.Phase.{Phase}
 use Rattle.rr_journal.specs.Openings.{due_call, after_opening_call}

@@ -1,4 +1,4 @@
-use Rattle.std.proofs.Common.{◌≡◌, ◌+◌, inr, refl, sym, subst, ◌∙◌, Ok, ℕ, length, false, Vec, Global}
+use Rattle.std.proofs.Common.{◌≡◌, inr, refl, sym, subst, ◌∙◌, Ok, ℕ, length, false, Vec, Global}
 use Rattle.rr_types.specs.Promises.{promise_of}
 use Rattle.rr_disk.specs.Crash.{Images, restarted}
 use Rattle.rr_image.specs.Image.{Active, found}

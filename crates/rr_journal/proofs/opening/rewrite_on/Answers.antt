@@ -1,4 +1,4 @@
-use Rattle.std.proofs.Common.{◌≡◌, ap, sym, subst, ◌∙◌}
+use Rattle.std.proofs.Common.{ap, sym, subst, ◌∙◌}
 use Rattle.rr_journal.specs.Rewrites.{Rewrite, IsRewriting}
 use Rattle.rr_journal.specs.Stages.{stage_behind}
 use Rattle.rr_image.specs.Held.{Holds}

@@ -1,18 +1,13 @@
-use Rattle.std.proofs.Common.{◌≡◌, ◌+◌, refl, sym, ap, subst, ◌∙◌, List, ℕ, true, Bool, Ok}
-use Rattle.rr_types.specs.declared.fact.Fact.{Fact}
-use Rattle.rr_disk.specs.declared.area.Area.{Area}
-use Rattle.rr_disk.specs.declared.area.Area.TheVariants.{First, Second}
-use Rattle.rr_disk.specs.Areas.{Areas}
-use Rattle.rr_disk.specs.Crash.{Images}
+use Rattle.std.proofs.Common.{◌≡◌, refl, sym, ap, subst, ◌∙◌, List, ℕ, Ok}
 use Rattle.rr_frame.specs.declared.version.Version.TheVariants.{One, Two}
 use Rattle.rr_frame.specs.Snapshots.{IsSnapshot}
 use Rattle.rr_image.specs.declared.image.Image.{Image}
 use Rattle.rr_image.specs.Ends.{Finds}
 use Rattle.rr_image.specs.Held.{Holds}
-use Rattle.rr_image.specs.Image.{Content, Found, Unformatted, Active, Outdated, found}
+use Rattle.rr_image.specs.Image.{Content, Unformatted, Active, Outdated, found}
 use Rattle.rr_journal.specs.Calls.{must_close}
 use Rattle.rr_journal.specs.Moments.{image_of}
-use Rattle.rr_journal.specs.Openings.{snapshot_with, migrated, bytes_in}
+use Rattle.rr_journal.specs.Openings.{snapshot_with, bytes_in}
 use Rattle.rr_journal.specs.OtherAreas.{other_area}
 use Rattle.rr_journal.specs.Rewrites.{Rewrite, IsRewriting, content_anew}
 use Rattle.rr_journal.proofs.OpeningLaws.{begins_anew, image_is, resting}

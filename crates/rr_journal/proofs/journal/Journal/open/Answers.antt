@@ -1,14 +1,12 @@
-use Rattle.std.proofs.Common.{◌≡◌, ℕ, List, false}
+use Rattle.std.proofs.Common.{◌≡◌, ℕ, ◌+◌, ◌≤◌, List, length, false}
 use Rattle.std.specs.Prelude.{IfOk, IfErr, OnOk}
 use Rattle.rr_types.specs.declared.fact.Fact.{Fact}
 use Rattle.rr_image.specs.Held.{Holds}
-use Rattle.rr_disk.specs.declared.area.Area.{Area}
-use Rattle.rr_disk.specs.Areas.{extent_of}
 use Rattle.rr_journal.specs.Openings.{Phase}
-use Rattle.rr_journal.specs.OpeningCourse.{found_from, calls_from, IsUndamaged, IsAsBefore, IsLeftAlone, IsDone}
+use Rattle.rr_journal.specs.OpeningCourse.{found_from, calls_from, IsUndamaged, IsAsBefore, IsDone}
 use Rattle.rr_journal.specs.OpeningTable.{contents, OpensAny, OpensWith, IsKept}
 use Rattle.rr_journal.specs.OpenDisks.{IsOpenAtRest, IsOpenWith, disk_behind}
-use Rattle.rr_journal.specs.Rewrites.{writes_anew, area_kept}
+use Rattle.rr_journal.specs.Rewrites.{writes_anew}
 use Rattle.rr_journal.proofs.CrashLaws.{adds_same_alone, opens_with_one, begun_with}
 use Rattle.rr_journal.proofs.journal.Journal.open.Goals as goal
 
@@ -56,3 +54,16 @@ returns-clause-undamaged g c tells facts few_first few_second holds =
     (λ (n p : ℕ) (phase : Phase) (d : g.row.D.Denot). g.D.Disk.tells d → (facts : List Fact) → OpensWith n p facts c.start.result.phase (g.D.Disk.areas d) → IfErr c.finish.result (λ r. IsUndamaged (found_from n p phase (g.D.Disk.areas d)) r.0))
     c.start.result c.args.nodes c.args.node c.args.disk c.start.ensures.whose c.start.ensures.disk c.start.ensures.phase c.finish.ensures.undamaged in
     undamaged tells facts (c.start.ensures.table facts few_first few_second holds)
+
+pub returns-clause-counted : goal.returns-clause-counted
+returns-clause-counted g c =
+    begun_with {D = g.row.D.Denot}
+    (λ (n p : ℕ) (phase : Phase) (d : g.row.D.Denot). g.D.Disk.tells d → g.D.Disk.calls (disk_behind {D = g.row.D.Denot} c.finish.result) ≤ g.D.Disk.calls d + length (calls_from n p phase (g.D.Disk.areas d)))
+    c.start.result c.args.nodes c.args.node c.args.disk c.start.ensures.whose c.start.ensures.disk c.start.ensures.phase c.finish.ensures.counted
+
+pub returns-clause-kept : goal.returns-clause-kept
+returns-clause-kept g c tells facts few_first few_second holds =
+    let kept = begun_with {D = g.row.D.Denot}
+    (λ (n p : ℕ) (phase : Phase) (d : g.row.D.Denot). g.D.Disk.tells d → (facts : List Fact) → OpensWith n p facts c.start.result.phase (g.D.Disk.areas d) → IsKept (Holds n p) facts (g.D.Disk.areas d) (g.D.Disk.areas (disk_behind {D = g.row.D.Denot} c.finish.result)))
+    c.start.result c.args.nodes c.args.node c.args.disk c.start.ensures.whose c.start.ensures.disk c.start.ensures.phase c.finish.ensures.kept in
+    kept tells facts (c.start.ensures.table facts few_first few_second holds)

@@ -1,4 +1,4 @@
-use Rattle.std.proofs.Common.{◌≡◌, ◌+◌, ap, subst, sym, ◌∙◌, arith, List, ℕ, true}
+use Rattle.std.proofs.Common.{◌≡◌, ◌+◌, ap, subst, sym, ◌∙◌, arith, true}
 use Rattle.rr_frame.specs.Snapshots.{Snapped}
 use Rattle.rr_image.specs.Image.{Content, Outdated}
 use Rattle.rr_journal.specs.Calls.{frame_bytes}
