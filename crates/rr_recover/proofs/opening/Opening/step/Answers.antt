@@ -59,6 +59,24 @@ returns-in-Ok-clause-rests g c told =
     (last_stands {D = g.row.D.Denot} g.D.Disk.read_gives g.D.Disk.write_gives g.D.Disk.sync_gives g.D.Disk.areas o c.in-Ok-Done.field-0 c.in-Ok-Done.journal c.in-Ok-Done.opened
     c.in-Ok-Done.field-0-is gave.exact (gave.rests tells (c.self.invariant.4 tells).stands))
 
+pub returns-in-Ok-More-clause-comes : goal.returns-in-Ok-More-clause-comes
+returns-in-Ok-More-clause-comes g c told =
+    let o : OpeningState g.row.D.Denot = c.self.inside.journal in
+    let tells : g.D.Disk.tells o.disk = c.self.invariant.3 c.args.self.disk o.disk told in
+    subst (λ (x : Progress g.row.D.Denot). ComesToAny {D = g.row.D.Denot} g.D.Disk.areas x) c.in-Ok-More.field-0-is (c.in-Ok-More.ensures.rests tells (c.self.invariant.4 tells).stands)
+
+pub returns-in-Ok-clause-comes : goal.returns-in-Ok-clause-comes
+returns-in-Ok-clause-comes g c told =
+    let o : OpeningState g.row.D.Denot = c.self.inside.journal in
+    let gave = c.in-Ok-Done.ensures in
+    let made = c.in-Ok.ensures.ok in
+    let tells : g.D.Disk.tells o.disk = c.self.invariant.3 c.args.self.disk o.disk told in
+    let exact = subst (λ (x : Progress g.row.D.Denot). Steps {D = g.row.D.Denot} g.D.Disk.read_gives g.D.Disk.write_gives g.D.Disk.sync_gives o (Ok x)) c.in-Ok-Done.field-0-is gave.exact in
+    let whose = last_whose {D = g.row.D.Denot} g.D.Disk.read_gives g.D.Disk.write_gives g.D.Disk.sync_gives g.D.Disk.areas o c.in-Ok-Done.journal c.in-Ok-Done.opened exact in
+    subst (λ (x : Progress g.row.D.Denot). ComesToAny {D = g.row.D.Denot} g.D.Disk.areas x)
+    (c.in-Ok-Done.field-0-is ∙ ended {D = g.row.D.Denot} c.in-Ok-Done.journal c.in-Ok.slots c.in-Ok-Done.opened c.in-Ok.core made.2 made.1 whose.2 whose.3 whose.4)
+    (gave.rests tells (c.self.invariant.4 tells).stands)
+
 pub returns-in-Ok-clause-number : goal.returns-in-Ok-clause-number
 returns-in-Ok-clause-number g c told =
     let o : OpeningState g.row.D.Denot = c.self.inside.journal in
