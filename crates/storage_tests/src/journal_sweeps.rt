@@ -42,6 +42,7 @@ fn assert_spelled(
     last: usize,
 ) -> Result<(), Refusal> {
     let mut gate = 0;
+    let mut version = Version::Two;
     for frame in 0..bytes.len() {
         if gate == last {
             return Ok(());
@@ -50,10 +51,14 @@ fn assert_spelled(
             break;
         };
         let again = if frame == 0 {
-            let (_, snapshot) = decode_snapshot(alloc, payload)?;
-            encode_snapshot(alloc, &snapshot)?
+            let (read, snapshot) = decode_snapshot(alloc, payload)?;
+            version = read;
+            let mut again = encode_snapshot(alloc, &snapshot)?;
+            // The versions have one spelling, but for its number.
+            put_at(&mut again, 0, version.number());
+            again
         } else {
-            encode_group(alloc, &decode_group(alloc, Version::Two, payload)?)?
+            encode_group(alloc, &decode_group(alloc, version, payload)?)?
         };
         assert_eq!(rt; again.as_slice(), payload);
         gate = gate.saturating_add(payload.len()).saturating_add(5);
@@ -76,6 +81,12 @@ fn assert_exact(
             assert_spelled(rt, alloc, first, content.gate() as usize)?
         }
         Ok(Image::Active(Area::Second, content)) => {
+            assert_spelled(rt, alloc, second, content.gate() as usize)?
+        }
+        Ok(Image::Outdated(Area::First, content)) => {
+            assert_spelled(rt, alloc, first, content.gate() as usize)?
+        }
+        Ok(Image::Outdated(Area::Second, content)) => {
             assert_spelled(rt, alloc, second, content.gate() as usize)?
         }
         Err(Refusal::Damaged { area: 0, offset }) => assert!(rt; gates.contains(&offset)),
