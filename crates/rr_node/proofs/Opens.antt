@@ -51,7 +51,7 @@ anew_lawful : (n p : ℕ) (start : Images) (f : Found) (calls : List Call) → p
 anew_lawful n p start Unformatted calls exists few is due spelt = spelt n p few (promised_snapshot n p 0 formatted exists (record { empty = λ none. refl; stands = refl }))
 anew_lawful n p start (Broken area offset) calls exists few is due spelt = absurd cc
 anew_lawful n p start (Active area c) calls exists few is due spelt = absurd cc
-anew_lawful n p start (Outdated area c) calls exists few is due spelt = spelt n p few (promised_snapshot n p c.epoch (migrated c) exists (found_promised One n p start.of_first start.of_second area c is))
+anew_lawful n p start (Outdated area c) calls exists few is due spelt = spelt n p few (promised_snapshot n p c.epoch c exists (found_promised One n p start.of_first start.of_second area c is))
 
 -- an opening that writes an area anew ends with that area
 pub end_anew : (f : Found) → writes_anew f ≡ true → end_by f ≡ Opens (area_anew f) (content_anew f)
