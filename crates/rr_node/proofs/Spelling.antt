@@ -25,7 +25,6 @@ use Rattle.rr_frame.specs.Snapshots.{Snapped}
 use Rattle.rr_frame.specs.SnapshotFormat.{proposal_bytes, open_bytes, standing_bytes, entry_bytes, owner_bytes, contents_bytes, snapshot_bytes, snapshot_bytes_in, IsLawfulStandingIn, IsLawfulEntryIn}
 use Rattle.rr_frame.proofs.FieldLaws.{IsBytes-high_first}
 use Rattle.rr_journal.specs.Calls.{frame_bytes}
-use Rattle.rr_journal.specs.OpeningTable.{first_snapshot}
 use Rattle.rr_node.proofs.InOrder.{Bytes}
 
 both_fit : (xs ys : List ℕ) → Bytes xs → Bytes ys → Bytes (xs ++ ys)
@@ -149,7 +148,3 @@ snapshot_fits s is =
 -- the frame of a snapshot whose entries have a spelling
 pub snapped_body_fits : (s : Snapped) → AllByRecursion (IsLawfulEntryIn Two s.nodes s.node) s.entries → Bytes (frame_bytes (snapshot_bytes s))
 snapped_body_fits s is = frame_fits (snapshot_bytes s) (snapshot_fits s is)
-
--- the one that formatting writes has none
-pub first_body_fits : (n p : ℕ) → Bytes (frame_bytes (snapshot_bytes (first_snapshot n p)))
-first_body_fits n p = snapped_body_fits (first_snapshot n p) tt
