@@ -42,6 +42,30 @@ fn draws_no_steps(rt: HostRuntime) -> Result<(), Fail> {
     Ok(())
 }
 
+/// The schedule alone is what stands before the line `report`.
+#[test]
+fn draws_a_schedule_alone(rt: HostRuntime) -> Result<(), Fail> {
+    let words = [
+        "rr",
+        "random",
+        "--seed",
+        "1",
+        "--steps",
+        "0",
+        "--nodes",
+        "2",
+        "--schedule-only",
+    ];
+    let ran = run(&rt, &words, &mut &b""[..])?;
+    let Some((schedule, _)) = WITHOUT_STEPS.split_once("report\n") else {
+        return Err(Fail::from("there is a line `report`"));
+    };
+    assert_eq!(rt; ran.out.as_str(), schedule);
+    assert_eq!(rt; ran.status, 0);
+    assert!(rt; ran.err.is_empty());
+    Ok(())
+}
+
 #[test]
 fn refuses_numbers_out_of_their_ranges(rt: HostRuntime) -> Result<(), Fail> {
     let wrong = [

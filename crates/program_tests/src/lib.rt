@@ -6,6 +6,8 @@ mod audited;
 #[cfg(test)]
 mod drawn;
 #[cfg(test)]
+mod migrated;
+#[cfg(test)]
 mod pictured;
 #[cfg(test)]
 mod rows;

@@ -101,7 +101,7 @@ fn tells_why_a_picture_fails(rt: HostRuntime) -> Result<(), Fail> {
     let mut input = Counted::new(OPENINGS.as_bytes());
     let mut out = Counted::new(Closed);
     let status = execute(&rt, &["rr", "draw"], &mut input, &mut out, &mut err);
-    assert!(rt; err.as_slice() == b"rr: standard output: closed\n".as_slice());
+    assert!(rt; err.is_empty(), "a reader that has gone is told nothing");
     assert_eq!(rt; status, 5);
     Ok(())
 }

@@ -106,7 +106,10 @@ fn tells_each_refusal_in_the_same_words(rt: HostRuntime) -> Result<(), Fail> {
 fn reads_words(rt: HostRuntime) -> Result<(), Fail> {
     let version = run(&rt, &["rr", "--version"], &mut &b""[..])?;
     assert_eq!(rt; version.status, 0);
-    assert_eq!(rt; version.out.as_str(), "rr 0.1.0\n");
+    assert_eq!(rt;
+        version.out.as_str(),
+        "rr 0.1.0, proved with rattle-kit-13b logic dac8208d650f15bf\n"
+    );
     let help = run(&rt, &["rr", "--help"], &mut &b""[..])?;
     assert_eq!(rt; help.status, 0);
     assert!(rt; help.out.as_str().contains("Usage: rr <COMMAND>"));
@@ -217,11 +220,30 @@ fn tells_streams_that_fail(rt: HostRuntime) -> Result<(), Fail> {
     let mut input = Counted::new(&b"nodes 3\n"[..]);
     let mut out = Counted::new(Closed);
     let status = execute(&rt, &["rr", "sim"], &mut input, &mut out, &mut err);
-    assert!(rt; err.as_slice() == b"rr: standard output: closed\n".as_slice());
+    assert!(rt; err.is_empty(), "a reader that has gone is told nothing");
     assert_eq!(rt; status, 5);
     for word in ["--help", "--version"] {
         let status = execute(&rt, &["rr", word], &mut input, &mut out, &mut Closed);
         assert_eq!(rt; status, 5, "the status of {word}");
+    }
+    Ok(())
+}
+
+/// Each long help has the format, two examples and the statuses; a short one has no examples.
+#[test]
+fn helps_with_examples(rt: HostRuntime) -> Result<(), Fail> {
+    let subcommands = [
+        "sim", "show", "random", "audit", "run", "sweep", "draw", "migrate",
+    ];
+    for name in subcommands {
+        let long = run(&rt, &["rr", name, "--help"], &mut &b""[..])?;
+        let first = format!(in rt.alloc(); "\n\nExamples:\n  rr {name} ")?;
+        assert_eq!(rt; long.status, 0);
+        assert!(rt; long.out.as_str().contains(first.as_str()), "{name}");
+        assert!(rt; long.out.as_str().contains("\nExit status: 0 done"));
+        let short = run(&rt, &["rr", name, "-h"], &mut &b""[..])?;
+        assert_eq!(rt; short.status, 0);
+        assert!(rt; !short.out.as_str().contains("Examples:"), "{name}");
     }
     Ok(())
 }

@@ -38,12 +38,12 @@ static SECOND_SNAPSHOT: [u8; 193] = [
 ];
 
 /// The bytes of area 0. (A test that names a table itself is proved over each of its bytes.)
-fn area() -> &'static [u8] {
+pub fn area() -> &'static [u8] {
     &AREA
 }
 
 /// The bytes of area 1 behind the switch.
-fn snapshot() -> &'static [u8] {
+pub fn snapshot() -> &'static [u8] {
     &SNAPSHOT
 }
 

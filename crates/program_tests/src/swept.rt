@@ -89,7 +89,7 @@ fn tells_why_a_sweep_fails(rt: HostRuntime) -> Result<(), Fail> {
     let mut err = Vec::new(rt.alloc());
     let mut input = Counted::new(OPENING.as_bytes());
     let status = execute(&rt, &words, &mut input, &mut Counted::new(Closed), &mut err);
-    assert!(rt; err.as_slice() == b"rr: standard output: closed\n".as_slice());
+    assert!(rt; err.is_empty(), "a reader that has gone is told nothing");
     assert_eq!(rt; status, 5);
     let lost = run(
         &rt,

@@ -1,5 +1,5 @@
 pub mod EndLemmas
 pub mod ShowLemmas
 pub mod TapeLemmas
-pub mod WordLemmas
 pub mod SweepLemmas
+pub mod MigrateLemmas

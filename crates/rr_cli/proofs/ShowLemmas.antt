@@ -50,10 +50,10 @@ pub text_ends : (text : Vec ℕ Global) (status : ℕ) (old new : Printing) → 
 text_ends text status old new (inl (a, b, (first, second, tells, is))) prints = told a b first second tells (rw is at prints)
 text_ends text status old new (inr device) prints = absurd cc
 
-abbrev the_err : Refusal → Result (Vec ℕ Global) Refusal
+abbrev pub the_err : Refusal → Result (Vec ℕ Global) Refusal
 the_err e = Err e
 
-err_is : (e d : Refusal) → the_err e ≡ the_err d → e ≡ d
+pub err_is : (e d : Refusal) → the_err e ≡ the_err d → e ≡ d
 err_is e d is = cc
 
 -- nothing was printed

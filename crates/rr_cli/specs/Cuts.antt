@@ -3,7 +3,7 @@ use Rattle.std.specs.Prelude.{◌≡◌, ℕ, ◌-◌, ◌^◌, Option, None, So
 use Rattle.clap.specs.Words.{Text}
 use Rattle.rr_draw.specs.declared.cut.Cut.{Cut}
 use Rattle.rr_cli.specs.Draws.{IsNumberIn}
-use Rattle.rr_cli.specs.Lines.{CutWords}
+use Rattle.rr_words.specs.Tasks.{CutWords}
 
 -- the number in this range that a word writes, or this other one where there is no word
 abbrev pub IsNumberOr : ℕ → ℕ → ℕ → Option Text → ℕ → Type 0

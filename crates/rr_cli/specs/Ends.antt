@@ -1,5 +1,5 @@
 -- How a run of the program ends: its exit status, and what standard output has taken.
-use Rattle.std.specs.Prelude.{◌≡◌, ◌≢◌, ◌⊎◌, ◌<◌, ◌-◌, ◌^◌, ℕ, List, [], ◌∷◌, ◌++◌, length, Option, Some, None, codes}
+use Rattle.std.specs.Prelude.{◌≡◌, ◌≢◌, ◌⊎◌, ◌<◌, ◌-◌, ◌^◌, ℕ, Bool, List, [], ◌∷◌, ◌++◌, length, Option, Some, None, codes}
 use Rattle.std.specs.List.{flat_map}
 use Rattle.clap.specs.Kinds.{Kinds, IsAmong}
 use Rattle.clap.specs.Words.{Text}
@@ -15,7 +15,7 @@ use Rattle.rr_tape.specs.Taped.{Taped, IsTape, IsTapeEvent}
 use Rattle.rr_tape.specs.TapeTexts.{tape_text, tape_line}
 use Rattle.rr_audit.specs.Audits as tapes
 use Rattle.rr_audit.specs.Audits.{IsTapeRun, StopsAt}
-use Rattle.rr_sim.specs.Told.{IsReportOn, IsRandomRun}
+use Rattle.rr_sim.specs.Told.{IsReportOn}
 use Rattle.rr_sweep.specs.declared.sweeping.SweepLine.{SweepLine}
 use Rattle.rr_sweep.specs.Sweeps.{IsSweep}
 use Rattle.rr_sweep.specs.SweepTexts.{sweep_line}
@@ -27,9 +27,10 @@ use Rattle.rr_stream.specs.Streams.{Printing, Reading, IsPrinted, IsFrontPrinted
 use Rattle.rr_image.specs.declared.inspection.AreaReport.{AreaReport}
 use Rattle.rr_image.specs.Inspect.{Tells, Breaks, inspected}
 use Rattle.rr_cli.specs.Areas.{areas_text}
-use Rattle.rr_cli.specs.Draws.{IsNumberIn, AreNumbers}
+use Rattle.rr_cli.specs.Draws.{IsNumberIn, IsNumberOf, AreNumbers, IsDrawnText}
 use Rattle.rr_cli.specs.Cuts.{IsCutBy}
-use Rattle.rr_cli.specs.Lines.{CutWords, Task, Simulate, Show, Draw, Audit, Run, Sweep, Picture}
+use Rattle.rr_words.specs.Tasks.{CutWords, DrawWords, Task, Simulate, Show, Draw, Audit, Run, Sweep, Picture, Migrate}
+use Rattle.rr_cli.specs.Migrations.{IsUnmigrated}
 use Rattle.rr_cli.specs.Refusals.{status_of}
 use Rattle.rr_cli.specs.Tapes.{yes_text}
 
@@ -75,17 +76,32 @@ pub data EndsOnFolder (status : ℕ) (old new : Printing) : Type 0 where
   broken : (first second : List ℕ) (area : Area) (offset : ℕ) → inspected first second ≡ Breaks area offset → status ≡ 4 → new ≡ old → EndsOnFolder status old new
   failed : IsStreamStatus status → new ≡ old → EndsOnFolder status old new
 
--- a run on the numbers of a random schedule: the text of its run is printed; or memory was wanting, and standard output
--- is as it was
-pub data EndsOnDraw (n seed steps : ℕ) (status : ℕ) (old new : Printing) : Type 0 where
-  drawn : (text : List ℕ) → IsRandomRun n seed steps text → Prints text status old new → EndsOnDraw n seed steps status old new
-  cut_off : status ≡ 6 → new ≡ old → EndsOnDraw n seed steps status old new
+-- the migration of a folder: its disk was opened, and the text on its areas is printed; or it was refused, as an area is
+-- damaged, a device or memory failed, or no epoch is left, and standard output is as it was
+pub data EndsOnMigration (status : ℕ) (old new : Printing) : Type 0 where
+  migrated : (first second : List ℕ) (of_first of_second : Option AreaReport) → inspected first second ≡ Tells of_first of_second → Prints (areas_text of_first of_second) status old new → EndsOnMigration status old new
+  unmigrated : (refusal : Refusal) → IsUnmigrated refusal → status ≡ status_of refusal → new ≡ old → EndsOnMigration status old new
+
+-- the words write a node, a number of nodes, and the node is one of them
+abbrev pub AreSeat : Option Text → Option Text → ℕ → ℕ → Type 0
+AreSeat of_node of_nodes p n = IsNumberOf 0 6 of_node p × IsNumberOf 1 7 of_nodes n × (p < n)
+
+-- a migration by words: of the folder that they name; or they name none or no node of so many, and standard output is as it was
+pub data EndsOnSeat (folder of_node of_nodes : Option Text) (status : ℕ) (old new : Printing) : Type 0 where
+  seated : (path : Text) (p n : ℕ) → folder ≡ Some path → AreSeat of_node of_nodes p n → EndsOnMigration status old new → EndsOnSeat folder of_node of_nodes status old new
+  unseated : ((path : Text) (p n : ℕ) → folder ≡ Some path → AreSeat of_node of_nodes p n → ⊥) → status ≡ 2 → new ≡ old → EndsOnSeat folder of_node of_nodes status old new
+
+-- a run on the numbers of a random schedule, which is printed alone or with the report of its run; or memory was wanting, and
+-- standard output is as it was
+pub data EndsOnDraw (alone : Bool) (n seed steps : ℕ) (status : ℕ) (old new : Printing) : Type 0 where
+  drawn : (text : List ℕ) → IsDrawnText alone n seed steps text → Prints text status old new → EndsOnDraw alone n seed steps status old new
+  cut_off : status ≡ 6 → new ≡ old → EndsOnDraw alone n seed steps status old new
 
 -- a run on the words of a random schedule: by the numbers that they write, or they write none and standard output is as
 -- it was
-pub data EndsOnWords (of_seed of_steps of_nodes : Text) (status : ℕ) (old new : Printing) : Type 0 where
-  numbered : (seed steps nodes : ℕ) → AreNumbers of_seed of_steps of_nodes seed steps nodes → EndsOnDraw nodes seed steps status old new → EndsOnWords of_seed of_steps of_nodes status old new
-  unnumbered : ((seed steps nodes : ℕ) → AreNumbers of_seed of_steps of_nodes seed steps nodes → ⊥) → status ≡ 2 → new ≡ old → EndsOnWords of_seed of_steps of_nodes status old new
+pub data EndsOnWords (words : DrawWords) (status : ℕ) (old new : Printing) : Type 0 where
+  numbered : (seed steps nodes : ℕ) → AreNumbers words seed steps nodes → EndsOnDraw words.alone nodes seed steps status old new → EndsOnWords words status old new
+  unnumbered : ((seed steps nodes : ℕ) → AreNumbers words seed steps nodes → ⊥) → status ≡ 2 → new ≡ old → EndsOnWords words status old new
 
 -- lines of a sweep as text
 abbrev pub sweep_text : List SweepLine → List ℕ
@@ -120,9 +136,9 @@ pub data EndsOnCut (On : (List ℕ → ℕ → Printing → Printing → Type 0)
 abbrev pub IsMistake : ErrorKind → Type 0
 IsMistake kind = (kind ≢ DisplayHelp) × (kind ≢ DisplayVersion)
 
--- the text on the version
+-- the text on the version: it names the kit that the proofs are checked with
 abbrev pub version_text : List ℕ
-version_text = line (codes "rr 0.1.0" ∷ [])
+version_text = line (codes "rr 0.1.0, proved with rattle-kit-13b logic dac8208d650f15bf" ∷ [])
 
 -- the line with which the help ends, behind an empty one
 abbrev pub statuses_text : List ℕ
@@ -144,8 +160,7 @@ pub data EndsBy (faults : Kinds) (task : Task) (from to : Reading) (status : ℕ
   by_file : (path : Text) → faults ≡ [] → task ≡ Simulate (Some path) → EndsOnFile EndsOn status old new → EndsBy faults task from to status old new
   by_folder : (path : Text) → faults ≡ [] → task ≡ Show (Some path) → EndsOnFolder status old new → EndsBy faults task from to status old new
   without_folder : faults ≡ [] → task ≡ Show None → status ≡ 2 → new ≡ old → EndsBy faults task from to status old new
-  by_numbers : (of_seed of_steps of_nodes : Text) → faults ≡ [] → task ≡ Draw (Some of_seed) (Some of_steps) (Some of_nodes) → EndsOnWords of_seed of_steps of_nodes status old new → EndsBy faults task from to status old new
-  without_numbers : (of_seed of_steps of_nodes : Option Text) → faults ≡ [] → task ≡ Draw of_seed of_steps of_nodes → ((s k n : Text) → task ≡ Draw (Some s) (Some k) (Some n) → ⊥) → status ≡ 2 → new ≡ old → EndsBy faults task from to status old new
+  by_numbers : (words : DrawWords) → faults ≡ [] → task ≡ Draw words → EndsOnWords words status old new → EndsBy faults task from to status old new
   by_tape_in_standard_input : faults ≡ [] → task ≡ Audit None → EndsOnInput EndsOnTape from to status old new → EndsBy faults task from to status old new
   by_tape_in_a_file : (path : Text) → faults ≡ [] → task ≡ Audit (Some path) → EndsOnFile EndsOnTape status old new → EndsBy faults task from to status old new
   by_sweep_of_standard_input : (of_seed : Text) → faults ≡ [] → task ≡ Sweep None (Some of_seed) → EndsOnSeed (λ on. EndsOnInput on from to) of_seed status old new → EndsBy faults task from to status old new
@@ -153,4 +168,5 @@ pub data EndsBy (faults : Kinds) (task : Task) (from to : Reading) (status : ℕ
   without_seed : (file : Option Text) → faults ≡ [] → task ≡ Sweep file None → status ≡ 2 → new ≡ old → EndsBy faults task from to status old new
   by_picture_of_standard_input : (words : CutWords) → faults ≡ [] → task ≡ Picture None words → EndsOnCut (λ on. EndsOnInput on from to) words status old new → EndsBy faults task from to status old new
   by_picture_of_a_file : (path : Text) (words : CutWords) → faults ≡ [] → task ≡ Picture (Some path) words → EndsOnCut EndsOnFile words status old new → EndsBy faults task from to status old new
+  by_migration : (folder of_node of_nodes : Option Text) → faults ≡ [] → task ≡ Migrate folder of_node of_nodes → EndsOnSeat folder of_node of_nodes status old new → EndsBy faults task from to status old new
   without_threads : (nodes dir script tape : Option Text) → faults ≡ [] → task ≡ Run nodes dir script tape → status ≡ 2 → new ≡ old → EndsBy faults task from to status old new

@@ -1,24 +1,31 @@
 //! Random schedules, drawn by the numbers that words name, run and told as text.
 
-ghost use Rattle.std.specs.Prelude.{◌≡◌, ◌≤◌, ℕ, List, None, IfOk, IfErr, IfSome};
+ghost use Rattle.std.specs.Prelude.{◌≡◌, ◌≤◌, ℕ, List, None, true, IfOk, IfErr, IfSome, option_map};
 ghost use Rattle.std.specs.Io.KnownBytes.{Keeps};
-ghost use Rattle.rr_cli.specs.Draws.{IsNumberIn, AreNumbers};
+ghost use Rattle.rr_words.specs.Tasks.{draw_words_in};
+ghost use Rattle.rr_cli.specs.Draws.{IsNumberIn, IsNumberOf, AreNumbers, IsDrawnText};
 ghost use Rattle.rr_cli.specs.Ends.{EndsOnDraw, EndsOnWords};
 
 use crate::refusals::end_by_refusal;
 use crate::streams::end_by_text;
-use rr_sim::{MAX_STEPS, random_run};
+use rr_sim::{MAX_STEPS, random, random_run};
 use rr_stream::Sink;
-use rr_types::Nodes;
+use rr_types::{Nodes, Refusal};
+use rr_words::DrawWords;
 use std::alloc::Global;
 use std::io::Write;
 
-/// The numbers of a random schedule: how many nodes it has, the seed of its words, and how many steps it has.
+// The words name as many steps as a schedule may have.
+const _: () = prove!(rr_words::MAX_STEPS == MAX_STEPS as u64);
+
+/// The numbers of a random schedule: how many nodes it has, the seed of its words, and how many steps it has; and whether
+/// it is printed alone.
 #[derive(Clone, Copy, Debug)]
 pub(crate) struct Draw {
     nodes: Nodes,
     seed: u64,
     steps: u32,
+    alone: bool,
 }
 
 // The number that a text writes, where it lies in the range.
@@ -50,57 +57,88 @@ pub fn nodes_of(word: &str) -> Option<Nodes>
     }
 }
 
-// The numbers that three words name.
-fn numbers_of(seed: &str, steps: &str, nodes: &str) -> Option<Draw>
-    ensures some { IfSome result (λ d. AreNumbers seed.now steps.now nodes.now d.seed d.steps d.nodes) }
-    ensures few { IfSome result (λ d. d.steps ≤ 999930) }
-    ensures none { result ≡ None → (s k n : ℕ) → AreNumbers seed.now steps.now nodes.now s k n → ⊥ }
+/// The number in a range that a word names, where there is a word.
+pub(crate) fn number_of(word: Option<&str>, least: u64, most: u64) -> Option<u64>
+    ensures some { IfSome result (λ n. IsNumberOf least most (option_map (λ s. s.now) word.entry) n) }
+    ensures none { result ≡ None → (n : ℕ) → IsNumberOf least most (option_map (λ s. s.now) word.entry) n → ⊥ }
 {
-    let seed = number_in(seed, 0, u64::MAX)?;
-    let steps = number_in(steps, 0, u64::from(MAX_STEPS))?;
-    let nodes = nodes_of(nodes)?;
-    let steps = steps as u32;
-    Some(Draw { nodes, seed, steps })
+    match word {
+        Some(word) => number_in(word, least, most),
+        None => None,
+    }
 }
 
-// Prints a random schedule and the report of its run.
+// The numbers that words name.
+fn numbers_of(words: &DrawWords) -> Option<Draw>
+    ensures some { IfSome result (λ d. AreNumbers (draw_words_in words.now) d.seed d.steps d.nodes) }
+    ensures few { IfSome result (λ d. d.steps ≤ 999930) }
+    ensures alone { IfSome result (λ d. d.alone ≡ words.now.alone) }
+    ensures none { result ≡ None → (s k n : ℕ) → AreNumbers (draw_words_in words.now) s k n → ⊥ }
+{
+    let seed = number_of(words.seed, 0, u64::MAX)?;
+    let steps = number_of(words.steps, 0, u64::from(MAX_STEPS))?;
+    let nodes = nodes_of(words.nodes?)?;
+    let steps = steps as u32;
+    let alone = words.alone;
+    Some(Draw {
+        nodes,
+        seed,
+        steps,
+        alone,
+    })
+}
+
+// The text of a random schedule.
+fn lone_schedule(alloc: Global, draw: Draw) -> Result<Vec<u8>, Refusal>
+    requires { draw.steps ≤ 999930 }
+    ensures ok { IfOk result (λ text. IsDrawnText true draw.nodes draw.seed draw.steps text.items) }
+    ensures err { IfErr result (λ e. e ≡ Refusal.OutOfMemory) }
+{
+    let schedule = random(alloc, draw.nodes, draw.seed, draw.steps)?;
+    schedule.text(alloc)
+}
+
+// The text of a random schedule: alone, or with a line `report` and the report of its run.
+fn drawn_text(alloc: Global, draw: Draw) -> Result<Vec<u8>, Refusal>
+    requires { draw.steps ≤ 999930 }
+    ensures ok { IfOk result (λ text. IsDrawnText draw.alone draw.nodes draw.seed draw.steps text.items) }
+    ensures err { IfErr result (λ e. e ≡ Refusal.OutOfMemory) }
+{
+    if draw.alone {
+        lone_schedule(alloc, draw)
+    } else {
+        random_run(alloc, draw.nodes, draw.seed, draw.steps)
+    }
+}
+
+// Prints a random schedule, alone or with the report of its run.
 fn print_draw<O: Sink, E: Write>(alloc: Global, draw: Draw, out: &mut O, err: &mut E) -> u8
     requires { draw.steps ≤ 999930 }
-    ensures ends { EndsOnDraw draw.nodes draw.seed draw.steps result (O.printing out.old) (O.printing out.new) }
+    ensures ends { EndsOnDraw draw.alone draw.nodes draw.seed draw.steps result (O.printing out.old) (O.printing out.new) }
     ensures quiet { result ≡ 0 → Keeps (E.contents err.old) (E.contents err.new) }
 {
-    match random_run(alloc, draw.nodes, draw.seed, draw.steps) {
+    match drawn_text(alloc, draw) {
         Ok(text) => end_by_text(out, err, text.as_slice()),
         Err(refusal) => end_by_refusal(err, &refusal),
     }
 }
 
-/// Prints the random schedule that three words name by their numbers, and the report of its run. Words that are no
+/// Prints the random schedule that words name by their numbers, alone or with the report of its run. Words that are no
 /// such numbers, which the command line doesn't let through, end with 2.
 pub(crate) fn draw_by_words<O: Sink, E: Write>(
     alloc: Global,
-    seed: &str,
-    steps: &str,
-    nodes: &str,
+    words: &DrawWords,
     out: &mut O,
     err: &mut E,
 ) -> u8
-    ensures ends { EndsOnWords seed.now steps.now nodes.now result (O.printing out.old) (O.printing out.new) }
+    ensures ends { EndsOnWords (draw_words_in words.now) result (O.printing out.old) (O.printing out.new) }
     ensures quiet { result ≡ 0 → Keeps (E.contents err.old) (E.contents err.new) }
 {
-    match numbers_of(seed, steps, nodes) {
+    match numbers_of(words) {
         Some(draw) => print_draw(alloc, draw, out, err),
         None => {
-            let _ = writeln!(err, "rr: random: a number is out of its range");
+            let _ = writeln!(err, "rr: random: a number is missing or out of its range");
             2
         }
     }
-}
-
-// Ends where a number isn't named, which the command line doesn't let through.
-pub(crate) fn end_without_numbers<E: Write>(err: &mut E) -> u8
-    ensures { result ≡ 2 }
-{
-    let _ = writeln!(err, "rr: random: a number is missing");
-    2
 }

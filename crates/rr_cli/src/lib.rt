@@ -3,6 +3,7 @@
 
 mod audit;
 mod draw;
+mod migrate;
 mod picture;
 mod program;
 mod refusals;
@@ -12,10 +13,12 @@ mod sweep;
 mod words;
 
 pub use draw::nodes_of;
+pub use migrate::migrate_disk;
 pub use program::{execute, run};
 pub use refusals::{end_by_refusal, print_refusal, status};
 pub use rr_audit::audit_on;
 pub use rr_sim::{random_run, report_on};
+pub use rr_words::{CutWords, DrawWords, Task, read_words};
 pub use show::show_disk;
 pub use streams::{end_by_stream, end_by_text, end_without_words};
-pub use words::{CutWords, Task, end_by_words, read_words};
+pub use words::end_by_words;

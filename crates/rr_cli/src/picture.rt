@@ -5,15 +5,15 @@ ghost use Rattle.std.specs.Io.KnownBytes.{Keeps};
 ghost use Rattle.rr_draw.specs.declared.cut.Cut.{Cut as SomeCut};
 ghost use Rattle.rr_cli.specs.Cuts.{IsNumberOr, IsNumberIfAny, IsCutBy};
 ghost use Rattle.rr_cli.specs.Ends.{EndsOnPicture, EndsOnCut, EndsOnInput, EndsOnFile};
-ghost use Rattle.rr_cli.specs.Lines.{cut_words_in};
+ghost use Rattle.rr_words.specs.Tasks.{cut_words_in};
 
 use crate::draw::number_in;
 use crate::refusals::end_by_schedule_fault;
 use crate::streams::{end_by_stream, end_by_text};
-use crate::words::{CutWords, LAST_LINE};
 use rr_draw::{Cut, picture_of};
 use rr_stream::{Counted, Sink, Source, read_all};
 use rr_types::{Instance, NodeId};
+use rr_words::{CutWords, LAST_LINE};
 use std::alloc::Global;
 use std::fs;
 use std::io::Write;

@@ -4,19 +4,21 @@ ghost use Rattle.std.specs.Prelude.{◌≡◌, ◌≢◌, Option, IfOk, IfErr, O
 ghost use Rattle.std.specs.Io.KnownBytes.{Keeps};
 ghost use Rattle.std.specs.IoError.{error_kind};
 ghost use Rattle.clap.specs.Words.{Text};
-ghost use Rattle.rr_cli.specs.Lines.{CutWords, Simulate, Audit, Sweep, Picture, faults_of, task_of};
+ghost use Rattle.rr_words.specs.Tasks.{CutWords, Simulate, Audit, Sweep, Picture, faults_of, task_of};
 ghost use Rattle.rr_cli.specs.Ends.{EndsOn, EndsOnInput, EndsBy};
 
 use crate::audit::{audit_file, audit_input};
-use crate::draw::{draw_by_words, end_without_numbers};
+use crate::draw::draw_by_words;
+use crate::migrate::migrate_by_words;
 use crate::picture::{picture_file, picture_input};
 use crate::refusals::end_by_schedule_fault;
 use crate::show::{end_without_folder, show_folder};
 use crate::streams::{end_by_stream, end_by_text, end_without_threads, end_without_words};
 use crate::sweep::{end_without_seed, sweep_by_word, sweep_file};
-use crate::words::{Task, end_by_words, read_words};
+use crate::words::end_by_words;
 use rr_sim::report_on;
 use rr_stream::{Counted, Sink, Source, read_all};
+use rr_words::{Task, read_words};
 use std::alloc::Global;
 use std::convert::AsStr;
 use std::io::{ErrorKind, Write};
@@ -48,12 +50,14 @@ fn simulate_input<I: Source, O: Sink, E: Write>(
 ///
 /// `rr sim [FILE]` reads a schedule from FILE, or else from `input`, and prints its report on `out`. `rr show DIR`
 /// prints what the areas hold of the disk in the folder DIR. `rr random --seed SEED --steps STEPS --nodes NODES` prints
-/// a random schedule, a line `report` and the report of its run. `rr audit [FILE]` reads a tape as `rr sim` does a
+/// a random schedule, a line `report` and the report of its run, or with `--schedule-only` the schedule alone. `rr audit [FILE]` reads a tape as `rr sim` does a
 /// schedule, and prints whether its events are what nodes do. `rr sweep [FILE] --seed SEED` reads a schedule, crashes a node
 /// after each device call, and prints what it restarts with, as it goes.
 /// `rr draw [FILE] [--from FROM] [--to TO] [--node NODE] [--instance INSTANCE]` reads a schedule, and prints the picture
 /// of its run: of the lines FROM to TO, of one node or of all, and of the messages of one instance or of every event.
-/// What goes wrong is told on `err`. The statuses: 0 done, 2 wrong words, 3 no schedule or tape, 4 a damaged area, 5 a
+/// `rr migrate DIR --node NODE --nodes NODES` opens the disk in the folder DIR, which is that of this node of so many, and
+/// prints what its areas hold then.
+/// What goes wrong is told on `err`, but for a reader of `out` that has gone. The statuses: 0 done, 2 wrong words, 3 no schedule or tape, 4 a damaged area, 5 a
 /// device, a file or a stream, 6 memory, 7 a tape with an event that isn't what its node does next.
 pub fn execute<R: Files + AllocGlobal, S: AsStr, I: Source, O: Sink, E: Write>(
     rt: &R,
@@ -79,17 +83,7 @@ pub fn execute<R: Files + AllocGlobal, S: AsStr, I: Source, O: Sink, E: Write>(
         },
         Ok(Task::Show(Some(folder))) => show_folder(rt, folder, out, err),
         Ok(Task::Show(None)) => end_without_folder(err),
-        Ok(Task::Draw(Some(seed), Some(steps), Some(nodes))) => draw_by_words(
-            rt.alloc(),
-            seed,
-            steps,
-            nodes,
-            out,
-            err,
-        ),
-        Ok(Task::Draw(None, _, _)) => end_without_numbers(err),
-        Ok(Task::Draw(_, None, _)) => end_without_numbers(err),
-        Ok(Task::Draw(_, _, None)) => end_without_numbers(err),
+        Ok(Task::Draw(words)) => draw_by_words(rt.alloc(), &words, out, err),
         Ok(Task::Audit(None)) => audit_input(rt.alloc(), "standard input", input, out, err),
         Ok(Task::Audit(Some(path))) => audit_file(rt, path, out, err),
         Ok(Task::Run(_, _, _, _)) => end_without_threads(err),
@@ -102,6 +96,9 @@ pub fn execute<R: Files + AllocGlobal, S: AsStr, I: Source, O: Sink, E: Write>(
             picture_input(rt.alloc(), "standard input", &cut, input, out, err)
         }
         Ok(Task::Picture(Some(path), cut)) => picture_file(rt, path, &cut, out, err),
+        Ok(Task::Migrate(folder, node, nodes)) => {
+            migrate_by_words(rt, folder, node, nodes, out, err)
+        }
         Err(error) => end_by_words(rt.alloc(), out, err, &error),
     }
 }

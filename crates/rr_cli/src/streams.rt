@@ -18,8 +18,21 @@ pub fn end_by_text<O: Sink, E: Write>(out: &mut O, err: &mut E, text: &[u8]) -> 
 {
     match print_all(out, text) {
         Ok(()) => 0,
-        Err(failure) => end_by_stream(err, "standard output", &failure),
+        Err(failure) => end_by_unprinted(err, &failure),
     }
+}
+
+/// Ends by standard output that fails: with 6 for want of memory, else with 5. Where its reader has gone, nothing is told.
+pub(crate) fn end_by_unprinted<E: Write>(err: &mut E, error: &io::Error) -> u8
+    ensures memory { error_kind error.now ≡ ErrorKind.OutOfMemory → result ≡ 6 }
+    ensures device { error_kind error.now ≢ ErrorKind.OutOfMemory → result ≡ 5 }
+    ensures status { IsStreamStatus result }
+    ensures gone { error_kind error.now ≡ ErrorKind.BrokenPipe → Keeps (E.contents err.old) (E.contents err.new) }
+{
+    if error.kind() == ErrorKind::BrokenPipe {
+        return 5;
+    }
+    end_by_stream(err, "standard output", error)
 }
 
 /// Ends by a file or stream of this name that can't be read or written: with 6 for want of memory, else with 5.

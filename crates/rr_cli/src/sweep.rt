@@ -13,7 +13,7 @@ ghost use Rattle.rr_cli.specs.Sweeping.{IsPrintedBy, StopsSweep, StopsAtEvent, S
 
 use crate::draw::number_in;
 use crate::refusals::{end_by_refusal, end_by_schedule_fault};
-use crate::streams::{end_by_stream, end_by_text};
+use crate::streams::{end_by_stream, end_by_text, end_by_unprinted};
 use rr_stream::{Counted, Sink, Source, print_all, read_all};
 use rr_sweep::{MAX_SWEPT_EVENTS, SweepLine, Sweeping, push_sweep_lines, swept_too_far};
 use rr_text::{Event, Schedule};
@@ -132,7 +132,7 @@ fn sweep_schedule<O: Sink, E: Write>(
     match print_sweep(alloc, schedule, seed, out) {
         Ok(()) => end_by_text(out, err, b""),
         Err(Stop::Refused(refusal)) => end_by_refusal(err, &refusal),
-        Err(Stop::Unprinted(error)) => end_by_stream(err, "standard output", &error),
+        Err(Stop::Unprinted(error)) => end_by_unprinted(err, &error),
     }
 }
 

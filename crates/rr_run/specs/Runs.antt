@@ -11,7 +11,7 @@ use Rattle.rr_script.specs.AnswerTexts.{answer_text}
 use Rattle.rr_script.specs.Faults.{IsScriptFault}
 use Rattle.rr_cli.specs.Draws.{IsNumberIn}
 use Rattle.rr_cli.specs.Ends.{EndsBy, EndsOnFile, IsStreamStatus, Prints}
-use Rattle.rr_cli.specs.Lines.{Task, Run}
+use Rattle.rr_words.specs.Tasks.{Task, Run}
 use Rattle.rr_cli.specs.Refusals.{status_of}
 
 -- a run in threads, with a file for its tape or none: answers are printed, a line each; or the folders or the run are

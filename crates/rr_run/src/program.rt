@@ -3,7 +3,7 @@
 ghost use Rattle.std.specs.Prelude.{◌≡◌, ◌≢◌, IfOk, IfErr, OnErr, map, string_bytes};
 ghost use Rattle.std.specs.Io.KnownBytes.{Keeps};
 ghost use Rattle.std.specs.IoError.{error_kind};
-ghost use Rattle.rr_cli.specs.Lines.{faults_of, task_of};
+ghost use Rattle.rr_words.specs.Tasks.{faults_of, task_of};
 ghost use Rattle.rr_run.specs.Runs.{EndsWithThreads};
 
 use crate::lock::Lockable;
@@ -47,10 +47,11 @@ pub fn execute<
         Ok(Task::Run(_, _, None, _)) => rr_cli::execute(rt, words, input, out, err),
         Ok(Task::Simulate(_)) => rr_cli::execute(rt, words, input, out, err),
         Ok(Task::Show(_)) => rr_cli::execute(rt, words, input, out, err),
-        Ok(Task::Draw(_, _, _)) => rr_cli::execute(rt, words, input, out, err),
+        Ok(Task::Draw(_)) => rr_cli::execute(rt, words, input, out, err),
         Ok(Task::Audit(_)) => rr_cli::execute(rt, words, input, out, err),
         Ok(Task::Sweep(_, _)) => rr_cli::execute(rt, words, input, out, err),
         Ok(Task::Picture(_, _)) => rr_cli::execute(rt, words, input, out, err),
+        Ok(Task::Migrate(_, _, _)) => rr_cli::execute(rt, words, input, out, err),
         Err(error) => end_by_words(rt.alloc(), out, err, &error),
     }
 }

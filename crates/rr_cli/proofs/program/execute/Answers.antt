@@ -1,8 +1,8 @@
 use Rattle.std.proofs.Common.{◌≡◌, ◌∙◌, ℕ, List, Option, option_map, Bor, refl, sym, ap, map, None, Some, inl, inr}
 use Rattle.clap.specs.Words.{Text, kind_of}
-use Rattle.rr_cli.specs.declared.words.Task.TheVariants as read
-use Rattle.rr_cli.specs.Lines.{Simulate, Show, Draw, Audit, Run, Sweep, Picture, cut_words_in, task_of, task_in}
-use Rattle.rr_cli.specs.Ends.{opened, unopened, mistaken, by_help, by_version, out_of_memory, by_standard_input, by_file, by_folder, by_numbers, without_numbers, by_tape_in_standard_input, by_tape_in_a_file, by_sweep_of_standard_input, by_sweep_of_a_file, by_picture_of_standard_input, by_picture_of_a_file, without_seed, without_threads}
+use Rattle.rr_words.specs.declared.tasks.Task.TheVariants as read
+use Rattle.rr_words.specs.Tasks.{Simulate, Show, Draw, Audit, Run, Sweep, Picture, Migrate, cut_words_in, draw_words_in, task_of, task_in}
+use Rattle.rr_cli.specs.Ends.{opened, unopened, mistaken, by_help, by_version, out_of_memory, by_standard_input, by_file, by_folder, by_numbers, by_migration, by_tape_in_standard_input, by_tape_in_a_file, by_sweep_of_standard_input, by_sweep_of_a_file, by_picture_of_standard_input, by_picture_of_a_file, without_seed, without_threads}
 use Rattle.rr_cli.proofs.EndLemmas.{kind_cases}
 use Rattle.rr_cli.proofs.program.execute.Goals as goal
 
@@ -54,50 +54,21 @@ returns-in-Err-clause-ends g c =
       ]
     ]
 
--- the task that three words make
-drawn_from : (a b c x y z : Option (Bor (List ℕ))) → a ≡ x → b ≡ y → c ≡ z → task_in (read.Draw a b c) ≡ task_in (read.Draw x y z)
-drawn_from a b c x y z p q r = rw (p, q, r) refl
-
-pub returns-in-Ok-Draw-Some-Some-Some-clause-ends : goal.returns-in-Ok-Draw-Some-Some-Some-clause-ends
-returns-in-Ok-Draw-Some-Some-Some-clause-ends g c =
-    let w = c.in-Ok-Draw-Some-Some-Some in
-    let task : task_of (map g.S.AsStr.text c.args.words.now) ≡ Draw (Some w.seed.now) (Some w.steps.now) (Some w.nodes.now) = sym w.ensures.task ∙ ap task_in w.field-0-is ∙ drawn_from _ _ _ _ _ _ w.field-0-0-is w.field-0-1-is w.field-0-2-is in
-    by_numbers w.seed.now w.steps.now w.nodes.now w.ensures.faults task c.draw_by_words.ensures.ends
-
--- a task that a word is missing of
-without_one : (b c : Option Text) (s k n : Text) → Draw None b c ≡ Draw (Some s) (Some k) (Some n) → ⊥
-without_one b c s k n is = cc
-
-without_two : (a c : Option Text) (s k n : Text) → Draw a None c ≡ Draw (Some s) (Some k) (Some n) → ⊥
-without_two a c s k n is = cc
-
-without_three : (a b : Option Text) (s k n : Text) → Draw a b None ≡ Draw (Some s) (Some k) (Some n) → ⊥
-without_three a b s k n is = cc
+pub returns-in-Ok-Draw-clause-ends : goal.returns-in-Ok-Draw-clause-ends
+returns-in-Ok-Draw-clause-ends g c =
+    let w = c.in-Ok-Draw in
+    let task : task_of (map g.S.AsStr.text c.args.words.now) ≡ Draw (draw_words_in w.words) = sym w.ensures.task ∙ ap task_in w.field-0-is in
+    by_numbers (draw_words_in w.words) w.ensures.faults task c.draw_by_words.ensures.ends
 
 -- the text of a word
 abbrev text_of : Option (Bor (List ℕ)) → Option Text
 text_of word = option_map (λ s. s.now) word
 
-pub returns-in-Ok-Draw-None-default-default-clause-ends : goal.returns-in-Ok-Draw-None-default-default-clause-ends
-returns-in-Ok-Draw-None-default-default-clause-ends g c =
-    let w = c.in-Ok-Draw-None-default-default in
-    let task : task_of (map g.S.AsStr.text c.args.words.now) ≡ Draw None (text_of w.field-0-1) (text_of w.field-0-2) = sym w.ensures.task ∙ ap task_in w.field-0-is ∙ drawn_from _ _ _ _ _ _ w.field-0-0-is refl refl in
-    without_numbers None (text_of w.field-0-1) (text_of w.field-0-2) w.ensures.faults task
-    (λ s k n is. without_one (text_of w.field-0-1) (text_of w.field-0-2) s k n (sym task ∙ is)) c.end_without_numbers-in-Ok-Draw-None-default-default.ensures refl
-
-pub returns-in-Ok-Draw-default-None-default-clause-ends : goal.returns-in-Ok-Draw-default-None-default-clause-ends
-returns-in-Ok-Draw-default-None-default-clause-ends g c =
-    let w = c.in-Ok-Draw-default-None-default in
-    let task : task_of (map g.S.AsStr.text c.args.words.now) ≡ Draw (text_of w.field-0-0) None (text_of w.field-0-2) = sym w.ensures.task ∙ ap task_in w.field-0-is ∙ drawn_from _ _ _ _ _ _ refl w.field-0-1-is refl in
-    without_numbers (text_of w.field-0-0) None (text_of w.field-0-2) w.ensures.faults task
-    (λ s k n is. without_two (text_of w.field-0-0) (text_of w.field-0-2) s k n (sym task ∙ is)) c.end_without_numbers-in-Ok-Draw-default-None-default.ensures refl
-
-pub returns-in-Ok-Draw-default-default-None-clause-ends : goal.returns-in-Ok-Draw-default-default-None-clause-ends
-returns-in-Ok-Draw-default-default-None-clause-ends g c =
-    let w = c.in-Ok-Draw-default-default-None in
-    let task : task_of (map g.S.AsStr.text c.args.words.now) ≡ Draw (text_of w.field-0-0) (text_of w.field-0-1) None = sym w.ensures.task ∙ ap task_in w.field-0-is ∙ drawn_from _ _ _ _ _ _ refl refl w.field-0-2-is in
-    without_numbers (text_of w.field-0-0) (text_of w.field-0-1) None w.ensures.faults task
-    (λ s k n is. without_three (text_of w.field-0-0) (text_of w.field-0-1) s k n (sym task ∙ is)) c.end_without_numbers.ensures refl
+pub returns-in-Ok-Migrate-clause-ends : goal.returns-in-Ok-Migrate-clause-ends
+returns-in-Ok-Migrate-clause-ends g c =
+    let w = c.in-Ok-Migrate in
+    let task : task_of (map g.S.AsStr.text c.args.words.now) ≡ Migrate (text_of w.folder) (text_of w.node) (text_of w.nodes) = sym w.ensures.task ∙ ap task_in w.field-0-is in
+    by_migration (text_of w.folder) (text_of w.node) (text_of w.nodes) w.ensures.faults task c.migrate_by_words.ensures.ends
 
 pub returns-in-Ok-Run-clause-ends : goal.returns-in-Ok-Run-clause-ends
 returns-in-Ok-Run-clause-ends g c =

@@ -16,4 +16,4 @@ returns-in-Err-Refused-clause-ends g c bytes lawful text =
 pub returns-in-Err-Unprinted-clause-ends : goal.returns-in-Err-Unprinted-clause-ends
 returns-in-Err-Unprinted-clause-ends g c bytes lawful text =
     let s = rw c.in-Err-Unprinted.field-0-is at c.in-Err-Unprinted.ensures.err in
-    broken_off c.args.schedule.now s.before s.after s.lines lawful text s.split s.swept s.taken (inr (c.end_by_stream.ensures.status, s.why))
+    broken_off c.args.schedule.now s.before s.after s.lines lawful text s.split s.swept s.taken (inr (c.end_by_unprinted.ensures.status, s.why))

@@ -2,8 +2,8 @@ use Rattle.std.proofs.Common.{◌≡◌, ◌∙◌, List, Option, None, Some, []
 use Rattle.clap.specs.Words.{Text, kind_of}
 use Rattle.clap.specs.Kinds.{Kinds, IsAmong}
 use Rattle.clap.specs.declared.error.kind.ErrorKind.{ErrorKind}
-use Rattle.rr_cli.specs.declared.words.Task.TheVariants as read
-use Rattle.rr_cli.specs.Lines.{Simulate, Show, Draw, Audit, Run, Sweep, Picture, CutWords, cut_words_in, task_of, task_in}
+use Rattle.rr_words.specs.declared.tasks.Task.TheVariants as read
+use Rattle.rr_words.specs.Tasks.{Simulate, Show, Draw, Audit, Run, Sweep, Picture, Migrate, CutWords, DrawWords, cut_words_in, draw_words_in, task_of, task_in}
 use Rattle.rr_cli.specs.Ends.{mistaken, by_help, by_version}
 use Rattle.rr_cli.proofs.EndLemmas.{kind_cases}
 use Rattle.rr_run.specs.Runs.{by_script, by_others, out_of_memory}
@@ -55,8 +55,8 @@ is_simulate a n x s t is = absurd cc
 is_show : (a : Option Text) (n x s : Text) (t : Option Text) → Show a ≡ Run (Some n) (Some x) (Some s) t → ⊥
 is_show a n x s t is = absurd cc
 
-is_draw : (a b c : Option Text) (n x s : Text) (t : Option Text) → Draw a b c ≡ Run (Some n) (Some x) (Some s) t → ⊥
-is_draw a b c n x s t is = absurd cc
+is_draw : (a : DrawWords) (n x s : Text) (t : Option Text) → Draw a ≡ Run (Some n) (Some x) (Some s) t → ⊥
+is_draw a n x s t is = absurd cc
 
 is_audit : (a : Option Text) (n x s : Text) (t : Option Text) → Audit a ≡ Run (Some n) (Some x) (Some s) t → ⊥
 is_audit a n x s t is = absurd cc
@@ -66,6 +66,9 @@ is_sweep a b n x s t is = absurd cc
 
 is_picture : (a : Option Text) (b : CutWords) (n x s : Text) (t : Option Text) → Picture a b ≡ Run (Some n) (Some x) (Some s) t → ⊥
 is_picture a b n x s t is = absurd cc
+
+is_migrate : (a b c : Option Text) (n x s : Text) (t : Option Text) → Migrate a b c ≡ Run (Some n) (Some x) (Some s) t → ⊥
+is_migrate a b c n x s t is = absurd cc
 
 pub returns-in-Ok-Run-None-default-default-default-clause-ends : goal.returns-in-Ok-Run-None-default-default-default-clause-ends
 returns-in-Ok-Run-None-default-default-default-clause-ends g c =
@@ -100,8 +103,8 @@ returns-in-Ok-Show-clause-ends g c =
 pub returns-in-Ok-Draw-clause-ends : goal.returns-in-Ok-Draw-clause-ends
 returns-in-Ok-Draw-clause-ends g c =
     let w = c.in-Ok-Draw in
-    let task : task_of (map g.S.AsStr.text c.args.words.now) ≡ Draw (text_of w.field-0-0) (text_of w.field-0-1) (text_of w.field-0-2) = sym w.ensures.task ∙ ap task_in w.field-0-is in
-    by_others (λ none asks. is_draw (text_of w.field-0-0) (text_of w.field-0-1) (text_of w.field-0-2) asks.nodes asks.dir asks.script asks.tape (sym task ∙ asks.is)) c.execute-in-Ok-Draw.ensures.ends
+    let task : task_of (map g.S.AsStr.text c.args.words.now) ≡ Draw (draw_words_in w.field-0-0) = sym w.ensures.task ∙ ap task_in w.field-0-is in
+    by_others (λ none asks. is_draw (draw_words_in w.field-0-0) asks.nodes asks.dir asks.script asks.tape (sym task ∙ asks.is)) c.execute-in-Ok-Draw.ensures.ends
 
 pub returns-in-Ok-Audit-clause-ends : goal.returns-in-Ok-Audit-clause-ends
 returns-in-Ok-Audit-clause-ends g c =
@@ -120,3 +123,9 @@ returns-in-Ok-Picture-clause-ends g c =
     let w = c.in-Ok-Picture in
     let task : task_of (map g.S.AsStr.text c.args.words.now) ≡ Picture (text_of w.field-0-0) (cut_words_in w.field-0-1) = sym w.ensures.task ∙ ap task_in w.field-0-is in
     by_others (λ none asks. is_picture (text_of w.field-0-0) (cut_words_in w.field-0-1) asks.nodes asks.dir asks.script asks.tape (sym task ∙ asks.is)) c.execute-in-Ok-Picture.ensures.ends
+
+pub returns-in-Ok-Migrate-clause-ends : goal.returns-in-Ok-Migrate-clause-ends
+returns-in-Ok-Migrate-clause-ends g c =
+    let w = c.in-Ok-Migrate in
+    let task : task_of (map g.S.AsStr.text c.args.words.now) ≡ Migrate (text_of w.field-0-0) (text_of w.field-0-1) (text_of w.field-0-2) = sym w.ensures.task ∙ ap task_in w.field-0-is in
+    by_others (λ none asks. is_migrate (text_of w.field-0-0) (text_of w.field-0-1) (text_of w.field-0-2) asks.nodes asks.dir asks.script asks.tape (sym task ∙ asks.is)) c.execute-in-Ok-Migrate.ensures.ends

@@ -1,5 +1,5 @@
 use Rattle.std.proofs.Common.{map, string_bytes, subst}
-use Rattle.rr_cli.specs.Lines.{faults_of, task_of}
+use Rattle.rr_words.specs.Tasks.{faults_of, task_of}
 use Rattle.rr_run.specs.Runs.{EndsWithThreads}
 use Rattle.rr_run.proofs.program.run.Goals as goal
 

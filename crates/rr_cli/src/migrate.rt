@@ -1,0 +1,147 @@
+//! The migration of a node's folder: an opening of its disk, and what its areas hold then.
+
+ghost use Rattle.std.specs.Prelude.{◌≡◌, ◌⊎◌, ◌<◌, ◌^◌, ℕ, length, None, Ok, Err, IfOk, IfErr, IfSome, option_map};
+ghost use Rattle.std.specs.Io.KnownBytes.{Keeps};
+ghost use Rattle.rr_types.specs.declared.refusal.Refusal.TheVariants.{Device, OutOfMemory};
+ghost use Rattle.rr_disk.specs.Areas.{bytes_of};
+ghost use Rattle.rr_image.specs.Inspect.{inspected};
+ghost use Rattle.rr_journal.specs.Openings.{Settling, Stops};
+ghost use Rattle.rr_journal.specs.OpeningCourse.{found_from, end_by};
+ghost use Rattle.rr_cli.specs.Areas.{IsShown};
+ghost use Rattle.rr_cli.specs.Ends.{EndsOnMigration, EndsOnSeat, AreSeat};
+ghost use Rattle.rr_cli.specs.Migrations.{opened_areas, TellsSome, IsUnmigrated};
+
+use crate::draw::{nodes_of, number_of};
+use crate::refusals::end_by_refusal;
+use crate::show::show_disk;
+use crate::streams::end_by_text;
+use rr_disk::{Area, Disk, FileDisk};
+use rr_journal::Journal;
+use rr_stream::Sink;
+use rr_types::{NodeId, Nodes, Refusal};
+use std::alloc::Global;
+use std::io::Write;
+use std::rt::Files;
+
+/// A node of a cluster, and how many nodes that has.
+#[derive(Clone, Copy, Debug)]
+struct Seat {
+    node: NodeId,
+    nodes: Nodes,
+}
+
+// The lengths of both areas have numbers of 64 bits.
+fn measure<D: Disk>(disk: &D)
+    ensures { D.tells disk.now → (length (D.areas disk.now).first.cells < 2 ^ 64) × (length (D.areas disk.now).second.cells < 2 ^ 64) }
+{
+    let _first = disk.len(Area::First);
+    let _second = disk.len(Area::Second);
+}
+
+// What the areas of a disk hold that was opened.
+fn show_opened<D: Disk + Drop>(alloc: Global, disk: D) -> Result<Vec<u8>, Refusal>
+    ensures told { D.tells disk → IsShown result (inspected (bytes_of (D.areas disk).first) (bytes_of (D.areas disk).second)) ⊎ (result ≡ Err Device) }
+    ensures some { IfOk result TellsSome }
+    ensures cause { IfErr result IsUnmigrated }
+{
+    measure(&disk);
+    let mut disk = disk;
+    show_disk(alloc, &mut disk)
+}
+
+/// Opens the disk of one of the nodes as it does before it serves, and tells as text what its areas hold then, as `show_disk`
+/// does.
+///
+/// # Errors
+/// Those of an opening, `OutOfMemory`, `Device`, and `Damaged` of a disk that holds no facts; and those of `show_disk`.
+pub fn migrate_disk<D: Disk + Drop>(
+    alloc: Global,
+    nodes: Nodes,
+    node: NodeId,
+    disk: D,
+) -> Result<Vec<u8>, Refusal>
+    requires exists { node < nodes }
+    ensures told { D.tells disk → IfOk result (λ text. IsShown (Ok text) (inspected (bytes_of (opened_areas nodes node (D.areas disk)).first) (bytes_of (opened_areas nodes node (D.areas disk)).second))) }
+    ensures refused { D.tells disk → IfErr result (λ e. (e ≡ OutOfMemory) ⊎ (e ≡ Device) ⊎ (end_by (found_from nodes node Settling (D.areas disk)) ≡ Stops e)
+        ⊎ IsShown (Err e) (inspected (bytes_of (opened_areas nodes node (D.areas disk)).first) (bytes_of (opened_areas nodes node (D.areas disk)).second))) }
+    ensures some { IfOk result TellsSome }
+    ensures cause { IfErr result IsUnmigrated }
+{
+    match Journal::open(alloc, nodes, node, disk) {
+        Ok((journal, _)) => show_opened(alloc, journal.into_disk()),
+        Err((refusal, _)) => Err(refusal),
+    }
+}
+
+// Migrates the disk in a folder. Its files are opened to read and write, and nothing is made that is missing.
+fn folder_text<R: Files + AllocGlobal>(rt: &R, folder: &str, seat: Seat) -> Result<Vec<u8>, Refusal>
+    requires exists { seat.node < seat.nodes }
+    ensures some { IfOk result TellsSome }
+    ensures cause { IfErr result IsUnmigrated }
+{
+    match FileDisk::open(rt, folder, false) {
+        Ok(disk) => migrate_disk(rt.alloc(), seat.nodes, seat.node, disk),
+        Err(refusal) => Err(refusal),
+    }
+}
+
+// Migrates the disk in a folder, and prints what its areas hold then.
+fn migrate_folder<R: Files + AllocGlobal, O: Sink, E: Write>(
+    rt: &R,
+    folder: &str,
+    seat: Seat,
+    out: &mut O,
+    err: &mut E,
+) -> u8
+    requires exists { seat.node < seat.nodes }
+    ensures ends { EndsOnMigration result (O.printing out.old) (O.printing out.new) }
+    ensures quiet { result ≡ 0 → Keeps (E.contents err.old) (E.contents err.new) }
+{
+    match folder_text(rt, folder, seat) {
+        Ok(text) => end_by_text(out, err, text.as_slice()),
+        Err(refusal) => end_by_refusal(err, &refusal),
+    }
+}
+
+// The node that a word names, of as many as another names.
+fn seat_of(node: Option<&str>, nodes: Option<&str>) -> Option<Seat>
+    ensures some { IfSome result (λ s. AreSeat (option_map (λ s. s.now) node.entry) (option_map (λ s. s.now) nodes.entry) s.node s.nodes) }
+    ensures none { result ≡ None → (p n : ℕ) → AreSeat (option_map (λ s. s.now) node.entry) (option_map (λ s. s.now) nodes.entry) p n → ⊥ }
+{
+    let node = number_of(node, 0, 6)?;
+    let nodes = nodes_of(nodes?)?;
+    match NodeId::new(nodes, node as u8) {
+        Some(node) => Some(Seat { node, nodes }),
+        None => None,
+    }
+}
+
+/// Migrates the disk in the folder that a word names, of the node that another names, of as many nodes as a third names. Words
+/// that name no folder, or no node of so many, end with 2.
+pub(crate) fn migrate_by_words<R: Files + AllocGlobal, O: Sink, E: Write>(
+    rt: &R,
+    folder: Option<&str>,
+    node: Option<&str>,
+    nodes: Option<&str>,
+    out: &mut O,
+    err: &mut E,
+) -> u8
+    ensures ends { EndsOnSeat (option_map (λ s. s.now) folder.entry) (option_map (λ s. s.now) node.entry) (option_map (λ s. s.now) nodes.entry) result (O.printing out.old) (O.printing out.new) }
+    ensures quiet { result ≡ 0 → Keeps (E.contents err.old) (E.contents err.new) }
+{
+    let Some(folder) = folder else {
+        return end_without_seat(err);
+    };
+    match seat_of(node, nodes) {
+        Some(seat) => migrate_folder(rt, folder, seat, out, err),
+        None => end_without_seat(err),
+    }
+}
+
+// Ends where the words name no folder, or no node of so many.
+fn end_without_seat<E: Write>(err: &mut E) -> u8
+    ensures { result ≡ 2 }
+{
+    let _ = writeln!(err, "rr: migrate: there is no such node");
+    2
+}

@@ -1,0 +1,117 @@
+-- What words ask for.
+use Rattle.std.specs.Prelude.{List, Bool, false, Option, None, Some, codes, if◌then◌else◌, option_map}
+use Rattle.std.specs.Option.{option_map_or}
+use Rattle.std.specs.Str.{bytes_eq}
+use Rattle.clap.specs.Words.{Row, Text, first_of, subcommand_of}
+use Rattle.clap.specs.Kinds.{Kinds}
+use Rattle.clap.specs.Faults.{fault_of}
+use Rattle.rr_words.specs.Lines.{rr_line}
+use Rattle.rr_words.specs.declared.tasks.CutWords as code_words
+use Rattle.rr_words.specs.declared.tasks.DrawWords as code_draws
+use Rattle.rr_words.specs.declared.tasks.Task as code
+use Rattle.rr_words.specs.declared.tasks.Task.TheVariants as read
+
+-- what is wrong with the words, or asks for help or the version; nothing where they are a command
+unfoldable pub faults_of : List Text → Kinds
+faults_of words = fault_of rr_line words
+
+-- the name of the subcommand that the words name, and its arguments
+unfoldable pub found_in : List Text → Option (Text × List Row)
+found_in words = subcommand_of rr_line words
+
+-- the words of a cut: its first line and its last one, its node and its instance
+pub record CutWords : Type 0 where
+  pub from : Option Text
+  pub to : Option Text
+  pub node : Option Text
+  pub instance : Option Text
+
+-- the words of a random schedule: a seed, a number of steps and a number of nodes, which only wrong words leave out, and
+-- whether it is printed alone
+pub record DrawWords : Type 0 where
+  pub seed : Option Text
+  pub steps : Option Text
+  pub nodes : Option Text
+  pub alone : Bool
+
+-- what a command asks for: the report of the schedule in this file or else in standard input; or the areas of the
+-- disk in this folder; or a random schedule by these words; or the audit of the tape in this file or else in standard input; or a run of this number of
+-- nodes in threads, over the folders in this folder, by the script in this file, with its tape in this file or none; or a
+-- sweep of the schedule in this file or else in standard input, with this seed, which only wrong words leave out; or the
+-- picture of the schedule in this file or else in standard input, of the cut that these words write; or an opening of the
+-- disk in this folder as that of this node of so many, all of which only wrong words leave out, and its areas then
+pub data Task : Type 0 where
+  Simulate : Option Text → Task
+  Show : Option Text → Task
+  Draw : DrawWords → Task
+  Audit : Option Text → Task
+  Run : Option Text → Option Text → Option Text → Option Text → Task
+  Sweep : Option Text → Option Text → Task
+  Picture : Option Text → CutWords → Task
+  Migrate : Option Text → Option Text → Option Text → Task
+
+-- the file that a word names; none, which stands for standard input, where the word is a hyphen or isn't there
+abbrev pub file_of : Option Text → Option Text
+file_of None = None
+file_of (Some word) = if bytes_eq word (codes "-") then None else Some word
+
+-- whether an option without a text is there
+abbrev pub is_set : Text → List Row → Bool
+is_set id rows = option_map_or (λ value. bytes_eq value (codes "true")) (first_of id rows) false
+
+-- the words of a cut among these arguments
+abbrev pub cut_words_of : List Row → CutWords
+cut_words_of rows = record { from = first_of (codes "FROM") rows; to = first_of (codes "TO") rows; node = first_of (codes "NODE") rows; instance = first_of (codes "INSTANCE") rows }
+
+-- what random, run, sweep, draw and migrate ask for
+abbrev pub random_task : List Row → Task
+random_task rows = Draw (record { seed = first_of (codes "SEED") rows; steps = first_of (codes "STEPS") rows; nodes = first_of (codes "NODES") rows; alone = is_set (codes "ALONE") rows })
+
+abbrev pub run_task : List Row → Task
+run_task rows = Run (first_of (codes "NODES") rows) (first_of (codes "DIR") rows) (first_of (codes "SCRIPT") rows) (first_of (codes "TAPE") rows)
+
+abbrev pub sweep_task : List Row → Task
+sweep_task rows = Sweep (file_of (first_of (codes "FILE") rows)) (first_of (codes "SEED") rows)
+
+abbrev pub picture_task : List Row → Task
+picture_task rows = Picture (file_of (first_of (codes "FILE") rows)) (cut_words_of rows)
+
+abbrev pub migrate_task : List Row → Task
+migrate_task rows = Migrate (first_of (codes "DIR") rows) (first_of (codes "NODE") rows) (first_of (codes "NODES") rows)
+
+-- what a subcommand of this name and these arguments asks for
+abbrev pub task_by : Text × List Row → Task
+task_by p =
+    if bytes_eq p.0 (codes "show") then Show (first_of (codes "DIR") p.1)
+    else (if bytes_eq p.0 (codes "random") then random_task p.1
+    else (if bytes_eq p.0 (codes "audit") then Audit (file_of (first_of (codes "FILE") p.1))
+    else (if bytes_eq p.0 (codes "run") then run_task p.1
+    else (if bytes_eq p.0 (codes "sweep") then sweep_task p.1
+    else (if bytes_eq p.0 (codes "draw") then picture_task p.1
+    else (if bytes_eq p.0 (codes "migrate") then migrate_task p.1
+    else Simulate (file_of (first_of (codes "FILE") p.1))))))))
+
+-- what the words ask for
+unfoldable pub task_of : List Text → Task
+task_of words = option_map_or task_by (found_in words) (Simulate None)
+
+-- the words of a cut that were read so
+abbrev pub cut_words_in : code_words.CutWords → CutWords
+cut_words_in words =
+    record { from = option_map (λ s. s.now) words.from; to = option_map (λ s. s.now) words.to; node = option_map (λ s. s.now) words.node; instance = option_map (λ s. s.now) words.instance }
+
+-- the words of a random schedule that were read so
+abbrev pub draw_words_in : code_draws.DrawWords → DrawWords
+draw_words_in words =
+    record { seed = option_map (λ s. s.now) words.seed; steps = option_map (λ s. s.now) words.steps; nodes = option_map (λ s. s.now) words.nodes; alone = words.alone }
+
+-- what words ask for that were read so
+abbrev pub task_in : code.Task → Task
+task_in (read.Simulate file) = Simulate (option_map (λ s. s.now) file)
+task_in (read.Show folder) = Show (option_map (λ s. s.now) folder)
+task_in (read.Draw words) = Draw (draw_words_in words)
+task_in (read.Audit file) = Audit (option_map (λ s. s.now) file)
+task_in (read.Run nodes dir script tape) = Run (option_map (λ s. s.now) nodes) (option_map (λ s. s.now) dir) (option_map (λ s. s.now) script) (option_map (λ s. s.now) tape)
+task_in (read.Sweep file seed) = Sweep (option_map (λ s. s.now) file) (option_map (λ s. s.now) seed)
+task_in (read.Picture file words) = Picture (option_map (λ s. s.now) file) (cut_words_in words)
+task_in (read.Migrate folder node nodes) = Migrate (option_map (λ s. s.now) folder) (option_map (λ s. s.now) node) (option_map (λ s. s.now) nodes)

@@ -1,0 +1,119 @@
+//! What the long helps end with: the format of what is read or printed, and two examples. Each text comes from a function,
+//! so that no proof carries its bytes.
+
+/// The help of a FILE that is a schedule.
+pub(crate) fn schedule<'a>() -> &'a str {
+    "The schedule [default: standard input]"
+}
+
+/// The help of the program.
+pub(crate) fn program<'a>() -> &'a str {
+    "\
+A schedule is a text with one event a line. Its first line is `nodes N`, with N from 1 to 7. In the event
+`submit 0 7 1 claim a x`, client 7 asks node 0, as its request 1, to claim the name a with the value x.
+`rr COMMAND --help` has the format of what a command reads and prints, and docs/FORMATS.md has all formats.
+A FILE that is left out or is - is standard input.
+
+Examples:
+  rr sim examples/one_command.schedule
+  rr random --schedule-only --seed 1 --steps 200 --nodes 3 | rr sim"
+}
+
+/// The help of `rr sim`.
+pub(crate) fn sim<'a>() -> &'a str {
+    "\
+FILE is a schedule: a first line `nodes N`, with N from 1 to 7, and then one event a line, as `restart 0`, `dev 0`,
+`submit 0 7 1 claim a x` or `hear 0 5`. Lines end with LF, and one space divides words. The report has a line for each
+message that is sent, each acknowledgement, each node that has opened its disk, and each event that is refused. It ends
+with `decided N` and the list of the N decided commands.
+
+Examples:
+  rr sim examples/one_command.schedule
+  rr random --schedule-only --seed 1 --steps 200 --nodes 3 | rr sim"
+}
+
+/// The help of `rr show`.
+pub(crate) fn show<'a>() -> &'a str {
+    "\
+DIR is the folder of one node's disk, whose two areas are the files a0 and a1. Printed is a line for each area:
+`area A unformatted`, or `area A epoch E node P of N facts F decided D`. F is the number of the node's next fact, and D
+the number of commands that it knows as decided. Nothing is written.
+
+Examples:
+  rr show /tmp/nodes/0
+  rr run --nodes 3 --dir /tmp/nodes --script examples/three_clients.script && rr show /tmp/nodes/0"
+}
+
+/// The help of `rr migrate`.
+pub(crate) fn migrate<'a>() -> &'a str {
+    "\
+DIR is the folder of the disk of node P of N, whose two areas are the files a0 and a1. Both have to be there: nothing is
+made. The node opens its disk, as it does before it serves. Then the areas are printed, a line for each, as `rr show`
+prints them. An area that holds facts of another node, or of another number of nodes, is damaged for this one.
+
+Examples:
+  rr migrate /tmp/nodes/0 --node 0 --nodes 3
+  rr migrate /tmp/nodes/0 --node 0 --nodes 3 && rr show /tmp/nodes/0"
+}
+
+/// The help of `rr random`.
+pub(crate) fn random<'a>() -> &'a str {
+    "\
+Printed is the text of a schedule, a line `report`, and the report of its run, as `rr sim` prints it. With
+--schedule-only it is the text of the schedule alone, which `rr sim` reads. The same words print the same bytes. Most of
+the events come to nothing: hardly anything is decided.
+
+Examples:
+  rr random --seed 1 --steps 1000 --nodes 3
+  rr random --schedule-only --seed 1 --steps 1000 --nodes 3 | rr sim"
+}
+
+/// The help of `rr audit`.
+pub(crate) fn audit<'a>() -> &'a str {
+    "\
+FILE is a tape, a record of what nodes did: a first line `nodes N`, and then one event a line, in the words of a schedule
+or a report, as `submit 0 7 1 claim a x` or `send 0 0 1 beat`. Printed is `audit yes K` where its K events are what nodes
+do, in this order, from an empty start. Otherwise standard error names the first event that isn't.
+
+Examples:
+  rr audit crates/worked_rows/data/tapes-one_command.tape
+  rr run --nodes 3 --dir /tmp/new --script examples/three_clients.script --tape /tmp/tape && rr audit /tmp/tape"
+}
+
+/// The help of `rr run`.
+pub(crate) fn run<'a>() -> &'a str {
+    "\
+SCRIPT has a line for each thing that clients ask, as `submit 0 7 1 claim a x` or `look 1 a`. Each node runs in threads,
+node P over the files in the folder DIR/P, which are made where they are missing. Printed is an answer for each line of
+the script, in its order: `ack P C.S REPLY`, `none P C.S`, or `look P NAME` and what the name is bound to. With --tape
+the folders have to be fresh, and what the nodes did is recorded for `rr audit`.
+
+Examples:
+  rr run --nodes 3 --dir /tmp/nodes --script examples/three_clients.script
+  rr run --nodes 3 --dir /tmp/new --script examples/three_clients.script --tape /tmp/tape"
+}
+
+/// The help of `rr sweep`.
+pub(crate) fn sweep<'a>() -> &'a str {
+    "\
+FILE is a schedule, as `rr sim` reads it. Behind each of its lines `dev P` node P is crashed, in five ways, and started
+again. Printed are five lines for each, `L E restart P F D` with the names that are bound: L is the number of the line, E
+the way, from 1 to 5, F the number of the node's next fact, and D the number of commands that it knows as decided. The
+bytes that the fifth way leaves are drawn by the seed.
+
+Examples:
+  rr sweep --seed 0 examples/one_command.schedule
+  rr random --schedule-only --seed 1 --steps 200 --nodes 3 | rr sweep --seed 7"
+}
+
+/// The help of `rr draw`.
+pub(crate) fn draw<'a>() -> &'a str {
+    "\
+FILE is a schedule, as `rr sim` reads it. Printed is a picture of its run, in SVG. Time goes down, and each node has a
+line. An arrow is a message, a box a flush, and a diamond a decision; docs/FORMATS.md has all symbols. Each event tells
+its line and what came of it, where the pointer rests on it. Lines count from 1, and the first event is on line 2.
+
+Examples:
+  rr draw examples/suspected_coordinator.schedule > run.svg
+  rr draw --from 20 --to 60 --node 1 examples/suspected_coordinator.schedule > part.svg"
+}

@@ -1,0 +1,170 @@
+//! What words ask for, by the subcommand that they name and its arguments.
+
+ghost use Rattle.std.specs.Prelude.{◌≡◌, option_map};
+ghost use Rattle.clap.specs.Words.{first_of, found_of, rows_of};
+ghost use Rattle.rr_words.specs.Tasks.{file_of, is_set, cut_words_of, cut_words_in, random_task, run_task, sweep_task, picture_task, migrate_task, task_by, task_in};
+
+use clap::ArgMatches;
+
+/// The words of a cut: which part of a run a picture shows. The whole run is shown without any.
+#[derive(Clone, Copy, Debug, PartialEq, Eq)]
+pub struct CutWords<'a> {
+    /// The first line of the schedule that is shown.
+    pub from: Option<&'a str>,
+    /// The last line that is shown.
+    pub to: Option<&'a str>,
+    /// The node whose events are shown.
+    pub node: Option<&'a str>,
+    /// The instance whose messages are shown.
+    pub instance: Option<&'a str>,
+}
+
+/// The words of a random schedule.
+#[derive(Clone, Copy, Debug, PartialEq, Eq)]
+pub struct DrawWords<'a> {
+    /// The seed of the generator.
+    pub seed: Option<&'a str>,
+    /// How many steps follow the openings.
+    pub steps: Option<&'a str>,
+    /// How many nodes there are.
+    pub nodes: Option<&'a str>,
+    /// Whether the schedule is printed alone, without the report of its run.
+    pub alone: bool,
+}
+
+/// What words ask for.
+#[derive(Clone, Copy, Debug, PartialEq, Eq)]
+pub enum Task<'a> {
+    /// `rr sim [FILE]`: the report of the schedule in this file, or else in standard input, as by the word `-`.
+    Simulate(Option<&'a str>),
+    /// `rr show DIR`: what the areas hold of the disk in this folder.
+    Show(Option<&'a str>),
+    /// `rr random --seed SEED --steps STEPS --nodes NODES [--schedule-only]`: a random schedule, and the report of its run
+    /// unless the schedule is printed alone.
+    Draw(DrawWords<'a>),
+    /// `rr audit [FILE]`: whether the events are what nodes do of the tape in this file, or else in standard input.
+    Audit(Option<&'a str>),
+    /// `rr run --nodes NODES --dir DIR --script SCRIPT [--tape TAPE]`: a run of nodes in threads by the script in this
+    /// file, and its tape into this file.
+    Run(Option<&'a str>, Option<&'a str>, Option<&'a str>, Option<&'a str>),
+    /// `rr sweep [FILE] --seed SEED`: what a node restarts with after a crash behind each device call of the schedule in
+    /// this file, or else in standard input; with the seed of the words of the last ending.
+    Sweep(Option<&'a str>, Option<&'a str>),
+    /// `rr draw [FILE] [--from FROM] [--to TO] [--node NODE] [--instance INSTANCE]`: the picture of the schedule in this
+    /// file, or else in standard input, of the cut that these words write.
+    Picture(Option<&'a str>, CutWords<'a>),
+    /// `rr migrate DIR --node NODE --nodes NODES`: an opening of the disk in this folder, which is this node's of so many, and
+    /// what its areas hold then.
+    Migrate(Option<&'a str>, Option<&'a str>, Option<&'a str>),
+}
+
+// The file that a word names. None stands for standard input: the word is a hyphen or isn't there.
+fn file_of(word: Option<&str>) -> Option<&str>
+    ensures { option_map (λ s. s.now) result ≡ file_of (option_map (λ s. s.now) word.entry) }
+{
+    match word {
+        Some(path) => { if path == "-" { None } else { Some(path) } }
+        None => None,
+    }
+}
+
+// The word or the value of an option that was read under this name.
+fn word_of<'a>(matches: &ArgMatches<'a>, id: &str) -> Option<&'a str>
+    ensures { option_map (λ s. s.now) result ≡ first_of id.now (rows_of (found_of matches.now)) }
+{
+    matches.get_str(id)
+}
+
+// Whether an option without a text was read under this name.
+fn is_set(matches: &ArgMatches<'_>, id: &str) -> bool
+    ensures { result ≡ is_set id.now (rows_of (found_of matches.now)) }
+{
+    match word_of(matches, id) {
+        Some(value) => value == "true",
+        None => false,
+    }
+}
+
+// The words of a cut among the arguments of `rr draw`.
+fn cut_words<'a>(matches: &ArgMatches<'a>) -> CutWords<'a>
+    ensures { cut_words_in result ≡ cut_words_of (rows_of (found_of matches.now)) }
+{
+    CutWords {
+        from: word_of(matches, "FROM"),
+        to: word_of(matches, "TO"),
+        node: word_of(matches, "NODE"),
+        instance: word_of(matches, "INSTANCE"),
+    }
+}
+
+// What `rr random` is asked for.
+fn random_task<'a>(matches: &ArgMatches<'a>) -> Task<'a>
+    ensures { task_in result ≡ random_task (rows_of (found_of matches.now)) }
+{
+    Task::Draw(DrawWords {
+        seed: word_of(matches, "SEED"),
+        steps: word_of(matches, "STEPS"),
+        nodes: word_of(matches, "NODES"),
+        alone: is_set(matches, "ALONE"),
+    })
+}
+
+// What `rr run` is asked for.
+fn run_task<'a>(matches: &ArgMatches<'a>) -> Task<'a>
+    ensures { task_in result ≡ run_task (rows_of (found_of matches.now)) }
+{
+    Task::Run(
+        word_of(matches, "NODES"),
+        word_of(matches, "DIR"),
+        word_of(matches, "SCRIPT"),
+        word_of(matches, "TAPE"),
+    )
+}
+
+// What `rr sweep` is asked for.
+fn sweep_task<'a>(matches: &ArgMatches<'a>) -> Task<'a>
+    ensures { task_in result ≡ sweep_task (rows_of (found_of matches.now)) }
+{
+    Task::Sweep(file_of(word_of(matches, "FILE")), word_of(matches, "SEED"))
+}
+
+// What `rr draw` is asked for.
+fn picture_task<'a>(matches: &ArgMatches<'a>) -> Task<'a>
+    ensures { task_in result ≡ picture_task (rows_of (found_of matches.now)) }
+{
+    Task::Picture(file_of(word_of(matches, "FILE")), cut_words(matches))
+}
+
+// What `rr migrate` is asked for.
+fn migrate_task<'a>(matches: &ArgMatches<'a>) -> Task<'a>
+    ensures { task_in result ≡ migrate_task (rows_of (found_of matches.now)) }
+{
+    Task::Migrate(
+        word_of(matches, "DIR"),
+        word_of(matches, "NODE"),
+        word_of(matches, "NODES"),
+    )
+}
+
+// What a subcommand of this name is asked for.
+pub(crate) fn task_by<'a>(name: &str, matches: &ArgMatches<'a>) -> Task<'a>
+    ensures { task_in result ≡ task_by (name.now, rows_of (found_of matches.now)) }
+{
+    if name == "show" {
+        Task::Show(word_of(matches, "DIR"))
+    } else if name == "random" {
+        random_task(matches)
+    } else if name == "audit" {
+        Task::Audit(file_of(word_of(matches, "FILE")))
+    } else if name == "run" {
+        run_task(matches)
+    } else if name == "sweep" {
+        sweep_task(matches)
+    } else if name == "draw" {
+        picture_task(matches)
+    } else if name == "migrate" {
+        migrate_task(matches)
+    } else {
+        Task::Simulate(file_of(word_of(matches, "FILE")))
+    }
+}
