@@ -1,7 +1,8 @@
-//! The bytes on a disk: commands, facts, groups and snapshots, each with one spelling.
+//! The bytes on a disk: commands, facts, groups and snapshots, each with one spelling in a version.
 //!
-//! Numbers are big-endian. Bytes of two versions are read, and version 2 is written. A decoder answers with a value exactly where the bytes are its spelling, and
-//! otherwise with the offset of the first field that is cut short or holds no lawful value.
+//! Numbers are big-endian. Bytes of versions 1 and 2 are read, and version 2 is written. A decoder answers with a
+//! value exactly where the bytes are its spelling in the version, and otherwise with the offset of the first field
+//! that is cut short or holds no lawful value.
 #![tactic(auto)]
 
 mod command;
