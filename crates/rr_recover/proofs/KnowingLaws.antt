@@ -1,6 +1,5 @@
 -- What an opening knows of its disk at its beginning, and at its end.
-use Rattle.std.proofs.Common.{◌≡◌, ℕ, List, sym, ap, subst, ◌∙◌}
-use Rattle.rr_types.specs.declared.fact.Fact.{Fact}
+use Rattle.std.proofs.Common.{◌≡◌, ℕ, sym, ap, subst, ◌∙◌}
 use Rattle.rr_disk.specs.Areas.{Areas}
 use Rattle.rr_disk.specs.Crash.{IsCrashImage}
 use Rattle.rr_journal.specs.declared.journal.Journal.{Journal}
