@@ -407,17 +407,16 @@ fn push_happening(
 {
     let event = event_row(alloc, at, event, reason)?;
     match line {
-        Some(line) => push_row(alloc, text, line, Some(event))?,
+        Some(line) => push_row(alloc, text, line, Some(event)),
         None => {
             let row = if reason.is_idle() {
                 Row::Idle { event }
             } else {
                 Row::Done { event }
             };
-            push_object(alloc, text, &row)?;
+            push_object(alloc, text, &row)
         }
     }
-    Ok(())
 }
 
 /// What came of each event of an account as JSON, an object each: its line of the report with the event, or the event

@@ -131,7 +131,10 @@ fn push_refused(text: &mut Vec<u8>, event: &Event, refusal: Refusal) -> io::Resu
         (Refusal::Busy, _) => write!(text, "a flush or a switch of node {node} isn't over"),
         (Refusal::Device, _) => write!(text, "the device call failed, and so has node {node}"),
         (Refusal::Damaged { area, offset }, _) => {
-            write!(text, "area {area} of node {node} is damaged at byte {offset}")
+            write!(
+                text,
+                "area {area} of node {node} is damaged at byte {offset}"
+            )
         }
         (Refusal::OutOfMemory, _) => write!(text, "memory was wanting"),
         (Refusal::ListFull, _) => write!(text, "node {node} has decided all instances"),
@@ -149,7 +152,10 @@ fn push_idle(text: &mut Vec<u8>, event: &Event, idle: Idle) -> io::Result<()> {
     let node = node_of(event).index();
     match idle {
         Idle::NoMessage(message, sent) => {
-            write!(text, "message {message} isn't on the wire, {sent} were sent")
+            write!(
+                text,
+                "message {message} isn't on the wire, {sent} were sent"
+            )
         }
         Idle::OtherAddressee(message, to) => write!(text, "message {message} is for node {to}"),
         Idle::NothingStaged => write!(text, "node {node} has no fact to flush"),

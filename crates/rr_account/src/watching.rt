@@ -22,7 +22,10 @@ pub fn account_on(alloc: Global, bytes: &[u8]) -> Result<Account, Refusal>
     ensures fault { IfErr result (λ e. IsFault IsEvent event_line bytes.now e) }
 {
     match Schedule::parse(alloc, bytes) {
-        Ok(schedule) => watch(alloc, schedule),
+        Ok(schedule) => {
+            let account = watch(alloc, schedule)?;
+            Ok(account)
+        }
         Err(refusal) => Err(refusal),
     }
 }

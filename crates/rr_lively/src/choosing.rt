@@ -73,7 +73,10 @@ impl Drawing {
 
     /// What a node may do, with the weights.
     fn choices(&self, memory: &Memory, stance: Stance, takes: bool) -> [(Choice, u32); 8] {
-        let allowed = self.prefix.saturating_add(self.lost).saturating_add(UNDECIDED);
+        let allowed = self
+            .prefix
+            .saturating_add(self.lost)
+            .saturating_add(UNDECIDED);
         let may_take = takes && stance == Stance::Resting && memory.may_take;
         [
             (Choice::Hear, weight(memory.may_hear(), 32)),

@@ -106,12 +106,7 @@ impl Drawing {
     }
 
     /// What a node does next, if there is something.
-    fn act(
-        &mut self,
-        cluster: &Cluster,
-        node: NodeId,
-        word: u32,
-    ) -> Result<Option<Event>, Refusal>
+    fn act(&mut self, cluster: &Cluster, node: NodeId, word: u32) -> Result<Option<Event>, Refusal>
         ensures { IfErr result (λ e. e ≡ Refusal.OutOfMemory) }
     {
         let stance = stance_of(cluster, node);

@@ -101,9 +101,8 @@ impl Memory {
     /// Whether a message is a Proposal, an Ack or a Nack of an instance that it has decided.
     fn has_decided(&self, body: &Body) -> bool {
         match body {
-            Body::Proposal(instance, _, _)
-            | Body::Ack(instance, _)
-            | Body::Nack(instance, _) => self.decided.contains(&instance.number()),
+            Body::Proposal(instance, _, _) | Body::Ack(instance, _) | Body::Nack(instance, _) =>
+                self.decided.contains(&instance.number()),
             _ => false,
         }
     }

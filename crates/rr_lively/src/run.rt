@@ -43,7 +43,10 @@ fn is_event(nodes: Nodes, event: &Event) -> bool
             true
         }
         Event::Crash {
-            cut_0, cut_1, fill, ..
+            cut_0,
+            cut_1,
+            fill,
+            ..
         } => {
             let _cuts = (*cut_0, *cut_1);
             let _bytes = fill.as_bytes();

@@ -38,7 +38,9 @@ fn explains_what_came_to_nothing(rt: HostRuntime) -> Result<(), Fail> {
     let account = account(&rt, IDLE)?;
     let text = explanation(rt.alloc(), &account)?;
     assert!(rt;
-        text.ends_with(b"restart 0 0 0\n    line 11: dev 0\n    line 12: take 0: node 0 has no fact to flush\n    line 13: dev 0: no device call of node 0 is due\n    line 14: fail 0 -: no device call of node 0 is due\n    line 15: mark 0: node 0 has no synced group to mark\n    line 16: send 0: no message of node 0 may leave\n    line 17: ack 0: no request that waits at node 0 is decided\nrefuse 18 13 Busy\n    line 18: restart 0: node 0 is up or opens its disk already\ndecided 0\n".as_slice())
+        text.ends_with(
+            b"restart 0 0 0\n    line 11: dev 0\n    line 12: take 0: node 0 has no fact to flush\n    line 13: dev 0: no device call of node 0 is due\n    line 14: fail 0 -: no device call of node 0 is due\n    line 15: mark 0: node 0 has no synced group to mark\n    line 16: send 0: no message of node 0 may leave\n    line 17: ack 0: no request that waits at node 0 is decided\nrefuse 18 13 Busy\n    line 18: restart 0: node 0 is up or opens its disk already\ndecided 0\n".as_slice()
+        )
     );
     Ok(())
 }
@@ -95,7 +97,9 @@ fn statistics_are_one_object(rt: HostRuntime) -> Result<(), Fail> {
     let statistics = statistics_of(rt.alloc(), &account)?;
     let text = json_statistics(rt.alloc(), &statistics)?;
     assert!(rt;
-        text.starts_with(b"{\"nodes\":1,\"decided\":1,\"rounds\":1,\"device_calls\":25,\"events\":[{\"kind\":\"submit\",\"events\":1,\"told\":0,\"refused\":0,\"idle\":0},{\"kind\":\"hear\",\"events\":3,".as_slice())
+        text.starts_with(
+            b"{\"nodes\":1,\"decided\":1,\"rounds\":1,\"device_calls\":25,\"events\":[{\"kind\":\"submit\",\"events\":1,\"told\":0,\"refused\":0,\"idle\":0},{\"kind\":\"hear\",\"events\":3,".as_slice()
+        )
     );
     assert!(rt; text.ends_with(b"],\"refusals\":[]}\n".as_slice()));
     Ok(())
