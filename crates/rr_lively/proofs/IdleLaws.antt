@@ -101,7 +101,7 @@ right_empty [] ys is = is
 right_empty (x ∷ xs) ys is = absurd (let no : x ∷ (xs ++ ys) ≡ [] = is in cc)
 
 module _ (event : NodeEvent) (p at : ℕ) (c : Cluster) where
-  next_by : Option Seat → Cluster
+  abbrev next_by : Option Seat → Cluster
   next_by o = option_map_or (λ seat. with_answer p at c (seat_step event seat)) o c
 
   stays_by : (o : Option Seat) → slice_get c.seats p ≡ o → (next_by o).lines ≡ []

@@ -80,5 +80,5 @@ is_lively_run n at kept schedule report ended all decided some few below s its_l
       nodes = refl;
       counted = s.counted;
       is_report = is_report_on n (schedule_text of_schedule) bytes kept report ended decided some few refl tells its_list ends;
-      told = is ∙ ap (λ (t : List ℕ). (t ++ line (codes "report" ∷ [])) ++ ended) s.printed ∙ append_assoc (schedule_text of_schedule) (line (codes "report" ∷ [])) ended;
+      told = is ∙ ap (λ (t : List ℕ). (t ++ line (codes "report" ∷ [])) ++ ended) s.printed;
     }

@@ -2,13 +2,14 @@
 
 ghost use Rattle.std.specs.Prelude.{◌≡◌, ◌≤◌, ◌+◌, ◌<◌, false, IsTrue, Ok, OnOk, IfOk, IfErr};
 ghost use Rattle.rr_text.specs.Scheduled.{IsEvent};
+ghost use Rattle.rr_text.specs.Words.{IsCommand, IsFill};
 ghost use Rattle.rr_lively.specs.Lively.{IsSoFar, MayStay, IsLivelyRun};
 
 use rr_sim::{Cluster, Stance, decided_list, node_of};
-use rr_text::Event;
 use rr_text::text_report::push_decided_list;
 use rr_text::text_schedule::{push_event_line, push_nodes_line};
-use rr_types::{Nodes, Refusal};
+use rr_text::{Event, Fill};
+use rr_types::{Command, Nodes, Op, Refusal};
 use std::alloc::Global;
 
 /// The nodes behind the events so far, the line of the next event, and the texts of the schedule and of its report.
@@ -20,28 +21,51 @@ pub(crate) struct Run {
     report: Vec<u8>,
 }
 
-/// Whether an event is at one of so many nodes, and suspects none beside them.
+/// Whether a command has a name, and a value that isn't too long.
+fn is_command(command: &Command) -> bool
+    ensures { IsTrue result → IsCommand command.now }
+{
+    let _request = command.request;
+    match &command.op {
+        Op::Claim(name, value) | Op::Update(name, value) => {
+            !name.as_bytes().is_empty() && value.as_bytes().len() <= 64
+        }
+        Op::Release(name) => !name.as_bytes().is_empty(),
+        Op::Transfer(name, owner) => {
+            let _owner = *owner;
+            !name.as_bytes().is_empty()
+        }
+    }
+}
+
+/// Whether a fill has one byte, as each that is drawn.
+fn has_one_byte(fill: &Fill) -> bool
+    ensures { IsTrue result → IsFill fill.now }
+{
+    match fill.as_bytes() {
+        [byte] => {
+            let _byte = *byte;
+            true
+        }
+        _ => false,
+    }
+}
+
+/// Whether an event is at one of so many nodes, and suspects none beside them. What is read here is in its range.
 fn is_event(nodes: Nodes, event: &Event) -> bool
     ensures { IsTrue result → IsEvent nodes event.now }
 {
     if node_of(event).index() >= nodes.count() {
         return false;
     }
-    // What is read is in its range.
     match event {
         Event::Suspect { set, .. } => u32::from(set.bits()) < 1 << nodes.count(),
-        Event::Submit { command, .. } => {
-            let _command = *command;
-            true
-        }
+        Event::Submit { command, .. } => is_command(command),
         Event::Hear { message, .. } => {
             let _message = *message;
             true
         }
-        Event::Fail { fill, .. } => {
-            let _bytes = fill.as_bytes();
-            true
-        }
+        Event::Fail { fill, .. } => has_one_byte(fill),
         Event::Crash {
             cut_0,
             cut_1,
@@ -49,8 +73,7 @@ fn is_event(nodes: Nodes, event: &Event) -> bool
             ..
         } => {
             let _cuts = (*cut_0, *cut_1);
-            let _bytes = fill.as_bytes();
-            true
+            has_one_byte(fill)
         }
         Event::Tick { .. }
         | Event::Advance { .. }
