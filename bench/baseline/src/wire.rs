@@ -1,13 +1,31 @@
-//! Messages as bytes, as docs/FORMATS.md states them.
+//! Messages as bytes in versions 1 and 2, as docs/FORMATS.md states them.
 
 use super::types::*;
 
 const VERSION: u8 = 2;
 
+/// What a version of the bytes allows.
+#[derive(Clone, Copy)]
+struct Limits {
+    longest_name: usize,
+    instances: u32,
+    operations: u8,
+}
+
+/// The limits of the version that a first byte names.
+fn limits_of(version: u8) -> Option<Limits> {
+    match version {
+        1 => Some(Limits { longest_name: 32, instances: 65_536, operations: 3 }),
+        VERSION => Some(Limits { longest_name: 64, instances: 1_048_576, operations: 4 }),
+        _ => None,
+    }
+}
+
 /// Bytes that are read from left to right.
 struct Reader<'a> {
     all: &'a [u8],
     at: usize,
+    limits: Limits,
 }
 
 type Read<T> = Result<T, Refusal>;
@@ -43,7 +61,11 @@ impl<'a> Reader<'a> {
 
     fn instance(&mut self) -> Read<Instance> {
         let fault = self.fault();
-        Instance::new(self.u32()?).ok_or(fault)
+        let number = self.u32()?;
+        if number >= self.limits.instances {
+            return Err(fault);
+        }
+        Instance::new(number).ok_or(fault)
     }
 
     fn round(&mut self) -> Read<Round> {
@@ -56,10 +78,10 @@ impl<'a> Reader<'a> {
         NodeId::new(nodes, self.u8()?).ok_or(fault)
     }
 
-    fn text(&mut self, least: usize) -> Read<(&'a [u8], Refusal)> {
+    fn text(&mut self, least: usize, most: usize) -> Read<(&'a [u8], Refusal)> {
         let fault = self.fault();
         let count = self.u8()? as usize;
-        if count < least || count > 64 {
+        if count < least || count > most {
             return Err(fault);
         }
         let fault = self.fault();
@@ -67,19 +89,19 @@ impl<'a> Reader<'a> {
     }
 
     fn name(&mut self) -> Read<Name> {
-        let (bytes, fault) = self.text(1)?;
+        let (bytes, fault) = self.text(1, self.limits.longest_name)?;
         Name::new(bytes).map_err(|_| fault)
     }
 
     fn value(&mut self) -> Read<Value> {
-        let (bytes, fault) = self.text(0)?;
+        let (bytes, fault) = self.text(0, 64)?;
         Value::new(bytes).map_err(|_| fault)
     }
 
     fn op(&mut self) -> Read<Op> {
         let fault = self.fault();
         let kind = self.u8()?;
-        if kind == 0 || kind > 4 {
+        if kind == 0 || kind > self.limits.operations {
             return Err(fault);
         }
         let name = self.name()?;
@@ -130,9 +152,7 @@ impl<'a> Reader<'a> {
 
     fn message(&mut self, nodes: u8) -> Read<Message> {
         let fault = self.fault();
-        if self.u8()? != VERSION {
-            return Err(fault);
-        }
+        self.limits = limits_of(self.u8()?).ok_or(fault)?;
         let from = self.node(nodes)?;
         let to = self.node(nodes)?;
         let body = self.body(nodes)?;
@@ -141,7 +161,8 @@ impl<'a> Reader<'a> {
 }
 
 pub fn decode(nodes: u8, bytes: &[u8]) -> Result<Message, Refusal> {
-    let mut reader = Reader { all: bytes, at: 0 };
+    let limits = limits_of(VERSION).expect("the version that is written is one");
+    let mut reader = Reader { all: bytes, at: 0, limits };
     let message = reader.message(nodes)?;
     if reader.at < bytes.len() {
         return Err(reader.fault());

@@ -1,5 +1,5 @@
 //! Groups of facts and snapshots as bytes, big-endian, each value with one
-//! spelling.
+//! spelling in versions 1 and 2.
 
 use crate::promise::{OpenStanding, Promise, Standing};
 use crate::types::{
@@ -7,10 +7,47 @@ use crate::types::{
     INSTANCES, LAST_ROUND, MAX_NODES,
 };
 
-const VERSION: u8 = 2;
+/// A version of the bytes. What is written is of version 2.
+#[derive(Clone, Copy, PartialEq, Eq)]
+pub enum Version {
+    One,
+    Two,
+}
+
+impl Version {
+    fn of(byte: u8) -> Option<Version> {
+        match byte {
+            1 => Some(Version::One),
+            2 => Some(Version::Two),
+            _ => None,
+        }
+    }
+
+    fn longest_name(self) -> usize {
+        match self {
+            Version::One => 32,
+            Version::Two => 64,
+        }
+    }
+
+    fn instances(self) -> u32 {
+        match self {
+            Version::One => 65_536,
+            Version::Two => INSTANCES,
+        }
+    }
+
+    fn operations(self) -> u8 {
+        match self {
+            Version::One => 3,
+            Version::Two => 4,
+        }
+    }
+}
 
 /// A snapshot.
 pub struct Snapshot {
+    pub version: Version,
     pub place: Place,
     pub epoch: u64,
     pub next: u64,
@@ -109,7 +146,7 @@ fn put_entry(out: &mut Vec<u8>, instance: u32, standing: &Standing) {
 
 /// Spells a snapshot of the facts before number `next`.
 pub fn put_snapshot(out: &mut Vec<u8>, place: Place, epoch: u64, next: u64, promise: &Promise) {
-    out.extend_from_slice(&[VERSION, place.node, place.nodes]);
+    out.extend_from_slice(&[2, place.node, place.nodes]);
     put_u64(out, epoch);
     put_u64(out, next);
     put_u32(out, promise.named());
@@ -122,6 +159,7 @@ pub fn put_snapshot(out: &mut Vec<u8>, place: Place, epoch: u64, next: u64, prom
 /// no lawful value.
 struct Reader<'a> {
     rest: &'a [u8],
+    version: Version,
 }
 
 impl<'a> Reader<'a> {
@@ -160,8 +198,9 @@ impl<'a> Reader<'a> {
             client: self.u32()?,
             seq: self.u64()?,
         };
-        let kind = self.u8()?;
-        let name = self.text(is_name)?;
+        let kind = self.u8().filter(|&kind| kind <= self.version.operations())?;
+        let longest = self.version.longest_name();
+        let name = self.text(is_name).filter(|name| name.len() <= longest)?;
         let op = match kind {
             1 => Op::Claim {
                 name,
@@ -182,7 +221,8 @@ impl<'a> Reader<'a> {
     }
 
     fn instance(&mut self) -> Option<u32> {
-        self.u32().filter(|&instance| instance < INSTANCES)
+        let version = self.version;
+        self.u32().filter(|&instance| instance < version.instances())
     }
 
     fn round(&mut self) -> Option<u32> {
@@ -248,7 +288,8 @@ impl<'a> Reader<'a> {
 
     fn place(&mut self) -> Option<Place> {
         let [version, node, nodes] = self.array()?;
-        let lawful = version == VERSION && node < nodes && usize::from(nodes) <= MAX_NODES;
+        self.version = Version::of(version)?;
+        let lawful = node < nodes && usize::from(nodes) <= MAX_NODES;
         lawful.then_some(Place { node, nodes })
     }
 
@@ -267,10 +308,19 @@ impl<'a> Reader<'a> {
     }
 }
 
-/// Reads a group that begins with fact `next`, and takes its facts on where
-/// each fits. Answers how many there are.
-pub fn take_group(payload: &[u8], place: Place, next: u64, promise: &mut Promise) -> Option<u64> {
-    let mut reader = Reader { rest: payload };
+/// Reads a group of this version that begins with fact `next`, and takes its
+/// facts on where each fits. Answers how many there are.
+pub fn take_group(
+    version: Version,
+    payload: &[u8],
+    place: Place,
+    next: u64,
+    promise: &mut Promise,
+) -> Option<u64> {
+    let mut reader = Reader {
+        rest: payload,
+        version,
+    };
     let first = reader.u64().filter(|&first| first == next)?;
     let count = u64::from(u16::from_be_bytes(reader.array()?));
     if !(1..=GROUP as u64).contains(&count) || first.checked_add(count).is_none() {
@@ -289,7 +339,10 @@ pub fn take_group(payload: &[u8], place: Place, next: u64, promise: &mut Promise
 
 /// Reads a snapshot.
 pub fn read_snapshot(payload: &[u8]) -> Option<Snapshot> {
-    let mut reader = Reader { rest: payload };
+    let mut reader = Reader {
+        rest: payload,
+        version: Version::Two,
+    };
     let place = reader.place()?;
     let epoch = reader.u64().filter(|&epoch| epoch >= 1)?;
     let next = reader.u64()?;
@@ -297,6 +350,7 @@ pub fn read_snapshot(payload: &[u8]) -> Option<Snapshot> {
     let promise = reader.promise(place, count)?;
     reader.end()?;
     Some(Snapshot {
+        version: reader.version,
         place,
         epoch,
         next,

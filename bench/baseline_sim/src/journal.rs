@@ -1,7 +1,7 @@
 //! Frames in the areas of a disk: the jobs that write them, and what an
 //! opening reads.
 
-use crate::codec::{put_snapshot, read_snapshot, take_group};
+use crate::codec::{put_snapshot, read_snapshot, take_group, Version};
 use crate::disk::Disk;
 use crate::promise::Promise;
 use crate::types::Place;
@@ -149,6 +149,7 @@ pub struct Damage {
 
 /// What an area holds, whose node its snapshot names.
 pub struct Content {
+    pub version: Version,
     pub place: Place,
     pub journal: Journal,
     pub next: u64,
@@ -164,6 +165,7 @@ impl Content {
             epoch: 1,
         };
         Content {
+            version: Version::Two,
             place,
             journal,
             next: 0,
@@ -186,7 +188,13 @@ impl Content {
     /// Reads the group behind the gate; answers the length of its payload.
     fn read_group(&mut self, bytes: &[u8]) -> Option<usize> {
         let payload = payload_behind(bytes, self.journal.gate)?;
-        self.next += take_group(payload, self.place, self.next, &mut self.promise)?;
+        self.next += take_group(
+            self.version,
+            payload,
+            self.place,
+            self.next,
+            &mut self.promise,
+        )?;
         Some(payload.len())
     }
 }
@@ -218,6 +226,7 @@ fn read_snapshot_frame(area: usize, bytes: &[u8]) -> Option<Content> {
         epoch: snapshot.epoch,
     };
     Some(Content {
+        version: snapshot.version,
         place: snapshot.place,
         journal,
         next: snapshot.next,

@@ -2,6 +2,7 @@
 
 use std::fmt::Write;
 
+use crate::codec::Version;
 use crate::journal::{read_areas, Content, Damage};
 
 /// A line for each area: whether it is formatted, and what it holds.
@@ -18,12 +19,16 @@ fn put_line(text: &mut String, area: usize, content: Option<&Content>) {
         None => writeln!(text, "area {area} unformatted"),
         Some(content) => writeln!(
             text,
-            "area {area} epoch {} node {} of {} facts {} decided {}",
+            "area {area} epoch {} node {} of {} facts {} decided {}{}",
             content.journal.epoch,
             content.place.node,
             content.place.nodes,
             content.next,
-            content.promise.decided_prefix()
+            content.promise.decided_prefix(),
+            match content.version {
+                Version::One => " version 1",
+                Version::Two => "",
+            }
         ),
     };
     written.expect("a text takes what is written");

@@ -35,7 +35,7 @@ fn opened(alloc: Global, area: &[u8]) -> Result<Found, Refusal> {
             facts: 0,
             instances: 0,
         }),
-        Image::Active(_, content) => {
+        Image::Active(_, content) | Image::Outdated(_, content) => {
             let facts = content.next();
             let instances = content.into_promise().entries().len();
             Ok(Found { facts, instances })

@@ -119,6 +119,16 @@ fn tells_what_stands_before_a_closed_gate(rt: HostRuntime) -> Result<(), Fail> {
     Ok(())
 }
 
+#[test]
+fn tells_areas_of_version_1(rt: HostRuntime) -> Result<(), Fail> {
+    let one = "area 0 epoch 1 node 0 of 1 facts 4 decided 1 version 1\narea 1 unformatted\n";
+    let moved = "area 0 epoch 1 node 0 of 1 facts 0 decided 0 version 1\n\
+        area 1 epoch 2 node 0 of 1 facts 4 decided 1\n";
+    assert!(rt; is_told(&rt, &changed(&rt, 5, 1)?, &[], one)?);
+    assert!(rt; is_told(&rt, &changed(&rt, 5, 1)?, snapshot(), moved)?);
+    Ok(())
+}
+
 /// Whether `rr show` refuses areas with this line, and prints nothing.
 fn is_refused(rt: &HostRuntime, first: &[u8], second: &[u8], line: &str) -> Result<bool, Fail> {
     let ran = shown(rt, "rr_cli_broken", first, second)?;

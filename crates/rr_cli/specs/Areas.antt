@@ -3,15 +3,22 @@ use Rattle.std.specs.Prelude.{◌≡◌, ℕ, List, ◌∷◌, [], ◌++◌, cod
 use Rattle.std.specs.declared.alloc.Global.{Global}
 use Rattle.rr_types.specs.declared.refusal.Refusal.{Refusal}
 use Rattle.rr_text.specs.ReportTexts.{line}
+use Rattle.rr_frame.specs.declared.version.Version.{Version}
+use Rattle.rr_frame.specs.declared.version.Version.TheVariants.{One, Two}
 use Rattle.rr_image.specs.declared.inspection.AreaReport.{AreaReport}
 use Rattle.rr_image.specs.Inspect.{Inspected, Tells, IsTold}
 
+-- version 2 isn't told
+abbrev pub version_words : Version → List (List ℕ)
+version_words One = codes "version" ∷ codes "1" ∷ []
+version_words Two = []
+
 -- the words on an area of this number: whether it is formatted, and then its epoch, its node of so many, the number of
--- its next fact, and how many commands have decided
+-- its next fact, how many commands have decided, and an earlier version
 abbrev pub area_words : ℕ → Option AreaReport → List (List ℕ)
 area_words number None = codes "area" ∷ decimal number ∷ codes "unformatted" ∷ []
 area_words number (Some r) =
-    codes "area" ∷ decimal number ∷ codes "epoch" ∷ decimal r.epoch ∷ codes "node" ∷ decimal r.node ∷ codes "of" ∷ decimal r.nodes ∷ codes "facts" ∷ decimal r.next ∷ codes "decided" ∷ decimal r.decided ∷ []
+    codes "area" ∷ decimal number ∷ codes "epoch" ∷ decimal r.epoch ∷ codes "node" ∷ decimal r.node ∷ codes "of" ∷ decimal r.nodes ∷ codes "facts" ∷ decimal r.next ∷ codes "decided" ∷ decimal r.decided ∷ version_words r.version
 
 -- the text on both areas, a line each
 abbrev pub areas_text : Option AreaReport → Option AreaReport → List ℕ

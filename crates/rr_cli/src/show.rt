@@ -13,6 +13,7 @@ ghost use Rattle.rr_cli.specs.Ends.{EndsOnFolder};
 use crate::refusals::end_by_refusal;
 use crate::streams::end_by_text;
 use rr_disk::{Disk, FileDisk};
+use rr_frame::Version;
 use rr_image::{AreaReport, inspect};
 use rr_stream::Sink;
 use rr_types::Refusal;
@@ -36,10 +37,16 @@ fn print_area<W: Write>(out: &mut W, area: u8, told: Option<AreaReport>) -> io::
             let nodes = told.nodes.count();
             let next = told.next;
             let decided = told.decided;
-            writeln!(
-                out,
-                "area {area} epoch {epoch} node {node} of {nodes} facts {next} decided {decided}"
-            )
+            match told.version {
+                Version::One => writeln!(
+                    out,
+                    "area {area} epoch {epoch} node {node} of {nodes} facts {next} decided {decided} version 1"
+                ),
+                Version::Two => writeln!(
+                    out,
+                    "area {area} epoch {epoch} node {node} of {nodes} facts {next} decided {decided}"
+                ),
+            }
         }
     }
 }
@@ -63,7 +70,8 @@ fn text_of(
 }
 
 /// What the areas of a disk hold, as text: a line for each, `area A unformatted` or
-/// `area A epoch E node P of N facts F decided D`. Nothing is written to the disk.
+/// `area A epoch E node P of N facts F decided D`, with ` version 1` at its end where that is the area's version.
+/// Nothing is written to the disk.
 ///
 /// # Errors
 /// `OutOfMemory`, `Device`; `Damaged` where an area is broken.

@@ -1,8 +1,9 @@
 pub mod Agreeing
+pub mod Filled
+pub mod Fresh
 pub mod Named
 pub mod OneByOne
 pub mod OverMemory
-pub mod Filled
 pub mod Rows
 pub mod Standing
 pub mod Strips

@@ -59,6 +59,19 @@ impl MemDisk {
         })
     }
 
+    /// A disk with these bytes in its areas, nothing of them loose.
+    ///
+    /// # Errors
+    /// Where memory is wanting.
+    pub fn with_areas(alloc: Global, first: &[u8], second: &[u8]) -> Result<MemDisk, AllocError>
+        ensures { IfOk result (λ d. d ≡ record { areas = restarted (record { of_first = first.now; of_second = second.now }); calls = 0; faults = 0 }) }
+    {
+        let mut disk = MemDisk::new(alloc);
+        disk.first = Strip::with_bytes(alloc, first)?;
+        disk.second = Strip::with_bytes(alloc, second)?;
+        Ok(disk)
+    }
+
     /// A law of it, and nothing else: its bytes as they stand are among the images that a crash may leave.
     pub fn may_stand(&self)
         ensures { IsCrashImage self.now.areas (record { of_first = bytes_of self.now.areas.first; of_second = bytes_of self.now.areas.second }) }

@@ -59,6 +59,23 @@ impl Strip {
         })
     }
 
+    /// An area with these bytes, nothing loose and all of it safe.
+    ///
+    /// # Errors
+    /// Where memory is wanting.
+    pub fn with_bytes(alloc: Global, bytes: &[u8]) -> Result<Strip, AllocError>
+        ensures { IfOk result (λ s. s ≡ at_rest bytes.now) }
+    {
+        let mut strip = Strip::new(alloc);
+        match strip.write(0, bytes) {
+            Ok(()) => {
+                strip.settle();
+                Ok(strip)
+            }
+            Err(_) => Err(AllocError),
+        }
+    }
+
     /// How many bytes it has.
     pub fn len(&self) -> u64
         ensures { result ≡ length self.now.cells }

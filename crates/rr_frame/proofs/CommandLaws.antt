@@ -5,29 +5,32 @@ use Rattle.std.proofs.lemmas.Bool.{and_parts, and_from, leb-true, le-leb, eqb-tr
 use Rattle.rr_types.specs.declared.command.Op.{Op}
 use Rattle.rr_types.specs.declared.command.Op.TheVariants.{Claim, Update, Release, Transfer}
 use Rattle.rr_types.specs.declared.command.Command.{Command}
-use Rattle.rr_types.specs.Names.{IsName, IsValue, is_name_byte, is_value_byte}
+use Rattle.rr_types.specs.Names.{IsValue, is_name_byte, is_value_byte}
 use Rattle.rr_frame.specs.Numbers.{number_bytes}
+use Rattle.rr_frame.specs.declared.version.Version.{Version}
+use Rattle.rr_frame.specs.Versions.{longest_name, operations, IsNameIn}
 use Rattle.rr_frame.specs.Reading.{◌>>=◌, text_at}
-use Rattle.rr_frame.specs.CommandFormat.{text_bytes, op_bytes, command_bytes, IsLawfulOp, IsLawfulCommand, name_at, value_at, op_with, op_at, command_at}
+use Rattle.rr_frame.specs.CommandFormat.{text_bytes, op_bytes, command_bytes, IsLawfulOpIn, IsLawfulCommandIn, name_at, value_at, op_with, op_at, command_at}
+use Rattle.rr_frame.proofs.VersionLaws.{names_at_most, operations_at_least, operations_at_most}
 use Rattle.rr_frame.proofs.FieldLaws.{IsBytes, bind_ok, ok_is, Takes, Takes-then, plain_takes, plain_again, checked_takes, checked_again, text_takes, text_again}
 
-pub name_takes : (bytes : List ℕ) (t : List ℕ × List ℕ) → IsBytes bytes → name_at bytes ≡ Ok t → Takes bytes (text_bytes t.0) t.1 × IsName t.0
+pub name_takes : (version : Version) (bytes : List ℕ) (t : List ℕ × List ℕ) → IsBytes bytes → name_at version bytes ≡ Ok t → Takes bytes (text_bytes t.0) t.1 × IsNameIn version t.0
 unfolding name_at
-name_takes bytes t fits e =
-    let a = checked_takes 1 (λ k. leb 1 k && leb k 64) bytes _ t fits e in
+name_takes version bytes t fits e =
+    let a = checked_takes 1 (λ k. leb 1 k && leb k (longest_name version)) bytes _ t fits e in
     let b = text_takes is_name_byte a.0.0 a.0.1 t a.1.rest_fits a.4 in
-    let count = and_parts (leb 1 a.0.0) (leb a.0.0 64) a.3 in
+    let count = and_parts (leb 1 a.0.0) (leb a.0.0 (longest_name version)) a.3 in
     let low : 1 ≤ a.0.0 = leb-true _ _ count.0 in
-    let high : a.0.0 ≤ 64 = leb-true _ _ count.1 in
+    let high : a.0.0 ≤ longest_name version = leb-true _ _ count.1 in
     let first : Takes bytes (number_bytes 1 (length t.0)) a.0.1 = rw b.1 a.1 in
-    (Takes-then bytes (number_bytes 1 (length t.0)) a.0.1 t.0 t.1 first b.0, record { some = omega (arith, b.1, low); short = omega (arith, b.1, high); letters = b.2 })
+    (Takes-then bytes (number_bytes 1 (length t.0)) a.0.1 t.0 t.1 first b.0, (record { some = omega (arith, b.1, low); short = omega (arith, b.1, high, names_at_most version); letters = b.2 }, omega (arith, b.1, high)))
 
-pub name_again : (name rest : List ℕ) → IsName name → name_at (text_bytes name ++ rest) ≡ Ok (name, rest)
+pub name_again : (version : Version) (name rest : List ℕ) → IsNameIn version name → name_at version (text_bytes name ++ rest) ≡ Ok (name, rest)
 unfolding name_at
-name_again name rest h =
+name_again version name rest h =
     let regrouped : text_bytes name ++ rest ≡ number_bytes 1 (length name) ++ (name ++ rest) = append_assoc (number_bytes 1 (length name)) name rest in
-    let passes : (leb 1 (length name) && leb (length name) 64) ≡ true = and_from _ _ (le-leb _ _ h.some) (le-leb _ _ h.short) in
-    ap name_at regrouped ∙ checked_again 1 (λ k. leb 1 k && leb k 64) (length name) (name ++ rest) (λ k. text_at is_name_byte k.0 k.1) (let s = h.short in omega arith) passes ∙ text_again is_name_byte name rest h.letters
+    let passes : (leb 1 (length name) && leb (length name) (longest_name version)) ≡ true = and_from _ _ (le-leb _ _ h.0.some) (le-leb _ _ h.1) in
+    ap (name_at version) regrouped ∙ checked_again 1 (λ k. leb 1 k && leb k (longest_name version)) (length name) (name ++ rest) (λ k. text_at is_name_byte k.0 k.1) (let s = h.0.short in omega arith) passes ∙ text_again is_name_byte name rest h.0.letters
 
 pub value_takes : (bytes : List ℕ) (t : List ℕ × List ℕ) → IsBytes bytes → value_at bytes ≡ Ok t → Takes bytes (text_bytes t.0) t.1 × IsValue t.0
 unfolding value_at
@@ -131,23 +134,23 @@ op_with_again (Update name value) rest h = rw (value_again value rest h) refl
 op_with_again (Release name) rest h = refl
 op_with_again (Transfer name owner) rest h = plain_again 4 owner rest (λ (o : ℕ × List ℕ). Ok (Transfer name o.0, o.1)) (omega (arith, h))
 
-lawful_op : (op : Op) → IsName (name_in op) → IsLawfulBehind op → IsLawfulOp op
-lawful_op (Claim name value) n b = (n, b)
-lawful_op (Update name value) n b = (n, b)
-lawful_op (Release name) n b = n
-lawful_op (Transfer name owner) n b = (n, b)
+lawful_op : (version : Version) (op : Op) → IsNameIn version (name_in op) → kind_of op ≤ operations version → IsLawfulBehind op → IsLawfulOpIn version op
+lawful_op version (Claim name value) n k b = (n, b)
+lawful_op version (Update name value) n k b = (n, b)
+lawful_op version (Release name) n k b = n
+lawful_op version (Transfer name owner) n k b = (n, b, k)
 
-lawful_name : (op : Op) → IsLawfulOp op → IsName (name_in op)
-lawful_name (Claim name value) h = h.0
-lawful_name (Update name value) h = h.0
-lawful_name (Release name) h = h
-lawful_name (Transfer name owner) h = h.0
+lawful_name : (version : Version) (op : Op) → IsLawfulOpIn version op → IsNameIn version (name_in op)
+lawful_name version (Claim name value) h = h.0
+lawful_name version (Update name value) h = h.0
+lawful_name version (Release name) h = h
+lawful_name version (Transfer name owner) h = h.0
 
-lawful_behind : (op : Op) → IsLawfulOp op → IsLawfulBehind op
-lawful_behind (Claim name value) h = h.1
-lawful_behind (Update name value) h = h.1
-lawful_behind (Release name) h = tt
-lawful_behind (Transfer name owner) h = h.1
+lawful_behind : (version : Version) (op : Op) → IsLawfulOpIn version op → IsLawfulBehind op
+lawful_behind version (Claim name value) h = h.1
+lawful_behind version (Update name value) h = h.1
+lawful_behind version (Release name) h = tt
+lawful_behind version (Transfer name owner) h = h.1
 
 kind_low : (op : Op) → 1 ≤ kind_of op
 kind_low (Claim name value) = omega arith
@@ -155,59 +158,61 @@ kind_low (Update name value) = omega arith
 kind_low (Release name) = omega arith
 kind_low (Transfer name owner) = omega arith
 
-kind_high : (op : Op) → kind_of op ≤ 4
-kind_high (Claim name value) = omega arith
-kind_high (Update name value) = omega arith
-kind_high (Release name) = omega arith
-kind_high (Transfer name owner) = omega arith
+kind_high : (version : Version) (op : Op) → IsLawfulOpIn version op → kind_of op ≤ operations version
+kind_high version (Claim name value) h = omega (arith, operations_at_least version)
+kind_high version (Update name value) h = omega (arith, operations_at_least version)
+kind_high version (Release name) h = operations_at_least version
+kind_high version (Transfer name owner) h = h.2
 
-pub op_takes : (bytes : List ℕ) (y : Op × List ℕ) → IsBytes bytes → op_at bytes ≡ Ok y → Takes bytes (op_bytes y.0) y.1 × IsLawfulOp y.0
+pub op_takes : (version : Version) (bytes : List ℕ) (y : Op × List ℕ) → IsBytes bytes → op_at version bytes ≡ Ok y → Takes bytes (op_bytes y.0) y.1 × IsLawfulOpIn version y.0
 unfolding op_at
-op_takes bytes y fits e =
-    let a = checked_takes 1 (λ k. leb 1 k && leb k 4) bytes _ y fits e in
-    let b = bind_ok (name_at a.0.1) _ y a.4 in
-    let n = name_takes a.0.1 b.0 a.1.rest_fits b.1 in
-    let range = and_parts (leb 1 a.0.0) (leb a.0.0 4) a.3 in
-    let w = op_with_takes a.0.0 b.0.0 b.0.1 y (leb-true _ _ range.0) (leb-true _ _ range.1) n.0.rest_fits b.2 in
+op_takes version bytes y fits e =
+    let a = checked_takes 1 (λ k. leb 1 k && leb k (operations version)) bytes _ y fits e in
+    let b = bind_ok (name_at version a.0.1) _ y a.4 in
+    let n = name_takes version a.0.1 b.0 a.1.rest_fits b.1 in
+    let range = and_parts (leb 1 a.0.0) (leb a.0.0 (operations version)) a.3 in
+    let high : a.0.0 ≤ operations version = leb-true _ _ range.1 in
+    let most : a.0.0 ≤ 4 = omega (arith, high, operations_at_most version) in
+    let w = op_with_takes a.0.0 b.0.0 b.0.1 y (leb-true _ _ range.0) most n.0.rest_fits b.2 in
     let tail = Takes-then a.0.1 (text_bytes b.0.0) b.0.1 (behind_name y.0) y.1 n.0 w.taken in
     let whole = Takes-then bytes (number_bytes 1 a.0.0) a.0.1 (text_bytes b.0.0 ++ behind_name y.0) y.1 a.1 tail in
-    (rw (op_bytes-parts y.0, w.kinds, w.named) whole, lawful_op y.0 (rw w.named n.1) w.lawful)
+    (rw (op_bytes-parts y.0, w.kinds, w.named) whole, lawful_op version y.0 (rw w.named n.1) (rw w.kinds high) w.lawful)
 
-pub op_again : (op : Op) (rest : List ℕ) → IsLawfulOp op → op_at (op_bytes op ++ rest) ≡ Ok (op, rest)
+pub op_again : (version : Version) (op : Op) (rest : List ℕ) → IsLawfulOpIn version op → op_at version (op_bytes op ++ rest) ≡ Ok (op, rest)
 unfolding op_at
-op_again op rest h =
+op_again version op rest h =
     let k = kind_of op in
     let tail : List ℕ = text_bytes (name_in op) ++ (behind_name op ++ rest) in
     let regrouped : op_bytes op ++ rest ≡ number_bytes 1 (kind_of op) ++ tail =
     ap (λ (t : List ℕ). t ++ rest) (op_bytes-parts op) ∙ append_assoc (number_bytes 1 (kind_of op)) (text_bytes (name_in op) ++ behind_name op) rest ∙ ap (λ (t : List ℕ). number_bytes 1 (kind_of op) ++ t) (append_assoc (text_bytes (name_in op)) (behind_name op) rest) in
     let low = kind_low op in
-    let high = kind_high op in
-    let passes : (leb 1 (kind_of op) && leb (kind_of op) 4) ≡ true = and_from _ _ (le-leb _ _ low) (le-leb _ _ high) in
-    ap op_at regrouped
-    ∙ checked_again 1 (λ k. leb 1 k && leb k 4) (kind_of op) tail (λ kind. name_at kind.1 >>= λ name. op_with kind.0 name.0 name.1) (omega arith) passes
-    ∙ rw (name_again (name_in op) (behind_name op ++ rest) (lawful_name op h)) (op_with_again op rest (lawful_behind op h))
+    let high = kind_high version op h in
+    let passes : (leb 1 (kind_of op) && leb (kind_of op) (operations version)) ≡ true = and_from _ _ (le-leb _ _ low) (le-leb _ _ high) in
+    ap (op_at version) regrouped
+    ∙ checked_again 1 (λ k. leb 1 k && leb k (operations version)) (kind_of op) tail (λ kind. name_at version kind.1 >>= λ name. op_with kind.0 name.0 name.1) (omega (arith, operations_at_most version, high)) passes
+    ∙ rw (name_again version (name_in op) (behind_name op ++ rest) (lawful_name version op h)) (op_with_again op rest (lawful_behind version op h))
 
-pub command_takes : (bytes : List ℕ) (y : Command × List ℕ) → IsBytes bytes → command_at bytes ≡ Ok y → Takes bytes (command_bytes y.0) y.1 × IsLawfulCommand y.0
+pub command_takes : (version : Version) (bytes : List ℕ) (y : Command × List ℕ) → IsBytes bytes → command_at version bytes ≡ Ok y → Takes bytes (command_bytes y.0) y.1 × IsLawfulCommandIn version y.0
 unfolding command_at command_bytes
-command_takes bytes y fits e =
+command_takes version bytes y fits e =
     let a = plain_takes 4 bytes _ y fits e in
     let b = plain_takes 8 a.0.1 _ y a.1.rest_fits a.3 in
-    let d = bind_ok (op_at b.0.1) _ y b.3 in
-    let o = op_takes b.0.1 d.0 b.1.rest_fits d.1 in
+    let d = bind_ok (op_at version b.0.1) _ y b.3 in
+    let o = op_takes version b.0.1 d.0 b.1.rest_fits d.1 in
     let made : Command × List ℕ = (record { request = record { client = a.0.0; seq = b.0.0 }; op = d.0.0 }, d.0.1) in
     let tail = Takes-then a.0.1 (number_bytes 8 b.0.0) b.0.1 (op_bytes d.0.0) d.0.1 b.1 o.0 in
     let whole = Takes-then bytes (number_bytes 4 a.0.0) a.0.1 (number_bytes 8 b.0.0 ++ op_bytes d.0.0) d.0.1 a.1 tail in
-    subst (λ (z : Command × List ℕ). Takes bytes (number_bytes 4 z.0.request.client ++ (number_bytes 8 z.0.request.seq ++ op_bytes z.0.op)) z.1 × IsLawfulCommand z.0) (ok_is made y d.2) (whole, record { client = omega (arith, a.2); seq = omega (arith, b.2); op = o.1 })
+    subst (λ (z : Command × List ℕ). Takes bytes (number_bytes 4 z.0.request.client ++ (number_bytes 8 z.0.request.seq ++ op_bytes z.0.op)) z.1 × IsLawfulCommandIn version z.0) (ok_is made y d.2) (whole, record { client = omega (arith, a.2); seq = omega (arith, b.2); op = o.1 })
 
-pub command_again : (c : Command) (rest : List ℕ) → IsLawfulCommand c → command_at (command_bytes c ++ rest) ≡ Ok (c, rest)
+pub command_again : (version : Version) (c : Command) (rest : List ℕ) → IsLawfulCommandIn version c → command_at version (command_bytes c ++ rest) ≡ Ok (c, rest)
 unfolding command_at command_bytes
-command_again c rest h =
+command_again version c rest h =
     let tail : List ℕ = number_bytes 8 c.request.seq ++ (op_bytes c.op ++ rest) in
     let regrouped : (number_bytes 4 c.request.client ++ (number_bytes 8 c.request.seq ++ op_bytes c.op)) ++ rest ≡ number_bytes 4 c.request.client ++ tail =
     append_assoc (number_bytes 4 c.request.client) (number_bytes 8 c.request.seq ++ op_bytes c.op) rest ∙ ap (λ (t : List ℕ). number_bytes 4 c.request.client ++ t) (append_assoc (number_bytes 8 c.request.seq) (op_bytes c.op) rest) in
     let client = h.client in
     let seq = h.seq in
-    ap command_at regrouped
+    ap (command_at version) regrouped
     ∙ plain_again 4 c.request.client tail _ (omega arith)
     ∙ plain_again 8 c.request.seq (op_bytes c.op ++ rest) _ (omega arith)
-    ∙ rw (op_again c.op rest h.op) refl
+    ∙ rw (op_again version c.op rest h.op) refl

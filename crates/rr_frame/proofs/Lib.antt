@@ -5,3 +5,4 @@ pub mod GroupLaws
 pub mod Loops
 pub mod SnapshotLaws
 pub mod SnapshotShapes
+pub mod VersionLaws

@@ -1,11 +1,14 @@
 -- Commands as bytes: client, its number for the request, operation, length of the name and the name, then
 -- length of the value and the value, or the new owner.
-use Rattle.std.specs.Prelude.{ℕ, ◌<◌, ◌^◌, ◌&&◌, ◌==◌, nat_le, if◌then◌else◌, List, ◌++◌, length, Ok}
+use Rattle.std.specs.Prelude.{ℕ, ◌<◌, ◌≤◌, ◌^◌, ◌&&◌, ◌==◌, nat_le, if◌then◌else◌, List, ◌++◌, length, Ok}
 use Rattle.rr_types.specs.declared.command.Op.{Op}
 use Rattle.rr_types.specs.declared.command.Op.TheVariants.{Claim, Update, Release, Transfer}
 use Rattle.rr_types.specs.declared.command.Command.{Command}
-use Rattle.rr_types.specs.Names.{IsName, IsValue, is_name_byte, is_value_byte}
+use Rattle.rr_types.specs.Names.{IsValue, is_name_byte, is_value_byte}
 use Rattle.rr_frame.specs.Numbers.{number_bytes}
+use Rattle.rr_frame.specs.declared.version.Version.{Version}
+use Rattle.rr_frame.specs.declared.version.Version.TheVariants.{Two}
+use Rattle.rr_frame.specs.Versions.{longest_name, operations, IsNameIn}
 use Rattle.rr_frame.specs.Reading.{Reading, ◌>>=◌, if_lawful, number_at, text_at}
 
 -- a name or a value: one byte of length, and that many bytes
@@ -23,24 +26,31 @@ op_bytes (Transfer name owner) = number_bytes 1 4 ++ (text_bytes name ++ number_
 unfoldable pub command_bytes : Command → List ℕ
 command_bytes c = number_bytes 4 c.request.client ++ (number_bytes 8 c.request.seq ++ op_bytes c.op)
 
--- an operation that has a spelling
-abbrev pub IsLawfulOp : Op → Type 0
-IsLawfulOp (Claim name value) = IsName name × IsValue value
-IsLawfulOp (Update name value) = IsName name × IsValue value
-IsLawfulOp (Release name) = IsName name
-IsLawfulOp (Transfer name owner) = IsName name × (owner < 2 ^ 32)
+-- an operation that has a spelling in a version
+abbrev pub IsLawfulOpIn : Version → Op → Type 0
+IsLawfulOpIn version (Claim name value) = IsNameIn version name × IsValue value
+IsLawfulOpIn version (Update name value) = IsNameIn version name × IsValue value
+IsLawfulOpIn version (Release name) = IsNameIn version name
+IsLawfulOpIn version (Transfer name owner) = IsNameIn version name × (owner < 2 ^ 32) × (4 ≤ operations version)
 
--- a command that has a spelling
-pub record IsLawfulCommand (c : Command) : Type 0 where
+-- a command that has a spelling in a version
+pub record IsLawfulCommandIn (version : Version) (c : Command) : Type 0 where
   pub client : c.request.client < 2 ^ 32
   pub seq : c.request.seq < 2 ^ 64
-  pub op : IsLawfulOp c.op
+  pub op : IsLawfulOpIn version c.op
+
+-- the same in version 2, which is written
+abbrev pub IsLawfulOp : Op → Type 0
+IsLawfulOp op = IsLawfulOpIn Two op
+
+abbrev pub IsLawfulCommand : Command → Type 0
+IsLawfulCommand c = IsLawfulCommandIn Two c
 
 -- a name at the front
-unfoldable pub name_at : List ℕ → Reading (List ℕ)
-name_at bytes = do
+unfoldable pub name_at : Version → List ℕ → Reading (List ℕ)
+name_at version bytes = do
   count ← number_at 1 bytes
-  count ← if_lawful (nat_le 1 count.0 && nat_le count.0 64) bytes count
+  count ← if_lawful (nat_le 1 count.0 && nat_le count.0 (longest_name version)) bytes count
   text_at is_name_byte count.0 count.1
 
 -- a value at the front
@@ -59,17 +69,17 @@ op_with kind name bytes =
     else (number_at 4 bytes >>= λ (o : ℕ × List ℕ). Ok (Transfer name o.0, o.1))))
 
 -- an operation at the front
-unfoldable pub op_at : List ℕ → Reading Op
-op_at bytes = do
+unfoldable pub op_at : Version → List ℕ → Reading Op
+op_at version bytes = do
   kind ← number_at 1 bytes
-  kind ← if_lawful (nat_le 1 kind.0 && nat_le kind.0 4) bytes kind
-  name ← name_at kind.1
+  kind ← if_lawful (nat_le 1 kind.0 && nat_le kind.0 (operations version)) bytes kind
+  name ← name_at version kind.1
   op_with kind.0 name.0 name.1
 
 -- a command at the front
-unfoldable pub command_at : List ℕ → Reading Command
-command_at bytes = do
+unfoldable pub command_at : Version → List ℕ → Reading Command
+command_at version bytes = do
   client ← number_at 4 bytes
   seq ← number_at 8 client.1
-  op ← op_at seq.1
+  op ← op_at version seq.1
   Ok (record { request = record { client = client.0; seq = seq.0 }; op = op.0 }, op.1)

@@ -1,6 +1,7 @@
 pub mod Numbers
 pub mod Reading
 pub mod Refused
+pub mod Versions
 pub mod CommandFormat
 pub mod FactFormat
 pub mod GroupFormat

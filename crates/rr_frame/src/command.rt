@@ -8,16 +8,17 @@ ghost use Rattle.rr_frame.specs.CommandFormat.{text_bytes, op_bytes, command_byt
 use crate::number::{put_u8, put_u32, put_u64};
 use crate::reader::Reader;
 use crate::stop::Fault;
-use rr_types::{Command, MAX_NAME, MAX_VALUE, Name, Op, RequestNo, Value};
+use crate::version::Version;
+use rr_types::{Command, MAX_VALUE, Name, Op, RequestNo, Value};
 use std::alloc::AllocError;
 
 #[tactic(auto, unfolding(crate::specs::CommandFormat::name_at, crate::specs::Reading::text_at))]
-fn read_name(reader: &mut Reader<'_>) -> Result<Name, Fault>
-    ensures { Gives result reader.new (name_at reader.old) }
+fn read_name(version: Version, reader: &mut Reader<'_>) -> Result<Name, Fault>
+    ensures { Gives result reader.new (name_at version reader.old) }
 {
     let here = reader.fault();
     let count = reader.u8()? as usize;
-    if count == 0 || count > MAX_NAME {
+    if count == 0 || count > version.longest_name() {
         return Err(here);
     }
     let here = reader.fault();
@@ -67,26 +68,26 @@ fn read_op_with(kind: u8, name: Name, reader: &mut Reader<'_>) -> Result<Op, Fau
 }
 
 #[tactic(auto, unfolding(crate::specs::CommandFormat::op_at))]
-fn read_op(reader: &mut Reader<'_>) -> Result<Op, Fault>
-    ensures { Gives result reader.new (op_at reader.old) }
+fn read_op(version: Version, reader: &mut Reader<'_>) -> Result<Op, Fault>
+    ensures { Gives result reader.new (op_at version reader.old) }
 {
     let here = reader.fault();
     let kind = reader.u8()?;
-    if kind == 0 || kind > 4 {
+    if kind == 0 || kind > version.operations() {
         return Err(here);
     }
-    let name = read_name(reader)?;
+    let name = read_name(version, reader)?;
     read_op_with(kind, name, reader)
 }
 
-/// Reads a command. A fault is the first field that is cut short or holds no lawful value.
+/// Reads a command of a version. A fault is the first field that is cut short or holds no lawful value.
 #[tactic(auto, unfolding(crate::specs::CommandFormat::command_at))]
-pub fn read_command(reader: &mut Reader<'_>) -> Result<Command, Fault>
-    ensures { Gives result reader.new (command_at reader.old) }
+pub fn read_command(version: Version, reader: &mut Reader<'_>) -> Result<Command, Fault>
+    ensures { Gives result reader.new (command_at version reader.old) }
 {
     let client = reader.u32()?;
     let seq = reader.u64()?;
-    let op = read_op(reader)?;
+    let op = read_op(version, reader)?;
     let request = RequestNo { client, seq };
     Ok(Command { request, op })
 }

@@ -5,33 +5,39 @@ ghost use Rattle.std.specs.List.{flat_map, AllByRecursion};
 ghost use Rattle.rr_types.specs.Groups.{Grouped};
 ghost use Rattle.rr_frame.specs.Reading.{Reads, Decodes};
 ghost use Rattle.rr_frame.specs.FactFormat.{fact_bytes, IsLawfulFact};
-ghost use Rattle.rr_frame.specs.GroupFormat.{group_bytes, IsLawfulGroup, facts_at, group_at, group_in};
+ghost use Rattle.rr_frame.specs.GroupFormat.{group_bytes, IsLawfulGroup, IsLawfulGroupIn, facts_at, group_at, group_in};
 
 use crate::fact::{put_fact, read_fact};
 use crate::number::{put_u16, put_u64};
 use crate::reader::Reader;
 use crate::stop::Stop;
+use crate::version::Version;
 use rr_types::{Command, Fact, GROUP, Group, Op, Refusal};
 use std::alloc::{AllocError, Global};
 
-fn read_facts(alloc: Global, count: u16, reader: &mut Reader<'_>) -> Result<Vec<Fact>, Stop>
-    ensures read { Reads (λ v. v.items) result reader.new (facts_at count reader.old) }
+fn read_facts(
+    alloc: Global,
+    version: Version,
+    count: u16,
+    reader: &mut Reader<'_>,
+) -> Result<Vec<Fact>, Stop>
+    ensures read { Reads (λ v. v.items) result reader.new (facts_at version count reader.old) }
     ensures count { IfOk result (λ v. length v.items ≡ count) }
 {
     // The check learns what a fact is made of from the types of a function's variables.
     let _parts: Option<(Command, Op)> = None;
     let mut facts = Vec::new(alloc);
     for _ in 0..count {
-        let fact = read_fact(reader)?;
+        let fact = read_fact(version, reader)?;
         facts.push(fact)?;
     }
     Ok(facts)
 }
 
-/// Reads a group. A fault is the first field that is cut short or holds no lawful value.
+/// Reads a group of a version. A fault is the first field that is cut short or holds no lawful value.
 #[tactic(auto, unfolding(crate::specs::GroupFormat::group_at))]
-pub fn read_group(alloc: Global, reader: &mut Reader<'_>) -> Result<Group, Stop>
-    ensures { Reads (λ g. g) result reader.new (group_at reader.old) }
+pub fn read_group(alloc: Global, version: Version, reader: &mut Reader<'_>) -> Result<Group, Stop>
+    ensures { Reads (λ g. g) result reader.new (group_at version reader.old) }
 {
     let serial = reader.u64()?;
     let here = reader.fault();
@@ -39,7 +45,7 @@ pub fn read_group(alloc: Global, reader: &mut Reader<'_>) -> Result<Group, Stop>
     if count == 0 || usize::from(count) > GROUP || serial > u64::MAX - u64::from(count) {
         return Err(Stop::Malformed(here));
     }
-    let facts = read_facts(alloc, count, reader)?;
+    let facts = read_facts(alloc, version, count, reader)?;
     match Group::new(serial, facts) {
         Ok(group) => Ok(group),
         Err(_) => Err(Stop::Malformed(here)),
@@ -68,7 +74,7 @@ fn put_group(out: &mut Vec<u8>, group: &Group) -> Result<(), AllocError>
     Ok(())
 }
 
-/// The one spelling of a group.
+/// The one spelling of a group, in version 2.
 pub fn encode_group(alloc: Global, group: &Group) -> Result<Vec<u8>, Refusal>
     ensures ok { IfOk result (λ v. v.items ≡ group_bytes group.now) }
     ensures lawful { OnOk result (IsLawfulGroup group.now) }
@@ -82,26 +88,26 @@ pub fn encode_group(alloc: Global, group: &Group) -> Result<Vec<u8>, Refusal>
 }
 
 #[tactic(auto, unfolding(crate::specs::GroupFormat::group_in))]
-fn read_whole(alloc: Global, bytes: &[u8]) -> Result<Group, Refusal>
-    ensures { Decodes result (group_in bytes.now) }
+fn read_whole(alloc: Global, version: Version, bytes: &[u8]) -> Result<Group, Refusal>
+    ensures { Decodes result (group_in version bytes.now) }
 {
     let mut reader = Reader::new(bytes);
-    match read_group(alloc, &mut reader) {
+    match read_group(alloc, version, &mut reader) {
         Err(stop) => Err(stop.refusal(bytes.len())),
         Ok(_) if reader.left() > 0 => Err(reader.fault().refusal(bytes.len())),
         Ok(group) => Ok(group),
     }
 }
 
-/// The group that all these bytes spell. Other bytes are `Malformed` at the first byte of the first field
+/// The group that all these bytes spell in a version. Other bytes are `Malformed` at the first byte of the first field
 /// that is cut short or holds no lawful value, or at the first byte behind the group.
-pub fn decode_group(alloc: Global, bytes: &[u8]) -> Result<Group, Refusal>
+pub fn decode_group(alloc: Global, version: Version, bytes: &[u8]) -> Result<Group, Refusal>
     // What is read is spelled so.
-    ensures found { IfOk result (λ g. IsLawfulGroup g × (bytes.now ≡ group_bytes g)) }
+    ensures found { IfOk result (λ g. IsLawfulGroupIn version g × (bytes.now ≡ group_bytes g)) }
     // What is spelled so is read, unless memory runs out.
-    ensures only { (g : Grouped) → IsLawfulGroup g → bytes.now ≡ group_bytes g → Decodes result (Ok g) }
+    ensures only { (g : Grouped) → IsLawfulGroupIn version g → bytes.now ≡ group_bytes g → Decodes result (Ok g) }
     // Which answer it is, unless memory runs out.
-    ensures exact { Decodes result (group_in bytes.now) }
+    ensures exact { Decodes result (group_in version bytes.now) }
 {
-    read_whole(alloc, bytes)
+    read_whole(alloc, version, bytes)
 }

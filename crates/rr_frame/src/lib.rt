@@ -1,7 +1,8 @@
-//! The bytes on a disk: commands, facts, groups and snapshots, each with one spelling.
+//! The bytes on a disk: commands, facts, groups and snapshots, each with one spelling in a version.
 //!
-//! Numbers are big-endian. A decoder answers with a value exactly where the bytes are its spelling, and
-//! otherwise with the offset of the first field that is cut short or holds no lawful value.
+//! Numbers are big-endian. Bytes of versions 1 and 2 are read, and version 2 is written. A decoder answers with a
+//! value exactly where the bytes are its spelling in the version, and otherwise with the offset of the first field
+//! that is cut short or holds no lawful value.
 #![tactic(auto)]
 
 mod command;
@@ -11,6 +12,7 @@ mod number;
 mod reader;
 mod snapshot;
 mod stop;
+mod version;
 
 pub use command::{put_command, read_command};
 pub use fact::{decode_fact, encode_fact, put_estimate, put_fact, read_estimate, read_fact};
@@ -19,3 +21,4 @@ pub use number::{put_u8, put_u16, put_u32, put_u64};
 pub use reader::Reader;
 pub use snapshot::{Snapshot, decode_snapshot, encode_snapshot, read_snapshot};
 pub use stop::{Fault, Stop};
+pub use version::{Version, read_version};

@@ -5,6 +5,7 @@ ghost use Rattle.rr_frame.specs.Reading.{Gives, number_at};
 ghost use Rattle.rr_frame.specs.FactFormat.{instance_at, round_at};
 
 use crate::stop::Fault;
+use crate::version::Version;
 use byteorder::{BigEndian, ByteOrder};
 use rr_types::{Instance, Round};
 use std::marker::Model;
@@ -114,13 +115,16 @@ impl<'a> Reader<'a> {
         Ok(BigEndian::read_u64(rest))
     }
 
-    /// An instance.
+    /// An instance of a version.
     #[tactic(auto, unfolding(crate::specs::FactFormat::instance_at))]
-    pub fn instance(&mut self) -> Result<Instance, Fault>
-        ensures { Gives result self.new (instance_at self.old) }
+    pub fn instance(&mut self, version: Version) -> Result<Instance, Fault>
+        ensures { Gives result self.new (instance_at version self.old) }
     {
         let here = self.fault();
         let number = self.u32()?;
+        if number >= version.instances() {
+            return Err(here);
+        }
         Instance::new(number).ok_or(here)
     }
 

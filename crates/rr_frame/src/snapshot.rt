@@ -4,24 +4,23 @@ ghost use Rattle.std.specs.Prelude.{◌≡◌, ℕ, ◌==◌, ◌++◌, ◌<◌,
 ghost use Rattle.std.specs.List.{flat_map, list_all, AllByRecursion};
 ghost use Rattle.rr_types.specs.declared.promise.Entry.{Entry};
 ghost use Rattle.rr_types.specs.Rounds.{coordinator_of};
+ghost use Rattle.rr_frame.specs.declared.version.Version.{Version as Versioned};
 ghost use Rattle.rr_frame.specs.Snapshots.{Snapped, IsSnapshot, IsContents, proposes_lawfully};
 ghost use Rattle.rr_frame.specs.CommandFormat.{IsLawfulCommand};
 ghost use Rattle.rr_frame.specs.Reading.{Gives, Reads, Decodes};
-ghost use Rattle.rr_frame.specs.SnapshotFormat.{proposal_bytes, open_bytes, standing_bytes, entry_bytes, contents_bytes, snapshot_bytes, IsLawfulOpen, IsSpellable, IsLawfulSnapshot, proposal_at, open_at, standing_at, entry_at, entries_at, owner_at, contents_at, snapshot_at, snapshot_in};
+ghost use Rattle.rr_frame.specs.SnapshotFormat.{proposal_bytes, open_bytes, standing_bytes, entry_bytes, contents_bytes, snapshot_bytes, snapshot_bytes_in, IsLawfulOpen, IsSpellable, IsLawfulSnapshot, IsLawfulSnapshotIn, proposal_at, open_at, standing_at, entry_at, entries_at, owner_at, contents_at, snapshot_at, snapshot_in};
 
 use crate::command::{put_command, read_command};
 use crate::number::{put_u8, put_u32, put_u64};
 use crate::reader::Reader;
 use crate::stop::{Fault, Stop};
+use crate::version::{Version, read_version};
 use rr_types::{
     Command, Entry, Instance, NodeId, Nodes, Op, OpenStanding, Promise, Refusal, Standing,
     coordinator,
 };
 use std::alloc::{AllocError, Global};
 use std::marker::Model;
-
-/// The version of a snapshot's bytes.
-const VERSION: u8 = 2;
 
 /// A snapshot: the promise of a node's facts so far, the number of its next fact, and the epoch, from 1,
 /// of the area that begins with it. A node has a proposal only in a round that it coordinates, and before
@@ -157,8 +156,12 @@ impl Snapshot {
 }
 
 #[tactic(auto, unfolding(crate::specs::SnapshotFormat::proposal_at))]
-fn read_proposal(may_stand: bool, reader: &mut Reader<'_>) -> Result<Option<Command>, Fault>
-    ensures { Gives result reader.new (proposal_at may_stand reader.old) }
+fn read_proposal(
+    version: Version,
+    may_stand: bool,
+    reader: &mut Reader<'_>,
+) -> Result<Option<Command>, Fault>
+    ensures { Gives result reader.new (proposal_at version may_stand reader.old) }
 {
     let _parts: Option<Op> = None;
     let here = reader.fault();
@@ -169,13 +172,18 @@ fn read_proposal(may_stand: bool, reader: &mut Reader<'_>) -> Result<Option<Comm
     if flag > 1 || !may_stand {
         return Err(here);
     }
-    let command = read_command(reader)?;
+    let command = read_command(version, reader)?;
     Ok(Some(command))
 }
 
 #[tactic(auto, unfolding(crate::specs::SnapshotFormat::open_at))]
-fn read_open(nodes: Nodes, node: NodeId, reader: &mut Reader<'_>) -> Result<OpenStanding, Fault>
-    ensures { Gives result reader.new (open_at nodes node reader.old) }
+fn read_open(
+    version: Version,
+    nodes: Nodes,
+    node: NodeId,
+    reader: &mut Reader<'_>,
+) -> Result<OpenStanding, Fault>
+    ensures { Gives result reader.new (open_at version nodes node reader.old) }
 {
     let _parts: Option<Op> = None;
     let round = reader.round()?;
@@ -184,9 +192,9 @@ fn read_open(nodes: Nodes, node: NodeId, reader: &mut Reader<'_>) -> Result<Open
     if stamp > round.number() {
         return Err(here);
     }
-    let estimate = read_command(reader)?;
+    let estimate = read_command(version, reader)?;
     let coordinates = coordinator(round, nodes).index() == node.index();
-    let proposal = read_proposal(coordinates, reader)?;
+    let proposal = read_proposal(version, coordinates, reader)?;
     match OpenStanding::new(round, stamp, estimate, proposal) {
         Some(open) => Ok(open),
         None => Err(here),
@@ -194,19 +202,24 @@ fn read_open(nodes: Nodes, node: NodeId, reader: &mut Reader<'_>) -> Result<Open
 }
 
 #[tactic(auto, unfolding(crate::specs::SnapshotFormat::standing_at))]
-fn read_standing(nodes: Nodes, node: NodeId, reader: &mut Reader<'_>) -> Result<Standing, Fault>
-    ensures { Gives result reader.new (standing_at nodes node reader.old) }
+fn read_standing(
+    version: Version,
+    nodes: Nodes,
+    node: NodeId,
+    reader: &mut Reader<'_>,
+) -> Result<Standing, Fault>
+    ensures { Gives result reader.new (standing_at version nodes node reader.old) }
 {
     let _parts: Option<(Command, Op)> = None;
     let here = reader.fault();
     let kind = reader.u8()?;
     match kind {
         1 => {
-            let command = read_command(reader)?;
+            let command = read_command(version, reader)?;
             Ok(Standing::Decided(command))
         }
         2 => {
-            let open = read_open(nodes, node, reader)?;
+            let open = read_open(version, nodes, node, reader)?;
             Ok(Standing::Open(open))
         }
         _ => Err(here),
@@ -214,18 +227,24 @@ fn read_standing(nodes: Nodes, node: NodeId, reader: &mut Reader<'_>) -> Result<
 }
 
 #[tactic(auto, unfolding(crate::specs::SnapshotFormat::entry_at))]
-fn read_entry(nodes: Nodes, node: NodeId, low: u32, reader: &mut Reader<'_>) -> Result<Entry, Fault>
-    ensures { Gives result reader.new (entry_at nodes node low reader.old) }
+fn read_entry(
+    version: Version,
+    nodes: Nodes,
+    node: NodeId,
+    low: u32,
+    reader: &mut Reader<'_>,
+) -> Result<Entry, Fault>
+    ensures { Gives result reader.new (entry_at version nodes node low reader.old) }
 {
     let _parts: Option<(Command, Op)> = None;
     let here = reader.fault();
     let number = reader.u32()?;
-    if number < low {
+    if number < low || number >= version.instances() {
         return Err(here);
     }
     match Instance::new(number) {
         Some(instance) => {
-            let standing = read_standing(nodes, node, reader)?;
+            let standing = read_standing(version, nodes, node, reader)?;
             Ok(Entry { instance, standing })
         }
         None => Err(here),
@@ -234,18 +253,19 @@ fn read_entry(nodes: Nodes, node: NodeId, low: u32, reader: &mut Reader<'_>) -> 
 
 fn read_entries(
     alloc: Global,
+    version: Version,
     nodes: Nodes,
     node: NodeId,
     count: u32,
     reader: &mut Reader<'_>,
 ) -> Result<Vec<Entry>, Stop>
-    ensures { Reads (λ v. v.items) result reader.new (entries_at nodes node 0 count reader.old) }
+    ensures { Reads (λ v. v.items) result reader.new (entries_at version nodes node 0 count reader.old) }
 {
     let _parts: Option<(Command, Op, Standing)> = None;
     let mut entries = Vec::new(alloc);
     let mut low = 0;
     for _ in 0..count {
-        let entry = read_entry(nodes, node, low, reader)?;
+        let entry = read_entry(version, nodes, node, low, reader)?;
         low = entry.instance.number() + 1;
         entries.push(entry)?;
     }
@@ -253,15 +273,11 @@ fn read_entries(
 }
 
 #[tactic(auto, unfolding(crate::specs::SnapshotFormat::owner_at))]
-fn read_owner(reader: &mut Reader<'_>) -> Result<(NodeId, Nodes), Fault>
+fn read_owner(reader: &mut Reader<'_>) -> Result<(Version, NodeId, Nodes), Fault>
     ensures read { Gives result reader.new (owner_at reader.old) }
-    ensures exists { IfOk result (λ x. x.0 < x.1) }
+    ensures exists { IfOk result (λ x. x.1 < x.2) }
 {
-    let here = reader.fault();
-    let version = reader.u8()?;
-    if version != VERSION {
-        return Err(here);
-    }
+    let version = read_version(reader)?;
     let here = reader.fault();
     let index = reader.u8()?;
     let Some(node) = NodeId::at(index) else {
@@ -273,7 +289,7 @@ fn read_owner(reader: &mut Reader<'_>) -> Result<(NodeId, Nodes), Fault>
         return Err(here);
     }
     match Nodes::new(count) {
-        Ok(nodes) => Ok((node, nodes)),
+        Ok(nodes) => Ok((version, node, nodes)),
         Err(_) => Err(here),
     }
 }
@@ -281,24 +297,26 @@ fn read_owner(reader: &mut Reader<'_>) -> Result<(NodeId, Nodes), Fault>
 /// The next fact number and the entries.
 fn read_contents(
     alloc: Global,
+    version: Version,
     nodes: Nodes,
     node: NodeId,
     reader: &mut Reader<'_>,
 ) -> Result<(u64, Vec<Entry>), Stop>
-    ensures read { Reads (λ x. (x.0, x.1.items)) result reader.new (contents_at nodes node reader.old) }
+    ensures read { Reads (λ x. (x.0, x.1.items)) result reader.new (contents_at version nodes node reader.old) }
     ensures lawful { IfOk result (λ x. IsContents nodes node x.0 x.1.items) }
 {
-    read_next_and_entries(alloc, nodes, node, reader)
+    read_next_and_entries(alloc, version, nodes, node, reader)
 }
 
 #[tactic(auto, unfolding(crate::specs::SnapshotFormat::contents_at))]
 fn read_next_and_entries(
     alloc: Global,
+    version: Version,
     nodes: Nodes,
     node: NodeId,
     reader: &mut Reader<'_>,
 ) -> Result<(u64, Vec<Entry>), Stop>
-    ensures { Reads (λ x. (x.0, x.1.items)) result reader.new (contents_at nodes node reader.old) }
+    ensures { Reads (λ x. (x.0, x.1.items)) result reader.new (contents_at version nodes node reader.old) }
 {
     let next = reader.u64()?;
     let here = reader.fault();
@@ -306,31 +324,37 @@ fn read_next_and_entries(
     if count > 0 && next == 0 {
         return Err(Stop::Malformed(here));
     }
-    match read_entries(alloc, nodes, node, count, reader) {
+    match read_entries(alloc, version, nodes, node, count, reader) {
         Ok(entries) => Ok((next, entries)),
         Err(stop) => Err(stop),
     }
 }
 
-/// Reads a snapshot. A fault is the first field that is cut short or holds no lawful value.
+/// Reads a snapshot, and the version that it is spelled in. A fault is the first field that is cut short or holds no lawful value.
 #[tactic(auto, unfolding(crate::specs::SnapshotFormat::snapshot_at))]
-pub fn read_snapshot(alloc: Global, reader: &mut Reader<'_>) -> Result<Snapshot, Stop>
-    ensures { Reads (λ s. s) result reader.new (snapshot_at reader.old) }
+pub fn read_snapshot(alloc: Global, reader: &mut Reader<'_>) -> Result<(Version, Snapshot), Stop>
+    ensures { Reads (λ x. x) result reader.new (snapshot_at reader.old) }
 {
-    let (node, nodes) = read_owner(reader)?;
+    let (version, node, nodes) = read_owner(reader)?;
     let here = reader.fault();
     let epoch = reader.u64()?;
     if epoch == 0 {
         return Err(Stop::Malformed(here));
     }
-    match read_contents(alloc, nodes, node, reader) {
-        Ok((next, entries)) => Ok(Snapshot {
-            nodes,
-            node,
-            epoch,
-            next,
-            promise: Promise::new(entries),
-        }),
+    match read_contents(alloc, version, nodes, node, reader) {
+        Ok((next, entries)) => {
+            let promise = Promise::new(entries);
+            Ok((
+                version,
+                Snapshot {
+                    nodes,
+                    node,
+                    epoch,
+                    next,
+                    promise,
+                },
+            ))
+        }
         Err(stop) => Err(stop),
     }
 }
@@ -406,14 +430,14 @@ fn put_contents(out: &mut Vec<u8>, next: u64, entries: &[Entry]) -> Result<(), A
     Ok(())
 }
 
-#[tactic(auto, unfolding(crate::specs::SnapshotFormat::owner_bytes, crate::specs::SnapshotFormat::snapshot_bytes))]
+#[tactic(auto, unfolding(crate::specs::SnapshotFormat::owner_bytes, crate::specs::SnapshotFormat::snapshot_bytes_in))]
 fn put_snapshot(out: &mut Vec<u8>, snapshot: &Snapshot) -> Result<(), AllocError>
     requires { length snapshot.now.entries < 2 ^ 32 }
     ensures ok { OnOk result (out.new.items ≡ out.old.items ++ snapshot_bytes snapshot.now) }
     ensures lawful { OnOk result (IsLawfulSnapshot snapshot.now) }
 {
     let entries = snapshot.promise.entries();
-    put_u8(out, VERSION)?;
+    put_u8(out, Version::Two.number())?;
     put_u8(out, snapshot.node.index())?;
     put_u8(out, snapshot.nodes.count())?;
     put_u64(out, snapshot.epoch)?;
@@ -421,7 +445,7 @@ fn put_snapshot(out: &mut Vec<u8>, snapshot: &Snapshot) -> Result<(), AllocError
     Ok(())
 }
 
-/// The one spelling of a snapshot. It is `TooLarge` where the number of its entries has no four bytes.
+/// The one spelling of a snapshot, in version 2. It is `TooLarge` where the number of its entries has no four bytes.
 pub fn encode_snapshot(alloc: Global, snapshot: &Snapshot) -> Result<Vec<u8>, Refusal>
     ensures ok { IfOk result (λ v. v.items ≡ snapshot_bytes snapshot.now) }
     ensures lawful { OnOk result (IsLawfulSnapshot snapshot.now) }
@@ -438,7 +462,7 @@ pub fn encode_snapshot(alloc: Global, snapshot: &Snapshot) -> Result<Vec<u8>, Re
 }
 
 #[tactic(auto, unfolding(crate::specs::SnapshotFormat::snapshot_in))]
-fn read_whole(alloc: Global, bytes: &[u8]) -> Result<Snapshot, Refusal>
+fn read_whole(alloc: Global, bytes: &[u8]) -> Result<(Version, Snapshot), Refusal>
     ensures { Decodes result (snapshot_in bytes.now) }
 {
     let mut reader = Reader::new(bytes);
@@ -449,13 +473,13 @@ fn read_whole(alloc: Global, bytes: &[u8]) -> Result<Snapshot, Refusal>
     }
 }
 
-/// The snapshot that all these bytes spell. Other bytes are `Malformed` at the first byte of the first
+/// The snapshot that all these bytes spell, and the version in which they do. Other bytes are `Malformed` at the first byte of the first
 /// field that is cut short or holds no lawful value, or at the first byte behind the snapshot.
-pub fn decode_snapshot(alloc: Global, bytes: &[u8]) -> Result<Snapshot, Refusal>
+pub fn decode_snapshot(alloc: Global, bytes: &[u8]) -> Result<(Version, Snapshot), Refusal>
     // What is read is spelled so.
-    ensures found { IfOk result (λ s. IsLawfulSnapshot s × (bytes.now ≡ snapshot_bytes s)) }
+    ensures found { IfOk result (λ x. IsLawfulSnapshotIn x.0 x.1 × (bytes.now ≡ snapshot_bytes_in x.0 x.1)) }
     // What is spelled so is read, unless memory runs out.
-    ensures only { (s : Snapped) → IsLawfulSnapshot s → bytes.now ≡ snapshot_bytes s → Decodes result (Ok s) }
+    ensures only { (version : Versioned) (s : Snapped) → IsLawfulSnapshotIn version s → bytes.now ≡ snapshot_bytes_in version s → Decodes result (Ok (version, s)) }
     // Which answer it is, unless memory runs out.
     ensures exact { Decodes result (snapshot_in bytes.now) }
 {

@@ -2,6 +2,7 @@
 use Rattle.std.proofs.Common.{◌≡◌, ℕ, suc, ◌+◌, ◌^◌, ◌<◌, true, false, leb, ltb, List, ◌∷◌, ◌++◌, length, drop, Some, Ok, refl, sym, ap, ◌∙◌, arith}
 use Rattle.std.proofs.lemmas.Bool.{lt-ltb, le-leb, le-ltb}
 use Rattle.std.proofs.lemmas.List.{take_at, drop_at, length-append}
+use Rattle.rr_frame.specs.declared.version.Version.TheVariants.{Two}
 use Rattle.rr_frame.specs.Numbers.{number_bytes, number_in}
 use Rattle.rr_frame.specs.Reading.{number_at}
 use Rattle.rr_frame.specs.Snapshots.{Snapped}
@@ -35,16 +36,16 @@ frame_again payload rest lt some =
 -- an area behind whose open gate stands a snapshot, with a closed gate behind it
 pub begun : (s : Snapped) (gate : ℕ) (junk : List ℕ) → IsLawfulSnapshot s → length (snapshot_bytes s) < 2 ^ 32
     → front_of s.nodes s.node (165 ∷ (number_bytes 4 (length (snapshot_bytes s)) ++ (snapshot_bytes s ++ (gate ∷ junk))))
-    ≡ Begins (record { epoch = s.epoch; promise = s.entries; next = s.next; gate = 5 + length (snapshot_bytes s) }) (gate ∷ junk)
+    ≡ Begins Two (record { epoch = s.epoch; promise = s.entries; next = s.next; gate = 5 + length (snapshot_bytes s) }) (gate ∷ junk)
 begun s gate junk lawful lt =
     let payload : List ℕ = snapshot_bytes s in
     let tail : List ℕ = number_bytes 4 (length (snapshot_bytes s)) ++ (snapshot_bytes s ++ (gate ∷ junk)) in
     let c : Content = record { epoch = s.epoch; promise = s.entries; next = s.next; gate = 5 + length (snapshot_bytes s) } in
     let frame : frame_behind (number_bytes 4 (length (snapshot_bytes s)) ++ (snapshot_bytes s ++ (gate ∷ junk))) ≡ Some (snapshot_bytes s, gate ∷ junk) = frame_again (snapshot_bytes s) (gate ∷ junk) lt (omega arith) in
     let size : length (number_bytes 4 (length (snapshot_bytes s)) ++ (snapshot_bytes s ++ (gate ∷ junk))) ≡ 4 + (length (snapshot_bytes s) + suc (length junk)) = omega (arith, length-number_bytes 4 (length (snapshot_bytes s)), length-append (number_bytes 4 (length (snapshot_bytes s))) (snapshot_bytes s ++ (gate ∷ junk)), length-append (snapshot_bytes s) (gate ∷ junk)) in
-    let both = front_begins s.nodes s.node (165 ∷ tail) (snapshot_bytes s) (gate ∷ junk) s c (omega (arith, size)) refl frame (omega (arith, size)) (snapshot_spelt s lawful) refl refl refl in
+    let both = front_begins s.nodes s.node (165 ∷ tail) (snapshot_bytes s) (gate ∷ junk) Two s c (omega (arith, size)) refl frame (omega (arith, size)) (snapshot_spelt Two s lawful) refl refl refl in
     let behind = frame_rest_is (snapshot_bytes s) (gate ∷ junk) tail frame in
-    both.1 ∙ ap (λ (b : List ℕ). Begins c b) (sym behind)
+    both.1 ∙ ap (λ (b : List ℕ). Begins Two c b) (sym behind)
   where
     frame_rest_is : (payload rest tail : List ℕ) → frame_behind tail ≡ Some (payload, rest) → rest ≡ drop (5 + length payload) (165 ∷ tail)
     frame_rest_is payload rest tail e =

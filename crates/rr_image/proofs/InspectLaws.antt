@@ -7,6 +7,7 @@ use Rattle.rr_types.specs.declared.refusal.Refusal.TheVariants.{OutOfMemory, Dev
 use Rattle.rr_disk.specs.declared.area.Area.{Area}
 use Rattle.rr_disk.specs.declared.area.Area.TheVariants.{First, Second}
 use Rattle.rr_disk.specs.Areas.{Areas, extent_of, bytes_of, read_of}
+use Rattle.rr_frame.specs.declared.version.Version.{Version}
 use Rattle.rr_frame.specs.Snapshots.{Snapped}
 use Rattle.rr_frame.specs.SnapshotFormat.{snapshot_in}
 use Rattle.rr_image.specs.Image.{Content, Begins, frame_behind, front_of}
@@ -19,14 +20,14 @@ abbrev nobody : Owner
 nobody = record { nodes = 0; node = 0 }
 
 -- behind an open gate stands a snapshot: it names the owner, and its content begins
-pub own_begins : (bytes payload rest : List ℕ) (s : Snapped) (c : Content) (n p : ℕ) → n ≡ s.nodes → p ≡ s.node → 2 ≤ length bytes → get_or bytes 0 0 ≡ 165 → frame_behind (drop 1 bytes) ≡ Some (payload, rest)
-    → 4 + length payload + length rest ≡ length (drop 1 bytes) → snapshot_in payload ≡ Ok s → c ≡ record { epoch = s.epoch; promise = s.entries; next = s.next; gate = 5 + length payload }
-    → (c.gate ≤ length bytes) × (own_front bytes ≡ Begins c (drop c.gate bytes)) × (owner_of bytes ≡ record { nodes = n; node = p })
-own_begins bytes payload rest s c n p n_is p_is two open_gate frame parts spelt is =
+pub own_begins : (bytes payload rest : List ℕ) (version : Version) (s : Snapped) (c : Content) (n p : ℕ) → n ≡ s.nodes → p ≡ s.node → 2 ≤ length bytes → get_or bytes 0 0 ≡ 165 → frame_behind (drop 1 bytes) ≡ Some (payload, rest)
+    → 4 + length payload + length rest ≡ length (drop 1 bytes) → snapshot_in payload ≡ Ok (version, s) → c ≡ record { epoch = s.epoch; promise = s.entries; next = s.next; gate = 5 + length payload }
+    → (c.gate ≤ length bytes) × (own_front bytes ≡ Begins version c (drop c.gate bytes)) × (owner_of bytes ≡ record { nodes = n; node = p })
+own_begins bytes payload rest version s c n p n_is p_is two open_gate frame parts spelt is =
     let owner : owner_of bytes ≡ record { nodes = s.nodes; node = s.node } =
     ap (λ (o : Option (List ℕ × List ℕ)). elim o [ None ↦ nobody | Some x ↦ owner_in x.0 ]) frame
-    ∙ ap (λ (r : Result Snapped ℕ). elim r [ Err offset ↦ nobody | Ok t ↦ record { nodes = t.nodes; node = t.node } ]) spelt in
-    let both = front_begins s.nodes s.node bytes payload rest s c two open_gate frame parts spelt refl refl is in
+    ∙ ap (λ (r : Result (Version × Snapped) ℕ). elim r [ Err offset ↦ nobody | Ok t ↦ record { nodes = t.1.nodes; node = t.1.node } ]) spelt in
+    let both = front_begins s.nodes s.node bytes payload rest version s c two open_gate frame parts spelt refl refl is in
     (both.0, ap (λ (o : Owner). front_of o.nodes o.node bytes) owner ∙ both.1, rw (n_is, p_is) owner)
 
 -- what was told of the bytes that two reads gave is told of both areas

@@ -3,6 +3,7 @@ use Rattle.std.proofs.Common.{◌≡◌, ◌≢◌, ℕ, zero, suc, ◌+◌, ◌
 use Rattle.std.proofs.lemmas.Bool.{and_parts, ltb-true, lt-ltb, leb-true, le-leb, eq-eqb, eqb-true, eqb-false}
 use Rattle.std.proofs.lemmas.List.{length-take, length-drop, drop-drop, take-take, drop-take, get_or-drop}
 use Rattle.rr_types.specs.Groups.{Grouped}
+use Rattle.rr_frame.specs.declared.version.Version.{Version}
 use Rattle.rr_frame.specs.Numbers.{number_in}
 use Rattle.rr_frame.specs.GroupFormat.{group_in}
 use Rattle.rr_image.specs.Image.{Content, frame_behind, with_group, after_payload, after_frame, content_from}
@@ -77,66 +78,66 @@ frame_same bytes other payload rest e room same =
     })
 
 -- a frame that was read on, taken apart
-pub after_parts : (n p : ℕ) (c : Content) (bytes : List ℕ) (x : Content × List ℕ) → after_frame n p c bytes ≡ Some x → (payload : List ℕ) × (frame_behind bytes ≡ Some (payload, x.1)) × (after_payload n p c payload ≡ Some x.0)
-after_parts n p c bytes x e = by_frame (frame_behind bytes) refl e
+pub after_parts : (version : Version) (n p : ℕ) (c : Content) (bytes : List ℕ) (x : Content × List ℕ) → after_frame version n p c bytes ≡ Some x → (payload : List ℕ) × (frame_behind bytes ≡ Some (payload, x.1)) × (after_payload version n p c payload ≡ Some x.0)
+after_parts version n p c bytes x e = by_frame (frame_behind bytes) refl e
   where
-    by_frame : (f : Option (List ℕ × List ℕ)) → frame_behind bytes ≡ f → elim f [ None ↦ None | Some y ↦ elim (after_payload n p c y.0) [ None ↦ None | Some d ↦ Some (d, y.1) ] ] ≡ Some x
-        → (payload : List ℕ) × (frame_behind bytes ≡ Some (payload, x.1)) × (after_payload n p c payload ≡ Some x.0)
+    by_frame : (f : Option (List ℕ × List ℕ)) → frame_behind bytes ≡ f → elim f [ None ↦ None | Some y ↦ elim (after_payload version n p c y.0) [ None ↦ None | Some d ↦ Some (d, y.1) ] ] ≡ Some x
+        → (payload : List ℕ) × (frame_behind bytes ≡ Some (payload, x.1)) × (after_payload version n p c payload ≡ Some x.0)
     by_frame None f e = absurd cc
-    by_frame (Some y) f e = by_group (after_payload n p c y.0) refl e
+    by_frame (Some y) f e = by_group (after_payload version n p c y.0) refl e
       where
-        by_group : (o : Option Content) → after_payload n p c y.0 ≡ o → elim o [ None ↦ None | Some d ↦ Some (d, y.1) ] ≡ Some x
-            → (payload : List ℕ) × (frame_behind bytes ≡ Some (payload, x.1)) × (after_payload n p c payload ≡ Some x.0)
+        by_group : (o : Option Content) → after_payload version n p c y.0 ≡ o → elim o [ None ↦ None | Some d ↦ Some (d, y.1) ] ≡ Some x
+            → (payload : List ℕ) × (frame_behind bytes ≡ Some (payload, x.1)) × (after_payload version n p c payload ≡ Some x.0)
         by_group None o e = absurd cc
         by_group (Some d) o e = let same : (d, y.1) ≡ x = cc in (y.0, f ∙ ap (λ (z : Content × List ℕ). some_pair (y.0, z.1)) same, o ∙ ap (λ (z : Content × List ℕ). Some z.0) same)
 
 -- one frame more
-pub one_frame : (k n p g : ℕ) (c d : Content) (bytes payload rest : List ℕ) → g ≡ 165 → frame_behind bytes ≡ Some (payload, rest) → after_payload n p c payload ≡ Some d → content_from (suc k) n p c (g ∷ bytes) ≡ content_from k n p d rest
-one_frame k n p g c d bytes payload rest open_gate frame taken = let is : eqb g 165 ≡ true = eq-eqb g 165 open_gate in rw (is, frame, taken) refl
+pub one_frame : (version : Version) (k n p g : ℕ) (c d : Content) (bytes payload rest : List ℕ) → g ≡ 165 → frame_behind bytes ≡ Some (payload, rest) → after_payload version n p c payload ≡ Some d → content_from version (suc k) n p c (g ∷ bytes) ≡ content_from version k n p d rest
+one_frame version k n p g c d bytes payload rest open_gate frame taken = let is : eqb g 165 ≡ true = eq-eqb g 165 open_gate in rw (is, frame, taken) refl
 
 -- a closed gate ends the content
-pub at_closed : (k n p : ℕ) (c : Content) (bytes : List ℕ) → get_or bytes 0 0 ≢ 165 → content_from k n p c bytes ≡ Ok c
-at_closed k n p c [] shut = refl
-at_closed zero n p c (g ∷ bytes) shut = refl
-at_closed (suc k) n p c (g ∷ bytes) shut = by_gate (eqb g 165) refl
+pub at_closed : (version : Version) (k n p : ℕ) (c : Content) (bytes : List ℕ) → get_or bytes 0 0 ≢ 165 → content_from version k n p c bytes ≡ Ok c
+at_closed version k n p c [] shut = refl
+at_closed version zero n p c (g ∷ bytes) shut = refl
+at_closed version (suc k) n p c (g ∷ bytes) shut = by_gate (eqb g 165) refl
   where
-    by_gate : (t : Bool) → eqb g 165 ≡ t → content_from (suc k) n p c (g ∷ bytes) ≡ Ok c
+    by_gate : (t : Bool) → eqb g 165 ≡ t → content_from version (suc k) n p c (g ∷ bytes) ≡ Ok c
     by_gate true is = absurd (shut (eqb-true g 165 is))
     by_gate false is = rw is refl
 
 -- what is read behind a frame
-abbrev read_on : ℕ → ℕ → ℕ → Content → Option (Content × List ℕ) → Result Content ℕ
-read_on k n p c r = elim r [ None ↦ Err c.gate | Some d ↦ content_from k n p d.0 d.1 ]
+abbrev read_on : (version : Version) → ℕ → ℕ → ℕ → Content → Option (Content × List ℕ) → Result Content ℕ
+read_on version k n p c r = elim r [ None ↦ Err c.gate | Some d ↦ content_from version k n p d.0 d.1 ]
 
 -- more frames than there are bytes add nothing
-pub enough_frames : (k m n p : ℕ) (c : Content) (bytes : List ℕ) → length bytes ≤ k → length bytes ≤ m → content_from k n p c bytes ≡ content_from m n p c bytes
-enough_frames k m n p c [] le le_2 = refl
-enough_frames zero m n p c (g ∷ bytes) le le_2 = absurd (omega arith)
-enough_frames (suc k) zero n p c (g ∷ bytes) le le_2 = absurd (omega arith)
-enough_frames (suc k) (suc m) n p c (g ∷ bytes) le le_2 = by_frame (after_frame n p c bytes) refl (λ d rest. enough_frames k m n p d rest)
+pub enough_frames : (version : Version) (k m n p : ℕ) (c : Content) (bytes : List ℕ) → length bytes ≤ k → length bytes ≤ m → content_from version k n p c bytes ≡ content_from version m n p c bytes
+enough_frames version k m n p c [] le le_2 = refl
+enough_frames version zero m n p c (g ∷ bytes) le le_2 = absurd (omega arith)
+enough_frames version (suc k) zero n p c (g ∷ bytes) le le_2 = absurd (omega arith)
+enough_frames version (suc k) (suc m) n p c (g ∷ bytes) le le_2 = by_frame (after_frame version n p c bytes) refl (λ d rest. enough_frames version k m n p d rest)
   where
-    by_frame : (r : Option (Content × List ℕ)) → after_frame n p c bytes ≡ r
-        → ((d : Content) (rest : List ℕ) → length rest ≤ k → length rest ≤ m → content_from k n p d rest ≡ content_from m n p d rest)
-        → cond (eqb g 165) (read_on k n p c r) (Ok c) ≡ cond (eqb g 165) (read_on m n p c r) (Ok c)
+    by_frame : (r : Option (Content × List ℕ)) → after_frame version n p c bytes ≡ r
+        → ((d : Content) (rest : List ℕ) → length rest ≤ k → length rest ≤ m → content_from version k n p d rest ≡ content_from version m n p d rest)
+        → cond (eqb g 165) (read_on version k n p c r) (Ok c) ≡ cond (eqb g 165) (read_on version m n p c r) (Ok c)
     by_frame None e on = refl
     by_frame (Some x) e on =
-        let parts = after_parts n p c bytes x e in
+        let parts = after_parts version n p c bytes x e in
         let behind = (frame_parts bytes parts.0 x.1 parts.1).rest_is in
         let shorter : length x.1 ≤ length bytes = omega (arith, ap (λ (b : List ℕ). length b) behind, length-drop (4 + length parts.0) bytes) in
         ap (λ (z : Result Content ℕ). cond (eqb g 165) z (Ok c)) (on x.0 x.1 (omega (arith, shorter)) (omega (arith, shorter)))
 
 -- from c on these bytes stand for d, whose gate stands so many bytes further on and is closed; and so do all bytes that begin so, up to that gate
-pub record Reaches (n p : ℕ) (c d : Content) (bytes : List ℕ) : Type 0 where
+pub record Reaches (version : Version) (n p : ℕ) (c d : Content) (bytes : List ℕ) : Type 0 where
   pub size : ℕ
   pub gate : d.gate ≡ c.gate + size
   pub epoch : d.epoch ≡ c.epoch
   pub there : size < length bytes
   pub closed : get_or bytes size 0 ≢ 165
-  pub again : (other : List ℕ) → size < length other → take size other ≡ take size bytes → (k m : ℕ) → length other ≤ k → length other ≤ m → content_from k n p c other ≡ content_from m n p d (drop size other)
+  pub again : (other : List ℕ) → size < length other → take size other ≡ take size bytes → (k m : ℕ) → length other ≤ k → length other ≤ m → content_from version k n p c other ≡ content_from version m n p d (drop size other)
 
-closed_here : (k n p g : ℕ) (c d : Content) (bytes : List ℕ) → eqb g 165 ≡ false → content_from (suc k) n p c (g ∷ bytes) ≡ Ok d → Reaches n p c d (g ∷ bytes)
-closed_here k n p g c d bytes shut e =
-    let ends : content_from (suc k) n p c (g ∷ bytes) ≡ Ok c = rw shut refl in
+closed_here : (version : Version) (k n p g : ℕ) (c d : Content) (bytes : List ℕ) → eqb g 165 ≡ false → content_from version (suc k) n p c (g ∷ bytes) ≡ Ok d → Reaches version n p c d (g ∷ bytes)
+closed_here version k n p g c d bytes shut e =
+    let ends : content_from version (suc k) n p c (g ∷ bytes) ≡ Ok c = rw shut refl in
     let same : c ≡ d = cc in
     record {
       size = 0;
@@ -144,12 +145,12 @@ closed_here k n p g c d bytes shut e =
       epoch = ap (λ (x : Content). x.epoch) (sym same);
       there = omega arith;
       closed = eqb-false g 165 shut;
-      again = λ other there front j m le le_2. enough_frames j m n p c other le le_2 ∙ ap (λ (x : Content). content_from m n p x other) same;
+      again = λ other there front j m le le_2. enough_frames version j m n p c other le le_2 ∙ ap (λ (x : Content). content_from version m n p x other) same;
     }
 
 -- the epoch stays
-pub epoch_after : (n p : ℕ) (c d : Content) (payload : List ℕ) → after_payload n p c payload ≡ Some d → d.epoch ≡ c.epoch
-epoch_after n p c d payload e = by_group (group_in payload) e
+pub epoch_after : (version : Version) (n p : ℕ) (c d : Content) (payload : List ℕ) → after_payload version n p c payload ≡ Some d → d.epoch ≡ c.epoch
+epoch_after version n p c d payload e = by_group (group_in version payload) e
   where
     by_test : (t : Bool) (x : Content) → cond t (Some x) None ≡ Some d → x ≡ d
     by_test true x e = cc
@@ -160,11 +161,11 @@ epoch_after n p c d payload e = by_group (group_in payload) e
     by_group (Ok g) e = ap (λ (x : Content). x.epoch) (sym (by_test _ _ e))
 
 -- behind one frame more
-frame_then : (n p g : ℕ) (c mid d : Content) (bytes payload rest : List ℕ) → g ≡ 165 → frame_behind bytes ≡ Some (payload, rest) → after_payload n p c payload ≡ Some mid → Reaches n p mid d rest → Reaches n p c d (g ∷ bytes)
-frame_then n p g c mid d bytes payload rest open_gate frame taken on =
+frame_then : (version : Version) (n p g : ℕ) (c mid d : Content) (bytes payload rest : List ℕ) → g ≡ 165 → frame_behind bytes ≡ Some (payload, rest) → after_payload version n p c payload ≡ Some mid → Reaches version n p mid d rest → Reaches version n p c d (g ∷ bytes)
+frame_then version n p g c mid d bytes payload rest open_gate frame taken on =
     let is = frame_parts bytes payload rest frame in
-    let moved = gate_after n p c mid payload taken in
-    let kept = epoch_after n p c mid payload taken in
+    let moved = gate_after version n p c mid payload taken in
+    let kept = epoch_after version n p c mid payload taken in
     let size : ℕ = on.size in
     let long : ℕ = length payload in
     let behind : length rest ≡ length bytes - (4 + length payload) = ap (λ (b : List ℕ). length b) is.rest_is ∙ length-drop (4 + length payload) bytes in
@@ -179,7 +180,7 @@ frame_then n p g c mid d bytes payload rest open_gate frame taken on =
     }
   where
     again_behind : IsFrame bytes payload rest → (other : List ℕ) → suc (4 + length payload + on.size) < length other → take (suc (4 + length payload + on.size)) other ≡ take (suc (4 + length payload + on.size)) (g ∷ bytes)
-        → (k m : ℕ) → length other ≤ k → length other ≤ m → content_from k n p c other ≡ content_from m n p d (drop (suc (4 + length payload + on.size)) other)
+        → (k m : ℕ) → length other ≤ k → length other ≤ m → content_from version k n p c other ≡ content_from version m n p d (drop (suc (4 + length payload + on.size)) other)
     again_behind is [] there front k m le le_2 = absurd (omega arith)
     again_behind is (h ∷ other) there front zero m le le_2 = absurd (omega arith)
     again_behind is (h ∷ other) there front (suc k) m le le_2 =
@@ -189,28 +190,28 @@ frame_then n p g c mid d bytes payload rest open_gate frame taken on =
         let left : List ℕ = drop (4 + length payload) other in
         let left_long : length (drop (4 + length payload) other) ≡ length other - (4 + length payload) = length-drop (4 + length payload) other in
         let left_front : take on.size (drop (4 + length payload) other) ≡ take on.size rest = same_part (4 + length payload) on.size other bytes tails ∙ ap (take on.size) (sym is.rest_is) in
-        one_frame k n p h c mid other payload (drop (4 + length payload) other) (gate ∙ open_gate) same taken
+        one_frame version k n p h c mid other payload (drop (4 + length payload) other) (gate ∙ open_gate) same taken
         ∙ on.again (drop (4 + length payload) other) (omega (arith, there, left_long)) left_front k m (omega (arith, le, left_long)) (omega (arith, le_2, left_long))
-        ∙ ap (content_from m n p d) (drop-drop on.size (4 + length payload) other)
+        ∙ ap (content_from version m n p d) (drop-drop on.size (4 + length payload) other)
 
 -- reading that comes to a content goes over its bytes up to the last gate, which is closed
-pub reaches : (k n p : ℕ) (c d : Content) (bytes : List ℕ) → length bytes ≤ k → 0 < length bytes → content_from k n p c bytes ≡ Ok d → Reaches n p c d bytes
-reaches k n p c d [] le some e = absurd (omega arith)
-reaches zero n p c d (g ∷ bytes) le some e = absurd (omega arith)
-reaches (suc k) n p c d (g ∷ bytes) le some e = by_gate (eqb g 165) refl (λ mid rest. reaches k n p mid d rest)
+pub reaches : (version : Version) (k n p : ℕ) (c d : Content) (bytes : List ℕ) → length bytes ≤ k → 0 < length bytes → content_from version k n p c bytes ≡ Ok d → Reaches version n p c d bytes
+reaches version k n p c d [] le some e = absurd (omega arith)
+reaches version zero n p c d (g ∷ bytes) le some e = absurd (omega arith)
+reaches version (suc k) n p c d (g ∷ bytes) le some e = by_gate (eqb g 165) refl (λ mid rest. reaches version k n p mid d rest)
   where
-    by_frame : eqb g 165 ≡ true → (r : Option (Content × List ℕ)) → after_frame n p c bytes ≡ r
-        → ((mid : Content) (rest : List ℕ) → length rest ≤ k → 0 < length rest → content_from k n p mid rest ≡ Ok d → Reaches n p mid d rest)
-        → read_on k n p c r ≡ Ok d → Reaches n p c d (g ∷ bytes)
+    by_frame : eqb g 165 ≡ true → (r : Option (Content × List ℕ)) → after_frame version n p c bytes ≡ r
+        → ((mid : Content) (rest : List ℕ) → length rest ≤ k → 0 < length rest → content_from version k n p mid rest ≡ Ok d → Reaches version n p mid d rest)
+        → read_on version k n p c r ≡ Ok d → Reaches version n p c d (g ∷ bytes)
     by_frame open_gate None is on now = absurd cc
     by_frame open_gate (Some x) is on now =
-        let parts = after_parts n p c bytes x is in
+        let parts = after_parts version n p c bytes x is in
         let whole = frame_parts bytes parts.0 x.1 parts.1 in
         let behind : length x.1 ≡ length bytes - (4 + length parts.0) = ap (λ (b : List ℕ). length b) whole.rest_is ∙ length-drop (4 + length parts.0) bytes in
-        frame_then n p g c x.0 d bytes parts.0 x.1 (eqb-true g 165 open_gate) parts.1 parts.2 (on x.0 x.1 (omega (arith, behind, le)) (omega (arith, behind, whole.room)) now)
+        frame_then version n p g c x.0 d bytes parts.0 x.1 (eqb-true g 165 open_gate) parts.1 parts.2 (on x.0 x.1 (omega (arith, behind, le)) (omega (arith, behind, whole.room)) now)
 
     by_gate : (t : Bool) → eqb g 165 ≡ t
-        → ((mid : Content) (rest : List ℕ) → length rest ≤ k → 0 < length rest → content_from k n p mid rest ≡ Ok d → Reaches n p mid d rest)
-        → Reaches n p c d (g ∷ bytes)
-    by_gate false shut on = closed_here k n p g c d bytes shut e
-    by_gate true open_gate on = by_frame open_gate (after_frame n p c bytes) refl on (rw open_gate at e)
+        → ((mid : Content) (rest : List ℕ) → length rest ≤ k → 0 < length rest → content_from version k n p mid rest ≡ Ok d → Reaches version n p mid d rest)
+        → Reaches version n p c d (g ∷ bytes)
+    by_gate false shut on = closed_here version k n p g c d bytes shut e
+    by_gate true open_gate on = by_frame open_gate (after_frame version n p c bytes) refl on (rw open_gate at e)

@@ -23,17 +23,22 @@ Ends (Err (Broken offset)) content = content ≡ Err offset
 abbrev pub IsFront : List ℕ → Front → grammar.Front → Type 0
 IsFront bytes fronts.Blank front = front ≡ grammar.Blank
 IsFront bytes fronts.Faulty front = front ≡ grammar.Faulty
-IsFront bytes (fronts.Begins c) front = (c.gate ≤ length bytes) × (front ≡ grammar.Begins c (drop c.gate bytes))
+IsFront bytes (fronts.Begins version c) front = (c.gate ≤ length bytes) × (front ≡ grammar.Begins version c (drop c.gate bytes))
 
 -- the number of an area
 abbrev pub area_number : Area → ℕ
 area_number areas.First = 0
 area_number areas.Second = 1
 
+-- what was found, as it was read
+abbrev pub found_of : Image → Found
+found_of images.Unformatted = grammar.Unformatted
+found_of (images.Active area c) = grammar.Active area c
+found_of (images.Outdated area c) = grammar.Outdated area c
+
 -- reading both areas answered with what they stand for; or memory ran out
 abbrev pub Finds : Result Image Refusal → Found → Type 0
-Finds (Ok images.Unformatted) found = found ≡ grammar.Unformatted
-Finds (Ok (images.Active area c)) found = found ≡ grammar.Active area c
+Finds (Ok image) found = found ≡ found_of image
 Finds (Err refusals.OutOfMemory) found = Unit {0}
 Finds (Err (refusals.Damaged number offset)) found = (area : Area) × (number ≡ area_number area) × (found ≡ grammar.Broken area offset)
 Finds (Err e) found = ⊥

@@ -3,13 +3,14 @@ use Rattle.std.specs.Prelude.{◌≡◌, ℕ, true, List, [], length}
 use Rattle.rr_types.specs.declared.fact.Fact.{Fact}
 use Rattle.rr_types.specs.Promises.{promise_of, all_fit}
 use Rattle.rr_disk.specs.Crash.{Images}
-use Rattle.rr_image.specs.Image.{Found, Unformatted, Broken, Active, found}
+use Rattle.rr_image.specs.Image.{Found, Unformatted, Broken, Active, Outdated, found}
 
 -- what was found stands for these facts
 abbrev pub StandsFor : Found → List Fact → Type 0
 StandsFor Unformatted facts = length facts ≡ 0
 StandsFor (Broken area offset) facts = ⊥
 StandsFor (Active area c) facts = (c.promise ≡ promise_of facts) × (c.next ≡ length facts)
+StandsFor (Outdated area c) facts = (c.promise ≡ promise_of facts) × (c.next ≡ length facts)
 
 -- an image holds these facts of node p of n: each fits the promise before it, and the areas stand for them
 pub record Holds (n p : ℕ) (images : Images) (facts : List Fact) : Type 0 where

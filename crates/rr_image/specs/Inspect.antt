@@ -6,6 +6,7 @@ use Rattle.rr_types.specs.declared.refusal.Refusal.TheVariants as refusals
 use Rattle.rr_model.specs.NodeState.{decided_from}
 use Rattle.rr_disk.specs.declared.area.Area.{Area}
 use Rattle.rr_disk.specs.declared.area.Area.TheVariants.{First, Second}
+use Rattle.rr_frame.specs.declared.version.Version.{Version}
 use Rattle.rr_frame.specs.SnapshotFormat.{snapshot_in}
 use Rattle.rr_image.specs.Ends.{area_number}
 use Rattle.rr_image.specs.declared.inspection.AreaReport.{AreaReport}
@@ -20,7 +21,7 @@ pub record Owner : Type 0 where
 
 -- whom the snapshot of this payload names; one that is malformed names nobody, which 0 nodes stand for
 abbrev pub owner_in : List ℕ → Owner
-owner_in payload = elim (snapshot_in payload) [ Err offset ↦ record { nodes = 0; node = 0 } | Ok s ↦ record { nodes = s.nodes; node = s.node } ]
+owner_in payload = elim (snapshot_in payload) [ Err offset ↦ record { nodes = 0; node = 0 } | Ok x ↦ record { nodes = x.1.nodes; node = x.1.node } ]
 
 -- whom the first frame of an area names
 abbrev pub owner_of : List ℕ → Owner
@@ -30,9 +31,9 @@ owner_of bytes = elim (frame_behind (drop 1 bytes)) [ None ↦ record { nodes = 
 abbrev pub own_front : List ℕ → Front
 own_front bytes = front_of (owner_of bytes).nodes (owner_of bytes).node bytes
 
--- what is told of an area of this content: how many instances have decided is counted from 0 on without a gap
-abbrev pub told : Owner → Content → AreaReport
-told owner c = record { epoch = c.epoch; node = owner.node; nodes = owner.nodes; next = c.next; decided = length (decided_from 0 c.promise) }
+-- what is told of an area of this version and content: how many instances have decided is counted from 0 on without a gap
+abbrev pub told : Owner → Version → Content → AreaReport
+told owner version c = record { version = version; epoch = c.epoch; node = owner.node; nodes = owner.nodes; next = c.next; decided = length (decided_from 0 c.promise) }
 
 -- what is told of both areas, where None is said of one that isn't formatted; or the area that is broken, and where
 pub data Inspected : Type 0 where
@@ -45,20 +46,20 @@ beside First one other = Tells (Some one) other
 beside Second one other = Tells other (Some one)
 
 -- an active area, whose frames are all read, beside what is told of the other
-abbrev pub active : Area → Owner → Content → List ℕ → Option AreaReport → Inspected
-active area owner c rest other = elim (content_behind owner.nodes owner.node c rest) [ Err offset ↦ Breaks area offset | Ok d ↦ beside area (told owner d) other ]
+abbrev pub active : Area → Owner → Version → Content → List ℕ → Option AreaReport → Inspected
+active area owner version c rest other = elim (content_behind version owner.nodes owner.node c rest) [ Err offset ↦ Breaks area offset | Ok d ↦ beside area (told owner version d) other ]
 
 -- the first frames of both areas decide which is active; of one that isn't its snapshot is told alone
 abbrev pub inspected_by : Owner → Owner → Front → Front → Inspected
 inspected_by o p Faulty second = Breaks First 0
 inspected_by o p Blank Faulty = Breaks Second 0
 inspected_by o p Blank Blank = Tells None None
-inspected_by o p Blank (Begins d rest) = active Second p d rest None
-inspected_by o p (Begins c rest) Faulty = Breaks Second 0
-inspected_by o p (Begins c rest) Blank = active First o c rest None
-inspected_by o p (Begins c rest) (Begins d rest_2) =
+inspected_by o p Blank (Begins w d rest) = active Second p w d rest None
+inspected_by o p (Begins v c rest) Faulty = Breaks Second 0
+inspected_by o p (Begins v c rest) Blank = active First o v c rest None
+inspected_by o p (Begins v c rest) (Begins w d rest_2) =
     if c.epoch == d.epoch then Breaks Second 0
-    else (if nat_lt d.epoch c.epoch then active First o c rest (Some (told p d)) else active Second p d rest_2 (Some (told o c)))
+    else (if nat_lt d.epoch c.epoch then active First o v c rest (Some (told p w d)) else active Second p w d rest_2 (Some (told o v c)))
 
 -- what the bytes of area 0 and area 1 tell
 unfoldable pub inspected : List ℕ → List ℕ → Inspected
@@ -68,7 +69,7 @@ inspected first second = inspected_by (owner_of first) (owner_of second) (own_fr
 abbrev pub IsOwnFront : List ℕ → code.OwnFront → Type 0
 IsOwnFront bytes fronts.Blank = own_front bytes ≡ Blank
 IsOwnFront bytes fronts.Faulty = own_front bytes ≡ Faulty
-IsOwnFront bytes (fronts.Begins own) = (own.content.gate ≤ length bytes) × (own_front bytes ≡ Begins own.content (drop own.content.gate bytes)) × (owner_of bytes ≡ record { nodes = own.nodes; node = own.node })
+IsOwnFront bytes (fronts.Begins own) = (own.content.gate ≤ length bytes) × (own_front bytes ≡ Begins own.version own.content (drop own.content.gate bytes)) × (owner_of bytes ≡ record { nodes = own.nodes; node = own.node })
 
 -- an inspection answered with what the areas tell, or with the place where one is broken; or memory ran out
 abbrev pub IsTold : Result (Option AreaReport × Option AreaReport) Refusal → Inspected → Type 0

@@ -5,7 +5,7 @@ ghost use Rattle.rr_image.specs.Image.{frame_behind, with_group, after_payload, 
 ghost use Rattle.rr_image.specs.Ends.{Ends};
 
 use crate::promised::take_on_all;
-use rr_frame::{Reader, decode_group};
+use rr_frame::{Reader, Version, decode_group};
 use rr_types::{Command, Entry, Group, NodeId, Nodes, Op, Promise, Refusal, Standing};
 use std::alloc::{AllocError, Global};
 use std::marker::Model;
@@ -149,18 +149,19 @@ impl Content {
         }
     }
 
-    /// The content after the group of this payload, if it is lawful there.
+    /// The content after the group of this payload, if it is lawful there in an area of this version.
     fn after_payload(
         self,
         alloc: Global,
+        version: Version,
         nodes: Nodes,
         node: NodeId,
         payload: &[u8],
     ) -> Result<Option<Content>, AllocError>
         requires { self.gate + 5 + length payload.now < 2 ^ 64 }
-        ensures { IfOk result (λ c. c ≡ after_payload nodes node self payload.now) }
+        ensures { IfOk result (λ c. c ≡ after_payload version nodes node self payload.now) }
     {
-        match decode_group(alloc, payload) {
+        match decode_group(alloc, version, payload) {
             Ok(group) => self.with_group(nodes, node, &group, payload.len() as u64),
             Err(Refusal::OutOfMemory) => Err(AllocError),
             Err(_) => Ok(None),
@@ -168,16 +169,17 @@ impl Content {
     }
 }
 
-/// Reads the groups from the gate on that these bytes begin with.
+/// Reads the groups of an area of this version from the gate on that these bytes begin with.
 pub fn read_groups(
     alloc: Global,
+    version: Version,
     nodes: Nodes,
     node: NodeId,
     content: Content,
     bytes: &[u8],
 ) -> Result<Content, Halt>
     requires { content.gate + length bytes.now < 2 ^ 64 }
-    ensures { Ends result (content_from (length bytes.now) nodes node content bytes.now) }
+    ensures { Ends result (content_from version (length bytes.now) nodes node content bytes.now) }
 {
     let mut content = content;
     let mut rest = bytes;
@@ -186,7 +188,7 @@ pub fn read_groups(
         let Some((payload, after)) = frame_behind(&rest[1..]) else {
             return Err(Halt::Broken(gate));
         };
-        match content.after_payload(alloc, nodes, node, payload) {
+        match content.after_payload(alloc, version, nodes, node, payload) {
             Ok(Some(next)) => {
                 content = next;
                 rest = after;

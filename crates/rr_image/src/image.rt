@@ -6,7 +6,7 @@ ghost use Rattle.rr_image.specs.Ends.{IsFront, Finds, area_number};
 
 use crate::content::{Content, Halt, OPEN_GATE, frame_behind, read_groups};
 use rr_disk::Area;
-use rr_frame::decode_snapshot;
+use rr_frame::{Version, decode_snapshot};
 use rr_types::{Command, NodeId, Nodes, Op, Refusal, Standing};
 use std::alloc::{AllocError, Global};
 
@@ -17,8 +17,8 @@ pub enum Front {
     Blank,
     /// An open gate stands before bytes that are no snapshot of this node.
     Faulty,
-    /// A snapshot, with which this content begins.
-    Begins(Content),
+    /// A snapshot of this version, with which this content begins.
+    Begins(Version, Content),
 }
 
 /// What the two areas stand for, where no fault is found.
@@ -28,6 +28,8 @@ pub enum Image {
     Unformatted,
     /// This area is active.
     Active(Area, Content),
+    /// This area is active, and of version 1.
+    Outdated(Area, Content),
 }
 
 /// The first frame of an area of these bytes.
@@ -41,8 +43,8 @@ fn front_of(alloc: Global, nodes: Nodes, node: NodeId, bytes: &[u8]) -> Result<F
     let Some((payload, _)) = frame_behind(&bytes[1..]) else {
         return Ok(Front::Faulty);
     };
-    let snapshot = match decode_snapshot(alloc, payload) {
-        Ok(snapshot) => snapshot,
+    let (version, snapshot) = match decode_snapshot(alloc, payload) {
+        Ok(read) => read,
         Err(Refusal::OutOfMemory) => return Err(AllocError),
         Err(_) => return Ok(Front::Faulty),
     };
@@ -52,7 +54,8 @@ fn front_of(alloc: Global, nodes: Nodes, node: NodeId, bytes: &[u8]) -> Result<F
     let epoch = snapshot.epoch();
     let next = snapshot.next();
     let gate = 5 + payload.len() as u64;
-    Ok(Front::Begins(Content::new(epoch, snapshot.into_promise(), next, gate)))
+    let content = Content::new(epoch, snapshot.into_promise(), next, gate);
+    Ok(Front::Begins(version, content))
 }
 
 /// The area with this number is broken at an offset.
@@ -65,23 +68,27 @@ fn broken(area: Area, offset: u64) -> Refusal
     }
 }
 
-/// An active area whose content begins so.
+/// An active area of this version whose content begins so.
 #[tactic(auto, unfolding(crate::specs::Image::content_behind))]
 fn active(
     alloc: Global,
     nodes: Nodes,
     node: NodeId,
     area: Area,
+    version: Version,
     content: Content,
     bytes: &[u8],
 ) -> Result<Image, Refusal>
     requires { content.gate ≤ length bytes.now }
-    ensures { Finds result (active area (content_behind nodes node content (drop content.gate bytes.now))) }
+    ensures { Finds result (active version area (content_behind version nodes node content (drop content.gate bytes.now))) }
 {
     let gate = content.gate() as usize;
     let (_, rest) = bytes.split_at(gate);
-    match read_groups(alloc, nodes, node, content, rest) {
-        Ok(content) => Ok(Image::Active(area, content)),
+    match read_groups(alloc, version, nodes, node, content, rest) {
+        Ok(content) => match version {
+            Version::One => Ok(Image::Outdated(area, content)),
+            Version::Two => Ok(Image::Active(area, content)),
+        },
         Err(Halt::OutOfMemory) => Err(Refusal::OutOfMemory),
         Err(Halt::Broken(offset)) => Err(broken(area, offset)),
     }
@@ -112,18 +119,20 @@ pub fn read_image(
         Front::Blank => match front_2 {
             Front::Faulty => Err(broken(Area::Second, 0)),
             Front::Blank => Ok(Image::Unformatted),
-            Front::Begins(content) => active(alloc, nodes, node, Area::Second, content, second),
+            Front::Begins(version, content) => {
+                active(alloc, nodes, node, Area::Second, version, content, second)
+            }
         },
-        Front::Begins(content) => match front_2 {
+        Front::Begins(version, content) => match front_2 {
             Front::Faulty => Err(broken(Area::Second, 0)),
-            Front::Blank => active(alloc, nodes, node, Area::First, content, first),
-            Front::Begins(other) => {
+            Front::Blank => active(alloc, nodes, node, Area::First, version, content, first),
+            Front::Begins(version_2, other) => {
                 if content.epoch() == other.epoch() {
                     Err(broken(Area::Second, 0))
                 } else if other.epoch() < content.epoch() {
-                    active(alloc, nodes, node, Area::First, content, first)
+                    active(alloc, nodes, node, Area::First, version, content, first)
                 } else {
-                    active(alloc, nodes, node, Area::Second, other, second)
+                    active(alloc, nodes, node, Area::Second, version_2, other, second)
                 }
             }
         },

@@ -11,13 +11,15 @@ ghost use Rattle.rr_image.specs.Inspect.{told, active, inspected_by, inspected, 
 
 use crate::content::{Content, Halt, OPEN_GATE, frame_behind, read_groups};
 use rr_disk::{Area, Disk};
-use rr_frame::decode_snapshot;
+use rr_frame::{Version, decode_snapshot};
 use rr_types::{Command, Entry, NodeId, Nodes, Op, Refusal, Standing};
 use std::alloc::{AllocError, Global};
 
 /// What is told of a formatted area.
 #[derive(Clone, Copy, Debug, PartialEq, Eq)]
 pub struct AreaReport {
+    /// The version of its bytes.
+    pub version: Version,
     /// Its epoch, from 1.
     pub epoch: u64,
     /// The node that its snapshot names.
@@ -30,9 +32,10 @@ pub struct AreaReport {
     pub decided: u64,
 }
 
-/// A snapshot that an area begins with: whose it is, and the content that begins with it.
+/// A snapshot that an area begins with: whose it is, its version, and the content that begins with it.
 #[derive(Debug, Drop)]
 pub struct OwnContent {
+    version: Version,
     nodes: Nodes,
     node: NodeId,
     content: Content,
@@ -60,8 +63,8 @@ fn own_front(alloc: Global, bytes: &[u8]) -> Result<OwnFront, AllocError>
     let Some((payload, _)) = frame_behind(&bytes[1..]) else {
         return Ok(OwnFront::Faulty);
     };
-    let snapshot = match decode_snapshot(alloc, payload) {
-        Ok(snapshot) => snapshot,
+    let (version, snapshot) = match decode_snapshot(alloc, payload) {
+        Ok(read) => read,
         Err(Refusal::OutOfMemory) => return Err(AllocError),
         Err(_) => return Ok(OwnFront::Faulty),
     };
@@ -72,6 +75,7 @@ fn own_front(alloc: Global, bytes: &[u8]) -> Result<OwnFront, AllocError>
     let gate = 5 + payload.len() as u64;
     let content = Content::new(epoch, snapshot.into_promise(), next, gate);
     Ok(OwnFront::Begins(OwnContent {
+        version,
         nodes,
         node,
         content,
@@ -94,14 +98,15 @@ fn decided_count(entries: &[Entry]) -> u64
     entries.len() as u64
 }
 
-// What is told of an area of this content.
-fn report(nodes: Nodes, node: NodeId, content: Content) -> AreaReport
-    ensures { result ≡ told (record { nodes = nodes; node = node }) content }
+// What is told of an area of this version and content.
+fn report(version: Version, nodes: Nodes, node: NodeId, content: Content) -> AreaReport
+    ensures { result ≡ told (record { nodes = nodes; node = node }) version content }
 {
     let epoch = content.epoch();
     let next = content.next();
     let promise = content.into_promise();
     AreaReport {
+        version,
         epoch,
         node,
         nodes,
@@ -130,18 +135,19 @@ fn active(
     other: Option<AreaReport>,
 ) -> Result<(Option<AreaReport>, Option<AreaReport>), Refusal>
     requires { own.content.gate ≤ length bytes.now }
-    ensures { IsTold result (active area (record { nodes = own.nodes; node = own.node }) own.content (drop own.content.gate bytes.now) other) }
+    ensures { IsTold result (active area (record { nodes = own.nodes; node = own.node }) own.version own.content (drop own.content.gate bytes.now) other) }
 {
     let OwnContent {
+        version,
         nodes,
         node,
         content,
     } = own;
     let gate = content.gate() as usize;
     let (_, rest) = bytes.split_at(gate);
-    match read_groups(alloc, nodes, node, content, rest) {
+    match read_groups(alloc, version, nodes, node, content, rest) {
         Ok(content) => {
-            let one = Some(report(nodes, node, content));
+            let one = Some(report(version, nodes, node, content));
             match area {
                 Area::First => Ok((one, other)),
                 Area::Second => Ok((other, one)),
@@ -201,25 +207,27 @@ fn both(
     requires first { one.content.gate ≤ length first.now }
     requires second { other.content.gate ≤ length second.now }
     ensures { IsTold result (inspected_by (record { nodes = one.nodes; node = one.node }) (record { nodes = other.nodes; node = other.node })
-        (Begins one.content (drop one.content.gate first.now)) (Begins other.content (drop other.content.gate second.now))) }
+        (Begins one.version one.content (drop one.content.gate first.now)) (Begins other.version other.content (drop other.content.gate second.now))) }
 {
     if one.content.epoch() == other.content.epoch() {
         Err(broken(Area::Second, 0))
     } else if other.content.epoch() < one.content.epoch() {
         let OwnContent {
+            version,
             nodes,
             node,
             content,
         } = other;
-        let beside = report(nodes, node, content);
+        let beside = report(version, nodes, node, content);
         active(alloc, Area::First, one, first, Some(beside))
     } else {
         let OwnContent {
+            version,
             nodes,
             node,
             content,
         } = one;
-        let beside = report(nodes, node, content);
+        let beside = report(version, nodes, node, content);
         active(alloc, Area::Second, other, second, Some(beside))
     }
 }

@@ -1,5 +1,5 @@
 -- What an opening makes of the images that a crash may leave.
-use Rattle.std.proofs.Common.{◌≡◌, ◌≢◌, ◌⊎◌, inl, inr, ℕ, ◌-◌, ◌^◌, ◌<◌, List, [], ◌∷◌, length, map, Result, Ok, Err, refl, sym, ap, subst, ◌∙◌, arith}
+use Rattle.std.proofs.Common.{◌≡◌, ◌⊎◌, inl, inr, ℕ, ◌-◌, ◌^◌, ◌<◌, false, List, [], ◌∷◌, length, map, Result, Ok, Err, refl, sym, ap, subst, ◌∙◌, arith}
 use Rattle.std.specs.Prelude.{IfOk}
 use Rattle.std.proofs.lemmas.List.{length-map}
 use Rattle.rr_types.specs.declared.fact.Fact.{Fact}
@@ -10,17 +10,19 @@ use Rattle.rr_disk.specs.Crash.{Agrees, MayLeave, Images, IsCrashImage}
 use Rattle.rr_disk.proofs.Agreeing.{at_rest_image}
 use Rattle.rr_journal.specs.declared.journal.Journal.{Journal}
 use Rattle.rr_journal.specs.declared.opened.Opened.{Opened}
-use Rattle.rr_journal.specs.declared.opening.Opening.{Opening}
-use Rattle.rr_image.specs.Image.{Found, Unformatted, Broken, Active, found}
-use Rattle.rr_image.specs.Held.{StandsFor, Holds}
-use Rattle.rr_journal.specs.Openings.{Phase, Settling, ReadingFirst, ReadingSecond, Formatting}
+use Rattle.rr_image.specs.Image.{found}
+use Rattle.rr_image.specs.Held.{Holds}
+use Rattle.rr_journal.specs.Openings.{Phase, Settling, ReadingFirst, ReadingSecond, Rewriting}
 use Rattle.rr_journal.specs.OpeningCourse.{whole_read, found_from, IsAsBefore, IsUntouched}
-use Rattle.rr_journal.specs.OpeningTable.{contents, Rests, IsKept}
+use Rattle.rr_journal.specs.OpeningStates.{OpeningState}
+use Rattle.rr_journal.specs.OpeningTable.{contents, IsResting, Rests, IsKept}
+use Rattle.rr_journal.specs.Rewrites.{writes_anew}
 use Rattle.rr_journal.specs.Phases.{phase_of}
 use Rattle.rr_journal.specs.OpenDisks.{IsOpenWith}
-use Rattle.rr_journal.specs.CrashedDisks.{MayStand, EachHoldsSome, IsOpenWithOneOf, IsReading, AddsNone, AddsBlankAlone}
+use Rattle.rr_journal.specs.CrashedDisks.{MayStand, EachHoldsSome, IsOpenWithOneOf, IsReading, AddsNone, AddsSameAlone}
 use Rattle.rr_image.proofs.ImageLaws.{read_whole}
-use Rattle.rr_journal.proofs.OpeningLaws.{bytes_firm, rest_held}
+use Rattle.rr_journal.proofs.HeldLaws.{rest_held}
+use Rattle.rr_journal.proofs.OpeningLaws.{bytes_firm}
 
 -- bytes that a crash may leave stay among the images once they are synced
 agrees_settled : (cells : List Cell) → Agrees cells (map (λ cell. cell.byte) cells) → Agrees (map firm_cell (map (λ cell. cell.byte) cells)) (map (λ cell. cell.byte) cells)
@@ -52,7 +54,7 @@ pub untouched_adds : (phase : Phase) (old new : Areas) → MayStand old → IsRe
 untouched_adds Settling old new stands reading before = before_adds old new stands before
 untouched_adds ReadingFirst old new stands reading same = before_adds old new stands (inl same)
 untouched_adds (ReadingSecond first) old new stands reading same = before_adds old new stands (inl same)
-untouched_adds (Formatting calls) old new stands reading free = absurd reading
+untouched_adds (Rewriting found calls) old new stands reading free = absurd reading
 
 -- what an opening finds is what the bytes stand for
 pub found_contents : (n p : ℕ) (both : Areas) → length both.first.cells < 2 ^ 64 → length both.second.cells < 2 ^ 64 → found_from n p Settling both ≡ found n p (contents both).of_first (contents both).of_second
@@ -60,26 +62,17 @@ found_contents n p both few_first few_second =
     ap (λ (bytes : List ℕ). found n p bytes (whole_read both.second)) (read_whole (2 ^ 64 - 1) both.first (omega (arith, few_first)))
     ∙ ap (λ (bytes : List ℕ). found n p (bytes_of both.first) bytes) (read_whole (2 ^ 64 - 1) both.second (omega (arith, few_second)))
 
-blank_holds : (n p : ℕ) (images : Images) → found n p images.of_first images.of_second ≡ Unformatted → Holds n p images []
-blank_holds n p images blank = record { fit = refl; stands = subst (λ (f : Found). StandsFor f []) (sym blank) refl }
-
--- an opening adds none but images of no facts, and these where no area was formatted
-pub adds_blank_alone : (n p : ℕ) (old new : Areas) → MayStand old → length old.first.cells < 2 ^ 64 → length old.second.cells < 2 ^ 64
-    → (found_from n p Settling old ≢ Unformatted → IsAsBefore old new) → (Holds n p (contents old) [] → IsKept (Holds n p) [] old new) → AddsBlankAlone n p old new
-adds_blank_alone n p old new stands few_first few_second before kept images left = by (found_from n p Settling old) refl
+-- an opening adds none but images of what the bytes held, and these where an area is written anew
+pub adds_same_alone : (n p : ℕ) (old new : Areas) → MayStand old → length old.first.cells < 2 ^ 64 → length old.second.cells < 2 ^ 64
+    → (writes_anew (found_from n p Settling old) ≡ false → IsAsBefore old new) → ((facts : List Fact) → Holds n p (contents old) facts → IsKept (Holds n p) facts old new) → AddsSameAlone n p old new
+adds_same_alone n p old new stands few_first few_second before kept images left = (
+  λ none. (before_adds old new stands (before (ap writes_anew (found_contents n p old few_first few_second) ∙ none))).1 images left,
+  λ facts holds. by facts (kept facts holds),
+)
   where
-    same : found_from n p Settling old ≡ found n p (contents old).of_first (contents old).of_second
-    same = found_contents n p old few_first few_second
-
-    by_kept : found n p (contents old).of_first (contents old).of_second ≡ Unformatted → IsKept (Holds n p) [] old new
-        → IsCrashImage old images ⊎ ((found n p (contents old).of_first (contents old).of_second ≡ Unformatted) × Holds n p images [])
-    by_kept blank (inl stays) = inl (subst (λ (b : Areas). IsCrashImage b images) stays left)
-    by_kept blank (inr held) = inr (blank, held images left)
-
-    by : (f : Found) → found_from n p Settling old ≡ f → IsCrashImage old images ⊎ ((found n p (contents old).of_first (contents old).of_second ≡ Unformatted) × Holds n p images [])
-    by Unformatted is = let blank = sym same ∙ is in by_kept blank (kept (blank_holds n p (contents old) blank))
-    by (Broken area offset) is = let other : found_from n p Settling old ≢ Unformatted = λ e. (let none : Broken area offset ≡ Unformatted = sym is ∙ e in absurd cc) in inl ((before_adds old new stands (before other)).1 images left)
-    by (Active area c) is = let other : found_from n p Settling old ≢ Unformatted = λ e. (let none : Active area c ≡ Unformatted = sym is ∙ e in absurd cc) in inl ((before_adds old new stands (before other)).1 images left)
+    by : (facts : List Fact) → IsKept (Holds n p) facts old new → IsCrashImage old images ⊎ Holds n p images facts
+    by facts (inl stays) = inl (subst (λ (b : Areas). IsCrashImage b images) stays left)
+    by facts (inr held) = inr (held images left)
 
 -- of a disk whose every image holds some facts, an opening ends over the facts of one
 pub opens_with_one : {D : Type 0} (areas : D → Areas) (n p : ℕ) (old : Areas) (result : Result (Journal D × Opened) (Refusal × D)) → MayStand old → EachHoldsSome (Holds n p) old
@@ -100,8 +93,17 @@ begins n p facts both few_first few_second holds = record {
   holds = holds;
 }
 
+-- as on any that are short enough
+pub begins_any : (both : Areas) → length both.first.cells < 2 ^ 64 → length both.second.cells < 2 ^ 64 → IsResting (synced both)
+begins_any both few_first few_second = record {
+  start = contents both;
+  stands = refl;
+  first_fits = omega (arith, few_first, length-map both.first.cells (λ (c : Cell). c.byte));
+  second_fits = omega (arith, few_second, length-map both.second.cells (λ (c : Cell). c.byte));
+}
+
 -- what holds of an opening that has just begun holds of whose disk it is
-pub begun_with : {D : Type 0} (F : ℕ → ℕ → Phase → D → Type 0) (o : Opening D) (n p : ℕ) (disk : D) → (o.nodes ≡ n) × (o.node ≡ p) → o.disk ≡ disk → phase_of o.phase ≡ Settling
+pub begun_with : {D : Type 0} (F : ℕ → ℕ → Phase → D → Type 0) (o : OpeningState D) (n p : ℕ) (disk : D) → (o.nodes ≡ n) × (o.node ≡ p) → o.disk ≡ disk → phase_of o.phase ≡ Settling
     → F o.nodes o.node (phase_of o.phase) o.disk → F n p Settling disk
 begun_with {D} F o n p disk whose same phase holds =
     subst (λ (d : D). F n p Settling d) same

@@ -10,6 +10,7 @@ use Rattle.rr_types.specs.Promises.{standing_in, take_on, take_on_all, promise_o
 use Rattle.rr_types.specs.Facts.{instance_of}
 use Rattle.rr_disk.specs.declared.area.Area.{Area}
 use Rattle.rr_disk.specs.Crash.{Images}
+use Rattle.rr_frame.specs.declared.version.Version.TheVariants.{Two}
 use Rattle.rr_frame.specs.Numbers.{number_bytes}
 use Rattle.rr_frame.specs.GroupFormat.{group_bytes, IsLawfulGroup}
 use Rattle.rr_frame.proofs.FieldLaws.{length-number_bytes}
@@ -20,7 +21,7 @@ use Rattle.rr_journal.proofs.Content.{body_front, body_back, front_less}
 use Rattle.rr_journal.specs.declared.journal.Journal.{Journal}
 use Rattle.rr_journal.specs.Calls.{frame_bytes}
 use Rattle.rr_image.specs.Image as grammar
-use Rattle.rr_image.specs.Image.{Content, Found, Active, frame_behind, after_payload, content_from, active, found}
+use Rattle.rr_image.specs.Image.{Content, Found, Active, after_payload, content_from, active, found}
 use Rattle.rr_image.specs.Held.{StandsFor, Holds}
 use Rattle.rr_journal.specs.Journals.{IsOver, once_flushed}
 use Rattle.rr_image.proofs.FrameLaws.{frame_again}
@@ -39,10 +40,10 @@ fit_more n p es (f ∷ facts) more fit = fit_more n p (take_on es f) facts more 
 abbrev pub content_after : Content → Grouped → Content
 content_after d g = record { epoch = d.epoch; promise = take_on_all d.promise g.facts; next = d.next + length g.facts; gate = d.gate + 5 + length (group_bytes g) }
 
-group_taken : (n p : ℕ) (d : Content) (g : Grouped) → IsLawfulGroup g → g.serial ≡ d.next → all_fit n p d.promise g.facts ≡ true → after_payload n p d (group_bytes g) ≡ Some (content_after d g)
+group_taken : (n p : ℕ) (d : Content) (g : Grouped) → IsLawfulGroup g → g.serial ≡ d.next → all_fit n p d.promise g.facts ≡ true → after_payload Two n p d (group_bytes g) ≡ Some (content_after d g)
 group_taken n p d g lawful serial fit =
     let is : (eqb g.serial d.next && all_fit n p d.promise g.facts) ≡ true = and_from _ _ (eq-eqb g.serial d.next serial) fit in
-    ap (λ (r : Result Grouped ℕ). elim r [ Err offset ↦ None | Ok x ↦ grammar.with_group n p x (length (group_bytes g)) d ]) (group_spelt g lawful)
+    ap (λ (r : Result Grouped ℕ). elim r [ Err offset ↦ None | Ok x ↦ grammar.with_group n p x (length (group_bytes g)) d ]) (group_spelt Two g lawful)
     ∙ ap (λ (t : Bool). cond t (Some (content_after d g)) None) is
 
 -- an area whose front is known as far as a frame behind the last gate
@@ -74,11 +75,11 @@ appended gate front payload image long e =
 
 -- behind an open gate a group that fits is read, and nothing behind its closed gate
 group_read : (k n p : ℕ) (d : Content) (g : Grouped) (junk : List ℕ) → IsLawfulGroup g → length (group_bytes g) < 2 ^ 32 → g.serial ≡ d.next → all_fit n p d.promise g.facts ≡ true
-    → content_from (suc k) n p d (165 ∷ (number_bytes 4 (length (group_bytes g)) ++ (group_bytes g ++ (0 ∷ junk)))) ≡ Ok (content_after d g)
+    → content_from Two (suc k) n p d (165 ∷ (number_bytes 4 (length (group_bytes g)) ++ (group_bytes g ++ (0 ∷ junk)))) ≡ Ok (content_after d g)
 group_read k n p d g junk lawful short serial fit =
-    one_frame k n p 165 d (content_after d g) (number_bytes 4 (length (group_bytes g)) ++ (group_bytes g ++ (0 ∷ junk))) (group_bytes g) (0 ∷ junk) refl
+    one_frame Two k n p 165 d (content_after d g) (number_bytes 4 (length (group_bytes g)) ++ (group_bytes g ++ (0 ∷ junk))) (group_bytes g) (0 ∷ junk) refl
     (frame_again (group_bytes g) (0 ∷ junk) short (omega arith)) (group_taken n p d g lawful serial fit)
-    ∙ at_closed k n p (content_after d g) (0 ∷ junk) (λ e. absurd (omega (arith, e)))
+    ∙ at_closed Two k n p (content_after d g) (0 ∷ junk) (λ e. absurd (omega (arith, e)))
 
 module _ (n p : ℕ) (start : Images) (facts : List Fact) (d : Content) (flush : Flush) (is : found n p start.of_first start.of_second ≡ Active flush.area d) (gate : d.gate ≡ flush.gate) where
   pub gate_there : flush.gate < length (image_of start flush.area)
@@ -93,7 +94,7 @@ module _ (n p : ℕ) (start : Images) (facts : List Fact) (d : Content) (flush :
   found_before image there same shut =
       let here : flush.gate ≡ d.gate + 0 = omega (arith, gate) in
       (is_found n p start flush.area d is).again image (omega (arith, gate, there)) (subst (λ (k : ℕ). take k image ≡ take k (image_of start flush.area)) (sym gate) same) (length image) (omega arith)
-      ∙ ap (active flush.area) (at_closed (length image) n p d (drop d.gate image) (λ e. shut (ap (λ (k : ℕ). get_or image k 0) here ∙ sym (get_or-drop d.gate image 0 0) ∙ e)))
+      ∙ ap (active Two flush.area) (at_closed Two (length image) n p d (drop d.gate image) (λ e. shut (ap (λ (k : ℕ). get_or image k 0) here ∙ sym (get_or-drop d.gate image 0 0) ∙ e)))
 
   -- behind an open gate stands the group
   pub found_after : flush.body ≡ frame_bytes (group_bytes flush.group) → IsLawfulGroup flush.group → length (group_bytes flush.group) < 2 ^ 32 → flush.group.serial ≡ d.next → all_fit n p d.promise flush.group.facts ≡ true
@@ -104,8 +105,8 @@ module _ (n p : ℕ) (start : Images) (facts : List Fact) (d : Content) (flush :
       let a = appended flush.gate (take flush.gate (image_of start flush.area)) (group_bytes flush.group) image long
       (subst (λ (b : List ℕ). take (flush.gate + 1 + length b) image ≡ take flush.gate (image_of start flush.area) ++ 165 ∷ b) body e) in
       (is_found n p start flush.area d is).again image (omega (arith, gate, a.there)) (subst (λ (k : ℕ). take k image ≡ take k (image_of start flush.area)) (sym gate) a.before) (suc (length image)) (omega arith)
-      ∙ ap (active flush.area) (
-      ap (content_from (suc (length image)) n p d) (ap (λ (k : ℕ). drop k image) gate ∙ a.frame)
+      ∙ ap (active Two flush.area) (
+      ap (content_from Two (suc (length image)) n p d) (ap (λ (k : ℕ). drop k image) gate ∙ a.frame)
       ∙ group_read (length image) n p d flush.group a.behind lawful short serial fit
       )
 

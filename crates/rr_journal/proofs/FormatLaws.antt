@@ -1,24 +1,14 @@
--- Formatting a disk of which no area is formatted is a flush of no facts.
-use Rattle.std.proofs.Common.{◌≡◌, ◌≢◌, ℕ, ◌+◌, ◌^◌, ◌<◌, ◌≤◌, Bool, true, false, cond, eqb, leb, ltb, ◌&&◌, List, [], ◌∷◌, ◌++◌, length, take, drop, get_or, Option, None, Some, Result, Ok, Err, refl, sym, ap, subst, ◌∙◌, arith}
+-- Areas that aren't formatted, and disks of which no area is.
+use Rattle.std.proofs.Common.{◌≡◌, ◌≢◌, ℕ, ◌<◌, ◌≤◌, Bool, true, false, cond, eqb, leb, ltb, ◌&&◌, List, [], ◌∷◌, length, drop, get_or, Option, None, Some, Result, Ok, Err, refl, ap, ◌∙◌, arith}
 use Rattle.std.proofs.lemmas.Bool.{ne_eqb, eqb-false, le-leb}
-use Rattle.std.proofs.lemmas.List.{append-nil, take-append-drop, nil_from_length}
-use Rattle.rr_types.specs.declared.fact.Fact.{Fact}
 use Rattle.rr_disk.specs.declared.area.Area.{Area}
 use Rattle.rr_disk.specs.declared.area.Area.TheVariants.{First, Second}
-use Rattle.rr_disk.specs.Crash.{Images}
-use Rattle.rr_frame.specs.Numbers.{number_bytes}
+use Rattle.rr_frame.specs.declared.version.Version.{Version}
+use Rattle.rr_frame.specs.declared.version.Version.TheVariants.{One, Two}
 use Rattle.rr_frame.specs.Snapshots.{Snapped}
-use Rattle.rr_frame.specs.SnapshotFormat.{snapshot_in, snapshot_bytes, IsLawfulSnapshot}
-use Rattle.rr_journal.specs.Moments.{with_image, IsGrounded}
-use Rattle.rr_journal.specs.Calls.{frame_bytes, must_close}
-use Rattle.rr_image.specs.Image.{Content, Found, Unformatted, Broken, Active, Front, Blank, Faulty, Begins, is_formatted, frame_behind, of_node, front_behind, front_of, content_behind, active, found_by, found}
-use Rattle.rr_image.specs.Held.{StandsFor, Holds}
-use Rattle.rr_journal.specs.Openings.{formatted}
-use Rattle.rr_journal.specs.OpeningTable.{first_snapshot, formatting, IsBlank}
-use Rattle.rr_image.proofs.FrameLaws.{begun}
-use Rattle.rr_journal.proofs.FlushLaws.{frame_split}
-use Rattle.rr_image.proofs.ReadingLaws.{at_closed}
-use Rattle.rr_journal.proofs.SnapshotSize.{length-snapshot_bytes}
+use Rattle.rr_frame.specs.SnapshotFormat.{snapshot_in}
+use Rattle.rr_journal.specs.Calls.{must_close}
+use Rattle.rr_image.specs.Image.{Content, Unformatted, Broken, Front, Blank, Faulty, Begins, is_formatted, frame_behind, of_node, front_behind, front_of, content_behind, active, found_by, found}
 
 -- ---- areas that aren't formatted
 
@@ -26,13 +16,13 @@ never_blank : (n p : ℕ) (f : Option (List ℕ × List ℕ)) → front_behind n
 never_blank n p None e = absurd cc
 never_blank n p (Some x) e = by_snapshot (snapshot_in x.0) e
   where
-    by_own : (t : Bool) (c : Content) (rest : List ℕ) → cond t (Begins c rest) Faulty ≡ Blank → ⊥
-    by_own true c rest e = absurd cc
-    by_own false c rest e = absurd cc
+    by_own : (t : Bool) (version : Version) (c : Content) (rest : List ℕ) → cond t (Begins version c rest) Faulty ≡ Blank → ⊥
+    by_own true version c rest e = absurd cc
+    by_own false version c rest e = absurd cc
 
-    by_snapshot : (r : Result Snapped ℕ) → elim r [ Err offset ↦ Faulty | Ok s ↦ of_node n p s (length x.0) x.1 ] ≡ Blank → ⊥
+    by_snapshot : (r : Result (Version × Snapped) ℕ) → elim r [ Err offset ↦ Faulty | Ok s ↦ of_node n p s.0 s.1 (length x.0) x.1 ] ≡ Blank → ⊥
     by_snapshot (Err k) e = absurd cc
-    by_snapshot (Ok s) e = by_own _ _ _ e
+    by_snapshot (Ok s) e = by_own _ _ _ _ e
 
 blank_bytes : (n p : ℕ) (bytes : List ℕ) → front_of n p bytes ≡ Blank → is_formatted bytes ≡ false
 blank_bytes n p bytes e = by_test (is_formatted bytes) refl e
@@ -77,96 +67,30 @@ open_at_front (g ∷ bytes) due = (omega arith, eqb-false g 165 due)
 
 -- ---- disks of which no area is formatted
 
-not_active : (area : Area) (r : Result Content ℕ) → active area r ≡ Unformatted → ⊥
-not_active area (Ok c) e = absurd cc
-not_active area (Err k) e = absurd cc
+not_active : (version : Version) (area : Area) (r : Result Content ℕ) → active version area r ≡ Unformatted → ⊥
+not_active One area (Ok c) e = absurd cc
+not_active Two area (Ok c) e = absurd cc
+not_active One area (Err k) e = absurd cc
+not_active Two area (Err k) e = absurd cc
 
 pub blanks : (n p : ℕ) (first second : List ℕ) → found n p first second ≡ Unformatted → (front_of n p first ≡ Blank) × (front_of n p second ≡ Blank)
 unfolding found
 blanks n p first second e = by_fronts (front_of n p first) (front_of n p second) e
   where
-    by_epoch : (same older : Bool) (one two : Result Content ℕ) → cond same (Broken Second 0) (cond older (active First one) (active Second two)) ≡ Unformatted → ⊥
-    by_epoch true older one two e = absurd cc
-    by_epoch false true one two e = not_active First one e
-    by_epoch false false one two e = not_active Second two e
+    by_epoch : (same older : Bool) (v w : Version) (one two : Result Content ℕ) → cond same (Broken Second 0) (cond older (active v First one) (active w Second two)) ≡ Unformatted → ⊥
+    by_epoch true older v w one two e = absurd cc
+    by_epoch false true v w one two e = not_active v First one e
+    by_epoch false false v w one two e = not_active w Second two e
 
     by_fronts : (one two : Front) → found_by n p one two ≡ Unformatted → (one ≡ Blank) × (two ≡ Blank)
     by_fronts Faulty two e = absurd cc
     by_fronts Blank Faulty e = absurd cc
     by_fronts Blank Blank e = (refl, refl)
-    by_fronts Blank (Begins c rest) e = absurd (not_active Second _ e)
-    by_fronts (Begins c rest) Faulty e = absurd cc
-    by_fronts (Begins c rest) Blank e = absurd (not_active First _ e)
-    by_fronts (Begins c rest) (Begins d rest_2) e = absurd (by_epoch (eqb c.epoch d.epoch) (ltb d.epoch c.epoch) (content_behind n p c rest) (content_behind n p d rest_2) e)
+    by_fronts Blank (Begins v c rest) e = absurd (not_active v Second _ e)
+    by_fronts (Begins v c rest) Faulty e = absurd cc
+    by_fronts (Begins v c rest) Blank e = absurd (not_active v First _ e)
+    by_fronts (Begins v c rest) (Begins w d rest_2) e = absurd (by_epoch (eqb c.epoch d.epoch) (ltb d.epoch c.epoch) v w (content_behind v n p c rest) (content_behind w n p d rest_2) e)
 
 pub both_blank : (n p : ℕ) (first second : List ℕ) → front_of n p first ≡ Blank → front_of n p second ≡ Blank → found n p first second ≡ Unformatted
 unfolding found
 both_blank n p first second one two = ap (λ (f : Front). found_by n p f (front_of n p second)) one ∙ ap (λ (f : Front). found_by n p Blank f) two
-
--- such a disk holds no facts but none
-pub none_held : (n p : ℕ) (images : Images) (facts : List Fact) → found n p images.of_first images.of_second ≡ Unformatted → Holds n p images facts → length facts ≡ 0
-none_held n p images facts is holds = subst (λ (f : Found). StandsFor f facts) is holds.stands
-
-pub still_held : (n p : ℕ) (old new : Images) (facts : List Fact) → found n p old.of_first old.of_second ≡ Unformatted → Holds n p old facts → found n p new.of_first new.of_second ≡ Unformatted → Holds n p new facts
-still_held n p old new facts was holds is = record { fit = holds.fit; stands = subst (λ (f : Found). StandsFor f facts) (sym is) (none_held n p old facts was holds) }
-
--- ---- the flush
-
-pub found_formatted : (n p : ℕ) (image second : List ℕ) → IsLawfulSnapshot (first_snapshot n p) → front_of n p second ≡ Blank
-    → take (1 + length (formatting n p).body) image ≡ 165 ∷ (formatting n p).body → found n p image second ≡ Active First formatted
-unfolding found content_behind
-found_formatted n p image second lawful blank e =
-    let payload : List ℕ = snapshot_bytes (first_snapshot n p) in
-    let junk : List ℕ = drop (1 + length (frame_bytes (snapshot_bytes (first_snapshot n p)))) image in
-    let size : length (snapshot_bytes (first_snapshot n p)) ≡ 23 = length-snapshot_bytes (first_snapshot n p) refl in
-    let short : length (snapshot_bytes (first_snapshot n p)) < 2 ^ 32 = omega (arith, size) in
-    let c : Content = record { epoch = 1; promise = []; next = 0; gate = 5 + length (snapshot_bytes (first_snapshot n p)) } in
-    let same : c ≡ formatted = ap (λ (k : ℕ). record { epoch = 1; promise = []; next = 0; gate = 5 + k }) size in
-    let whole : image ≡ 165 ∷ (number_bytes 4 (length (snapshot_bytes (first_snapshot n p))) ++ (snapshot_bytes (first_snapshot n p) ++ (0 ∷ junk))) =
-    sym (take-append-drop (1 + length (frame_bytes (snapshot_bytes (first_snapshot n p)))) image)
-    ∙ ap (λ (b : List ℕ). b ++ junk) e
-    ∙ ap (λ (b : List ℕ). 165 ∷ b) (frame_split (snapshot_bytes (first_snapshot n p)) junk) in
-    let front : front_of n p image ≡ Begins c (0 ∷ junk) = ap (front_of n p) whole ∙ begun (first_snapshot n p) 0 junk lawful short in
-    ap (λ (f : Front). found_by n p f (front_of n p second)) front
-    ∙ ap (λ (f : Front). found_by n p (Begins c (0 ∷ junk)) f) blank
-    ∙ ap (active First) (at_closed (length (0 ∷ junk)) n p c (0 ∷ junk) (λ z. absurd (omega (arith, z))))
-    ∙ ap (Active First) same
-
-pub holds_formatted : (n p : ℕ) (start : Images) (image : List ℕ) (facts : List Fact) → IsLawfulSnapshot (first_snapshot n p)
-    → found n p start.of_first start.of_second ≡ Unformatted → Holds n p start facts
-    → take (1 + length (formatting n p).body) image ≡ 165 ∷ (formatting n p).body → Holds n p (with_image start First image) facts
-holds_formatted n p start image facts lawful blank holds e =
-    let is = found_formatted n p image start.of_second lawful (blanks n p start.of_first start.of_second blank).1 e in
-    let none : facts ≡ [] = nil_from_length facts (none_held n p start facts blank holds) in
-    let stands : StandsFor (Active First formatted) facts = subst (λ (fs : List Fact). StandsFor (Active First formatted) fs) (sym none) (refl, refl) in
-    record { fit = holds.fit; stands = subst (λ (f : Found). StandsFor f facts) (sym is) stands }
-
--- formatting rests on a closed gate at the front of an area that isn't formatted
-pub format_grounded : (n p : ℕ) (start : Images) (facts : List Fact) → IsLawfulSnapshot (first_snapshot n p)
-    → found n p start.of_first start.of_second ≡ Unformatted → Holds n p start facts → 0 < length start.of_first → get_or start.of_first 0 0 ≢ 165 → IsGrounded (Holds n p) (formatting n p) start facts
-format_grounded n p start facts lawful blank holds there shut = record {
-  there = there;
-  closed = shut;
-  before = λ image bytes long same closed.
-      still_held n p start (with_image start First image) facts blank holds (both_blank n p image start.of_second (closed_blank n p image closed) (blanks n p start.of_first start.of_second blank).1);
-  after = λ image bytes e. subst (λ (fs : List Fact). Holds n p (with_image start First image) fs) (sym (append-nil facts)) (holds_formatted n p start image facts lawful blank holds e);
-}
-
--- what is left of both areas once the first gate of area 0 is closed
-abbrev pub gate_closed : Images → Images
-gate_closed start = record start { of_first = 0 ∷ drop 1 start.of_first }
-
--- the closing of the first gate leaves a disk of which no area is formatted
-pub closed_unformatted : (n p : ℕ) (start : Images) → found n p start.of_first start.of_second ≡ Unformatted → found n p (gate_closed start).of_first (gate_closed start).of_second ≡ Unformatted
-closed_unformatted n p start blank =
-    both_blank n p (0 ∷ drop 1 start.of_first) start.of_second (closed_blank n p (0 ∷ drop 1 start.of_first) (λ e. absurd (omega (arith, e)))) (blanks n p start.of_first start.of_second blank).1
-
-pub closed_fresh : (n p : ℕ) (facts : List Fact) (start : Images) → IsBlank n p facts start → IsBlank n p facts (gate_closed start)
-closed_fresh n p facts start fresh =
-    let after = closed_unformatted n p start fresh.blank in
-    record { blank = after; holds = still_held n p start (gate_closed start) facts fresh.blank fresh.holds after; spelt = fresh.spelt }
-
-pub close_grounded : (n p : ℕ) (facts : List Fact) (start : Images) → IsBlank n p facts start → IsGrounded (Holds n p) (formatting n p) (gate_closed start) facts
-close_grounded n p facts start fresh =
-    let after = closed_fresh n p facts start fresh in
-    format_grounded n p (gate_closed start) facts fresh.spelt after.blank after.holds (omega arith) (λ e. absurd (omega (arith, e)))

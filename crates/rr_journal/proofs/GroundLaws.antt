@@ -9,6 +9,7 @@ use Rattle.rr_disk.specs.declared.area.Area.TheVariants.{First, Second}
 use Rattle.rr_disk.specs.Areas.{Extent, Torn, replaced, at_rest, firm_cell}
 use Rattle.rr_disk.specs.Crash.{Images, restarted}
 use Rattle.rr_disk.proofs.Agreeing.{agrees_length, torn_back}
+use Rattle.rr_frame.specs.declared.version.Version.TheVariants.{Two}
 use Rattle.rr_frame.specs.Numbers.{number_bytes}
 use Rattle.rr_frame.specs.Snapshots.{Snapped}
 use Rattle.rr_frame.specs.SnapshotFormat.{snapshot_bytes, IsLawfulSnapshot}
@@ -32,8 +33,8 @@ content_of s = record { epoch = s.epoch; promise = s.entries; next = s.next; gat
 -- an area that begins with a snapshot's frame, and a closed gate behind it
 pub record IsSnapped (s : Snapped) (image : List ℕ) : Type 0 where
   pub rest : List ℕ
-  pub front : front_of s.nodes s.node image ≡ Begins (content_of s) rest
-  pub content : content_behind s.nodes s.node (content_of s) rest ≡ Ok (content_of s)
+  pub front : front_of s.nodes s.node image ≡ Begins Two (content_of s) rest
+  pub content : content_behind Two s.nodes s.node (content_of s) rest ≡ Ok (content_of s)
 
 pub snapped : (s : Snapped) (image : List ℕ) → IsLawfulSnapshot s → length (snapshot_bytes s) < 2 ^ 32 → take (1 + length (frame_bytes (snapshot_bytes s))) image ≡ 165 ∷ frame_bytes (snapshot_bytes s) → IsSnapped s image
 unfolding content_behind
@@ -46,7 +47,7 @@ snapped s image lawful short e =
     record {
       rest = 0 ∷ junk;
       front = ap (front_of s.nodes s.node) whole ∙ begun s 0 junk lawful short;
-      content = at_closed (length (0 ∷ junk)) s.nodes s.node (content_of s) (0 ∷ junk) (λ z. absurd (omega (arith, z)));
+      content = at_closed Two (length (0 ∷ junk)) s.nodes s.node (content_of s) (0 ∷ junk) (λ z. absurd (omega (arith, z)));
     }
 
 -- the snapshot of an active content's promise with the next epoch
@@ -60,7 +61,7 @@ made n p k area d facts = record { nodes = n; node = p; area = other_area area; 
 module _ (n p k : ℕ) (start : Images) (facts : List Fact) (area : Area) (d : Content) (holds : Holds n p start facts) (is : found n p start.of_first start.of_second ≡ Active area d) where
   -- as long as the other area isn't formatted, the facts are held
   pub held_beside : (image : List ℕ) → front_of n p image ≡ Blank → Holds n p (with_image start (other_area area) image) facts
-  held_beside image blank = record { fit = holds.fit; stands = subst (λ (f : Found). StandsFor f facts) (is ∙ sym (blank_beside n p start area d image is blank)) holds.stands }
+  held_beside image blank = record { fit = holds.fit; stands = subst (λ (f : Found). StandsFor f facts) (is ∙ sym (blank_beside Two n p start area d image is blank)) holds.stands }
 
   as_before : (image : List ℕ) → image ≡ image_of start (other_area area) → Holds n p (with_image start (other_area area) image) facts
   as_before image same = subst (λ (b : List ℕ). Holds n p (with_image start (other_area area) b) facts) (sym same) (own area)
@@ -101,7 +102,7 @@ module _ (n p k : ℕ) (start : Images) (facts : List Fact) (area : Area) (d : C
         → found n p (with_image start (other_area area) image).of_first (with_image start (other_area area) image).of_second ≡ Active (other_area area) (content_of (snap_of n p d facts))
     found_snapped image e =
         let own = snapped (snap_of n p d facts) image spelt short e in
-        newer_beside n p start area d (content_of (snap_of n p d facts)) image own.rest is own.front refl own.content
+        newer_beside Two n p start area d (content_of (snap_of n p d facts)) image own.rest is own.front refl own.content
 
     -- and holds the same facts
     pub held_snapped : (image : List ℕ) → take (1 + length (made n p k area d facts).body) image ≡ 165 ∷ (made n p k area d facts).body → Holds n p (with_image start (other_area area) image) facts

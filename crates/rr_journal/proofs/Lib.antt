@@ -6,10 +6,12 @@ pub mod FlushLaws
 pub mod FormatLaws
 pub mod FoundLaws
 pub mod GroundLaws
+pub mod HeldLaws
 pub mod OpeningEnds
 pub mod OpeningLaws
 pub mod OtherLaws
 pub mod PromisedLaws
+pub mod RewriteLaws
 pub mod SnapshotLaws
 pub mod SnapshotSize
 pub mod StageLaws

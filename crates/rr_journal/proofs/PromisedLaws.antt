@@ -13,6 +13,7 @@ use Rattle.rr_types.specs.Promises.{standing_in, set_entry, set_standing, take_o
 use Rattle.rr_types.specs.Standings.{fits}
 use Rattle.rr_types.specs.Groups.{Grouped}
 use Rattle.rr_disk.specs.declared.area.Area.{Area}
+use Rattle.rr_frame.specs.declared.version.Version.{Version}
 use Rattle.rr_frame.specs.Reading.{if_lawful, number_at}
 use Rattle.rr_frame.specs.GroupFormat.{group_in}
 use Rattle.rr_frame.specs.Snapshots.{Snapped, IsSnapshot, IsContents, proposes_lawfully}
@@ -21,8 +22,7 @@ use Rattle.rr_frame.proofs.FactLaws.{at_end_ok}
 use Rattle.rr_frame.proofs.FieldLaws.{bind_ok, ok_is}
 use Rattle.rr_frame.proofs.SnapshotShapes.{contents_stand}
 use Rattle.rr_journal.specs.Moments.{image_of}
-use Rattle.rr_image.specs.Image.{Content, Found, Unformatted, Broken, Active, Blank, Faulty, Begins, frame_behind, with_group, after_payload, after_frame, content_from, is_formatted, of_node, front_behind, front_of, content_behind, found}
-use Rattle.rr_journal.specs.Openings.{Phase, Settling, ReadingFirst, ReadingSecond, Formatting, Opens, formatted, after_found, after_opening_call}
+use Rattle.rr_image.specs.Image.{Content, Blank, Faulty, Begins, frame_behind, with_group, after_payload, after_frame, content_from, is_formatted, of_node, front_behind, front_of, content_behind, active_in, found}
 use Rattle.rr_journal.proofs.FoundLaws.{is_active}
 use Rattle.rr_image.proofs.ReadingLaws.{after_parts}
 
@@ -89,8 +89,8 @@ pub none_taken : (next : ℕ) (es : List Entry) (fs : List Fact) → (next ≡ 0
 none_taken next es [] empty start = empty (omega (arith, start))
 none_taken next es (f ∷ fs) empty start = absurd (omega (arith, start))
 
-group_promised : (n p : ℕ) (c d : Content) (payload : List ℕ) → IsPromised n p c → after_payload n p c payload ≡ Some d → IsPromised n p d
-group_promised n p c d payload h e = by_group (group_in payload) e
+group_promised : (version : Version) (n p : ℕ) (c d : Content) (payload : List ℕ) → IsPromised n p c → after_payload version n p c payload ≡ Some d → IsPromised n p d
+group_promised version n p c d payload h e = by_group (group_in version payload) e
   where
     by_test : (g : Grouped) (t : Bool) → (eqb g.serial c.next && all_fit n p c.promise g.facts) ≡ t
         → cond t (Some (record c { promise = take_on_all c.promise g.facts; next = c.next + length g.facts; gate = c.gate + 5 + length payload })) None ≡ Some d → IsPromised n p d
@@ -107,84 +107,70 @@ group_promised n p c d payload h e = by_group (group_in payload) e
     by_group (Ok g) e = by_test g (eqb g.serial c.next && all_fit n p c.promise g.facts) refl e
 
 -- what is read behind a frame
-abbrev read_on : ℕ → ℕ → ℕ → Content → Option (Content × List ℕ) → Result Content ℕ
-read_on k n p c r = elim r [ None ↦ Err c.gate | Some d ↦ content_from k n p d.0 d.1 ]
+abbrev read_on : (version : Version) → ℕ → ℕ → ℕ → Content → Option (Content × List ℕ) → Result Content ℕ
+read_on version k n p c r = elim r [ None ↦ Err c.gate | Some d ↦ content_from version k n p d.0 d.1 ]
 
-content_promised : (k n p : ℕ) (c d : Content) (bytes : List ℕ) → IsPromised n p c → content_from k n p c bytes ≡ Ok d → IsPromised n p d
-content_promised k n p c d [] h e = let same : c ≡ d = cc in subst (IsPromised n p) same h
-content_promised zero n p c d (g ∷ bytes) h e = let same : c ≡ d = cc in subst (IsPromised n p) same h
-content_promised (suc k) n p c d (g ∷ bytes) h e = by_gate (eqb g 165) refl (λ mid rest. content_promised k n p mid d rest)
+content_promised : (version : Version) (k n p : ℕ) (c d : Content) (bytes : List ℕ) → IsPromised n p c → content_from version k n p c bytes ≡ Ok d → IsPromised n p d
+content_promised version k n p c d [] h e = let same : c ≡ d = cc in subst (IsPromised n p) same h
+content_promised version zero n p c d (g ∷ bytes) h e = let same : c ≡ d = cc in subst (IsPromised n p) same h
+content_promised version (suc k) n p c d (g ∷ bytes) h e = by_gate (eqb g 165) refl (λ mid rest. content_promised version k n p mid d rest)
   where
-    by_frame : (r : Option (Content × List ℕ)) → after_frame n p c bytes ≡ r → ((mid : Content) (rest : List ℕ) → IsPromised n p mid → content_from k n p mid rest ≡ Ok d → IsPromised n p d)
-        → read_on k n p c r ≡ Ok d → IsPromised n p d
+    by_frame : (r : Option (Content × List ℕ)) → after_frame version n p c bytes ≡ r → ((mid : Content) (rest : List ℕ) → IsPromised n p mid → content_from version k n p mid rest ≡ Ok d → IsPromised n p d)
+        → read_on version k n p c r ≡ Ok d → IsPromised n p d
     by_frame None is on now = absurd cc
-    by_frame (Some x) is on now = let parts = after_parts n p c bytes x is in on x.0 x.1 (group_promised n p c x.0 parts.0 h parts.2) now
+    by_frame (Some x) is on now = let parts = after_parts version n p c bytes x is in on x.0 x.1 (group_promised version n p c x.0 parts.0 h parts.2) now
 
-    by_gate : (t : Bool) → eqb g 165 ≡ t → ((mid : Content) (rest : List ℕ) → IsPromised n p mid → content_from k n p mid rest ≡ Ok d → IsPromised n p d) → IsPromised n p d
+    by_gate : (t : Bool) → eqb g 165 ≡ t → ((mid : Content) (rest : List ℕ) → IsPromised n p mid → content_from version k n p mid rest ≡ Ok d → IsPromised n p d) → IsPromised n p d
     by_gate false shut on =
-        let ends : content_from (suc k) n p c (g ∷ bytes) ≡ Ok c = rw shut refl in
+        let ends : content_from version (suc k) n p c (g ∷ bytes) ≡ Ok c = rw shut refl in
         let same : c ≡ d = cc in
         subst (IsPromised n p) same h
-    by_gate true open_gate on = by_frame (after_frame n p c bytes) refl on (rw open_gate at e)
+    by_gate true open_gate on = by_frame (after_frame version n p c bytes) refl on (rw open_gate at e)
 
 -- a snapshot that is read keeps it
-read_promised : (bytes : List ℕ) (s : Snapped) → snapshot_in bytes ≡ Ok s → IsContents s.nodes s.node s.next s.entries
+read_promised : (bytes : List ℕ) (version : Version) (s : Snapped) → snapshot_in bytes ≡ Ok (version, s) → IsContents s.nodes s.node s.next s.entries
 unfolding snapshot_in snapshot_at
-read_promised bytes s e =
-    let whole = at_end_ok (length bytes) (snapshot_at bytes) s e in
-    let o = bind_ok (owner_at bytes) _ (s, []) whole in
-    let a = bind_ok (number_at 8 o.0.1) _ (s, []) o.2 in
-    let b = bind_ok (if_lawful (leb 1 a.0.0) o.0.1 a.0) _ (s, []) a.2 in
-    let d = bind_ok (contents_at o.0.0.1 o.0.0.0 b.0.1) _ (s, []) b.2 in
-    let made : Snapped × List ℕ = (record { node = o.0.0.0; nodes = o.0.0.1; epoch = b.0.0; next = d.0.0.0; entries = d.0.0.1 }, d.0.1) in
-    subst (λ (z : Snapped × List ℕ). IsContents z.0.nodes z.0.node z.0.next z.0.entries) (ok_is made (s, []) d.2) (contents_stand o.0.0.1 o.0.0.0 b.0.1 d.0 d.1)
+read_promised bytes version s e =
+    let whole = at_end_ok (length bytes) (snapshot_at bytes) (version, s) e in
+    let o = bind_ok (owner_at bytes) _ ((version, s), []) whole in
+    let a = bind_ok (number_at 8 o.0.1) _ ((version, s), []) o.2 in
+    let b = bind_ok (if_lawful (leb 1 a.0.0) o.0.1 a.0) _ ((version, s), []) a.2 in
+    let d = bind_ok (contents_at o.0.0.0 o.0.0.2 o.0.0.1 b.0.1) _ ((version, s), []) b.2 in
+    let made : (Version × Snapped) × List ℕ = ((o.0.0.0, record { node = o.0.0.1; nodes = o.0.0.2; epoch = b.0.0; next = d.0.0.0; entries = d.0.0.1 }), d.0.1) in
+    subst (λ (z : (Version × Snapped) × List ℕ). IsContents z.0.1.nodes z.0.1.node z.0.1.next z.0.1.entries) {x = made} (ok_is made ((version, s), []) d.2) (contents_stand o.0.0.0 o.0.0.2 o.0.0.1 b.0.1 d.0 d.1)
 
 -- and so does the content that it begins
-begins_promised : (n p : ℕ) (c : Content) (bytes rest : List ℕ) → front_of n p bytes ≡ Begins c rest → IsPromised n p c
-begins_promised n p c bytes rest e = by_test (is_formatted bytes) e
+begins_promised : (version : Version) (n p : ℕ) (c : Content) (bytes rest : List ℕ) → front_of n p bytes ≡ Begins version c rest → IsPromised n p c
+begins_promised version n p c bytes rest e = by_test (is_formatted bytes) e
   where
-    by_own : (payload behind : List ℕ) (s : Snapped) (t : Bool) → (eqb s.node p && eqb s.nodes n) ≡ t → snapshot_in payload ≡ Ok s
-        → cond t (Begins (record { epoch = s.epoch; promise = s.entries; next = s.next; gate = 5 + length payload }) behind) Faulty ≡ Begins c rest → IsPromised n p c
-    by_own payload behind s false own spelt now = absurd cc
-    by_own payload behind s true own spelt now =
+    by_own : (payload behind : List ℕ) (other : Version) (s : Snapped) (t : Bool) → (eqb s.node p && eqb s.nodes n) ≡ t → snapshot_in payload ≡ Ok (other, s)
+        → cond t (Begins other (record { epoch = s.epoch; promise = s.entries; next = s.next; gate = 5 + length payload }) behind) Faulty ≡ Begins version c rest → IsPromised n p c
+    by_own payload behind other s false own spelt now = absurd cc
+    by_own payload behind other s true own spelt now =
         let both = and_parts (eqb s.node p) (eqb s.nodes n) own in
-        let read = read_promised payload s spelt in
+        let read = read_promised payload other s spelt in
         let made : record { epoch = s.epoch; promise = s.entries; next = s.next; gate = 5 + length payload } ≡ c = cc in
         let stands : all_stand n p s.entries ≡ true = subst (λ (k : ℕ). all_stand k p s.entries ≡ true) (eqb-true _ _ both.1) (subst (λ (k : ℕ). all_stand s.nodes k s.entries ≡ true) (eqb-true _ _ both.0) read.proposals) in
         subst (IsPromised n p) made (record { empty = read.empty; stands = stands })
 
-    by_snapshot : (payload behind : List ℕ) (r : Result Snapped ℕ) → snapshot_in payload ≡ r → elim r [ Err offset ↦ Faulty | Ok s ↦ of_node n p s (length payload) behind ] ≡ Begins c rest → IsPromised n p c
+    by_snapshot : (payload behind : List ℕ) (r : Result (Version × Snapped) ℕ) → snapshot_in payload ≡ r → elim r [ Err offset ↦ Faulty | Ok x ↦ of_node n p x.0 x.1 (length payload) behind ] ≡ Begins version c rest → IsPromised n p c
     by_snapshot payload behind (Err offset) spelt now = absurd cc
-    by_snapshot payload behind (Ok s) spelt now = by_own payload behind s (eqb s.node p && eqb s.nodes n) refl spelt now
+    by_snapshot payload behind (Ok (other, s)) spelt now = by_own payload behind other s (eqb s.node p && eqb s.nodes n) refl spelt now
 
-    by_frame : (f : Option (List ℕ × List ℕ)) → front_behind n p f ≡ Begins c rest → IsPromised n p c
+    by_frame : (f : Option (List ℕ × List ℕ)) → front_behind n p f ≡ Begins version c rest → IsPromised n p c
     by_frame None now = absurd cc
     by_frame (Some x) now = by_snapshot x.0 x.1 (snapshot_in x.0) refl now
 
-    by_test : (t : Bool) → cond t (front_behind n p (frame_behind (drop 1 bytes))) Blank ≡ Begins c rest → IsPromised n p c
+    by_test : (t : Bool) → cond t (front_behind n p (frame_behind (drop 1 bytes))) Blank ≡ Begins version c rest → IsPromised n p c
     by_test false now = absurd cc
     by_test true now = by_frame (frame_behind (drop 1 bytes)) now
 
 -- so the content of an active area is such
-pub found_promised : (n p : ℕ) (first second : List ℕ) (area : Area) (c : Content) → found n p first second ≡ Active area c → IsPromised n p c
+pub found_promised : (version : Version) (n p : ℕ) (first second : List ℕ) (area : Area) (c : Content) → found n p first second ≡ active_in version area c → IsPromised n p c
 unfolding content_behind
-found_promised n p first second area c is =
-    let a = is_active n p (record { of_first = first; of_second = second }) area c is in
-    content_promised (length a.rest) n p a.begin c a.rest (begins_promised n p a.begin (image_of (record { of_first = first; of_second = second }) area) a.rest a.front) a.content
-
--- and the content with which an opening ends
-pub opens_promised : (n p : ℕ) (bytes : List ℕ) (phase : Phase) (area : Area) (c : Content) → after_opening_call n p bytes phase ≡ Opens area c → IsPromised n p c
-opens_promised n p bytes Settling area c is = absurd cc
-opens_promised n p bytes ReadingFirst area c is = absurd cc
-opens_promised n p bytes (ReadingSecond first) area c is = by (found n p first bytes) refl is
-  where
-    by : (f : Found) → found n p first bytes ≡ f → after_found n p first f ≡ Opens area c → IsPromised n p c
-    by Unformatted finds now = absurd cc
-    by (Broken place offset) finds now = absurd cc
-    by (Active place d) finds now = let same : d ≡ c = cc in subst (IsPromised n p) same (found_promised n p first bytes place d finds)
-opens_promised n p bytes (Formatting []) area c is = let same : formatted ≡ c = cc in subst (IsPromised n p) same (record { empty = λ start. refl; stands = refl })
-opens_promised n p bytes (Formatting (call ∷ [])) area c is = let same : formatted ≡ c = cc in subst (IsPromised n p) same (record { empty = λ start. refl; stands = refl })
-opens_promised n p bytes (Formatting (call ∷ next ∷ calls)) area c is = absurd cc
+found_promised version n p first second area c is =
+    let a = is_active version n p (record { of_first = first; of_second = second }) area c is in
+    content_promised version (length a.rest) n p a.begin c a.rest (begins_promised version n p a.begin (image_of (record { of_first = first; of_second = second }) area) a.rest a.front) a.content
 
 -- of one of the nodes: a snapshot can hold it
 pub promised_snapshot : (n p epoch : ℕ) (c : Content) → p < n → IsPromised n p c → IsSnapshot (record { node = p; nodes = n; epoch = epoch + 1; next = c.next; entries = c.promise })

@@ -1,13 +1,18 @@
--- The size of an empty snapshot, and that it is one.
+-- The size of a snapshot, and that there is an empty one.
 use Rattle.std.proofs.Common.{◌≡◌, ℕ, ◌<◌, List, [], length, arith, ap, length-append}
 use Rattle.std.specs.List.{flat_map, list_all}
 use Rattle.rr_types.specs.declared.promise.Entry.{Entry}
 use Rattle.rr_frame.specs.Snapshots.{Snapped, IsSnapshot, proposes_lawfully}
-use Rattle.rr_frame.specs.SnapshotFormat.{snapshot_bytes, entry_bytes, owner_bytes, contents_bytes}
+use Rattle.rr_frame.specs.SnapshotFormat.{snapshot_bytes, snapshot_bytes_in, entry_bytes, owner_bytes, contents_bytes}
 use Rattle.rr_frame.proofs.FieldLaws.{length-number_bytes}
+use Rattle.rr_journal.specs.Openings.{snapshot_size}
+
+pub snapshot_sized : (s : Snapped) → length (snapshot_bytes s) ≡ snapshot_size s.entries
+unfolding snapshot_bytes_in owner_bytes contents_bytes
+snapshot_sized s = simp (length-append, length-number_bytes) (omega arith)
 
 pub length-snapshot_bytes : (s : Snapped) → s.entries ≡ [] → length (snapshot_bytes s) ≡ 23
-unfolding snapshot_bytes owner_bytes contents_bytes
+unfolding snapshot_bytes_in owner_bytes contents_bytes
 length-snapshot_bytes s e =
     let nothing : length (flat_map entry_bytes s.entries) ≡ 0 = ap (λ (es : List Entry). length (flat_map entry_bytes es)) e in
     simp (length-append, length-number_bytes) (omega (arith, nothing))

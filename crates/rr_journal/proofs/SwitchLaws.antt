@@ -8,6 +8,7 @@ use Rattle.rr_disk.specs.declared.area.Area.TheVariants.{First, Second}
 use Rattle.rr_disk.specs.Areas.{Extent, Areas, Torn, extent_of, replaced, written, at_rest}
 use Rattle.rr_disk.specs.Crash.{Images, IsCrashImage, restarted}
 use Rattle.rr_disk.proofs.Torn.{torn_written}
+use Rattle.rr_frame.specs.declared.version.Version.TheVariants.{Two}
 use Rattle.rr_frame.specs.SnapshotFormat.{snapshot_bytes, IsLawfulSnapshot}
 use Rattle.rr_journal.specs.Flushes.{Flush}
 use Rattle.rr_journal.specs.Moments.{image_of, with_image, with_group, EachHolds, gate_opened, body_written}
@@ -22,7 +23,7 @@ use Rattle.rr_journal.specs.OpeningTable.{IsLeftBy}
 use Rattle.rr_journal.specs.OtherAreas.{other_area}
 use Rattle.rr_journal.proofs.FlushLaws.{opened, length-frame}
 use Rattle.rr_journal.proofs.FormatLaws.{closed_blank, open_at_front}
-use Rattle.rr_journal.proofs.OpeningLaws.{either_held, rest_held}
+use Rattle.rr_journal.proofs.HeldLaws.{either_held, rest_held}
 use Rattle.rr_journal.specs.declared.stage.Stage.{Stage}
 use Rattle.rr_journal.specs.declared.stage.Stage.TheVariants.{Closing, SettlingClosed, WritingBody, SettlingBody, OpeningGate, SettlingGate}
 use Rattle.rr_journal.specs.declared.switch.Switching as code
@@ -104,7 +105,7 @@ module _ {D : Type 0} (slots : Journal D) (facts : List Fact) (k : ℕ) where
       let blank = closed_blank slots.nodes slots.node image shut in
       record {
         holds = held_beside slots.nodes slots.node k start facts slots.area now over.holds over.active image blank;
-        active = blank_beside slots.nodes slots.node start slots.area now image over.active blank;
+        active = blank_beside Two slots.nodes slots.node start slots.area now image over.active blank;
       }
 
   module _ (spelt : IsLawfulSnapshot (snapshot_of slots (promise_of facts))) (short : length (snapshot_bytes (snapshot_of slots (promise_of facts))) < 2 ^ 32) where

@@ -6,6 +6,7 @@ use Rattle.rr_types.specs.Promises.{promise_of}
 use Rattle.rr_disk.specs.Areas.{Areas}
 use Rattle.rr_disk.specs.Crash.{Images, restarted}
 use Rattle.rr_frame.specs.Snapshots.{IsSnapshot}
+use Rattle.rr_image.specs.Image.{Active, found}
 use Rattle.rr_journal.specs.declared.journal.Journal.{Journal}
 use Rattle.rr_journal.specs.declared.opened.Opened.{Opened}
 use Rattle.rr_journal.specs.Journals.{IsOver}
@@ -14,6 +15,12 @@ use Rattle.rr_journal.specs.Journals.{IsOver}
 abbrev pub IsOpenWith : {D : Type 0} → (D → Areas) → List Fact → Journal D × Opened → Type 0
 IsOpenWith areas facts (journal, opened) =
     ((start : Images) × (areas journal.disk ≡ restarted start) × IsOver journal start facts) × (opened.promise ≡ promise_of facts) × (opened.next ≡ length facts)
+
+-- nothing is loose, and the bytes of both areas stand for the promise and the number with which the opening ended, and for where the journal appends
+abbrev pub IsOpenAtRest : {D : Type 0} → (D → Areas) → Journal D × Opened → Type 0
+IsOpenAtRest areas (journal, opened) =
+    (start : Images) × (areas journal.disk ≡ restarted start)
+    × (found journal.nodes journal.node start.of_first start.of_second ≡ Active journal.area (record { epoch = journal.epoch; promise = opened.promise; next = opened.next; gate = journal.gate }))
 
 -- the journal and the opening are node p's of n, and it goes on with the number of the next fact; it has neither failed nor lends its disk; a snapshot of the next epoch can hold the promise
 abbrev pub IsReady : {D : Type 0} → ℕ → ℕ → Journal D × Opened → Type 0

@@ -1,28 +1,30 @@
 -- What an opening makes of the bytes as they stand: what it finds, the device calls that are left, and how it ends.
-use Rattle.std.specs.Prelude.{◌≡◌, ◌⊎◌, ℕ, ◌+◌, ◌-◌, ◌^◌, min, List, [], ◌∷◌, length, Result, Ok, Err}
+use Rattle.std.specs.Prelude.{◌≡◌, ◌⊎◌, ℕ, ◌+◌, ◌-◌, ◌^◌, min, true, if◌then◌else◌, List, [], ◌∷◌, length, Result, Ok, Err}
 use Rattle.rr_types.specs.declared.refusal.Refusal.{Refusal}
-use Rattle.rr_types.specs.declared.refusal.Refusal.TheVariants.{OutOfMemory, Device, Damaged}
+use Rattle.rr_types.specs.declared.refusal.Refusal.TheVariants.{OutOfMemory, Device, Damaged, TooLarge}
 use Rattle.rr_disk.specs.declared.area.Area.{Area}
 use Rattle.rr_disk.specs.declared.area.Area.TheVariants.{First, Second}
-use Rattle.rr_disk.specs.Areas.{Extent, Areas, read_of, synced}
+use Rattle.rr_disk.specs.Areas.{Extent, Areas, extent_of, read_of, settled, synced}
 use Rattle.rr_disk.specs.Counts.{Grew}
 use Rattle.rr_journal.specs.declared.journal.Journal.{Journal}
 use Rattle.rr_journal.specs.declared.opened.Opened.{Opened}
-use Rattle.rr_journal.specs.declared.opening.Opening as code
 use Rattle.rr_journal.specs.declared.opening.Progress as code_2
 use Rattle.rr_journal.specs.declared.opening.Progress.TheVariants as progress
 use Rattle.rr_journal.specs.Calls.{Call, Read, Sync, after_call, format_calls}
 use Rattle.rr_image.specs.Ends.{area_number}
-use Rattle.rr_image.specs.Image.{Found, Unformatted, Broken, Active, found}
-use Rattle.rr_journal.specs.Openings.{Phase, Settling, ReadingFirst, ReadingSecond, Formatting, After, Opens, Stops, formatted, due_call}
+use Rattle.rr_image.specs.Image.{Found, Unformatted, Broken, Active, Outdated, found}
+use Rattle.rr_journal.specs.Openings.{Phase, Settling, ReadingFirst, ReadingSecond, Rewriting, Opens, Stops, bytes_in, may_migrate, migrate_calls, end_by, due_call}
+use Rattle.rr_journal.specs.OtherAreas.{other_area}
+use Rattle.rr_journal.specs.OpeningStates.{OpeningState}
 use Rattle.rr_journal.specs.Phases.{phase_of}
+use Rattle.rr_journal.specs.Rewrites.{writes_anew, area_kept}
 
 -- the device calls that are left at most
 abbrev pub calls_left : Phase → ℕ
 calls_left Settling = 9
 calls_left ReadingFirst = 8
 calls_left (ReadingSecond first) = 7
-calls_left (Formatting calls) = length calls
+calls_left (Rewriting found calls) = length calls
 
 -- what a read of a whole area gives
 abbrev pub whole_read : Extent → List ℕ
@@ -33,27 +35,22 @@ abbrev pub found_from : ℕ → ℕ → Phase → Areas → Found
 found_from n p Settling both = found n p (whole_read both.first) (whole_read both.second)
 found_from n p ReadingFirst both = found n p (whole_read both.first) (whole_read both.second)
 found_from n p (ReadingSecond first) both = found n p first (whole_read both.second)
-found_from n p (Formatting calls) both = Unformatted
+found_from n p (Rewriting found calls) both = found
 
--- the device calls behind the reads, by what they find
-abbrev pub calls_by : ℕ → ℕ → List ℕ → Found → List Call
-calls_by n p first Unformatted = format_calls n p first
-calls_by n p first (Broken area offset) = []
-calls_by n p first (Active area c) = []
+-- the device calls behind the reads of both areas, by what they find
+abbrev pub calls_by : ℕ → ℕ → List ℕ → List ℕ → Found → List Call
+calls_by n p first second Unformatted = format_calls n p first
+calls_by n p first second (Broken area offset) = []
+calls_by n p first second (Active area c) = []
+calls_by n p first second (Outdated area c) = if may_migrate c then migrate_calls n p area c (bytes_in (other_area area) first second) else []
 
 -- the device calls that are left
 abbrev pub calls_from : ℕ → ℕ → Phase → Areas → List Call
-calls_from n p Settling both = Sync ∷ Read First ∷ Read Second ∷ calls_by n p (whole_read both.first) (found n p (whole_read both.first) (whole_read both.second))
-calls_from n p ReadingFirst both = Read First ∷ Read Second ∷ calls_by n p (whole_read both.first) (found n p (whole_read both.first) (whole_read both.second))
-calls_from n p (ReadingSecond first) both = Read Second ∷ calls_by n p first (found n p first (whole_read both.second))
-calls_from n p (Formatting []) both = Sync ∷ []
-calls_from n p (Formatting (call ∷ calls)) both = call ∷ calls
-
--- how an opening ends by what it finds: a disk that isn't formatted is formatted
-abbrev pub end_by : Found → After
-end_by Unformatted = Opens First formatted
-end_by (Broken area offset) = Stops (Damaged (area_number area) offset)
-end_by (Active area c) = Opens area c
+calls_from n p Settling both = Sync ∷ Read First ∷ Read Second ∷ calls_by n p (whole_read both.first) (whole_read both.second) (found n p (whole_read both.first) (whole_read both.second))
+calls_from n p ReadingFirst both = Read First ∷ Read Second ∷ calls_by n p (whole_read both.first) (whole_read both.second) (found n p (whole_read both.first) (whole_read both.second))
+calls_from n p (ReadingSecond first) both = Read Second ∷ calls_by n p first (whole_read both.second) (found n p first (whole_read both.second))
+calls_from n p (Rewriting found []) both = Sync ∷ []
+calls_from n p (Rewriting found (call ∷ calls)) both = call ∷ calls
 
 -- both areas after these calls
 abbrev pub areas_after : List Call → Areas → Areas
@@ -70,7 +67,7 @@ EndsBy found (Ok (journal, opened)) = end_by found ≡ Opens journal.area (recor
 EndsBy found (Err (e, disk)) = (e ≡ OutOfMemory) ⊎ (e ≡ Device) ⊎ (end_by found ≡ Stops e)
 
 -- behind a step an opening finds what it would have found, and makes the calls that were left but one; or it ends so, or is refused for memory or by the device
-abbrev pub StaysOnCourse : {D : Type 0} → (D → Areas) → code.Opening D → Result (code_2.Progress D) (Refusal × D) → Type 0
+abbrev pub StaysOnCourse : {D : Type 0} → (D → Areas) → OpeningState D → Result (code_2.Progress D) (Refusal × D) → Type 0
 StaysOnCourse areas o (Ok (progress.More next)) = (areas next.disk ≡ after_call (due_call (phase_of o.phase)) (areas o.disk))
     × (found_from next.nodes next.node (phase_of next.phase) (areas next.disk) ≡ found_from o.nodes o.node (phase_of o.phase) (areas o.disk))
     × (calls_from o.nodes o.node (phase_of o.phase) (areas o.disk) ≡ due_call (phase_of o.phase) ∷ calls_from next.nodes next.node (phase_of next.phase) (areas next.disk))
@@ -79,17 +76,32 @@ StaysOnCourse areas o (Ok (progress.Done journal opened)) = (areas journal.disk 
     × (calls_from o.nodes o.node (phase_of o.phase) (areas o.disk) ≡ due_call (phase_of o.phase) ∷ [])
 StaysOnCourse areas o (Err (e, disk)) = (e ≡ OutOfMemory) ⊎ (e ≡ Device) ⊎ (end_by (found_from o.nodes o.node (phase_of o.phase) (areas o.disk)) ≡ Stops e)
 
--- an opening is refused for memory, where a device call failed, or for damage
+-- an opening is refused for memory, where a device call failed, for damage, or for want of a next epoch
 abbrev pub IsRefused : {D : Type 0} → (D → ℕ) → D → Refusal × D → Type 0
-IsRefused faults old (e, new) = (e ≡ OutOfMemory) ⊎ ((e ≡ Device) × Grew (faults old) (faults new)) ⊎ ((area : Area) × (offset : ℕ) × (e ≡ Damaged (area_number area) offset))
+IsRefused faults old (e, new) = (e ≡ OutOfMemory) ⊎ ((e ≡ Device) × Grew (faults old) (faults new)) ⊎ ((area : Area) × (offset : ℕ) × (e ≡ Damaged (area_number area) offset)) ⊎ (e ≡ TooLarge)
+
+-- an opening of a disk that holds facts is refused for memory or by the device; or where an area of version 1 can't give way to the other
+abbrev pub IsUndamaged : Found → Refusal → Type 0
+IsUndamaged found e = (e ≡ OutOfMemory) ⊎ (e ≡ Device) ⊎ ((e ≡ TooLarge) × (end_by found ≡ Stops TooLarge))
 
 -- both areas are as they were, or synced
 abbrev pub IsAsBefore : Areas → Areas → Type 0
 IsAsBefore old new = (new ≡ old) ⊎ (new ≡ synced old)
 
--- an opening that doesn't format yet leaves both areas as they were; its first call syncs them
+-- an area is as it was, or synced
+abbrev pub IsLeftAlone : Extent → Extent → Type 0
+IsLeftAlone old new = (new ≡ old) ⊎ (new ≡ settled old)
+
+-- an opening writes an area anew only where what it found asks for that
+abbrev pub IsDue : Phase → Type 0
+IsDue Settling = Unit {0}
+IsDue ReadingFirst = Unit {0}
+IsDue (ReadingSecond first) = Unit {0}
+IsDue (Rewriting found calls) = writes_anew found ≡ true
+
+-- an opening that writes nothing yet leaves both areas as they were; its first call syncs them. One that writes an area anew leaves the other alone
 abbrev pub IsUntouched : Phase → Areas → Areas → Type 0
 IsUntouched Settling old new = IsAsBefore old new
 IsUntouched ReadingFirst old new = new ≡ old
 IsUntouched (ReadingSecond first) old new = new ≡ old
-IsUntouched (Formatting calls) old new = Unit {0}
+IsUntouched (Rewriting found calls) old new = IsLeftAlone (extent_of old (area_kept found)) (extent_of new (area_kept found))

@@ -1,37 +1,36 @@
 //! The opening of a journal, one device call a step.
 
-ghost use Rattle.std.specs.Prelude.{◌≡◌, ◌≢◌, ◌⊎◌, ℕ, ◌+◌, ◌<◌, ◌≤◌, ◌^◌, [], List, length, Some, Ok, Err, OnOk, OnErr, IfOk, IfErr};
+ghost use Rattle.std.specs.Prelude.{◌≡◌, ◌⊎◌, ℕ, ◌+◌, ◌<◌, ◌≤◌, ◌^◌, true, false, List, length, Some, Ok, Err, OnOk, OnErr, IfOk, IfErr};
 ghost use Rattle.rr_types.specs.declared.fact.Fact.{Fact};
 ghost use Rattle.rr_types.specs.declared.refusal.Refusal.TheVariants.{OutOfMemory, Device};
-ghost use Rattle.rr_disk.specs.declared.area.Area.TheVariants.{First};
-ghost use Rattle.rr_disk.specs.Areas.{Areas};
+ghost use Rattle.rr_disk.specs.Areas.{Areas, extent_of};
 ghost use Rattle.rr_disk.specs.Counts.{counted, Grew};
 ghost use Rattle.rr_disk.specs.Failing.{FailingRead, FailingWrite, FailingSync};
-ghost use Rattle.rr_frame.specs.SnapshotFormat.{snapshot_bytes, IsLawfulSnapshot};
-ghost use Rattle.rr_journal.specs.Calls.{must_close, frame_bytes, after_call};
-ghost use Rattle.rr_journal.specs.CrashedDisks.{MayStand, EachHoldsSome, SomeHolds, IsOpenWithOneOf, IsReading, AddsNone, AddsBlankAlone};
-ghost use Rattle.rr_image.specs.Image.{Unformatted, found};
-ghost use Rattle.rr_journal.specs.Openings.{Settling, ReadingSecond, Formatting, Done, Refused, due_call, after_found, after_opening_call};
+ghost use Rattle.rr_frame.specs.Snapshots.{IsSnapshot};
+ghost use Rattle.rr_journal.specs.Calls.{must_close, after_call};
+ghost use Rattle.rr_journal.specs.CrashedDisks.{MayStand, EachHoldsSome, SomeHolds, IsOpenWithOneOf, IsReading, AddsNone, AddsSameAlone};
+ghost use Rattle.rr_image.specs.Image.{Outdated, found};
+ghost use Rattle.rr_journal.specs.Openings.{Settling, ReadingSecond, Rewriting, Done, Refused, bytes_in, snapshot_with, due_call, after_found, after_opening_call};
+ghost use Rattle.rr_journal.specs.Fronts.{front_beside, KnowsFronts, KnowsRead, KnowsOther};
 ghost use Rattle.rr_journal.specs.Phases.{phase_of, Follows};
-ghost use Rattle.rr_journal.specs.OpeningCourse.{calls_left, found_from, calls_from, EndsBy, StaysOnCourse, IsRefused, IsUntouched, IsAsBefore, IsDone};
-ghost use Rattle.rr_journal.specs.OpeningSteps.{Steps, MaySnap};
-ghost use Rattle.rr_journal.specs.OpeningTable.{IsReadBy, IsLeftBy, Rests, contents, formatting, IsFormatting, OpensWith, GoesOnWith, ComesTo, IsKept, disk_after};
-ghost use Rattle.rr_journal.specs.OpenDisks.{IsOpenWith, IsReady, disk_behind};
+ghost use Rattle.rr_journal.specs.OpeningCourse.{calls_left, found_from, calls_from, EndsBy, StaysOnCourse, IsRefused, IsUndamaged, IsDue, IsUntouched, IsAsBefore, IsLeftAlone, IsDone};
+ghost use Rattle.rr_journal.specs.OpeningStates.{OpeningState, IsOwn};
+ghost use Rattle.rr_journal.specs.OpeningSteps.{Steps, MaySnap, MayGoOn};
+ghost use Rattle.rr_journal.specs.OpeningTable.{IsReadBy, IsLeftBy, IsResting, Rests, contents, OpensAny, OpensWith, GoesOnAny, GoesOnWith, ComesToAny, ComesTo, IsKept, disk_after};
+ghost use Rattle.rr_journal.specs.OpenDisks.{IsOpenWith, IsOpenAtRest, IsReady, disk_behind};
 ghost use Rattle.rr_image.specs.Held.{Holds};
 ghost use Rattle.rr_journal.specs.Stages.{calls_from as stage_calls};
-ghost use Rattle.rr_journal.specs.OtherAreas.{front_beside, KnowsFronts, KnowsRead, KnowsOther, IsOtherKnown};
+ghost use Rattle.rr_journal.specs.OtherAreas.{other_area, IsOtherKnown};
+ghost use Rattle.rr_journal.specs.Rewrites.{IsRewriting, writes_anew, area_anew, area_kept, content_anew};
 
-use crate::journal::{Journal, frame};
+use crate::journal::Journal;
 use crate::opened::Opened;
-use crate::stage::Stage;
+use crate::rewrite::Rewrite;
 use rr_disk::{Area, Disk, FailingDisk};
-use rr_frame::{Snapshot, encode_snapshot};
 use rr_image::{Image, OPEN_GATE, read_image};
 use rr_types::{NodeId, Nodes, Promise, Refusal};
 use std::alloc::Global;
-
-/// The place of the last gate of a freshly formatted area: behind a snapshot of 23 bytes.
-const FIRST_GATE: u64 = 28;
+use std::marker::Model;
 
 /// How far an opening has come: the device call that is due.
 #[derive(Debug, Drop)]
@@ -40,8 +39,8 @@ enum Phase {
     ReadingFirst,
     /// With the bytes of area 0.
     ReadingSecond(Vec<u8>),
-    /// No area is formatted: this is written behind the first gate of area 0.
-    Formatting(Stage, Vec<u8>),
+    /// An area is written anew: no area is formatted, or the active one has version 1.
+    Rewriting(Rewrite),
 }
 
 /// Whether each area has to be closed before it is written anew, as far as an opening has read them.
@@ -63,7 +62,8 @@ impl Fronts {
     }
 }
 
-/// An opening of a node's disk: it syncs, reads both areas, and formats the first where neither is formatted.
+/// An opening of a node's disk: it syncs and reads both areas. Where neither is formatted it formats the first; where
+/// the active one has version 1 it writes a snapshot of version 2 to the other, which is active from then on.
 #[derive(Drop)]
 pub struct Opening<D: Disk> {
     disk: D,
@@ -71,6 +71,16 @@ pub struct Opening<D: Disk> {
     node: NodeId,
     phase: Phase,
     fronts: Fronts,
+}
+
+impl<D: Disk> Model for Opening<D> {
+    ghost use Rattle.rr_journal.specs.OpeningStates.{OpeningState, IsOwn};
+
+    ghost Value = { OpeningState D };
+
+    ghost view = { λ o. record { disk = o.disk; nodes = o.nodes; node = o.node; phase = o.phase; fronts = o.fronts } };
+
+    ghost invariant = { λ o. IsOwn o.nodes o.node o.phase };
 }
 
 /// What a step of an opening gives.
@@ -87,6 +97,7 @@ impl<D: Disk> Opening<D> {
         ensures whose { (result.nodes ≡ nodes) × (result.node ≡ node) }
         ensures disk { result.disk ≡ disk }
         ensures phase { phase_of result.phase ≡ Settling }
+        ensures rests { length (D.areas disk).first.cells < 2 ^ 64 → length (D.areas disk).second.cells < 2 ^ 64 → OpensAny nodes node result.phase (D.areas disk) }
         ensures table { (facts : List Fact) → length (D.areas disk).first.cells < 2 ^ 64 → length (D.areas disk).second.cells < 2 ^ 64
             → Holds nodes node (contents (D.areas disk)) facts → OpensWith nodes node facts result.phase (D.areas disk) }
         ensures some { length (D.areas disk).first.cells < 2 ^ 64 → length (D.areas disk).second.cells < 2 ^ 64 → MayStand (D.areas disk) → EachHoldsSome (Holds nodes node) (D.areas disk)
@@ -126,7 +137,8 @@ impl<D: Disk> Opening<D> {
     }
 
     /// Makes the next device call, where the node is one of its nodes. A refused opening hands its disk back.
-    /// Errors: `OutOfMemory`, `Device`; `Damaged`, of a disk that holds no facts.
+    /// Errors: `OutOfMemory`, `Device`; `Damaged`, of a disk that holds no facts; `TooLarge`, where an area of version 1
+    /// has no next epoch.
     pub fn step(self, alloc: Global) -> Result<Progress<D>, (Refusal, D)>
         requires { self.node < self.nodes }
         ensures exact { Steps D.read_gives D.write_gives D.sync_gives self result }
@@ -135,53 +147,27 @@ impl<D: Disk> Opening<D> {
         ensures cause { IfErr result (λ r. IsRefused D.faults self.disk r) }
         ensures tells { D.tells self.disk → D.tells (disk_after result) }
         ensures course { D.tells self.disk → StaysOnCourse D.areas self result }
+        ensures due { IsDue (phase_of self.phase) }
         ensures untouched { D.tells self.disk → IsUntouched (phase_of self.phase) (D.areas self.disk) (D.areas (disk_after result)) }
         ensures images { D.tells self.disk → MayStand (D.areas self.disk) → IsReading (phase_of self.phase) → AddsNone (D.areas self.disk) (D.areas (disk_after result)) }
+        ensures rests { D.tells self.disk → OpensAny self.nodes self.node self.phase (D.areas self.disk) → IfOk result (λ progress. ComesToAny D.areas progress) }
         ensures table { D.tells self.disk → (facts : List Fact) → OpensWith self.nodes self.node facts self.phase (D.areas self.disk)
             → IfOk result (λ progress. ComesTo D.areas facts progress) }
         ensures undamaged { D.tells self.disk → (facts : List Fact) → OpensWith self.nodes self.node facts self.phase (D.areas self.disk)
-            → IfErr result (λ r. (r.0 ≡ OutOfMemory) ⊎ (r.0 ≡ Device)) }
+            → IfErr result (λ r. IsUndamaged (found_from self.nodes self.node (phase_of self.phase) (D.areas self.disk)) r.0) }
         ensures kept { D.tells self.disk → (facts : List Fact) → OpensWith self.nodes self.node facts self.phase (D.areas self.disk)
             → IsKept (Holds self.nodes self.node) facts (D.areas self.disk) (D.areas (disk_after result)) }
         ensures fronts { D.tells self.disk → KnowsFronts (phase_of self.phase) self.fronts (D.areas self.disk) → IfOk result (λ progress. KnowsOther D.areas progress) }
         ensures snapshot { IfOk result (λ progress. MaySnap progress) }
     {
         let Opening {
-            mut disk,
+            disk,
             nodes,
             node,
             phase,
             fronts,
         } = self;
-        let called = call(alloc, &mut disk, &phase);
-        match called {
-            Err(refusal) => Err((refusal, disk)),
-            Ok(read) => {
-                let fronts = fronts_behind(&phase, &read, fronts);
-                match go_on(alloc, nodes, node, phase, read) {
-                    Err(refusal) => Err((refusal, disk)),
-                    Ok(Next::Phase(phase)) => Ok(Progress::More(Opening {
-                        disk,
-                        nodes,
-                        node,
-                        phase,
-                        fronts,
-                    })),
-                    Ok(Next::Open(area, epoch, gate, promise, next)) => {
-                        let closes_other = fronts.beside(area);
-                        Ok(Progress::Done(
-                            Journal::new(disk, nodes, node, area, epoch, gate, next, closes_other),
-                            Opened {
-                                nodes,
-                                node,
-                                promise,
-                                next,
-                            },
-                        ))
-                    }
-                }
-            }
-        }
+        make_step(alloc, disk, nodes, node, phase, fronts)
     }
 
     /// Makes all device calls that are left: the journal, and the end of its opening. A refused opening hands its
@@ -196,13 +182,16 @@ impl<D: Disk> Opening<D> {
         ensures ends { D.tells self.disk → EndsBy (found_from self.nodes self.node (phase_of self.phase) (D.areas self.disk)) result }
         ensures counted { D.tells self.disk → D.calls (disk_behind result) ≤ D.calls self.disk + length (calls_from self.nodes self.node (phase_of self.phase) (D.areas self.disk)) }
         ensures done { D.tells self.disk → OnOk result (IsDone (calls_from self.nodes self.node (phase_of self.phase) (D.areas self.disk)) D.areas D.calls self.disk (disk_behind result)) }
-        ensures untouched { D.tells self.disk → found_from self.nodes self.node (phase_of self.phase) (D.areas self.disk) ≢ Unformatted
+        ensures untouched { D.tells self.disk → writes_anew (found_from self.nodes self.node (phase_of self.phase) (D.areas self.disk)) ≡ false
             → IsAsBefore (D.areas self.disk) (D.areas (disk_behind result)) }
+        ensures beside { D.tells self.disk → (area : Area) → area ≡ area_kept (found_from self.nodes self.node (phase_of self.phase) (D.areas self.disk))
+            → IsLeftAlone (extent_of (D.areas self.disk) area) (extent_of (D.areas (disk_behind result)) area) }
         ensures journal { IfOk result (λ r. IsReady self.nodes self.node r) }
+        ensures rests { D.tells self.disk → OpensAny self.nodes self.node self.phase (D.areas self.disk) → IfOk result (λ r. IsOpenAtRest D.areas r) }
         ensures table { D.tells self.disk → (facts : List Fact) → OpensWith self.nodes self.node facts self.phase (D.areas self.disk)
             → IfOk result (λ r. IsOpenWith D.areas facts r) }
         ensures undamaged { D.tells self.disk → (facts : List Fact) → OpensWith self.nodes self.node facts self.phase (D.areas self.disk)
-            → IfErr result (λ r. (r.0 ≡ OutOfMemory) ⊎ (r.0 ≡ Device)) }
+            → IfErr result (λ r. IsUndamaged (found_from self.nodes self.node (phase_of self.phase) (D.areas self.disk)) r.0) }
         ensures kept { D.tells self.disk → (facts : List Fact) → OpensWith self.nodes self.node facts self.phase (D.areas self.disk)
             → IsKept (Holds self.nodes self.node) facts (D.areas self.disk) (D.areas (disk_behind result)) }
         ensures fronts { D.tells self.disk → KnowsFronts (phase_of self.phase) self.fronts (D.areas self.disk) → IfOk result (λ r. IsOtherKnown D.areas r.0) }
@@ -221,7 +210,8 @@ impl<D: Disk> Opening<D> {
 impl<D: Disk> Journal<D> {
     /// Opens the disk of one of the nodes by all steps of an `Opening`: the journal, and the end of its opening. A
     /// refused opening hands its disk back.
-    /// Errors: `OutOfMemory`, `Device`; `Damaged`, of a disk that holds no facts.
+    /// Errors: `OutOfMemory`, `Device`; `Damaged`, of a disk that holds no facts; `TooLarge`, where an area of version 1
+    /// has no next epoch.
     pub fn open(
         alloc: Global,
         nodes: Nodes,
@@ -236,16 +226,19 @@ impl<D: Disk> Journal<D> {
         ensures ends { D.tells disk → EndsBy (found_from nodes node Settling (D.areas disk)) result }
         ensures counted { D.tells disk → D.calls (disk_behind result) ≤ D.calls disk + length (calls_from nodes node Settling (D.areas disk)) }
         ensures done { D.tells disk → OnOk result (IsDone (calls_from nodes node Settling (D.areas disk)) D.areas D.calls disk (disk_behind result)) }
-        ensures untouched { D.tells disk → found_from nodes node Settling (D.areas disk) ≢ Unformatted → IsAsBefore (D.areas disk) (D.areas (disk_behind result)) }
+        ensures untouched { D.tells disk → writes_anew (found_from nodes node Settling (D.areas disk)) ≡ false → IsAsBefore (D.areas disk) (D.areas (disk_behind result)) }
+        ensures beside { D.tells disk → (area : Area) → area ≡ area_kept (found_from nodes node Settling (D.areas disk))
+            → IsLeftAlone (extent_of (D.areas disk) area) (extent_of (D.areas (disk_behind result)) area) }
         ensures images { D.tells disk → length (D.areas disk).first.cells < 2 ^ 64 → length (D.areas disk).second.cells < 2 ^ 64 → MayStand (D.areas disk)
-            → AddsBlankAlone nodes node (D.areas disk) (D.areas (disk_behind result)) }
+            → AddsSameAlone nodes node (D.areas disk) (D.areas (disk_behind result)) }
         ensures some { D.tells disk → length (D.areas disk).first.cells < 2 ^ 64 → length (D.areas disk).second.cells < 2 ^ 64 → MayStand (D.areas disk) → EachHoldsSome (Holds nodes node) (D.areas disk)
-            → IfOk result (λ r. IsOpenWithOneOf D.areas (Holds nodes node) (D.areas disk) r) × IfErr result (λ r. (r.0 ≡ OutOfMemory) ⊎ (r.0 ≡ Device)) }
+            → IfOk result (λ r. IsOpenWithOneOf D.areas (Holds nodes node) (D.areas disk) r) × IfErr result (λ r. IsUndamaged (found_from nodes node Settling (D.areas disk)) r.0) }
         ensures journal { IfOk result (λ r. IsReady nodes node r) }
+        ensures rests { D.tells disk → length (D.areas disk).first.cells < 2 ^ 64 → length (D.areas disk).second.cells < 2 ^ 64 → IfOk result (λ r. IsOpenAtRest D.areas r) }
         ensures table { D.tells disk → (facts : List Fact) → length (D.areas disk).first.cells < 2 ^ 64 → length (D.areas disk).second.cells < 2 ^ 64
             → Holds nodes node (contents (D.areas disk)) facts → IfOk result (λ r. IsOpenWith D.areas facts r) }
         ensures undamaged { D.tells disk → (facts : List Fact) → length (D.areas disk).first.cells < 2 ^ 64 → length (D.areas disk).second.cells < 2 ^ 64
-            → Holds nodes node (contents (D.areas disk)) facts → IfErr result (λ r. (r.0 ≡ OutOfMemory) ⊎ (r.0 ≡ Device)) }
+            → Holds nodes node (contents (D.areas disk)) facts → IfErr result (λ r. IsUndamaged (found_from nodes node Settling (D.areas disk)) r.0) }
         ensures kept { D.tells disk → (facts : List Fact) → length (D.areas disk).first.cells < 2 ^ 64 → length (D.areas disk).second.cells < 2 ^ 64
             → Holds nodes node (contents (D.areas disk)) facts → IsKept (Holds nodes node) facts (D.areas disk) (D.areas (disk_behind result)) }
         ensures fronts { D.tells disk → IfOk result (λ r. IsOtherKnown D.areas r.0) }
@@ -273,6 +266,68 @@ impl<D: Disk> Opening<FailingDisk<D>> {
     }
 }
 
+// Makes the next device call of an opening.
+fn make_step<D: Disk>(
+    alloc: Global,
+    disk: D,
+    nodes: Nodes,
+    node: NodeId,
+    phase: Phase,
+    fronts: Fronts,
+) -> Result<Progress<D>, (Refusal, D)>
+    requires exists { node < nodes }
+    requires own { IsOwn nodes node phase }
+    ensures exact { Steps D.read_gives D.write_gives D.sync_gives (record { disk = disk; nodes = nodes; node = node; phase = phase; fronts = fronts }) result }
+    ensures call { D.calls (disk_after result) ≡ counted (D.calls disk) }
+    ensures faults { D.faults disk ≤ D.faults (disk_after result) }
+    ensures cause { IfErr result (λ r. IsRefused D.faults disk r) }
+    ensures tells { D.tells disk → D.tells (disk_after result) }
+    ensures course { D.tells disk → StaysOnCourse D.areas (record { disk = disk; nodes = nodes; node = node; phase = phase; fronts = fronts }) result }
+    ensures due { IsDue (phase_of phase) }
+    ensures untouched { D.tells disk → IsUntouched (phase_of phase) (D.areas disk) (D.areas (disk_after result)) }
+    ensures images { D.tells disk → MayStand (D.areas disk) → IsReading (phase_of phase) → AddsNone (D.areas disk) (D.areas (disk_after result)) }
+    ensures rests { D.tells disk → OpensAny nodes node phase (D.areas disk) → IfOk result (λ progress. ComesToAny D.areas progress) }
+    ensures table { D.tells disk → (facts : List Fact) → OpensWith nodes node facts phase (D.areas disk)
+        → IfOk result (λ progress. ComesTo D.areas facts progress) }
+    ensures undamaged { D.tells disk → (facts : List Fact) → OpensWith nodes node facts phase (D.areas disk)
+        → IfErr result (λ r. IsUndamaged (found_from nodes node (phase_of phase) (D.areas disk)) r.0) }
+    ensures kept { D.tells disk → (facts : List Fact) → OpensWith nodes node facts phase (D.areas disk)
+        → IsKept (Holds nodes node) facts (D.areas disk) (D.areas (disk_after result)) }
+    ensures fronts { D.tells disk → KnowsFronts (phase_of phase) fronts (D.areas disk) → IfOk result (λ progress. KnowsOther D.areas progress) }
+    ensures snapshot { IfOk result (λ progress. MaySnap progress) }
+{
+    let mut disk = disk;
+    let called = call(alloc, &mut disk, &phase);
+    match called {
+        Err(refusal) => Err((refusal, disk)),
+        Ok(read) => {
+            let fronts = fronts_behind(&phase, &read, fronts);
+            match go_on(alloc, nodes, node, phase, read) {
+                Err(refusal) => Err((refusal, disk)),
+                Ok(Next::Phase(phase)) => Ok(Progress::More(Opening {
+                    disk,
+                    nodes,
+                    node,
+                    phase,
+                    fronts,
+                })),
+                Ok(Next::Open(area, epoch, gate, promise, next)) => {
+                    let closes_other = fronts.beside(area);
+                    Ok(Progress::Done(
+                        Journal::new(disk, nodes, node, area, epoch, gate, next, closes_other),
+                        Opened {
+                            nodes,
+                            node,
+                            promise,
+                            next,
+                        },
+                    ))
+                }
+            }
+        }
+    }
+}
+
 /// What comes behind a device call.
 #[derive(Debug, Drop)]
 enum Next {
@@ -282,6 +337,7 @@ enum Next {
 
 /// Makes the device call that is due; a read gives its bytes.
 fn call<D: Disk>(alloc: Global, disk: &mut D, phase: &Phase) -> Result<Vec<u8>, Refusal>
+    ensures due { IsDue (phase_of phase.now) }
     ensures done { IfOk result (λ v. Done D.read_gives D.write_gives D.sync_gives (due_call (phase_of phase.now)) disk.old v disk.new) }
     ensures refused { IfErr result (λ e. Refused D.read_gives D.write_gives D.sync_gives (due_call (phase_of phase.now)) disk.old e disk.new) }
     ensures cause { IfErr result (λ e. (e ≡ OutOfMemory) ⊎ ((e ≡ Device) × Grew (D.faults disk.old) (D.faults disk.new))) }
@@ -295,27 +351,23 @@ fn call<D: Disk>(alloc: Global, disk: &mut D, phase: &Phase) -> Result<Vec<u8>, 
         Phase::Settling => done(alloc, disk.sync()),
         Phase::ReadingFirst => disk.read(alloc, Area::First, 0, u64::MAX),
         Phase::ReadingSecond(_) => disk.read(alloc, Area::Second, 0, u64::MAX),
-        Phase::Formatting(stage, body) => format(alloc, disk, *stage, body),
+        Phase::Rewriting(rewrite) => write_on(alloc, disk, rewrite),
     }
 }
 
-/// Makes the device call of formatting that is due.
-fn format<D: Disk>(
-    alloc: Global,
-    disk: &mut D,
-    stage: Stage,
-    body: &[u8],
-) -> Result<Vec<u8>, Refusal>
-    ensures done { IfOk result (λ v. Done D.read_gives D.write_gives D.sync_gives (due_call (Formatting (stage_calls First body.now stage))) disk.old v disk.new) }
-    ensures refused { IfErr result (λ e. Refused D.read_gives D.write_gives D.sync_gives (due_call (Formatting (stage_calls First body.now stage))) disk.old e disk.new) }
+/// Makes the device call that is due in the writing of an area.
+fn write_on<D: Disk>(alloc: Global, disk: &mut D, rewrite: &Rewrite) -> Result<Vec<u8>, Refusal>
+    ensures due { writes_anew rewrite.now.found ≡ true }
+    ensures done { IfOk result (λ v. Done D.read_gives D.write_gives D.sync_gives (due_call (Rewriting rewrite.now.found (stage_calls (area_anew rewrite.now.found) rewrite.now.body rewrite.now.stage))) disk.old v disk.new) }
+    ensures refused { IfErr result (λ e. Refused D.read_gives D.write_gives D.sync_gives (due_call (Rewriting rewrite.now.found (stage_calls (area_anew rewrite.now.found) rewrite.now.body rewrite.now.stage))) disk.old e disk.new) }
     ensures cause { IfErr result (λ e. (e ≡ Device) × Grew (D.faults disk.old) (D.faults disk.new)) }
     ensures counts { (D.calls disk.new ≡ counted (D.calls disk.old)) × (D.faults disk.old ≤ D.faults disk.new) }
     ensures tells { D.tells disk.old → D.tells disk.new }
-    ensures areas { D.tells disk.old → OnOk result (D.areas disk.new ≡ after_call (due_call (Formatting (stage_calls First body.now stage))) (D.areas disk.old)) }
-    ensures read { D.tells disk.old → IfOk result (λ v. IsReadBy (due_call (Formatting (stage_calls First body.now stage))) (D.areas disk.old) v.items) }
-    ensures left { D.tells disk.old → OnErr result (IsLeftBy (due_call (Formatting (stage_calls First body.now stage))) (D.areas disk.old) (D.areas disk.new)) }
+    ensures areas { D.tells disk.old → OnOk result (D.areas disk.new ≡ after_call (due_call (Rewriting rewrite.now.found (stage_calls (area_anew rewrite.now.found) rewrite.now.body rewrite.now.stage))) (D.areas disk.old)) }
+    ensures read { D.tells disk.old → IfOk result (λ v. IsReadBy (due_call (Rewriting rewrite.now.found (stage_calls (area_anew rewrite.now.found) rewrite.now.body rewrite.now.stage))) (D.areas disk.old) v.items) }
+    ensures left { D.tells disk.old → OnErr result (IsLeftBy (due_call (Rewriting rewrite.now.found (stage_calls (area_anew rewrite.now.found) rewrite.now.body rewrite.now.stage))) (D.areas disk.old) (D.areas disk.new)) }
 {
-    match stage.call(disk, Area::First, body) {
+    match rewrite.call(disk) {
         Ok(()) => Ok(Vec::new(alloc)),
         Err(refusal) => Err(refusal),
     }
@@ -357,34 +409,45 @@ fn go_on(
     phase: Phase,
     read: Vec<u8>,
 ) -> Result<Next, Refusal>
-    requires { node < nodes }
+    requires exists { node < nodes }
+    requires own { IsOwn nodes node phase }
+    ensures own { IfOk result (λ next. MayGoOn nodes node next) }
     ensures exact { Follows result (phase_of phase) (after_opening_call nodes node read.items (phase_of phase)) }
+    ensures rests { (old new : Areas) → OpensAny nodes node phase old → IsReadBy (due_call (phase_of phase)) old read.items
+        → new ≡ after_call (due_call (phase_of phase)) old → IfOk result (λ next. GoesOnAny nodes node next new) }
     ensures table { (facts : List Fact) (old new : Areas) → OpensWith nodes node facts phase old → IsReadBy (due_call (phase_of phase)) old read.items
         → new ≡ after_call (due_call (phase_of phase)) old → IfOk result (λ next. GoesOnWith nodes node facts next new) }
     ensures undamaged { (facts : List Fact) (old : Areas) → OpensWith nodes node facts phase old → IsReadBy (due_call (phase_of phase)) old read.items
-        → IfErr result (λ e. e ≡ OutOfMemory) }
+        → IfErr result (λ e. IsUndamaged (found_from nodes node (phase_of phase) old) e) }
 {
     match phase {
         Phase::Settling => Ok(Next::Phase(Phase::ReadingFirst)),
         Phase::ReadingFirst => Ok(Next::Phase(Phase::ReadingSecond(read))),
         Phase::ReadingSecond(first) => with_areas(alloc, nodes, node, &first, &read),
-        Phase::Formatting(stage, body) => Ok(format_on(alloc, stage, body)),
+        Phase::Rewriting(rewrite) => Ok(rewrite_on(alloc, rewrite)),
     }
 }
 
-/// What comes behind a device call of formatting that succeeded.
-fn format_on(alloc: Global, stage: Stage, body: Vec<u8>) -> Next
-    ensures exact { (n p : ℕ) (read : List ℕ) → Follows (Ok result) (Formatting (stage_calls First body.items stage)) (after_opening_call n p read (Formatting (stage_calls First body.items stage))) }
-    ensures table { (n p : ℕ) (facts : List Fact) (old new : Areas) → body.items ≡ (formatting n p).body → IsFormatting n p facts stage old
-        → new ≡ after_call (due_call (Formatting (stage_calls First body.items stage))) old → GoesOnWith n p facts result new }
+/// What comes behind a device call that succeeded in the writing of an area.
+fn rewrite_on(alloc: Global, rewrite: Rewrite) -> Next
+    ensures own { (n p : ℕ) → IsSnapshot (snapshot_with n p (content_anew rewrite.found)) → MayGoOn n p result }
+    ensures exact { (n p : ℕ) (read : List ℕ) → Follows (Ok result) (Rewriting rewrite.found (stage_calls (area_anew rewrite.found) rewrite.body rewrite.stage))
+        (after_opening_call n p read (Rewriting rewrite.found (stage_calls (area_anew rewrite.found) rewrite.body rewrite.stage))) }
+    ensures rests { (n p : ℕ) (old new : Areas) → IsRewriting n p rewrite old
+        → new ≡ after_call (due_call (Rewriting rewrite.found (stage_calls (area_anew rewrite.found) rewrite.body rewrite.stage))) old → GoesOnAny n p result new }
+    ensures table { (n p : ℕ) (facts : List Fact) (old new : Areas) (rewrites : IsRewriting n p rewrite old) → Holds n p rewrites.start facts
+        → new ≡ after_call (due_call (Rewriting rewrite.found (stage_calls (area_anew rewrite.found) rewrite.body rewrite.stage))) old → GoesOnWith n p facts result new }
 {
-    match stage.next() {
-        Some(stage) => Next::Phase(Phase::Formatting(stage, body)),
-        None => Next::Open(Area::First, 1, FIRST_GATE, Promise::new(Vec::new(alloc)), 0),
+    match rewrite.stage().next() {
+        Some(stage) => Next::Phase(Phase::Rewriting(rewrite.at(stage))),
+        None => {
+            let (area, epoch, gate, promise, next) = rewrite.into_end(alloc);
+            Next::Open(area, epoch, gate, promise, next)
+        }
     }
 }
 
-/// Both areas are read: the disk is open, or it has to be formatted.
+/// Both areas are read: the disk is open, or an area has to be written anew.
 fn with_areas(
     alloc: Global,
     nodes: Nodes,
@@ -393,11 +456,13 @@ fn with_areas(
     second: &[u8],
 ) -> Result<Next, Refusal>
     requires { node < nodes }
-    ensures exact { Follows result (ReadingSecond first.now) (after_found nodes node first.now (found nodes node first.now second.now)) }
+    ensures own { IfOk result (λ next. MayGoOn nodes node next) }
+    ensures exact { Follows result (ReadingSecond first.now) (after_found nodes node first.now second.now (found nodes node first.now second.now)) }
+    ensures rests { (both : Areas) (rests : IsResting both) → first.now ≡ rests.start.of_first → second.now ≡ rests.start.of_second → IfOk result (λ next. GoesOnAny nodes node next both) }
     ensures table { (facts : List Fact) (both : Areas) (rests : Rests nodes node facts both) → first.now ≡ rests.start.of_first → second.now ≡ rests.start.of_second
         → IfOk result (λ next. GoesOnWith nodes node facts next both) }
     ensures undamaged { (facts : List Fact) (both : Areas) (rests : Rests nodes node facts both) → first.now ≡ rests.start.of_first → second.now ≡ rests.start.of_second
-        → IfErr result (λ e. e ≡ OutOfMemory) }
+        → IfErr result (λ e. IsUndamaged (found nodes node first.now second.now) e) }
 {
     match read_image(alloc, nodes, node, first, second) {
         Err(refusal) => Err(refusal),
@@ -408,10 +473,24 @@ fn with_areas(
             Ok(Next::Open(area, epoch, gate, content.into_promise(), number))
         }
         Ok(Image::Unformatted) => {
-            let body = first_body(alloc, nodes, node)?;
-            let stage = Stage::first(must_close(first));
-            Ok(Next::Phase(Phase::Formatting(stage, body)))
+            let rewrite = Rewrite::formatting(alloc, nodes, node, must_close(first))?;
+            Ok(Next::Phase(Phase::Rewriting(rewrite)))
         }
+        Ok(Image::Outdated(area, content)) => {
+            let closes = must_close(beside(area, first, second));
+            let rewrite = Rewrite::migration(alloc, nodes, node, area, content, closes)?;
+            Ok(Next::Phase(Phase::Rewriting(rewrite)))
+        }
+    }
+}
+
+/// The bytes of the other area.
+fn beside<'a>(area: Area, first: &'a [u8], second: &'a [u8]) -> &'a [u8]
+    ensures { result.now ≡ bytes_in (other_area area) first.now second.now }
+{
+    match area {
+        Area::First => second,
+        Area::Second => first,
     }
 }
 
@@ -422,21 +501,5 @@ fn must_close(area: &[u8]) -> bool
     match area {
         [] => true,
         [gate, ..] => *gate == OPEN_GATE,
-    }
-}
-
-/// The frame of an empty snapshot of epoch 1, behind its gate.
-fn first_body(alloc: Global, nodes: Nodes, node: NodeId) -> Result<Vec<u8>, Refusal>
-    requires { node < nodes }
-    ensures ok { IfOk result (λ body. body.items ≡ frame_bytes (snapshot_bytes (record { node = node; nodes = nodes; epoch = 1; next = 0; entries = [] }))) }
-    ensures lawful { OnOk result (IsLawfulSnapshot (record { node = node; nodes = nodes; epoch = 1; next = 0; entries = [] })) }
-    ensures err { IfErr result (λ e. e ≡ OutOfMemory) }
-{
-    match Snapshot::new(nodes, node, 1, 0, Promise::new(Vec::new(alloc))) {
-        Ok(snapshot) => {
-            let payload = encode_snapshot(alloc, &snapshot)?;
-            frame(alloc, payload)
-        }
-        Err(_) => unreachable!(),
     }
 }

@@ -75,8 +75,8 @@ impl<D: Disk> Journal<D> {
     }
 }
 
-/// The other of the two areas.
-fn beside(area: Area) -> Area
+// The other of the two areas.
+pub(crate) fn beside(area: Area) -> Area
     ensures { result ≡ other_area area }
 {
     match area {
@@ -87,7 +87,6 @@ fn beside(area: Area) -> Area
 
 /// What stands behind the gate of a snapshot's frame.
 /// Errors: `TooLarge` where the frame would pass byte 4,294,967,295, `OutOfMemory`.
-#[tactic(auto, using(crate::proofs::SnapshotLaws::many_entries))]
 fn snapshot_frame(
     alloc: Global,
     nodes: Nodes,
@@ -107,7 +106,17 @@ fn snapshot_frame(
         Ok(snapshot) => snapshot,
         Err(_) => unreachable!(),
     };
-    let payload = encode_snapshot(alloc, &snapshot)?;
+    frame_of(alloc, &snapshot)
+}
+
+// What stands behind the gate of a snapshot's frame. Errors: as of `snapshot_frame`.
+#[tactic(auto, using(crate::proofs::SnapshotLaws::many_entries))]
+pub(crate) fn frame_of(alloc: Global, snapshot: &Snapshot) -> Result<Vec<u8>, Refusal>
+    ensures ok { IfOk result (λ body. (body.items ≡ frame_bytes (snapshot_bytes snapshot.now)) × (6 + length (snapshot_bytes snapshot.now) < 2 ^ 32)) }
+    ensures lawful { OnOk result (IsLawfulSnapshot snapshot.now) }
+    ensures err { IfErr result (λ e. (e ≡ OutOfMemory) ⊎ ((e ≡ TooLarge) × (2 ^ 32 ≤ 6 + length (snapshot_bytes snapshot.now)))) }
+{
+    let payload = encode_snapshot(alloc, snapshot)?;
     if payload.len() > LARGEST_PAYLOAD {
         return Err(Refusal::TooLarge);
     }

@@ -1,5 +1,6 @@
 -- A failing device call and a crash: the node goes down, and whatever is left of its disk holds its kept facts.
-use Rattle.std.proofs.Common.{◌≡◌, inl, inr, ℕ, ◌+◌, ◌^◌, ◌<◌, Bool, true, false, List, [], ◌∷◌, ◌++◌, length, take, Result, Ok, Err, refl, sym, ap, subst, ◌∙◌, arith, if◌then◌else◌}
+use Rattle.std.proofs.Common.{◌≡◌, ◌⊎◌, inl, inr, ℕ, ◌+◌, ◌^◌, ◌<◌, ltb, Bool, true, false, List, [], ◌∷◌, ◌++◌, length, take, Result, Ok, Err, refl, sym, ap, subst, ◌∙◌, arith, if◌then◌else◌}
+use Rattle.std.proofs.lemmas.Bool.{and_parts, ltb-true}
 use Rattle.std.proofs.lemmas.List.Elements.{All-nil, All-cons}
 use Rattle.rr_types.specs.declared.fact.Fact.{Fact}
 use Rattle.rr_types.specs.declared.refusal.Refusal.{Refusal}
@@ -10,21 +11,22 @@ use Rattle.rr_model.specs.Laws.{after_steps}
 use Rattle.rr_model.specs.NodeState.{NodeState}
 use Rattle.rr_model.proofs.NodeInWorld.{goes_down_in_world}
 use Rattle.rr_disk.specs.declared.area.Area.{Area}
-use Rattle.rr_disk.specs.declared.area.Area.TheVariants.{First}
-use Rattle.rr_disk.specs.Areas.{Extent, Areas, Torn, extent_of, replaced, at_rest}
+use Rattle.rr_disk.specs.Areas.{Areas}
 use Rattle.rr_disk.specs.Counts.{counted}
 use Rattle.rr_disk.specs.Crash.{Images, IsCrashImage, restarted, crash_images}
 use Rattle.rr_frame.specs.GroupFormat.{group_bytes, IsLawfulGroup}
 use Rattle.rr_frame.specs.SnapshotFormat.{snapshot_bytes, IsLawfulSnapshot}
-use Rattle.rr_journal.specs.Moments.{EachHolds}
-use Rattle.rr_journal.specs.Calls.{Call, Write, Sync, frame_bytes, after_failing, after_starved}
+use Rattle.rr_journal.specs.Moments.{image_of, IsGrounded, EachHolds}
+use Rattle.rr_journal.specs.Calls.{Call, Sync, frame_bytes, must_close, after_failing, after_starved}
+use Rattle.rr_image.specs.Image.{Found, Unformatted, Broken, Active, Outdated}
 use Rattle.rr_image.specs.Held.{Holds}
 use Rattle.rr_journal.specs.Openings as opening
-use Rattle.rr_journal.specs.Openings.{due_call}
-use Rattle.rr_journal.specs.OpeningTable.{IsLeftBy, formatting, first_snapshot}
+use Rattle.rr_journal.specs.Openings.{due_call, snapshot_size, snapshot_with}
+use Rattle.rr_journal.specs.OpeningTable.{IsLeftBy}
+use Rattle.rr_journal.specs.Rewrites.{writes_anew, area_anew, content_anew, flush_anew, IsInStage, IsRewriting}
 use Rattle.rr_journal.proofs.FlushLaws.{length-frame}
-use Rattle.rr_journal.proofs.OpeningLaws.{either_held, closing_images}
-use Rattle.rr_journal.proofs.SnapshotSize.{length-snapshot_bytes}
+use Rattle.rr_journal.proofs.RewriteLaws.{grounded_anew, failed_rewriting}
+use Rattle.rr_journal.proofs.SnapshotSize.{snapshot_sized}
 use Rattle.rr_journal.specs.declared.stage.Stage as slots
 use Rattle.rr_journal.specs.declared.stage.Stage.TheVariants as step
 use Rattle.rr_journal.specs.Stages.{call_at, calls_from}
@@ -34,13 +36,13 @@ use Rattle.rr_journal.proofs.SwitchLaws.{held_failed}
 use Rattle.rr_node.specs.declared.event.Outcome.{Outcome}
 use Rattle.rr_node.specs.declared.event.Outcome.TheVariants.{Quiet}
 use Rattle.rr_node.specs.Seats.{Flush, Resting, Writing, Flushed, Switching, Journaled, Doing, Stopped, Faulted, Opening, Serving, Seat, grows, fail_doing, after_failing_starved}
-use Rattle.rr_node.specs.Worlds.{BodyDue, BodySafe, calls_at, flush_of, AreInOrder, EachHoldsSome, HoldsSome, IsDown, Stage, Closing, Closed, Flushing, calls_of_stage, StandsAt, IsOpening, is_settled, snapshot_over, switch_at, journal_at, IsServing, DoesSo, InStep}
+use Rattle.rr_node.specs.Worlds.{BodyDue, BodySafe, flush_of, AreInOrder, EachHoldsSome, HoldsSome, IsDown, WritesAnew, IsOpening, is_settled, snapshot_over, switch_at, journal_at, IsServing, DoesSo, InStep}
 use Rattle.rr_node.specs.Runs.{MayFall, GoesOn, FailsInStep, CrashesInStep}
 use Rattle.rr_node.proofs.InOrder.{Bytes, IsSmall, StartsWithin, crash_in_order, crash_image, rest_image, starved_in_order, failing_in_order, starved_left, failing_left}
 use Rattle.rr_node.proofs.Flushing.{each_none, each_first, each_either, flush_grounded, staged_group}
-use Rattle.rr_node.proofs.FlushCalls.{call_of, calls_behind, calls_are, call_is, IsSmallFlush, call_small, call_within, moment_fails}
-use Rattle.rr_node.proofs.Holding.{seat_holds, stage_holds}
-use Rattle.rr_node.proofs.Spelling.{body_fits, first_body_fits, snapped_body_fits}
+use Rattle.rr_node.proofs.FlushCalls.{call_of, call_is, IsSmallFlush, call_small, call_within, moment_fails}
+use Rattle.rr_node.proofs.Holding.{seat_holds, anew_holds}
+use Rattle.rr_node.proofs.Spelling.{body_fits, snapped_body_fits}
 use Rattle.rr_node.proofs.Going.{IsQuiet, stays, falls, given}
 
 -- a seat of these parts, behind k device calls
@@ -85,7 +87,7 @@ pub opening_down : (n p : ℕ) (w : World) (both : Areas) (phase : opening.Phase
 opening_down n p w both opening.Settling opens = opens.0
 opening_down n p w both opening.ReadingFirst opens = opens.0
 opening_down n p w both (opening.ReadingSecond first) opens = opens.0
-opening_down n p w both (opening.Formatting calls) opens = opens.0
+opening_down n p w both (opening.Rewriting found calls) opens = opens.0
 
 crash_by : (n p m q k : ℕ) (w : World) (old areas : Areas) (doing : Doing) → p < n → m ≡ n → q ≡ p → DoesSo n p w old doing → AreInOrder areas → EachHoldsSome n p w areas → GoesOn n p (MayFall p) w (Ok Quiet) (seated m q k areas Stopped)
 crash_by n p m q k w old areas Stopped exists nodes node does order each = down_falls n p m q k (MayFall p) w (Ok Quiet) areas Stopped (inl refl) stopped exists nodes node does.0 order each (record { unsent = refl; untold = refl })
@@ -127,51 +129,6 @@ starved_failure fill fit = record { order = λ call both small order. in_order c
 pub small_flush : (n p : ℕ) (journal : Journaled) (group : Grouped) → IsLawfulGroup group → journal.gate + 6 + length (group_bytes group) < 2 ^ 32 → IsSmallFlush (flush_of n p journal group)
 small_flush n p journal group lawful small = record { bytes = body_fits group lawful; small = omega (arith, small, length-frame (group_bytes group)) }
 
--- so is formatting
-pub small_formatting : (n p : ℕ) → IsSmallFlush (formatting n p)
-small_formatting n p = record { bytes = first_body_fits n p; small = omega (arith, length-frame (snapshot_bytes (first_snapshot n p)), length-snapshot_bytes (first_snapshot n p) refl) }
-
--- the call that is due at a stage of formatting
-abbrev pub call_of_stage : ℕ → ℕ → Stage → Call
-call_of_stage n p Closing = Write First 0 (0 ∷ [])
-call_of_stage n p Closed = Sync
-call_of_stage n p (Flushing moment) = call_of (formatting n p) moment
-
--- and those behind it
-abbrev pub calls_behind_stage : ℕ → ℕ → Stage → List Call
-calls_behind_stage n p Closing = Sync ∷ calls_at (formatting n p) BodyDue
-calls_behind_stage n p Closed = calls_at (formatting n p) BodyDue
-calls_behind_stage n p (Flushing moment) = calls_behind (formatting n p) moment
-
-pub stage_calls : (n p : ℕ) (stage : Stage) → calls_of_stage n p stage ≡ call_of_stage n p stage ∷ calls_behind_stage n p stage
-stage_calls n p Closing = refl
-stage_calls n p Closed = refl
-stage_calls n p (Flushing moment) = calls_are (formatting n p) moment
-
-pub stage_due : (n p : ℕ) (stage : Stage) (calls : List Call) → calls ≡ calls_of_stage n p stage → due_call (opening.Formatting calls) ≡ call_of_stage n p stage
-stage_due n p stage calls is = ap (λ (cs : List Call). due_call (opening.Formatting cs)) (is ∙ stage_calls n p stage)
-
-pub stage_small : (n p : ℕ) (stage : Stage) → IsSmall (call_of_stage n p stage)
-stage_small n p Closing = (All-cons (λ b. b < 256) 0 [] (omega arith) (All-nil (λ b. b < 256)), omega arith)
-stage_small n p Closed = tt
-stage_small n p (Flushing moment) = call_small (formatting n p) moment (small_formatting n p)
-
-stage_within : (n p : ℕ) (facts : List Fact) (both : Areas) (stage : Stage) → StandsAt n p facts both stage → StartsWithin (call_of_stage n p stage) both
-stage_within n p facts both Closing stands = omega arith
-stage_within n p facts both Closed stands = tt
-stage_within n p facts both (Flushing moment) stands = call_within (Holds n p) (formatting n p) stands.start facts stands.stands.grounded moment both stands.stands.stands
-
--- what is left where it fails
-stage_fails : (n p : ℕ) (facts : List Fact) (old new : Areas) (stage : Stage) → StandsAt n p facts old stage → IsLeftBy (call_of_stage n p stage) old new → EachHolds (Holds n p) new facts
-stage_fails n p facts old new Closing stands left =
-    let was : extent_of old First ≡ at_rest stands.start.of_first = ap (λ (b : Areas). extent_of b First) stands.stands in
-    let torn : Torn 0 1 (at_rest stands.start.of_first) (extent_of new First) = subst (λ (e : Extent). Torn 0 1 e (extent_of new First)) was left.0 in
-    λ images is. closing_images n p facts stands.start stands.fresh stands.due (extent_of new First) torn images
-    (subst (λ (b : Areas). IsCrashImage b images) (left.1 ∙ ap (λ (b : Areas). replaced b First (extent_of new First)) stands.stands) is)
-stage_fails n p facts old new Closed stands left = subst (λ (b : Areas). EachHolds (Holds n p) b facts) (sym left) (stage_holds n p facts old Closed stands)
-stage_fails n p facts old new (Flushing moment) stands left =
-    either_held (Holds n p) facts new (moment_fails (Holds n p) (formatting n p) stands.start facts stands.stands.grounded moment old new stands.stands.stands left)
-
 -- ---- the calls of a switch
 
 switch_call : (area : Area) (body : List ℕ) (stage : slots.Stage) (call : Call) (calls : List Call) → call ∷ calls ≡ calls_from area body stage → call ≡ call_at area body stage
@@ -208,6 +165,63 @@ switch_within n p journal kept start both step.SettlingBody at = tt
 switch_within n p journal kept start both step.OpeningGate at = call_within (Holds n p) (table.flush_of (switch_at n p journal kept step.OpeningGate)) start kept at.grounded BodySafe both at.stands
 switch_within n p journal kept start both step.SettlingGate at = tt
 
+-- ---- the calls of an opening that writes an area anew
+
+pub anew_body : (n p : ℕ) (found : Found) → writes_anew found ≡ true → IsLawfulSnapshot (snapshot_with n p (content_anew found)) → IsSmallBody (flush_anew n p found).body
+anew_body n p found due spelt =
+    record {
+      bytes = snapped_body_fits (snapshot_with n p (content_anew found)) spelt.entries;
+      small = omega (arith, sized found due, snapshot_sized (snapshot_with n p (content_anew found)), length-frame (snapshot_bytes (snapshot_with n p (content_anew found))));
+    }
+  where
+    sized : (was : Found) → writes_anew was ≡ true → 6 + snapshot_size (content_anew was).promise < 2 ^ 32
+    sized Unformatted due = omega arith
+    sized (Broken area offset) due = absurd cc
+    sized (Active area c) due = absurd cc
+    sized (Outdated area c) due = ltb-true _ _ (and_parts (ltb (c.epoch + 1) (2 ^ 64)) (ltb (6 + snapshot_size c.promise) (2 ^ 32)) due).1
+
+-- the call that is due then
+pub anew_due : (found : Found) (body : List ℕ) (stage : slots.Stage) (calls : List Call) → calls ≡ calls_from (area_anew found) body stage → due_call (opening.Rewriting found calls) ≡ call_at (area_anew found) body stage
+anew_due found body stage calls is = ap (λ (cs : List Call). due_call (opening.Rewriting found cs)) is ∙ by stage
+  where
+    by : (stage : slots.Stage) → due_call (opening.Rewriting found (calls_from (area_anew found) body stage)) ≡ call_at (area_anew found) body stage
+    by step.Closing = refl
+    by step.SettlingClosed = refl
+    by step.WritingBody = refl
+    by step.SettlingBody = refl
+    by step.OpeningGate = refl
+    by step.SettlingGate = refl
+
+module _ (n p : ℕ) (facts : List Fact) (both : Areas) (found : Found) (calls : List Call) (anew : WritesAnew n p facts both found calls) where
+  -- it is small, and within its area
+  pub anew_small : IsSmall (call_at (area_anew found) (flush_anew n p found).body anew.stage)
+  anew_small = switch_small (area_anew found) (flush_anew n p found).body anew.stage (anew_body n p found anew.rewrites.due anew.rewrites.spelt)
+
+  anew_within : StartsWithin (call_at (area_anew found) (flush_anew n p found).body anew.stage) both
+  anew_within = by anew.stage anew.rewrites.stands
+    where
+      ground : must_close (image_of anew.rewrites.start (area_anew found)) ≡ false → IsGrounded (Holds n p) (flush_anew n p found) anew.rewrites.start facts
+      ground shut = grounded_anew n p found anew.rewrites.due anew.rewrites.start anew.rewrites.finds anew.rewrites.spelt facts anew.holds shut
+
+      by : (stage : slots.Stage) → IsInStage stage (flush_anew n p found) anew.rewrites.start both → StartsWithin (call_at (area_anew found) (flush_anew n p found).body stage) both
+      by step.Closing at = omega arith
+      by step.SettlingClosed at = tt
+      by step.WritingBody at = call_within (Holds n p) (flush_anew n p found) anew.rewrites.start facts (ground at.0) BodyDue both at.1
+      by step.SettlingBody at = tt
+      by step.OpeningGate at = call_within (Holds n p) (flush_anew n p found) anew.rewrites.start facts (ground at.0) BodySafe both at.1
+      by step.SettlingGate at = tt
+
+  -- what is left where it fails holds the facts
+  anew_fails : (new : Areas) → IsLeftBy (call_at (area_anew found) (flush_anew n p found).body anew.stage) both new → EachHolds (Holds n p) new facts
+  anew_fails new left = by (failed_rewriting n p found r.due r.start r.finds r.spelt facts anew.holds anew.stage (flush_anew n p found).body both new r.stands left)
+    where
+      r : IsRewriting n p (record { found = found; body = (flush_anew n p found).body; stage = anew.stage }) both
+      r = anew.rewrites
+
+      by : (new ≡ both) ⊎ EachHolds (Holds n p) new facts → EachHolds (Holds n p) new facts
+      by (inl same) = subst (λ (b : Areas). EachHolds (Holds n p) b facts) (sym same) (anew_holds n p facts both found calls anew)
+      by (inr held) = held
+
 module _ (leaves : Call → Areas → Areas) (fails : IsFailure leaves) (n p : ℕ) (w : World) where
   -- a failing call that writes nothing leaves the disk as it was
   each_left : (call : Call) (both : Areas) → leaves call both ≡ both → EachHoldsSome n p w both → EachHoldsSome n p w (leaves call both)
@@ -218,13 +232,13 @@ module _ (leaves : Call → Areas → Areas) (fails : IsFailure leaves) (n p : �
   opening_fails both opening.Settling order opens each = (fails.order Sync both tt order, each_left Sync both (fails.left Sync both tt) each)
   opening_fails both opening.ReadingFirst order opens each = (fails.order (due_call opening.ReadingFirst) both tt order, each_left (due_call opening.ReadingFirst) both (fails.left (due_call opening.ReadingFirst) both tt) each)
   opening_fails both (opening.ReadingSecond first) order opens each = (fails.order (due_call (opening.ReadingSecond first)) both tt order, each_left (due_call (opening.ReadingSecond first)) both (fails.left (due_call (opening.ReadingSecond first)) both tt) each)
-  opening_fails both (opening.Formatting calls) order opens each =
+  opening_fails both (opening.Rewriting found calls) order opens each =
       let some = opens.1 in
-      let new = leaves (call_of_stage n p some.opens.0) both in
-      let left = fails.left (call_of_stage n p some.opens.0) both (stage_within n p (w.kept p ++ take some.count (w.staged p)) both some.opens.0 some.opens.2) in
-      subst (λ (c : Call). AreInOrder (leaves c both) × EachHoldsSome n p w (leaves c both)) (sym (stage_due n p some.opens.0 calls some.opens.1)) (
-        fails.order (call_of_stage n p some.opens.0) both (stage_small n p some.opens.0) order,
-        each_first n p (w.kept p) (w.staged p) some.count new some.there (stage_fails n p (w.kept p ++ take some.count (w.staged p)) both new some.opens.0 some.opens.2 left),
+      let left = fails.left (call_at (area_anew found) (flush_anew n p found).body some.opens.stage) both (anew_within n p (w.kept p ++ take some.count (w.staged p)) both found calls some.opens) in
+      subst (λ (c : Call). AreInOrder (leaves c both) × EachHoldsSome n p w (leaves c both)) (sym (anew_due found (flush_anew n p found).body some.opens.stage calls some.opens.calls_left)) (
+        fails.order (call_at (area_anew found) (flush_anew n p found).body some.opens.stage) both (anew_small n p (w.kept p ++ take some.count (w.staged p)) both found calls some.opens) order,
+        each_first n p (w.kept p) (w.staged p) some.count (leaves (call_at (area_anew found) (flush_anew n p found).body some.opens.stage) both) some.there
+            (anew_fails n p (w.kept p ++ take some.count (w.staged p)) both found calls some.opens (leaves (call_at (area_anew found) (flush_anew n p found).body some.opens.stage) both) left),
       )
 
   -- the call that is due in a flush fails

@@ -32,7 +32,7 @@ module _ (n q : ℕ) (w v : World) (alone : LeavesAlone q w v) where
   opening_stays both opening.Settling h = (down_stays h.0, each_stays both h.1)
   opening_stays both opening.ReadingFirst h = (down_stays h.0, opens_stays both opening.ReadingFirst h.1)
   opening_stays both (opening.ReadingSecond first) h = (down_stays h.0, opens_stays both (opening.ReadingSecond first) h.1)
-  opening_stays both (opening.Formatting calls) h = (down_stays h.0, opens_stays both (opening.Formatting calls) h.1)
+  opening_stays both (opening.Rewriting found calls) h = (down_stays h.0, opens_stays both (opening.Rewriting found calls) h.1)
 
   serving_stays : (both : Areas) (s : NodeState) (journal : Journaled) (flush : Flush) → IsServing n q w both s journal flush → IsServing n q v both s journal flush
   serving_stays both s journal flush h =

@@ -1,31 +1,25 @@
 -- Whatever a crash leaves of a node in step holds its kept facts and some of its staged ones.
-use Rattle.std.proofs.Common.{ℕ, ◌++◌, List, [], ◌∷◌, take, subst, length}
+use Rattle.std.proofs.Common.{ℕ, ◌++◌, List, take, length}
 use Rattle.rr_types.specs.declared.fact.Fact.{Fact}
 use Rattle.rr_model.specs.World.{World}
 use Rattle.rr_model.specs.NodeState.{NodeState}
-use Rattle.rr_disk.specs.Areas.{Areas, written, at_rest}
-use Rattle.rr_disk.specs.Crash.{IsCrashImage}
+use Rattle.rr_disk.specs.Areas.{Areas}
 use Rattle.rr_journal.specs.Moments.{EachHolds}
-use Rattle.rr_journal.proofs.Table.{due_holds, out_holds, safe_holds, set_holds}
+use Rattle.rr_journal.specs.Calls.{Call}
+use Rattle.rr_image.specs.Image.{Found}
 use Rattle.rr_image.specs.Held.{Holds}
 use Rattle.rr_journal.specs.Openings as opening
-use Rattle.rr_journal.specs.OpeningTable.{formatting}
-use Rattle.rr_journal.proofs.OpeningLaws.{either_held, closing_images, written_torn}
+use Rattle.rr_journal.proofs.RewriteLaws.{held_rewriting}
 use Rattle.rr_journal.proofs.SwitchLaws.{held}
 use Rattle.rr_node.specs.Seats.{Flush, Resting, Writing, Flushed, Switching, Journaled, Doing, Stopped, Faulted, Opening, Serving, Seat}
-use Rattle.rr_node.specs.Worlds.{BodyDue, BodyOut, BodySafe, GateSet, EachHoldsSome, Stage, Closing, Closed, Flushing, StandsAt, IsOpening, journal_at, IsServing, DoesSo, InStep}
+use Rattle.rr_node.specs.Worlds.{EachHoldsSome, WritesAnew, IsOpening, journal_at, IsServing, DoesSo, InStep}
 use Rattle.rr_node.proofs.Flushing.{each_none, each_first, rest_holds, flush_holds}
 
--- at each stage of its formatting a disk holds its facts
-pub stage_holds : (n p : ℕ) (facts : List Fact) (both : Areas) (stage : Stage) → StandsAt n p facts both stage → EachHolds (Holds n p) both facts
-stage_holds n p facts both Closing stands = rest_holds n p facts stands.start both stands.stands stands.fresh.holds
-stage_holds n p facts both Closed stands = λ images is.
-    closing_images n p facts stands.start stands.fresh stands.due (written 0 (0 ∷ []) (at_rest stands.start.of_first)) (written_torn stands.start) images
-    (subst (λ (b : Areas). IsCrashImage b images) stands.stands is)
-stage_holds n p facts both (Flushing BodyDue) stands = due_holds (Holds n p) (formatting n p) stands.start facts both stands.stands
-stage_holds n p facts both (Flushing BodyOut) stands = out_holds (Holds n p) (formatting n p) stands.start facts both stands.stands
-stage_holds n p facts both (Flushing BodySafe) stands = safe_holds (Holds n p) (formatting n p) stands.start facts both stands.stands
-stage_holds n p facts both (Flushing GateSet) stands = either_held (Holds n p) facts both (set_holds (Holds n p) (formatting n p) stands.start facts both stands.stands)
+-- while an area is written anew a disk holds its facts
+pub anew_holds : (n p : ℕ) (facts : List Fact) (both : Areas) (found : Found) (calls : List Call) → WritesAnew n p facts both found calls → EachHolds (Holds n p) both facts
+anew_holds n p facts both found calls anew =
+    let r = anew.rewrites in
+    held_rewriting n p found r.due r.start r.finds r.spelt facts anew.holds anew.stage both r.stands
 
 opening_holds : (n p : ℕ) (w : World) (both : Areas) (phase : opening.Phase) → IsOpening n p w both phase → EachHoldsSome n p w both
 opening_holds n p w both opening.Settling opens = opens.1
@@ -35,9 +29,9 @@ opening_holds n p w both opening.ReadingFirst opens =
 opening_holds n p w both (opening.ReadingSecond first) opens =
     let some = opens.1 in
     each_first n p (w.kept p) (w.staged p) some.count both some.there (rest_holds n p (w.kept p ++ take some.count (w.staged p)) some.opens.0.start both some.opens.0.stands some.opens.0.holds)
-opening_holds n p w both (opening.Formatting calls) opens =
+opening_holds n p w both (opening.Rewriting found calls) opens =
     let some = opens.1 in
-    each_first n p (w.kept p) (w.staged p) some.count both some.there (stage_holds n p (w.kept p ++ take some.count (w.staged p)) both some.opens.0 some.opens.2)
+    each_first n p (w.kept p) (w.staged p) some.count both some.there (anew_holds n p (w.kept p ++ take some.count (w.staged p)) both found calls some.opens)
 
 serving_holds : (n p : ℕ) (w : World) (both : Areas) (s : NodeState) (journal : Journaled) (flush : Flush) → IsServing n p w both s journal flush → EachHoldsSome n p w both
 serving_holds n p w both s journal Resting serves = each_none n p (w.kept p) (w.staged p) both (rest_holds n p (w.kept p) serves.start both serves.flushes.1 serves.over.holds)

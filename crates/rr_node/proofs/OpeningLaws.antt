@@ -1,5 +1,5 @@
 -- Each device call of an opening does what the definitions say.
-use Rattle.std.proofs.Common.{◌≡◌, ◌≢◌, ◌⊎◌, inl, inr, ℕ, ◌+◌, arith, List, [], ◌∷◌, None, Some, Result, Ok, Err, Vec, refl, sym, ap, subst, ◌∙◌}
+use Rattle.std.proofs.Common.{◌≡◌, ◌≢◌, ◌⊎◌, inl, inr, ℕ, ◌+◌, arith, Bool, true, false, if◌then◌else◌, List, [], ◌∷◌, None, Some, Result, Ok, Err, Vec, refl, sym, ap, subst, ◌∙◌}
 use Rattle.std.specs.Global.{Global}
 use Rattle.std.proofs.lemmas.Bool.{false≢true, lt-ltb}
 use Rattle.rr_types.specs.declared.promise.Entry.{Entry}
@@ -8,14 +8,13 @@ use Rattle.rr_types.specs.declared.refusal.Refusal.TheVariants as because
 use Rattle.rr_model.specs.NodeState.{NodeState}
 use Rattle.rr_model.specs.NodeStep.{started}
 use Rattle.rr_disk.specs.declared.area.Area.{Area}
-use Rattle.rr_disk.specs.declared.area.Area.TheVariants.{First}
-use Rattle.rr_disk.specs.Areas.{Areas}
+use Rattle.rr_disk.specs.Areas.{Areas, synced}
 use Rattle.rr_disk.specs.Counts.{counted}
 use Rattle.rr_disk.specs.Failing.{FailingRead, FailingWrite, FailingSync, passed, fell}
 use Rattle.rr_disk.specs.Memory.{MemoryState, MemoryRead, MemoryWrite, MemorySync}
 use Rattle.rr_frame.specs.Snapshots.{IsSnapshot}
 use Rattle.rr_journal.specs.declared.journal.Journal.{Journal}
-use Rattle.rr_journal.specs.declared.opening.Opening.{Opening}
+use Rattle.rr_journal.specs.OpeningStates.{OpeningState}
 use Rattle.rr_journal.specs.declared.opening.Phase as code
 use Rattle.rr_journal.specs.declared.opening.Phase.TheVariants as step
 use Rattle.rr_journal.specs.declared.opened.Opened.{Opened}
@@ -24,12 +23,14 @@ use Rattle.rr_journal.specs.declared.opening.Progress.TheVariants as of_journal_
 use Rattle.rr_journal.specs.declared.stage.Stage.{Stage}
 use Rattle.rr_journal.specs.declared.stage.Stage.TheVariants as due
 use Rattle.rr_journal.specs.Calls.{Call, Read, Write, Sync, after_call, after_failing, after_starved}
-use Rattle.rr_image.specs.Image.{Content, Found, Unformatted, Broken, Active, found}
-use Rattle.rr_journal.specs.Openings.{Phase, Settling, ReadingFirst, ReadingSecond, Formatting, After, Goes, Opens, Stops, Done, Refused, due_call, after_found, after_opening_call}
+use Rattle.rr_image.specs.Image.{Content, Found, Unformatted, Broken, Active, Outdated, found}
+use Rattle.rr_journal.specs.Openings.{Phase, Settling, ReadingFirst, ReadingSecond, Rewriting, After, Goes, Opens, Stops, Done, Refused, bytes_in, migrated, may_migrate, migrate_calls, due_call, after_found, end_by, after_opening_call}
 use Rattle.rr_journal.specs.Phases.{phase_of, TakesMemory}
 use Rattle.rr_journal.specs.OpeningSteps.{Steps}
+use Rattle.rr_journal.specs.OpeningTable.{OpensAny}
 use Rattle.rr_journal.specs.Stages.{calls_from}
-use Rattle.rr_journal.specs.OtherAreas.{IsOtherKnown}
+use Rattle.rr_journal.specs.OtherAreas.{other_area, IsOtherKnown}
+use Rattle.rr_journal.specs.Rewrites.{area_anew}
 use Rattle.rr_recover.specs.declared.steps.Progress as progress_of
 use Rattle.rr_recover.specs.declared.steps.Progress.TheVariants as progress
 use Rattle.rr_recover.specs.Recoveries.{end_of, as_step, IsStarted, StandsFor, Recovers}
@@ -39,7 +40,7 @@ use Rattle.rr_node.specs.declared.event.NodeEvent.TheVariants as at
 use Rattle.rr_node.specs.declared.event.Outcome.{Outcome}
 use Rattle.rr_node.specs.declared.event.Outcome.TheVariants.{Quiet}
 use Rattle.rr_node.specs.Seats as seats
-use Rattle.rr_node.specs.Seats.{Seat, Answer, Gives, Fails, read_by, opens_on, seat_step, starve_opening}
+use Rattle.rr_node.specs.Seats.{Seat, Answer, Gives, Fails, called, read_by, opens_on, seat_step, starve_end, starve_opening}
 use Rattle.rr_node.specs.Views.{NodeDisk, areas_in, seat_of, IsOpened, IsSteady, Serves, Carries, CarriesFailing}
 use Rattle.rr_node.proofs.FrontLaws.{ends_appending}
 use Rattle.rr_node.proofs.DiskLaws.{passed_on, starved_falls, call_fails}
@@ -51,10 +52,10 @@ Made call old v new = Done (FailingRead MemoryRead) (FailingWrite MemoryWrite) (
 abbrev pub Unmade : Call → NodeDisk → Refusal → NodeDisk → Type 0
 Unmade call old e new = Refused (FailingRead MemoryRead) (FailingWrite MemoryWrite) (FailingSync MemorySync) call old e new
 
-abbrev Stepped : Opening NodeDisk → Result (of_journal.Progress NodeDisk) (Refusal × NodeDisk) → Type 0
+abbrev Stepped : OpeningState NodeDisk → Result (of_journal.Progress NodeDisk) (Refusal × NodeDisk) → Type 0
 Stepped o r = Steps (FailingRead MemoryRead) (FailingWrite MemoryWrite) (FailingSync MemorySync) o r
 
-abbrev pub Recovered : Opening NodeDisk → Result (progress_of.Progress NodeDisk) (Refusal × NodeDisk) → Type 0
+abbrev pub Recovered : OpeningState NodeDisk → Result (progress_of.Progress NodeDisk) (Refusal × NodeDisk) → Type 0
 Recovered o r = Recovers (FailingRead MemoryRead) (FailingWrite MemoryWrite) (FailingSync MemorySync) o r
 
 -- where no failure is due, a device call is the one of the disk below
@@ -84,9 +85,9 @@ done_after : (n p : ℕ) (phase : Phase) (old new : MemoryState) (v : Vec ℕ Gl
 done_after n p Settling old new v h = refl
 done_after n p ReadingFirst old new v h = ap (λ (bytes : List ℕ). after_opening_call n p bytes ReadingFirst) h.0
 done_after n p (ReadingSecond first) old new v h = ap (λ (bytes : List ℕ). after_opening_call n p bytes (ReadingSecond first)) h.0
-done_after n p (Formatting []) old new v h = refl
-done_after n p (Formatting (call ∷ [])) old new v h = refl
-done_after n p (Formatting (call ∷ next ∷ calls)) old new v h = refl
+done_after n p (Rewriting f []) old new v h = refl
+done_after n p (Rewriting f (call ∷ [])) old new v h = refl
+done_after n p (Rewriting f (call ∷ next ∷ calls)) old new v h = refl
 
 -- an opening in a phase, over these areas, behind so many device calls
 abbrev seat_in : ℕ → ℕ → Phase → Areas → ℕ → Seat
@@ -101,20 +102,20 @@ stepped n p phase old new from to v after h count is =
     ∙ ap (λ (areas : Areas). opens_on (seat_in n p phase areas (counted from)) (after_opening_call n p (read_by (due_call phase) old.areas) phase)) (done_areas (due_call phase) old new v h)
 
 -- a step that wasn't refused is one of the journal's
-not_refused : (o : Opening NodeDisk) (x : progress_of.Progress NodeDisk) → Recovered o (Ok x) → Stepped o (as_step (Ok x))
+not_refused : (o : OpeningState NodeDisk) (x : progress_of.Progress NodeDisk) → Recovered o (Ok x) → Stepped o (as_step (Ok x))
 not_refused o x (inl steps) = steps
 not_refused o x (inr (j, end, steps, e)) = absurd cc
 
 -- an opening that goes on
-pub opens_more : (n p : ℕ) (o next : Opening NodeDisk) → Recovered o (Ok (progress.More next)) → next.disk.calls ≡ counted o.disk.calls → Carries n p at.Device (does.Opening o) (Ok Quiet) (does.Opening next)
-opens_more n p o next recovered count h = by (not_refused o (progress.More next) recovered)
+pub opens_more : (n p : ℕ) (o next : OpeningState NodeDisk) → Recovered o (Ok (progress.More next)) → OpensAny next.nodes next.node next.phase (areas_in next.disk) → next.disk.calls ≡ counted o.disk.calls → Carries n p at.Device (does.Opening o) (Ok Quiet) (does.Opening next)
+opens_more n p o next recovered stands count h = by (not_refused o (progress.More next) recovered)
   where
     by : Stepped o (Ok (of_journal_is.More next)) → Gives at.Device (seat_of n p (does.Opening o)) (Ok Quiet) (seat_of n p (does.Opening next)) × IsSteady n p (does.Opening next)
     by (v, made, goes, nodes, node) =
         let done = made_below (due_call (phase_of o.phase)) o.disk next.disk v h.2 made in
         let goes_here : after_opening_call n p v.items (phase_of o.phase) ≡ Goes (phase_of next.phase) =
         ap (λ (k : ℕ). after_opening_call k p v.items (phase_of o.phase)) (sym h.0) ∙ ap (λ (k : ℕ). after_opening_call o.nodes k v.items (phase_of o.phase)) (sym h.1) ∙ goes in
-        (inl (stepped n p (phase_of o.phase) o.disk.below next.disk.below o.disk.calls next.disk.calls v (Goes (phase_of next.phase)) done.0 count goes_here), (nodes ∙ h.0, node ∙ h.1, done.1))
+        (inl (stepped n p (phase_of o.phase) o.disk.below next.disk.below o.disk.calls next.disk.calls v (Goes (phase_of next.phase)) done.0 count goes_here), (nodes ∙ h.0, node ∙ h.1, done.1, subst (λ (k : ℕ). OpensAny k p next.phase (areas_in next.disk)) (nodes ∙ h.0) (subst (λ (k : ℕ). OpensAny next.nodes k next.phase (areas_in next.disk)) (node ∙ h.1) stands)))
 
 -- only a read or a sync ends an opening
 abbrev StopsBy : Phase → Type 0
@@ -125,18 +126,18 @@ ends_by : (n p : ℕ) (bytes : List ℕ) (phase : code.Phase) (area : Area) (c :
 ends_by n p bytes step.Settling area c e = absurd (cc)
 ends_by n p bytes step.ReadingFirst area c e = absurd (cc)
 ends_by n p bytes (step.ReadingSecond first) area c e = λ before after from to m q is count. rw (is, count) refl
-ends_by n p bytes (step.Formatting stage body) area c e = by stage e
+ends_by n p bytes (step.Rewriting rewrite) area c e = by rewrite.stage e
   where
-    by : (stage : Stage) → after_opening_call n p bytes (Formatting (calls_from First body.items stage)) ≡ Opens area c → StopsBy (Formatting (calls_from First body.items stage))
+    by : (stage : Stage) → after_opening_call n p bytes (Rewriting rewrite.found (calls_from (area_anew rewrite.found) rewrite.body stage)) ≡ Opens area c → StopsBy (Rewriting rewrite.found (calls_from (area_anew rewrite.found) rewrite.body stage))
     by due.Closing e = absurd (cc)
     by due.SettlingClosed e = absurd (cc)
     by due.WritingBody e = absurd (cc)
     by due.SettlingBody e = absurd (cc)
     by due.OpeningGate e = absurd (cc)
-    by due.SettlingGate e = λ before after from to m q is count. rw (is, count) refl
+    by due.SettlingGate e = λ before after from to m q is count. rw (is, count) (ap (starve_end (called (synced before) (seat_in m q (Rewriting rewrite.found (Sync ∷ [])) before from))) e)
 
 -- what is wanting at the end of an opening leaves the node down
-starved_end : (n p : ℕ) (o : Opening NodeDisk) (j : Journal NodeDisk) (end : Opened) → Stepped o (Ok (of_journal_is.Done j end)) → j.disk.calls ≡ counted o.disk.calls → IsSteady n p (does.Opening o)
+starved_end : (n p : ℕ) (o : OpeningState NodeDisk) (j : Journal NodeDisk) (end : Opened) → Stepped o (Ok (of_journal_is.Done j end)) → j.disk.calls ≡ counted o.disk.calls → IsSteady n p (does.Opening o)
     → (starve_opening (phase_of o.phase) (due_call (phase_of o.phase)) (seat_in n p (phase_of o.phase) o.disk.below.areas o.disk.calls) ≡ (let down : Answer = (Err because.OutOfMemory, seat_of n p (does.Stopped j.disk)) in down)) × (j.disk.due ≡ None)
 starved_end n p o j end (v, made, opens, is, of_nodes, of_node) count h =
     let done = made_below (due_call (phase_of o.phase)) o.disk j.disk v h.2 made in
@@ -144,7 +145,7 @@ starved_end n p o j end (v, made, opens, is, of_nodes, of_node) count h =
     (ends_by o.nodes o.node v.items o.phase j.area content opens o.disk.below.areas j.disk.below.areas o.disk.calls j.disk.calls n p (done_areas (due_call (phase_of o.phase)) o.disk.below j.disk.below v done.0) count, done.1)
 
 -- an opening that ends
-pub opens_done : (n p : ℕ) (o : Opening NodeDisk) (core : NodeState) (j : Journal NodeDisk) (answer : Result Outcome Refusal) (new : doing.Doing) → Recovered o (Ok (progress.Done core j)) → IsStarted core j
+pub opens_done : (n p : ℕ) (o : OpeningState NodeDisk) (core : NodeState) (j : Journal NodeDisk) (answer : Result Outcome Refusal) (new : doing.Doing) → Recovered o (Ok (progress.Done core j)) → IsStarted core j
     → StandsFor areas_in core.marked j → IsOtherKnown areas_in j → IsSnapshot (record { node = j.node; nodes = j.nodes; epoch = j.epoch + 1; next = j.next; entries = core.marked }) → j.disk.calls ≡ counted o.disk.calls → Serves n p core j answer new → Carries n p at.Device (does.Opening o) answer new
 opens_done n p o core j answer new recovered starts stands fronts snaps count serves h = by_steps (not_refused o (progress.Done core j) recovered)
   where
@@ -202,19 +203,34 @@ stops_by n p bytes step.Settling e h = absurd (cc)
 stops_by n p bytes step.ReadingFirst e h = absurd (cc)
 stops_by n p bytes (step.ReadingSecond first) e h = by (found n p first.items bytes) h
   where
-    by : (f : Found) → after_found n p first.items f ≡ Stops e → e ≢ because.Device
+    by : (f : Found) → after_found n p first.items bytes f ≡ Stops e → e ≢ because.Device
     by Unformatted h = absurd (cc)
     by (Broken area offset) h = λ device. cc
     by (Active area c) h = absurd (cc)
-stops_by n p bytes (step.Formatting stage body) e h = by stage h
+    by (Outdated area c) h = no_room (may_migrate c) (Rewriting (Outdated area c) (migrate_calls n p area c (bytes_in (other_area area) first.items bytes))) h
+      where
+        no_room : (may : Bool) (phase : Phase) → (if may then Goes phase else Stops because.TooLarge) ≡ Stops e → e ≢ because.Device
+        no_room true phase h = absurd (cc)
+        no_room false phase h = λ device. cc
+stops_by n p bytes (step.Rewriting rewrite) e h = by rewrite.stage h
   where
-    by : (stage : Stage) → after_opening_call n p bytes (Formatting (calls_from First body.items stage)) ≡ Stops e → e ≢ because.Device
+    ends : (f : Found) → end_by f ≡ Stops e → e ≢ because.Device
+    ends Unformatted h = absurd (cc)
+    ends (Broken area offset) h = λ device. cc
+    ends (Active area c) h = absurd (cc)
+    ends (Outdated area c) h = no_room (may_migrate c) h
+      where
+        no_room : (may : Bool) → (if may then Opens (other_area area) (migrated c) else Stops because.TooLarge) ≡ Stops e → e ≢ because.Device
+        no_room true h = absurd (cc)
+        no_room false h = λ device. cc
+
+    by : (stage : Stage) → after_opening_call n p bytes (Rewriting rewrite.found (calls_from (area_anew rewrite.found) rewrite.body stage)) ≡ Stops e → e ≢ because.Device
     by due.Closing h = absurd (cc)
     by due.SettlingClosed h = absurd (cc)
     by due.WritingBody h = absurd (cc)
     by due.SettlingBody h = absurd (cc)
     by due.OpeningGate h = absurd (cc)
-    by due.SettlingGate h = absurd (cc)
+    by due.SettlingGate h = ends rewrite.found h
 
 -- a device call that was refused fails the node where it is a write, and else ends the opening
 abbrev Falls : ℕ → ℕ → Phase → Areas → ℕ → Refusal → MemoryState → ℕ → Type 0
@@ -237,7 +253,7 @@ refused_call n p phase (Write area offset bytes) old new from to e is count h =
     ((λ device. inr (rw (h.0, torn, count) (sym (own ∙ falls)))), (λ other. absurd (other h.0)))
 refused_call n p phase Sync old new from to e is count h = absurd (false≢true h.0)
 
-stopped : (n p : ℕ) (o : Opening NodeDisk) (e : Refusal) (new : NodeDisk) → o.nodes ≡ n → o.node ≡ p → o.disk.due ≡ None → new.calls ≡ counted o.disk.calls → Stepped o (Err (e, new)) → Falls n p (phase_of o.phase) o.disk.below.areas o.disk.calls e new.below new.calls × (new.due ≡ None)
+stopped : (n p : ℕ) (o : OpeningState NodeDisk) (e : Refusal) (new : NodeDisk) → o.nodes ≡ n → o.node ≡ p → o.disk.due ≡ None → new.calls ≡ counted o.disk.calls → Stepped o (Err (e, new)) → Falls n p (phase_of o.phase) o.disk.below.areas o.disk.calls e new.below new.calls × (new.due ≡ None)
 stopped n p o e new nodes node calm count (inl refused) =
     let below = unmade_below (due_call (phase_of o.phase)) o.disk new e calm refused in
     (refused_call n p (phase_of o.phase) (due_call (phase_of o.phase)) o.disk.below new.below o.disk.calls new.calls e refl count below.0, below.1)
@@ -254,7 +270,7 @@ stopped n p o e new nodes node calm count (inr (v, made, inl memory)) =
     wanting (ReadingSecond first) takes done =
         let same : new.below.areas ≡ o.disk.below.areas = ap (λ (m : MemoryState). m.areas) done.1 in
         ((λ device. absurd (memory_device (sym memory.0 ∙ device))), (λ other. inr (rw (memory.0, same, count) refl)))
-    wanting (Formatting calls) takes done = absurd takes
+    wanting (Rewriting f calls) takes done = absurd takes
 stopped n p o e new nodes node calm count (inr (v, made, inr stops)) =
     let done = made_below (due_call (phase_of o.phase)) o.disk new v calm made in
     let here : after_opening_call n p v.items (phase_of o.phase) ≡ Stops e = ap (λ (k : ℕ). after_opening_call k p v.items (phase_of o.phase)) (sym nodes) ∙ ap (λ (k : ℕ). after_opening_call o.nodes k v.items (phase_of o.phase)) (sym node) ∙ stops in
@@ -267,7 +283,7 @@ wanting_memory e new j is =
     (ap (λ (x : Refusal × NodeDisk). x.0) both, ap (λ (x : Refusal × NodeDisk). x.1) both)
 
 -- an opening that is refused by its device
-pub opens_fallen : (n p : ℕ) (o : Opening NodeDisk) (e : Refusal) (new : NodeDisk) → Recovered o (Err (e, new)) → new.calls ≡ counted o.disk.calls → e ≡ because.Device → Carries n p at.Device (does.Opening o) (Err e) (does.Faulted new)
+pub opens_fallen : (n p : ℕ) (o : OpeningState NodeDisk) (e : Refusal) (new : NodeDisk) → Recovered o (Err (e, new)) → new.calls ≡ counted o.disk.calls → e ≡ because.Device → Carries n p at.Device (does.Opening o) (Err e) (does.Faulted new)
 opens_fallen n p o e new (inl steps) count device h = let x = stopped n p o e new h.0 h.1 h.2 count steps in (x.0.0 device, x.1)
 opens_fallen n p o e new (inr (j, ending, steps, is)) count device h = absurd (memory_device (sym (wanting_memory e new j is).0 ∙ device))
   where
@@ -275,7 +291,7 @@ opens_fallen n p o e new (inr (j, ending, steps, is)) count device h = absurd (m
     memory_device x = cc
 
 -- an opening that is refused by memory or for what was found
-pub opens_stopped : (n p : ℕ) (o : Opening NodeDisk) (e : Refusal) (new : NodeDisk) → Recovered o (Err (e, new)) → new.calls ≡ counted o.disk.calls → e ≢ because.Device → Carries n p at.Device (does.Opening o) (Err e) (does.Stopped new)
+pub opens_stopped : (n p : ℕ) (o : OpeningState NodeDisk) (e : Refusal) (new : NodeDisk) → Recovered o (Err (e, new)) → new.calls ≡ counted o.disk.calls → e ≢ because.Device → Carries n p at.Device (does.Opening o) (Err e) (does.Stopped new)
 opens_stopped n p o e new (inl steps) count other h = let x = stopped n p o e new h.0 h.1 h.2 count steps in (x.0.1 other, x.1)
 opens_stopped n p o e new (inr (j, ending, steps, is)) count other h =
     let wanting = wanting_memory e new j is in
@@ -283,7 +299,7 @@ opens_stopped n p o e new (inr (j, ending, steps, is)) count other h =
     rw (wanting.0, wanting.1) (inr (sym end.0), end.1)
 
 -- the device call that is due in an opening fails
-pub opens_failing : (n p : ℕ) (fill : List ℕ) (o : Opening NodeDisk) (new : NodeDisk) → Unmade (due_call (phase_of o.phase)) (record o.disk { due = Some fill }) because.Device new
+pub opens_failing : (n p : ℕ) (fill : List ℕ) (o : OpeningState NodeDisk) (new : NodeDisk) → Unmade (due_call (phase_of o.phase)) (record o.disk { due = Some fill }) because.Device new
     → CarriesFailing n p fill (does.Opening o) (Err because.Device) (does.Faulted new)
 opens_failing n p fill o new refused h =
     let left = call_fails fill (due_call (phase_of o.phase)) o.disk new refused in

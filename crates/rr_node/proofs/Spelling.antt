@@ -16,15 +16,15 @@ use Rattle.rr_types.specs.declared.promise.Entry.{Entry}
 use Rattle.rr_types.specs.declared.promise.Standing.{Standing}
 use Rattle.rr_types.specs.declared.promise.Standing.TheVariants.{Decided, Open}
 use Rattle.rr_types.specs.Rounds.{Estimated, coordinator_of}
+use Rattle.rr_frame.specs.declared.version.Version.TheVariants.{Two}
 use Rattle.rr_frame.specs.Numbers.{number_bytes}
 use Rattle.rr_frame.specs.CommandFormat.{text_bytes, op_bytes, command_bytes, IsLawfulOp, IsLawfulCommand}
 use Rattle.rr_frame.specs.FactFormat.{estimate_bytes, fact_bytes, IsLawfulEstimate, IsLawfulFact}
 use Rattle.rr_frame.specs.GroupFormat.{group_bytes, IsLawfulGroup}
 use Rattle.rr_frame.specs.Snapshots.{Snapped}
-use Rattle.rr_frame.specs.SnapshotFormat.{proposal_bytes, open_bytes, standing_bytes, entry_bytes, owner_bytes, contents_bytes, snapshot_bytes, IsLawfulStanding, IsLawfulEntry}
+use Rattle.rr_frame.specs.SnapshotFormat.{proposal_bytes, open_bytes, standing_bytes, entry_bytes, owner_bytes, contents_bytes, snapshot_bytes, snapshot_bytes_in, IsLawfulStandingIn, IsLawfulEntryIn}
 use Rattle.rr_frame.proofs.FieldLaws.{IsBytes-high_first}
 use Rattle.rr_journal.specs.Calls.{frame_bytes}
-use Rattle.rr_journal.specs.OpeningTable.{first_snapshot}
 use Rattle.rr_node.proofs.InOrder.{Bytes}
 
 both_fit : (xs ys : List ℕ) → Bytes xs → Bytes ys → Bytes (xs ++ ys)
@@ -65,10 +65,10 @@ value_fits bytes is = text_fits bytes (letters_fit is_value_byte value_byte byte
 
 op_fits : (op : Op) → IsLawfulOp op → Bytes (op_bytes op)
 unfolding op_bytes
-op_fits (Claim name value) is = both_fit (number_bytes 1 1) (text_bytes name ++ text_bytes value) (number_fits 1 1) (both_fit (text_bytes name) (text_bytes value) (name_fits name is.0) (value_fits value is.1))
-op_fits (Update name value) is = both_fit (number_bytes 1 2) (text_bytes name ++ text_bytes value) (number_fits 1 2) (both_fit (text_bytes name) (text_bytes value) (name_fits name is.0) (value_fits value is.1))
-op_fits (Release name) is = both_fit (number_bytes 1 3) (text_bytes name) (number_fits 1 3) (name_fits name is)
-op_fits (Transfer name owner) is = both_fit (number_bytes 1 4) (text_bytes name ++ number_bytes 4 owner) (number_fits 1 4) (both_fit (text_bytes name) (number_bytes 4 owner) (name_fits name is.0) (number_fits 4 owner))
+op_fits (Claim name value) is = both_fit (number_bytes 1 1) (text_bytes name ++ text_bytes value) (number_fits 1 1) (both_fit (text_bytes name) (text_bytes value) (name_fits name is.0.0) (value_fits value is.1))
+op_fits (Update name value) is = both_fit (number_bytes 1 2) (text_bytes name ++ text_bytes value) (number_fits 1 2) (both_fit (text_bytes name) (text_bytes value) (name_fits name is.0.0) (value_fits value is.1))
+op_fits (Release name) is = both_fit (number_bytes 1 3) (text_bytes name) (number_fits 1 3) (name_fits name is.0)
+op_fits (Transfer name owner) is = both_fit (number_bytes 1 4) (text_bytes name ++ number_bytes 4 owner) (number_fits 1 4) (both_fit (text_bytes name) (number_bytes 4 owner) (name_fits name is.0.0) (number_fits 4 owner))
 
 command_fits : (c : Command) → IsLawfulCommand c → Bytes (command_bytes c)
 unfolding command_bytes
@@ -119,7 +119,7 @@ proposed : (n p r : ℕ) (v : Option Command) → IfSome v (λ c. (coordinator_o
 proposed n p r None is = tt
 proposed n p r (Some v) is = is.1
 
-standing_fits : (n p : ℕ) (s : Standing) → IsLawfulStanding n p s → Bytes (standing_bytes s)
+standing_fits : (n p : ℕ) (s : Standing) → IsLawfulStandingIn Two n p s → Bytes (standing_bytes s)
 unfolding standing_bytes open_bytes
 standing_fits n p (Decided v) is = both_fit (number_bytes 1 1) (command_bytes v) (number_fits 1 1) (command_fits v is)
 standing_fits n p (Open o) is =
@@ -128,7 +128,7 @@ standing_fits n p (Open o) is =
     (both_fit (number_bytes 4 o.stamp) (command_bytes o.estimate ++ proposal_bytes o.proposal) (number_fits 4 o.stamp)
     (both_fit (command_bytes o.estimate) (proposal_bytes o.proposal) (command_fits o.estimate is.estimate) (proposal_fits o.proposal (proposed n p o.round o.proposal is.proposal)))))
 
-entries_fit : (n p : ℕ) (entries : List Entry) → AllByRecursion (IsLawfulEntry n p) entries → Bytes (flat_map entry_bytes entries)
+entries_fit : (n p : ℕ) (entries : List Entry) → AllByRecursion (IsLawfulEntryIn Two n p) entries → Bytes (flat_map entry_bytes entries)
 unfolding entry_bytes
 entries_fit n p [] is = All-nil (λ b. b < 256)
 entries_fit n p (e ∷ entries) is =
@@ -136,8 +136,8 @@ entries_fit n p (e ∷ entries) is =
     (both_fit (number_bytes 4 e.instance ++ standing_bytes e.standing) (flat_map entry_bytes entries) (both_fit (number_bytes 4 e.instance) (standing_bytes e.standing) (number_fits 4 e.instance) (standing_fits n p e.standing is.0.standing))
     (entries_fit n p entries is.1))
 
-snapshot_fits : (s : Snapped) → AllByRecursion (IsLawfulEntry s.nodes s.node) s.entries → Bytes (snapshot_bytes s)
-unfolding snapshot_bytes owner_bytes contents_bytes
+snapshot_fits : (s : Snapped) → AllByRecursion (IsLawfulEntryIn Two s.nodes s.node) s.entries → Bytes (snapshot_bytes s)
+unfolding snapshot_bytes_in owner_bytes contents_bytes
 snapshot_fits s is =
     both_fit (number_bytes 1 2 ++ (number_bytes 1 s.node ++ number_bytes 1 s.nodes)) (number_bytes 8 s.epoch ++ (number_bytes 8 s.next ++ (number_bytes 4 (length s.entries) ++ flat_map entry_bytes s.entries)))
     (both_fit (number_bytes 1 2) (number_bytes 1 s.node ++ number_bytes 1 s.nodes) (number_fits 1 2) (both_fit (number_bytes 1 s.node) (number_bytes 1 s.nodes) (number_fits 1 s.node) (number_fits 1 s.nodes)))
@@ -146,9 +146,5 @@ snapshot_fits s is =
     (both_fit (number_bytes 4 (length s.entries)) (flat_map entry_bytes s.entries) (number_fits 4 (length s.entries)) (entries_fit s.nodes s.node s.entries is))))
 
 -- the frame of a snapshot whose entries have a spelling
-pub snapped_body_fits : (s : Snapped) → AllByRecursion (IsLawfulEntry s.nodes s.node) s.entries → Bytes (frame_bytes (snapshot_bytes s))
+pub snapped_body_fits : (s : Snapped) → AllByRecursion (IsLawfulEntryIn Two s.nodes s.node) s.entries → Bytes (frame_bytes (snapshot_bytes s))
 snapped_body_fits s is = frame_fits (snapshot_bytes s) (snapshot_fits s is)
-
--- the one that formatting writes has none
-pub first_body_fits : (n p : ℕ) → Bytes (frame_bytes (snapshot_bytes (first_snapshot n p)))
-first_body_fits n p = snapped_body_fits (first_snapshot n p) tt

@@ -47,19 +47,19 @@ module _ (n p k : ℕ) (few : n ≤ 7) (w : World) (areas : Areas) where
   idle_in_step doing e down h at.Snap = refuses n p w at.Snap (seated n p k areas doing) e h
 
   -- one that opens makes its device calls
-  opening_in_step : (phase : opening.Phase) → InStep n p (seated n p k areas (Opening phase)) w → (event : NodeEvent) → (let x = await_opening phase (seated n p k areas (Opening phase)) event in GoesOn n p (MayBe p event) w x.0 x.1)
+  opening_in_step : (phase : opening.Phase) → InStep n p (seated n p k areas (Opening phase)) w → (event : NodeEvent) → (let x = await_opening phase (seated n p k areas (Opening phase)) event in IsSpelt x.1.doing → GoesOn n p (MayBe p event) w x.0 x.1)
   opening_in_step phase h at.Device = opens_in_step n p k few w areas phase h
-  opening_in_step phase h at.Restart = refuses n p w at.Restart (seated n p k areas (Opening phase)) because.Busy h
-  opening_in_step phase h (at.Submit c) = refuses n p w (at.Submit c) (seated n p k areas (Opening phase)) because.Down h
-  opening_in_step phase h (at.Hear m) = refuses n p w (at.Hear m) (seated n p k areas (Opening phase)) because.Down h
-  opening_in_step phase h (at.Suspect set) = refuses n p w (at.Suspect set) (seated n p k areas (Opening phase)) because.Down h
-  opening_in_step phase h at.Tick = refuses n p w at.Tick (seated n p k areas (Opening phase)) because.Down h
-  opening_in_step phase h at.Advance = refuses n p w at.Advance (seated n p k areas (Opening phase)) because.Down h
-  opening_in_step phase h at.Take = refuses n p w at.Take (seated n p k areas (Opening phase)) because.Down h
-  opening_in_step phase h at.Mark = refuses n p w at.Mark (seated n p k areas (Opening phase)) because.Down h
-  opening_in_step phase h at.Send = refuses n p w at.Send (seated n p k areas (Opening phase)) because.Down h
-  opening_in_step phase h at.Acknowledge = refuses n p w at.Acknowledge (seated n p k areas (Opening phase)) because.Down h
-  opening_in_step phase h at.Snap = refuses n p w at.Snap (seated n p k areas (Opening phase)) because.Down h
+  opening_in_step phase h at.Restart = λ spelt. refuses n p w at.Restart (seated n p k areas (Opening phase)) because.Busy h
+  opening_in_step phase h (at.Submit c) = λ spelt. refuses n p w (at.Submit c) (seated n p k areas (Opening phase)) because.Down h
+  opening_in_step phase h (at.Hear m) = λ spelt. refuses n p w (at.Hear m) (seated n p k areas (Opening phase)) because.Down h
+  opening_in_step phase h (at.Suspect set) = λ spelt. refuses n p w (at.Suspect set) (seated n p k areas (Opening phase)) because.Down h
+  opening_in_step phase h at.Tick = λ spelt. refuses n p w at.Tick (seated n p k areas (Opening phase)) because.Down h
+  opening_in_step phase h at.Advance = λ spelt. refuses n p w at.Advance (seated n p k areas (Opening phase)) because.Down h
+  opening_in_step phase h at.Take = λ spelt. refuses n p w at.Take (seated n p k areas (Opening phase)) because.Down h
+  opening_in_step phase h at.Mark = λ spelt. refuses n p w at.Mark (seated n p k areas (Opening phase)) because.Down h
+  opening_in_step phase h at.Send = λ spelt. refuses n p w at.Send (seated n p k areas (Opening phase)) because.Down h
+  opening_in_step phase h at.Acknowledge = λ spelt. refuses n p w at.Acknowledge (seated n p k areas (Opening phase)) because.Down h
+  opening_in_step phase h at.Snap = λ spelt. refuses n p w at.Snap (seated n p k areas (Opening phase)) because.Down h
 
   -- one that is up does as it is told
   serving_in_step : (s : NodeState) (journal : Journaled) (flush : Flush) → InStep n p (seated n p k areas (Serving s journal flush)) w → (event : NodeEvent) → MayCome n p w event
@@ -82,7 +82,7 @@ module _ (n p k : ℕ) (few : n ≤ 7) (w : World) (areas : Areas) where
       → (let x = by_doing event (seated n p k areas doing) doing in IsSpelt x.1.doing → GoesOn n p (MayBe p event) w x.0 x.1)
   doing_in_step Stopped h event comes = λ spelt. idle_in_step Stopped because.Down h.doing.0 h event
   doing_in_step Faulted h event comes = λ spelt. idle_in_step Faulted because.Failed h.doing.0 h event
-  doing_in_step (Opening phase) h event comes = λ spelt. opening_in_step phase h event
+  doing_in_step (Opening phase) h event comes = opening_in_step phase h event
   doing_in_step (Serving s journal flush) h event comes = serving_in_step s journal flush h event comes
 
   -- behind a sync every image holds what the bytes did
@@ -91,14 +91,14 @@ module _ (n p k : ℕ) (few : n ≤ 7) (w : World) (areas : Areas) where
 
   -- an opening for whose device call memory is wanting ends, but by a call that takes none
   opening_starves : (phase : opening.Phase) → InStep n p (seated n p k areas (Opening phase)) w → (call : Call) → due_call phase ≡ call
-      → (let x = starve_opening phase call (seated n p k areas (Opening phase)) in GoesOn n p (MayBe p at.Device) w x.0 x.1)
-  opening_starves phase h (Read area) is =
+      → (let x = starve_opening phase call (seated n p k areas (Opening phase)) in IsSpelt x.1.doing → GoesOn n p (MayBe p at.Device) w x.0 x.1)
+  opening_starves phase h (Read area) is = λ spelt.
       down_falls n p n p (counted k) (MayBe p at.Device) w (Err because.OutOfMemory) areas Stopped (nothing p at.Device) stopped h.exists refl refl (opening_down n p w areas phase h.doing) h.in_order
       (seat_holds n p (seated n p k areas (Opening phase)) w h) (record { unsent = refl; untold = refl })
   opening_starves phase h (Write area from bytes) is = by (grows (Write area from bytes) areas)
     where
-      by : (longer : Bool) → (let x = if longer then fall after_starved (Write area from bytes) (seated n p k areas (Opening phase)) else seat_step at.Device (seated n p k areas (Opening phase)) in GoesOn n p (MayBe p at.Device) w x.0 x.1)
-      by true =
+      by : (longer : Bool) → (let x = if longer then fall after_starved (Write area from bytes) (seated n p k areas (Opening phase)) else seat_step at.Device (seated n p k areas (Opening phase)) in IsSpelt x.1.doing → GoesOn n p (MayBe p at.Device) w x.0 x.1)
+      by true = λ spelt.
           let left = subst (λ (c : Call). AreInOrder (after_starved c areas) × EachHoldsSome n p w (after_starved c areas)) is
           (opening_fails after_starved starvation n p w areas phase h.in_order h.doing (seat_holds n p (seated n p k areas (Opening phase)) w h)) in
           down_falls n p n p (counted k) (MayBe p at.Device) w (Err because.Device) (after_starved (Write area from bytes) areas) Faulted (nothing p at.Device) faulted h.exists refl refl (opening_down n p w areas phase h.doing) left.0 left.1 (record { unsent = refl; untold = refl })
@@ -108,20 +108,20 @@ module _ (n p k : ℕ) (few : n ≤ 7) (w : World) (areas : Areas) where
       behind : Seat
       behind = called (synced areas) (seated n p k areas (Opening phase))
 
-      goes_so : (after : After) → after_opening_call n p [] phase ≡ after → (let x = opens_on behind after in GoesOn n p (MayBe p at.Device) w x.0 x.1)
+      goes_so : (after : After) → after_opening_call n p [] phase ≡ after → (let x = opens_on behind after in IsSpelt x.1.doing → GoesOn n p (MayBe p at.Device) w x.0 x.1)
       goes_so after e =
           let same : open_on (seated n p k areas (Opening phase)) phase ≡ opens_on behind (after_opening_call n p [] phase) =
           ap (λ (c : Call). opens_on (called (after_call c areas) (seated n p k areas (Opening phase))) (after_opening_call n p (read_by c areas) phase)) is in
-          subst (λ (a : Answer). GoesOn n p (MayBe p at.Device) w a.0 a.1) (same ∙ ap (opens_on behind) e) (opens_in_step n p k few w areas phase h)
+          subst (λ (a : Answer). IsSpelt a.1.doing → GoesOn n p (MayBe p at.Device) w a.0 a.1) (same ∙ ap (opens_on behind) e) (opens_in_step n p k few w areas phase h)
 
-      by : (after : After) → after_opening_call n p [] phase ≡ after → (let x = starve_end behind after in GoesOn n p (MayBe p at.Device) w x.0 x.1)
+      by : (after : After) → after_opening_call n p [] phase ≡ after → (let x = starve_end behind after in IsSpelt x.1.doing → GoesOn n p (MayBe p at.Device) w x.0 x.1)
       by (Goes next) e = goes_so (Goes next) e
-      by (Opens area c) e =
+      by (Opens area c) e = λ spelt.
           down_falls n p n p (counted k) (MayBe p at.Device) w (Err because.OutOfMemory) (synced areas) Stopped (nothing p at.Device) stopped h.exists refl refl (opening_down n p w areas phase h.doing) (synced_in_order areas h.in_order)
           (synced_holds h.in_order (seat_holds n p (seated n p k areas (Opening phase)) w h)) (record { unsent = refl; untold = refl })
       by (Stops why) e = goes_so (Stops why) e
 
-  awaiting_starves : (phase : opening.Phase) → InStep n p (seated n p k areas (Opening phase)) w → (event : NodeEvent) → (let x = starve_awaiting phase event (seated n p k areas (Opening phase)) in GoesOn n p (MayBe p event) w x.0 x.1)
+  awaiting_starves : (phase : opening.Phase) → InStep n p (seated n p k areas (Opening phase)) w → (event : NodeEvent) → (let x = starve_awaiting phase event (seated n p k areas (Opening phase)) in IsSpelt x.1.doing → GoesOn n p (MayBe p event) w x.0 x.1)
   awaiting_starves phase h at.Device = opening_starves phase h (due_call phase) refl
   awaiting_starves phase h (at.Submit c) = opening_in_step phase h (at.Submit c)
   awaiting_starves phase h (at.Hear m) = opening_in_step phase h (at.Hear m)
@@ -178,7 +178,7 @@ module _ (n p k : ℕ) (few : n ≤ 7) (w : World) (areas : Areas) where
       → (let x = starve event (seated n p k areas doing) in IsSpelt x.1.doing → GoesOn n p (MayBe p event) w x.0 x.1)
   starves Stopped h event comes = doing_in_step Stopped h event comes
   starves Faulted h event comes = doing_in_step Faulted h event comes
-  starves (Opening phase) h event comes = λ spelt. awaiting_starves phase h event
+  starves (Opening phase) h event comes = awaiting_starves phase h event
   starves (Serving s journal flush) h event comes = serving_starves s journal flush h event
 
 pub steps_in_step : (n p : ℕ) → n ≤ 7 → StepsInStep n p

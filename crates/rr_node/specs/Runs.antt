@@ -1,5 +1,5 @@
 -- What the events of a node with its disk are in the world: which steps, what they send, and what they tell.
-use Rattle.std.specs.Prelude.{◌≡◌, ◌≢◌, ◌⊎◌, ℕ, ◌<◌, List, [], ◌∷◌, ◌++◌, map, All, IfSome, IfErr, Result, Ok, Err}
+use Rattle.std.specs.Prelude.{◌≡◌, ◌≢◌, ◌⊎◌, ℕ, ◌<◌, ◌≤◌, List, [], ◌∷◌, ◌++◌, map, All, IfSome, IfErr, Result, Ok, Err}
 use Rattle.std.specs.List.{Contains}
 use Rattle.rr_types.specs.declared.command.RequestNo.{RequestNo}
 use Rattle.rr_types.specs.declared.command.Reply.{Reply}
@@ -12,7 +12,10 @@ use Rattle.rr_model.specs.Laws.{after_steps}
 use Rattle.rr_model.specs.NodeReached.{NamesRounds}
 use Rattle.rr_model.specs.NodeStep.{running_group}
 use Rattle.rr_frame.specs.GroupFormat.{IsLawfulGroup}
+use Rattle.rr_frame.specs.Snapshots.{IsSnapshot}
 use Rattle.rr_frame.specs.SnapshotFormat.{IsLawfulSnapshot}
+use Rattle.rr_journal.specs.Openings as opening
+use Rattle.rr_journal.specs.Rewrites.{content_anew}
 use Rattle.rr_node.specs.declared.event.NodeEvent.{NodeEvent}
 use Rattle.rr_node.specs.declared.event.NodeEvent.TheVariants as at
 use Rattle.rr_node.specs.declared.event.Outcome.{Outcome}
@@ -96,11 +99,18 @@ pub record GoesOn (n p : ℕ) (May : List Step → Type 0) (w : World) (answer :
   pub sent : (m : Message) → Contains (sent_by answer) m → (m.from ≡ p) × NamesRounds m.body
   pub beside : (q : ℕ) (other : Seat) → q ≢ p → InStep n q other w → InStep n q other (after_steps w steps)
 
--- the group that a node is flushing has a spelling, or the snapshot to which it switches
+-- the snapshot that an opening writes has a spelling at each node that it may be of
+abbrev pub IsAnewSpelt : opening.Phase → Type 0
+IsAnewSpelt opening.Settling = Unit {0}
+IsAnewSpelt opening.ReadingFirst = Unit {0}
+IsAnewSpelt (opening.ReadingSecond first) = Unit {0}
+IsAnewSpelt (opening.Rewriting found calls) = (n p : ℕ) → n ≤ 7 → IsSnapshot (opening.snapshot_with n p (content_anew found)) → IsLawfulSnapshot (opening.snapshot_with n p (content_anew found))
+
+-- the group that a node is flushing has a spelling, or the snapshot to which it switches or that its opening writes
 abbrev pub IsSpelt : Doing → Type 0
 IsSpelt Stopped = Unit {0}
 IsSpelt Faulted = Unit {0}
-IsSpelt (Opening phase) = Unit {0}
+IsSpelt (Opening phase) = IsAnewSpelt phase
 IsSpelt (Serving s journal Resting) = Unit {0}
 IsSpelt (Serving s journal (Writing calls)) = IfSome (running_group s) IsLawfulGroup
 IsSpelt (Serving s journal Flushed) = Unit {0}

@@ -14,6 +14,7 @@ use Rattle.rr_journal.specs.Flushes as gate
 use Rattle.rr_journal.specs.declared.journal.Journal.{Journal}
 use Rattle.rr_journal.specs.Calls.{Write, Sync, frame_bytes}
 use Rattle.rr_journal.specs.OtherAreas.{other_area, closes_in, IsOtherKnown}
+use Rattle.rr_journal.specs.OpeningTable.{OpensAny}
 use Rattle.rr_journal.specs.Phases.{phase_of}
 use Rattle.rr_journal.specs.declared.stage.Stage.TheVariants as stage
 use Rattle.rr_journal.specs.Stages.{calls_from}
@@ -145,11 +146,11 @@ pub record IsServing (n p : ℕ) (s : Serving) : Type 0 where
   pub beside : IsBeside s.flush s.slots
   pub snaps : MaySnap s.core
 
--- what holds of node p of n between events: no failure is due
+-- what holds of node p of n between events: no failure is due, and what stands on the disk of an opening is what its phase has come to
 abbrev pub IsSteady : ℕ → ℕ → code.Doing → Type 0
 IsSteady n p (does.Stopped disk) = disk.due ≡ None
 IsSteady n p (does.Faulted disk) = disk.due ≡ None
-IsSteady n p (does.Opening o) = (o.nodes ≡ n) × (o.node ≡ p) × (o.disk.due ≡ None)
+IsSteady n p (does.Opening o) = (o.nodes ≡ n) × (o.node ≡ p) × (o.disk.due ≡ None) × OpensAny n p o.phase (areas_in o.disk)
 IsSteady n p (does.Serving s) = IsServing n p s
 
 -- the events that a node takes: a restart where it is down or has failed, its device calls while it opens, and any while it serves

@@ -9,7 +9,6 @@ use Rattle.rr_model.specs.NodeState.{NodeState}
 use Rattle.rr_model.specs.NodeStep.{running_group}
 use Rattle.rr_model.specs.NodeReached.{IsReached}
 use Rattle.rr_model.specs.NodeInWorld.{IsInWorld}
-use Rattle.rr_disk.specs.declared.area.Area.TheVariants.{First}
 use Rattle.rr_disk.specs.Areas.{Extent, Areas}
 use Rattle.rr_disk.specs.Crash.{Images, IsCrashImage, restarted}
 use Rattle.rr_frame.specs.GroupFormat.{group_bytes, IsLawfulGroup}
@@ -19,11 +18,13 @@ use Rattle.rr_journal.specs.Flushes as gate
 use Rattle.rr_journal.specs.Moments.{body_due, body_out, body_safe, gate_set}
 use Rattle.rr_journal.specs.declared.journal.Journal.{Journal}
 use Rattle.rr_journal.specs.Calls.{Call, Write, Sync, frame_bytes}
+use Rattle.rr_image.specs.Image.{Found}
 use Rattle.rr_image.specs.Held.{Holds}
 use Rattle.rr_journal.specs.Journals.{IsOver}
 use Rattle.rr_journal.specs.Openings as opening
 use Rattle.rr_journal.specs.OtherAreas.{other_area}
-use Rattle.rr_journal.specs.OpeningTable.{Rests, formatting, Formats, gate_written, Closes}
+use Rattle.rr_journal.specs.OpeningTable.{Rests}
+use Rattle.rr_journal.specs.Rewrites.{area_anew, flush_anew, IsRewriting}
 use Rattle.rr_journal.specs.declared.stage.Stage as slots
 use Rattle.rr_journal.specs.Stages.{calls_from}
 use Rattle.rr_journal.specs.Switches.{Switch}
@@ -86,30 +87,19 @@ pub record IsDown (p : ℕ) (w : World) : Type 0 where
   pub down : w.is_up p ≡ false
   pub heard : w.heard p ≡ nothing_heard
 
--- how far the formatting of a disk is: its first gate is being closed, or its snapshot is being flushed
-pub data Stage : Type 0 where
-  Closing : Stage
-  Closed : Stage
-  Flushing : Moment → Stage
-
--- the device calls that are left then
-abbrev pub calls_of_stage : ℕ → ℕ → Stage → List Call
-calls_of_stage n p Closing = Write First 0 (0 ∷ []) ∷ Sync ∷ calls_at (formatting n p) BodyDue
-calls_of_stage n p Closed = Sync ∷ calls_at (formatting n p) BodyDue
-calls_of_stage n p (Flushing moment) = calls_at (formatting n p) moment
-
--- what stands on the disk then, which holds these facts: none
-abbrev pub StandsAt : ℕ → ℕ → List Fact → Areas → Stage → Type 0
-StandsAt n p facts both Closing = Closes restarted n p facts both
-StandsAt n p facts both Closed = Closes gate_written n p facts both
-StandsAt n p facts both (Flushing moment) = Formats (areas_at moment) n p facts both
+-- an area is written anew because of what was found, with these calls left, on a disk that holds these facts
+pub record WritesAnew (n p : ℕ) (facts : List Fact) (both : Areas) (found : Found) (calls : List Call) : Type 0 where
+  pub stage : slots.Stage
+  pub calls_left : calls ≡ calls_from (area_anew found) (flush_anew n p found).body stage
+  pub rewrites : IsRewriting n p (record { found = found; body = (flush_anew n p found).body; stage = stage }) both
+  pub holds : Holds n p rewrites.start facts
 
 -- behind its first sync an opening is of a disk that holds these facts
 abbrev pub OpensOver : ℕ → ℕ → List Fact → Areas → opening.Phase → Type 0
 OpensOver n p facts both opening.Settling = ⊥
 OpensOver n p facts both opening.ReadingFirst = Rests n p facts both
 OpensOver n p facts both (opening.ReadingSecond first) = (rests : Rests n p facts both) × (first ≡ rests.start.of_first)
-OpensOver n p facts both (opening.Formatting calls) = (stage : Stage) × (calls ≡ calls_of_stage n p stage) × StandsAt n p facts both stage
+OpensOver n p facts both (opening.Rewriting found calls) = WritesAnew n p facts both found calls
 
 -- before its sync an opening knows no more than a node that is down; from then on it is settled which staged facts are left
 pub record OpensSome (n p : ℕ) (w : World) (both : Areas) (phase : opening.Phase) : Type 0 where
@@ -122,7 +112,7 @@ abbrev pub IsOpening : ℕ → ℕ → World → Areas → opening.Phase → Typ
 IsOpening n p w both opening.Settling = IsDown p w × EachHoldsSome n p w both
 IsOpening n p w both opening.ReadingFirst = IsDown p w × OpensSome n p w both opening.ReadingFirst
 IsOpening n p w both (opening.ReadingSecond first) = IsDown p w × OpensSome n p w both (opening.ReadingSecond first)
-IsOpening n p w both (opening.Formatting calls) = IsDown p w × OpensSome n p w both (opening.Formatting calls)
+IsOpening n p w both (opening.Rewriting found calls) = IsDown p w × OpensSome n p w both (opening.Rewriting found calls)
 
 -- ---- a node that is up
 

@@ -1,11 +1,10 @@
 //! What a node does: nothing, an opening, or its service.
 
-ghost use Rattle.std.specs.Prelude.{◌≡◌, ◌<◌, ◌↔◌, ℕ, None, Err, IsTrue, IsSome, IfSome, IfOk, IfErr};
+ghost use Rattle.std.specs.Prelude.{◌≡◌, ◌<◌, ◌↔◌, ℕ, None, Err, IsTrue, IfSome, IfOk, IfErr};
 ghost use Rattle.rr_types.specs.Registry.{registry_of};
 ghost use Rattle.rr_model.specs.NodeState.{decided_prefix};
 ghost use Rattle.rr_types.specs.declared.refusal.Refusal.TheVariants.{OutOfMemory, Device};
 ghost use Rattle.rr_journal.specs.Openings.{Settling};
-ghost use Rattle.rr_node.specs.Runs.{IsSpelt};
 ghost use Rattle.rr_node.specs.Seats as seats;
 ghost use Rattle.rr_node.specs.Seats.{seat_step};
 ghost use Rattle.rr_node.specs.Views.{Carries, CarriesFailing, Serves, IsSteady, Takes, areas_of, calls_of, doing_of, due_of, seat_of};
@@ -67,7 +66,6 @@ impl Doing {
     /// but its device calls while it opens, and of none while it serves. What is refused so moves nothing.
     pub fn refusal_of(&self, event: &NodeEvent) -> Option<Refusal>
         ensures refused { (n p : ℕ) → IfSome result (λ e. seat_step event.now (seat_of n p self.now) ≡ (Err e, seat_of n p self.now)) }
-        ensures spelt { IsSome result → IsSpelt (doing_of self.now) }
         ensures taken { result ≡ None → Takes event.now (doing_of self.now) }
     {
         match self {

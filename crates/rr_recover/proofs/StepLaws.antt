@@ -1,5 +1,5 @@
 -- A step of a node's opening, by what the step of its journal's opening answered.
-use Rattle.std.proofs.Common.{◌≡◌, ℕ, List, [], Result, Ok, Vec, refl, sym, ap, subst, ◌∙◌}
+use Rattle.std.proofs.Common.{◌≡◌, ℕ, List, Result, Ok, Vec, sym, ap, subst, ◌∙◌}
 use Rattle.std.specs.declared.alloc.Global.{Global}
 use Rattle.rr_types.specs.declared.promise.Entry.{Entry}
 use Rattle.rr_types.specs.declared.refusal.Refusal.{Refusal}
@@ -10,21 +10,20 @@ use Rattle.rr_disk.specs.declared.area.Area.{Area}
 use Rattle.rr_disk.specs.Areas.{Areas}
 use Rattle.rr_journal.specs.declared.journal.Journal.{Journal}
 use Rattle.rr_journal.specs.declared.opened.Opened.{Opened}
-use Rattle.rr_journal.specs.declared.opening.Opening.{Opening}
+use Rattle.rr_journal.specs.OpeningStates.{OpeningState}
 use Rattle.rr_journal.specs.declared.opening.Progress.{Progress}
 use Rattle.rr_journal.specs.declared.opening.Progress.TheVariants.{Done}
-use Rattle.rr_journal.specs.OpeningCourse.{StaysOnCourse}
 use Rattle.rr_journal.specs.OpeningSteps.{Steps}
-use Rattle.rr_journal.specs.OpeningTable.{OpensWith, ComesTo}
+use Rattle.rr_journal.specs.OpeningTable.{ComesToAny}
 use Rattle.rr_journal.specs.OpenDisks.{IsReady}
-use Rattle.rr_recover.specs.Known.{KnowsDisk, HoldSoMany}
+use Rattle.rr_recover.specs.Known.{HoldSoMany}
 use Rattle.rr_recover.specs.Recoveries.{end_of, IsStarted, StandsFor}
-use Rattle.rr_recover.proofs.KnowingLaws.{ends_known}
+use Rattle.rr_recover.proofs.KnowingLaws.{rests_so}
 
 module _ {D : Type 0} where
   -- what holds of an opening and of what its step gave holds of them under other names
-  pub moved : (P : Opening D → Progress D → Type 0) (o other : Opening D) (x y : Progress D) → o ≡ other → x ≡ y → P o x → P other y
-  moved P o other x y same is h = subst (λ (q : Opening D). P q y) same (subst (P o) is h)
+  pub moved : (P : OpeningState D → Progress D → Type 0) (o other : OpeningState D) (x y : Progress D) → o ≡ other → x ≡ y → P o x → P other y
+  moved P o other x y same is h = subst (λ (q : OpeningState D). P q y) same (subst (P o) is h)
 
   -- the end that the journal's opening gave is that of the core and the areas
   same_end : (j slots : Journal D) (end : Opened) (core : NodeState) → slots ≡ j → core.marked ≡ end.promise → j.next ≡ end.next → j.nodes ≡ end.nodes → j.node ≡ end.node → end ≡ end_of core slots
@@ -50,7 +49,7 @@ module _ {D : Type 0} where
 
 -- what the last step of the journal's opening leaves
 module _ {D : Type 0} (of_read : D → Area → ℕ → ℕ → Result (Vec ℕ Global) Refusal → D → Type 0) (of_write : D → Area → ℕ → List ℕ → Result (Unit {0}) Refusal → D → Type 0) (of_sync : D → Result (Unit {0}) Refusal → D → Type 0) (areas : D → Areas) where
-  pub last_whose : (o : Opening D) (j : Journal D) (end : Opened) → Steps of_read of_write of_sync o (Ok (Done j end)) → (j.nodes ≡ o.nodes) × (j.node ≡ o.node) × (j.next ≡ end.next) × (j.nodes ≡ end.nodes) × (j.node ≡ end.node)
+  pub last_whose : (o : OpeningState D) (j : Journal D) (end : Opened) → Steps of_read of_write of_sync o (Ok (Done j end)) → (j.nodes ≡ o.nodes) × (j.node ≡ o.node) × (j.next ≡ end.next) × (j.nodes ≡ end.nodes) × (j.node ≡ end.node)
   last_whose o j end (v, made, opens, is, nodes, node) = (
     ap (λ (k : Journal D). k.nodes) is,
     ap (λ (k : Journal D). k.node) is,
@@ -59,11 +58,10 @@ module _ {D : Type 0} (of_read : D → Area → ℕ → ℕ → Result (Vec ℕ 
     ap (λ (k : Journal D). k.node) is ∙ sym node,
   )
 
-  pub last_stands : (o : Opening D) (x : Progress D) (j : Journal D) (end : Opened) → x ≡ Done j end → Steps of_read of_write of_sync o (Ok x) → KnowsDisk areas o → StaysOnCourse areas o (Ok x)
-      → (OpensWith o.nodes o.node [] o.phase (areas o.disk) → ComesTo areas [] x) → StandsFor areas end.promise j
-  last_stands o x j end is steps knows course table =
+  pub last_stands : (o : OpeningState D) (x : Progress D) (j : Journal D) (end : Opened) → x ≡ Done j end → Steps of_read of_write of_sync o (Ok x) → ComesToAny areas x → StandsFor areas end.promise j
+  last_stands o x j end is steps comes =
       let whose = last_whose o j end (subst (λ (y : Progress D). Steps of_read of_write of_sync o (Ok y)) is steps) in
-      ends_known {D = D} areas o.nodes o.node j end whose.0 whose.1 whose.2 o knows refl refl (subst (λ (y : Progress D). StaysOnCourse areas o (Ok y)) is course) (λ opens. subst (ComesTo areas []) is (table opens))
+      rests_so {D = D} areas j end whose.2 (subst (ComesToAny areas) is comes)
 
 -- what the journal stands for, the areas and the core do
 pub stands_so : {D : Type 0} (areas : D → Areas) (j slots : Journal D) (promise : List Entry) (core : NodeState) → slots ≡ j → core.marked ≡ promise → StandsFor areas promise j → StandsFor areas core.marked slots

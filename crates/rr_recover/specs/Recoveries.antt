@@ -11,7 +11,7 @@ use Rattle.rr_disk.specs.Areas.{Areas}
 use Rattle.rr_disk.specs.Crash.{Images, restarted}
 use Rattle.rr_journal.specs.declared.journal.Journal.{Journal}
 use Rattle.rr_journal.specs.declared.opened.Opened.{Opened}
-use Rattle.rr_journal.specs.declared.opening.Opening.{Opening}
+use Rattle.rr_journal.specs.OpeningStates.{OpeningState}
 use Rattle.rr_journal.specs.declared.opening.Progress as journal
 use Rattle.rr_journal.specs.declared.opening.Progress.TheVariants as of_journal
 use Rattle.rr_image.specs.Image.{Active, found}
@@ -62,10 +62,10 @@ CountsAtEnd areas (progress.Done core slots) = HoldSoMany slots.nodes slots.node
 
 module _ {D : Type 0} (of_read : D → Area → ℕ → ℕ → Result (Vec ℕ Global) Refusal → D → Type 0) (of_write : D → Area → ℕ → List ℕ → Result (Unit {0}) Refusal → D → Type 0) (of_sync : D → Result (Unit {0}) Refusal → D → Type 0) where
   -- the last step of the journal's opening was made, and memory is wanting for the core
-  abbrev pub WantsCore : Opening D → Result (Progress D) (Refusal × D) → Type 0
+  abbrev pub WantsCore : OpeningState D → Result (Progress D) (Refusal × D) → Type 0
   WantsCore o result =
       (j : Journal D) × (opened : Opened) × Steps of_read of_write of_sync o (Ok (of_journal.Done j opened)) × (result ≡ Err (OutOfMemory, j.disk))
 
   -- a step is one of the journal's opening, unless memory is wanting for the core at its end
-  abbrev pub Recovers : Opening D → Result (Progress D) (Refusal × D) → Type 0
+  abbrev pub Recovers : OpeningState D → Result (Progress D) (Refusal × D) → Type 0
   Recovers o result = Steps of_read of_write of_sync o (as_step result) ⊎ WantsCore o result

@@ -1,5 +1,5 @@
-//! The recovery of a node: an opening reads what a crash left of its disk, or formats a fresh one, and a core starts from
-//! the promise of what it found.
+//! The recovery of a node: an opening reads what a crash left of its disk, formats a fresh one, or brings one of version 1
+//! up to version 2. A core starts from the promise of what it found.
 #![tactic(auto)]
 
 mod opening;

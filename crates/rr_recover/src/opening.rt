@@ -7,7 +7,7 @@ ghost use Rattle.rr_disk.specs.Failing.{FailingRead, FailingWrite, FailingSync};
 ghost use Rattle.rr_journal.specs.CrashedDisks.{MayStand, EachHoldsSome, SomeHolds};
 ghost use Rattle.rr_image.specs.Held.{Holds};
 ghost use Rattle.rr_journal.specs.Openings.{Settling, Refused, due_call};
-ghost use Rattle.rr_journal.specs.OpeningTable.{contents, OpensWith};
+ghost use Rattle.rr_journal.specs.OpeningTable.{contents, OpensAny, OpensWith};
 ghost use Rattle.rr_journal.specs.Phases.{phase_of};
 
 use crate::recovery::measure;
@@ -16,7 +16,8 @@ use rr_types::{NodeId, Nodes};
 use std::alloc::Global;
 use std::marker::Model;
 
-/// An opening of a node: it syncs its disk, reads both areas, and formats the first where neither is formatted.
+/// An opening of a node: it syncs its disk and reads both areas. Where neither is formatted it formats the first; where
+/// the active one has version 1 it writes a snapshot of version 2 to the other.
 #[derive(Drop)]
 pub struct Opening<D: Disk> {
     pub(crate) journal: rr_journal::Opening<D>,
@@ -26,10 +27,10 @@ pub struct Opening<D: Disk> {
 
 impl<D: Disk> Model for Opening<D> {
     ghost use Rattle.std.specs.Prelude.{◌≡◌, ◌<◌};
-    ghost use Rattle.rr_journal.specs.declared.opening.Opening.{Opening as OpeningOf};
+    ghost use Rattle.rr_journal.specs.OpeningStates.{OpeningState};
     ghost use Rattle.rr_recover.specs.Known.{KnowsDisk};
 
-    ghost Value = { OpeningOf D };
+    ghost Value = { OpeningState D };
 
     ghost view = { λ o. o.journal };
 
@@ -44,6 +45,7 @@ impl<D: Disk> Opening<D> {
         ensures whose { (result.nodes ≡ nodes) × (result.node ≡ node) }
         ensures disk { result.disk ≡ disk }
         ensures phase { phase_of result.phase ≡ Settling }
+        ensures rests { D.tells disk → OpensAny nodes node result.phase (D.areas disk) }
         ensures table { D.tells disk → (facts : List Fact) → Holds nodes node (contents (D.areas disk)) facts → OpensWith nodes node facts result.phase (D.areas disk) }
         ensures some { D.tells disk → MayStand (D.areas disk) → EachHoldsSome (Holds nodes node) (D.areas disk)
             → (facts : List Fact) × SomeHolds (Holds nodes node) (D.areas disk) facts × OpensWith nodes node facts result.phase (D.areas disk) }

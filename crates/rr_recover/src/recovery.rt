@@ -1,17 +1,18 @@
 //! A whole opening of a node, and the start of its core.
 
-ghost use Rattle.std.specs.Prelude.{◌≡◌, ◌≢◌, ◌⊎◌, ◌+◌, ◌<◌, ◌≤◌, ◌^◌, List, length, IfOk, IfErr, OnOk};
+ghost use Rattle.std.specs.Prelude.{◌≡◌, ◌+◌, ◌<◌, ◌≤◌, ◌^◌, false, List, length, IfOk, IfErr, OnOk};
 ghost use Rattle.rr_types.specs.declared.fact.Fact.{Fact};
-ghost use Rattle.rr_types.specs.declared.refusal.Refusal.TheVariants.{OutOfMemory, Device};
+ghost use Rattle.rr_types.specs.declared.refusal.Refusal.TheVariants.{OutOfMemory};
+ghost use Rattle.rr_disk.specs.Areas.{extent_of};
 ghost use Rattle.rr_model.specs.NodeStep.{started};
-ghost use Rattle.rr_journal.specs.CrashedDisks.{MayStand, EachHoldsSome, IsOpenWithOneOf, AddsBlankAlone};
-ghost use Rattle.rr_image.specs.Image.{Unformatted};
+ghost use Rattle.rr_journal.specs.CrashedDisks.{MayStand, EachHoldsSome, IsOpenWithOneOf, AddsSameAlone};
 ghost use Rattle.rr_image.specs.Held.{Holds};
 ghost use Rattle.rr_journal.specs.OpenDisks.{IsOpenWith, IsReady, disk_behind};
-ghost use Rattle.rr_journal.specs.OpeningCourse.{found_from, calls_from, EndsBy, IsDone, IsRefused, IsAsBefore};
+ghost use Rattle.rr_journal.specs.OpeningCourse.{found_from, calls_from, EndsBy, IsDone, IsRefused, IsUndamaged, IsAsBefore, IsLeftAlone};
 ghost use Rattle.rr_journal.specs.Openings.{Settling};
 ghost use Rattle.rr_journal.specs.OpeningTable.{contents, IsKept};
 ghost use Rattle.rr_journal.specs.OtherAreas.{IsOtherKnown};
+ghost use Rattle.rr_journal.specs.Rewrites.{writes_anew, area_kept};
 ghost use Rattle.rr_recover.specs.Known.{HoldSoMany};
 ghost use Rattle.rr_recover.specs.Recoveries.{as_opened, IsStarted, StandsFor};
 
@@ -23,7 +24,8 @@ use std::alloc::Global;
 
 /// Opens one of the nodes by all steps of an opening, over a kind of disk that tells its bytes always or never: its core, and the
 /// areas of its disk. A refused opening hands its disk back.
-/// Errors: `OutOfMemory`; `Device`, where a device call failed; `Damaged`, of a disk that holds no facts.
+/// Errors: `OutOfMemory`; `Device`, where a device call failed; `Damaged`, of a disk that holds no facts; `TooLarge`, where
+/// an area of version 1 has no next epoch.
 pub fn recover<D: Disk>(
     alloc: Global,
     nodes: Nodes,
@@ -42,13 +44,16 @@ pub fn recover<D: Disk>(
     ensures number { D.tells disk → IfOk result (λ r. HoldSoMany nodes node (D.areas r.1.disk) r.0.marked_end) }
     ensures counted { D.tells disk → D.calls (disk_behind (as_opened result)) ≤ D.calls disk + length (calls_from nodes node Settling (D.areas disk)) }
     ensures done { D.tells disk → OnOk result (IsDone (calls_from nodes node Settling (D.areas disk)) D.areas D.calls disk (disk_behind (as_opened result))) }
-    ensures untouched { D.tells disk → found_from nodes node Settling (D.areas disk) ≢ Unformatted → IsAsBefore (D.areas disk) (D.areas (disk_behind (as_opened result))) }
-    ensures images { D.tells disk → MayStand (D.areas disk) → AddsBlankAlone nodes node (D.areas disk) (D.areas (disk_behind (as_opened result))) }
+    ensures untouched { D.tells disk → writes_anew (found_from nodes node Settling (D.areas disk)) ≡ false
+        → IsAsBefore (D.areas disk) (D.areas (disk_behind (as_opened result))) }
+    ensures beside { D.tells disk → (area : Area) → area ≡ area_kept (found_from nodes node Settling (D.areas disk))
+        → IsLeftAlone (extent_of (D.areas disk) area) (extent_of (D.areas (disk_behind (as_opened result))) area) }
+    ensures images { D.tells disk → MayStand (D.areas disk) → AddsSameAlone nodes node (D.areas disk) (D.areas (disk_behind (as_opened result))) }
     ensures some { D.tells disk → MayStand (D.areas disk) → EachHoldsSome (Holds nodes node) (D.areas disk)
-        → IfOk (as_opened result) (λ r. IsOpenWithOneOf D.areas (Holds nodes node) (D.areas disk) r) × IfErr result (λ r. (r.0 ≡ OutOfMemory) ⊎ (r.0 ≡ Device)) }
+        → IfOk (as_opened result) (λ r. IsOpenWithOneOf D.areas (Holds nodes node) (D.areas disk) r) × IfErr result (λ r. IsUndamaged (found_from nodes node Settling (D.areas disk)) r.0) }
     ensures ready { IfOk (as_opened result) (λ r. IsReady nodes node r) }
     ensures table { D.tells disk → (facts : List Fact) → Holds nodes node (contents (D.areas disk)) facts → IfOk (as_opened result) (λ r. IsOpenWith D.areas facts r) }
-    ensures undamaged { D.tells disk → (facts : List Fact) → Holds nodes node (contents (D.areas disk)) facts → IfErr result (λ r. (r.0 ≡ OutOfMemory) ⊎ (r.0 ≡ Device)) }
+    ensures undamaged { D.tells disk → (facts : List Fact) → Holds nodes node (contents (D.areas disk)) facts → IfErr result (λ r. IsUndamaged (found_from nodes node Settling (D.areas disk)) r.0) }
     ensures kept { D.tells disk → (facts : List Fact) → Holds nodes node (contents (D.areas disk)) facts
         → IsKept (Holds nodes node) facts (D.areas disk) (D.areas (disk_behind (as_opened result))) }
     ensures fronts { D.tells disk → IfOk result (λ r. IsOtherKnown D.areas r.1) }

@@ -1,15 +1,14 @@
 //! The steps of a node's opening, one device call each.
 
-ghost use Rattle.std.specs.Prelude.{◌≡◌, ◌⊎◌, ◌≤◌, List, IfOk, IfErr};
+ghost use Rattle.std.specs.Prelude.{◌≡◌, ◌≤◌, List, IfOk, IfErr};
 ghost use Rattle.rr_types.specs.declared.fact.Fact.{Fact};
-ghost use Rattle.rr_types.specs.declared.refusal.Refusal.TheVariants.{OutOfMemory, Device};
 ghost use Rattle.rr_disk.specs.Counts.{counted};
 ghost use Rattle.rr_journal.specs.CrashedDisks.{MayStand, IsReading, AddsNone};
 ghost use Rattle.rr_image.specs.Held.{Holds};
-ghost use Rattle.rr_journal.specs.OpeningCourse.{StaysOnCourse, IsRefused, IsUntouched};
+ghost use Rattle.rr_journal.specs.Fronts.{KnowsOther};
+ghost use Rattle.rr_journal.specs.OpeningCourse.{found_from, StaysOnCourse, IsRefused, IsUndamaged, IsUntouched};
 ghost use Rattle.rr_journal.specs.OpeningSteps.{MaySnap};
-ghost use Rattle.rr_journal.specs.OpeningTable.{OpensWith, ComesTo, IsKept, disk_after};
-ghost use Rattle.rr_journal.specs.OtherAreas.{KnowsOther};
+ghost use Rattle.rr_journal.specs.OpeningTable.{OpensWith, ComesToAny, ComesTo, IsKept, disk_after};
 ghost use Rattle.rr_journal.specs.Phases.{phase_of};
 ghost use Rattle.rr_recover.specs.Recoveries.{as_step, Recovers, StartsAtEnd, RestsAtEnd, CountsAtEnd};
 
@@ -32,7 +31,8 @@ pub enum Progress<D: Disk> {
 impl<D: Disk> Opening<D> {
     /// Makes the next device call. At the end the core starts from the promise of the facts that the disk holds. A
     /// refused opening hands its disk back.
-    /// Errors: `OutOfMemory`, `Device`; `Damaged`, of a disk that holds no facts.
+    /// Errors: `OutOfMemory`, `Device`; `Damaged`, of a disk that holds no facts; `TooLarge`, where an area of version 1 has
+    /// no next epoch.
     pub fn step(self, alloc: Global) -> Result<Progress<D>, (Refusal, D)>
         ensures exact { Recovers D.read_gives D.write_gives D.sync_gives self result }
         ensures core { IfOk result (λ progress. StartsAtEnd progress) }
@@ -42,13 +42,14 @@ impl<D: Disk> Opening<D> {
         ensures tells { D.tells self.disk → D.tells (disk_after (as_step result)) }
         ensures course { D.tells self.disk → StaysOnCourse D.areas self (as_step result) }
         ensures rests { D.tells self.disk → IfOk result (λ progress. RestsAtEnd D.areas progress) }
+        ensures comes { D.tells self.disk → IfOk (as_step result) (λ progress. ComesToAny D.areas progress) }
         ensures number { D.tells self.disk → IfOk result (λ progress. CountsAtEnd D.areas progress) }
         ensures untouched { D.tells self.disk → IsUntouched (phase_of self.phase) (D.areas self.disk) (D.areas (disk_after (as_step result))) }
         ensures images { D.tells self.disk → MayStand (D.areas self.disk) → IsReading (phase_of self.phase) → AddsNone (D.areas self.disk) (D.areas (disk_after (as_step result))) }
         ensures table { D.tells self.disk → (facts : List Fact) → OpensWith self.nodes self.node facts self.phase (D.areas self.disk)
             → IfOk (as_step result) (λ progress. ComesTo D.areas facts progress) }
         ensures undamaged { D.tells self.disk → (facts : List Fact) → OpensWith self.nodes self.node facts self.phase (D.areas self.disk)
-            → IfErr result (λ r. (r.0 ≡ OutOfMemory) ⊎ (r.0 ≡ Device)) }
+            → IfErr result (λ r. IsUndamaged (found_from self.nodes self.node (phase_of self.phase) (D.areas self.disk)) r.0) }
         ensures kept { D.tells self.disk → (facts : List Fact) → OpensWith self.nodes self.node facts self.phase (D.areas self.disk)
             → IsKept (Holds self.nodes self.node) facts (D.areas self.disk) (D.areas (disk_after (as_step result))) }
         ensures snapshot { IfOk (as_step result) (λ progress. MaySnap progress) }

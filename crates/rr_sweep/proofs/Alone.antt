@@ -1,17 +1,19 @@
 -- A node that a crash has left opens its disk within nine device calls, and is refused for want of memory alone.
-use Rattle.std.proofs.Common.{◌≡◌, ◌⊎◌, inl, inr, ℕ, zero, suc, ◌+◌, ◌-◌, ◌^◌, ◌<◌, ◌≤◌, Bool, true, false, List, [], ◌∷◌, ◌++◌, length, take, Option, None, Some, MatchOption, Result, Ok, Err, refl, sym, ◌∙◌, ap, subst, arith}
+use Rattle.std.proofs.Common.{◌≡◌, ◌⊎◌, inl, inr, ℕ, zero, suc, ◌+◌, ◌-◌, ◌^◌, ◌<◌, ◌≤◌, Bool, true, false, List, [], ◌∷◌, ◌++◌, length, take, Option, None, Some, MatchOption, Result, Ok, Err, refl, sym, ◌∙◌, ap, subst, arith, if◌then◌else◌}
 use Rattle.rr_types.specs.declared.refusal.Refusal.{Refusal}
 use Rattle.rr_types.specs.declared.refusal.Refusal.TheVariants as because
 use Rattle.rr_types.specs.Registry.{Bindings}
 use Rattle.rr_model.specs.World.{World}
+use Rattle.rr_disk.specs.declared.area.Area.{Area}
 use Rattle.rr_disk.specs.declared.area.Area.TheVariants.{First, Second}
 use Rattle.rr_disk.specs.Areas.{Areas, extent_of, read_of}
 use Rattle.rr_frame.specs.SnapshotFormat.{snapshot_bytes}
-use Rattle.rr_image.specs.Image.{Found, Unformatted, Broken, Active, found}
+use Rattle.rr_image.specs.Image.{Content, Found, Unformatted, Broken, Active, Outdated, found}
 use Rattle.rr_image.specs.Held.{StandsFor}
 use Rattle.rr_journal.specs.Calls.{after_call, must_close, rewrite_calls}
 use Rattle.rr_journal.specs.Openings as phase
-use Rattle.rr_journal.specs.Openings.{after_found, due_call}
+use Rattle.rr_journal.specs.Openings.{After, Goes, Stops, bytes_in, snapshot_with, migrated, may_migrate, migrate_calls, after_found, due_call}
+use Rattle.rr_journal.specs.OtherAreas.{other_area}
 use Rattle.rr_journal.proofs.OpeningLaws.{read_at_rest}
 use Rattle.rr_node.specs.declared.event.NodeEvent.TheVariants.{Device, Restart}
 use Rattle.rr_node.specs.declared.event.Outcome.{Outcome}
@@ -20,6 +22,7 @@ use Rattle.rr_node.specs.Runs.{IsSpelt}
 use Rattle.rr_node.specs.Seats.{Seat, Doing, Stopped, Faulted, Opening, Serving, Answer, Gives, opens_on, by_doing, called, seat_step, starve, starve_doing}
 use Rattle.rr_node.specs.Worlds.{InStep}
 use Rattle.rr_node.proofs.Falling.{seated}
+use Rattle.rr_node.proofs.Opens.{end_anew}
 use Rattle.rr_node.proofs.Stepping.{steps_in_step}
 use Rattle.rr_model.specs.Laws.{after_steps}
 use Rattle.rr_sim.proofs.Wanting.{IsWanting, wanting_or_same}
@@ -49,14 +52,14 @@ data Comes (left : ℕ) (answer : Answer) : Type 0 where
   goes : (next : Seat) → answer ≡ (Ok Quiet, next) → AreLeft left next.doing → Comes left answer
   ends : (facts decided : ℕ) (names : Bindings) (next : Seat) → answer ≡ (Ok (Opened facts decided names), next) → HasOpened next.doing → Comes left answer
 
-format_length : (b : Bool) (payload : List ℕ) → (1 ≤ length (rewrite_calls First b payload)) × (length (rewrite_calls First b payload) ≤ 6)
-format_length true payload = (omega arith, omega arith)
-format_length false payload = (omega arith, omega arith)
+rewrite_length : (area : Area) (b : Bool) (payload : List ℕ) → (1 ≤ length (rewrite_calls area b payload)) × (length (rewrite_calls area b payload) ≤ 6)
+rewrite_length area true payload = (omega arith, omega arith)
+rewrite_length area false payload = (omega arith, omega arith)
 
 module _ (n p : ℕ) (w : World) (m q k : ℕ) (areas : Areas) where
-  -- what both reads find is formatted, or formats
+  -- what both reads find is formatted, or an area is written anew
   finds : (left : ℕ) (first : List ℕ) → InStep n p (seated m q k areas (Opening (phase.ReadingSecond first))) w → 7 ≤ suc left → (next : Seat) → (f : Found)
-      → found m q first (read_of 0 (2 ^ 64 - 1) (extent_of areas Second)) ≡ f → Comes left (opens_on next (after_found m q first f))
+      → found m q first (read_of 0 (2 ^ 64 - 1) (extent_of areas Second)) ≡ f → Comes left (opens_on next (after_found m q first (read_of 0 (2 ^ 64 - 1) (extent_of areas Second)) f))
   finds left first h some next f is = by f is
     where
       rests_at : found m q first (read_of 0 (2 ^ 64 - 1) (extent_of areas Second)) ≡ found n p h.doing.1.opens.0.start.of_first h.doing.1.opens.0.start.of_second
@@ -68,12 +71,20 @@ module _ (n p : ℕ) (w : World) (m q k : ℕ) (areas : Areas) where
           ∙ ap (λ (b : List ℕ). found n p b (read_of 0 (2 ^ 64 - 1) (extent_of areas Second))) h.doing.1.opens.1
           ∙ ap (λ (b : List ℕ). found n p rests.start.of_first b) bytes
 
-      by : (f : Found) → found m q first (read_of 0 (2 ^ 64 - 1) (extent_of areas Second)) ≡ f → Comes left (opens_on next (after_found m q first f))
+      by : (f : Found) → found m q first (read_of 0 (2 ^ 64 - 1) (extent_of areas Second)) ≡ f → Comes left (opens_on next (after_found m q first (read_of 0 (2 ^ 64 - 1) (extent_of areas Second)) f))
       by Unformatted e =
-          let long = format_length (must_close first) (snapshot_bytes (record { node = q; nodes = m; epoch = 1; next = 0; entries = [] })) in
+          let long = rewrite_length First (must_close first) (snapshot_bytes (record { node = q; nodes = m; epoch = 1; next = 0; entries = [] })) in
           goes _ refl (long.0, omega (arith, long.1, some))
       by (Broken area offset) e = absurd (subst (λ (f : Found). StandsFor f (w.kept p ++ take h.doing.1.count (w.staged p))) (sym rests_at ∙ e) h.doing.1.opens.0.holds.stands)
       by (Active area c) e = ends _ _ _ _ refl (record { state = _; journal = _; is = refl })
+      by (Outdated area c) e = migrates area c (may_migrate c) refl
+        where
+          migrates : (area : Area) (c : Content) (may : Bool) → may_migrate c ≡ may
+              → Comes left (opens_on next (if may then Goes (phase.Rewriting (Outdated area c) (migrate_calls m q area c (bytes_in (other_area area) first (read_of 0 (2 ^ 64 - 1) (extent_of areas Second))))) else Stops because.TooLarge))
+          migrates area c true may =
+              let long = rewrite_length (other_area area) (must_close (bytes_in (other_area area) first (read_of 0 (2 ^ 64 - 1) (extent_of areas Second)))) (snapshot_bytes (snapshot_with m q (migrated c))) in
+              goes _ refl (long.0, omega (arith, long.1, some))
+          migrates area c false may = ?
 
   comes_by : (left : ℕ) (doing : Doing) → InStep n p (seated m q k areas doing) w → AreLeft (suc left) doing → Comes left (seat_step Device (seated m q k areas doing))
   comes_by left Stopped h some = absurd some
@@ -81,9 +92,11 @@ module _ (n p : ℕ) (w : World) (m q k : ℕ) (areas : Areas) where
   comes_by left (Opening phase.Settling) h some = goes _ refl (omega (arith, some))
   comes_by left (Opening phase.ReadingFirst) h some = goes _ refl (omega (arith, some))
   comes_by left (Opening (phase.ReadingSecond first)) h some = finds left first h some (called (after_call (due_call (phase.ReadingSecond first)) areas) (seated m q k areas (Opening (phase.ReadingSecond first)))) (found m q first (read_of 0 (2 ^ 64 - 1) (extent_of areas Second))) refl
-  comes_by left (Opening (phase.Formatting [])) h some = absurd (omega (arith, some.0))
-  comes_by left (Opening (phase.Formatting (call ∷ []))) h some = ends _ _ _ _ refl (record { state = _; journal = _; is = refl })
-  comes_by left (Opening (phase.Formatting (call ∷ next ∷ calls))) h some = goes _ refl (omega arith, omega (arith, some.1))
+  comes_by left (Opening (phase.Rewriting f [])) h some = absurd (omega (arith, some.0))
+  comes_by left (Opening (phase.Rewriting f (call ∷ []))) h some =
+      subst (λ (after : After). Comes left (opens_on (called (after_call call areas) (seated m q k areas (Opening (phase.Rewriting f (call ∷ []))))) after)) (sym (end_anew f h.doing.1.opens.rewrites.due))
+      (ends _ _ _ _ refl (record { state = _; journal = _; is = refl }))
+  comes_by left (Opening (phase.Rewriting f (call ∷ next ∷ calls))) h some = goes _ refl (omega arith, omega (arith, some.1))
   comes_by left (Serving s journal flush) h some = absurd some
 
 comes : (n p left : ℕ) (seat : Seat) → IsOpening n p (suc left) seat → Comes left (seat_step Device seat)
@@ -175,7 +188,7 @@ some_are_left n p seat o = by seat.doing o.left_of_it
     by (Opening phase.Settling) some = omega (arith, some)
     by (Opening phase.ReadingFirst) some = omega (arith, some)
     by (Opening (phase.ReadingSecond first)) some = omega (arith, some)
-    by (Opening (phase.Formatting calls)) some = omega (arith, some.0, some.1)
+    by (Opening (phase.Rewriting f calls)) some = omega (arith, some.0, some.1)
     by (Serving s journal flush) some = some
 
 -- ---- the opening, call by call

@@ -43,7 +43,7 @@ AreLeft left Faulted = ⊥
 AreLeft left (Opening phase.Settling) = 9 ≤ left
 AreLeft left (Opening phase.ReadingFirst) = 8 ≤ left
 AreLeft left (Opening (phase.ReadingSecond first)) = 7 ≤ left
-AreLeft left (Opening (phase.Formatting calls)) = (1 ≤ length calls) × (length calls ≤ left)
+AreLeft left (Opening (phase.Rewriting found calls)) = (1 ≤ length calls) × (length calls ≤ left)
 AreLeft left (Serving s journal flush) = ⊥
 
 -- node p of n is in step with some world, as it is after any run of a schedule

@@ -13,7 +13,7 @@ use rr_sim::{ReportLine, shown};
 use rr_types::{NodeId, Refusal};
 use std::alloc::Global;
 
-/// The device calls of an opening that formats its disk; one that finds it formatted makes fewer.
+/// The device calls of an opening that formats its disk; one that finds it formatted makes no more.
 const CALLS_OF_AN_OPENING: usize = 9;
 
 /// How an opening ended: the number of the next fact, the length of the decided prefix, and its registry.

@@ -2,12 +2,12 @@
 
 ghost use Rattle.std.specs.Prelude.{◌≡◌, IfOk};
 ghost use Rattle.rr_types.specs.declared.message.Message.{Message as Messaged};
+ghost use Rattle.rr_frame.specs.declared.version.Version.{Version as Versioned};
 ghost use Rattle.rr_frame.specs.Reading.{Gives};
 ghost use Rattle.rr_frame.specs.Refused.{answer_of};
-ghost use Rattle.rr_wire.specs.MessageFormat.{message_bytes, IsLawfulMessage, node_at, set_at, backed_at, free_at, body_at, message_at, message_in};
+ghost use Rattle.rr_wire.specs.MessageFormat.{message_bytes_in, IsLawfulMessageIn, node_at, set_at, backed_at, free_at, body_at, message_at, message_in};
 
-use crate::encoding::VERSION;
-use rr_frame::{Fault, Reader, read_command, read_estimate};
+use rr_frame::{Fault, Reader, Version, read_command, read_estimate, read_version};
 use rr_types::{Body, Message, NodeId, NodeSet, Nodes, Refusal};
 
 #[tactic(auto, unfolding(crate::specs::MessageFormat::node_at))]
@@ -29,48 +29,53 @@ fn read_set(nodes: Nodes, reader: &mut Reader<'_>) -> Result<NodeSet, Fault>
 }
 
 #[tactic(auto, unfolding(crate::specs::MessageFormat::backed_at))]
-fn read_backed(kind: u8, reader: &mut Reader<'_>) -> Result<Body, Fault>
-    ensures { Gives result reader.new (backed_at kind reader.old) }
+fn read_backed(version: Version, kind: u8, reader: &mut Reader<'_>) -> Result<Body, Fault>
+    ensures { Gives result reader.new (backed_at version kind reader.old) }
 {
-    let instance = reader.instance()?;
+    let instance = reader.instance(version)?;
     match kind {
-        1 => Ok(Body::Estimate(instance, read_estimate(reader)?)),
+        1 => Ok(Body::Estimate(instance, read_estimate(version, reader)?)),
         2 => {
             let round = reader.round()?;
-            let command = read_command(reader)?;
+            let command = read_command(version, reader)?;
             Ok(Body::Proposal(instance, round, command))
         }
         3 => Ok(Body::Ack(instance, reader.round()?)),
-        _ => Ok(Body::Decision(instance, read_command(reader)?)),
+        _ => Ok(Body::Decision(instance, read_command(version, reader)?)),
     }
 }
 
 #[tactic(auto, unfolding(crate::specs::MessageFormat::free_at))]
-fn read_free(nodes: Nodes, kind: u8, reader: &mut Reader<'_>) -> Result<Body, Fault>
-    ensures { Gives result reader.new (free_at nodes kind reader.old) }
+fn read_free(
+    version: Version,
+    nodes: Nodes,
+    kind: u8,
+    reader: &mut Reader<'_>,
+) -> Result<Body, Fault>
+    ensures { Gives result reader.new (free_at version nodes kind reader.old) }
 {
     match kind {
-        5 => Ok(Body::Request(read_command(reader)?)),
+        5 => Ok(Body::Request(read_command(version, reader)?)),
         6 => {
-            let instance = reader.instance()?;
+            let instance = reader.instance(version)?;
             let round = reader.round()?;
             Ok(Body::Nack(instance, round))
         }
         7 => Ok(Body::Beat),
         8 => Ok(Body::Suspects(read_set(nodes, reader)?)),
-        _ => Ok(Body::Ask(reader.instance()?)),
+        _ => Ok(Body::Ask(reader.instance(version)?)),
     }
 }
 
 #[tactic(auto, unfolding(crate::specs::MessageFormat::body_at))]
-fn read_body(nodes: Nodes, reader: &mut Reader<'_>) -> Result<Body, Fault>
-    ensures { Gives result reader.new (body_at nodes reader.old) }
+fn read_body(version: Version, nodes: Nodes, reader: &mut Reader<'_>) -> Result<Body, Fault>
+    ensures { Gives result reader.new (body_at version nodes reader.old) }
 {
     let here = reader.fault();
     let kind = reader.u8()?;
     match kind {
-        1..=4 => read_backed(kind, reader),
-        5..=9 => read_free(nodes, kind, reader),
+        1..=4 => read_backed(version, kind, reader),
+        5..=9 => read_free(version, nodes, kind, reader),
         _ => Err(here),
     }
 }
@@ -79,14 +84,10 @@ fn read_body(nodes: Nodes, reader: &mut Reader<'_>) -> Result<Body, Fault>
 fn read_message(nodes: Nodes, reader: &mut Reader<'_>) -> Result<Message, Fault>
     ensures { Gives result reader.new (message_at nodes reader.old) }
 {
-    let here = reader.fault();
-    let version = reader.u8()?;
-    if version != VERSION {
-        return Err(here);
-    }
+    let version = read_version(reader)?;
     let from = read_node(nodes, reader)?;
     let to = read_node(nodes, reader)?;
-    let body = read_body(nodes, reader)?;
+    let body = read_body(version, nodes, reader)?;
     Ok(Message { from, to, body })
 }
 
@@ -102,13 +103,13 @@ fn read_whole(nodes: Nodes, bytes: &[u8]) -> Result<Message, Refusal>
     }
 }
 
-/// The message among these nodes that all these bytes spell. Other bytes are `Malformed` at the first byte
+/// The message among these nodes that all these bytes spell, in version 1 or 2. Other bytes are `Malformed` at the first byte
 /// of the first field that is cut short or holds no lawful value, or at the first byte behind the message.
 pub fn decode(nodes: Nodes, bytes: &[u8]) -> Result<Message, Refusal>
     // What is read is spelled so.
-    ensures found { IfOk result (λ m. IsLawfulMessage nodes m × (bytes.now ≡ message_bytes m)) }
+    ensures found { IfOk result (λ m. (version : Versioned) × IsLawfulMessageIn version nodes m × (bytes.now ≡ message_bytes_in version m)) }
     // What is spelled so is read.
-    ensures only { (m : Messaged) → IsLawfulMessage nodes m → bytes.now ≡ message_bytes m → result ≡ Ok m }
+    ensures only { (version : Versioned) (m : Messaged) → IsLawfulMessageIn version nodes m → bytes.now ≡ message_bytes_in version m → result ≡ Ok m }
     // Which answer it is.
     ensures exact { result ≡ answer_of (message_in nodes bytes.now) }
 {

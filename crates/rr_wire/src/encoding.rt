@@ -5,12 +5,9 @@ ghost use Rattle.rr_frame.specs.Numbers.{number_bytes};
 ghost use Rattle.rr_wire.specs.MessageFormat.{body_bytes, message_bytes, IsLawfulBody, IsLawfulMessage};
 
 use bytes::Bytes;
-use rr_frame::{put_command, put_estimate, put_u8, put_u32};
+use rr_frame::{Version, put_command, put_estimate, put_u8, put_u32};
 use rr_types::{Body, Instance, Message, Refusal};
 use std::alloc::{AllocError, Global};
-
-/// The version of the spelling.
-pub(crate) const VERSION: u8 = 2;
 
 /// What the most messages take: the fields before a command and a command with short name and value.
 const USUAL_LENGTH: usize = 64;
@@ -65,18 +62,18 @@ fn put_body(out: &mut Vec<u8>, body: &Body) -> Result<(), AllocError>
     }
 }
 
-#[tactic(auto, unfolding(crate::specs::MessageFormat::message_bytes))]
+#[tactic(auto, unfolding(crate::specs::MessageFormat::message_bytes_in))]
 fn put_message(out: &mut Vec<u8>, message: &Message) -> Result<(), AllocError>
     ensures ok { OnOk result (out.new.items ≡ out.old.items ++ message_bytes message.now) }
     ensures lawful { OnOk result (IsLawfulMessage 7 message.now) }
 {
-    put_u8(out, VERSION)?;
+    put_u8(out, Version::Two.number())?;
     put_u8(out, message.from.index())?;
     put_u8(out, message.to.index())?;
     put_body(out, &message.body)
 }
 
-/// The one spelling of a message, in a buffer that can be shared without a copy. Where memory runs out it is
+/// The one spelling of a message in version 2, in a buffer that can be shared without a copy. Where memory runs out it is
 /// `OutOfMemory`.
 pub fn encode(alloc: Global, message: &Message) -> Result<Bytes, Refusal>
     ensures ok { IfOk result (λ b. b ≡ message_bytes message.now) }

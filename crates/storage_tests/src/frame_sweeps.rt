@@ -1,18 +1,18 @@
 //! Spelled examples of each kind, with each byte at each of its values, and cut at each place.
 
 use rr_frame::{
-    Snapshot, decode_fact, decode_group, decode_snapshot, encode_fact, encode_group,
+    Snapshot, Version, decode_fact, decode_group, decode_snapshot, encode_fact, encode_group,
     encode_snapshot,
 };
 use rr_types::{Command, Op, Refusal, Standing};
 use std::alloc::Global;
 use std::process::Abort;
 
-/// Which decoder reads an example.
+/// Which decoder reads an example, and in which version.
 #[derive(Clone, Copy)]
 enum Form {
-    Fact,
-    Group,
+    Fact(Version),
+    Group(Version),
     Snapshot,
 }
 
@@ -62,6 +62,36 @@ const GROUP_FIELDS: [usize; 38] = [
     72, 76, 80, 88, 89, 90, 91, 92, 96, 100, 108, 109, 110, 111,
 ];
 
+/// In version 1, in the last round of the last instance `7.2 update a-9` is proposed.
+const OLD_PROPOSE: [u8; 27] = [
+    2, 0, 0, 255, 255, 127, 255, 255, 255, 0, 0, 0, 7, 0, 0, 0, 0, 0, 0, 0, 2, 2, 3, 97, 45, 57, 0,
+];
+
+/// A group of version 1, of the facts `ENTER`, `OLD_PROPOSE` and `ADOPT`. Its fields begin where those of `GROUP` do.
+const OLD_GROUP: [u8; 91] = [
+    0, 0, 0, 0, 0, 0, 0, 3, 0, 3, 1, 0, 0, 1, 2, 0, 0, 0, 3, 0, 0, 0, 2, 0, 0, 0, 7, 0, 0, 0, 0, 0,
+    0, 0, 1, 1, 1, 97, 1, 120, 2, 0, 0, 255, 255, 127, 255, 255, 255, 0, 0, 0, 7, 0, 0, 0, 0, 0, 0,
+    0, 2, 2, 3, 97, 45, 57, 0, 3, 0, 0, 0, 0, 0, 0, 0, 1, 0, 0, 0, 7, 0, 0, 0, 0, 0, 0, 0, 3, 3, 1,
+    97,
+];
+
+/// In version 1, the snapshot of node 1 of 3 with epoch 5 behind nine facts. Instance 0 has decided `7.1 claim a x`.
+/// Instance 2 is in round 4, in which that was adopted and the node proposed `7.3 release a`. The last instance is in
+/// its last round with `7.2 update a-9`, never adopted, and no proposal.
+const OLD_SNAPSHOT: [u8; 123] = [
+    1, 1, 3, 0, 0, 0, 0, 0, 0, 0, 5, 0, 0, 0, 0, 0, 0, 0, 9, 0, 0, 0, 3, 0, 0, 0, 0, 1, 0, 0, 0, 7,
+    0, 0, 0, 0, 0, 0, 0, 1, 1, 1, 97, 1, 120, 0, 0, 0, 2, 2, 0, 0, 0, 4, 0, 0, 0, 4, 0, 0, 0, 7, 0,
+    0, 0, 0, 0, 0, 0, 1, 1, 1, 97, 1, 120, 1, 0, 0, 0, 7, 0, 0, 0, 0, 0, 0, 0, 3, 3, 1, 97, 0, 0,
+    255, 255, 2, 127, 255, 255, 255, 0, 0, 0, 0, 0, 0, 0, 7, 0, 0, 0, 0, 0, 0, 0, 2, 2, 3, 97, 45,
+    57, 0, 0,
+];
+
+/// Where its fields begin.
+const OLD_SNAPSHOT_FIELDS: [usize; 43] = [
+    0, 1, 2, 3, 11, 19, 23, 27, 28, 32, 40, 41, 42, 43, 44, 45, 49, 50, 54, 58, 62, 70, 71, 72, 73,
+    74, 75, 76, 80, 88, 89, 90, 91, 95, 96, 100, 104, 108, 116, 117, 118, 121, 122,
+];
+
 /// The snapshot of node 1 of 3 with epoch 5 behind nine facts. Instance 0 has decided
 /// `7.1 claim a x`. Instance 2 is in round 4, in which `7.2 transfer a 9` was adopted and the node
 /// proposed `7.3 release a`. The last instance is in its last round with `7.2 update a-9`, never
@@ -80,14 +110,21 @@ const SNAPSHOT_FIELDS: [usize; 42] = [
     77, 78, 82, 90, 91, 92, 93, 97, 98, 102, 106, 110, 118, 119, 120, 123, 124,
 ];
 
-/// Reads bytes, and writes what was read.
+/// Reads bytes, and writes what was read; a snapshot with the first byte of its version.
 fn rewritten(alloc: Global, form: Form, bytes: &[u8]) -> Result<Vec<u8>, Refusal> {
     // The check learns what these are made of from the types of a function's variables.
     let _parts: Option<(Command, Op, Standing)> = None;
     match form {
-        Form::Fact => encode_fact(alloc, &decode_fact(bytes)?),
-        Form::Group => encode_group(alloc, &decode_group(alloc, bytes)?),
-        Form::Snapshot => encode_snapshot(alloc, &decode_snapshot(alloc, bytes)?),
+        Form::Fact(version) => encode_fact(alloc, &decode_fact(version, bytes)?),
+        Form::Group(version) => encode_group(alloc, &decode_group(alloc, version, bytes)?),
+        Form::Snapshot => {
+            let (version, snapshot) = decode_snapshot(alloc, bytes)?;
+            let mut again = encode_snapshot(alloc, &snapshot)?;
+            if let Some(first) = again.first_mut() {
+                *first = version.number();
+            }
+            Ok(again)
+        }
     }
 }
 
@@ -159,16 +196,41 @@ fn each_byte_and_each_cut_of_facts(rt: HostRuntime) {
         (&DECIDE, &DECIDE_FIELDS),
     ];
     for (example, fields) in rows {
-        sweep(&rt, rt.alloc(), Form::Fact, example, fields).expect(&rt, "memory");
+        sweep(&rt, rt.alloc(), Form::Fact(Version::Two), example, fields).expect(&rt, "memory");
     }
 }
 
 #[test]
 fn each_byte_and_each_cut_of_a_group(rt: HostRuntime) {
-    sweep(&rt, rt.alloc(), Form::Group, &GROUP, &GROUP_FIELDS).expect(&rt, "memory");
+    let form = Form::Group(Version::Two);
+    sweep(&rt, rt.alloc(), form, &GROUP, &GROUP_FIELDS).expect(&rt, "memory");
 }
 
 #[test]
 fn each_byte_and_each_cut_of_a_snapshot(rt: HostRuntime) {
     sweep(&rt, rt.alloc(), Form::Snapshot, &SNAPSHOT, &SNAPSHOT_FIELDS).expect(&rt, "memory");
+}
+
+#[test]
+fn each_byte_and_each_cut_of_facts_of_version_1(rt: HostRuntime) {
+    let rows: [(&[u8], &[usize]); 3] = [
+        (&ENTER, &ENTER_FIELDS),
+        (&OLD_PROPOSE, &PROPOSE_FIELDS),
+        (&ADOPT, &ADOPT_FIELDS),
+    ];
+    for (example, fields) in rows {
+        sweep(&rt, rt.alloc(), Form::Fact(Version::One), example, fields).expect(&rt, "memory");
+    }
+}
+
+#[test]
+fn each_byte_and_each_cut_of_a_group_of_version_1(rt: HostRuntime) {
+    let form = Form::Group(Version::One);
+    sweep(&rt, rt.alloc(), form, &OLD_GROUP, &GROUP_FIELDS).expect(&rt, "memory");
+}
+
+#[test]
+fn each_byte_and_each_cut_of_a_snapshot_of_version_1(rt: HostRuntime) {
+    let fields = &OLD_SNAPSHOT_FIELDS;
+    sweep(&rt, rt.alloc(), Form::Snapshot, &OLD_SNAPSHOT, fields).expect(&rt, "memory");
 }

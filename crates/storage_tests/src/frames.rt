@@ -1,8 +1,8 @@
 //! Spelled examples, faults and their offsets.
 
 use rr_frame::{
-    Reader, Snapshot, decode_fact, decode_group, decode_snapshot, encode_fact, encode_snapshot,
-    put_command, read_command,
+    Reader, Snapshot, Version, decode_fact, decode_group, decode_snapshot, encode_fact,
+    encode_snapshot, put_command, read_command,
 };
 use rr_types::{
     Command, Estimate, Fact, Group, Instance, Name, NodeId, Nodes, Op, Promise, Refusal, RequestNo,
@@ -53,9 +53,9 @@ fn changed(rt: &impl Abort, alloc: Global, bytes: &[u8], place: usize, byte: u8)
     bytes
 }
 
-/// Whether bytes are refused as a group at this offset.
-fn is_no_group(alloc: Global, bytes: &[u8], offset: u64) -> bool {
-    matches!(decode_group(alloc, bytes), Err(Refusal::Malformed(found)) if found == offset)
+/// Whether bytes are refused as a group of a version at this offset.
+fn is_no_group(alloc: Global, version: Version, bytes: &[u8], offset: u64) -> bool {
+    matches!(decode_group(alloc, version, bytes), Err(Refusal::Malformed(found)) if found == offset)
 }
 
 /// Whether bytes are refused as a snapshot at this offset.
@@ -76,7 +76,9 @@ fn a_transfer_is_spelled_in_19_bytes(rt: HostRuntime) {
         [0, 0, 0, 7, 0, 0, 0, 0, 0, 0, 0, 2, 4, 1, 0x61, 0, 0, 0, 9].as_slice()
     );
     let mut reader = Reader::new(&bytes);
-    let read = read_command(&mut reader).ok().expect(&rt, "a command");
+    let read = read_command(Version::Two, &mut reader)
+        .ok()
+        .expect(&rt, "a command");
     assert!(rt; read.is_same(&command));
     assert_eq!(rt; reader.left(), 0);
 }
@@ -104,12 +106,12 @@ fn a_fact_is_read_as_it_was_written(rt: HostRuntime) {
         ]
         .as_slice()
     );
-    assert!(rt; matches!(decode_fact(&bytes), Ok(Fact::Enter(_, _))));
+    assert!(rt; matches!(decode_fact(Version::Two, &bytes), Ok(Fact::Enter(_, _))));
     // A stamp that is not below its round.
     let mut bent = bytes;
     assert_eq!(rt; bent.len(), 30);
     bent[12] = 1;
-    assert!(rt; matches!(decode_fact(&bent), Err(Refusal::Malformed(9))));
+    assert!(rt; matches!(decode_fact(Version::Two, &bent), Err(Refusal::Malformed(9))));
 }
 
 #[test]
@@ -128,13 +130,16 @@ fn faults_of_a_group(rt: HostRuntime) {
     ];
     for (place, value, offset) in faults {
         let bytes = changed(&rt, alloc, decided(), place, value);
-        assert!(rt; is_no_group(alloc, &bytes, offset), "{value} at {place}");
+        assert!(rt;
+            is_no_group(alloc, Version::Two, &bytes, offset),
+            "{value} at {place}"
+        );
     }
     let longer = [decided(), [0].as_slice()]
         .concat(alloc)
         .expect(&rt, "memory");
-    assert!(rt; is_no_group(alloc, &longer, 32));
-    assert!(rt; is_no_group(alloc, &[], 0));
+    assert!(rt; is_no_group(alloc, Version::Two, &longer, 32));
+    assert!(rt; is_no_group(alloc, Version::Two, &[], 0));
 }
 
 #[test]
@@ -156,7 +161,8 @@ fn snapshots(rt: HostRuntime) {
             .as_slice(),
         empty()
     );
-    let read = decode_snapshot(alloc, proposed()).expect(&rt, "memory");
+    let (version, read) = decode_snapshot(alloc, proposed()).expect(&rt, "memory");
+    assert_eq!(rt; version, Version::Two);
     assert_eq!(rt; (read.epoch(), read.next()), (2, 2));
     assert_eq!(rt; read.promise().entries().len(), 1);
     assert_eq!(rt;
@@ -171,7 +177,8 @@ fn snapshots(rt: HostRuntime) {
 fn faults_of_a_snapshot(rt: HostRuntime) {
     // Version, node and count, epoch 0, entries before the first fact, kind, round 0, stamp above the round, flag.
     let faults = [
-        (0, 1, 0),
+        (0, 0, 0),
+        (0, 3, 0),
         (1, 1, 2),
         (2, 8, 2),
         (10, 0, 3),
@@ -188,4 +195,91 @@ fn faults_of_a_snapshot(rt: HostRuntime) {
             "{value} at {place}"
         );
     }
+}
+
+/// A group of one fact: instance 0 decides `7.1 claim`, of a name of so many letters b.
+fn of_long_name(rt: &impl Abort, alloc: Global, count: u8) -> Vec<u8> {
+    let mut bytes = changed(rt, alloc, decided(), 28, count);
+    bytes.truncate(29);
+    bytes
+        .resize(29 + usize::from(count), b'b')
+        .expect(rt, "memory");
+    bytes.push(0).expect(rt, "memory");
+    bytes
+}
+
+#[test]
+fn names_are_as_long_as_the_version_has_them(rt: HostRuntime) {
+    let alloc = rt.alloc();
+    for (version, longest) in [(Version::One, 32), (Version::Two, 64)] {
+        let bytes = of_long_name(&rt, alloc, longest);
+        assert!(rt; decode_group(alloc, version, &bytes).is_ok());
+        let longer = of_long_name(&rt, alloc, longest + 1);
+        assert!(rt; is_no_group(alloc, version, &longer, 28));
+    }
+}
+
+#[test]
+fn facts_of_version_1(rt: HostRuntime) {
+    let alloc = rt.alloc();
+    // Instances 65,535 and 65,536 decide `7.3 release b`; instance 0 decides `7.2 transfer a 9`.
+    let last = [
+        4, 0, 0, 255, 255, 0, 0, 0, 7, 0, 0, 0, 0, 0, 0, 0, 3, 3, 1, 0x62,
+    ];
+    let far = [
+        4, 0, 1, 0, 0, 0, 0, 0, 7, 0, 0, 0, 0, 0, 0, 0, 3, 3, 1, 0x62,
+    ];
+    let transfer = [
+        4, 0, 0, 0, 0, 0, 0, 0, 7, 0, 0, 0, 0, 0, 0, 0, 2, 4, 1, 0x61, 0, 0, 0, 9,
+    ];
+    match decode_fact(Version::One, &last) {
+        Ok(Fact::Decide(instance, command)) => {
+            assert_eq!(rt; instance.number(), 65_535);
+            assert!(rt; matches!(command.op, Op::Release(_)));
+        }
+        _ => assert!(rt; false, "another fact"),
+    }
+    assert!(rt; matches!(decode_fact(Version::One, &far), Err(Refusal::Malformed(1))));
+    assert!(rt; decode_fact(Version::Two, &far).is_ok());
+    assert!(rt;
+        matches!(
+            decode_fact(Version::One, &transfer),
+            Err(Refusal::Malformed(17))
+        )
+    );
+    assert!(rt; decode_fact(Version::Two, &transfer).is_ok());
+    assert!(rt; decode_group(alloc, Version::One, decided()).is_ok());
+    let far = changed(&rt, alloc, decided(), 12, 1);
+    assert!(rt; is_no_group(alloc, Version::One, &far, 11));
+    assert!(rt; decode_group(alloc, Version::Two, &far).is_ok());
+}
+
+#[test]
+fn a_snapshot_of_version_1(rt: HostRuntime) {
+    let alloc = rt.alloc();
+    let old = changed(&rt, alloc, proposed(), 0, 1);
+    let (version, read) = decode_snapshot(alloc, &old).expect(&rt, "memory");
+    assert_eq!(rt; version, Version::One);
+    assert_eq!(rt;
+        encode_snapshot(alloc, &read)
+            .expect(&rt, "memory")
+            .as_slice(),
+        proposed()
+    );
+}
+
+#[test]
+fn faults_of_a_snapshot_of_version_1(rt: HostRuntime) {
+    // Instance 65,536, a transfer, a name of 33 bytes, a proposal that is a transfer.
+    let faults = [(24, 1, 23), (48, 4, 48), (49, 33, 49), (66, 4, 66)];
+    let old = changed(&rt, rt.alloc(), proposed(), 0, 1);
+    for (place, value, offset) in faults {
+        let bytes = changed(&rt, rt.alloc(), &old, place, value);
+        assert!(rt;
+            is_no_snapshot(rt.alloc(), &bytes, offset),
+            "{value} at {place}"
+        );
+    }
+    let far = changed(&rt, rt.alloc(), proposed(), 24, 1);
+    assert!(rt; decode_snapshot(rt.alloc(), &far).is_ok());
 }

@@ -1,6 +1,7 @@
 //! What the areas of small disks tell, with values worked out by hand.
 
 use rr_disk::{Area, Disk, FailingDisk, MemDisk};
+use rr_frame::Version;
 use rr_image::{AreaReport, inspect, inspect_bytes};
 use rr_types::{NodeId, Nodes, Refusal};
 use std::alloc::Global;
@@ -54,6 +55,7 @@ fn told(
     let nodes = Nodes::new(nodes).expect(rt, "nodes");
     let node = NodeId::new(nodes, node).expect(rt, "a node");
     Some(AreaReport {
+        version: Version::Two,
         epoch,
         node,
         nodes,
@@ -122,6 +124,33 @@ fn tells_of_both_areas(rt: HostRuntime) {
     );
     let open = told(&rt, 2, 0, 1, 2, 0);
     assert_told(&rt, alloc, &AREA, &OPEN_INSTANCE, (none(&rt), open));
+}
+
+/// The same of an area of version 1.
+fn in_version_1(told: Option<AreaReport>) -> Option<AreaReport> {
+    match told {
+        Some(mut told) => {
+            told.version = Version::One;
+            Some(told)
+        }
+        None => None,
+    }
+}
+
+#[test]
+fn reads_version_1_within_its_limits(rt: HostRuntime) {
+    let alloc = rt.alloc();
+    let old = changed(&rt, rt.alloc(), &AREA, 5, 1);
+    let told = in_version_1(four(&rt));
+    assert_told(&rt, alloc, &old, &[], (told, None));
+    let told = in_version_1(none(&rt));
+    assert_told(&rt, alloc, &old, &SNAPSHOT, (told, snapshot(&rt)));
+    assert!(rt; is_damaged(&rt, &changed(&rt, rt.alloc(), &AREA, 5, 3), &[], 0, 0));
+    // The first fact enters instance 65,536, which version 2 has, and the second proposes in instance 0.
+    let far = changed(&rt, rt.alloc(), &AREA, 45, 1);
+    assert!(rt; is_damaged(&rt, &far, &[], 0, 73));
+    let far = changed(&rt, rt.alloc(), &far, 5, 1);
+    assert!(rt; is_damaged(&rt, &far, &[], 0, 28));
 }
 
 #[test]

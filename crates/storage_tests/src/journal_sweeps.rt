@@ -4,7 +4,7 @@
 
 use crate::journal::{area, changed, cut, more, opened, put_at};
 use rr_disk::{Area, Disk, MemDisk};
-use rr_frame::{Reader, decode_group, decode_snapshot, encode_group, encode_snapshot};
+use rr_frame::{Reader, Version, decode_group, decode_snapshot, encode_group, encode_snapshot};
 use rr_image::Image;
 use rr_journal::{Opening, frame};
 use rr_types::{
@@ -42,6 +42,7 @@ fn assert_spelled(
     last: usize,
 ) -> Result<(), Refusal> {
     let mut gate = 0;
+    let mut version = Version::Two;
     for frame in 0..bytes.len() {
         if gate == last {
             return Ok(());
@@ -50,9 +51,14 @@ fn assert_spelled(
             break;
         };
         let again = if frame == 0 {
-            encode_snapshot(alloc, &decode_snapshot(alloc, payload)?)?
+            let (read, snapshot) = decode_snapshot(alloc, payload)?;
+            version = read;
+            let mut again = encode_snapshot(alloc, &snapshot)?;
+            // The versions have one spelling, but for its number.
+            put_at(&mut again, 0, version.number());
+            again
         } else {
-            encode_group(alloc, &decode_group(alloc, payload)?)?
+            encode_group(alloc, &decode_group(alloc, version, payload)?)?
         };
         assert_eq!(rt; again.as_slice(), payload);
         gate = gate.saturating_add(payload.len()).saturating_add(5);
@@ -75,6 +81,12 @@ fn assert_exact(
             assert_spelled(rt, alloc, first, content.gate() as usize)?
         }
         Ok(Image::Active(Area::Second, content)) => {
+            assert_spelled(rt, alloc, second, content.gate() as usize)?
+        }
+        Ok(Image::Outdated(Area::First, content)) => {
+            assert_spelled(rt, alloc, first, content.gate() as usize)?
+        }
+        Ok(Image::Outdated(Area::Second, content)) => {
             assert_spelled(rt, alloc, second, content.gate() as usize)?
         }
         Err(Refusal::Damaged { area: 0, offset }) => assert!(rt; gates.contains(&offset)),
@@ -134,7 +146,7 @@ fn what_the_areas_hold(rt: HostRuntime) {
         _ => assert!(rt; false),
     }
     // The snapshot before the groups of area 0.
-    let first = decode_snapshot(alloc, payload_at(area(), 0).expect(&rt, "a frame")).expect(
+    let (_, first) = decode_snapshot(alloc, payload_at(area(), 0).expect(&rt, "a frame")).expect(
         &rt, "memory",
     );
     assert_eq!(rt;

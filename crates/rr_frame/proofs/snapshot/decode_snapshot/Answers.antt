@@ -8,4 +8,4 @@ pub returns-clause-found : goal.returns-clause-found
 returns-clause-found c = snapshot_answer_found c.args.bytes.now c.read_whole.result (λ i. omega (arith, c.type_inv.bytes i)) c.read_whole.ensures
 
 pub returns-clause-only : goal.returns-clause-only
-returns-clause-only c = λ s lawful e. subst (λ r. Decodes c.read_whole.result r) (ap snapshot_in e ∙ snapshot_spelt s lawful) c.read_whole.ensures
+returns-clause-only c = λ version s lawful e. subst (λ r. Decodes c.read_whole.result r) (ap snapshot_in e ∙ snapshot_spelt version s lawful) c.read_whole.ensures

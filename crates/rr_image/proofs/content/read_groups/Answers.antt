@@ -15,9 +15,9 @@ loop-rest-preserved c =
     let whole : take (length rest - 1) (drop 1 rest) ≡ drop 1 rest = take_all (length rest - 1) (drop 1 rest) (omega (arith, length-drop 1 rest)) in
     let frame = rw whole at c.in-Some.ensures.value in
     let parts = rw whole at c.in-Some.ensures.parts in
-    let taken : after_payload c.args.nodes c.args.node now c.in-Some.payload.now ≡ Some d = sym c.in-Ok-Some.ensures ∙ c.in-Ok-Some.field-0-is in
-    let moved = gate_after c.args.nodes c.args.node now d c.in-Some.payload.now taken in
+    let taken : after_payload c.args.version c.args.nodes c.args.node now c.in-Some.payload.now ≡ Some d = sym c.in-Ok-Some.ensures ∙ c.in-Ok-Some.field-0-is in
+    let moved = gate_after c.args.version c.args.nodes c.args.node now d c.in-Some.payload.now taken in
     record {
-      on = frame_taken c.args.nodes c.args.node now d rest c.in-Some.payload.now c.in-Some.after.now _ some c.if-rest.true frame parts taken c.loop-rest.invariant.on;
+      on = frame_taken c.args.version c.args.nodes c.args.node now d rest c.in-Some.payload.now c.in-Some.after.now _ some c.if-rest.true frame parts taken c.loop-rest.invariant.on;
       room = room_after rest c.in-Some.payload.now c.in-Some.after.now now.gate d.gate _ some parts moved c.loop-rest.invariant.room;
     }

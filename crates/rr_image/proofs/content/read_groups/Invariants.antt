@@ -5,7 +5,7 @@ use Rattle.rr_image.proofs.content.read_groups.Given as goal
 
 abbrev pub invariant-loop-rest : goal.invariant-loop-rest
 invariant-loop-rest l = record {
-  on : GoesOn l.nodes l.node l.content l.rest (content_from (length l.bytes) l.nodes l.node l.fn.content l.bytes);
+  on : GoesOn l.version l.nodes l.node l.content l.rest (content_from l.version (length l.bytes) l.nodes l.node l.fn.content l.bytes);
   room : l.content.gate + length l.rest ≤ l.fn.content.gate + length l.bytes;
 }
 

@@ -9,4 +9,4 @@ returns c =
     let whole : take (length bytes - 1) (drop 1 bytes) ≡ drop 1 bytes = take_all (length bytes - 1) (drop 1 bytes) (omega (arith, length-drop 1 bytes)) in
     let frame = rw whole at c.in-Some.ensures.value in
     let parts = rw whole at c.in-Some.ensures.parts in
-    front_begins c.args.nodes c.args.node bytes c.in-Some.payload.now c.in-Some.field-0-1.now c.in-Ok.snapshot c.new.result (omega arith) c.if-bytes.false frame parts c.in-Ok.ensures.exact (omega arith) (omega arith) (c.new.ensures ∙ rw (c.epoch-epoch.ensures.value, c.into_promise.ensures, c.next-next.ensures) refl)
+    front_begins c.args.nodes c.args.node bytes c.in-Some.payload.now c.in-Some.field-0-1.now c.in-Ok.read.0 c.in-Ok.read.1 c.new-content.result (omega arith) c.if-bytes.false frame parts c.in-Ok.ensures.exact (omega arith) (omega arith) (c.new-content.ensures ∙ rw (c.epoch-epoch.ensures.value, c.into_promise.ensures, c.next-next.ensures) refl)

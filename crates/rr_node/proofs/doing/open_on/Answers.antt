@@ -3,8 +3,8 @@ use Rattle.std.specs.Prelude.{IfOk}
 use Rattle.rr_disk.specs.Counts.{counted}
 use Rattle.rr_journal.specs.declared.opening.Progress as journal
 use Rattle.rr_journal.specs.OpeningSteps.{MaySnap}
-use Rattle.rr_journal.specs.OpeningTable.{disk_after}
-use Rattle.rr_journal.specs.OtherAreas.{KnowsOther}
+use Rattle.rr_journal.specs.Fronts.{KnowsOther}
+use Rattle.rr_journal.specs.OpeningTable.{ComesToAny, disk_after}
 use Rattle.rr_recover.specs.declared.steps.Progress.{Progress}
 use Rattle.rr_recover.specs.Recoveries.{as_step, StartsAtEnd, RestsAtEnd}
 use Rattle.rr_node.specs.Views.{NodeDisk, areas_in}
@@ -14,6 +14,7 @@ use Rattle.rr_node.proofs.doing.open_on.Goals as goal
 pub returns-in-Ok-More : goal.returns-in-Ok-More
 returns-in-Ok-More c n p =
     opens_more n p c.args.opening c.in-Ok-More.opening (subst (λ (x : Progress NodeDisk). Recovered c.args.opening (Ok x)) c.in-Ok-More.field-0-is c.in-Ok-More.ensures.exact)
+    (subst (λ (x : Progress NodeDisk). IfOk (as_step {D = NodeDisk} (Ok x)) (λ (y : journal.Progress NodeDisk). ComesToAny {D = NodeDisk} areas_in y)) c.in-Ok-More.field-0-is (c.in-Ok-More.ensures.comes tt))
     (subst (λ (x : Progress NodeDisk). (disk_after {D = NodeDisk} (as_step {D = NodeDisk} (Ok x))).calls ≡ counted c.args.opening.disk.calls) c.in-Ok-More.field-0-is c.in-Ok-More.ensures.call)
 
 pub returns-in-Ok-Done : goal.returns-in-Ok-Done

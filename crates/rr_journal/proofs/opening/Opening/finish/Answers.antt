@@ -3,18 +3,20 @@ use Rattle.rr_journal.specs.declared.opening.Progress.{Progress}
 use Rattle.rr_image.specs.Held.{Holds}
 use Rattle.rr_journal.specs.Phases.{phase_of}
 use Rattle.rr_disk.specs.Counts.{counted}
-use Rattle.rr_journal.specs.OpeningCourse.{StaysOnCourse, IsUntouched, end_by}
+use Rattle.rr_image.specs.Image.{Found}
+use Rattle.rr_journal.specs.Openings.{end_by}
+use Rattle.rr_journal.specs.OpeningCourse.{StaysOnCourse, IsUndamaged, IsUntouched}
 use Rattle.rr_frame.specs.Snapshots.{IsSnapshot}
 use Rattle.rr_journal.specs.OpeningSteps.{Steps, MaySnap}
-use Rattle.rr_journal.proofs.CourseLaws.{has_begun, runs_on, still_before, last_left, last_from, all_done, refused_at, ends_refused}
-use Rattle.rr_journal.specs.OpeningTable.{ComesTo, IsKept, disk_after}
-use Rattle.rr_journal.specs.OtherAreas.{KnowsOther}
+use Rattle.rr_journal.proofs.CourseLaws.{has_begun, runs_on, still_before, still_beside, last_left, last_from, all_done, refused_at, ends_refused}
+use Rattle.rr_journal.specs.OpeningTable.{ComesToAny, ComesTo, IsKept, disk_after}
+use Rattle.rr_journal.specs.Fronts.{KnowsOther}
 use Rattle.rr_journal.proofs.OpeningEnds.{fewer_left, keeps_on}
 use Rattle.rr_journal.proofs.opening.Opening.finish.Goals as goal
 
 pub loop-refused-init : goal.loop-refused-init
 loop-refused-init g c = (
-  record { same_nodes = refl; same_node = refl; still_tells = λ tells. tells; opens = λ tells facts opens. opens; keeps = λ tells facts opens. inl refl; knows = λ tells knows. knows },
+  record { same_nodes = refl; same_node = refl; still_tells = λ tells. tells; rests = λ tells rests. rests; opens = λ tells facts opens. opens; keeps = λ tells facts opens. inl refl; knows = λ tells knows. knows },
   has_begun {D = g.row.D.Denot} g.D.Disk.tells g.D.Disk.areas g.D.Disk.calls g.D.Disk.faults c.args.self,
 )
 
@@ -22,7 +24,9 @@ pub returns-in-Err-clause-tells : goal.returns-in-Err-clause-tells
 returns-in-Err-clause-tells g c tells = c.in-Err.ensures.tells (c.loop-refused.invariant.0.still_tells tells)
 
 pub returns-in-Err-clause-undamaged : goal.returns-in-Err-clause-undamaged
-returns-in-Err-clause-undamaged g c tells facts opens = c.in-Err.ensures.undamaged (c.loop-refused.invariant.0.still_tells tells) facts (c.loop-refused.invariant.0.opens tells facts opens)
+returns-in-Err-clause-undamaged g c tells facts opens =
+    subst (λ (f : Found). IsUndamaged f c.in-Err.refused.0) (c.loop-refused.invariant.1.same_found tells)
+    (c.in-Err.ensures.undamaged (c.loop-refused.invariant.0.still_tells tells) facts (c.loop-refused.invariant.0.opens tells facts opens))
 
 pub returns-in-Err-clause-kept : goal.returns-in-Err-clause-kept
 returns-in-Err-clause-kept g c tells facts opens =
@@ -44,6 +48,7 @@ loop-refused-preserved g c =
         same_nodes = exact.3 ∙ came.same_nodes;
         same_node = exact.4 ∙ came.same_node;
         still_tells = λ tells. subst (λ (x : Progress g.row.D.Denot). g.D.Disk.tells (disk_after {D = g.row.D.Denot} (Ok x))) c.in-Ok-More.field-0-is (c.in-Ok-More.ensures.tells (came.still_tells tells));
+        rests = λ tells rests. subst (λ (x : Progress g.row.D.Denot). ComesToAny {D = g.row.D.Denot} g.D.Disk.areas x) c.in-Ok-More.field-0-is (c.in-Ok-More.ensures.rests (came.still_tells tells) (came.rests tells rests));
         opens = λ tells facts opens. subst (λ (x : Progress g.row.D.Denot). ComesTo g.D.Disk.areas facts x) c.in-Ok-More.field-0-is (c.in-Ok-More.ensures.table (came.still_tells tells) facts (came.opens tells facts opens));
         keeps = λ tells facts opens. keeps_on g.D.Disk.tells g.D.Disk.areas c.args.self c.loop-refused.opening c.in-Ok-More.next.disk facts came tells opens
             (subst (λ (x : Progress g.row.D.Denot). IsKept (Holds c.loop-refused.opening.nodes c.loop-refused.opening.node) facts (g.D.Disk.areas c.loop-refused.opening.disk) (g.D.Disk.areas (disk_after {D = g.row.D.Denot} (Ok x))))
@@ -52,6 +57,7 @@ loop-refused-preserved g c =
       },
       runs_on {D = g.row.D.Denot} g.D.Disk.tells g.D.Disk.areas g.D.Disk.calls g.D.Disk.faults c.args.self c.loop-refused.opening c.loop-refused.invariant.1 c.in-Ok-More.next
           (λ tells. subst (λ (x : Progress g.row.D.Denot). StaysOnCourse {D = g.row.D.Denot} g.D.Disk.areas c.loop-refused.opening (Ok x)) c.in-Ok-More.field-0-is (c.in-Ok-More.ensures.course (came.still_tells tells)))
+          c.in-Ok-More.ensures.due
           (λ tells. subst (λ (x : Progress g.row.D.Denot). IsUntouched (phase_of c.loop-refused.opening.phase) (g.D.Disk.areas c.loop-refused.opening.disk) (g.D.Disk.areas (disk_after {D = g.row.D.Denot} (Ok x)))) c.in-Ok-More.field-0-is (c.in-Ok-More.ensures.untouched (came.still_tells tells)))
           (subst (λ (x : Progress g.row.D.Denot). g.D.Disk.calls (disk_after {D = g.row.D.Denot} (Ok x)) ≡ counted (g.D.Disk.calls c.loop-refused.opening.disk)) c.in-Ok-More.field-0-is c.in-Ok-More.ensures.call)
           (subst (λ (x : Progress g.row.D.Denot). g.D.Disk.faults c.loop-refused.opening.disk ≤ g.D.Disk.faults (disk_after {D = g.row.D.Denot} (Ok x))) c.in-Ok-More.field-0-is c.in-Ok-More.ensures.faults)
@@ -113,7 +119,7 @@ pub returns-in-Err-clause-counted : goal.returns-in-Err-clause-counted
 returns-in-Err-clause-counted g c tells = last_from {D = g.row.D.Denot} g.D.Disk.tells g.D.Disk.areas g.D.Disk.calls g.D.Disk.faults c.args.self c.loop-refused.opening c.loop-refused.invariant.1 c.in-Err.refused.1 tells c.in-Err.ensures.call
 
 pub returns-in-Err-clause-untouched : goal.returns-in-Err-clause-untouched
-returns-in-Err-clause-untouched g c tells other = still_before {D = g.row.D.Denot} g.D.Disk.tells g.D.Disk.areas g.D.Disk.calls g.D.Disk.faults c.args.self c.loop-refused.opening c.loop-refused.invariant.1 c.in-Err.refused.1 tells other (c.in-Err.ensures.untouched (c.loop-refused.invariant.0.still_tells tells))
+returns-in-Err-clause-untouched g c tells other = still_before {D = g.row.D.Denot} g.D.Disk.tells g.D.Disk.areas g.D.Disk.calls g.D.Disk.faults c.args.self c.loop-refused.opening c.loop-refused.invariant.1 c.in-Err.refused.1 tells other c.in-Err.ensures.due (c.in-Err.ensures.untouched (c.loop-refused.invariant.0.still_tells tells))
 
 pub returns-in-Ok-Done-clause-calls : goal.returns-in-Ok-Done-clause-calls
 returns-in-Ok-Done-clause-calls g c =
@@ -143,6 +149,22 @@ returns-in-Ok-Done-clause-done g c tells =
 
 pub returns-in-Ok-Done-clause-untouched : goal.returns-in-Ok-Done-clause-untouched
 returns-in-Ok-Done-clause-untouched g c tells other =
-    still_before {D = g.row.D.Denot} g.D.Disk.tells g.D.Disk.areas g.D.Disk.calls g.D.Disk.faults c.args.self c.loop-refused.opening c.loop-refused.invariant.1 c.in-Ok-Done.journal.disk tells other
+    still_before {D = g.row.D.Denot} g.D.Disk.tells g.D.Disk.areas g.D.Disk.calls g.D.Disk.faults c.args.self c.loop-refused.opening c.loop-refused.invariant.1 c.in-Ok-Done.journal.disk tells other c.in-Ok-Done.ensures.due
     (subst (λ (x : Progress g.row.D.Denot). IsUntouched (phase_of c.loop-refused.opening.phase) (g.D.Disk.areas c.loop-refused.opening.disk) (g.D.Disk.areas (disk_after {D = g.row.D.Denot} (Ok x))))
     c.in-Ok-Done.field-0-is (c.in-Ok-Done.ensures.untouched (c.loop-refused.invariant.0.still_tells tells)))
+
+pub returns-in-Err-clause-beside : goal.returns-in-Err-clause-beside
+returns-in-Err-clause-beside g c tells area kept =
+    still_beside {D = g.row.D.Denot} g.D.Disk.tells g.D.Disk.areas g.D.Disk.calls g.D.Disk.faults c.args.self c.loop-refused.opening c.loop-refused.invariant.1 c.in-Err.refused.1 tells area kept
+    (c.in-Err.ensures.untouched (c.loop-refused.invariant.0.still_tells tells))
+
+pub returns-in-Ok-Done-clause-beside : goal.returns-in-Ok-Done-clause-beside
+returns-in-Ok-Done-clause-beside g c tells area kept =
+    still_beside {D = g.row.D.Denot} g.D.Disk.tells g.D.Disk.areas g.D.Disk.calls g.D.Disk.faults c.args.self c.loop-refused.opening c.loop-refused.invariant.1 c.in-Ok-Done.journal.disk tells area kept
+    (subst (λ (x : Progress g.row.D.Denot). IsUntouched (phase_of c.loop-refused.opening.phase) (g.D.Disk.areas c.loop-refused.opening.disk) (g.D.Disk.areas (disk_after {D = g.row.D.Denot} (Ok x))))
+    c.in-Ok-Done.field-0-is (c.in-Ok-Done.ensures.untouched (c.loop-refused.invariant.0.still_tells tells)))
+
+pub returns-in-Ok-Done-clause-rests : goal.returns-in-Ok-Done-clause-rests
+returns-in-Ok-Done-clause-rests g c tells rests =
+    let came = c.loop-refused.invariant.0 in
+    subst (λ (x : Progress g.row.D.Denot). ComesToAny {D = g.row.D.Denot} g.D.Disk.areas x) c.in-Ok-Done.field-0-is (c.in-Ok-Done.ensures.rests (came.still_tells tells) (came.rests tells rests))

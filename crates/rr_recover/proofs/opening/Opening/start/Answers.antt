@@ -1,4 +1,4 @@
-use Rattle.std.proofs.Common.{[], subst}
+use Rattle.std.proofs.Common.{subst}
 use Rattle.rr_recover.proofs.KnowingLaws.{begins_with}
 use Rattle.rr_recover.proofs.opening.Opening.start.Goals as goal
 
@@ -10,6 +10,6 @@ invariant_of-result g c =
       c.requires.exists,
       c.requires.alike,
       λ now. (let tells : g.D.Disk.tells c.args.disk = subst g.D.Disk.tells c.start.ensures.disk now in
-          begins_with {D = g.row.D.Denot} g.D.Disk.areas c.start.result c.args.nodes c.args.node c.args.disk c.start.ensures.whose.0 c.start.ensures.whose.1 c.start.ensures.disk c.start.ensures.phase (short tells)
-          (λ holds. c.start.ensures.table [] (short tells).0 (short tells).1 holds)),
+          begins_with {D = g.row.D.Denot} g.D.Disk.areas c.start.result c.args.nodes c.args.node c.args.disk c.start.ensures.whose.0 c.start.ensures.whose.1 c.start.ensures.disk c.start.ensures.phase
+          (c.start.ensures.rests (short tells).0 (short tells).1)),
     )

@@ -2,7 +2,7 @@ use Rattle.std.proofs.Common.{ap, ◌∙◌}
 use Rattle.std.proofs.lemmas.Bool.{false≢true}
 use Rattle.rr_frame.specs.Snapshots.{Snapped}
 use Rattle.rr_journal.proofs.SnapshotSize.{is_snapshot, snapshot_fits}
-use Rattle.rr_journal.proofs.opening.first_body.Goals as goal
+use Rattle.rr_journal.proofs.rewrite.first_body.Goals as goal
 
 pub frame-requires : goal.frame-requires
 frame-requires c =
