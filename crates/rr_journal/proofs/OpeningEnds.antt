@@ -11,7 +11,8 @@ use Rattle.rr_journal.specs.Moments.{EachHolds}
 use Rattle.rr_journal.specs.Calls.{rewrite_calls, must_close}
 use Rattle.rr_image.specs.Image.{Found, Unformatted, Broken, Active, Outdated, found}
 use Rattle.rr_image.specs.Held.{Holds}
-use Rattle.rr_journal.specs.Openings.{Phase, Settling, ReadingFirst, ReadingSecond, Rewriting, After, Goes, Opens, Stops, snapshot_with, formatted, migrated, may_migrate, bytes_in, migrate_calls, end_by, after_found, after_opening_call}
+use Rattle.rr_journal.specs.Openings.{Phase, Settling, ReadingFirst, ReadingSecond, Rewriting, After, Goes, Opens, Stops, snapshot_with, formatted, bytes_in, migrate_calls, end_by, after_found, after_opening_call}
+use Rattle.rr_image.specs.Migration.{migrated, may_migrate}
 use Rattle.rr_journal.specs.OpeningCourse.{calls_left}
 use Rattle.rr_journal.specs.OpeningStates.{OpeningState}
 use Rattle.rr_journal.specs.OpeningTable.{OpensAny, OpensWith, IsKept}

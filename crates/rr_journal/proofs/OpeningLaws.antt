@@ -18,7 +18,8 @@ use Rattle.rr_journal.specs.Calls.{Call, after_call, must_close}
 use Rattle.rr_image.specs.Image.{Content, Found, Unformatted, Broken, Active, Outdated, found}
 use Rattle.rr_image.specs.Held.{StandsFor, Holds}
 use Rattle.rr_journal.specs.Journals.{IsOver}
-use Rattle.rr_journal.specs.Openings.{Rewriting, Opens, bytes_in, snapshot_with, may_migrate, end_by, due_call}
+use Rattle.rr_journal.specs.Openings.{Rewriting, Opens, bytes_in, snapshot_with, end_by, due_call}
+use Rattle.rr_image.specs.Migration.{may_migrate}
 use Rattle.rr_journal.specs.Phases.{phase_of}
 use Rattle.rr_journal.specs.OpeningTable.{IsReadBy, IsLeftBy, IsResting, Rests, OpensWith, IsKept}
 use Rattle.rr_journal.specs.Rewrites.{Rewrite, writes_anew, area_anew, content_anew, flush_anew, IsInStage, IsRewriting}

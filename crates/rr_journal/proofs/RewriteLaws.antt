@@ -20,7 +20,8 @@ use Rattle.rr_journal.specs.Flushes.{Flush}
 use Rattle.rr_journal.specs.Moments.{image_of, with_image, with_group, gate_opened, body_written, IsGrounded, IsAt, EachHolds, body_due, body_out, body_safe, gate_set}
 use Rattle.rr_journal.specs.Calls.{Write, after_call, must_close}
 use Rattle.rr_journal.specs.OpeningTable.{IsLeftBy}
-use Rattle.rr_journal.specs.Openings.{snapshot_size, snapshot_with, migrated, may_migrate}
+use Rattle.rr_journal.specs.Openings.{snapshot_with}
+use Rattle.rr_image.specs.Migration.{snapshot_size, migrated, may_migrate}
 use Rattle.rr_journal.specs.Rewrites.{writes_anew, area_anew, content_anew, IsSized, flush_anew, IsInStage}
 use Rattle.rr_journal.specs.declared.stage.Stage.{Stage}
 use Rattle.rr_journal.specs.declared.stage.Stage.TheVariants.{Closing, SettlingClosed, WritingBody, SettlingBody, OpeningGate, SettlingGate}
@@ -77,6 +78,14 @@ pub refused_migration : (n p : ℕ) (c : Content) (s : Snapped) (e : Refusal) �
     → (e ≡ OutOfMemory) ⊎ ((e ≡ TooLarge) × (may_migrate c ≡ false))
 refused_migration n p c s e is (inl memory) = inl memory
 refused_migration n p c s e is (inr large) = inr (large.0, too_large n p c s is large.1)
+
+-- where an area of version 1 stands for facts, it is memory that refuses
+pub refused_for_memory : (c : Content) (area : Area) (facts : List Fact) (e : Refusal) → StandsFor (Outdated area c) facts → (e ≡ OutOfMemory) ⊎ ((e ≡ TooLarge) × (may_migrate c ≡ false)) → e ≡ OutOfMemory
+refused_for_memory c area facts e stands (inl memory) = memory
+refused_for_memory c area facts e stands (inr large) = absurd (never (may_migrate c) stands.2 large.1)
+  where
+    never : (may : Bool) → may ≡ true → may ≡ false → ⊥
+    never may yes no = cc
 
 -- what the snapshot begins
 pub content_is : (n p : ℕ) (was : Found) → writes_anew was ≡ true → content_of (snapshot_with n p (content_anew was)) ≡ content_anew was

@@ -13,7 +13,8 @@ use Rattle.rr_journal.specs.declared.opening.Progress.TheVariants as progress
 use Rattle.rr_journal.specs.Calls.{Call, Read, Sync, after_call, format_calls}
 use Rattle.rr_image.specs.Ends.{area_number}
 use Rattle.rr_image.specs.Image.{Found, Unformatted, Broken, Active, Outdated, found}
-use Rattle.rr_journal.specs.Openings.{Phase, Settling, ReadingFirst, ReadingSecond, Rewriting, Opens, Stops, bytes_in, may_migrate, migrate_calls, end_by, due_call}
+use Rattle.rr_journal.specs.Openings.{Phase, Settling, ReadingFirst, ReadingSecond, Rewriting, Opens, Stops, bytes_in, migrate_calls, end_by, due_call}
+use Rattle.rr_image.specs.Migration.{may_migrate}
 use Rattle.rr_journal.specs.OtherAreas.{other_area}
 use Rattle.rr_journal.specs.OpeningStates.{OpeningState}
 use Rattle.rr_journal.specs.Phases.{phase_of}
@@ -79,10 +80,6 @@ StaysOnCourse areas o (Err (e, disk)) = (e ≡ OutOfMemory) ⊎ (e ≡ Device) �
 -- an opening is refused for memory, where a device call failed, for damage, or for want of a next epoch
 abbrev pub IsRefused : {D : Type 0} → (D → ℕ) → D → Refusal × D → Type 0
 IsRefused faults old (e, new) = (e ≡ OutOfMemory) ⊎ ((e ≡ Device) × Grew (faults old) (faults new)) ⊎ ((area : Area) × (offset : ℕ) × (e ≡ Damaged (area_number area) offset)) ⊎ (e ≡ TooLarge)
-
--- an opening of a disk that holds facts is refused for memory or by the device; or where an area of version 1 can't give way to the other
-abbrev pub IsUndamaged : Found → Refusal → Type 0
-IsUndamaged found e = (e ≡ OutOfMemory) ⊎ (e ≡ Device) ⊎ ((e ≡ TooLarge) × (end_by found ≡ Stops TooLarge))
 
 -- both areas are as they were, or synced
 abbrev pub IsAsBefore : Areas → Areas → Type 0

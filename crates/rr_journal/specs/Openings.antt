@@ -1,6 +1,5 @@
 -- An opening, device call by device call.
-use Rattle.std.specs.Prelude.{ℕ, ◌+◌, ◌-◌, ◌^◌, Bool, ◌&&◌, nat_lt, if◌then◌else◌, List, [], ◌∷◌, length, Result, Ok, Err, Vec}
-use Rattle.std.specs.List.{flat_map}
+use Rattle.std.specs.Prelude.{ℕ, ◌+◌, ◌-◌, ◌^◌, if◌then◌else◌, List, [], ◌∷◌, length, Result, Ok, Err, Vec}
 use Rattle.std.specs.declared.alloc.Global.{Global}
 use Rattle.rr_types.specs.declared.promise.Entry.{Entry}
 use Rattle.rr_types.specs.declared.refusal.Refusal.{Refusal}
@@ -8,9 +7,10 @@ use Rattle.rr_types.specs.declared.refusal.Refusal.TheVariants as because
 use Rattle.rr_disk.specs.declared.area.Area.{Area}
 use Rattle.rr_disk.specs.declared.area.Area.TheVariants.{First, Second}
 use Rattle.rr_frame.specs.Snapshots.{Snapped}
-use Rattle.rr_frame.specs.SnapshotFormat.{entry_bytes, snapshot_bytes}
+use Rattle.rr_frame.specs.SnapshotFormat.{snapshot_bytes}
 use Rattle.rr_image.specs.Ends.{area_number}
 use Rattle.rr_image.specs.Image.{Content, Found, Unformatted, Broken, Active, Outdated, found}
+use Rattle.rr_image.specs.Migration.{migrated, may_migrate}
 use Rattle.rr_journal.specs.Calls.{Call, Read, Write, Sync, must_close, rewrite_calls, format_calls}
 use Rattle.rr_journal.specs.OtherAreas.{other_area}
 
@@ -35,10 +35,6 @@ due_call (ReadingSecond first) = Read Second
 due_call (Rewriting found []) = Sync
 due_call (Rewriting found (call ∷ calls)) = call
 
--- how many bytes a snapshot of these entries has
-abbrev pub snapshot_size : List Entry → ℕ
-snapshot_size entries = 23 + length (flat_map entry_bytes entries)
-
 -- the snapshot that begins this content at node p of n
 abbrev pub snapshot_with : ℕ → ℕ → Content → Snapped
 snapshot_with n p c = record { node = p; nodes = n; epoch = c.epoch; next = c.next; entries = c.promise }
@@ -46,14 +42,6 @@ snapshot_with n p c = record { node = p; nodes = n; epoch = c.epoch; next = c.ne
 -- what a freshly formatted disk holds: an empty promise behind a snapshot of 23 bytes
 abbrev pub formatted : Content
 formatted = record { epoch = 1; promise = []; next = 0; gate = 28 }
-
--- what stands in the place of an area of version 1: its promise behind a snapshot with the next epoch
-abbrev pub migrated : Content → Content
-migrated c = record { epoch = c.epoch + 1; promise = c.promise; next = c.next; gate = 5 + snapshot_size c.promise }
-
--- whether that snapshot has an epoch below 2^64, and ends below byte 4,294,967,296 of its area; no promise of version 1 is so long
-abbrev pub may_migrate : Content → Bool
-may_migrate c = nat_lt (c.epoch + 1) (2 ^ 64) && nat_lt (6 + snapshot_size c.promise) (2 ^ 32)
 
 -- the bytes of one of two areas
 abbrev pub bytes_in : Area → List ℕ → List ℕ → List ℕ

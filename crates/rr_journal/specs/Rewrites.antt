@@ -10,7 +10,8 @@ use Rattle.rr_journal.specs.Flushes.{Flush}
 use Rattle.rr_journal.specs.Moments.{image_of, body_due, body_out, body_safe, gate_set}
 use Rattle.rr_journal.specs.Calls.{Write, after_call, frame_bytes, must_close}
 use Rattle.rr_journal.specs.OtherAreas.{other_area}
-use Rattle.rr_journal.specs.Openings.{snapshot_with, formatted, migrated, may_migrate}
+use Rattle.rr_journal.specs.Openings.{snapshot_with, formatted}
+use Rattle.rr_image.specs.Migration.{migrated, may_migrate}
 use Rattle.rr_journal.specs.declared.stage.Stage.{Stage}
 use Rattle.rr_journal.specs.declared.stage.Stage.TheVariants.{Closing, SettlingClosed, WritingBody, SettlingBody, OpeningGate, SettlingGate}
 

@@ -13,7 +13,7 @@ ghost use Rattle.rr_image.specs.Image.{Outdated, found};
 ghost use Rattle.rr_journal.specs.Openings.{Settling, ReadingSecond, Rewriting, Done, Refused, bytes_in, snapshot_with, due_call, after_found, after_opening_call};
 ghost use Rattle.rr_journal.specs.Fronts.{front_beside, KnowsFronts, KnowsRead, KnowsOther};
 ghost use Rattle.rr_journal.specs.Phases.{phase_of, Follows};
-ghost use Rattle.rr_journal.specs.OpeningCourse.{calls_left, found_from, calls_from, EndsBy, StaysOnCourse, IsRefused, IsUndamaged, IsDue, IsUntouched, IsAsBefore, IsLeftAlone, IsDone};
+ghost use Rattle.rr_journal.specs.OpeningCourse.{calls_left, found_from, calls_from, EndsBy, StaysOnCourse, IsRefused, IsDue, IsUntouched, IsAsBefore, IsLeftAlone, IsDone};
 ghost use Rattle.rr_journal.specs.OpeningStates.{OpeningState, IsOwn};
 ghost use Rattle.rr_journal.specs.OpeningSteps.{Steps, MaySnap, MayGoOn};
 ghost use Rattle.rr_journal.specs.OpeningTable.{IsReadBy, IsLeftBy, IsResting, Rests, contents, OpensAny, OpensWith, GoesOnAny, GoesOnWith, ComesToAny, ComesTo, IsKept, disk_after};
@@ -154,7 +154,7 @@ impl<D: Disk> Opening<D> {
         ensures table { D.tells self.disk → (facts : List Fact) → OpensWith self.nodes self.node facts self.phase (D.areas self.disk)
             → IfOk result (λ progress. ComesTo D.areas facts progress) }
         ensures undamaged { D.tells self.disk → (facts : List Fact) → OpensWith self.nodes self.node facts self.phase (D.areas self.disk)
-            → IfErr result (λ r. IsUndamaged (found_from self.nodes self.node (phase_of self.phase) (D.areas self.disk)) r.0) }
+            → IfErr result (λ r. (r.0 ≡ OutOfMemory) ⊎ (r.0 ≡ Device)) }
         ensures kept { D.tells self.disk → (facts : List Fact) → OpensWith self.nodes self.node facts self.phase (D.areas self.disk)
             → IsKept (Holds self.nodes self.node) facts (D.areas self.disk) (D.areas (disk_after result)) }
         ensures fronts { D.tells self.disk → KnowsFronts (phase_of self.phase) self.fronts (D.areas self.disk) → IfOk result (λ progress. KnowsOther D.areas progress) }
@@ -191,7 +191,7 @@ impl<D: Disk> Opening<D> {
         ensures table { D.tells self.disk → (facts : List Fact) → OpensWith self.nodes self.node facts self.phase (D.areas self.disk)
             → IfOk result (λ r. IsOpenWith D.areas facts r) }
         ensures undamaged { D.tells self.disk → (facts : List Fact) → OpensWith self.nodes self.node facts self.phase (D.areas self.disk)
-            → IfErr result (λ r. IsUndamaged (found_from self.nodes self.node (phase_of self.phase) (D.areas self.disk)) r.0) }
+            → IfErr result (λ r. (r.0 ≡ OutOfMemory) ⊎ (r.0 ≡ Device)) }
         ensures kept { D.tells self.disk → (facts : List Fact) → OpensWith self.nodes self.node facts self.phase (D.areas self.disk)
             → IsKept (Holds self.nodes self.node) facts (D.areas self.disk) (D.areas (disk_behind result)) }
         ensures fronts { D.tells self.disk → KnowsFronts (phase_of self.phase) self.fronts (D.areas self.disk) → IfOk result (λ r. IsOtherKnown D.areas r.0) }
@@ -232,13 +232,13 @@ impl<D: Disk> Journal<D> {
         ensures images { D.tells disk → length (D.areas disk).first.cells < 2 ^ 64 → length (D.areas disk).second.cells < 2 ^ 64 → MayStand (D.areas disk)
             → AddsSameAlone nodes node (D.areas disk) (D.areas (disk_behind result)) }
         ensures some { D.tells disk → length (D.areas disk).first.cells < 2 ^ 64 → length (D.areas disk).second.cells < 2 ^ 64 → MayStand (D.areas disk) → EachHoldsSome (Holds nodes node) (D.areas disk)
-            → IfOk result (λ r. IsOpenWithOneOf D.areas (Holds nodes node) (D.areas disk) r) × IfErr result (λ r. IsUndamaged (found_from nodes node Settling (D.areas disk)) r.0) }
+            → IfOk result (λ r. IsOpenWithOneOf D.areas (Holds nodes node) (D.areas disk) r) × IfErr result (λ r. (r.0 ≡ OutOfMemory) ⊎ (r.0 ≡ Device)) }
         ensures journal { IfOk result (λ r. IsReady nodes node r) }
         ensures rests { D.tells disk → length (D.areas disk).first.cells < 2 ^ 64 → length (D.areas disk).second.cells < 2 ^ 64 → IfOk result (λ r. IsOpenAtRest D.areas r) }
         ensures table { D.tells disk → (facts : List Fact) → length (D.areas disk).first.cells < 2 ^ 64 → length (D.areas disk).second.cells < 2 ^ 64
             → Holds nodes node (contents (D.areas disk)) facts → IfOk result (λ r. IsOpenWith D.areas facts r) }
         ensures undamaged { D.tells disk → (facts : List Fact) → length (D.areas disk).first.cells < 2 ^ 64 → length (D.areas disk).second.cells < 2 ^ 64
-            → Holds nodes node (contents (D.areas disk)) facts → IfErr result (λ r. IsUndamaged (found_from nodes node Settling (D.areas disk)) r.0) }
+            → Holds nodes node (contents (D.areas disk)) facts → IfErr result (λ r. (r.0 ≡ OutOfMemory) ⊎ (r.0 ≡ Device)) }
         ensures kept { D.tells disk → (facts : List Fact) → length (D.areas disk).first.cells < 2 ^ 64 → length (D.areas disk).second.cells < 2 ^ 64
             → Holds nodes node (contents (D.areas disk)) facts → IsKept (Holds nodes node) facts (D.areas disk) (D.areas (disk_behind result)) }
         ensures fronts { D.tells disk → IfOk result (λ r. IsOtherKnown D.areas r.0) }
@@ -290,7 +290,7 @@ fn make_step<D: Disk>(
     ensures table { D.tells disk → (facts : List Fact) → OpensWith nodes node facts phase (D.areas disk)
         → IfOk result (λ progress. ComesTo D.areas facts progress) }
     ensures undamaged { D.tells disk → (facts : List Fact) → OpensWith nodes node facts phase (D.areas disk)
-        → IfErr result (λ r. IsUndamaged (found_from nodes node (phase_of phase) (D.areas disk)) r.0) }
+        → IfErr result (λ r. (r.0 ≡ OutOfMemory) ⊎ (r.0 ≡ Device)) }
     ensures kept { D.tells disk → (facts : List Fact) → OpensWith nodes node facts phase (D.areas disk)
         → IsKept (Holds nodes node) facts (D.areas disk) (D.areas (disk_after result)) }
     ensures fronts { D.tells disk → KnowsFronts (phase_of phase) fronts (D.areas disk) → IfOk result (λ progress. KnowsOther D.areas progress) }
@@ -418,7 +418,7 @@ fn go_on(
     ensures table { (facts : List Fact) (old new : Areas) → OpensWith nodes node facts phase old → IsReadBy (due_call (phase_of phase)) old read.items
         → new ≡ after_call (due_call (phase_of phase)) old → IfOk result (λ next. GoesOnWith nodes node facts next new) }
     ensures undamaged { (facts : List Fact) (old : Areas) → OpensWith nodes node facts phase old → IsReadBy (due_call (phase_of phase)) old read.items
-        → IfErr result (λ e. IsUndamaged (found_from nodes node (phase_of phase) old) e) }
+        → IfErr result (λ e. e ≡ OutOfMemory) }
 {
     match phase {
         Phase::Settling => Ok(Next::Phase(Phase::ReadingFirst)),
@@ -462,7 +462,7 @@ fn with_areas(
     ensures table { (facts : List Fact) (both : Areas) (rests : Rests nodes node facts both) → first.now ≡ rests.start.of_first → second.now ≡ rests.start.of_second
         → IfOk result (λ next. GoesOnWith nodes node facts next both) }
     ensures undamaged { (facts : List Fact) (both : Areas) (rests : Rests nodes node facts both) → first.now ≡ rests.start.of_first → second.now ≡ rests.start.of_second
-        → IfErr result (λ e. IsUndamaged (found nodes node first.now second.now) e) }
+        → IfErr result (λ e. e ≡ OutOfMemory) }
 {
     match read_image(alloc, nodes, node, first, second) {
         Err(refusal) => Err(refusal),

@@ -9,7 +9,8 @@ ghost use Rattle.rr_frame.specs.SnapshotFormat.{snapshot_bytes, IsLawfulSnapshot
 ghost use Rattle.rr_image.specs.Ends.{found_of};
 ghost use Rattle.rr_image.specs.Image.{Unformatted, Outdated};
 ghost use Rattle.rr_journal.specs.Calls.{frame_bytes, after_call};
-ghost use Rattle.rr_journal.specs.Openings.{Opens, snapshot_with, formatted, migrated, may_migrate, end_by};
+ghost use Rattle.rr_journal.specs.Openings.{Opens, snapshot_with, formatted, end_by};
+ghost use Rattle.rr_image.specs.Migration.{migrated, may_migrate};
 ghost use Rattle.rr_journal.specs.OpeningTable.{IsLeftBy};
 ghost use Rattle.rr_journal.specs.Rewrites.{IsSized, writes_anew, area_anew};
 ghost use Rattle.rr_journal.specs.Stages.{first_stage, call_at, Gave};

@@ -2,13 +2,13 @@
 
 ghost use Rattle.std.specs.Prelude.{◌≡◌, ◌+◌, ◌<◌, ◌≤◌, ◌^◌, false, List, length, IfOk, IfErr, OnOk};
 ghost use Rattle.rr_types.specs.declared.fact.Fact.{Fact};
-ghost use Rattle.rr_types.specs.declared.refusal.Refusal.TheVariants.{OutOfMemory};
+ghost use Rattle.rr_types.specs.declared.refusal.Refusal.TheVariants.{OutOfMemory, Device};
 ghost use Rattle.rr_disk.specs.Areas.{extent_of};
 ghost use Rattle.rr_model.specs.NodeStep.{started};
 ghost use Rattle.rr_journal.specs.CrashedDisks.{MayStand, EachHoldsSome, IsOpenWithOneOf, AddsSameAlone};
 ghost use Rattle.rr_image.specs.Held.{Holds};
 ghost use Rattle.rr_journal.specs.OpenDisks.{IsOpenWith, IsReady, disk_behind};
-ghost use Rattle.rr_journal.specs.OpeningCourse.{found_from, calls_from, EndsBy, IsDone, IsRefused, IsUndamaged, IsAsBefore, IsLeftAlone};
+ghost use Rattle.rr_journal.specs.OpeningCourse.{found_from, calls_from, EndsBy, IsDone, IsRefused, IsAsBefore, IsLeftAlone};
 ghost use Rattle.rr_journal.specs.Openings.{Settling};
 ghost use Rattle.rr_journal.specs.OpeningTable.{contents, IsKept};
 ghost use Rattle.rr_journal.specs.OtherAreas.{IsOtherKnown};
@@ -50,10 +50,10 @@ pub fn recover<D: Disk>(
         → IsLeftAlone (extent_of (D.areas disk) area) (extent_of (D.areas (disk_behind (as_opened result))) area) }
     ensures images { D.tells disk → MayStand (D.areas disk) → AddsSameAlone nodes node (D.areas disk) (D.areas (disk_behind (as_opened result))) }
     ensures some { D.tells disk → MayStand (D.areas disk) → EachHoldsSome (Holds nodes node) (D.areas disk)
-        → IfOk (as_opened result) (λ r. IsOpenWithOneOf D.areas (Holds nodes node) (D.areas disk) r) × IfErr result (λ r. IsUndamaged (found_from nodes node Settling (D.areas disk)) r.0) }
+        → IfOk (as_opened result) (λ r. IsOpenWithOneOf D.areas (Holds nodes node) (D.areas disk) r) × IfErr result (λ r. (r.0 ≡ OutOfMemory) ⊎ (r.0 ≡ Device)) }
     ensures ready { IfOk (as_opened result) (λ r. IsReady nodes node r) }
     ensures table { D.tells disk → (facts : List Fact) → Holds nodes node (contents (D.areas disk)) facts → IfOk (as_opened result) (λ r. IsOpenWith D.areas facts r) }
-    ensures undamaged { D.tells disk → (facts : List Fact) → Holds nodes node (contents (D.areas disk)) facts → IfErr result (λ r. IsUndamaged (found_from nodes node Settling (D.areas disk)) r.0) }
+    ensures undamaged { D.tells disk → (facts : List Fact) → Holds nodes node (contents (D.areas disk)) facts → IfErr result (λ r. (r.0 ≡ OutOfMemory) ⊎ (r.0 ≡ Device)) }
     ensures kept { D.tells disk → (facts : List Fact) → Holds nodes node (contents (D.areas disk)) facts
         → IsKept (Holds nodes node) facts (D.areas disk) (D.areas (disk_behind (as_opened result))) }
     ensures fronts { D.tells disk → IfOk result (λ r. IsOtherKnown D.areas r.1) }

@@ -2,11 +2,12 @@
 
 ghost use Rattle.std.specs.Prelude.{◌≡◌, ◌≤◌, List, IfOk, IfErr};
 ghost use Rattle.rr_types.specs.declared.fact.Fact.{Fact};
+ghost use Rattle.rr_types.specs.declared.refusal.Refusal.TheVariants.{OutOfMemory, Device};
 ghost use Rattle.rr_disk.specs.Counts.{counted};
 ghost use Rattle.rr_journal.specs.CrashedDisks.{MayStand, IsReading, AddsNone};
 ghost use Rattle.rr_image.specs.Held.{Holds};
 ghost use Rattle.rr_journal.specs.Fronts.{KnowsOther};
-ghost use Rattle.rr_journal.specs.OpeningCourse.{found_from, StaysOnCourse, IsRefused, IsUndamaged, IsUntouched};
+ghost use Rattle.rr_journal.specs.OpeningCourse.{found_from, StaysOnCourse, IsRefused, IsUntouched};
 ghost use Rattle.rr_journal.specs.OpeningSteps.{MaySnap};
 ghost use Rattle.rr_journal.specs.OpeningTable.{OpensWith, ComesToAny, ComesTo, IsKept, disk_after};
 ghost use Rattle.rr_journal.specs.Phases.{phase_of};
@@ -49,7 +50,7 @@ impl<D: Disk> Opening<D> {
         ensures table { D.tells self.disk → (facts : List Fact) → OpensWith self.nodes self.node facts self.phase (D.areas self.disk)
             → IfOk (as_step result) (λ progress. ComesTo D.areas facts progress) }
         ensures undamaged { D.tells self.disk → (facts : List Fact) → OpensWith self.nodes self.node facts self.phase (D.areas self.disk)
-            → IfErr result (λ r. IsUndamaged (found_from self.nodes self.node (phase_of self.phase) (D.areas self.disk)) r.0) }
+            → IfErr result (λ r. (r.0 ≡ OutOfMemory) ⊎ (r.0 ≡ Device)) }
         ensures kept { D.tells self.disk → (facts : List Fact) → OpensWith self.nodes self.node facts self.phase (D.areas self.disk)
             → IsKept (Holds self.nodes self.node) facts (D.areas self.disk) (D.areas (disk_after (as_step result))) }
         ensures snapshot { IfOk (as_step result) (λ progress. MaySnap progress) }

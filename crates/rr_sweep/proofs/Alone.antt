@@ -12,7 +12,8 @@ use Rattle.rr_image.specs.Image.{Content, Found, Unformatted, Broken, Active, Ou
 use Rattle.rr_image.specs.Held.{StandsFor}
 use Rattle.rr_journal.specs.Calls.{after_call, must_close, rewrite_calls}
 use Rattle.rr_journal.specs.Openings as phase
-use Rattle.rr_journal.specs.Openings.{After, Goes, Stops, bytes_in, snapshot_with, migrated, may_migrate, migrate_calls, after_found, due_call}
+use Rattle.rr_journal.specs.Openings.{After, Goes, Stops, bytes_in, snapshot_with, migrate_calls, after_found, due_call}
+use Rattle.rr_image.specs.Migration.{migrated, may_migrate}
 use Rattle.rr_journal.specs.OtherAreas.{other_area}
 use Rattle.rr_journal.proofs.OpeningLaws.{read_at_rest}
 use Rattle.rr_node.specs.declared.event.NodeEvent.TheVariants.{Device, Restart}

@@ -1,11 +1,10 @@
-use Rattle.std.proofs.Common.{◌≡◌, ap, sym, subst, ◌∙◌, List, ℕ, Ok}
+use Rattle.std.proofs.Common.{◌≡◌, sym, subst, ◌∙◌, List, ℕ, Ok}
 use Rattle.std.specs.Prelude.{IfErr, IfOk}
-use Rattle.rr_image.specs.Image.{Found, found}
+use Rattle.rr_types.specs.declared.refusal.Refusal.TheVariants.{OutOfMemory}
 use Rattle.rr_journal.specs.declared.opening.Phase.{Phase}
 use Rattle.rr_journal.specs.Openings.{due_call, after_opening_call}
 use Rattle.rr_journal.specs.Calls.{after_call}
 use Rattle.rr_journal.specs.Phases.{phase_of, Follows}
-use Rattle.rr_journal.specs.OpeningCourse.{found_from, IsUndamaged}
 use Rattle.rr_journal.specs.OpeningTable.{IsReadBy, IsResting, Rests, OpensAny, OpensWith, GoesOnAny, GoesOnWith}
 use Rattle.rr_journal.proofs.OpeningLaws.{Leads, resting, still_resting, still_rests, first_bytes, second_bytes}
 use Rattle.rr_journal.proofs.opening.go_on.Goals as goal
@@ -40,12 +39,11 @@ returns-in-ReadingSecond-clause-table c facts old new =
 pub returns-in-ReadingSecond-clause-undamaged : goal.returns-in-ReadingSecond-clause-undamaged
 returns-in-ReadingSecond-clause-undamaged c facts old =
     subst
-    (λ (q : Phase). OpensWith c.args.nodes c.args.node facts q old → IsReadBy (due_call (phase_of q)) old c.args.read.items → IfErr c.with_areas.result (λ e. IsUndamaged (found_from c.args.nodes c.args.node (phase_of q) old) e))
+    (λ (q : Phase). OpensWith c.args.nodes c.args.node facts q old → IsReadBy (due_call (phase_of q)) old c.args.read.items → IfErr c.with_areas.result (λ e. e ≡ OutOfMemory))
     (sym c.in-ReadingSecond.is)
     (λ opens read.
-    subst (λ (f : Found). IfErr c.with_areas.result (λ e. IsUndamaged f e)) (ap (λ (b : List ℕ). found c.args.nodes c.args.node b c.deref-in-ReadingSecond.result.now) c.deref.ensures.value ∙ ap (found c.args.nodes c.args.node c.in-ReadingSecond.first.items) (c.deref-in-ReadingSecond.ensures.value ∙ read))
-    (c.with_areas.ensures.undamaged facts old opens.0 (c.deref.ensures.value ∙ opens.1)
-    (c.deref-in-ReadingSecond.ensures.value ∙ second_bytes old old c.args.read.items (resting c.args.nodes c.args.node facts old opens.0) read)))
+    c.with_areas.ensures.undamaged facts old opens.0 (c.deref.ensures.value ∙ opens.1)
+    (c.deref-in-ReadingSecond.ensures.value ∙ second_bytes old old c.args.read.items (resting c.args.nodes c.args.node facts old opens.0) read))
 
 pub returns-in-Rewriting-clause-exact : goal.returns-in-Rewriting-clause-exact
 returns-in-Rewriting-clause-exact c =

@@ -3,14 +3,15 @@ use Rattle.rr_frame.specs.declared.version.Version.TheVariants.{One, Two}
 use Rattle.rr_frame.specs.Snapshots.{IsSnapshot}
 use Rattle.rr_image.specs.declared.image.Image.{Image}
 use Rattle.rr_image.specs.Ends.{Finds}
-use Rattle.rr_image.specs.Held.{Holds}
-use Rattle.rr_image.specs.Image.{Content, Unformatted, Active, Outdated, found}
+use Rattle.rr_image.specs.Held.{StandsFor, Holds}
+use Rattle.rr_image.specs.Image.{Content, Found, Unformatted, Active, Outdated, found}
 use Rattle.rr_journal.specs.Calls.{must_close}
 use Rattle.rr_journal.specs.Moments.{image_of}
 use Rattle.rr_journal.specs.Openings.{snapshot_with, bytes_in}
 use Rattle.rr_journal.specs.OtherAreas.{other_area}
 use Rattle.rr_journal.specs.Rewrites.{Rewrite, IsRewriting, content_anew}
 use Rattle.rr_journal.proofs.OpeningLaws.{begins_anew, image_is, resting}
+use Rattle.rr_journal.proofs.RewriteLaws.{refused_for_memory}
 use Rattle.rr_journal.proofs.PromisedLaws.{IsPromised, found_promised, promised_snapshot}
 use Rattle.rr_journal.proofs.opening.with_areas.Goals as goal
 
@@ -63,3 +64,12 @@ returns-in_ok-rewrite-in-Ok-Outdated-clause-table c facts both rests one two =
     ∙ ap must_close (c.beside.ensures ∙ ap (λ (b : List ℕ). bytes_in (other_area c.in-Ok-Outdated.area) b c.args.second.now) one ∙ ap (λ (b : List ℕ). bytes_in (other_area c.in-Ok-Outdated.area) rests.start.of_first b) two ∙ beside) in
     subst (λ (r : Rewrite). (on : IsRewriting n p r both) × Holds n p on.start facts) (sym c.in_ok-rewrite-in-Ok-Outdated.ensures.ok.1)
     (begins_anew n p (Outdated c.in-Ok-Outdated.area c.in-Ok-Outdated.content) both (resting n p facts both rests) c.must_close-closes.result closes c.in_ok-rewrite-in-Ok-Outdated.ensures.ok.0 finds c.in_ok-rewrite-in-Ok-Outdated.ensures.lawful, rests.holds)
+
+pub returns-in_err-rewrite-in-Ok-Outdated-clause-undamaged : goal.returns-in_err-rewrite-in-Ok-Outdated-clause-undamaged
+returns-in_err-rewrite-in-Ok-Outdated-clause-undamaged c facts both rests one two =
+    let n = c.args.nodes in
+    let p = c.args.node in
+    let is = subst (λ (x : Image). Finds (Ok x) (found n p c.args.first.now c.args.second.now)) c.in-Ok-Outdated.field-0-is c.in-Ok-Outdated.ensures in
+    let finds : found n p rests.start.of_first rests.start.of_second ≡ Outdated c.in-Ok-Outdated.area c.in-Ok-Outdated.content =
+    ap (λ (b : List ℕ). found n p b rests.start.of_second) (sym one) ∙ ap (λ (b : List ℕ). found n p c.args.first.now b) (sym two) ∙ is in
+    refused_for_memory c.in-Ok-Outdated.content c.in-Ok-Outdated.area facts _ (subst (λ (f : Found). StandsFor f facts) finds rests.holds.stands) c.in_err-rewrite-in-Ok-Outdated.ensures.err

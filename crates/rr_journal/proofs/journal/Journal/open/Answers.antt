@@ -1,9 +1,10 @@
-use Rattle.std.proofs.Common.{◌≡◌, ℕ, ◌+◌, ◌≤◌, List, length, false}
+use Rattle.std.proofs.Common.{◌≡◌, ◌⊎◌, ℕ, ◌+◌, ◌≤◌, List, length, false}
 use Rattle.std.specs.Prelude.{IfOk, IfErr, OnOk}
 use Rattle.rr_types.specs.declared.fact.Fact.{Fact}
+use Rattle.rr_types.specs.declared.refusal.Refusal.TheVariants.{OutOfMemory, Device}
 use Rattle.rr_image.specs.Held.{Holds}
 use Rattle.rr_journal.specs.Openings.{Phase}
-use Rattle.rr_journal.specs.OpeningCourse.{found_from, calls_from, IsUndamaged, IsAsBefore, IsDone}
+use Rattle.rr_journal.specs.OpeningCourse.{found_from, calls_from, IsAsBefore, IsDone}
 use Rattle.rr_journal.specs.OpeningTable.{contents, OpensAny, OpensWith, IsKept}
 use Rattle.rr_journal.specs.OpenDisks.{IsOpenAtRest, IsOpenWith, disk_behind}
 use Rattle.rr_journal.specs.Rewrites.{writes_anew}
@@ -34,7 +35,7 @@ returns-clause-some g c tells few_first few_second stands some =
     (λ (n p : ℕ) (phase : Phase) (d : g.row.D.Denot). g.D.Disk.tells d → (facts : List Fact) → OpensWith n p facts c.start.result.phase (g.D.Disk.areas d) → IfOk c.finish.result (λ r. IsOpenWith {D = g.row.D.Denot} g.D.Disk.areas facts r))
     c.start.result c.args.nodes c.args.node c.args.disk c.start.ensures.whose c.start.ensures.disk c.start.ensures.phase c.finish.ensures.table in
     let undamaged = begun_with {D = g.row.D.Denot}
-    (λ (n p : ℕ) (phase : Phase) (d : g.row.D.Denot). g.D.Disk.tells d → (facts : List Fact) → OpensWith n p facts c.start.result.phase (g.D.Disk.areas d) → IfErr c.finish.result (λ r. IsUndamaged (found_from n p phase (g.D.Disk.areas d)) r.0))
+    (λ (n p : ℕ) (phase : Phase) (d : g.row.D.Denot). g.D.Disk.tells d → (facts : List Fact) → OpensWith n p facts c.start.result.phase (g.D.Disk.areas d) → IfErr c.finish.result (λ r. (r.0 ≡ OutOfMemory) ⊎ (r.0 ≡ Device)))
     c.start.result c.args.nodes c.args.node c.args.disk c.start.ensures.whose c.start.ensures.disk c.start.ensures.phase c.finish.ensures.undamaged in (
       opens_with_one {D = g.row.D.Denot} g.D.Disk.areas c.args.nodes c.args.node (g.D.Disk.areas c.args.disk) c.finish.result stands some
           (λ facts holds. table tells facts (c.start.ensures.table facts few_first few_second holds)),
@@ -51,7 +52,7 @@ returns-clause-rests g c tells few_first few_second =
 pub returns-clause-undamaged : goal.returns-clause-undamaged
 returns-clause-undamaged g c tells facts few_first few_second holds =
     let undamaged = begun_with {D = g.row.D.Denot}
-    (λ (n p : ℕ) (phase : Phase) (d : g.row.D.Denot). g.D.Disk.tells d → (facts : List Fact) → OpensWith n p facts c.start.result.phase (g.D.Disk.areas d) → IfErr c.finish.result (λ r. IsUndamaged (found_from n p phase (g.D.Disk.areas d)) r.0))
+    (λ (n p : ℕ) (phase : Phase) (d : g.row.D.Denot). g.D.Disk.tells d → (facts : List Fact) → OpensWith n p facts c.start.result.phase (g.D.Disk.areas d) → IfErr c.finish.result (λ r. (r.0 ≡ OutOfMemory) ⊎ (r.0 ≡ Device)))
     c.start.result c.args.nodes c.args.node c.args.disk c.start.ensures.whose c.start.ensures.disk c.start.ensures.phase c.finish.ensures.undamaged in
     undamaged tells facts (c.start.ensures.table facts few_first few_second holds)
 

@@ -5,7 +5,7 @@ use Rattle.rr_journal.specs.Phases.{phase_of}
 use Rattle.rr_disk.specs.Counts.{counted}
 use Rattle.rr_image.specs.Image.{Found}
 use Rattle.rr_journal.specs.Openings.{end_by}
-use Rattle.rr_journal.specs.OpeningCourse.{StaysOnCourse, IsUndamaged, IsUntouched}
+use Rattle.rr_journal.specs.OpeningCourse.{StaysOnCourse, IsUntouched}
 use Rattle.rr_frame.specs.Snapshots.{IsSnapshot}
 use Rattle.rr_journal.specs.OpeningSteps.{Steps, MaySnap}
 use Rattle.rr_journal.proofs.CourseLaws.{has_begun, runs_on, still_before, still_beside, last_left, last_from, all_done, refused_at, ends_refused}
@@ -24,9 +24,7 @@ pub returns-in-Err-clause-tells : goal.returns-in-Err-clause-tells
 returns-in-Err-clause-tells g c tells = c.in-Err.ensures.tells (c.loop-refused.invariant.0.still_tells tells)
 
 pub returns-in-Err-clause-undamaged : goal.returns-in-Err-clause-undamaged
-returns-in-Err-clause-undamaged g c tells facts opens =
-    subst (λ (f : Found). IsUndamaged f c.in-Err.refused.0) (c.loop-refused.invariant.1.same_found tells)
-    (c.in-Err.ensures.undamaged (c.loop-refused.invariant.0.still_tells tells) facts (c.loop-refused.invariant.0.opens tells facts opens))
+returns-in-Err-clause-undamaged g c tells facts opens = c.in-Err.ensures.undamaged (c.loop-refused.invariant.0.still_tells tells) facts (c.loop-refused.invariant.0.opens tells facts opens)
 
 pub returns-in-Err-clause-kept : goal.returns-in-Err-clause-kept
 returns-in-Err-clause-kept g c tells facts opens =

@@ -2,7 +2,8 @@ use Rattle.std.proofs.Common.{◌≡◌, ◌+◌, ap, subst, sym, ◌∙◌, ari
 use Rattle.rr_frame.specs.Snapshots.{Snapped}
 use Rattle.rr_image.specs.Image.{Content, Outdated}
 use Rattle.rr_journal.specs.Calls.{frame_bytes}
-use Rattle.rr_journal.specs.Openings.{snapshot_with, migrated, may_migrate}
+use Rattle.rr_journal.specs.Openings.{snapshot_with}
+use Rattle.rr_image.specs.Migration.{migrated, may_migrate}
 use Rattle.rr_journal.specs.Rewrites.{IsSized}
 use Rattle.rr_journal.specs.Stages.{first_stage}
 use Rattle.rr_frame.specs.SnapshotFormat.{snapshot_bytes}
