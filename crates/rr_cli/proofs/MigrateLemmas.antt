@@ -16,7 +16,8 @@ use Rattle.rr_cli.proofs.ShowLemmas.{ShowsSome, err_is}
 pub unopened : {D : Type 0} (faults : D → ℕ) (old new : D) (e : Refusal) → IsRefused faults old (e, new) → IsUnmigrated e
 unopened faults old new e (inl memory) = subst (λ r. IsUnmigrated r) (sym memory) (inr (inr refl))
 unopened faults old new e (inr (inl (device, grew))) = subst (λ r. IsUnmigrated r) (sym device) (inr (inl refl))
-unopened faults old new e (inr (inr (area, offset, damaged))) = subst (λ r. IsUnmigrated r) (sym damaged) (inl refl)
+unopened faults old new e (inr (inr (inl (area, offset, damaged)))) = subst (λ r. IsUnmigrated r) (sym damaged) (inl refl)
+unopened faults old new e (inr (inr (inr large))) = subst (λ r. IsUnmigrated r) (sym large) (inr (inl refl))
 
 -- so is a text on areas
 pub unshown : (e : Refusal) → ShowsSome (Err e) → IsUnmigrated e

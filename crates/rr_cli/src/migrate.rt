@@ -53,7 +53,8 @@ fn show_opened<D: Disk + Drop>(alloc: Global, disk: D) -> Result<Vec<u8>, Refusa
 /// does.
 ///
 /// # Errors
-/// Those of an opening, `OutOfMemory`, `Device`, and `Damaged` of a disk that holds no facts; and those of `show_disk`.
+/// Those of an opening: `OutOfMemory`; `Device`; `Damaged`, of a disk that holds no facts; `TooLarge`, where an area of
+/// version 1 has no next epoch; and those of `show_disk`.
 pub fn migrate_disk<D: Disk + Drop>(
     alloc: Global,
     nodes: Nodes,

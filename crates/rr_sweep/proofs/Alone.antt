@@ -41,6 +41,9 @@ same_refusal e f r one other = cc
 same_outcome : (x y : Outcome) (r : Result Outcome Refusal) → r ≡ Ok x → r ≡ Ok y → x ≡ y
 same_outcome x y r one other = cc
 
+never : (may : Bool) → may ≡ true → may ≡ false → ⊥
+never may yes no = cc
+
 -- what an answer is, of the answer with the seat behind it
 answered : (a b : Answer) → a ≡ b → a.0 ≡ b.0
 answered a b e = ap (λ (x : Answer). x.0) e
@@ -78,14 +81,16 @@ module _ (n p : ℕ) (w : World) (m q k : ℕ) (areas : Areas) where
           goes _ refl (long.0, omega (arith, long.1, some))
       by (Broken area offset) e = absurd (subst (λ (f : Found). StandsFor f (w.kept p ++ take h.doing.1.count (w.staged p))) (sym rests_at ∙ e) h.doing.1.opens.0.holds.stands)
       by (Active area c) e = ends _ _ _ _ refl (record { state = _; journal = _; is = refl })
-      by (Outdated area c) e = migrates area c (may_migrate c) refl
+      by (Outdated area c) e =
+          let stands : StandsFor (Outdated area c) (w.kept p ++ take h.doing.1.count (w.staged p)) = subst (λ (f : Found). StandsFor f (w.kept p ++ take h.doing.1.count (w.staged p))) (sym rests_at ∙ e) h.doing.1.opens.0.holds.stands in
+          migrates area c stands.2 (may_migrate c) refl
         where
-          migrates : (area : Area) (c : Content) (may : Bool) → may_migrate c ≡ may
+          migrates : (area : Area) (c : Content) → may_migrate c ≡ true → (may : Bool) → may_migrate c ≡ may
               → Comes left (opens_on next (if may then Goes (phase.Rewriting (Outdated area c) (migrate_calls m q area c (bytes_in (other_area area) first (read_of 0 (2 ^ 64 - 1) (extent_of areas Second))))) else Stops because.TooLarge))
-          migrates area c true may =
+          migrates area c stands true may =
               let long = rewrite_length (other_area area) (must_close (bytes_in (other_area area) first (read_of 0 (2 ^ 64 - 1) (extent_of areas Second)))) (snapshot_bytes (snapshot_with m q (migrated c))) in
               goes _ refl (long.0, omega (arith, long.1, some))
-          migrates area c false may = ?
+          migrates area c stands false may = absurd (never (may_migrate c) stands may)
 
   comes_by : (left : ℕ) (doing : Doing) → InStep n p (seated m q k areas doing) w → AreLeft (suc left) doing → Comes left (seat_step Device (seated m q k areas doing))
   comes_by left Stopped h some = absurd some
