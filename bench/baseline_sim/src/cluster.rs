@@ -35,6 +35,11 @@ impl Cluster {
         &self.nodes[usize::from(node)]
     }
 
+    /// How many bytes the report has by now.
+    pub fn told(&self) -> usize {
+        self.report.len()
+    }
+
     /// The areas of node 0.
     pub fn areas(&self) -> [Vec<u8>; 2] {
         self.nodes[0].areas()

@@ -435,6 +435,11 @@ impl Core {
         !self.running.is_empty()
     }
 
+    /// The facts of the group that runs.
+    pub fn running(&self) -> &[Fact] {
+        &self.running
+    }
+
     /// That group runs.
     pub fn take_group(&mut self) {
         self.running

@@ -77,7 +77,7 @@ pub fn draw(seed: u64, steps: u32, nodes: u8, starved: u32) -> String {
     text
 }
 
-fn run_line(cluster: &mut Cluster, nodes: u8, line: u32, starved: bool, event: &str) {
+pub fn run_line(cluster: &mut Cluster, nodes: u8, line: u32, starved: bool, event: &str) {
     let text = format!("nodes {nodes}\n{event}");
     let read = Schedule::begin(text.as_bytes()).and_then(|mut schedule| schedule.next());
     match read {

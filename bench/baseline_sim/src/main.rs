@@ -22,6 +22,7 @@ mod disk;
 mod draw;
 mod journal;
 mod judge;
+mod lively;
 mod messages;
 mod mutants;
 mod node;
@@ -122,6 +123,11 @@ fn run(words: &[&str]) -> io::Result<Ending> {
             let (steps, nodes) = (number(steps)? as u32, number(nodes)? as u8);
             printed(draw::draw(number(seed)?, steps, nodes, 0).into_bytes())
         }
+        ["lively", seed, steps, nodes, faults] => {
+            let (steps, nodes) = (number(steps)? as u32, number(nodes)? as u8);
+            let faults = number(faults)? as u32;
+            printed(lively::draw(number(seed)?, steps, nodes, faults).into_bytes())
+        }
         ["mutate", folder, seed, count] => {
             let stock = Stock::of_folder(Path::new(folder))?;
             let out = &mut io::stdout().lock();
@@ -146,7 +152,7 @@ fn run(words: &[&str]) -> io::Result<Ending> {
         }
         _ => failed(
             2,
-            "words: sim [--starve LINE | --long], audit [FILE], show DIR, areas DIR, draw SEED STEPS NODES, sweep SEED, answer, mutate, judge"
+            "words: sim [--starve LINE | --long], audit [FILE], show DIR, areas DIR, draw SEED STEPS NODES, lively SEED STEPS NODES FAULTS, sweep SEED, answer, mutate, judge"
                 .into(),
         ),
     };

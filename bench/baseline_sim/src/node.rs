@@ -7,7 +7,7 @@ use crate::consensus::Core;
 use crate::disk::Disk;
 use crate::journal::{frame_body, read_active, Content, FrameJob, Journal};
 use crate::registry::Registry;
-use crate::types::{Message, Place, Refusal, Reply, RequestNo, AREA_LIMIT};
+use crate::types::{Fact, Message, Place, Refusal, Reply, RequestNo, AREA_LIMIT};
 
 /// How far an opening has come.
 enum Phase {
@@ -51,6 +51,23 @@ pub enum Outcome {
     },
 }
 
+/// What a node waits for.
+#[derive(Clone, Copy, PartialEq, Eq)]
+pub enum Stance {
+    /// A restart: it is down.
+    Down,
+    /// A restart: a device call of it has failed.
+    Failed,
+    /// The next device call of its opening.
+    Opening,
+    /// It is up, and no job runs.
+    Resting,
+    /// It is up, and the next device call of a flush or a switch is due.
+    Calling,
+    /// It is up, and a synced group waits for its mark.
+    Flushed,
+}
+
 pub type Answer = Result<Outcome, Refusal>;
 
 pub struct Node {
@@ -66,6 +83,30 @@ impl Node {
             place,
             doing: Doing::Stopped,
             disk: Disk::default(),
+        }
+    }
+
+    /// What it waits for.
+    pub fn stance(&self) -> Stance {
+        match &self.doing {
+            Doing::Stopped => Stance::Down,
+            Doing::Failed => Stance::Failed,
+            Doing::Opening(_) => Stance::Opening,
+            Doing::Serving(serving) => match &serving.job {
+                Job::Resting => Stance::Resting,
+                Job::Flushing(_) | Job::Switching(_) => Stance::Calling,
+                Job::Flushed => Stance::Flushed,
+            },
+        }
+    }
+
+    /// The facts of its group that is synced and not marked yet.
+    pub fn synced(&self) -> &[Fact] {
+        match &self.doing {
+            Doing::Serving(serving) if matches!(serving.job, Job::Flushed) => {
+                serving.core.running()
+            }
+            _ => &[],
         }
     }
 

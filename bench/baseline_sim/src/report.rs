@@ -68,6 +68,11 @@ impl Report {
         }
     }
 
+    /// How many bytes it has so far.
+    pub fn len(&self) -> usize {
+        self.text.len()
+    }
+
     pub fn into_text(self) -> Vec<u8> {
         self.text
     }

@@ -1,0 +1,128 @@
+//! The account of a run.
+
+ghost use Rattle.std.specs.Prelude.{◌≡◌, ◌≤◌, length};
+
+use crate::outcome::Outcome;
+use crate::reasons::Reason;
+use rr_text::{Event, Report, ReportLine, Schedule};
+use rr_types::{Command, Refusal};
+use std::marker::Model;
+
+/// The account of a run: its schedule, what came of each event in turn, and its report.
+#[derive(Drop)]
+pub struct Account {
+    schedule: Schedule,
+    outcomes: Vec<Outcome>,
+    report: Report,
+}
+
+impl Model for Account {
+    ghost use Rattle.rr_account.specs.Accounts.{Accounted};
+
+    ghost Value = { Accounted };
+
+    ghost view = { λ a.
+        record { schedule = a.schedule; outcomes = a.outcomes.items; report = a.report } };
+}
+
+impl Account {
+    /// The account of these. It keeps them.
+    pub fn new(schedule: Schedule, outcomes: Vec<Outcome>, report: Report) -> Account
+        ensures { result ≡ record { schedule = schedule; outcomes = outcomes.items; report = report } }
+    {
+        Account {
+            schedule,
+            outcomes,
+            report,
+        }
+    }
+
+    /// The schedule.
+    pub fn schedule(&self) -> &Schedule
+        ensures { result.now ≡ self.now.schedule }
+    {
+        &self.schedule
+    }
+
+    /// The events of the schedule.
+    pub fn events(&self) -> &[Event]
+        ensures value { result.now ≡ self.now.schedule.events }
+        ensures short { length result.now ≤ 1000000 }
+    {
+        self.schedule.events()
+    }
+
+    /// What came of each event, in turn.
+    pub fn outcomes(&self) -> &[Outcome]
+        ensures { result.now ≡ self.now.outcomes }
+    {
+        let outcomes = &self.outcomes;
+        outcomes
+    }
+
+    /// The lines of the report.
+    pub fn lines(&self) -> &[ReportLine]
+        ensures { result.now ≡ self.now.report.lines }
+    {
+        self.report.lines()
+    }
+
+    /// The decided commands.
+    pub fn decided(&self) -> &[Command]
+        ensures { result.now ≡ self.now.report.decided }
+    {
+        self.report.decided()
+    }
+
+    /// The report.
+    pub fn report(&self) -> &Report
+        ensures { result.now ≡ self.now.report }
+    {
+        &self.report
+    }
+
+    /// What came of the event of a line of the schedule.
+    pub fn outcome_of(&self, line: u64) -> Outcome {
+        match self.outcomes.get(line.saturating_sub(2) as usize) {
+            Some(outcome) => *outcome,
+            None => Outcome::Quiet,
+        }
+    }
+
+    /// Whether the report has a line of the event of a line of the schedule, and what is said of the event, where so many
+    /// lines of the report stand before.
+    pub(crate) fn happening(&self, line: u64, told: usize) -> (bool, Reason) {
+        match self.outcome_of(line) {
+            Outcome::Quiet => (false, Reason::Done),
+            Outcome::Idle(idle) => (false, Reason::Idle(idle)),
+            Outcome::Told => match self.report.lines().get(told) {
+                Some(line) => (true, Reason::of_line(line)),
+                None => (false, Reason::Told),
+            },
+        }
+    }
+
+    /// The refusal of which the line of the report behind so many tells, where it tells of one.
+    pub(crate) fn refusal(&self, told: usize) -> Option<Refusal> {
+        match self.report.lines().get(told) {
+            Some(ReportLine::Refuse { refusal, .. }) => Some(*refusal),
+            _ => None,
+        }
+    }
+
+    /// The event of which the report has this line, from 1, and the event's line in the schedule.
+    pub fn behind_line(&self, number: u64) -> Option<(u64, &Event)> {
+        let mut told = 0u64;
+        let mut line = 2u64;
+        for event in self.events() {
+            if let Outcome::Told = self.outcome_of(line) {
+                told = told.saturating_add(1);
+                if told == number {
+                    return Some((line, event));
+                }
+            }
+            line = line.saturating_add(1);
+        }
+        None
+    }
+}

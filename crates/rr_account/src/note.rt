@@ -1,0 +1,65 @@
+//! Lines that stand beside a report: notes, and JSON objects.
+
+ghost use Rattle.std.specs.Prelude.{◌≡◌, ◌++◌, ◌∷◌, [], map, codes, ℕ, List, OnOk, IfOk, IfErr};
+ghost use Rattle.rr_account.specs.Texts.{unbroken, note_line, object_line};
+
+use rr_text::text_word::{push_byte, push_bytes};
+use rr_types::Refusal;
+use serde::Serialize;
+use serde_json::to_vec;
+use std::alloc::Global;
+
+// A byte as a line has it: a space for a line feed.
+fn unbroken(byte: u8) -> u8
+    ensures { result ≡ unbroken byte }
+{
+    if byte == b'\n' { b' ' } else { byte }
+}
+
+// Appends bytes, with a space for each line feed.
+fn push_unbroken(text: &mut Vec<u8>, bytes: &[u8]) -> Result<(), Refusal>
+    ensures ok { OnOk result (text.new.items ≡ text.old.items ++ map unbroken bytes.now) }
+    ensures err { IfErr result (λ e. e ≡ Refusal.OutOfMemory) }
+{
+    for byte in bytes {
+        text.push(unbroken(*byte))?;
+    }
+    Ok(())
+}
+
+/// Appends a note, a line that begins with four spaces.
+pub(crate) fn push_note(text: &mut Vec<u8>, words: &[u8]) -> Result<(), Refusal>
+    ensures ok { OnOk result (text.new.items ≡ text.old.items ++ note_line words.now) }
+    ensures err { IfErr result (λ e. e ≡ Refusal.OutOfMemory) }
+{
+    push_bytes(text, b"    ")?;
+    push_unbroken(text, words)?;
+    push_byte(text, b'\n')
+}
+
+// Appends a line.
+fn push_line(text: &mut Vec<u8>, words: &[u8]) -> Result<(), Refusal>
+    ensures ok { OnOk result (text.new.items ≡ text.old.items ++ object_line words.now) }
+    ensures err { IfErr result (λ e. e ≡ Refusal.OutOfMemory) }
+{
+    push_unbroken(text, words)?;
+    push_byte(text, b'\n')
+}
+
+/// Appends a line with the JSON of a value.
+pub(crate) fn push_object<T: Serialize>(
+    alloc: Global,
+    text: &mut Vec<u8>,
+    value: &T,
+) -> Result<(), Refusal>
+    ensures ok { OnOk result ((object : List ℕ) × (text.new.items ≡ text.old.items ++ object_line object)) }
+    ensures err { IfErr result (λ e. e ≡ Refusal.OutOfMemory) }
+{
+    match to_vec(alloc, value) {
+        Ok(object) => {
+            push_line(text, object.as_slice())?;
+            Ok(())
+        }
+        Err(_) => Err(Refusal::OutOfMemory),
+    }
+}

@@ -1,0 +1,169 @@
+//! What came of an event, in plain words.
+
+ghost use Rattle.std.specs.Prelude.{◌≡◌, IfOk, IfErr};
+ghost use Rattle.rr_account.specs.Texts.{IsNoteOn};
+
+use crate::outcome::Idle;
+use rr_sim::node_of;
+use rr_text::text_schedule::push_event;
+use rr_text::text_word::{push_bytes, push_number};
+use rr_text::{Event, ReportLine};
+use rr_types::Refusal;
+use std::alloc::Global;
+use std::io;
+use std::io::Write;
+
+/// What is said of an event.
+#[derive(Clone, Copy)]
+pub(crate) enum Reason {
+    /// The report has a line of it.
+    Told,
+    /// It was done, and the report has no line of it.
+    Done,
+    /// It was refused.
+    Refused(Refusal),
+    /// It came to nothing.
+    Idle(Idle),
+}
+
+impl Reason {
+    /// What is said of the event of a line of a report.
+    pub(crate) fn of_line(line: &ReportLine) -> Reason {
+        match line {
+            ReportLine::Refuse { refusal, .. } => Reason::Refused(*refusal),
+            _ => Reason::Told,
+        }
+    }
+
+    /// Whether it came to nothing.
+    pub(crate) fn is_idle(&self) -> bool {
+        matches!(self, Reason::Idle(_))
+    }
+}
+
+/// The note on the event of a line: its line, its text, and what it did or why it was refused or came to nothing.
+pub(crate) fn note_of(
+    alloc: Global,
+    line: u64,
+    event: &Event,
+    reason: Reason,
+) -> Result<Vec<u8>, Refusal>
+    ensures ok { IfOk result (λ note. IsNoteOn line event.now note.items) }
+    ensures err { IfErr result (λ e. e ≡ Refusal.OutOfMemory) }
+{
+    let mut note = Vec::new(alloc);
+    push_bytes(&mut note, b"line ")?;
+    push_number(&mut note, line)?;
+    push_bytes(&mut note, b": ")?;
+    push_event(&mut note, event)?;
+    let tail = tail_of(alloc, event, reason)?;
+    push_bytes(&mut note, tail.as_slice())?;
+    Ok(note)
+}
+
+// What a note has behind the text of an event: a colon, a space and the words, where there are any.
+fn tail_of(alloc: Global, event: &Event, reason: Reason) -> Result<Vec<u8>, Refusal>
+    ensures { IfErr result (λ e. e ≡ Refusal.OutOfMemory) }
+{
+    let mut tail = Vec::new(alloc);
+    if let Some(words) = reason_text(alloc, event, reason)? {
+        push_bytes(&mut tail, b": ")?;
+        push_bytes(&mut tail, words.as_slice())?;
+    }
+    Ok(tail)
+}
+
+/// What an event did, or why it was refused or came to nothing. Of one that was done, the line of the report tells it.
+pub(crate) fn reason_text(
+    alloc: Global,
+    event: &Event,
+    reason: Reason,
+) -> Result<Option<Vec<u8>>, Refusal>
+    ensures { IfErr result (λ e. e ≡ Refusal.OutOfMemory) }
+{
+    let mut text = Vec::new(alloc);
+    let reasoned = match reason {
+        Reason::Told => return Ok(None),
+        Reason::Done => push_done(&mut text, event),
+        Reason::Refused(refusal) => push_refused(&mut text, event, refusal),
+        Reason::Idle(idle) => push_idle(&mut text, event, idle),
+    };
+    match reasoned {
+        Ok(()) => Ok(Some(text)),
+        Err(_) => Err(Refusal::OutOfMemory),
+    }
+}
+
+// Appends what an event did.
+fn push_done(text: &mut Vec<u8>, event: &Event) -> io::Result<()> {
+    let node = node_of(event).index();
+    match event {
+        Event::Submit { .. } => write!(text, "node {node} takes the request"),
+        Event::Hear { .. } => write!(text, "node {node} hears it"),
+        Event::Suspect { .. } => write!(text, "the suspects of node {node} are these now"),
+        Event::Tick { .. } => write!(text, "the detector of node {node} ticks"),
+        Event::Advance { .. } => write!(
+            text,
+            "the lowest open instance of node {node} that has a round, if any, enters the next"
+        ),
+        Event::Take { .. } => write!(text, "node {node} begins to flush its staged facts"),
+        Event::Device { .. } => write!(text, "node {node} makes its next device call"),
+        Event::Mark { .. } => write!(text, "the synced group of node {node} is marked"),
+        Event::Snap { .. } => write!(text, "node {node} begins to switch to a snapshot"),
+        Event::Crash { .. } => write!(text, "node {node} is down"),
+        Event::Restart { .. } => write!(text, "node {node} begins to open its disk"),
+        Event::Fail { .. } | Event::Send { .. } | Event::Ack { .. } => write!(text, "done"),
+    }
+}
+
+// Appends why an event was refused.
+fn push_refused(text: &mut Vec<u8>, event: &Event, refusal: Refusal) -> io::Result<()> {
+    let node = node_of(event).index();
+    match (refusal, event) {
+        (Refusal::Down, _) => write!(text, "node {node} is down or opens its disk"),
+        (Refusal::Failed, _) => write!(
+            text,
+            "a device call of node {node} has failed, and it waits for a restart"
+        ),
+        (Refusal::Busy, Event::Restart { .. }) => {
+            write!(text, "node {node} is up or opens its disk already")
+        }
+        (Refusal::Busy, _) => write!(text, "a flush or a switch of node {node} isn't over"),
+        (Refusal::Device, _) => write!(text, "the device call failed, and so has node {node}"),
+        (Refusal::Damaged { area, offset }, _) => {
+            write!(
+                text,
+                "area {area} of node {node} is damaged at byte {offset}"
+            )
+        }
+        (Refusal::OutOfMemory, _) => write!(text, "memory was wanting"),
+        (Refusal::ListFull, _) => write!(text, "node {node} has decided all instances"),
+        (Refusal::RoundsOut, _) => write!(text, "the instance is in its last round"),
+        (Refusal::TooLarge, _) => write!(
+            text,
+            "the area, the epoch or the facts' numbers would pass their limit"
+        ),
+        (other, _) => write!(text, "{other}"),
+    }
+}
+
+// Appends why an event came to nothing.
+fn push_idle(text: &mut Vec<u8>, event: &Event, idle: Idle) -> io::Result<()> {
+    let node = node_of(event).index();
+    match idle {
+        Idle::NoMessage(message, sent) => {
+            write!(
+                text,
+                "message {message} isn't on the wire, {sent} were sent"
+            )
+        }
+        Idle::OtherAddressee(message, to) => write!(text, "message {message} is for node {to}"),
+        Idle::NothingStaged => write!(text, "node {node} has no fact to flush"),
+        Idle::NoCallDue => write!(text, "no device call of node {node} is due"),
+        Idle::NothingSynced => write!(text, "node {node} has no synced group to mark"),
+        Idle::NothingToSend => write!(text, "no message of node {node} may leave"),
+        Idle::NothingToAcknowledge => {
+            write!(text, "no request that waits at node {node} is decided")
+        }
+    }
+}

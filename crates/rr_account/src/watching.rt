@@ -1,0 +1,102 @@
+//! A run that is watched: what comes of each event.
+
+ghost use Rattle.std.specs.Prelude.{◌≡◌, IfOk, IfErr};
+ghost use Rattle.rr_text.specs.Lines.{IsFault};
+ghost use Rattle.rr_text.specs.Scheduled.{IsEvent};
+ghost use Rattle.rr_text.specs.ScheduleTexts.{event_line};
+ghost use Rattle.rr_account.specs.Accounts.{IsAccountOn, IsReportOf};
+
+use crate::account::Account;
+use crate::outcome::{Idle, Outcome};
+use rr_sim::{Cluster, Stance, node_of, simulate};
+use rr_text::{Event, Schedule};
+use rr_types::Refusal;
+use std::alloc::Global;
+
+/// The account of the run of the schedule whose text the bytes are.
+///
+/// # Errors
+/// `BadNodes` and `BadEvent` for bytes that are no schedule, as of `Schedule::parse`; `OutOfMemory`.
+pub fn account_on(alloc: Global, bytes: &[u8]) -> Result<Account, Refusal>
+    ensures ok { IfOk result (λ account. IsAccountOn bytes.now account) }
+    ensures fault { IfErr result (λ e. IsFault IsEvent event_line bytes.now e) }
+{
+    match Schedule::parse(alloc, bytes) {
+        Ok(schedule) => {
+            let account = watch(alloc, schedule)?;
+            Ok(account)
+        }
+        Err(refusal) => Err(refusal),
+    }
+}
+
+/// The account of the run of a schedule. It is run twice: for its report, and to see what comes of each event.
+///
+/// # Errors
+/// `OutOfMemory`.
+pub fn watch(alloc: Global, schedule: Schedule) -> Result<Account, Refusal>
+    ensures schedule { IfOk result (λ account. account.schedule ≡ schedule) }
+    ensures run { IfOk result (λ account. IsReportOf schedule account.report) }
+    ensures err { IfErr result (λ e. e ≡ Refusal.OutOfMemory) }
+{
+    let nodes = schedule.nodes().count();
+    let report = simulate(alloc, nodes, &schedule)?;
+    let outcomes = outcomes_of(alloc, &schedule)?;
+    Ok(Account::new(schedule, outcomes, report))
+}
+
+// What comes of each event of a schedule, in turn.
+fn outcomes_of(alloc: Global, schedule: &Schedule) -> Result<Vec<Outcome>, Refusal>
+    ensures { IfErr result (λ e. e ≡ Refusal.OutOfMemory) }
+{
+    let mut cluster = Cluster::new(alloc, schedule.nodes())?;
+    let mut told = Vec::new(alloc);
+    let mut outcomes = Vec::new(alloc);
+    let mut line = 2u64;
+    for event in schedule.events() {
+        let before = stance_at(&cluster, event);
+        cluster.step(alloc, line, event)?;
+        told.clear();
+        cluster.tell(&mut told)?;
+        let outcome = if told.is_empty() {
+            untold_outcome(&cluster, event, before)
+        } else {
+            Outcome::Told
+        };
+        outcomes.push(outcome)?;
+        line = line.saturating_add(1);
+    }
+    Ok(outcomes)
+}
+
+// What the node of an event waits for.
+fn stance_at(cluster: &Cluster, event: &Event) -> Option<Stance> {
+    match cluster.node(node_of(event)) {
+        Some(node) => Some(node.stance()),
+        None => None,
+    }
+}
+
+// What has come of an event of which the report has no line, by what its node waited for before it.
+fn untold_outcome(cluster: &Cluster, event: &Event, before: Option<Stance>) -> Outcome {
+    match event {
+        Event::Hear { node, message } => match cluster.wire().get(*message as usize) {
+            None => Outcome::Idle(Idle::NoMessage(*message, cluster.wire().len() as u64)),
+            Some(sent) if sent.to == *node => Outcome::Quiet,
+            Some(sent) => Outcome::Idle(Idle::OtherAddressee(*message, sent.to.index())),
+        },
+        Event::Take { .. } if stance_at(cluster, event) == Some(Stance::Resting) => {
+            Outcome::Idle(Idle::NothingStaged)
+        }
+        Event::Device { .. } if matches!(before, Some(Stance::Resting | Stance::Flushed)) => {
+            Outcome::Idle(Idle::NoCallDue)
+        }
+        Event::Mark { .. } if before != Some(Stance::Flushed) => {
+            Outcome::Idle(Idle::NothingSynced)
+        }
+        Event::Send { .. } => Outcome::Idle(Idle::NothingToSend),
+        Event::Ack { .. } => Outcome::Idle(Idle::NothingToAcknowledge),
+        Event::Fail { .. } => Outcome::Idle(Idle::NoCallDue),
+        _ => Outcome::Quiet,
+    }
+}

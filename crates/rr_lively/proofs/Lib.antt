@@ -1,0 +1,2 @@
+mod IdleLaws
+mod LivelyLaws

@@ -1,0 +1,169 @@
+//! What a node that is up does next.
+
+ghost use Rattle.std.specs.Prelude.{◌≡◌, IfErr};
+
+use crate::drawing::Drawing;
+use crate::memory::Memory;
+use crate::stances::{Kind, node_at, stance_of};
+use rr_sim::{Cluster, Stance};
+use rr_text::Event;
+use rr_types::{Body, NodeId, NodeSet, Refusal};
+
+/// How many requests may be undecided before clients ask for no more.
+const UNDECIDED: u64 = 16;
+
+/// What a node may do.
+#[derive(Clone, Copy)]
+enum Choice {
+    Hear,
+    Send,
+    Call,
+    Mark,
+    Ack,
+    Take,
+    Submit,
+    Trust,
+}
+
+/// A weight, or none where the choice isn't there.
+fn weight(may: bool, weight: u32) -> u32 {
+    if may { weight } else { 0 }
+}
+
+/// The choice that a word falls on, by the weights; none where there is no weight.
+fn chosen(choices: &[(Choice, u32); 8], word: u32) -> Option<Choice> {
+    let mut sum = 0u32;
+    for (_, weight) in choices {
+        sum = sum.saturating_add(*weight);
+    }
+    if sum == 0 {
+        return None;
+    }
+    let mut left = word % sum;
+    for (choice, weight) in choices {
+        if left < *weight {
+            return Some(*choice);
+        }
+        left -= *weight;
+    }
+    None
+}
+
+impl Drawing {
+    /// What a node that is up does next, by weights, if there is something.
+    pub(crate) fn choose(
+        &mut self,
+        cluster: &Cluster,
+        node: NodeId,
+        stance: Stance,
+        word: u32,
+    ) -> Result<Option<Event>, Refusal>
+        ensures { IfErr result (λ e. e ≡ Refusal.OutOfMemory) }
+    {
+        let takes = word / 256 % 256 == 0 || !self.is_busy(cluster);
+        let choices = match self.memories.get(usize::from(node.index())) {
+            Some(memory) => self.choices(memory, stance, takes),
+            None => return Ok(None),
+        };
+        match chosen(&choices, word) {
+            Some(choice) => self.event_of(cluster, node, choice, word / 256),
+            None => Ok(None),
+        }
+    }
+
+    /// What a node may do, with the weights.
+    fn choices(&self, memory: &Memory, stance: Stance, takes: bool) -> [(Choice, u32); 8] {
+        let allowed = self
+            .prefix
+            .saturating_add(self.lost)
+            .saturating_add(UNDECIDED);
+        let may_take = takes && stance == Stance::Resting && memory.may_take;
+        [
+            (Choice::Hear, weight(memory.may_hear(), 32)),
+            (Choice::Send, weight(memory.may_send, 32)),
+            (Choice::Call, weight(stance == Stance::Calling, 32)),
+            (Choice::Mark, weight(stance == Stance::Flushed, 32)),
+            (Choice::Ack, weight(memory.may_ack, 16)),
+            (Choice::Take, weight(may_take, 4)),
+            (Choice::Submit, weight(self.requests < allowed, 16)),
+            (Choice::Trust, weight(memory.suspects, 8)),
+        ]
+    }
+
+    /// Whether some node that is up has something to hear or maybe to send.
+    fn is_busy(&self, cluster: &Cluster) -> bool {
+        let mut number = 0u32;
+        for memory in &self.memories {
+            let stance = stance_of(cluster, node_at(self.nodes, number));
+            if Kind::Up.has(stance) && (memory.may_send || memory.may_hear()) {
+                return true;
+            }
+            number = number.saturating_add(1);
+        }
+        false
+    }
+
+    /// The event of a choice.
+    fn event_of(
+        &mut self,
+        cluster: &Cluster,
+        node: NodeId,
+        choice: Choice,
+        detail: u32,
+    ) -> Result<Option<Event>, Refusal>
+        ensures { IfErr result (λ e. e ≡ Refusal.OutOfMemory) }
+    {
+        match choice {
+            Choice::Hear => self.hear(cluster, node, detail),
+            Choice::Send => Ok(Some(Event::Send { node })),
+            Choice::Call => Ok(Some(Event::Device { node })),
+            Choice::Mark => {
+                self.mark(cluster, node)?;
+                Ok(Some(Event::Mark { node }))
+            }
+            Choice::Ack => Ok(Some(Event::Ack { node })),
+            Choice::Take => Ok(Some(Event::Take { node })),
+            Choice::Submit => Ok(Some(self.submit(node, detail))),
+            Choice::Trust => Ok(Some(self.trust(node))),
+        }
+    }
+
+    /// A node hears a message.
+    fn hear(
+        &mut self,
+        cluster: &Cluster,
+        node: NodeId,
+        detail: u32,
+    ) -> Result<Option<Event>, Refusal>
+        ensures { IfErr result (λ e. e ≡ Refusal.OutOfMemory) }
+    {
+        let Some(memory) = self.memories.get_mut(usize::from(node.index())) else {
+            return Ok(None);
+        };
+        let Some(number) = memory.next_heard(detail)? else {
+            return Ok(None);
+        };
+        memory.may_take = true;
+        if let Some(message) = cluster.wire().get(number as usize) {
+            if matches!(message.body, Body::Ask(_) | Body::Estimate(_, _)) {
+                memory.may_send = true;
+            }
+        }
+        Ok(Some(Event::Hear {
+            node,
+            message: number,
+        }))
+    }
+
+    /// A node suspects nobody any more.
+    fn trust(&mut self, node: NodeId) -> Event {
+        if let Some(memory) = self.memories.get_mut(usize::from(node.index())) {
+            memory.stir();
+            memory.suspects = false;
+        }
+        Event::Suspect {
+            node,
+            set: NodeSet::empty(),
+        }
+    }
+}

@@ -1,0 +1,134 @@
+//! A lively schedule told as text, with the report of its run.
+
+ghost use Rattle.std.specs.Prelude.{◌≡◌, ◌≤◌, ◌+◌, ◌*◌, false, Ok, OnOk, IfOk, IfErr};
+ghost use Rattle.rr_lively.specs.Lively.{IsSoFar, IsLively};
+
+use crate::drawing::Drawing;
+use crate::run::Run;
+use crate::stances::node_at;
+use rand_core::SeedableRng;
+use rand_core::utils::NextWord;
+use rand_pcg::Pcg32;
+use rr_text::Event;
+use rr_types::{NodeId, Nodes, Refusal};
+use std::alloc::Global;
+
+/// How many steps in a thousand have a fault where nothing else is asked for.
+pub const DEFAULT_FAULTS: u32 = 10;
+
+/// The device calls of an opening that formats its disk.
+const CALLS_OF_AN_OPENING: u32 = 9;
+
+/// How often a step may draw: of each of seven nodes three events that would change nothing, and one that does.
+const DRAWS: u32 = 22;
+
+/// Each node opens its disk.
+fn open_all(alloc: Global, nodes: Nodes, run: &mut Run) -> Result<(), Refusal>
+    requires so_far { IsSoFar nodes run.old.line run.old.cluster run.old.schedule.items run.old.report.items }
+    requires line { run.old.line ≡ 2 }
+    requires few { nodes ≤ 7 }
+    ensures so_far { OnOk result (IsSoFar nodes run.new.line run.new.cluster run.new.schedule.items run.new.report.items) }
+    ensures line { OnOk result (run.new.line ≤ 2 + 10 * nodes) }
+    ensures err { IfErr result (λ e. e ≡ Refusal.OutOfMemory) }
+{
+    for index in 0..nodes.count() {
+        open(alloc, nodes, node_at(nodes, u32::from(index)), run)?;
+    }
+    Ok(())
+}
+
+/// A node opens its disk.
+fn open(alloc: Global, nodes: Nodes, node: NodeId, run: &mut Run) -> Result<(), Refusal>
+    requires so_far { IsSoFar nodes run.old.line run.old.cluster run.old.schedule.items run.old.report.items }
+    requires line { run.old.line ≤ 100 }
+    ensures so_far { OnOk result (IsSoFar nodes run.new.line run.new.cluster run.new.schedule.items run.new.report.items) }
+    ensures line { OnOk result (run.new.line ≤ run.old.line + 10) }
+    ensures err { IfErr result (λ e. e ≡ Refusal.OutOfMemory) }
+{
+    run.happen(alloc, nodes, &Event::Restart { node })?;
+    for _call in 0..CALLS_OF_AN_OPENING {
+        run.happen(alloc, nodes, &Event::Device { node })?;
+    }
+    Ok(())
+}
+
+/// An event happens, and the drawing learns what came of it. Says whether it stands in the schedule.
+fn make(
+    alloc: Global,
+    nodes: Nodes,
+    event: &Event,
+    drawing: &mut Drawing,
+    run: &mut Run,
+) -> Result<bool, Refusal>
+    requires so_far { IsSoFar nodes run.old.line run.old.cluster run.old.schedule.items run.old.report.items }
+    requires line { run.old.line ≤ 1000001 }
+    ensures so_far { OnOk result (IsSoFar nodes run.new.line run.new.cluster run.new.schedule.items run.new.report.items) }
+    ensures line { OnOk result (run.new.line ≤ run.old.line + 1) }
+    ensures none { result ≡ Ok false → run.new.line ≡ run.old.line }
+    ensures err { IfErr result (λ e. e ≡ Refusal.OutOfMemory) }
+{
+    let is_kept = run.happen(alloc, nodes, event)?;
+    drawing.learn(run.cluster(), event, is_kept)?;
+    Ok(is_kept)
+}
+
+/// A step: by chance an event with a fault, or else one without. An event that changes nothing is drawn again.
+fn go_on(
+    alloc: Global,
+    nodes: Nodes,
+    faults: u32,
+    words: (u32, u32),
+    drawing: &mut Drawing,
+    run: &mut Run,
+) -> Result<(), Refusal>
+    requires so_far { IsSoFar nodes run.old.line run.old.cluster run.old.schedule.items run.old.report.items }
+    requires line { run.old.line ≤ 1000001 }
+    ensures so_far { OnOk result (IsSoFar nodes run.new.line run.new.cluster run.new.schedule.items run.new.report.items) }
+    ensures line { OnOk result (run.new.line ≤ run.old.line + 1) }
+    ensures err { IfErr result (λ e. e ≡ Refusal.OutOfMemory) }
+{
+    let (first, second) = words;
+    let from = node_at(nodes, first / 1000);
+    if first % 1000 < faults {
+        if let Some(event) = drawing.fault(alloc, run.cluster(), from, second)? {
+            make(alloc, nodes, &event, drawing, run)?;
+            return Ok(());
+        }
+    }
+    for _draw in 0..DRAWS {
+        let event = drawing.plan(run.cluster(), from, second)?;
+        if make(alloc, nodes, &event, drawing, run)? {
+            return Ok(());
+        }
+    }
+    Ok(())
+}
+
+/// The text of a lively schedule, a line `report`, and the text of the report of its run. Behind the openings of the
+/// nodes each of the steps draws an event among those that do something at that moment; `faults` in a thousand draw a
+/// crash within a device call, a failing call, a suspicion or the like. The same words give the same text.
+///
+/// # Errors
+/// `OutOfMemory`, also where memory is wanting for an event of the run.
+pub fn lively_run(
+    alloc: Global,
+    nodes: Nodes,
+    seed: u64,
+    steps: u32,
+    faults: u32,
+) -> Result<Vec<u8>, Refusal>
+    requires { steps ≤ 999930 }
+    ensures ok { IfOk result (λ text. IsLively nodes steps text.items) }
+    ensures err { IfErr result (λ e. e ≡ Refusal.OutOfMemory) }
+{
+    let mut run = Run::new(alloc, nodes)?;
+    open_all(alloc, nodes, &mut run)?;
+    let mut drawing = Drawing::new(alloc, nodes)?;
+    let mut generator = Pcg32::seed_from_u64(seed);
+    for _step in 0..steps {
+        let words = (generator.next_word(), generator.next_word());
+        go_on(alloc, nodes, faults, words, &mut drawing, &mut run)?;
+    }
+    let text = run.into_text(alloc, nodes)?;
+    Ok(text)
+}

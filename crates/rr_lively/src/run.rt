@@ -1,0 +1,181 @@
+//! A schedule as it is drawn, with its run: each event is made and told before the next is drawn.
+
+ghost use Rattle.std.specs.Prelude.{◌≡◌, ◌≤◌, ◌+◌, ◌<◌, false, IsTrue, Ok, OnOk, IfOk, IfErr};
+ghost use Rattle.rr_text.specs.Scheduled.{IsEvent};
+ghost use Rattle.rr_text.specs.Words.{IsCommand, IsFill};
+ghost use Rattle.rr_lively.specs.Lively.{IsSoFar, MayStay, IsLivelyRun};
+
+use rr_sim::{Cluster, Stance, decided_list, node_of};
+use rr_text::text_report::push_decided_list;
+use rr_text::text_schedule::{push_event_line, push_nodes_line};
+use rr_text::{Event, Fill};
+use rr_types::{Command, Nodes, Op, Refusal};
+use std::alloc::Global;
+
+/// The nodes behind the events so far, the line of the next event, and the texts of the schedule and of its report.
+#[derive(Drop)]
+pub(crate) struct Run {
+    cluster: Cluster,
+    line: u64,
+    schedule: Vec<u8>,
+    report: Vec<u8>,
+}
+
+/// Whether a command has a name, and a value that isn't too long.
+fn is_command(command: &Command) -> bool
+    ensures { IsTrue result → IsCommand command.now }
+{
+    let _request = command.request;
+    match &command.op {
+        Op::Claim(name, value) | Op::Update(name, value) => {
+            !name.as_bytes().is_empty() && value.as_bytes().len() <= 64
+        }
+        Op::Release(name) => !name.as_bytes().is_empty(),
+        Op::Transfer(name, owner) => {
+            let _owner = *owner;
+            !name.as_bytes().is_empty()
+        }
+    }
+}
+
+/// Whether a fill has one byte, as each that is drawn.
+fn has_one_byte(fill: &Fill) -> bool
+    ensures { IsTrue result → IsFill fill.now }
+{
+    match fill.as_bytes() {
+        [byte] => {
+            let _byte = *byte;
+            true
+        }
+        _ => false,
+    }
+}
+
+/// Whether an event is at one of so many nodes, and suspects none beside them. What is read here is in its range.
+fn is_event(nodes: Nodes, event: &Event) -> bool
+    ensures { IsTrue result → IsEvent nodes event.now }
+{
+    if node_of(event).index() >= nodes.count() {
+        return false;
+    }
+    match event {
+        Event::Suspect { set, .. } => u32::from(set.bits()) < 1 << nodes.count(),
+        Event::Submit { command, .. } => is_command(command),
+        Event::Hear { message, .. } => {
+            let _message = *message;
+            true
+        }
+        Event::Fail { fill, .. } => has_one_byte(fill),
+        Event::Crash {
+            cut_0,
+            cut_1,
+            fill,
+            ..
+        } => {
+            let _cuts = (*cut_0, *cut_1);
+            has_one_byte(fill)
+        }
+        Event::Tick { .. }
+        | Event::Advance { .. }
+        | Event::Take { .. }
+        | Event::Device { .. }
+        | Event::Mark { .. }
+        | Event::Send { .. }
+        | Event::Ack { .. }
+        | Event::Snap { .. }
+        | Event::Restart { .. } => true,
+    }
+}
+
+/// Whether an event of which nothing was told has left everything as it was.
+fn may_stay(cluster: &Cluster, event: &Event) -> bool
+    ensures { IsTrue result → MayStay cluster.now event.now }
+{
+    match event {
+        Event::Send { .. } | Event::Ack { .. } => true,
+        Event::Take { node } => match cluster.node(*node) {
+            Some(seat) => seat.stance() == Stance::Resting,
+            None => false,
+        },
+        _ => false,
+    }
+}
+
+impl Run {
+    /// So many nodes, all down, over empty disks.
+    pub(crate) fn new(alloc: Global, nodes: Nodes) -> Result<Run, Refusal>
+        ensures so_far { IfOk result (λ run. IsSoFar nodes run.line run.cluster run.schedule.items run.report.items) }
+        ensures line { IfOk result (λ run. run.line ≡ 2) }
+        ensures err { IfErr result (λ e. e ≡ Refusal.OutOfMemory) }
+    {
+        let mut schedule = Vec::new(alloc);
+        push_nodes_line(&mut schedule, nodes)?;
+        Ok(Run {
+            cluster: Cluster::new(alloc, nodes)?,
+            line: 2,
+            schedule,
+            report: Vec::new(alloc),
+        })
+    }
+
+    /// The nodes behind the events so far.
+    pub(crate) fn cluster(&self) -> &Cluster {
+        &self.cluster
+    }
+
+    /// An event happens. It stands in the schedule unless it is none, or changes nothing; says whether it does.
+    ///
+    /// # Errors
+    /// `OutOfMemory`.
+    pub(crate) fn happen(
+        &mut self,
+        alloc: Global,
+        nodes: Nodes,
+        event: &Event,
+    ) -> Result<bool, Refusal>
+        requires so_far { IsSoFar nodes self.old.line self.old.cluster self.old.schedule.items self.old.report.items }
+        requires line { self.old.line < 1000002 }
+        ensures so_far { OnOk result (IsSoFar nodes self.new.line self.new.cluster self.new.schedule.items self.new.report.items) }
+        ensures line { OnOk result (self.new.line ≤ self.old.line + 1) }
+        ensures none { result ≡ Ok false → self.new.line ≡ self.old.line }
+        ensures err { IfErr result (λ e. e ≡ Refusal.OutOfMemory) }
+    {
+        if !is_event(nodes, event) {
+            return Ok(false);
+        }
+        let told = self.report.len();
+        self.cluster.step_in_memory(alloc, self.line, event)?;
+        self.cluster.tell(&mut self.report)?;
+        if self.report.len() == told && may_stay(&self.cluster, event) {
+            return Ok(false);
+        }
+        push_event_line(&mut self.schedule, event)?;
+        self.line += 1;
+        Ok(true)
+    }
+
+    /// The text of the schedule, a line `report`, and the text of the report of its run.
+    ///
+    /// # Errors
+    /// `OutOfMemory`.
+    pub(crate) fn into_text(self, alloc: Global, nodes: Nodes) -> Result<Vec<u8>, Refusal>
+        requires so_far { IsSoFar nodes self.line self.cluster self.schedule.items self.report.items }
+        requires line { self.line ≤ 1000002 }
+        requires some { 1 ≤ nodes }
+        requires few { nodes ≤ 7 }
+        ensures ok { IfOk result (λ text. IsLivelyRun nodes self.line text.items) }
+        ensures err { IfErr result (λ e. e ≡ Refusal.OutOfMemory) }
+    {
+        let Run {
+            cluster,
+            line: _,
+            mut schedule,
+            mut report,
+        } = self;
+        let decided = decided_list(alloc, nodes, cluster.wire())?;
+        push_decided_list(&mut report, decided.as_slice())?;
+        schedule.extend_from_slice(b"report\n")?;
+        schedule.extend_from_slice(report.as_slice())?;
+        Ok(schedule)
+    }
+}
