@@ -6,6 +6,7 @@ use Rattle.rr_text.specs.Scheduled.{Scheduled}
 use Rattle.rr_text.specs.ScheduleTexts.{schedule_text}
 use Rattle.rr_sim.specs.Random.{IsRandom}
 use Rattle.rr_sim.specs.Told.{IsRandomRun}
+use Rattle.rr_lively.specs.Lively.{IsLively, IsLivelySchedule}
 use Rattle.rr_words.specs.Tasks.{DrawWords}
 
 -- the text writes this number, which lies in the range; a plus may stand before it
@@ -17,11 +18,23 @@ abbrev pub IsNumberOf : ℕ → ℕ → Option Text → ℕ → Type 0
 IsNumberOf least most None n = ⊥
 IsNumberOf least most (Some word) n = IsNumberIn least most word n
 
--- the words write a seed, a number of steps and a number of nodes
-abbrev pub AreNumbers : DrawWords → ℕ → ℕ → ℕ → Type 0
-AreNumbers words seed steps nodes = IsNumberOf 0 (2 ^ 64 - 1) words.seed seed × IsNumberOf 0 999930 words.steps steps × IsNumberOf 1 7 words.nodes nodes
+-- how many steps in a thousand of a lively schedule have a fault, by the word for them: 10 where there is none; a schedule that
+-- isn't lively has no such number and no such word
+abbrev pub AreFaults : Bool → Option Text → Option ℕ → Type 0
+AreFaults false None faults = faults ≡ None
+AreFaults false (Some word) faults = ⊥
+AreFaults true None faults = faults ≡ Some 10
+AreFaults true (Some word) None = ⊥
+AreFaults true (Some word) (Some faults) = IsNumberIn 0 1000 word faults
 
--- the text is that of a random schedule: alone, or with a line `report` and the report of its run
-abbrev pub IsDrawnText : Bool → ℕ → ℕ → ℕ → List ℕ → Type 0
-IsDrawnText true n seed steps text = (schedule : Scheduled) × IsRandom n seed steps schedule × (text ≡ schedule_text schedule)
-IsDrawnText false n seed steps text = IsRandomRun n seed steps text
+-- the words write a seed, a number of steps, a number of nodes, and the faults of a lively schedule
+abbrev pub AreNumbers : DrawWords → ℕ → ℕ → ℕ → Option ℕ → Type 0
+AreNumbers words seed steps nodes faults =
+    IsNumberOf 0 (2 ^ 64 - 1) words.seed seed × IsNumberOf 0 999930 words.steps steps × IsNumberOf 1 7 words.nodes nodes × AreFaults words.lively words.faults faults
+
+-- the text is that of a random schedule, or of a lively one: alone, or with a line `report` and the report of its run
+abbrev pub IsDrawnText : Bool → Option ℕ → ℕ → ℕ → ℕ → List ℕ → Type 0
+IsDrawnText true None n seed steps text = (schedule : Scheduled) × IsRandom n seed steps schedule × (text ≡ schedule_text schedule)
+IsDrawnText false None n seed steps text = IsRandomRun n seed steps text
+IsDrawnText true (Some faults) n seed steps text = IsLivelySchedule n steps text
+IsDrawnText false (Some faults) n seed steps text = IsLively n steps text

@@ -29,7 +29,7 @@ use Rattle.rr_image.specs.Inspect.{Tells, Breaks, inspected}
 use Rattle.rr_cli.specs.Areas.{areas_text}
 use Rattle.rr_cli.specs.Draws.{IsNumberIn, IsNumberOf, AreNumbers, IsDrawnText}
 use Rattle.rr_cli.specs.Cuts.{IsCutBy}
-use Rattle.rr_words.specs.Tasks.{CutWords, DrawWords, Task, Simulate, Show, Draw, Audit, Run, Sweep, Picture, Migrate}
+use Rattle.rr_words.specs.Tasks.{CutWords, DrawWords, View, Task, Simulate, Viewing, Show, Draw, Audit, Run, Sweep, Picture, Migrate}
 use Rattle.rr_cli.specs.Migrations.{IsUnmigrated}
 use Rattle.rr_cli.specs.Refusals.{status_of}
 use Rattle.rr_cli.specs.Tapes.{yes_text}
@@ -91,17 +91,17 @@ pub data EndsOnSeat (folder of_node of_nodes : Option Text) (status : ℕ) (old 
   seated : (path : Text) (p n : ℕ) → folder ≡ Some path → AreSeat of_node of_nodes p n → EndsOnMigration status old new → EndsOnSeat folder of_node of_nodes status old new
   unseated : ((path : Text) (p n : ℕ) → folder ≡ Some path → AreSeat of_node of_nodes p n → ⊥) → status ≡ 2 → new ≡ old → EndsOnSeat folder of_node of_nodes status old new
 
--- a run on the numbers of a random schedule, which is printed alone or with the report of its run; or memory was wanting, and
--- standard output is as it was
-pub data EndsOnDraw (alone : Bool) (n seed steps : ℕ) (status : ℕ) (old new : Printing) : Type 0 where
-  drawn : (text : List ℕ) → IsDrawnText alone n seed steps text → Prints text status old new → EndsOnDraw alone n seed steps status old new
-  cut_off : status ≡ 6 → new ≡ old → EndsOnDraw alone n seed steps status old new
+-- a run on the numbers of a random schedule, which has faults if it is lively, and is printed alone or with the report of its
+-- run; or memory was wanting, and standard output is as it was
+pub data EndsOnDraw (alone : Bool) (faults : Option ℕ) (n seed steps : ℕ) (status : ℕ) (old new : Printing) : Type 0 where
+  drawn : (text : List ℕ) → IsDrawnText alone faults n seed steps text → Prints text status old new → EndsOnDraw alone faults n seed steps status old new
+  cut_off : status ≡ 6 → new ≡ old → EndsOnDraw alone faults n seed steps status old new
 
 -- a run on the words of a random schedule: by the numbers that they write, or they write none and standard output is as
 -- it was
 pub data EndsOnWords (words : DrawWords) (status : ℕ) (old new : Printing) : Type 0 where
-  numbered : (seed steps nodes : ℕ) → AreNumbers words seed steps nodes → EndsOnDraw words.alone nodes seed steps status old new → EndsOnWords words status old new
-  unnumbered : ((seed steps nodes : ℕ) → AreNumbers words seed steps nodes → ⊥) → status ≡ 2 → new ≡ old → EndsOnWords words status old new
+  numbered : (seed steps nodes : ℕ) (faults : Option ℕ) → AreNumbers words seed steps nodes faults → EndsOnDraw words.alone faults nodes seed steps status old new → EndsOnWords words status old new
+  unnumbered : ((seed steps nodes : ℕ) (faults : Option ℕ) → AreNumbers words seed steps nodes faults → ⊥) → status ≡ 2 → new ≡ old → EndsOnWords words status old new
 
 -- lines of a sweep as text
 abbrev pub sweep_text : List SweepLine → List ℕ
@@ -169,4 +169,5 @@ pub data EndsBy (faults : Kinds) (task : Task) (from to : Reading) (status : ℕ
   by_picture_of_standard_input : (words : CutWords) → faults ≡ [] → task ≡ Picture None words → EndsOnCut (λ on. EndsOnInput on from to) words status old new → EndsBy faults task from to status old new
   by_picture_of_a_file : (path : Text) (words : CutWords) → faults ≡ [] → task ≡ Picture (Some path) words → EndsOnCut EndsOnFile words status old new → EndsBy faults task from to status old new
   by_migration : (folder of_node of_nodes : Option Text) → faults ≡ [] → task ≡ Migrate folder of_node of_nodes → EndsOnSeat folder of_node of_nodes status old new → EndsBy faults task from to status old new
+  without_views : (view : View) → faults ≡ [] → task ≡ Viewing view → status ≡ 2 → new ≡ old → EndsBy faults task from to status old new
   without_threads : (nodes dir script tape : Option Text) → faults ≡ [] → task ≡ Run nodes dir script tape → status ≡ 2 → new ≡ old → EndsBy faults task from to status old new

@@ -1,30 +1,32 @@
 //! Random schedules, drawn by the numbers that words name, run and told as text.
 
-ghost use Rattle.std.specs.Prelude.{◌≡◌, ◌≤◌, ℕ, List, None, true, IfOk, IfErr, IfSome, option_map};
+ghost use Rattle.std.specs.Prelude.{◌≡◌, ◌≤◌, ℕ, List, Option, None, true, IfOk, IfErr, IfSome, option_map};
 ghost use Rattle.std.specs.Io.KnownBytes.{Keeps};
 ghost use Rattle.rr_words.specs.Tasks.{draw_words_in};
-ghost use Rattle.rr_cli.specs.Draws.{IsNumberIn, IsNumberOf, AreNumbers, IsDrawnText};
+ghost use Rattle.rr_cli.specs.Draws.{IsNumberIn, IsNumberOf, AreFaults, AreNumbers, IsDrawnText};
 ghost use Rattle.rr_cli.specs.Ends.{EndsOnDraw, EndsOnWords};
 
 use crate::refusals::end_by_refusal;
 use crate::streams::end_by_text;
+use rr_lively::{DEFAULT_FAULTS, lively_run, lively_schedule};
 use rr_sim::{MAX_STEPS, random, random_run};
 use rr_stream::Sink;
 use rr_types::{Nodes, Refusal};
-use rr_words::DrawWords;
+use rr_words::{DrawWords, MAX_FAULTS};
 use std::alloc::Global;
 use std::io::Write;
 
 // The words name as many steps as a schedule may have.
 const _: () = prove!(rr_words::MAX_STEPS == MAX_STEPS as u64);
 
-/// The numbers of a random schedule: how many nodes it has, the seed of its words, and how many steps it has; and whether
-/// it is printed alone.
+/// The numbers of a random schedule: how many nodes it has, the seed of its words, how many steps it has, and if it is
+/// lively, how many steps in a thousand have a fault; and whether it is printed alone.
 #[derive(Clone, Copy, Debug)]
 pub(crate) struct Draw {
     nodes: Nodes,
     seed: u64,
     steps: u32,
+    faults: Option<u32>,
     alone: bool,
 }
 
@@ -68,22 +70,40 @@ pub(crate) fn number_of(word: Option<&str>, least: u64, most: u64) -> Option<u64
     }
 }
 
+// The faults of a lively schedule, by the word for them; none of one that isn't lively, which has no such word.
+fn faults_of(lively: bool, word: Option<&str>) -> Option<Option<u32>>
+    ensures some { IfSome result (λ f. AreFaults lively (option_map (λ s. s.now) word.entry) f) }
+    ensures none { result ≡ None → (f : Option ℕ) → AreFaults lively (option_map (λ s. s.now) word.entry) f → ⊥ }
+{
+    match (lively, word) {
+        (true, Some(word)) => {
+            let faults = number_in(word, 0, MAX_FAULTS)?;
+            Some(Some(faults as u32))
+        }
+        (true, None) => Some(Some(DEFAULT_FAULTS)),
+        (false, None) => Some(None),
+        (false, Some(_)) => None,
+    }
+}
+
 // The numbers that words name.
 fn numbers_of(words: &DrawWords) -> Option<Draw>
-    ensures some { IfSome result (λ d. AreNumbers (draw_words_in words.now) d.seed d.steps d.nodes) }
+    ensures some { IfSome result (λ d. AreNumbers (draw_words_in words.now) d.seed d.steps d.nodes d.faults) }
     ensures few { IfSome result (λ d. d.steps ≤ 999930) }
     ensures alone { IfSome result (λ d. d.alone ≡ words.now.alone) }
-    ensures none { result ≡ None → (s k n : ℕ) → AreNumbers (draw_words_in words.now) s k n → ⊥ }
+    ensures none { result ≡ None → (s k n : ℕ) (f : Option ℕ) → AreNumbers (draw_words_in words.now) s k n f → ⊥ }
 {
     let seed = number_of(words.seed, 0, u64::MAX)?;
     let steps = number_of(words.steps, 0, u64::from(MAX_STEPS))?;
     let nodes = nodes_of(words.nodes?)?;
+    let faults = faults_of(words.lively, words.faults)?;
     let steps = steps as u32;
     let alone = words.alone;
     Some(Draw {
         nodes,
         seed,
         steps,
+        faults,
         alone,
     })
 }
@@ -91,7 +111,7 @@ fn numbers_of(words: &DrawWords) -> Option<Draw>
 // The text of a random schedule.
 fn lone_schedule(alloc: Global, draw: Draw) -> Result<Vec<u8>, Refusal>
     requires { draw.steps ≤ 999930 }
-    ensures ok { IfOk result (λ text. IsDrawnText true draw.nodes draw.seed draw.steps text.items) }
+    ensures ok { IfOk result (λ text. IsDrawnText true None draw.nodes draw.seed draw.steps text.items) }
     ensures err { IfErr result (λ e. e ≡ Refusal.OutOfMemory) }
 {
     let schedule = random(alloc, draw.nodes, draw.seed, draw.steps)?;
@@ -101,25 +121,37 @@ fn lone_schedule(alloc: Global, draw: Draw) -> Result<Vec<u8>, Refusal>
 // The text of a random schedule: alone, or with a line `report` and the report of its run.
 fn drawn_text(alloc: Global, draw: Draw) -> Result<Vec<u8>, Refusal>
     requires { draw.steps ≤ 999930 }
-    ensures ok { IfOk result (λ text. IsDrawnText draw.alone draw.nodes draw.seed draw.steps text.items) }
+    ensures ok { IfOk result (λ text. IsDrawnText draw.alone draw.faults draw.nodes draw.seed draw.steps text.items) }
     ensures err { IfErr result (λ e. e ≡ Refusal.OutOfMemory) }
 {
-    if draw.alone {
-        lone_schedule(alloc, draw)
-    } else {
-        random_run(alloc, draw.nodes, draw.seed, draw.steps)
+    match (draw.alone, draw.faults) {
+        (true, None) => lone_schedule(alloc, draw),
+        (false, None) => random_run(alloc, draw.nodes, draw.seed, draw.steps),
+        (true, Some(faults)) => {
+            lively_schedule(alloc, draw.nodes, draw.seed, draw.steps, faults)
+        }
+        (false, Some(faults)) => lively_run(alloc, draw.nodes, draw.seed, draw.steps, faults),
     }
 }
 
 // Prints a random schedule, alone or with the report of its run.
 fn print_draw<O: Sink, E: Write>(alloc: Global, draw: Draw, out: &mut O, err: &mut E) -> u8
     requires { draw.steps ≤ 999930 }
-    ensures ends { EndsOnDraw draw.alone draw.nodes draw.seed draw.steps result (O.printing out.old) (O.printing out.new) }
+    ensures ends { EndsOnDraw draw.alone draw.faults draw.nodes draw.seed draw.steps result (O.printing out.old) (O.printing out.new) }
     ensures quiet { result ≡ 0 → Keeps (E.contents err.old) (E.contents err.new) }
 {
     match drawn_text(alloc, draw) {
         Ok(text) => end_by_text(out, err, text.as_slice()),
         Err(refusal) => end_by_refusal(err, &refusal),
+    }
+}
+
+// What is wrong with the words of a random schedule that name no numbers.
+fn fault_of(words: &DrawWords) -> &'static str {
+    if words.faults.is_some() && !words.lively {
+        "--faults wants --lively"
+    } else {
+        "a number is missing or out of its range"
     }
 }
 
@@ -137,7 +169,7 @@ pub(crate) fn draw_by_words<O: Sink, E: Write>(
     match numbers_of(words) {
         Some(draw) => print_draw(alloc, draw, out, err),
         None => {
-            let _ = writeln!(err, "rr: random: a number is missing or out of its range");
+            let _ = writeln!(err, "rr: random: {}", fault_of(words));
             2
         }
     }

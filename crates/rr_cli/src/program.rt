@@ -13,7 +13,9 @@ use crate::migrate::migrate_by_words;
 use crate::picture::{picture_file, picture_input};
 use crate::refusals::end_by_schedule_fault;
 use crate::show::{end_without_folder, show_folder};
-use crate::streams::{end_by_stream, end_by_text, end_without_threads, end_without_words};
+use crate::streams::{
+    end_by_stream, end_by_text, end_without_threads, end_without_views, end_without_words,
+};
 use crate::sweep::{end_without_seed, sweep_by_word, sweep_file};
 use crate::words::end_by_words;
 use rr_sim::report_on;
@@ -50,7 +52,8 @@ fn simulate_input<I: Source, O: Sink, E: Write>(
 ///
 /// `rr sim [FILE]` reads a schedule from FILE, or else from `input`, and prints its report on `out`. `rr show DIR`
 /// prints what the areas hold of the disk in the folder DIR. `rr random --seed SEED --steps STEPS --nodes NODES` prints
-/// a random schedule, a line `report` and the report of its run, or with `--schedule-only` the schedule alone. `rr audit [FILE]` reads a tape as `rr sim` does a
+/// a random schedule, a line `report` and the report of its run, or with `--schedule-only` the schedule alone; with
+/// `--lively` a schedule in which something happens, and `--faults` of a thousand steps have a fault. `rr audit [FILE]` reads a tape as `rr sim` does a
 /// schedule, and prints whether its events are what nodes do. `rr sweep [FILE] --seed SEED` reads a schedule, crashes a node
 /// after each device call, and prints what it restarts with, as it goes.
 /// `rr draw [FILE] [--from FROM] [--to TO] [--node NODE] [--instance INSTANCE]` reads a schedule, and prints the picture
@@ -86,6 +89,7 @@ pub fn execute<R: Files + AllocGlobal, S: AsStr, I: Source, O: Sink, E: Write>(
         Ok(Task::Draw(words)) => draw_by_words(rt.alloc(), &words, out, err),
         Ok(Task::Audit(None)) => audit_input(rt.alloc(), "standard input", input, out, err),
         Ok(Task::Audit(Some(path))) => audit_file(rt, path, out, err),
+        Ok(Task::View(_)) => end_without_views(err),
         Ok(Task::Run(_, _, _, _)) => end_without_threads(err),
         Ok(Task::Sweep(_, None)) => end_without_seed(err),
         Ok(Task::Sweep(None, Some(seed))) => {

@@ -50,8 +50,8 @@ pub fn end_by_refusal<E: Write>(err: &mut E, refusal: &Refusal) -> u8
     status(refusal)
 }
 
-// Ends by the refusal of a schedule of this name. A second line tells people where it is at fault and why.
-pub(crate) fn end_by_schedule_fault<E: Write>(
+/// Ends by the refusal of a schedule of this name. A second line tells people where it is at fault and why.
+pub fn end_by_schedule_fault<E: Write>(
     err: &mut E,
     name: &str,
     bytes: &[u8],

@@ -60,6 +60,14 @@ pub fn end_without_words<E: Write>(err: &mut E, error: &io::Error) -> u8
     2
 }
 
+// Ends where a view of a run is asked for of a program without views.
+pub(crate) fn end_without_views<E: Write>(err: &mut E) -> u8
+    ensures { result ≡ 2 }
+{
+    let _ = writeln!(err, "rr: there are no views");
+    2
+}
+
 // Ends where a run is asked for of a program without threads.
 pub(crate) fn end_without_threads<E: Write>(err: &mut E) -> u8
     ensures { result ≡ 2 }

@@ -16,7 +16,7 @@ use Rattle.rr_sim.specs.Random.{StepsInMemory}
 use Rattle.rr_sim.specs.Told.{told, TellsAll}
 use Rattle.rr_sim.proofs.DrawingLemmas.{each_of_both}
 use Rattle.rr_sim.proofs.ToldLaws.{behind_lines, steps_behind, whole, spelt_behind, told_append, lines_push, length_push, is_report_on}
-use Rattle.rr_lively.specs.Lively.{IsSoFar, MayStay, IsLivelyRun}
+use Rattle.rr_lively.specs.Lively.{IsSoFar, MayStay, IsLivelyRun, IsScheduleTo}
 use Rattle.rr_lively.proofs.IdleLaws.{unchanged, nothing_told}
 
 pub so_far_none : (n : ℕ) → IsSoFar n 2 (new_cluster n) (nodes_line n) []
@@ -81,4 +81,14 @@ is_lively_run n at kept schedule report ended all decided some few below s its_l
       counted = s.counted;
       is_report = is_report_on n (schedule_text of_schedule) bytes kept report ended decided some few refl tells its_list ends;
       told = is ∙ ap (λ (t : List ℕ). (t ++ line (codes "report" ∷ [])) ++ ended) s.printed;
+    }
+
+pub is_schedule_to : (n at : ℕ) (kept : Cluster) (schedule report : List ℕ) → 1 ≤ n → n ≤ 7 → at ≤ 1000002 → IsSoFar n at kept schedule report → IsScheduleTo n at schedule
+is_schedule_to n at kept schedule report some few below s =
+    record {
+      schedule = record { nodes = n; events = s.events };
+      lawful = record { some = some; few = few; short = omega (below, s.counted, arith); each = s.each };
+      nodes = refl;
+      counted = s.counted;
+      told = s.printed;
     }

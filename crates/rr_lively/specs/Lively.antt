@@ -8,7 +8,7 @@ use Rattle.rr_text.specs.declared.event.Event.{Event}
 use Rattle.rr_text.specs.declared.event.Event.TheVariants.{Take, Send, Ack}
 use Rattle.rr_text.specs.Lines.{nodes_line}
 use Rattle.rr_text.specs.ReportTexts.{line}
-use Rattle.rr_text.specs.Scheduled.{Scheduled, IsEvent}
+use Rattle.rr_text.specs.Scheduled.{Scheduled, IsSchedule, IsEvent}
 use Rattle.rr_text.specs.ScheduleTexts.{event_line, schedule_text}
 use Rattle.rr_sim.specs.Clusters.{Cluster, new_cluster, LeadsSpelt}
 use Rattle.rr_sim.specs.Told.{told, IsReportOn}
@@ -42,6 +42,18 @@ pub record IsLivelyRun (n at : ℕ) (text : List ℕ) : Type 0 where
   pub is_report : IsReportOn (schedule_text schedule) report
   pub told : text ≡ schedule_text schedule ++ line (codes "report" ∷ []) ++ report
 
+-- the text is that of a schedule of n nodes whose next event would stand on a line
+pub record IsScheduleTo (n at : ℕ) (text : List ℕ) : Type 0 where
+  pub schedule : Scheduled
+  pub lawful : IsSchedule schedule
+  pub nodes : schedule.nodes ≡ n
+  pub counted : at ≡ 2 + length schedule.events
+  pub told : text ≡ schedule_text schedule
+
 -- the same of a schedule that has at most the events by which the nodes open their disks, and one more for each step
 abbrev pub IsLively : ℕ → ℕ → List ℕ → Type 0
 IsLively n steps text = (at : ℕ) × (at ≤ 2 + 10 * n + steps) × IsLivelyRun n at text
+
+-- that schedule alone
+abbrev pub IsLivelySchedule : ℕ → ℕ → List ℕ → Type 0
+IsLivelySchedule n steps text = (at : ℕ) × (at ≤ 2 + 10 * n + steps) × IsScheduleTo n at text

@@ -10,4 +10,4 @@ mod memory;
 mod run;
 mod stances;
 
-pub use lively::{DEFAULT_FAULTS, lively_run};
+pub use lively::{DEFAULT_FAULTS, lively_run, lively_schedule};

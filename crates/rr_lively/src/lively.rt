@@ -1,7 +1,7 @@
 //! A lively schedule told as text, with the report of its run.
 
 ghost use Rattle.std.specs.Prelude.{◌≡◌, ◌≤◌, ◌+◌, ◌*◌, false, Ok, OnOk, IfOk, IfErr};
-ghost use Rattle.rr_lively.specs.Lively.{IsSoFar, IsLively};
+ghost use Rattle.rr_lively.specs.Lively.{IsSoFar, IsLively, IsLivelySchedule};
 
 use crate::drawing::Drawing;
 use crate::run::Run;
@@ -104,6 +104,30 @@ fn go_on(
     Ok(())
 }
 
+/// A lively schedule as it is drawn, with its run.
+fn drawn_run(
+    alloc: Global,
+    nodes: Nodes,
+    seed: u64,
+    steps: u32,
+    faults: u32,
+) -> Result<Run, Refusal>
+    requires { steps ≤ 999930 }
+    ensures so_far { IfOk result (λ run. IsSoFar nodes run.line run.cluster run.schedule.items run.report.items) }
+    ensures line { IfOk result (λ run. run.line ≤ 2 + 10 * nodes + steps) }
+    ensures err { IfErr result (λ e. e ≡ Refusal.OutOfMemory) }
+{
+    let mut run = Run::new(alloc, nodes)?;
+    open_all(alloc, nodes, &mut run)?;
+    let mut drawing = Drawing::new(alloc, nodes)?;
+    let mut generator = Pcg32::seed_from_u64(seed);
+    for _step in 0..steps {
+        let words = (generator.next_word(), generator.next_word());
+        go_on(alloc, nodes, faults, words, &mut drawing, &mut run)?;
+    }
+    Ok(run)
+}
+
 /// The text of a lively schedule, a line `report`, and the text of the report of its run. Behind the openings of the
 /// nodes each of the steps draws an event among those that do something at that moment; `faults` in a thousand draw a
 /// crash within a device call, a failing call, a suspicion or the like. The same words give the same text.
@@ -121,14 +145,26 @@ pub fn lively_run(
     ensures ok { IfOk result (λ text. IsLively nodes steps text.items) }
     ensures err { IfErr result (λ e. e ≡ Refusal.OutOfMemory) }
 {
-    let mut run = Run::new(alloc, nodes)?;
-    open_all(alloc, nodes, &mut run)?;
-    let mut drawing = Drawing::new(alloc, nodes)?;
-    let mut generator = Pcg32::seed_from_u64(seed);
-    for _step in 0..steps {
-        let words = (generator.next_word(), generator.next_word());
-        go_on(alloc, nodes, faults, words, &mut drawing, &mut run)?;
-    }
+    let run = drawn_run(alloc, nodes, seed, steps, faults)?;
     let text = run.into_text(alloc, nodes)?;
     Ok(text)
+}
+
+/// The text of that schedule alone.
+///
+/// # Errors
+/// `OutOfMemory`, also where memory is wanting for an event of the run.
+pub fn lively_schedule(
+    alloc: Global,
+    nodes: Nodes,
+    seed: u64,
+    steps: u32,
+    faults: u32,
+) -> Result<Vec<u8>, Refusal>
+    requires { steps ≤ 999930 }
+    ensures ok { IfOk result (λ text. IsLivelySchedule nodes steps text.items) }
+    ensures err { IfErr result (λ e. e ≡ Refusal.OutOfMemory) }
+{
+    let run = drawn_run(alloc, nodes, seed, steps, faults)?;
+    Ok(run.into_schedule(nodes))
 }

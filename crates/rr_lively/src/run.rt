@@ -3,7 +3,7 @@
 ghost use Rattle.std.specs.Prelude.{◌≡◌, ◌≤◌, ◌+◌, ◌<◌, false, IsTrue, Ok, OnOk, IfOk, IfErr};
 ghost use Rattle.rr_text.specs.Scheduled.{IsEvent};
 ghost use Rattle.rr_text.specs.Words.{IsCommand, IsFill};
-ghost use Rattle.rr_lively.specs.Lively.{IsSoFar, MayStay, IsLivelyRun};
+ghost use Rattle.rr_lively.specs.Lively.{IsSoFar, MayStay, IsLivelyRun, IsScheduleTo};
 
 use rr_sim::{Cluster, Stance, decided_list, node_of};
 use rr_text::text_report::push_decided_list;
@@ -177,5 +177,18 @@ impl Run {
         schedule.extend_from_slice(b"report\n")?;
         schedule.extend_from_slice(report.as_slice())?;
         Ok(schedule)
+    }
+
+    /// The text of the schedule alone.
+    pub(crate) fn into_schedule(self, nodes: Nodes) -> Vec<u8>
+        requires so_far { IsSoFar nodes self.line self.cluster self.schedule.items self.report.items }
+        requires line { self.line ≤ 1000002 }
+        requires some { 1 ≤ nodes }
+        requires few { nodes ≤ 7 }
+        ensures { IsScheduleTo nodes self.line result.items }
+    {
+        let _count = nodes.count();
+        let Run { schedule, .. } = self;
+        schedule
     }
 }

@@ -10,7 +10,8 @@ use Rattle.rr_script.specs.ScriptTexts.{script_text}
 use Rattle.rr_script.specs.AnswerTexts.{answer_text}
 use Rattle.rr_script.specs.Faults.{IsScriptFault}
 use Rattle.rr_cli.specs.Draws.{IsNumberIn}
-use Rattle.rr_cli.specs.Ends.{EndsBy, EndsOnFile, IsStreamStatus, Prints}
+use Rattle.rr_cli.specs.Ends.{EndsOnFile, IsStreamStatus, Prints}
+use Rattle.rr_view.specs.Views.{EndsWithViews}
 use Rattle.rr_words.specs.Tasks.{Task, Run}
 use Rattle.rr_cli.specs.Refusals.{status_of}
 
@@ -45,5 +46,5 @@ pub record AsksForRun (task : Task) : Type 0 where
 -- the program with threads, by words: a run, or what the program without threads does, or no memory even to read them
 pub data EndsWithThreads (faults : Kinds) (task : Task) (from to : Reading) (status : ℕ) (old new : Printing) : Type 0 where
   by_script : (asks : AsksForRun task) → faults ≡ [] → EndsOnRun asks.nodes asks.tape status old new → EndsWithThreads faults task from to status old new
-  by_others : (faults ≡ [] → AsksForRun task → ⊥) → EndsBy faults task from to status old new → EndsWithThreads faults task from to status old new
+  by_others : (faults ≡ [] → AsksForRun task → ⊥) → EndsWithViews faults task from to status old new → EndsWithThreads faults task from to status old new
   out_of_memory : status ≡ 6 → new ≡ old → EndsWithThreads faults task from to status old new

@@ -1,5 +1,6 @@
 //! `rr run`: nodes in threads, over the files of folders, by a script. This crate alone brings threads to the program;
-//! all other commands are those of `rr_cli`, which has none.
+//! all other commands are those of `rr_view` and `rr_cli`, which
+//! have none.
 #![tactic(auto)]
 
 mod folder;

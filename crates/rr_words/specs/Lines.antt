@@ -26,20 +26,32 @@ option_rule id long wanted = record (new_rule id) { long = Some long; required =
 abbrev pub flag_rule : Text → Text → Rule
 flag_rule id long = record (new_rule id) { long = Some long; action = Some SetTrue }
 
--- the subcommand sim, with a FILE that may be left out
+-- the subcommand sim, with a FILE that may be left out, and the options for reasons and for JSON
 unfoldable pub sim_line : App
-sim_line = with_rule (new_app (codes "sim")) (word_rule (codes "FILE") false)
+sim_line = with_rule (with_rule (with_rule (new_app (codes "sim")) (word_rule (codes "FILE") false)) (flag_rule (codes "EXPLAIN") (codes "explain"))) (flag_rule (codes "JSON") (codes "json"))
+
+-- the subcommand stats, with a FILE that may be left out, and the option for JSON
+unfoldable pub stats_line : App
+stats_line = with_rule (with_rule (new_app (codes "stats")) (word_rule (codes "FILE") false)) (flag_rule (codes "JSON") (codes "json"))
+
+-- the subcommand check, with a FILE and a REPORT
+unfoldable pub check_line : App
+check_line = with_rule (with_rule (new_app (codes "check")) (word_rule (codes "FILE") true)) (word_rule (codes "REPORT") true)
 
 -- the subcommand show, with a DIR
 unfoldable pub show_line : App
 show_line = with_rule (new_app (codes "show")) (word_rule (codes "DIR") true)
 
--- the subcommand random, with a seed, a number of steps, a number of nodes, and the option for the schedule alone
+-- the subcommand random, with a seed, a number of steps and a number of nodes
+unfoldable pub numbers_line : App
+numbers_line =
+    with_rule (with_rule (with_rule (new_app (codes "random")) (number_rule (codes "SEED") (codes "seed") 0 18446744073709551615)) (number_rule (codes "STEPS") (codes "steps") 0 999930)) (number_rule (codes "NODES") (codes "nodes") 1 7)
+
+-- the same with the option for lively schedules, the number of their faults, which may be left out, and the option for the
+-- schedule alone
 unfoldable pub random_line : App
 random_line =
-    with_rule
-    (with_rule (with_rule (with_rule (new_app (codes "random")) (number_rule (codes "SEED") (codes "seed") 0 18446744073709551615)) (number_rule (codes "STEPS") (codes "steps") 0 999930)) (number_rule (codes "NODES") (codes "nodes") 1 7))
-    (flag_rule (codes "ALONE") (codes "schedule-only"))
+    with_rule (with_rule (with_rule numbers_line (flag_rule (codes "LIVELY") (codes "lively"))) (optional_number_rule (codes "FAULTS") (codes "faults") 0 1000)) (flag_rule (codes "ALONE") (codes "schedule-only"))
 
 -- the subcommand audit, with a FILE that may be left out
 unfoldable pub audit_line : App
@@ -78,6 +90,10 @@ rr_settings = on_top (λ s. record s { has_version = true; arg_required_else_hel
 unfoldable pub and_also : App → App → App
 and_also above below = with_subcommand above below.top
 
+-- the command line of rr with the subcommands on schedules
+unfoldable pub schedule_lines : App
+schedule_lines = and_also (and_also (and_also (and_also (and_also (and_also (rr_settings (new_app (codes "rr"))) sim_line) stats_line) check_line) random_line) sweep_line) draw_line
+
 -- the command line of rr
 unfoldable pub rr_line : App
-rr_line = and_also (and_also (and_also (and_also (and_also (and_also (and_also (and_also (rr_settings (new_app (codes "rr"))) sim_line) show_line) random_line) audit_line) run_line) sweep_line) draw_line) migrate_line
+rr_line = and_also (and_also (and_also (and_also schedule_lines run_line) audit_line) show_line) migrate_line

@@ -8,8 +8,12 @@ use Rattle.clap.specs.Faults.{fault_of}
 use Rattle.rr_words.specs.Lines.{rr_line}
 use Rattle.rr_words.specs.declared.tasks.CutWords as code_words
 use Rattle.rr_words.specs.declared.tasks.DrawWords as code_draws
+use Rattle.rr_words.specs.declared.tasks.Form.{Form}
+use Rattle.rr_words.specs.declared.tasks.Form.TheVariants.{Plain, Json}
 use Rattle.rr_words.specs.declared.tasks.Task as code
 use Rattle.rr_words.specs.declared.tasks.Task.TheVariants as read
+use Rattle.rr_words.specs.declared.tasks.View as view
+use Rattle.rr_words.specs.declared.tasks.View.TheVariants as shown
 
 -- what is wrong with the words, or asks for help or the version; nothing where they are a command
 unfoldable pub faults_of : List Text → Kinds
@@ -26,22 +30,33 @@ pub record CutWords : Type 0 where
   pub node : Option Text
   pub instance : Option Text
 
--- the words of a random schedule: a seed, a number of steps and a number of nodes, which only wrong words leave out, and
--- whether it is printed alone
+-- the words of a random schedule: a seed, a number of steps and a number of nodes, which only wrong words leave out; whether
+-- it is lively, and a number of faults, which may be left out; and whether it is printed alone
 pub record DrawWords : Type 0 where
   pub seed : Option Text
   pub steps : Option Text
   pub nodes : Option Text
+  pub lively : Bool
+  pub faults : Option Text
   pub alone : Bool
 
--- what a command asks for: the report of the schedule in this file or else in standard input; or the areas of the
--- disk in this folder; or a random schedule by these words; or the audit of the tape in this file or else in standard input; or a run of this number of
+-- what is shown of the run of the schedule in a file or else in standard input: its report as JSON; or its report with events
+-- and reasons; or its statistics; or where its report isn't the text in a second file or else in standard input
+pub data View : Type 0 where
+  Report : Option Text → View
+  Explanation : Form → Option Text → View
+  Statistics : Form → Option Text → View
+  Comparison : Option Text → Option Text → View
+
+-- what a command asks for: the report of the schedule in this file or else in standard input; or a view of its run; or the
+-- areas of the disk in this folder; or a random schedule by these words; or the audit of the tape in this file or else in standard input; or a run of this number of
 -- nodes in threads, over the folders in this folder, by the script in this file, with its tape in this file or none; or a
 -- sweep of the schedule in this file or else in standard input, with this seed, which only wrong words leave out; or the
 -- picture of the schedule in this file or else in standard input, of the cut that these words write; or an opening of the
 -- disk in this folder as that of this node of so many, all of which only wrong words leave out, and its areas then
 pub data Task : Type 0 where
   Simulate : Option Text → Task
+  Viewing : View → Task
   Show : Option Text → Task
   Draw : DrawWords → Task
   Audit : Option Text → Task
@@ -63,9 +78,37 @@ is_set id rows = option_map_or (λ value. bytes_eq value (codes "true")) (first_
 abbrev pub cut_words_of : List Row → CutWords
 cut_words_of rows = record { from = first_of (codes "FROM") rows; to = first_of (codes "TO") rows; node = first_of (codes "NODE") rows; instance = first_of (codes "INSTANCE") rows }
 
--- what random, run, sweep, draw and migrate ask for
+-- how something is printed, by the option for JSON
+abbrev pub form_of : List Row → Form
+form_of rows = if is_set (codes "JSON") rows then Json else Plain
+
+-- what sim without reasons asks for: its report for people, or else a view
+abbrev pub told_by : Form → Option Text → Task
+told_by Plain file = Simulate file
+told_by Json file = Viewing (Report file)
+
+-- what sim, stats, check, random, run, sweep, draw and migrate ask for
+abbrev pub simulate_task : List Row → Task
+simulate_task rows =
+    if is_set (codes "EXPLAIN") rows then Viewing (Explanation (form_of rows) (file_of (first_of (codes "FILE") rows)))
+    else told_by (form_of rows) (file_of (first_of (codes "FILE") rows))
+
+abbrev pub stats_task : List Row → Task
+stats_task rows = Viewing (Statistics (form_of rows) (file_of (first_of (codes "FILE") rows)))
+
+abbrev pub check_task : List Row → Task
+check_task rows = Viewing (Comparison (file_of (first_of (codes "FILE") rows)) (file_of (first_of (codes "REPORT") rows)))
+
 abbrev pub random_task : List Row → Task
-random_task rows = Draw (record { seed = first_of (codes "SEED") rows; steps = first_of (codes "STEPS") rows; nodes = first_of (codes "NODES") rows; alone = is_set (codes "ALONE") rows })
+random_task rows =
+    Draw (record {
+      seed = first_of (codes "SEED") rows;
+      steps = first_of (codes "STEPS") rows;
+      nodes = first_of (codes "NODES") rows;
+      lively = is_set (codes "LIVELY") rows;
+      faults = first_of (codes "FAULTS") rows;
+      alone = is_set (codes "ALONE") rows;
+    })
 
 abbrev pub run_task : List Row → Task
 run_task rows = Run (first_of (codes "NODES") rows) (first_of (codes "DIR") rows) (first_of (codes "SCRIPT") rows) (first_of (codes "TAPE") rows)
@@ -82,14 +125,16 @@ migrate_task rows = Migrate (first_of (codes "DIR") rows) (first_of (codes "NODE
 -- what a subcommand of this name and these arguments asks for
 abbrev pub task_by : Text × List Row → Task
 task_by p =
-    if bytes_eq p.0 (codes "show") then Show (first_of (codes "DIR") p.1)
+    if bytes_eq p.0 (codes "stats") then stats_task p.1
+    else (if bytes_eq p.0 (codes "check") then check_task p.1
+    else (if bytes_eq p.0 (codes "show") then Show (first_of (codes "DIR") p.1)
     else (if bytes_eq p.0 (codes "random") then random_task p.1
     else (if bytes_eq p.0 (codes "audit") then Audit (file_of (first_of (codes "FILE") p.1))
     else (if bytes_eq p.0 (codes "run") then run_task p.1
     else (if bytes_eq p.0 (codes "sweep") then sweep_task p.1
     else (if bytes_eq p.0 (codes "draw") then picture_task p.1
     else (if bytes_eq p.0 (codes "migrate") then migrate_task p.1
-    else Simulate (file_of (first_of (codes "FILE") p.1))))))))
+    else simulate_task p.1))))))))
 
 -- what the words ask for
 unfoldable pub task_of : List Text → Task
@@ -103,11 +148,19 @@ cut_words_in words =
 -- the words of a random schedule that were read so
 abbrev pub draw_words_in : code_draws.DrawWords → DrawWords
 draw_words_in words =
-    record { seed = option_map (λ s. s.now) words.seed; steps = option_map (λ s. s.now) words.steps; nodes = option_map (λ s. s.now) words.nodes; alone = words.alone }
+    record { seed = option_map (λ s. s.now) words.seed; steps = option_map (λ s. s.now) words.steps; nodes = option_map (λ s. s.now) words.nodes; lively = words.lively; faults = option_map (λ s. s.now) words.faults; alone = words.alone }
+
+-- what is shown that was read so
+abbrev pub view_in : view.View → View
+view_in (shown.Report file) = Report (option_map (λ s. s.now) file)
+view_in (shown.Explanation f file) = Explanation f (option_map (λ s. s.now) file)
+view_in (shown.Statistics f file) = Statistics f (option_map (λ s. s.now) file)
+view_in (shown.Comparison file report) = Comparison (option_map (λ s. s.now) file) (option_map (λ s. s.now) report)
 
 -- what words ask for that were read so
 abbrev pub task_in : code.Task → Task
 task_in (read.Simulate file) = Simulate (option_map (λ s. s.now) file)
+task_in (read.View v) = Viewing (view_in v)
 task_in (read.Show folder) = Show (option_map (λ s. s.now) folder)
 task_in (read.Draw words) = Draw (draw_words_in words)
 task_in (read.Audit file) = Audit (option_map (λ s. s.now) file)

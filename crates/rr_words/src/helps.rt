@@ -6,6 +6,11 @@ pub(crate) fn schedule<'a>() -> &'a str {
     "The schedule [default: standard input]"
 }
 
+/// The help of the option for reasons.
+pub(crate) fn explain<'a>() -> &'a str {
+    "Tells the event behind each line, and why others were refused or came to nothing"
+}
+
 /// The help of the program.
 pub(crate) fn program<'a>() -> &'a str {
     "\
@@ -25,11 +30,37 @@ pub(crate) fn sim<'a>() -> &'a str {
 FILE is a schedule: a first line `nodes N`, with N from 1 to 7, and then one event a line, as `restart 0`, `dev 0`,
 `submit 0 7 1 claim a x` or `hear 0 5`. Lines end with LF, and one space divides words. The report has a line for each
 message that is sent, each acknowledgement, each node that has opened its disk, and each event that is refused. It ends
-with `decided N` and the list of the N decided commands.
+with `decided N` and the list of the N decided commands. With --explain an indented line for each event has its line, its
+text, and what it did or why it was refused or came to nothing. With --json each line is an object.
 
 Examples:
-  rr sim examples/one_command.schedule
-  rr random --schedule-only --seed 1 --steps 200 --nodes 3 | rr sim"
+  rr sim --explain examples/one_command.schedule
+  rr random --lively --schedule-only --seed 1 --steps 200 --nodes 3 | rr sim"
+}
+
+/// The help of `rr stats`.
+pub(crate) fn stats<'a>() -> &'a str {
+    "\
+FILE is a schedule, as `rr sim` reads it. Printed is a table of its run: the events of each kind, and how many of them the
+report tells, were refused or came to nothing; the messages of each kind, and how many were heard, heard again and never
+heard; the refusals of each name; and how many rounds and device calls there were for each decision. With --json it is one
+object.
+
+Examples:
+  rr stats examples/tie_of_two_commands.schedule
+  rr random --lively --schedule-only --seed 1 --steps 5000 --nodes 3 | rr stats"
+}
+
+/// The help of `rr check`.
+pub(crate) fn check<'a>() -> &'a str {
+    "\
+FILE is a schedule, as `rr sim` reads it, and REPORT a text that is to be its report. Where they are the same, nothing is
+printed and the status is 0. Else the status is 1, and printed is the first line in which they differ, as the run and as
+REPORT have it, with the event that it tells of. One of both may be -, which is standard input.
+
+Examples:
+  rr check examples/failed_write.schedule expected.report
+  rr sim examples/one_command.schedule | rr check examples/one_command.schedule -"
 }
 
 /// The help of `rr show`.
@@ -61,10 +92,11 @@ pub(crate) fn random<'a>() -> &'a str {
     "\
 Printed is the text of a schedule, a line `report`, and the report of its run, as `rr sim` prints it. With
 --schedule-only it is the text of the schedule alone, which `rr sim` reads. The same words print the same bytes. Most of
-the events come to nothing: hardly anything is decided.
+the events come to nothing: hardly anything is decided. With --lively each event is drawn among those that do something at
+that moment. Then --faults of a thousand steps have a fault: a crash, a failing call, a lost message, a suspicion or the like.
 
 Examples:
-  rr random --seed 1 --steps 1000 --nodes 3
+  rr random --lively --seed 1 --steps 1000 --nodes 3
   rr random --schedule-only --seed 1 --steps 1000 --nodes 3 | rr sim"
 }
 

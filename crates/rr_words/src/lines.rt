@@ -3,7 +3,7 @@
 ghost use Rattle.std.specs.Prelude.{◌≡◌, false, IfOk, codes};
 ghost use Rattle.clap.specs.Words.{app_of, new_app, rule_of};
 ghost use Rattle.clap.specs.declared.builder.command.Command.TheViews.{out-Command};
-ghost use Rattle.rr_words.specs.Lines.{rr_line, rr_settings, sim_line, show_line, migrate_line, word_rule, number_rule, option_rule, optional_number_rule, flag_rule, random_line, audit_line, run_line, sweep_line, draw_line};
+ghost use Rattle.rr_words.specs.Lines.{rr_line, schedule_lines, rr_settings, sim_line, stats_line, check_line, show_line, migrate_line, word_rule, number_rule, option_rule, optional_number_rule, flag_rule, numbers_line, random_line, audit_line, run_line, sweep_line, draw_line};
 
 use crate::helps;
 use clap::builder::ValueParser;
@@ -16,27 +16,41 @@ pub const LAST_LINE: u64 = 4_294_967_295;
 /// How many steps a random schedule has at most.
 pub const MAX_STEPS: u64 = 999_930;
 
+/// How many steps in a thousand of a lively schedule have a fault at most.
+pub const MAX_FAULTS: u64 = 1_000;
+
 // The command line of `rr`.
 pub(crate) fn command_line<'a>(alloc: Global) -> Result<Command<'a>, AllocError>
     ensures { IfOk result (λ c. app_of c ≡ rr_line) }
 {
-    let sim = sim_line(alloc)?;
-    let show = show_line(alloc)?;
-    let random = random_line(alloc)?;
-    let audit = audit_line(alloc)?;
     let running = run_line(alloc)?;
+    let audit = audit_line(alloc)?;
+    let show = show_line(alloc)?;
+    let migrate = migrate_line(alloc)?;
+    schedule_lines(alloc)?
+        .subcommand(running)?
+        .subcommand(audit)?
+        .subcommand(show)?
+        .subcommand(migrate)
+}
+
+// The command line with the subcommands on schedules.
+fn schedule_lines<'a>(alloc: Global) -> Result<Command<'a>, AllocError>
+    ensures { IfOk result (λ c. app_of c ≡ schedule_lines) }
+{
+    let sim = sim_line(alloc)?;
+    let stats = stats_line(alloc)?;
+    let check = check_line(alloc)?;
+    let random = random_line(alloc)?;
     let sweep = sweep_line(alloc)?;
     let draw = draw_line(alloc)?;
-    let migrate = migrate_line(alloc)?;
     top_line(alloc)
         .subcommand(sim)?
-        .subcommand(show)?
+        .subcommand(stats)?
+        .subcommand(check)?
         .subcommand(random)?
-        .subcommand(audit)?
-        .subcommand(running)?
         .subcommand(sweep)?
-        .subcommand(draw)?
-        .subcommand(migrate)
+        .subcommand(draw)
 }
 
 // The command line without its subcommands.
@@ -129,13 +143,56 @@ fn sim_line<'a>(alloc: Global) -> Result<Command<'a>, AllocError>
     ensures local { IfOk result (λ c. (out-Command c).has_globals ≡ false) }
 {
     let file = word_arg(alloc, "FILE", helps::schedule(), false);
+    let explain = flag_arg(alloc, "EXPLAIN", "explain", helps::explain());
+    let json = flag_arg(
+        alloc,
+        "JSON",
+        "json",
+        "Prints an object of JSON for each line",
+    );
     subcommand(
         alloc,
         "sim",
         "Runs a schedule and prints its report",
         helps::sim(),
     )
-    .arg(file)
+    .arg(file)?
+    .arg(explain)?
+    .arg(json)
+}
+
+// The command line of `rr stats`.
+fn stats_line<'a>(alloc: Global) -> Result<Command<'a>, AllocError>
+    ensures line { IfOk result (λ c. app_of c ≡ stats_line) }
+    ensures local { IfOk result (λ c. (out-Command c).has_globals ≡ false) }
+{
+    let file = word_arg(alloc, "FILE", helps::schedule(), false);
+    let json = flag_arg(alloc, "JSON", "json", "Prints an object of JSON");
+    subcommand(
+        alloc,
+        "stats",
+        "Runs a schedule and counts what happens in its run",
+        helps::stats(),
+    )
+    .arg(file)?
+    .arg(json)
+}
+
+// The command line of `rr check`.
+fn check_line<'a>(alloc: Global) -> Result<Command<'a>, AllocError>
+    ensures line { IfOk result (λ c. app_of c ≡ check_line) }
+    ensures local { IfOk result (λ c. (out-Command c).has_globals ≡ false) }
+{
+    let file = word_arg(alloc, "FILE", "The schedule", true);
+    let report = word_arg(alloc, "REPORT", "The report that it is to have", true);
+    subcommand(
+        alloc,
+        "check",
+        "Runs a schedule and compares its report with a file",
+        helps::check(),
+    )
+    .arg(file)?
+    .arg(report)
 }
 
 // The command line of `rr show`.
@@ -153,9 +210,9 @@ fn show_line<'a>(alloc: Global) -> Result<Command<'a>, AllocError>
     .arg(folder)
 }
 
-// The command line of `rr random`.
-fn random_line<'a>(alloc: Global) -> Result<Command<'a>, AllocError>
-    ensures line { IfOk result (λ c. app_of c ≡ random_line) }
+// The command line of `rr random`, with its seed, its steps and its nodes.
+fn numbers_line<'a>(alloc: Global) -> Result<Command<'a>, AllocError>
+    ensures line { IfOk result (λ c. app_of c ≡ numbers_line) }
     ensures local { IfOk result (λ c. (out-Command c).has_globals ≡ false) }
 {
     let seed = number_arg(alloc, "SEED", "seed", "The generator's seed", 0, u64::MAX);
@@ -168,12 +225,6 @@ fn random_line<'a>(alloc: Global) -> Result<Command<'a>, AllocError>
         MAX_STEPS,
     );
     let nodes = number_arg(alloc, "NODES", "nodes", "How many nodes there are", 1, 7);
-    let alone = flag_arg(
-        alloc,
-        "ALONE",
-        "schedule-only",
-        "Prints the schedule alone, without the report",
-    );
     subcommand(
         alloc,
         "random",
@@ -182,8 +233,35 @@ fn random_line<'a>(alloc: Global) -> Result<Command<'a>, AllocError>
     )
     .arg(seed)?
     .arg(steps)?
-    .arg(nodes)?
-    .arg(alone)
+    .arg(nodes)
+}
+
+// The command line of `rr random`.
+fn random_line<'a>(alloc: Global) -> Result<Command<'a>, AllocError>
+    ensures line { IfOk result (λ c. app_of c ≡ random_line) }
+    ensures local { IfOk result (λ c. (out-Command c).has_globals ≡ false) }
+{
+    let lively = flag_arg(
+        alloc,
+        "LIVELY",
+        "lively",
+        "Draws among the events that do something",
+    );
+    let faults = optional_number_arg(
+        alloc,
+        "FAULTS",
+        "faults",
+        "With --lively, how many steps in a thousand have a fault [default: 10]",
+        0,
+        MAX_FAULTS,
+    );
+    let alone = flag_arg(
+        alloc,
+        "ALONE",
+        "schedule-only",
+        "Prints the schedule alone, without the report",
+    );
+    numbers_line(alloc)?.arg(lively)?.arg(faults)?.arg(alone)
 }
 
 // The command line of `rr audit`.

@@ -2,7 +2,7 @@
 
 ghost use Rattle.std.specs.Prelude.{◌≡◌, option_map};
 ghost use Rattle.clap.specs.Words.{first_of, found_of, rows_of};
-ghost use Rattle.rr_words.specs.Tasks.{file_of, is_set, cut_words_of, cut_words_in, random_task, run_task, sweep_task, picture_task, migrate_task, task_by, task_in};
+ghost use Rattle.rr_words.specs.Tasks.{file_of, is_set, form_of, cut_words_of, cut_words_in, simulate_task, stats_task, check_task, random_task, run_task, sweep_task, picture_task, migrate_task, task_by, task_in};
 
 use clap::ArgMatches;
 
@@ -28,8 +28,34 @@ pub struct DrawWords<'a> {
     pub steps: Option<&'a str>,
     /// How many nodes there are.
     pub nodes: Option<&'a str>,
+    /// Whether each event is drawn among those that do something.
+    pub lively: bool,
+    /// How many steps in a thousand of a lively schedule have a fault.
+    pub faults: Option<&'a str>,
     /// Whether the schedule is printed alone, without the report of its run.
     pub alone: bool,
+}
+
+/// How something is printed.
+#[derive(Clone, Copy, Debug, PartialEq, Eq)]
+pub enum Form {
+    /// For people.
+    Plain,
+    /// As JSON.
+    Json,
+}
+
+/// What is shown of the run of a schedule. A file that is none stands for standard input.
+#[derive(Clone, Copy, Debug, PartialEq, Eq)]
+pub enum View<'a> {
+    /// `rr sim --json [FILE]`: its report, an object a line.
+    Report(Option<&'a str>),
+    /// `rr sim --explain [--json] [FILE]`: its report, with each event and what came of it.
+    Explanation(Form, Option<&'a str>),
+    /// `rr stats [--json] [FILE]`: its statistics.
+    Statistics(Form, Option<&'a str>),
+    /// `rr check FILE REPORT`: where its report differs first from the text in the second file.
+    Comparison(Option<&'a str>, Option<&'a str>),
 }
 
 /// What words ask for.
@@ -37,10 +63,12 @@ pub struct DrawWords<'a> {
 pub enum Task<'a> {
     /// `rr sim [FILE]`: the report of the schedule in this file, or else in standard input, as by the word `-`.
     Simulate(Option<&'a str>),
+    /// `rr sim` with an option, `rr stats` or `rr check`: a view of the run of a schedule.
+    View(View<'a>),
     /// `rr show DIR`: what the areas hold of the disk in this folder.
     Show(Option<&'a str>),
-    /// `rr random --seed SEED --steps STEPS --nodes NODES [--schedule-only]`: a random schedule, and the report of its run
-    /// unless the schedule is printed alone.
+    /// `rr random --seed SEED --steps STEPS --nodes NODES [--lively [--faults FAULTS]] [--schedule-only]`: a random schedule,
+    /// and the report of its run unless the schedule is printed alone.
     Draw(DrawWords<'a>),
     /// `rr audit [FILE]`: whether the events are what nodes do of the tape in this file, or else in standard input.
     Audit(Option<&'a str>),
@@ -97,6 +125,49 @@ fn cut_words<'a>(matches: &ArgMatches<'a>) -> CutWords<'a>
     }
 }
 
+// How something is printed, by the option for JSON.
+fn form_of(matches: &ArgMatches<'_>) -> Form
+    ensures { result ≡ form_of (rows_of (found_of matches.now)) }
+{
+    if is_set(matches, "JSON") {
+        Form::Json
+    } else {
+        Form::Plain
+    }
+}
+
+// What `rr sim` is asked for.
+fn simulate_task<'a>(matches: &ArgMatches<'a>) -> Task<'a>
+    ensures { task_in result ≡ simulate_task (rows_of (found_of matches.now)) }
+{
+    let file = file_of(word_of(matches, "FILE"));
+    let form = form_of(matches);
+    if is_set(matches, "EXPLAIN") {
+        return Task::View(View::Explanation(form, file));
+    }
+    match form {
+        Form::Json => Task::View(View::Report(file)),
+        Form::Plain => Task::Simulate(file),
+    }
+}
+
+// What `rr stats` is asked for.
+fn stats_task<'a>(matches: &ArgMatches<'a>) -> Task<'a>
+    ensures { task_in result ≡ stats_task (rows_of (found_of matches.now)) }
+{
+    let file = file_of(word_of(matches, "FILE"));
+    Task::View(View::Statistics(form_of(matches), file))
+}
+
+// What `rr check` is asked for.
+fn check_task<'a>(matches: &ArgMatches<'a>) -> Task<'a>
+    ensures { task_in result ≡ check_task (rows_of (found_of matches.now)) }
+{
+    let file = file_of(word_of(matches, "FILE"));
+    let report = file_of(word_of(matches, "REPORT"));
+    Task::View(View::Comparison(file, report))
+}
+
 // What `rr random` is asked for.
 fn random_task<'a>(matches: &ArgMatches<'a>) -> Task<'a>
     ensures { task_in result ≡ random_task (rows_of (found_of matches.now)) }
@@ -105,6 +176,8 @@ fn random_task<'a>(matches: &ArgMatches<'a>) -> Task<'a>
         seed: word_of(matches, "SEED"),
         steps: word_of(matches, "STEPS"),
         nodes: word_of(matches, "NODES"),
+        lively: is_set(matches, "LIVELY"),
+        faults: word_of(matches, "FAULTS"),
         alone: is_set(matches, "ALONE"),
     })
 }
@@ -150,7 +223,11 @@ fn migrate_task<'a>(matches: &ArgMatches<'a>) -> Task<'a>
 pub(crate) fn task_by<'a>(name: &str, matches: &ArgMatches<'a>) -> Task<'a>
     ensures { task_in result ≡ task_by (name.now, rows_of (found_of matches.now)) }
 {
-    if name == "show" {
+    if name == "stats" {
+        stats_task(matches)
+    } else if name == "check" {
+        check_task(matches)
+    } else if name == "show" {
         Task::Show(word_of(matches, "DIR"))
     } else if name == "random" {
         random_task(matches)
@@ -165,6 +242,6 @@ pub(crate) fn task_by<'a>(name: &str, matches: &ArgMatches<'a>) -> Task<'a>
     } else if name == "migrate" {
         migrate_task(matches)
     } else {
-        Task::Simulate(file_of(word_of(matches, "FILE")))
+        simulate_task(matches)
     }
 }

@@ -1,8 +1,10 @@
-//! Tests of accounts and of lively schedules: texts derived by hand.
+//! Tests of accounts, of lively schedules, and of the commands that show runs: texts derived by hand.
 #![tactic(auto)]
 
 #[cfg(test)]
 mod accounts;
+#[cfg(test)]
+mod commands;
 #[cfg(test)]
 mod differences;
 #[cfg(test)]

@@ -5,5 +5,5 @@ use Rattle.rr_cli.proofs.draw.draw_by_words.Goals as goal
 pub returns-in-Some-clause-ends : goal.returns-in-Some-clause-ends
 returns-in-Some-clause-ends g c =
     let d = c.in-Some.draw in
-    numbered d.seed d.steps d.nodes c.in-Some.ensures.some
-    (subst (λ alone. EndsOnDraw alone d.nodes d.seed d.steps c.print_draw.result (g.O.Sink.printing c.args.out.now) (g.O.Sink.printing c.print_draw.new.out)) c.in-Some.ensures.alone c.print_draw.ensures.ends)
+    numbered d.seed d.steps d.nodes d.faults c.in-Some.ensures.some
+    (subst (λ alone. EndsOnDraw alone d.faults d.nodes d.seed d.steps c.print_draw.result (g.O.Sink.printing c.args.out.now) (g.O.Sink.printing c.print_draw.new.out)) c.in-Some.ensures.alone c.print_draw.ensures.ends)

@@ -1,8 +1,8 @@
 use Rattle.std.proofs.Common.{◌≡◌, ◌∙◌, ℕ, List, Option, option_map, Bor, refl, sym, ap, map, None, Some, inl, inr}
 use Rattle.clap.specs.Words.{Text, kind_of}
 use Rattle.rr_words.specs.declared.tasks.Task.TheVariants as read
-use Rattle.rr_words.specs.Tasks.{Simulate, Show, Draw, Audit, Run, Sweep, Picture, Migrate, cut_words_in, draw_words_in, task_of, task_in}
-use Rattle.rr_cli.specs.Ends.{opened, unopened, mistaken, by_help, by_version, out_of_memory, by_standard_input, by_file, by_folder, by_numbers, by_migration, by_tape_in_standard_input, by_tape_in_a_file, by_sweep_of_standard_input, by_sweep_of_a_file, by_picture_of_standard_input, by_picture_of_a_file, without_seed, without_threads}
+use Rattle.rr_words.specs.Tasks.{Simulate, Viewing, Show, Draw, Audit, Run, Sweep, Picture, Migrate, cut_words_in, draw_words_in, view_in, task_of, task_in}
+use Rattle.rr_cli.specs.Ends.{opened, unopened, mistaken, by_help, by_version, out_of_memory, by_standard_input, by_file, by_folder, by_numbers, by_migration, by_tape_in_standard_input, by_tape_in_a_file, by_sweep_of_standard_input, by_sweep_of_a_file, by_picture_of_standard_input, by_picture_of_a_file, without_seed, without_views, without_threads}
 use Rattle.rr_cli.proofs.EndLemmas.{kind_cases}
 use Rattle.rr_cli.proofs.program.execute.Goals as goal
 
@@ -69,6 +69,12 @@ returns-in-Ok-Migrate-clause-ends g c =
     let w = c.in-Ok-Migrate in
     let task : task_of (map g.S.AsStr.text c.args.words.now) ≡ Migrate (text_of w.folder) (text_of w.node) (text_of w.nodes) = sym w.ensures.task ∙ ap task_in w.field-0-is in
     by_migration (text_of w.folder) (text_of w.node) (text_of w.nodes) w.ensures.faults task c.migrate_by_words.ensures.ends
+
+pub returns-in-Ok-View-clause-ends : goal.returns-in-Ok-View-clause-ends
+returns-in-Ok-View-clause-ends g c =
+    let w = c.in-Ok-View in
+    let task : task_of (map g.S.AsStr.text c.args.words.now) ≡ Viewing (view_in w.field-0-0) = sym w.ensures.task ∙ ap task_in w.field-0-is in
+    without_views (view_in w.field-0-0) w.ensures.faults task c.end_without_views.ensures refl
 
 pub returns-in-Ok-Run-clause-ends : goal.returns-in-Ok-Run-clause-ends
 returns-in-Ok-Run-clause-ends g c =

@@ -3,9 +3,10 @@ use Rattle.clap.specs.Words.{Text, kind_of}
 use Rattle.clap.specs.Kinds.{Kinds, IsAmong}
 use Rattle.clap.specs.declared.error.kind.ErrorKind.{ErrorKind}
 use Rattle.rr_words.specs.declared.tasks.Task.TheVariants as read
-use Rattle.rr_words.specs.Tasks.{Simulate, Show, Draw, Audit, Run, Sweep, Picture, Migrate, CutWords, DrawWords, cut_words_in, draw_words_in, task_of, task_in}
+use Rattle.rr_words.specs.Tasks.{Simulate, Viewing, Show, Draw, Audit, Run, Sweep, Picture, Migrate, CutWords, DrawWords, View, cut_words_in, draw_words_in, view_in, task_of, task_in}
 use Rattle.rr_cli.specs.Ends.{mistaken, by_help, by_version}
 use Rattle.rr_cli.proofs.EndLemmas.{kind_cases}
+use Rattle.rr_view.specs.Views as views
 use Rattle.rr_run.specs.Runs.{by_script, by_others, out_of_memory}
 use Rattle.rr_run.proofs.program.execute.Goals as goal
 
@@ -29,9 +30,9 @@ returns-in-Err-clause-ends g c =
       | inl memory ↦ let end = c.end_by_words.ensures.memory memory in out_of_memory end.0 end.1
       | inr among ↦ elim (kind_cases (kind_of c.in-Err.error)) [
         | inl memory ↦ let end = c.end_by_words.ensures.memory memory in out_of_memory end.0 end.1
-        | inr (inl help) ↦ by_others (λ none. absurd (none_among (kind_of c.in-Err.error) _ among none)) (by_help (kind_of c.in-Err.error) among help (c.end_by_words.ensures.help help))
-        | inr (inr (inl version)) ↦ by_others (λ none. absurd (none_among (kind_of c.in-Err.error) _ among none)) (by_version (kind_of c.in-Err.error) among version (c.end_by_words.ensures.version version))
-        | inr (inr (inr mistake)) ↦ let end = c.end_by_words.ensures.mistake mistake.0 mistake.1 in by_others (λ none. absurd (none_among (kind_of c.in-Err.error) _ among none)) (mistaken (kind_of c.in-Err.error) among mistake.1 end.0 end.1)
+        | inr (inl help) ↦ by_others (λ none. absurd (none_among (kind_of c.in-Err.error) _ among none)) (views.by_others (λ none. absurd (none_among (kind_of c.in-Err.error) _ among none)) (by_help (kind_of c.in-Err.error) among help (c.end_by_words.ensures.help help)))
+        | inr (inr (inl version)) ↦ by_others (λ none. absurd (none_among (kind_of c.in-Err.error) _ among none)) (views.by_others (λ none. absurd (none_among (kind_of c.in-Err.error) _ among none)) (by_version (kind_of c.in-Err.error) among version (c.end_by_words.ensures.version version)))
+        | inr (inr (inr mistake)) ↦ let end = c.end_by_words.ensures.mistake mistake.0 mistake.1 in by_others (λ none. absurd (none_among (kind_of c.in-Err.error) _ among none)) (views.by_others (λ none. absurd (none_among (kind_of c.in-Err.error) _ among none)) (mistaken (kind_of c.in-Err.error) among mistake.1 end.0 end.1))
       ]
     ]
 
@@ -51,6 +52,9 @@ without_script a b d n x s t is = absurd cc
 
 is_simulate : (a : Option Text) (n x s : Text) (t : Option Text) → Simulate a ≡ Run (Some n) (Some x) (Some s) t → ⊥
 is_simulate a n x s t is = absurd cc
+
+is_view : (v : View) (n x s : Text) (t : Option Text) → Viewing v ≡ Run (Some n) (Some x) (Some s) t → ⊥
+is_view v n x s t is = absurd cc
 
 is_show : (a : Option Text) (n x s : Text) (t : Option Text) → Show a ≡ Run (Some n) (Some x) (Some s) t → ⊥
 is_show a n x s t is = absurd cc
@@ -93,6 +97,12 @@ returns-in-Ok-Simulate-clause-ends g c =
     let w = c.in-Ok-Simulate in
     let task : task_of (map g.S.AsStr.text c.args.words.now) ≡ Simulate (text_of w.field-0-0) = sym w.ensures.task ∙ ap task_in w.field-0-is in
     by_others (λ none asks. is_simulate (text_of w.field-0-0) asks.nodes asks.dir asks.script asks.tape (sym task ∙ asks.is)) c.execute-in-Ok-Simulate.ensures.ends
+
+pub returns-in-Ok-View-clause-ends : goal.returns-in-Ok-View-clause-ends
+returns-in-Ok-View-clause-ends g c =
+    let w = c.in-Ok-View in
+    let task : task_of (map g.S.AsStr.text c.args.words.now) ≡ Viewing (view_in w.field-0-0) = sym w.ensures.task ∙ ap task_in w.field-0-is in
+    by_others (λ none asks. is_view (view_in w.field-0-0) asks.nodes asks.dir asks.script asks.tape (sym task ∙ asks.is)) c.execute-in-Ok-View.ensures.ends
 
 pub returns-in-Ok-Show-clause-ends : goal.returns-in-Ok-Show-clause-ends
 returns-in-Ok-Show-clause-ends g c =

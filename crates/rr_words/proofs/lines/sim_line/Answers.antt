@@ -6,8 +6,12 @@ use Rattle.rr_words.proofs.lines.sim_line.Goals as goal
 pub returns-clause-line : goal.returns-clause-line
 unfolding sim_line
 returns-clause-line c =
-    IfOk-weaker c.arg.result _ _ (λ r added. with_arg c.subcommand.result r c.word_arg-file.result _ _ c.subcommand.ensures.app added c.word_arg-file.ensures.rule c.word_arg-file.ensures.local) c.arg.ensures
+    let one = with_arg c.subcommand.result c.in_ok-arg.field-0 c.word_arg-file.result _ _ c.subcommand.ensures.app c.in_ok-arg.ensures c.word_arg-file.ensures.rule c.word_arg-file.ensures.local in
+    let two = with_arg c.in_ok-arg.field-0 c.in_ok-arg-2.field-0 c.flag_arg-explain.result _ _ one c.in_ok-arg-2.ensures c.flag_arg-explain.ensures.rule c.flag_arg-explain.ensures.local in
+    IfOk-weaker c.arg-3.result _ _ (λ r added. with_arg c.in_ok-arg-2.field-0 r c.flag_arg-json.result _ _ two added c.flag_arg-json.ensures.rule c.flag_arg-json.ensures.local) c.arg-3.ensures
 
 pub returns-clause-local : goal.returns-clause-local
 returns-clause-local c =
-    IfOk-weaker c.arg.result _ _ (λ r added. stays_local c.subcommand.result r c.word_arg-file.result c.subcommand.ensures.local added c.word_arg-file.ensures.local) c.arg.ensures
+    let one = stays_local c.subcommand.result c.in_ok-arg.field-0 c.word_arg-file.result c.subcommand.ensures.local c.in_ok-arg.ensures c.word_arg-file.ensures.local in
+    let two = stays_local c.in_ok-arg.field-0 c.in_ok-arg-2.field-0 c.flag_arg-explain.result one c.in_ok-arg-2.ensures c.flag_arg-explain.ensures.local in
+    IfOk-weaker c.arg-3.result _ _ (λ r added. stays_local c.in_ok-arg-2.field-0 r c.flag_arg-json.result two added c.flag_arg-json.ensures.local) c.arg-3.ensures

@@ -1,6 +1,6 @@
 use Rattle.std.proofs.Common.{◌≤◌, ◌+◌, ◌*◌}
 use Rattle.rr_lively.specs.Lively.{IsSoFar}
-use Rattle.rr_lively.proofs.lively.lively_run.Given as goal
+use Rattle.rr_lively.proofs.lively.drawn_run.Given as goal
 
 -- at most one event stands in the schedule for each step so far
 abbrev pub invariant-loop-step : goal.invariant-loop-step
