@@ -8,7 +8,7 @@ use crate::node::Stance;
 use crate::types::{Body, Fact};
 
 /// How many requests may be undecided before clients ask for no more.
-const UNDECIDED: u64 = 16;
+const UNDECIDED: u64 = 24;
 
 /// How often a step may draw: of each of seven nodes three events that would
 /// change nothing, and one that does.
@@ -241,7 +241,7 @@ impl Drawing {
     /// A node that is down is restarted at times, the second one and those beyond a minority at once.
     fn restart(&self, cluster: &Cluster, p: u8, b: u32) -> Option<String> {
         let up = (0..self.nodes).filter(|&q| !is_down(cluster.node(q).stance()));
-        if p != 1 % self.nodes && up.count() > usize::from(self.nodes) / 2 && b / 256 % 64 != 0 {
+        if p != 1 % self.nodes && up.count() > usize::from(self.nodes) / 2 && b / 256 % 256 != 0 {
             return None;
         }
         Some(format!("restart {p}"))
@@ -276,7 +276,7 @@ impl Drawing {
     /// What a node that is up does next, by weights.
     fn choose(&mut self, cluster: &Cluster, p: u8, stance: Stance, b: u32) -> Option<String> {
         let memory = &self.memories[usize::from(p)];
-        let takes_early = b / 256 % 256 == 0;
+        let takes_early = b / 256 % 1024 == 0;
         let may = [
             (memory.may_hear(), HEAR),
             (memory.may_send, SEND),
@@ -415,33 +415,33 @@ impl Drawing {
 
     /// An event with a fault, if it has a place; or a message is lost.
     fn fault(&mut self, cluster: &Cluster, from: u8, b: u32) -> Option<(u8, String)> {
-        let detail = b / 16;
-        let p = self.first_from(cluster, from, |stance| match b % 16 {
-            0..=1 => has_call(stance),
-            2..=10 => is_up(stance),
-            11..=13 => stance == Stance::Resting,
-            14 => !is_down(stance),
+        let (kind, detail) = (b % 64, b / 64);
+        let p = self.first_from(cluster, from, |stance| match kind {
+            0..=3 => has_call(stance),
+            4..=16 => is_up(stance),
+            17..=31 => stance == Stance::Resting,
+            32..=47 => !is_down(stance),
             _ => !is_up(stance),
         })?;
-        let event = match b % 16 {
-            0 => crash(p, detail),
-            1 => format!("fail {p} {:02X}", detail % 256),
-            2..=6 => {
+        let event = match kind {
+            0..=1 => crash(p, detail),
+            2..=3 => format!("fail {p} {:02X}", detail % 256),
+            4..=11 => {
                 self.lose(p, detail);
                 return None;
             }
-            7..=8 => self.suspect(p, detail),
-            9 if self.leads(p) => return None,
-            9 => {
+            12..=14 => self.suspect(p, detail),
+            15 if self.leads(p) => return None,
+            15 => {
                 self.memory(p).stir();
                 format!("advance {p}")
             }
-            10 => {
+            16 => {
                 self.memory(p).stir();
                 format!("tick {p}")
             }
-            11..=13 => format!("snap {p}"),
-            14 => format!("restart {p}"),
+            17..=31 => format!("snap {p}"),
+            32..=47 => format!("restart {p}"),
             _ => format!("tick {p}"),
         };
         Some((p, event))

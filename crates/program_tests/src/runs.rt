@@ -116,7 +116,7 @@ fn reads_words(rt: HostRuntime) -> Result<(), Fail> {
     assert!(rt;
         help.out
             .as_str()
-            .contains("\nExit status: 0 done, 2 wrong words")
+            .contains("\nExit status: 0 done, 1 a difference, 2 wrong words")
     );
     assert!(rt; help.err.is_empty());
     let wrong: [(&[&str], &str); 7] = [
@@ -233,7 +233,7 @@ fn tells_streams_that_fail(rt: HostRuntime) -> Result<(), Fail> {
 #[test]
 fn helps_with_examples(rt: HostRuntime) -> Result<(), Fail> {
     let subcommands = [
-        "sim", "show", "random", "audit", "run", "sweep", "draw", "migrate",
+        "sim", "stats", "check", "random", "sweep", "draw", "run", "audit", "show", "migrate",
     ];
     for name in subcommands {
         let long = run(&rt, &["rr", name, "--help"], &mut &b""[..])?;

@@ -143,7 +143,7 @@ version_text = line (codes "rr 0.1.0, proved with rattle-kit-13b logic dac8208d6
 -- the line with which the help ends, behind an empty one
 abbrev pub statuses_text : List ℕ
 statuses_text =
-    10 ∷ codes "Exit status: 0 done, 2 wrong words, 3 no schedule, 4 a damaged area, 5 a stream, a file or a device, 6 memory, 7 an audit" ++ 10 ∷ []
+    10 ∷ codes "Exit status: 0 done, 1 a difference, 2 wrong words, 3 no schedule, 4 a damaged area, 5 a stream, a file or a device, 6 memory, 7 an audit" ++ 10 ∷ []
 
 -- the help is printed, which ends with the line on statuses; or memory was wanting, and standard output is as it was
 pub data Helps (status : ℕ) (old new : Printing) : Type 0 where

@@ -10,7 +10,7 @@ use rr_text::Event;
 use rr_types::{Body, NodeId, NodeSet, Refusal};
 
 /// How many requests may be undecided before clients ask for no more.
-const UNDECIDED: u64 = 16;
+const UNDECIDED: u64 = 24;
 
 /// What a node may do.
 #[derive(Clone, Copy)]
@@ -60,7 +60,7 @@ impl Drawing {
     ) -> Result<Option<Event>, Refusal>
         ensures { IfErr result (λ e. e ≡ Refusal.OutOfMemory) }
     {
-        let takes = word / 256 % 256 == 0 || !self.is_busy(cluster);
+        let takes = word / 256 % 1024 == 0 || !self.is_busy(cluster);
         let choices = match self.memories.get(usize::from(node.index())) {
             Some(memory) => self.choices(memory, stance, takes),
             None => return Ok(None),

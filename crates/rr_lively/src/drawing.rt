@@ -127,7 +127,7 @@ impl Drawing {
         let nodes = self.nodes;
         let is_first = node.index() == node_at(nodes, 1).index();
         let running = count_of(nodes, cluster, Kind::Running);
-        if is_first || running <= u32::from(nodes.count() / 2) || word / 256 % 64 == 0 {
+        if is_first || running <= u32::from(nodes.count() / 2) || word / 256 % 256 == 0 {
             Some(Event::Restart { node })
         } else {
             None

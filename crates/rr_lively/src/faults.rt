@@ -23,17 +23,17 @@ enum Fault {
     Refused,
 }
 
-/// The fault of a kind from 0 to 15.
+/// The fault of a kind from 0 to 63.
 fn fault_of(kind: u32) -> Fault {
     match kind {
-        0 => Fault::Crash,
-        1 => Fault::Fail,
-        2..=6 => Fault::Lose,
-        7..=8 => Fault::Suspect,
-        9 => Fault::Advance,
-        10 => Fault::Tick,
-        11..=13 => Fault::Snap,
-        14 => Fault::Restart,
+        0..=1 => Fault::Crash,
+        2..=3 => Fault::Fail,
+        4..=11 => Fault::Lose,
+        12..=14 => Fault::Suspect,
+        15 => Fault::Advance,
+        16 => Fault::Tick,
+        17..=31 => Fault::Snap,
+        32..=47 => Fault::Restart,
         _ => Fault::Refused,
     }
 }
@@ -77,8 +77,8 @@ impl Drawing {
     ) -> Result<Option<Event>, Refusal>
         ensures { IfErr result (λ e. e ≡ Refusal.OutOfMemory) }
     {
-        let fault = fault_of(word % 16);
-        let detail = word / 16;
+        let fault = fault_of(word % 64);
+        let detail = word / 64;
         let Some(node) = first_from(self.nodes, cluster, from, kind_of(fault)) else {
             return Ok(None);
         };

@@ -1,0 +1,174 @@
+#!/usr/bin/env python3
+"""The commands of docs/TOUR.md, and what they print.
+
+    docs/tour.py [--rr RR]            runs them, and compares with docs/TOUR.md; the status is 1 where something differs
+    docs/tour.py --write [--rr RR]    writes docs/TOUR.md
+
+Without --rr the program is built here without proofs, by hostile/unproved. The commands run in a fresh folder, in which
+examples and bench are the repository's. Standard output and standard error are shown in the order in which they come."""
+import argparse
+import difflib
+import os
+import pathlib
+import subprocess
+import sys
+import tempfile
+
+TOP = pathlib.Path(__file__).resolve().parent.parent
+PAGE = TOP / "docs" / "TOUR.md"
+HEAD = """# A tour
+
+What a new user does, with what `rr` prints. `docs/tour.py` runs these commands and makes this page, and the gate compares it with what they
+print then. A line `status N` is the exit status where it isn't 0. [FORMATS.md](FORMATS.md) has the texts and the bytes.
+"""
+
+TOUR = [
+    (
+        "Help",
+        "`-h` is short, and `--help` also has the format and two examples.",
+        [
+            "rr --version",
+            "rr sim -h",
+            "rr check --help",
+            "rr simulate examples/one_command.schedule",
+        ],
+    ),
+    (
+        "A run, and what is behind it",
+        "A schedule is run, and the report tells what came of it. `--explain` has a note on each event: why it was refused or came to nothing, too.",
+        [
+            "rr sim examples/failed_write.schedule",
+            "rr sim --explain examples/failed_write.schedule | sed -n '/line 27/,/line 31/p'",
+            "printf 'nodes 2\\nsend 0\\nrestart 0\\nhear 1 5\\nfail 0 A5\\nack 0\\n' > lost.schedule; rr sim --explain lost.schedule",
+            "rr sim --json lost.schedule",
+            "rr sim --json --explain lost.schedule | head -3",
+        ],
+    ),
+    (
+        "Counts, and comparing",
+        "`rr stats` counts what happens in a run. `rr check` compares its report with a text, and prints nothing where they are the same.",
+        [
+            "rr stats examples/tie_of_two_commands.schedule",
+            "rr stats --json lost.schedule",
+            "rr sim examples/one_command.schedule > expected.report; rr check examples/one_command.schedule expected.report",
+            "sed -i 's/ack 0 1$/ack 0 2/' expected.report; rr check examples/one_command.schedule expected.report",
+        ],
+    ),
+    (
+        "Faults that explain",
+        "A first line for programs, and a second for people: where, what stands there, and what is expected.",
+        [
+            "printf 'nodes 3\\nsubmit 0 7 1 klaim a x\\n' | rr sim",
+            "printf 'nodes 3\\nsubmit 3 7 1 claim a x\\n' > far.schedule; rr sim --explain far.schedule",
+            "printf 'nodes 3\\r\\ntick 0\\r\\n' | rr stats -",
+            "rr sim nowhere.schedule",
+        ],
+    ),
+    (
+        "Schedules that are drawn",
+        "Of a random schedule most events come to nothing. In a lively one something happens, and much is decided.",
+        [
+            "rr random --seed 1 --steps 3 --nodes 1",
+            "rr random --schedule-only --seed 1 --steps 2000 --nodes 3 | rr sim | grep '^decided'",
+            "rr random --schedule-only --lively --seed 1 --steps 2000 --nodes 3 | rr stats",
+            "rr random --lively --faults 1001 --seed 1 --steps 3 --nodes 3",
+        ],
+    ),
+    (
+        "Sweeps and pictures",
+        "`rr sweep` crashes a node after each device call, in five ways. `rr draw` prints a picture; here are the first two of its titles.",
+        [
+            "rr sweep --seed 0 examples/one_command.schedule | grep '^40 '",
+            "rr draw examples/suspected_coordinator.schedule | grep -o '<title>[^<]*' | head -2",
+        ],
+    ),
+    (
+        "Nodes in threads, disks and tapes",
+        "`rr run` runs nodes in threads. `rr show` reads the two files of a node's disk, `rr migrate` opens one of version 1, and `rr audit` reads a record of what nodes did.",
+        [
+            "rr run --nodes 3 --dir nodes --script examples/three_clients.script",
+            "mkdir node; bench/areas.py node 64; rr show node",
+            "printf '\\377' | dd of=node/a0 bs=1 seek=7 conv=notrunc status=none; rr show node",
+            "cp -r examples/version_1 v1; rr show v1",
+            "rr migrate v1 --node 0 --nodes 1",
+            "rr audit one_command.tape",
+            "sed 3d one_command.tape | rr audit",
+        ],
+    ),
+]
+
+
+def build(room):
+    """The program, built without proofs."""
+    subprocess.run([TOP / "hostile" / "unproved", "rr", f"{room}/rr"], check=True)
+    return pathlib.Path(room) / "rr"
+
+
+def lay_out(room, program):
+    """The folder in which the commands run."""
+    place = pathlib.Path(room) / "place"
+    (place / "bin").mkdir(parents=True)
+    (place / "bin" / "rr").symlink_to(program.resolve())
+    for name in ("examples", "bench"):
+        (place / name).symlink_to(TOP / name)
+    (place / "one_command.tape").symlink_to(TOP / "crates" / "worked_rows" / "data" / "tapes-one_command.tape")
+    return place
+
+
+def told(place, command):
+    """A command with what it prints and its status."""
+    ran = subprocess.run(
+        ["bash", "-c", "set -o pipefail; " + command],
+        cwd=place,
+        stdin=subprocess.DEVNULL,
+        stdout=subprocess.PIPE,
+        stderr=subprocess.STDOUT,
+        env={"PATH": f"{place}/bin:/usr/bin:/bin", "LC_ALL": "C.UTF-8"},
+        timeout=60,
+    )
+    text = f"$ {command}\n" + ran.stdout.decode()
+    if not text.endswith("\n"):
+        text += "\n"
+    return text + (f"status {ran.returncode}\n" if ran.returncode else "")
+
+
+def page(program, room):
+    place = lay_out(room, program)
+    parts = [HEAD]
+    for title, words, commands in TOUR:
+        parts.append(f"\n## {title}\n\n{words}\n")
+        for command in commands:
+            lines = told(place, command).rstrip("\n").split("\n")
+            parts.append("\n" + "".join(f"    {line}".rstrip() + "\n" for line in lines))
+    return "".join(parts)
+
+
+def check_version(program):
+    """The version names the kit that is here."""
+    kit = subprocess.run(["rt", "version"], capture_output=True, text=True, check=True).stdout.strip()
+    said = subprocess.run([program, "--version"], capture_output=True, text=True, check=True).stdout
+    if kit not in said:
+        sys.exit(f"docs/tour.py: rr --version says {said.strip()!r}, but the kit is {kit!r}")
+
+
+def main():
+    words = argparse.ArgumentParser(description=__doc__, formatter_class=argparse.RawDescriptionHelpFormatter)
+    words.add_argument("--write", action="store_true")
+    words.add_argument("--rr", type=pathlib.Path)
+    asked = words.parse_args()
+    with tempfile.TemporaryDirectory() as room:
+        program = asked.rr or build(room)
+        check_version(program)
+        made = page(program, room)
+    if asked.write:
+        PAGE.write_text(made)
+        return
+    kept = PAGE.read_text()
+    if made != kept:
+        sys.stdout.writelines(difflib.unified_diff(kept.splitlines(True), made.splitlines(True), "docs/TOUR.md", "now"))
+        sys.exit("docs/tour.py: docs/TOUR.md isn't what the commands print now; docs/tour.py --write makes it anew")
+    count = sum(len(commands) for _, _, commands in TOUR)
+    print(f"docs/tour.py: {count} commands print what docs/TOUR.md has")
+
+
+main()
