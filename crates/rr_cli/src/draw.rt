@@ -1,6 +1,6 @@
 //! Random schedules, drawn by the numbers that words name, run and told as text.
 
-ghost use Rattle.std.specs.Prelude.{◌≡◌, ◌≤◌, ℕ, List, Option, None, true, IfOk, IfErr, IfSome, option_map};
+ghost use Rattle.std.specs.Prelude.{◌≡◌, ◌≤◌, ℕ, List, Option, None, Some, true, IfOk, IfErr, IfSome, option_map};
 ghost use Rattle.std.specs.Io.KnownBytes.{Keeps};
 ghost use Rattle.rr_words.specs.Tasks.{draw_words_in};
 ghost use Rattle.rr_cli.specs.Draws.{IsNumberIn, IsNumberOf, AreFaults, AreNumbers, IsDrawnText};
@@ -75,14 +75,19 @@ fn faults_of(lively: bool, word: Option<&str>) -> Option<Option<u32>>
     ensures some { IfSome result (λ f. AreFaults lively (option_map (λ s. s.now) word.entry) f) }
     ensures none { result ≡ None → (f : Option ℕ) → AreFaults lively (option_map (λ s. s.now) word.entry) f → ⊥ }
 {
-    match (lively, word) {
-        (true, Some(word)) => {
-            let faults = number_in(word, 0, MAX_FAULTS)?;
-            Some(Some(faults as u32))
+    if lively {
+        match word {
+            Some(word) => {
+                let faults = number_in(word, 0, MAX_FAULTS)?;
+                Some(Some(faults as u32))
+            }
+            None => Some(Some(DEFAULT_FAULTS)),
         }
-        (true, None) => Some(Some(DEFAULT_FAULTS)),
-        (false, None) => Some(None),
-        (false, Some(_)) => None,
+    } else {
+        match word {
+            Some(_) => None,
+            None => Some(None),
+        }
     }
 }
 
@@ -118,19 +123,41 @@ fn lone_schedule(alloc: Global, draw: Draw) -> Result<Vec<u8>, Refusal>
     schedule.text(alloc)
 }
 
+// The text of a random schedule that isn't lively: alone, or with a line `report` and the report of its run.
+fn random_text(alloc: Global, draw: Draw) -> Result<Vec<u8>, Refusal>
+    requires { draw.steps ≤ 999930 }
+    ensures ok { IfOk result (λ text. IsDrawnText draw.alone None draw.nodes draw.seed draw.steps text.items) }
+    ensures err { IfErr result (λ e. e ≡ Refusal.OutOfMemory) }
+{
+    if draw.alone {
+        lone_schedule(alloc, draw)
+    } else {
+        random_run(alloc, draw.nodes, draw.seed, draw.steps)
+    }
+}
+
+// The text of a lively schedule with so many faults: alone, or with a line `report` and the report of its run.
+fn lively_text(alloc: Global, draw: Draw, faults: u32) -> Result<Vec<u8>, Refusal>
+    requires { draw.steps ≤ 999930 }
+    ensures ok { IfOk result (λ text. IsDrawnText draw.alone (Some faults) draw.nodes draw.seed draw.steps text.items) }
+    ensures err { IfErr result (λ e. e ≡ Refusal.OutOfMemory) }
+{
+    if draw.alone {
+        lively_schedule(alloc, draw.nodes, draw.seed, draw.steps, faults)
+    } else {
+        lively_run(alloc, draw.nodes, draw.seed, draw.steps, faults)
+    }
+}
+
 // The text of a random schedule: alone, or with a line `report` and the report of its run.
 fn drawn_text(alloc: Global, draw: Draw) -> Result<Vec<u8>, Refusal>
     requires { draw.steps ≤ 999930 }
     ensures ok { IfOk result (λ text. IsDrawnText draw.alone draw.faults draw.nodes draw.seed draw.steps text.items) }
     ensures err { IfErr result (λ e. e ≡ Refusal.OutOfMemory) }
 {
-    match (draw.alone, draw.faults) {
-        (true, None) => lone_schedule(alloc, draw),
-        (false, None) => random_run(alloc, draw.nodes, draw.seed, draw.steps),
-        (true, Some(faults)) => {
-            lively_schedule(alloc, draw.nodes, draw.seed, draw.steps, faults)
-        }
-        (false, Some(faults)) => lively_run(alloc, draw.nodes, draw.seed, draw.steps, faults),
+    match draw.faults {
+        None => random_text(alloc, draw),
+        Some(faults) => lively_text(alloc, draw, faults),
     }
 }
 
