@@ -1,11 +1,14 @@
 #!/usr/bin/env python3
 """Writes the areas of node 0 of 1 into a folder, as the files a0 and a1, each of at least so many kilobytes.
 
-bench/areas.py FOLDER KILOBYTES
+bench/areas.py FOLDER KILOBYTES [--version VERSION] [--rounds ROUNDS]
 
-Area 0 has groups of 64 facts behind the empty snapshot, in which each instance is entered, proposed, adopted and
-decided. Area 1 is what the node wrote once area 0 was full: a snapshot of it, of the next epoch, and more groups.
+Area 0 has groups of at most 64 facts behind the empty snapshot, in which each instance is entered, proposed and adopted
+in so many rounds, 1 if left out, and then decided. Area 1 is what the node wrote once area 0 was full: a snapshot of it,
+of the next epoch, and more groups. Both are of this version of the format, 2 if left out. Version 1 has 65,536 instances,
+so that large areas of it need several rounds.
 """
+import argparse
 import os
 import struct
 import sys
@@ -13,6 +16,7 @@ import sys
 GROUP = 64
 NAME = b"lighthouse-7"
 VALUE = b"203.0.113.7:8443"
+INSTANCES = {1: 65_536, 2: 1_048_576}
 
 
 def command(instance):
@@ -20,52 +24,64 @@ def command(instance):
     return struct.pack(">IQ", 7, instance) + op
 
 
-def facts(instance):
-    at = struct.pack(">II", instance, 1)
+def facts(instance, rounds):
     what = command(instance)
-    return b"".join(
-        (
-            b"\x01" + at + bytes(4) + what,
-            b"\x02" + at + what,
-            b"\x03" + at + what,
-            b"\x04" + at[:4] + what,
-        )
-    )
+    told = b""
+    for number in range(1, rounds + 1):
+        at = struct.pack(">II", instance, number)
+        # The stamp of an estimate is the round before, in which it was adopted.
+        told += b"\x01" + at + struct.pack(">I", number - 1) + what
+        told += b"\x02" + at + what
+        told += b"\x03" + at + what
+    return told + struct.pack(">BI", 4, instance) + what
 
 
 def frame(payload):
     return struct.pack(">BI", 0xA5, len(payload)) + payload
 
 
-def snapshot(epoch, instances):
-    entries = b"".join(struct.pack(">IB", i, 1) + command(i) for i in range(instances))
-    head = struct.pack(">BBBQQI", 2, 0, 1, epoch, 4 * instances, instances)
-    return frame(head + entries)
+class Areas:
+    """Areas of a version of the format, in which each instance takes so many rounds."""
 
+    def __init__(self, version, rounds):
+        self.version, self.rounds = version, rounds
+        self.facts = 3 * rounds + 1
+        self.instances = GROUP // self.facts
 
-def group(instance):
-    payload = b"".join(facts(i) for i in range(instance, instance + GROUP // 4))
-    return frame(struct.pack(">QH", 4 * instance, GROUP) + payload)
+    def snapshot(self, epoch, instances):
+        entries = b"".join(struct.pack(">IB", i, 1) + command(i) for i in range(instances))
+        head = struct.pack(">BBBQQI", self.version, 0, 1, epoch, self.facts * instances, instances)
+        return frame(head + entries)
 
+    def group(self, instance):
+        payload = b"".join(facts(i, self.rounds) for i in range(instance, instance + self.instances))
+        return frame(struct.pack(">QH", self.facts * instance, self.facts * self.instances) + payload)
 
-def write_area(path, size, epoch, instances):
-    """Writes an area that begins with a snapshot of so many decided instances, and says how many it ends with."""
-    with open(path, "wb") as area:
-        written = area.write(snapshot(epoch, instances))
-        while written < size:
-            written += area.write(group(instances))
-            instances += GROUP // 4
-        area.write(b"\x00")
-        area.flush()
-        os.fsync(area.fileno())
-    return instances
+    def write(self, path, size, epoch, instances):
+        """Writes an area that begins with a snapshot of so many decided instances, and says how many it ends with."""
+        with open(path, "wb") as area:
+            written = area.write(self.snapshot(epoch, instances))
+            while written < size:
+                written += area.write(self.group(instances))
+                instances += self.instances
+            area.write(b"\x00")
+            area.flush()
+            os.fsync(area.fileno())
+        if instances > INSTANCES[self.version]:
+            sys.exit(f"{instances} instances are too many for version {self.version}: take more rounds")
+        return instances
 
 
 def main():
-    folder, kilobytes = sys.argv[1], int(sys.argv[2])
-    size = kilobytes * 1024
-    decided = write_area(os.path.join(folder, "a0"), size, 1, 0)
-    write_area(os.path.join(folder, "a1"), size, 2, decided)
+    words = argparse.ArgumentParser()
+    words.add_argument("folder")
+    words.add_argument("kilobytes", type=int)
+    words.add_argument("--version", type=int, choices=INSTANCES, default=2)
+    words.add_argument("--rounds", type=int, choices=range(1, GROUP // 3 + 1), default=1, metavar="ROUNDS")
+    said = words.parse_args()
+    areas = Areas(said.version, said.rounds)
+    decided = areas.write(os.path.join(said.folder, "a0"), said.kilobytes * 1024, 1, 0)
+    areas.write(os.path.join(said.folder, "a1"), said.kilobytes * 1024, 2, decided)
 
 
 main()

@@ -81,12 +81,15 @@ class Proofs:
         why = self.check(crate, tests, jobs)
         if why:
             return self.tell(crate, tests, why)
-        part = room.with_suffix(".part")
+        part = room.with_suffix(f".{os.getpid()}")
         shutil.rmtree(part, ignore_errors=True)
         part.mkdir()
         if is_library:
             link(out / "rlib", part / "rlib")
-        part.rename(room)
+        try:
+            part.rename(room)
+        except OSError:  # another run has just kept the same
+            shutil.rmtree(part)
         print(f"{crate.name}{' (tests)' if tests else ''} proved in {time.monotonic() - begun:.0f} s", flush=True)
         return True
 

@@ -68,12 +68,18 @@ fn refuses_as_an_opening_does(rt: HostRuntime) -> Result<(), Fail> {
     let folder = "rr_migrate_refused";
     let _ = fs::remove_dir_all(&rt, folder);
     let ran = migrated(&rt, folder, "0", "1")?;
-    assert_eq!(rt; ran.err.as_str(), "rr: 2 Device\n");
+    assert_eq!(rt;
+        ran.err.as_str(),
+        "rr: 2 Device\nrr_migrate_refused: its files can't be opened, read or written\n"
+    );
     assert_eq!(rt; ran.status, 5);
     assert!(rt; !fs::exists(&rt, folder)?, "nothing is made");
     make(&rt, folder, area(), &[])?;
     let ran = migrated(&rt, folder, "0", "3")?;
-    assert_eq!(rt; ran.err.as_str(), "rr: 3 Damaged 0 0\n");
+    assert_eq!(rt;
+        ran.err.as_str(),
+        "rr: 3 Damaged 0 0\nrr_migrate_refused: the file a0 is damaged at byte 0\n"
+    );
     assert_eq!(rt; ran.status, 4);
     assert!(rt; ran.out.is_empty());
     for (node, nodes) in [("1", "1"), ("3", "2"), ("0", "0"), ("0", "8"), ("7", "7")] {

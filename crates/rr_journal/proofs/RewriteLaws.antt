@@ -85,7 +85,7 @@ refused_for_memory c area facts e stands (inl memory) = memory
 refused_for_memory c area facts e stands (inr large) = absurd (never (may_migrate c) stands.2 large.1)
   where
     never : (may : Bool) → may ≡ true → may ≡ false → ⊥
-    never may yes no = cc
+    never may one other = cc
 
 -- what the snapshot begins
 pub content_is : (n p : ℕ) (was : Found) → writes_anew was ≡ true → content_of (snapshot_with n p (content_anew was)) ≡ content_anew was
@@ -104,7 +104,7 @@ anew_stands Unformatted facts due none =
     subst (λ (fs : List Fact). StandsFor (Active (area_anew Unformatted) (content_anew Unformatted)) fs) (sym (nil_from_length facts none)) (refl, refl)
 anew_stands (Broken area offset) facts due stands = absurd cc
 anew_stands (Active area c) facts due stands = absurd cc
-anew_stands (Outdated area c) facts due stands = stands
+anew_stands (Outdated area c) facts due stands = (stands.0, stands.1)
 
 pub held_anew : (n p : ℕ) (was : Found) (facts : List Fact) (old new : Images) → writes_anew was ≡ true → found n p old.of_first old.of_second ≡ was → Holds n p old facts
     → found n p new.of_first new.of_second ≡ Active (area_anew was) (content_anew was) → Holds n p new facts

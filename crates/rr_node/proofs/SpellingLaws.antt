@@ -84,3 +84,8 @@ steady_spelt n p (does.Stopped disk) h = tt
 steady_spelt n p (does.Faulted disk) h = tt
 steady_spelt n p (does.Opening o) h = opening_spelt n p o.phase (areas_in o.disk) h.3
 steady_spelt n p (does.Serving s) h = flush_spelt s.core s.slots s.flush h.flush
+
+-- so it is what a steady node comes to
+pub steadily_spelt : (n p : ℕ) (inside taken left last : code.Doing) {G : Type 0} → IsSteady n p inside → taken ≡ inside → (IsSteady n p taken → G × IsSteady n p left) → last ≡ left → IsSpelt (doing_of last)
+steadily_spelt n p inside taken left last steady same carries after =
+    subst (λ (d : code.Doing). IsSpelt (doing_of d)) (sym after) (steady_spelt n p left (carries (subst (λ (d : code.Doing). IsSteady n p d) (sym same) steady)).1)

@@ -42,7 +42,7 @@ same_outcome : (x y : Outcome) (r : Result Outcome Refusal) → r ≡ Ok x → r
 same_outcome x y r one other = cc
 
 never : (may : Bool) → may ≡ true → may ≡ false → ⊥
-never may yes no = cc
+never may one other = cc
 
 -- what an answer is, of the answer with the seat behind it
 answered : (a b : Answer) → a ≡ b → a.0 ≡ b.0

@@ -2,9 +2,8 @@
 //! of tapes, whose names end in `.tape`, and of schedules. Behind the word `run` it prints the report of each
 //! schedule, behind the word `areas` the bytes that the areas of node 0 hold at its end, and behind the word
 //! `sweep` how many crashes in the switch with which it ends kept what it was of, and behind the word `restarts` the
-//! sweep of its device calls. Behind the word `audit` it prints what an audit of each tape finds, and behind the word
-//! `show` what the areas of a folder tell. At the word `full-list` it says what a node answers all of whose instances are
-//! decided.
+//! sweep of its device calls. Behind the word `audit` it prints what an audit of each tape finds. At the word `full-list` it
+//! says what a node answers all of whose instances are decided.
 #![tactic(auto)]
 
 mod areas;
@@ -16,8 +15,7 @@ ghost use Rattle.rr_sim.specs.Told.{IsReportOn};
 
 use crate::areas::areas_behind;
 use rr_audit::Verdict;
-use rr_cli::{audit_on, print_refusal, report_on, show_disk};
-use rr_disk::MemDisk;
+use rr_cli::{audit_on, print_refusal, report_on};
 use rr_sweep::push_sweep_lines;
 use rr_tape::Tape;
 use rr_text::Schedule;
@@ -35,7 +33,6 @@ enum Task {
     Sweep,
     Restarts,
     Audit,
-    Show,
 }
 
 fn printed(alloc: Global, is_tape: bool, bytes: &[u8]) -> Result<Vec<u8>, Refusal>
@@ -117,23 +114,6 @@ fn audit(rt: &HostRuntime, path: &str, bytes: &[u8]) -> io::Result<()> {
     }
 }
 
-/// Prints what `rr show` tells of the areas in these two files.
-fn show(rt: &HostRuntime, path: &str) -> io::Result<()> {
-    println!(rt; "{path} shown")?;
-    let path_1 = format!(in rt.alloc(); "{path}.a0")?;
-    let path_2 = format!(in rt.alloc(); "{path}.a1")?;
-    let first = fs::read(rt, path_1.as_str())?;
-    let second = fs::read(rt, path_2.as_str())?;
-    let shown = match MemDisk::with_areas(rt.alloc(), &first, &second) {
-        Ok(mut disk) => show_disk(rt.alloc(), &mut disk),
-        Err(_) => Err(Refusal::OutOfMemory),
-    };
-    match shown {
-        Ok(text) => rt.stdout().write_all(&text),
-        Err(refusal) => print_refusal(&mut rt.stdout(), &refusal),
-    }
-}
-
 fn main(rt: HostRuntime) -> io::Result<()> {
     let mut task = Task::Read;
     for word in env::args(&rt)?.skip(1) {
@@ -143,9 +123,7 @@ fn main(rt: HostRuntime) -> io::Result<()> {
             "sweep" => task = Task::Sweep,
             "restarts" => task = Task::Restarts,
             "audit" => task = Task::Audit,
-            "show" => task = Task::Show,
             "full-list" => full_list::full_list(&rt)?,
-            path if matches!(task, Task::Show) => show(&rt, path)?,
             path => {
                 let bytes = fs::read(&rt, path)?;
                 match task {
@@ -155,7 +133,6 @@ fn main(rt: HostRuntime) -> io::Result<()> {
                     Task::Sweep => sweep::sweep(&rt, path, &bytes)?,
                     Task::Restarts => print_restarts(&rt, path, &bytes)?,
                     Task::Audit => audit(&rt, path, &bytes)?,
-                    Task::Show => {}
                 }
             }
         }

@@ -1,4 +1,5 @@
 use Rattle.std.proofs.Common.{◌≡◌, refl, sym, ap, subst, ◌∙◌, List, ℕ, Ok}
+use Rattle.std.proofs.lemmas.Result.{err_from_is_err_and}
 use Rattle.rr_frame.specs.declared.version.Version.TheVariants.{One, Two}
 use Rattle.rr_frame.specs.Snapshots.{IsSnapshot}
 use Rattle.rr_image.specs.declared.image.Image.{Image}
@@ -72,4 +73,5 @@ returns-in_err-rewrite-in-Ok-Outdated-clause-undamaged c facts both rests one tw
     let is = subst (λ (x : Image). Finds (Ok x) (found n p c.args.first.now c.args.second.now)) c.in-Ok-Outdated.field-0-is c.in-Ok-Outdated.ensures in
     let finds : found n p rests.start.of_first rests.start.of_second ≡ Outdated c.in-Ok-Outdated.area c.in-Ok-Outdated.content =
     ap (λ (b : List ℕ). found n p b rests.start.of_second) (sym one) ∙ ap (λ (b : List ℕ). found n p c.args.first.now b) (sym two) ∙ is in
-    refused_for_memory c.in-Ok-Outdated.content c.in-Ok-Outdated.area facts _ (subst (λ (f : Found). StandsFor f facts) finds rests.holds.stands) c.in_err-rewrite-in-Ok-Outdated.ensures.err
+    let returned = err_from_is_err_and c.from_residual-in_err-rewrite-in-Ok-Outdated.result c.from_residual-in_err-rewrite-in-Ok-Outdated.ensures.1 in
+    rw returned.1 (returned.2 ∙ refused_for_memory c.in-Ok-Outdated.content c.in-Ok-Outdated.area facts _ (subst (λ (f : Found). StandsFor f facts) finds rests.holds.stands) c.in_err-rewrite-in-Ok-Outdated.ensures.err)

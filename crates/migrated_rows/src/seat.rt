@@ -1,0 +1,30 @@
+//! The node of a row.
+
+ghost use Rattle.std.specs.Prelude.{◌<◌};
+
+use rr_types::{NodeId, Nodes};
+
+/// One of so many nodes.
+#[derive(Clone, Copy, Debug)]
+pub struct Seat {
+    pub nodes: Nodes,
+    pub node: NodeId,
+    ghost exists: { node < nodes },
+}
+
+impl Seat {
+    /// The node of this number, of so many, where there is one.
+    fn new(node: u8, nodes: u8) -> Option<Seat> {
+        let nodes = Nodes::new(nodes).ok()?;
+        let node = NodeId::new(nodes, node)?;
+        Some(Seat { nodes, node })
+    }
+
+    /// The node that a row names: behind its folder stand `--node`, a number, `--nodes` and a number.
+    pub fn of_row(row: &str) -> Option<Seat> {
+        let mut words = row.split(' ').skip(2);
+        let node = words.next()?.parse::<u8>().ok()?;
+        let nodes = words.nth(1)?.parse::<u8>().ok()?;
+        Seat::new(node, nodes)
+    }
+}
