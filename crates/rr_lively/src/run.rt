@@ -1,15 +1,15 @@
 //! A schedule as it is drawn, with its run: each event is made and told before the next is drawn.
 
-ghost use Rattle.std.specs.Prelude.{◌≡◌, ◌≤◌, ◌+◌, ◌<◌, false, IsTrue, Ok, OnOk, IfOk, IfErr};
+ghost use Rattle.std.specs.Prelude.{◌≡◌, ◌≤◌, ◌+◌, ◌^◌, ◌<◌, false, IsTrue, Ok, OnOk, IfOk, IfErr};
 ghost use Rattle.rr_text.specs.Scheduled.{IsEvent};
-ghost use Rattle.rr_text.specs.Words.{IsCommand, IsFill};
+ghost use Rattle.rr_text.specs.Words.{IsOp, IsCommand, IsFill};
 ghost use Rattle.rr_lively.specs.Lively.{IsSoFar, MayStay, IsLivelyRun, IsScheduleTo};
 
 use rr_sim::{Cluster, Stance, decided_list, node_of};
 use rr_text::text_report::push_decided_list;
 use rr_text::text_schedule::{push_event_line, push_nodes_line};
 use rr_text::{Event, Fill};
-use rr_types::{Command, Nodes, Op, Refusal};
+use rr_types::{Command, Nodes, Op, Refusal, RequestNo};
 use std::alloc::Global;
 
 /// The nodes behind the events so far, the line of the next event, and the texts of the schedule and of its report.
@@ -21,21 +21,43 @@ pub(crate) struct Run {
     report: Vec<u8>,
 }
 
-/// Whether a command has a name, and a value that isn't too long.
-fn is_command(command: &Command) -> bool
-    ensures { IsTrue result → IsCommand command.now }
+/// An operation has a name, and a value that isn't too long. It does nothing when it runs, as the two below.
+fn op_law(op: &Op)
+    ensures { IsOp op.now }
 {
-    let _request = command.request;
-    match &command.op {
-        Op::Claim(name, value) | Op::Update(name, value) => {
-            !name.as_bytes().is_empty() && value.as_bytes().len() <= 64
+    match op {
+        Op::Claim(name, value) => {
+            let _name = name.as_bytes();
+            let _value = value.as_bytes();
         }
-        Op::Release(name) => !name.as_bytes().is_empty(),
+        Op::Update(name, value) => {
+            let _name = name.as_bytes();
+            let _value = value.as_bytes();
+        }
+        Op::Release(name) => {
+            let _name = name.as_bytes();
+        }
         Op::Transfer(name, owner) => {
+            let _name = name.as_bytes();
             let _owner = *owner;
-            !name.as_bytes().is_empty()
         }
     }
+}
+
+/// The numbers of a request are in their ranges.
+fn request_law(request: RequestNo)
+    ensures client { request.client < 2 ^ 32 }
+    ensures seq { request.seq < 2 ^ 64 }
+{
+    let _client = request.client;
+    let _seq = request.seq;
+}
+
+fn command_law(command: &Command)
+    ensures { IsCommand command.now }
+{
+    op_law(&command.op);
+    request_law(command.request);
 }
 
 /// Whether a fill has one byte, as each that is drawn.
@@ -60,7 +82,10 @@ fn is_event(nodes: Nodes, event: &Event) -> bool
     }
     match event {
         Event::Suspect { set, .. } => u32::from(set.bits()) < 1 << nodes.count(),
-        Event::Submit { command, .. } => is_command(command),
+        Event::Submit { command, .. } => {
+            command_law(command);
+            true
+        }
         Event::Hear { message, .. } => {
             let _message = *message;
             true
