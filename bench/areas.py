@@ -3,10 +3,10 @@
 
 bench/areas.py FOLDER KILOBYTES [--version VERSION] [--rounds ROUNDS]
 
-Area 0 has groups of at most 64 facts behind the empty snapshot, in which each instance is entered, proposed and adopted
-in so many rounds, 1 if left out, and then decided. Area 1 is what the node wrote once area 0 was full: a snapshot of it,
-of the next epoch, and more groups. Both are of this version of the format, 2 if left out. Version 1 has 65,536 instances,
-so that large areas of it need several rounds.
+Area 0 has groups of at most 64 facts behind the empty snapshot. In them each instance is entered, proposed and adopted in
+so many rounds, 1 if left out, and then decided. Area 1 is what the node wrote once area 0 was full: a snapshot of it, of
+the next epoch, and more groups. Both are of this version of the format, 2 if left out. Version 1 has 65,536 instances, so
+that large areas of it need several rounds.
 """
 import argparse
 import os

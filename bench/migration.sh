@@ -1,7 +1,7 @@
 #!/usr/bin/env bash
-# Openings of folders with two areas of 64 MB: of version 1, which are migrated, and of the same facts in version 2, of which
-# nothing is written. `rr migrate` opens a folder and shows it then, bench_opening opens it alone. A migration should take at
-# most three times an opening, in time and in memory.
+# Openings of folders with two areas of 64 MB. Those of version 1 are migrated. Those with the same facts in version 2 are
+# opened, and nothing is written. `rr migrate` opens a folder and shows it then, bench_opening opens it alone. A migration
+# should take at most three times an opening, in time and in memory.
 # bench/migration.sh [ROUNDS [MEGABYTES]]
 # RR=PROGRAM and OPENING=PROGRAM name programs that are there, which are then neither proved nor built.
 set -euo pipefail

@@ -10,8 +10,8 @@ use rr_text::{Binding, BoundNames, ReportLine};
 use rr_types::Refusal;
 use std::alloc::Global;
 
-/// What a node knows: the words of its restart in a report, with how many facts it has and the bound names, and a snapshot
-/// of its facts, with epoch 1.
+/// What a node knows. The words of its restart in a report tell how many facts it has, and the bound names. A snapshot of
+/// epoch 1 tells where each instance stands.
 #[derive(Drop)]
 pub struct Known {
     restart: Vec<u8>,

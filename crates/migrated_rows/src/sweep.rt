@@ -16,8 +16,8 @@ use std::io::Write;
 /// The most device calls of an opening.
 const CALLS: u32 = 9;
 
-/// The crashes of a node: what it has to know behind each of them, the device calls of the opening in which it crashes, how
-/// many crashes were tried, and those behind which it didn't know that.
+/// The crashes of a node in an opening: what it has to know behind each of them, and how many device calls were made. Then
+/// how many crashes were tried, and those behind which it knew otherwise.
 #[derive(Drop)]
 struct Sweep {
     seat: Seat,

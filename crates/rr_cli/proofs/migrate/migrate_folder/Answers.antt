@@ -9,4 +9,4 @@ returns-in-Ok-clause-ends g c =
     (subst (λ text. Prints text c.end_by_text.result (g.O.Sink.printing c.args.out.now) (g.O.Sink.printing c.end_by_text.new.out)) c.as_slice.ensures.value c.end_by_text.ensures.ends)
 
 pub returns-in-Err-clause-ends : goal.returns-in-Err-clause-ends
-returns-in-Err-clause-ends g c = unmigrated c.in-Err.refusal c.in-Err.ensures.cause c.end_by_refusal.ensures refl
+returns-in-Err-clause-ends g c = unmigrated c.in-Err.refusal c.in-Err.ensures.cause c.end_by_folder_fault.ensures refl
