@@ -79,8 +79,9 @@ Examples:
 pub(crate) fn migrate<'a>() -> &'a str {
     "\
 DIR is the folder of the disk of node P of N, whose two areas are the files a0 and a1. Both have to be there: nothing is
-made. The node opens its disk, as it does before it serves. Then the areas are printed, a line for each, as `rr show`
-prints them. An area that holds facts of another node, or of another number of nodes, is damaged for this one.
+made. The node opens its disk, as it does before it serves: where version 1 wrote the folder, the same facts are then written
+in version 2. There is no way back, so keep a copy. Then the areas are printed, a line for each, as `rr show` prints them. An
+area of another node, or of another number of nodes, is damaged for this one. No other program may have the folder open.
 
 Examples:
   rr migrate /tmp/nodes/0 --node 0 --nodes 3

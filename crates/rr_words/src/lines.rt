@@ -385,7 +385,7 @@ fn migrate_line<'a>(alloc: Global) -> Result<Command<'a>, AllocError>
     subcommand(
         alloc,
         "migrate",
-        "Opens the disk of a node in the format of today, and tells what its areas hold",
+        "Opens the folder of a node, brings it to version 2 if need be, and tells what its areas hold",
         helps::migrate(),
     )
     .arg(folder)?
