@@ -1,5 +1,5 @@
-use Rattle.std.proofs.Common.{subst}
-use Rattle.rr_cli.specs.Ends.{EndsOnDraw, numbered}
+use Rattle.std.proofs.Common.{refl, subst}
+use Rattle.rr_cli.specs.Ends.{EndsOnDraw, numbered, unnumbered}
 use Rattle.rr_cli.proofs.draw.draw_by_words.Goals as goal
 
 pub returns-in-Some-clause-ends : goal.returns-in-Some-clause-ends
@@ -7,3 +7,6 @@ returns-in-Some-clause-ends g c =
     let d = c.in-Some.draw in
     numbered d.seed d.steps d.nodes d.faults c.in-Some.ensures.some
     (subst (λ alone. EndsOnDraw alone d.faults d.nodes d.seed d.steps c.print_draw.result (g.O.Sink.printing c.args.out.now) (g.O.Sink.printing c.print_draw.new.out)) c.in-Some.ensures.alone c.print_draw.ensures.ends)
+
+pub returns-in-None-clause-ends : goal.returns-in-None-clause-ends
+returns-in-None-clause-ends g c = unnumbered (c.numbers_of.ensures.none c.in-None.is) refl refl
