@@ -1,5 +1,6 @@
 //! Spelled examples, faults and their offsets.
 
+use crate::frame_sweeps::{Form, rewritten};
 use rr_frame::{
     Reader, Snapshot, Version, decode_fact, decode_group, decode_snapshot, encode_fact,
     encode_snapshot, put_command, read_command,
@@ -219,11 +220,6 @@ fn names_are_as_long_as_the_version_has_them(rt: HostRuntime) {
     }
 }
 
-/// A fact that is read and written again.
-fn written_again(alloc: Global, version: Version, bytes: &[u8]) -> Result<Vec<u8>, Refusal> {
-    encode_fact(alloc, &decode_fact(version, bytes)?)
-}
-
 #[test]
 fn facts_of_version_1(rt: HostRuntime) {
     let alloc = rt.alloc();
@@ -237,7 +233,7 @@ fn facts_of_version_1(rt: HostRuntime) {
     let transfer = [
         4, 0, 0, 0, 0, 0, 0, 0, 7, 0, 0, 0, 0, 0, 0, 0, 2, 4, 1, 0x61, 0, 0, 0, 9,
     ];
-    let again = written_again(alloc, Version::One, &last).expect(&rt, "lawful");
+    let again = rewritten(alloc, Form::Fact(Version::One), &last).expect(&rt, "lawful");
     assert!(rt; again.as_slice() == last.as_slice());
     assert!(rt; matches!(decode_fact(Version::One, &far), Err(Refusal::Malformed(1))));
     assert!(rt; decode_fact(Version::Two, &far).is_ok());
