@@ -10,7 +10,7 @@ use std::process::Abort;
 
 /// Which decoder reads an example, and in which version.
 #[derive(Clone, Copy)]
-enum Form {
+pub(crate) enum Form {
     Fact(Version),
     Group(Version),
     Snapshot,
@@ -111,7 +111,7 @@ const SNAPSHOT_FIELDS: [usize; 42] = [
 ];
 
 /// Reads bytes, and writes what was read; a snapshot with the first byte of its version.
-fn rewritten(alloc: Global, form: Form, bytes: &[u8]) -> Result<Vec<u8>, Refusal> {
+pub(crate) fn rewritten(alloc: Global, form: Form, bytes: &[u8]) -> Result<Vec<u8>, Refusal> {
     // The check learns what these are made of from the types of a function's variables.
     let _parts: Option<(Command, Op, Standing)> = None;
     match form {

@@ -1,5 +1,6 @@
 //! Spelled examples, faults and their offsets.
 
+use crate::frame_sweeps::{Form, rewritten};
 use rr_frame::{
     Reader, Snapshot, Version, decode_fact, decode_group, decode_snapshot, encode_fact,
     encode_snapshot, put_command, read_command,
@@ -232,8 +233,7 @@ fn facts_of_version_1(rt: HostRuntime) {
     let transfer = [
         4, 0, 0, 0, 0, 0, 0, 0, 7, 0, 0, 0, 0, 0, 0, 0, 2, 4, 1, 0x61, 0, 0, 0, 9,
     ];
-    let read = decode_fact(Version::One, &last).expect(&rt, "lawful");
-    let again = encode_fact(alloc, &read).expect(&rt, "memory");
+    let again = rewritten(alloc, Form::Fact(Version::One), &last).expect(&rt, "lawful");
     assert!(rt; again.as_slice() == last.as_slice());
     assert!(rt; matches!(decode_fact(Version::One, &far), Err(Refusal::Malformed(1))));
     assert!(rt; decode_fact(Version::Two, &far).is_ok());
