@@ -1,6 +1,6 @@
 //! What a command reads: standard input or a file.
 
-ghost use Rattle.std.specs.Prelude.{◌≡◌, option_map, IfOk, IfErr};
+ghost use Rattle.std.specs.Prelude.{◌≡◌, option_map, IfOk, IfErr, OnOk};
 ghost use Rattle.rr_cli.specs.Ends.{IsStreamStatus};
 ghost use Rattle.rr_view.specs.Views.{IsReadFor, IsUnreadFor};
 
@@ -26,6 +26,7 @@ pub(crate) fn read_file<R: Files + AllocGlobal, I: Source, E: Write>(
     err: &mut E,
 ) -> Result<Vec<u8>, u8>
     ensures ok { IfOk result (λ bytes. IsReadFor (option_map (λ s. s.now) file.entry) (I.reading input.old) (I.reading input.new) bytes.items) }
+    ensures quiet { OnOk result (E.contents err.new ≡ E.contents err.old) }
     ensures unread { IfErr result (λ status. IsUnreadFor (option_map (λ s. s.now) file.entry) (I.reading input.old) (I.reading input.new) status) }
 {
     match file {
@@ -43,7 +44,8 @@ fn read_path<R: Files + AllocGlobal, E: Write>(
     path: &str,
     err: &mut E,
 ) -> Result<Vec<u8>, u8>
-    ensures { IfErr result IsStreamStatus }
+    ensures quiet { OnOk result (E.contents err.new ≡ E.contents err.old) }
+    ensures unread { IfErr result IsStreamStatus }
 {
     match fs::open(rt, path) {
         Ok(file) => match read_all(rt.alloc(), &mut Counted::new(file)) {

@@ -33,7 +33,7 @@ pub returns-in-Ok-Simulate-clause-ends : goal.returns-in-Ok-Simulate-clause-ends
 returns-in-Ok-Simulate-clause-ends g c =
     let w = c.in-Ok-Simulate in
     let task : task_of (map g.S.AsStr.text c.args.words.now) ≡ Simulate (text_of w.field-0-0) = sym w.ensures.task ∙ ap task_in w.field-0-is in
-    by_others (λ none view is. no_simulate (text_of w.field-0-0) view (sym task ∙ is)) c.execute-in-Ok-Simulate.ensures.ends
+    by_others (λ none view is. no_simulate (text_of w.field-0-0) view (sym task ∙ is)) c.execute.ensures.ends
 
 pub returns-in-Ok-Show-clause-ends : goal.returns-in-Ok-Show-clause-ends
 returns-in-Ok-Show-clause-ends g c =
@@ -75,4 +75,4 @@ pub returns-in-Ok-Migrate-clause-ends : goal.returns-in-Ok-Migrate-clause-ends
 returns-in-Ok-Migrate-clause-ends g c =
     let w = c.in-Ok-Migrate in
     let task : task_of (map g.S.AsStr.text c.args.words.now) ≡ Migrate (text_of w.field-0-0) (text_of w.field-0-1) (text_of w.field-0-2) = sym w.ensures.task ∙ ap task_in w.field-0-is in
-    by_others (λ none view is. no_migrate (text_of w.field-0-0) (text_of w.field-0-1) (text_of w.field-0-2) view (sym task ∙ is)) c.execute.ensures.ends
+    by_others (λ none view is. no_migrate (text_of w.field-0-0) (text_of w.field-0-1) (text_of w.field-0-2) view (sym task ∙ is)) c.execute-in-Ok-Migrate.ensures.ends
