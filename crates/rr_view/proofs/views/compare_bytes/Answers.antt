@@ -22,7 +22,7 @@ returns-in-None-clause-ends g c =
 pub returns-in-Ok-difference_text-clause-ends : goal.returns-in-Ok-difference_text-clause-ends
 returns-in-Ok-difference_text-clause-ends g c =
     let reported : c.as_slice.result.now ≡ report_text c.in-Ok.account.report = c.as_slice.ensures.value ∙ (c.in-Ok-text.ensures.ok ∙ ap report_text c.report.ensures) in
-    other c.in-Ok.account c.in-Ok-difference_text.told.items c.end_by_text.result c.in-Ok.ensures.ok (λ is. c.in-Some.ensures.other tt (reported ∙ sym is))
+    other c.in-Ok.account c.in-Ok-difference_text.told.items c.end_by_text.result c.in-Ok.ensures.ok (λ is. c.in-Some.ensures.other refl (reported ∙ sym is))
     (subst (λ text. Prints text c.end_by_text.result (g.O.Sink.printing c.args.out.now) (g.O.Sink.printing c.end_by_text.new.out)) c.as_slice-in-Ok-difference_text.ensures.value c.end_by_text.ensures.ends)
     c.different.ensures
 
