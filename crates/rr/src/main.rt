@@ -2,7 +2,8 @@
 #![tactic(auto)]
 
 use rr_run::run;
-use rr_stream::Counted;
+use rr_stream::{Counted, Watched};
+use std::io::IsTerminal;
 use std::process::ExitCode;
 use std::{env, io};
 
@@ -12,11 +13,16 @@ fn words_of(rt: &HostRuntime) -> io::Result<Vec<String>> {
 }
 
 fn main(rt: HostRuntime) -> ExitCode {
+    let people = if rt.stderr().is_terminal() {
+        Some(rt.stderr())
+    } else {
+        None
+    };
     ExitCode::from(run(
         &rt,
         words_of(&rt),
         &mut Counted::new(rt.stdin()),
-        &mut Counted::new(rt.stdout()),
+        &mut Watched::new(Counted::new(rt.stdout()), people),
         &mut rt.stderr(),
     ))
 }

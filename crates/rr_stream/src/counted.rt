@@ -99,6 +99,9 @@ impl<W: Write> Sink for Counted<W> {
         self.note_fault();
         Err(interrupted())
     }
+
+    // Nobody watches it.
+    fn tell_progress(&mut self, _done: u64, _all: u64) {}
 }
 
 impl<R: Read> Source for Counted<R> {

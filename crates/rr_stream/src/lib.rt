@@ -3,8 +3,10 @@
 
 mod counted;
 mod stream;
+mod watched;
 mod whole;
 
 pub use counted::Counted;
 pub use stream::{Sink, Source};
+pub use watched::Watched;
 pub use whole::{print_all, read_all};

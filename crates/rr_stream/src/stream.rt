@@ -34,6 +34,11 @@ pub trait Sink {
         ensures cause { OnErr result (Grew (printing self.old).faults (printing self.new).faults) }
         ensures faults { (printing self.old).faults ≤ (printing self.new).faults }
         ensures retried { IfErr result (λ e. error_kind e ≢ ErrorKind.Interrupted) };
+
+    /// Tells people how far the work is that prints here, where they can see it: so much of all is done. The stream itself
+    /// takes nothing.
+    fn tell_progress(&mut self, done: u64, all: u64)
+        ensures { printing self.new ≡ printing self.old };
 }
 
 /// A stream that a program reads from. A call that fails is counted as a fault; one that is interrupted is made again.
