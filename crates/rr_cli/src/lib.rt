@@ -3,6 +3,7 @@
 
 mod audit;
 mod draw;
+mod folder_faults;
 mod migrate;
 mod picture;
 mod program;
@@ -13,6 +14,7 @@ mod sweep;
 mod words;
 
 pub use draw::nodes_of;
+pub use folder_faults::print_folder_fault;
 pub use migrate::migrate_disk;
 pub use program::{execute, run};
 pub use refusals::{end_by_refusal, end_by_schedule_fault, print_refusal, status};

@@ -12,7 +12,7 @@ ghost use Rattle.rr_cli.specs.Ends.{EndsOnMigration, EndsOnSeat, AreSeat};
 ghost use Rattle.rr_cli.specs.Migrations.{opened_areas, TellsSome, IsUnmigrated};
 
 use crate::draw::{nodes_of, number_of};
-use crate::refusals::end_by_folder_fault;
+use crate::folder_faults::end_by_folder_fault;
 use crate::show::show_disk;
 use crate::streams::end_by_text;
 use rr_disk::{Area, Disk, FileDisk};
@@ -100,7 +100,7 @@ fn migrate_folder<R: Files + AllocGlobal, O: Sink, E: Write>(
 {
     match folder_text(rt, folder, seat) {
         Ok(text) => end_by_text(out, err, text.as_slice()),
-        Err(refusal) => end_by_folder_fault(err, folder, &refusal),
+        Err(refusal) => end_by_folder_fault(rt, err, folder, &refusal),
     }
 }
 

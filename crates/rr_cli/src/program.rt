@@ -42,7 +42,7 @@ fn simulate_input<I: Source, O: Sink, E: Write>(
         Ok(bytes) => bytes,
         Err(failure) => return end_by_stream(err, name, &failure),
     };
-    match report_on(alloc, bytes.as_slice()) {
+    match report_on(alloc, bytes.as_slice(), out) {
         Ok(text) => end_by_text(out, err, text.as_slice()),
         Err(refusal) => end_by_schedule_fault(err, name, bytes.as_slice(), &refusal),
     }

@@ -77,27 +77,3 @@ pub(crate) fn end_by_tape_fault<E: Write>(
     let _ = print_tape_fault(err, name, bytes, refusal);
     ending
 }
-
-// Ends by the refusal of a node's folder. A second line tells people what is wrong there.
-pub(crate) fn end_by_folder_fault<E: Write>(err: &mut E, folder: &str, refusal: &Refusal) -> u8
-    ensures { result ≡ status_of refusal.now }
-{
-    let ending = end_by_refusal(err, refusal);
-    let _ = print_folder_fault(err, folder, refusal);
-    ending
-}
-
-// Prints what is wrong in a node's folder.
-fn print_folder_fault<W: Write>(err: &mut W, folder: &str, refusal: &Refusal) -> io::Result<()> {
-    match refusal {
-        Refusal::Damaged { area, offset } => {
-            writeln!(
-                err,
-                "{folder}: the file a{area} is damaged at byte {offset}"
-            )
-        }
-        Refusal::TooLarge => writeln!(err, "{folder}: an area of version 1 has no next epoch"),
-        Refusal::OutOfMemory => writeln!(err, "{folder}: there is no memory to open it"),
-        _ => writeln!(err, "{folder}: its files can't be opened, read or written"),
-    }
-}

@@ -10,7 +10,7 @@ ghost use Rattle.rr_image.specs.Inspect.{inspected};
 ghost use Rattle.rr_cli.specs.Areas.{area_words, areas_text, IsShown};
 ghost use Rattle.rr_cli.specs.Ends.{EndsOnFolder};
 
-use crate::refusals::end_by_refusal;
+use crate::folder_faults::end_by_folder_fault;
 use crate::streams::end_by_text;
 use rr_disk::{Disk, FileDisk};
 use rr_frame::Version;
@@ -117,7 +117,7 @@ pub(crate) fn show_folder<R: Files + AllocGlobal, O: Sink, E: Write>(
 {
     match folder_text(rt, folder) {
         Ok(text) => end_by_text(out, err, text.as_slice()),
-        Err(refusal) => end_by_refusal(err, &refusal),
+        Err(refusal) => end_by_folder_fault(rt, err, folder, &refusal),
     }
 }
 

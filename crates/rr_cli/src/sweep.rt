@@ -129,7 +129,9 @@ fn sweep_schedule<O: Sink, E: Write>(
     ensures ends { (bytes : List ℕ) → IsSchedule schedule.now → bytes ≡ schedule_text schedule.now → EndsOnSweep seed bytes result (O.printing out.old) (O.printing out.new) }
     ensures quiet { result ≡ 0 → Keeps (E.contents err.old) (E.contents err.new) }
 {
-    match print_sweep(alloc, schedule, seed, out) {
+    let printed = print_sweep(alloc, schedule, seed, out);
+    out.tell_progress(1, 1);
+    match printed {
         Ok(()) => end_by_text(out, err, b""),
         Err(Stop::Refused(refusal)) => end_by_refusal(err, &refusal),
         Err(Stop::Unprinted(error)) => end_by_unprinted(err, &error),
@@ -151,8 +153,9 @@ fn print_sweep<O: Sink>(
         Err(refusal) => return Err(Stop::Refused(refusal)),
     };
     let mut line = 2u64;
+    let last = (schedule.events().len() as u64).saturating_add(1);
     for event in schedule.events() {
-        print_event(alloc, &mut sweeping, line, event, out)?;
+        print_event(alloc, &mut sweeping, line, last, event, out)?;
         line += 1;
     }
     Ok(())
@@ -163,6 +166,7 @@ fn print_event<O: Sink>(
     alloc: Global,
     sweeping: &mut Sweeping,
     line: u64,
+    last: u64,
     event: &Event,
     out: &mut O,
 ) -> Result<(), Stop>
@@ -181,11 +185,17 @@ fn print_event<O: Sink>(
     if lines.is_empty() {
         return Ok(());
     }
-    print_lines(alloc, lines.as_slice(), out)
+    print_lines(alloc, lines.as_slice(), line, last, out)
 }
 
-// Prints lines of a sweep at once.
-fn print_lines<O: Sink>(alloc: Global, lines: &[SweepLine], out: &mut O) -> Result<(), Stop>
+// Prints at once the lines of a sweep that the event of a line has, and tells how far that is on the way to the last one.
+fn print_lines<O: Sink>(
+    alloc: Global,
+    lines: &[SweepLine],
+    line: u64,
+    last: u64,
+    out: &mut O,
+) -> Result<(), Stop>
     ensures ok { OnOk result (Appends (O.printing out.old).contents (O.printing out.new).contents (sweep_text lines.now)) }
     ensures err { IfErr result (λ stop. StopsPrinting (sweep_text lines.now) stop (O.printing out.old) (O.printing out.new)) }
     ensures faults { (O.printing out.old).faults ≤ (O.printing out.new).faults }
@@ -195,7 +205,10 @@ fn print_lines<O: Sink>(alloc: Global, lines: &[SweepLine], out: &mut O) -> Resu
         return Err(Stop::Refused(refusal));
     }
     match print_all(out, text.as_slice()) {
-        Ok(()) => Ok(()),
+        Ok(()) => {
+            out.tell_progress(line, last);
+            Ok(())
+        }
         Err(error) => Err(Stop::Unprinted(error)),
     }
 }

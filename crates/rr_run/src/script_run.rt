@@ -10,8 +10,8 @@ ghost use Rattle.rr_run.specs.Runs.{EndsOnFolders, EndsOnScript, EndsOnRun};
 
 use crate::folder::{Folders, Opening, open_folders};
 use crate::lock::Lockable;
-use rr_cli::{end_by_refusal, end_by_stream, end_by_text, nodes_of};
-use rr_disk::Disk;
+use rr_cli::{end_by_refusal, end_by_stream, end_by_text, nodes_of, print_folder_fault};
+use rr_disk::{Disk, FileDisk};
 use rr_explain::print_script_fault;
 use rr_image::inspect;
 use rr_locked::Open;
@@ -21,12 +21,12 @@ use rr_tape::Tape;
 use rr_threads::{Recorder, run_script};
 use rr_types::{Nodes, Refusal};
 use std::alloc::Global;
-use std::fs;
 use std::fs::OpenFile;
 use std::io::{Read, Seek, Write};
 use std::rt::Files;
 use std::sync::Wait;
 use std::thread::Threads;
+use std::{fs, io};
 
 // Ends by a folder of a node that another program has locked. A second line tells it.
 fn end_in_use<E: Write>(err: &mut E, dir: &str, node: u8) -> u8
@@ -35,6 +35,46 @@ fn end_in_use<E: Write>(err: &mut E, dir: &str, node: u8) -> u8
     let ending = end_by_refusal(err, &Refusal::Device);
     let _ = writeln!(err, "{dir}/{node}: another program has locked it");
     ending
+}
+
+// Ends by the refusal of a run over the folders in the folder DIR. Where a folder has what is refused, a second line tells it.
+fn end_by_run_fault<R: Files + AllocGlobal, E: Write>(
+    rt: &R,
+    err: &mut E,
+    dir: &str,
+    nodes: Nodes,
+    refusal: &Refusal,
+) -> u8
+    ensures { result ≡ status_of refusal.now }
+{
+    let ending = end_by_refusal(err, refusal);
+    if matches!(refusal, Refusal::Device | Refusal::Damaged { .. }) {
+        let _ = print_refused_folder(rt, err, dir, nodes);
+    }
+    ending
+}
+
+// Prints what is wrong in the first folder of a run that can't be read.
+fn print_refused_folder<R: Files + AllocGlobal, W: Write>(
+    rt: &R,
+    err: &mut W,
+    dir: &str,
+    nodes: Nodes,
+) -> io::Result<()> {
+    for node in 0..nodes.count() {
+        let path = format!(in rt.alloc(); "{dir}/{node}")?;
+        if let Err(refusal) = read_folder(rt, path.as_str()) {
+            return print_folder_fault(rt, err, path.as_str(), &refusal);
+        }
+    }
+    writeln!(err, "{dir}: its folders can't be made, locked or written")
+}
+
+// Reads both areas of the disk in a folder.
+fn read_folder<R: Files + AllocGlobal>(rt: &R, folder: &str) -> Result<(), Refusal> {
+    let mut disk = FileDisk::open_read_only(rt, folder)?;
+    let _ = inspect(rt.alloc(), &mut disk)?;
+    Ok(())
 }
 
 // Ends by the refusal of a script of this name. A second line tells people where it is at fault and why.
@@ -107,10 +147,10 @@ fn end_by_tape<R: Files + AllocGlobal, O: Sink, E: Write>(
 // Runs a script over folders that are open, and prints the answers. The locks are let go behind the run.
 fn run_in<
     F: Read + Write + Seek + OpenFile + Drop + Send,
-    R: AllocGlobal + Threads + Wait + Sync,
+    R: Files + AllocGlobal + Threads + Wait + Sync,
     O: Sink,
     E: Write,
->(rt: &R, folders: Folders<F>, script: &Script, out: &mut O, err: &mut E) -> u8
+>(rt: &R, dir: &str, folders: Folders<F>, script: &Script, out: &mut O, err: &mut E) -> u8
     requires each { length folders.disks.items ≡ script.now.nodes }
     ensures ends { EndsOnFolders None result (O.printing out.old) (O.printing out.new) }
     ensures quiet { result ≡ 0 → Keeps (E.contents err.old) (E.contents err.new) }
@@ -120,7 +160,7 @@ fn run_in<
     drop(locks);
     match ran {
         Ok(answers) => end_by_answers(rt.alloc(), &answers, out, err),
-        Err(refusal) => end_by_refusal(err, &refusal),
+        Err(refusal) => end_by_run_fault(rt, err, dir, script.nodes(), &refusal),
     }
 }
 
@@ -130,7 +170,15 @@ fn run_taped<
     R: Files + AllocGlobal + Threads + Wait + Sync,
     O: Sink,
     E: Write,
->(rt: &R, folders: Folders<F>, script: &Script, path: &str, out: &mut O, err: &mut E) -> u8
+>(
+    rt: &R,
+    dir: &str,
+    folders: Folders<F>,
+    script: &Script,
+    path: &str,
+    out: &mut O,
+    err: &mut E,
+) -> u8
     requires each { length folders.disks.items ≡ script.now.nodes }
     ensures ends { EndsOnFolders (Some path.now) result (O.printing out.old) (O.printing out.new) }
     ensures quiet { result ≡ 0 → Keeps (E.contents err.old) (E.contents err.new) }
@@ -143,14 +191,14 @@ fn run_taped<
             let _ = writeln!(err, "rr: --tape wants fresh folders");
             return 2;
         }
-        Err(refusal) => return end_by_refusal(err, &refusal),
+        Err(refusal) => return end_by_run_fault(rt, err, dir, script.nodes(), &refusal),
     }
     let recorder = Recorder::new(rt.alloc(), script.nodes());
     let ran = run_script(rt, rt.alloc(), disks, script, &Open, Some(&recorder));
     drop(locks);
     match ran {
         Ok(answers) => end_by_tape(rt, path, &recorder.into_tape(), &answers, out, err),
-        Err(refusal) => end_by_refusal(err, &refusal),
+        Err(refusal) => end_by_run_fault(rt, err, dir, script.nodes(), &refusal),
     }
 }
 
@@ -167,11 +215,11 @@ fn run_over<
     let folders = match open_folders(rt, script.nodes(), dir) {
         Ok(Opening::Folders(folders)) => folders,
         Ok(Opening::InUse(node)) => return end_in_use(err, dir, node),
-        Err(refusal) => return end_by_refusal(err, &refusal),
+        Err(refusal) => return end_by_run_fault(rt, err, dir, script.nodes(), &refusal),
     };
     match tape {
-        Some(path) => run_taped(rt, folders, script, path, out, err),
-        None => run_in(rt, folders, script, out, err),
+        Some(path) => run_taped(rt, dir, folders, script, path, out, err),
+        None => run_in(rt, dir, folders, script, out, err),
     }
 }
 

@@ -8,26 +8,36 @@ ghost use Rattle.rr_sim.specs.Told.{TellsAll, IsReportOn};
 
 use crate::chosen::decided_list;
 use crate::cluster::Cluster;
+use rr_stream::Sink;
 use rr_text::text_parse::{first_line, next_event};
 use rr_text::text_report::push_decided_list;
 use rr_types::{Nodes, Refusal};
 use std::alloc::Global;
 
-/// Makes the events of the lines, and appends what the report has of them to the text.
-fn tell_events(
+/// How many lines are read between one word on progress and the next, less one.
+const UNTOLD_LINES: u64 = 8191;
+
+/// Makes the events of the lines, appends what the report has of them to the text, and tells the sink how far it is.
+fn tell_events<O: Sink>(
     alloc: Global,
     nodes: Nodes,
     bytes: &[u8],
     cluster: &mut Cluster,
     text: &mut Vec<u8>,
+    out: &mut O,
 ) -> Result<(), Refusal>
     requires { cluster.old.lines ≡ [] }
     ensures ok { OnOk result (TellsAll nodes bytes.now cluster.old cluster.new text.old.items text.new.items) }
     ensures err { IfErr result (λ e. IsStop (IsEvent nodes) event_line bytes.now e) }
+    ensures unprinted { O.printing out.new ≡ O.printing out.old }
 {
     let mut line = 2u64;
     let mut rest = bytes;
     while let Some((event, behind)) = next_event(alloc, nodes, rest, line)? {
+        if line & UNTOLD_LINES == 0 {
+            let read = bytes.len().saturating_sub(rest.len());
+            out.tell_progress(read as u64, bytes.len() as u64);
+        }
         cluster.step(alloc, line, &event)?;
         cluster.tell(text)?;
         rest = behind;
@@ -37,34 +47,43 @@ fn tell_events(
 }
 
 /// The text of the report on a schedule on so many nodes, of whose lines behind the first the bytes are.
-fn report_behind(alloc: Global, nodes: Nodes, bytes: &[u8]) -> Result<Vec<u8>, Refusal>
+fn report_behind<O: Sink>(
+    alloc: Global,
+    nodes: Nodes,
+    bytes: &[u8],
+    out: &mut O,
+) -> Result<Vec<u8>, Refusal>
     requires some { 1 ≤ nodes }
     requires few { nodes ≤ 7 }
     ensures ok { IfOk result (λ text. IsReportOn (nodes_line nodes ++ bytes.now) text.items) }
     ensures err { IfErr result (λ e. IsStop (IsEvent nodes) event_line bytes.now e) }
+    ensures unprinted { O.printing out.new ≡ O.printing out.old }
 {
     let mut cluster = Cluster::new(alloc, nodes)?;
     let mut text = Vec::new(alloc);
-    tell_events(alloc, nodes, bytes, &mut cluster, &mut text)?;
+    tell_events(alloc, nodes, bytes, &mut cluster, &mut text, out)?;
     let decided = decided_list(alloc, nodes, cluster.wire())?;
     push_decided_list(&mut text, decided.as_slice())?;
     Ok(text)
 }
 
 /// The text of the report on the schedule whose text the bytes are. Of the schedule and the report only one line at a
-/// time is kept as a value.
+/// time is kept as a value. Who watches `out` is told how far the run is; `out` takes nothing.
 ///
 /// # Errors
 /// `BadNodes` and `BadEvent` for bytes that are no schedule, as of `Schedule::parse`; `OutOfMemory`.
-pub fn report_on(alloc: Global, bytes: &[u8]) -> Result<Vec<u8>, Refusal>
+pub fn report_on<O: Sink>(alloc: Global, bytes: &[u8], out: &mut O) -> Result<Vec<u8>, Refusal>
     ensures ok { IfOk result (λ text. IsReportOn bytes.now text.items) }
     ensures fault { IfErr result (λ e. IsFault IsEvent event_line bytes.now e) }
+    ensures unprinted { O.printing out.new ≡ O.printing out.old }
 {
     match first_line(bytes) {
         Err(refusal) => Err(refusal),
         Ok((nodes, rest)) => {
             let _count = nodes.count();
-            report_behind(alloc, nodes, rest)
+            let report = report_behind(alloc, nodes, rest, out);
+            out.tell_progress(1, 1);
+            report
         }
     }
 }

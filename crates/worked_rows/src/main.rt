@@ -55,7 +55,7 @@ fn read_again(rt: &HostRuntime, path: &str, bytes: &[u8]) -> io::Result<()> {
 }
 
 fn run(rt: &HostRuntime, path: &str, bytes: &[u8]) -> io::Result<()> {
-    match report_on(rt.alloc(), bytes) {
+    match report_on(rt.alloc(), bytes, &mut Counted::new(rt.stdout())) {
         Ok(report) => {
             println!(rt; "{path} run")?;
             rt.stdout().write_all(&report)

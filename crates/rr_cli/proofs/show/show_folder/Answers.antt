@@ -10,4 +10,4 @@ returns-in-Ok-clause-ends g c =
 
 pub returns-in-Err-clause-ends : goal.returns-in-Err-clause-ends
 returns-in-Err-clause-ends g c =
-    refusal_ends c.in-Err.refusal c.end_by_refusal.result (g.O.Sink.printing c.args.out.now) (g.O.Sink.printing c.args.out.now) c.in-Err.ensures c.end_by_refusal.ensures refl
+    refusal_ends c.in-Err.refusal c.end_by_folder_fault.result (g.O.Sink.printing c.args.out.now) (g.O.Sink.printing c.args.out.now) c.in-Err.ensures c.end_by_folder_fault.ensures refl

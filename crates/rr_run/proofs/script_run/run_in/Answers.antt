@@ -6,4 +6,4 @@ pub returns-in-Ok-clause-ends : goal.returns-in-Ok-clause-ends
 returns-in-Ok-clause-ends g c = c.end_by_answers.ensures.ends None
 
 pub returns-in-Err-clause-ends : goal.returns-in-Err-clause-ends
-returns-in-Err-clause-ends g c = refused c.in-Err.refusal c.end_by_refusal.ensures refl
+returns-in-Err-clause-ends g c = refused c.in-Err.refusal c.end_by_run_fault.ensures refl

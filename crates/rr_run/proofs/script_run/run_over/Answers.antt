@@ -7,7 +7,7 @@ pub returns-in-Ok-InUse-clause-ends : goal.returns-in-Ok-InUse-clause-ends
 returns-in-Ok-InUse-clause-ends g c = refused Device c.end_in_use.ensures refl
 
 pub returns-in-Err-clause-ends : goal.returns-in-Err-clause-ends
-returns-in-Err-clause-ends g c = refused c.in-Err.refusal c.end_by_refusal.ensures refl
+returns-in-Err-clause-ends g c = refused c.in-Err.refusal c.end_by_run_fault.ensures refl
 
 pub returns-in-Some-clause-ends : goal.returns-in-Some-clause-ends
 returns-in-Some-clause-ends g c = rw (ap (option_map (λ (s : Bor (List ℕ)). s.now)) c.in-Some.is) c.run_taped.ensures.ends

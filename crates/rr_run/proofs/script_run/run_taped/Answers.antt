@@ -6,7 +6,7 @@ pub returns-in-Ok-false-clause-ends : goal.returns-in-Ok-false-clause-ends
 returns-in-Ok-false-clause-ends g c = stale refl refl refl
 
 pub returns-in-Err-clause-ends : goal.returns-in-Err-clause-ends
-returns-in-Err-clause-ends g c = refused c.in-Err.refusal c.end_by_refusal.ensures refl
+returns-in-Err-clause-ends g c = refused c.in-Err.refusal c.end_by_run_fault.ensures refl
 
 pub returns-in-Err-ran-clause-ends : goal.returns-in-Err-ran-clause-ends
-returns-in-Err-ran-clause-ends g c = refused c.in-Err-ran.refusal c.end_by_refusal-in-Err-ran.ensures refl
+returns-in-Err-ran-clause-ends g c = refused c.in-Err-ran.refusal c.end_by_run_fault-in-Err-ran.ensures refl

@@ -8,7 +8,7 @@ use Rattle.rr_sim.proofs.ToldLaws.{is_report_on}
 use Rattle.rr_sim.proofs.telling.report_behind.Goals as goal
 
 pub returns-clause-ok : goal.returns-clause-ok
-returns-clause-ok c =
+returns-clause-ok g c =
     let from_start : TellsAll c.args.nodes c.args.bytes.now (new_cluster c.args.nodes) c.tell_events.new.cluster [] c.tell_events.new.text.items =
     subst (λ (start : Cluster). TellsAll c.args.nodes c.args.bytes.now start c.tell_events.new.cluster [] c.tell_events.new.text.items) c.in_ok-cluster.ensures.ok
     (subst (λ (before : List ℕ). TellsAll c.args.nodes c.args.bytes.now c.in_ok-cluster.cluster c.tell_events.new.cluster before c.tell_events.new.text.items) c.new-text.ensures.items c.in_ok-tell_events.ensures.ok) in

@@ -1,0 +1,100 @@
+//! What is wrong with a node's folder, told to people.
+
+ghost use Rattle.std.specs.Prelude.{◌≡◌};
+ghost use Rattle.rr_cli.specs.Refusals.{status_of};
+
+use crate::refusals::end_by_refusal;
+use rr_types::Refusal;
+use std::io::{Read, Seek, SeekFrom, Write};
+use std::rt::Files;
+use std::{fs, io};
+
+/// How many bytes are told of a damaged place, at most.
+const TOLD_BYTES: usize = 16;
+
+// Ends by the refusal of a node's folder. A second line tells people what is wrong there.
+pub(crate) fn end_by_folder_fault<R: Files + AllocGlobal, E: Write>(
+    rt: &R,
+    err: &mut E,
+    folder: &str,
+    refusal: &Refusal,
+) -> u8
+    ensures { result ≡ status_of refusal.now }
+{
+    let ending = end_by_refusal(err, refusal);
+    let _ = print_folder_fault(rt, err, folder, refusal);
+    ending
+}
+
+/// Prints what is wrong in a node's folder, by the refusal of its disk.
+///
+/// # Errors
+/// Those of the writer.
+pub fn print_folder_fault<R: Files + AllocGlobal, W: Write>(
+    rt: &R,
+    err: &mut W,
+    folder: &str,
+    refusal: &Refusal,
+) -> io::Result<()> {
+    match refusal {
+        Refusal::Damaged { area, offset } => print_damage(rt, err, folder, *area, *offset),
+        Refusal::TooLarge => writeln!(err, "{folder}: an area of version 1 has no next epoch"),
+        Refusal::OutOfMemory => writeln!(err, "{folder}: there is no memory to open it"),
+        _ => print_closed_file(rt, err, folder),
+    }
+}
+
+// Prints where an area is damaged, and what stands there.
+fn print_damage<R: Files + AllocGlobal, W: Write>(
+    rt: &R,
+    err: &mut W,
+    folder: &str,
+    area: u8,
+    offset: u64,
+) -> io::Result<()> {
+    write!(
+        err,
+        "{folder}: the file a{area} is damaged at byte {offset}"
+    )?;
+    let path = format!(in rt.alloc(); "{folder}/a{area}")?;
+    let mut room = [0u8; TOLD_BYTES];
+    match read_at(rt, path.as_str(), offset, &mut room) {
+        Ok(0) => write!(err, ", where it ends")?,
+        Ok(count) => {
+            write!(err, ", where it has")?;
+            for byte in &room[..count] {
+                write!(err, " {byte:02x}")?;
+            }
+        }
+        Err(_) => (),
+    }
+    writeln!(err)
+}
+
+// Reads a file from an offset on, as much as one call gives, and says how much that is.
+fn read_at<R: Files>(
+    rt: &R,
+    path: &str,
+    offset: u64,
+    room: &mut [u8; TOLD_BYTES],
+) -> io::Result<usize> {
+    let mut file = fs::open(rt, path)?;
+    file.seek(SeekFrom::Start(offset))?;
+    let count = file.read(room)?;
+    Ok(count.min(TOLD_BYTES))
+}
+
+// Prints why the first file of a folder can't be opened that can't be.
+fn print_closed_file<R: Files + AllocGlobal, W: Write>(
+    rt: &R,
+    err: &mut W,
+    folder: &str,
+) -> io::Result<()> {
+    for area in 0..2u8 {
+        let path = format!(in rt.alloc(); "{folder}/a{area}")?;
+        if let Err(reason) = fs::open(rt, path.as_str()) {
+            return writeln!(err, "{path}: {reason}");
+        }
+    }
+    writeln!(err, "{folder}: its files can't be read or written")
+}
