@@ -62,9 +62,10 @@ def work(rig, options, task):
         cases = list(altered(options, tally, name, areas, area, start))
     endings = rig.ask_many([(f"show {len(both[0])} {len(both[1])}", *both) for _, both in cases])
     for number, ((what, both), ending) in enumerate(zip(cases, endings)):
-        judge(rig, tally, what, both, ending)
+        first, why = first_line(ending)
+        judge(rig, tally, what, both, first, why)
         if rig.many and (number % SHARE == 0 or area is None):
-            by_program(rig, tally, what, both, ending)
+            by_program(rig, tally, what, both, first)
     return tally
 
 
@@ -91,13 +92,31 @@ def values_at(options, data, at):
     return [data[at] ^ 1 << bit for bit in range(8)]
 
 
-def judge(rig, tally, what, areas, ending):
+def first_line(ending):
+    """An ending with the first line of standard error alone, and the line on the folder behind it."""
+    if not ending:
+        return ending, b""
+    line, feed, why = ending.err.partition(b"\n")
+    return ending._replace(err=line + feed), why
+
+
+def what_stands_there(areas, refusal):
+    """The end of the line on the damaged place that the refusal names."""
+    area, offset = map(int, refusal.split()[-2:])
+    there = areas[area][offset : offset + 16]
+    has = "has " + there.hex(" ") if there else "ends"
+    return f": the file a{area} is damaged at byte {offset}, where it {has}\n".encode()
+
+
+def judge(rig, tally, what, areas, ending, why):
     wanted = rig.plain.show(areas)
     tally.counts[{0: "shown", 4: "damaged"}.get(wanted.status, "other")] += 1
     if tally.check(ending, f"{what}: no answer") and compare(tally, what, ending, wanted):
         shown = SHOWN.fullmatch(ending.out) and ending.status == 0 and not ending.err
         damaged = DAMAGED.fullmatch(ending.err) and ending.status == 4 and not ending.out
         tally.check(shown or damaged, lambda: f"{what}: {tell(ending)}")
+        if damaged:
+            tally.check(why.endswith(what_stands_there(areas, ending.err)), lambda: f"{what}: {tell(ending)}, and then {why!r}")
 
 
 def by_program(rig, tally, what, areas, ending):

@@ -120,7 +120,7 @@ class Rig:
 
     def run(self, *words, env=None, limit=LIMIT):
         """Runs rr by these words, in no other environment; a run that hangs is ended, and has no status. The second line
-        on the fault of a text or an event of a tape, which the plain Rust program doesn't tell, goes to `why`."""
+        on the fault of a text, an event of a tape or a folder, which the plain Rust program doesn't tell, goes to `why`."""
         return self.run_all([self.rr, *words], env, limit)
 
     def run_all(self, words, env=None, limit=LIMIT):
@@ -132,7 +132,7 @@ class Rig:
         child = os.posix_spawn(words[0], words, env or {}, file_actions=actions)
         ending = Ending(self.end_of(child, limit), self.printed(self.out), self.printed(self.err))
         self.why = b""
-        if ending.status in (3, 7):
+        if ending.status in (3, 4, 5, 7):
             line, feed, self.why = ending.err.partition(b"\n")
             ending = ending._replace(err=line + feed)
         return ending
@@ -155,7 +155,8 @@ class Rig:
         if verb == "show":
             for number in (0, 1):
                 self.write(f"node/a{number}", parts[number])
-            return self.run("show", self.path("node"))
+            ending = self.run("show", self.path("node"))
+            return ending._replace(err=ending.err + self.why)
         path = self.write("text", parts[0])
         if verb != "script":
             ending = self.run(verb, path)

@@ -108,7 +108,7 @@ fn reads_words(rt: HostRuntime) -> Result<(), Fail> {
     assert_eq!(rt; version.status, 0);
     assert_eq!(rt;
         version.out.as_str(),
-        "rr 0.1.0, proved with rattle-kit-13b logic dac8208d650f15bf\n"
+        "rr 0.1.0, proved with rattle-kit-13f logic dac8208d650f15bf\n"
     );
     let help = run(&rt, &["rr", "--help"], &mut &b""[..])?;
     assert_eq!(rt; help.status, 0);

@@ -138,7 +138,7 @@ IsMistake kind = (kind ≢ DisplayHelp) × (kind ≢ DisplayVersion)
 
 -- the text on the version: it names the kit that the proofs are checked with
 abbrev pub version_text : List ℕ
-version_text = line (codes "rr 0.1.0, proved with rattle-kit-13b logic dac8208d650f15bf" ∷ [])
+version_text = line (codes "rr 0.1.0, proved with rattle-kit-13f logic dac8208d650f15bf" ∷ [])
 
 -- the line with which the help ends, behind an empty one
 abbrev pub statuses_text : List ℕ

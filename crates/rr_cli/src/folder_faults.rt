@@ -39,7 +39,7 @@ pub fn print_folder_fault<R: Files + AllocGlobal, W: Write>(
     match refusal {
         Refusal::Damaged { area, offset } => print_damage(rt, err, folder, *area, *offset),
         Refusal::TooLarge => writeln!(err, "{folder}: an area of version 1 has no next epoch"),
-        Refusal::OutOfMemory => writeln!(err, "{folder}: there is no memory to open it"),
+        Refusal::OutOfMemory => Ok(()),
         _ => print_closed_file(rt, err, folder),
     }
 }
