@@ -4,7 +4,7 @@ use Rattle.rr_node.specs.declared.doing.Doing.TheVariants as does
 use Rattle.rr_node.specs.declared.event.NodeEvent.TheVariants as at
 use Rattle.rr_node.specs.declared.event.Outcome.TheVariants.{Quiet}
 use Rattle.rr_node.specs.declared.serving.Flush.{Flush}
-use Rattle.rr_node.specs.declared.serving.Flush.TheVariants.{Resting, Body}
+use Rattle.rr_node.specs.declared.serving.Flush.TheVariants.{Body}
 use Rattle.rr_node.specs.Views.{CarriesOn}
 use Rattle.rr_node.proofs.ServingLaws.{begin_done, begin_refused}
 use Rattle.rr_node.proofs.serving.Serving.begin.Goals as goal
