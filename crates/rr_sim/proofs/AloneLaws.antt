@@ -1,29 +1,11 @@
 -- An event that is a node's alone is an event at that node.
-use Rattle.std.proofs.Common.{◌≡◌, ◌≢◌, inl, inr, ℕ, Bool, true, false, List, Result, Ok, Err, refl, sym, ◌∙◌, ap, subst}
+use Rattle.std.proofs.Common.{◌≡◌, inl, inr, ℕ, Bool, true, false, Result, Ok, Err, refl, sym, ◌∙◌, ap, subst}
 use Rattle.std.specs.Prelude.{OnOk}
 use Rattle.rr_types.specs.declared.refusal.Refusal.{Refusal}
 use Rattle.rr_node.specs.declared.event.NodeEvent.{NodeEvent}
 use Rattle.rr_text.specs.declared.event.Event.{Event}
-use Rattle.rr_text.specs.declared.event.Event.TheVariants.{Submit, Hear, Suspect, Tick, Advance, Take, Device, Fail, Mark, Send, Ack, Snap, Crash, Restart}
 use Rattle.rr_text.specs.Scheduled.{node_of}
-use Rattle.rr_sim.specs.Clusters.{Cluster, at_node, event_step, IsOfNode, IsEither, Steps, IsSpeltAt, IsSpeltBehind}
-
--- all events are, but for three kinds
-pub is_alone : (e : Event) → ((p k : ℕ) → e ≢ Hear p k) → ((p a b : ℕ) (fill : List ℕ) → e ≢ Crash p a b fill) → ((p : ℕ) (fill : List ℕ) → e ≢ Fail p fill) → IsOfNode e
-is_alone (Submit p v) hears crashes fails = tt
-is_alone (Hear p k) hears crashes fails = hears p k refl
-is_alone (Suspect p set) hears crashes fails = tt
-is_alone (Tick p) hears crashes fails = tt
-is_alone (Advance p) hears crashes fails = tt
-is_alone (Take p) hears crashes fails = tt
-is_alone (Device p) hears crashes fails = tt
-is_alone (Fail p fill) hears crashes fails = fails p fill refl
-is_alone (Mark p) hears crashes fails = tt
-is_alone (Send p) hears crashes fails = tt
-is_alone (Ack p) hears crashes fails = tt
-is_alone (Snap p) hears crashes fails = tt
-is_alone (Crash p a b fill) hears crashes fails = crashes p a b fill refl
-is_alone (Restart p) hears crashes fails = tt
+use Rattle.rr_sim.specs.Clusters.{Cluster, at_node, event_step, IsEither, Steps, IsSpeltAt, IsSpeltBehind}
 
 -- what an event does is what that of its node does
 pub steps_so : (r : Result (Unit {0}) Refusal) (at p : ℕ) (e : Event) (made : NodeEvent) (old new : Cluster) → p ≡ node_of e
