@@ -303,3 +303,9 @@ gave_failing n p fill inside taken left last now answer is steady same carries a
     let here = (carries (subst (λ (d : code.Doing). IsSteady n p d) (sym same) steady)).0 in
     subst (λ (s : Seat). Fails fill s answer (seat_of n p last)) is
     (subst (λ (d : code.Doing). Fails fill (seat_of n p inside) answer (seat_of n p d)) (sym after) (subst (λ (d : code.Doing). Fails fill (seat_of n p d) answer (seat_of n p left)) same here))
+
+-- equal parts carry alike
+pub carried : (n p : ℕ) (event made : NodeEvent) (old was new now : code.Doing) (answer : Result Outcome Refusal) → event ≡ made → old ≡ was → new ≡ now → Carries n p made was answer now → Carries n p event old answer new
+carried n p event made old was new now answer same before after h =
+    subst (λ (x : NodeEvent). Carries n p x old answer new) (sym same)
+    (subst (λ (d : code.Doing). Carries n p made d answer new) (sym before) (subst (λ (d : code.Doing). Carries n p made was answer d) (sym after) h))

@@ -1,9 +1,8 @@
 -- A switch to a snapshot in the other area, in the world: no step, from its beginning to its end.
-use Rattle.std.proofs.Common.{◌≡◌, inl, inr, ℕ, ◌+◌, ◌^◌, ◌<◌, Bool, true, false, nat_lt, ltb-true, List, [], ◌∷◌, ◌++◌, map, length, None, Some, Ok, refl, sym, ap, subst, ◌∙◌, arith, if◌then◌else◌}
+use Rattle.std.proofs.Common.{◌≡◌, ℕ, ◌+◌, ◌^◌, ◌<◌, Bool, true, false, ltb-true, List, length, Ok, refl, sym, ap, subst, ◌∙◌, arith, if◌then◌else◌}
 use Rattle.std.proofs.lemmas.Bool.{and_parts}
 use Rattle.rr_types.specs.declared.fact.Fact.{Fact}
 use Rattle.rr_types.specs.declared.refusal.Refusal.TheVariants as because
-use Rattle.rr_types.specs.Promises.{promise_of}
 use Rattle.rr_model.specs.Lawful.{Heard}
 use Rattle.rr_model.specs.World.{World}
 use Rattle.rr_model.specs.NodeReached.{IsReached}
@@ -13,14 +12,14 @@ use Rattle.rr_model.proofs.NodeInWorld.{kept_are_counted, kept_are_promised}
 use Rattle.rr_model.proofs.NodeReached.{reached_itself}
 use Rattle.rr_disk.specs.declared.area.Area.{Area}
 use Rattle.rr_disk.specs.declared.area.Area.TheVariants.{First, Second}
-use Rattle.rr_disk.specs.Areas.{Areas, extent_of, bytes_of, synced}
+use Rattle.rr_disk.specs.Areas.{Areas, synced}
 use Rattle.rr_disk.specs.Counts.{counted}
 use Rattle.rr_disk.specs.Crash.{Images, restarted}
 use Rattle.rr_frame.specs.Snapshots.{Snapped}
 use Rattle.rr_frame.specs.SnapshotFormat.{snapshot_bytes, IsLawfulSnapshot}
 use Rattle.rr_journal.specs.Moments.{image_of}
 use Rattle.rr_journal.specs.declared.journal.Journal.{Journal}
-use Rattle.rr_journal.specs.Calls.{Call, Write, Sync, frame_bytes, after_call, must_close}
+use Rattle.rr_journal.specs.Calls.{Call, frame_bytes, after_call, must_close}
 use Rattle.rr_journal.specs.Journals.{IsOver}
 use Rattle.rr_journal.specs.OtherAreas.{other_area, closes_in}
 use Rattle.rr_journal.proofs.FlushLaws.{length-frame}
@@ -35,12 +34,12 @@ use Rattle.rr_journal.proofs.SwitchLaws.{Behind, body_is_due, goes}
 use Rattle.rr_node.specs.declared.event.NodeEvent.TheVariants as at
 use Rattle.rr_node.specs.declared.event.Outcome.TheVariants.{Quiet}
 use Rattle.rr_node.specs.Seats.{Flush, Resting, Writing, Flushed, Switching, Journaled, Serving, Seat, Answer, goes_on, refuse, snapshot_of, journal_switched, flush_on, may_snap, snap_up}
-use Rattle.rr_node.specs.Worlds.{AreInOrder, journal_at, snapshot_over, switch_at, FlushesSo, IsServing, InStep}
+use Rattle.rr_node.specs.Worlds.{AreInOrder, journal_at, snapshot_over, switch_at, InStep}
 use Rattle.rr_node.specs.Runs.{MayBe, IsSpelt, GoesOn}
 use Rattle.rr_node.proofs.InOrder.{call_in_order}
 use Rattle.rr_node.proofs.Going.{stays}
 use Rattle.rr_node.proofs.Falling.{seated, switch_body, switch_small}
-use Rattle.rr_node.proofs.ServingSteps.{nothing, refuses, does_nothing}
+use Rattle.rr_node.proofs.ServingSteps.{nothing, refuses}
 
 module _ (n p k : ℕ) (w : World) (both : Areas) (s : NodeState) (journal : Journaled) where
   -- the snapshot that it makes is of its kept facts

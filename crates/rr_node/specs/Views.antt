@@ -168,6 +168,11 @@ Carries n p event old answer new = IsSteady n p old → Gives event (seat_of n p
 abbrev pub CarriesOn : NodeEvent → Serving → Result Outcome Refusal → code.Doing → Type 0
 CarriesOn event s answer new = (n p : ℕ) → Carries n p event (does.Serving s) answer new
 
+-- the next device call of a job of a node with this core leads to this job over this journal, or is refused and the node has failed
+abbrev pub StepsOn : NodeState → Journal NodeDisk → code_2.Flush → Result code_2.Flush Refusal → Journal NodeDisk → Type 0
+StepsOn s j f (Ok next) k = CarriesOn at.Device (record { core = s; slots = j; flush = f }) (Ok Quiet) (does.Serving (record { core = s; slots = k; flush = next }))
+StepsOn s j f (Err e) k = CarriesOn at.Device (record { core = s; slots = j; flush = f }) (Err e) (does.Faulted k.disk)
+
 -- a journal is node p's of n, rests and hasn't failed
 pub record IsOpened (n p : ℕ) (j : Journal NodeDisk) : Type 0 where
   pub nodes : j.nodes ≡ n

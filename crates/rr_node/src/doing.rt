@@ -1,12 +1,14 @@
 //! What a node does: nothing, an opening, or its service.
 
-ghost use Rattle.std.specs.Prelude.{◌≡◌, ◌<◌, ◌↔◌, ℕ, None, Err, IsTrue, IfSome, IfOk, IfErr};
+ghost use Rattle.std.specs.Prelude.{◌≡◌, ◌≢◌, ◌<◌, ◌↔◌, ℕ, None, Err, IsTrue, IfSome, IfOk, IfErr};
 ghost use Rattle.rr_types.specs.Registry.{registry_of};
 ghost use Rattle.rr_model.specs.NodeState.{decided_prefix};
 ghost use Rattle.rr_types.specs.declared.refusal.Refusal.TheVariants.{OutOfMemory, Device};
 ghost use Rattle.rr_journal.specs.Openings.{Settling};
 ghost use Rattle.rr_node.specs.Seats as seats;
-ghost use Rattle.rr_node.specs.Seats.{seat_step};
+ghost use Rattle.rr_node.specs.Seats.{crashed, seat_step};
+ghost use Rattle.rr_node.specs.declared.event.NodeEvent.{NodeEvent};
+ghost use Rattle.rr_node.specs.declared.serving.Serving.{Serving};
 ghost use Rattle.rr_node.specs.Views.{Carries, CarriesFailing, Serves, IsSteady, Takes, areas_of, calls_of, doing_of, due_of, seat_of};
 
 use crate::event::{BoundNames, NodeEvent, Outcome};
@@ -17,6 +19,7 @@ use rr_journal::Journal;
 use rr_recover::{Opening, Progress};
 use rr_types::{NodeId, Nodes, Refusal};
 use std::alloc::Global;
+use std::mem;
 
 /// A node's disk: in memory, with calls that fail on demand.
 pub type NodeDisk = FailingDisk<MemDisk>;
@@ -53,6 +56,7 @@ impl Doing {
         ensures areas { result.below.areas ≡ areas_of self }
         ensures due { result.due ≡ due_of self }
         ensures calls { result.calls ≡ calls_of self }
+        ensures serving { (s : Serving) → self ≡ Doing.Serving s → result ≡ s.slots.disk }
     {
         match self {
             Doing::Stopped(disk) => disk,
@@ -87,24 +91,79 @@ impl Doing {
     }
 }
 
-/// An event that a node takes, and what it does afterwards.
+/// An event that a node takes. A node that is up stays in its place.
 pub fn go_on(
     alloc: Global,
     nodes: Nodes,
     node: NodeId,
-    doing: Doing,
-    event: NodeEvent,
-) -> (Doing, Result<Outcome, Refusal>)
-    requires steady { IsSteady nodes node doing }
+    doing: &mut Doing,
+    event: &NodeEvent,
+) -> Result<Outcome, Refusal>
+    requires steady { IsSteady nodes node doing.old }
     requires exists { node < nodes }
-    requires taken { Takes event (doing_of doing) }
-    ensures { Carries nodes node event doing result.1 result.0 }
+    requires taken { Takes event.now (doing_of doing.old) }
+    ensures { Carries nodes node event.now doing.old result doing.new }
+{
+    match doing {
+        Doing::Serving(serving) => match event {
+            NodeEvent::Device => match serving.flush_on() {
+                Ok(()) => Ok(Outcome::Quiet),
+                Err(refusal) => {
+                    fall(alloc, doing);
+                    Err(refusal)
+                }
+            },
+            _ => serving.go_on(alloc, event),
+        },
+        _ => {
+            let (next, answer) = open_up(alloc, nodes, node, take_out(alloc, doing));
+            put_in(doing, next);
+            answer
+        }
+    }
+}
+
+/// Takes out what the node does. Until it is put back, the node has an empty disk.
+fn take_out(alloc: Global, doing: &mut Doing) -> Doing
+    ensures { result ≡ doing.old }
+{
+    mem::replace(doing, Doing::Stopped(FailingDisk::new(MemDisk::new(alloc))))
+}
+
+/// Puts in what the node does from now on.
+fn put_in(doing: &mut Doing, next: Doing)
+    ensures { doing.new ≡ next }
+{
+    drop(mem::replace(doing, next).into_disk());
+}
+
+/// A device call has failed: the node has failed too.
+fn fall(alloc: Global, doing: &mut Doing)
+    ensures { (s : Serving) → doing.old ≡ Doing.Serving s → doing.new ≡ Doing.Faulted s.slots.disk }
+{
+    let disk = take_out(alloc, doing).into_disk();
+    put_in(doing, Doing::Faulted(disk));
+}
+
+/// The opening of a node that is down, has failed or opens already goes on by an event that it takes.
+fn open_up(
+    alloc: Global,
+    nodes: Nodes,
+    node: NodeId,
+    doing: Doing,
+) -> (Doing, Result<Outcome, Refusal>)
+    requires exists { node < nodes }
+    requires waits { (s : Serving) → doing ≢ Doing.Serving s }
+    ensures { (event : NodeEvent) → Takes event (doing_of doing) → Carries nodes node event doing result.1 result.0 }
 {
     match doing {
         Doing::Stopped(disk) => (restart(nodes, node, disk), Ok(Outcome::Quiet)),
         Doing::Faulted(disk) => (restart(nodes, node, disk), Ok(Outcome::Quiet)),
         Doing::Opening(opening) => open_on(alloc, opening),
-        Doing::Serving(serving) => serving.go_on(alloc, event),
+        Doing::Serving(serving) => {
+            drop(serving.into_disk());
+            unreachable!()
+        }
     }
 }
 
@@ -125,6 +184,27 @@ pub fn fail(
     alloc: Global,
     nodes: Nodes,
     node: NodeId,
+    doing: &mut Doing,
+    fill: Vec<u8>,
+) -> Result<Outcome, Refusal>
+    ensures { CarriesFailing nodes node fill.items doing.old result doing.new }
+{
+    match doing {
+        Doing::Stopped(_) => Err(Refusal::Down),
+        Doing::Faulted(_) => Err(Refusal::Failed),
+        _ => {
+            let (next, answer) = fail_call(alloc, nodes, node, take_out(alloc, doing), fill);
+            put_in(doing, next);
+            answer
+        }
+    }
+}
+
+/// The next device call of a node that opens or serves fails with this fill, if one is due.
+fn fail_call(
+    alloc: Global,
+    nodes: Nodes,
+    node: NodeId,
     doing: Doing,
     fill: Vec<u8>,
 ) -> (Doing, Result<Outcome, Refusal>)
@@ -138,6 +218,22 @@ pub fn fail(
             Err(Refusal::Device),
         ),
         Doing::Serving(serving) => serving.fail(fill),
+    }
+}
+
+/// A crash: whatever runs is given up, and each area keeps what the cuts and the fill leave of it.
+pub fn crash(alloc: Global, doing: &mut Doing, cut_first: u64, cut_second: u64, fill: &[u8])
+    ensures left { (n p : ℕ) → seat_of n p doing.new ≡ crashed cut_first cut_second fill.now (seat_of n p doing.old) }
+    ensures due { due_of doing.new ≡ due_of doing.old }
+    ensures down { (n p : ℕ) → due_of doing.old ≡ None → IsSteady n p doing.new }
+{
+    match doing {
+        Doing::Stopped(disk) => disk.crash(cut_first, cut_second, fill),
+        _ => {
+            let mut disk = take_out(alloc, doing).into_disk();
+            disk.crash(cut_first, cut_second, fill);
+            put_in(doing, Doing::Stopped(disk));
+        }
     }
 }
 

@@ -6,7 +6,7 @@ ghost use Rattle.rr_node.specs.Seats.{Stopped, Gives, Fails, AtMostOneCall, cras
 ghost use Rattle.rr_node.specs.Stances.{stance_of, synced_of};
 ghost use Rattle.rr_node.specs.Views.{Takes};
 
-use crate::doing::{Doing, fail, go_on};
+use crate::doing::{Doing, crash, fail, go_on};
 use crate::event::{NodeEvent, Outcome, Stance};
 use rr_disk::{FailingDisk, MemDisk};
 use rr_types::{Fact, NodeId, Nodes, Refusal};
@@ -94,25 +94,19 @@ impl Node {
     {
         match self.doing.refusal_of(&event) {
             Some(refusal) => Err(refusal),
-            None => self.go_on(alloc, event),
+            None => self.go_on(alloc, &event),
         }
     }
 
     /// An event that the node takes.
-    fn go_on(&mut self, alloc: Global, event: NodeEvent) -> Result<Outcome, Refusal>
-        requires { Takes event self.old.doing }
-        ensures gives { Gives event self.old result self.new }
+    fn go_on(&mut self, alloc: Global, event: &NodeEvent) -> Result<Outcome, Refusal>
+        requires { Takes event.now self.old.doing }
+        ensures gives { Gives event.now self.old result self.new }
         ensures one_call { AtMostOneCall self.old self.new }
-        ensures no_call { event ≢ NodeEvent.Device → self.new.calls ≡ self.old.calls }
+        ensures no_call { event.now ≢ NodeEvent.Device → self.new.calls ≡ self.old.calls }
         ensures spelt { IsSpelt self.new.doing }
     {
-        let doing = mem::replace(
-            &mut self.doing,
-            Doing::Stopped(FailingDisk::new(MemDisk::new(alloc))),
-        );
-        let (doing, answer) = go_on(alloc, self.nodes, self.node, doing, event);
-        drop(mem::replace(&mut self.doing, doing).into_disk());
-        answer
+        go_on(alloc, self.nodes, self.node, &mut self.doing, event)
     }
 
     /// The next device call of the node fails with `Device`, as `FailingDisk::fail_next` says, and the node has
@@ -123,13 +117,7 @@ impl Node {
         ensures one_call { AtMostOneCall self.old self.new }
         ensures spelt { IsSpelt self.new.doing }
     {
-        let doing = mem::replace(
-            &mut self.doing,
-            Doing::Stopped(FailingDisk::new(MemDisk::new(alloc))),
-        );
-        let (doing, answer) = fail(alloc, self.nodes, self.node, doing, fill);
-        drop(mem::replace(&mut self.doing, doing).into_disk());
-        answer
+        fail(alloc, self.nodes, self.node, &mut self.doing, fill)
     }
 
     /// The node crashes: each area keeps a length from its safe to its present one, the cut where that lies between,
@@ -138,13 +126,8 @@ impl Node {
         ensures left { self.new ≡ crashed cut_first cut_second fill.now self.old }
         ensures no_call { self.new.calls ≡ self.old.calls }
     {
-        let doing = mem::replace(
-            &mut self.doing,
-            Doing::Stopped(FailingDisk::new(MemDisk::new(alloc))),
-        );
-        let mut disk = doing.into_disk();
-        disk.crash(u64::from(cut_first), u64::from(cut_second), fill);
-        drop(mem::replace(&mut self.doing, Doing::Stopped(disk)).into_disk());
+        let first = u64::from(cut_first);
+        crash(alloc, &mut self.doing, first, u64::from(cut_second), fill);
     }
 
     /// The node as this crash would leave it, over a copy of its disk. The node itself goes on.

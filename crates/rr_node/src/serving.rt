@@ -1,18 +1,20 @@
 //! A node that is up: its core over the areas of its disk, and the job that runs.
 
-ghost use Rattle.std.specs.Prelude.{◌≡◌, ℕ, [], Ok, Err, Some};
+ghost use Rattle.std.specs.Prelude.{◌≡◌, ◌≢◌, ℕ, [], Ok, Err, Some, OnOk, IfErr};
 ghost use Rattle.std.specs.Option.{option_map_or};
 ghost use Rattle.rr_model.specs.NodeState.{NodeState};
 ghost use Rattle.rr_model.specs.NodeStep.{running_group, group_put_back};
+ghost use Rattle.rr_node.specs.declared.event.Outcome.TheVariants.{Quiet};
 ghost use Rattle.rr_node.specs.Stances.{stance_by, synced_by};
-ghost use Rattle.rr_node.specs.Views.{IsServing, IsFlushOf, CarriesOn, CarriesFailing, flush_of, quiet};
+ghost use Rattle.rr_node.specs.Views.{IsServing, IsFlushOf, CarriesOn, CarriesFailing, StepsOn, flush_of, quiet};
 
 use crate::doing::{Doing, NodeDisk};
 use crate::event::{NodeEvent, Outcome, Stance};
 use rr_core::Core;
 use rr_journal::{Body, BodyOut, BodySafe, GateSet, Job, Journal, SwitchJob, Switching, Synced};
-use rr_types::{Fact, Group, Refusal};
+use rr_types::{Command, Fact, Group, Message, NodeSet, Refusal};
 use std::alloc::Global;
+use std::mem;
 
 /// The job that runs: none, the flush of a group in one of its states, a synced group that isn't marked yet, or a
 /// switch to a snapshot.
@@ -113,49 +115,176 @@ impl Serving {
         slots.into_disk()
     }
 
-    /// An event at a node that is up, and what it does afterwards.
-    pub fn go_on(self, alloc: Global, event: NodeEvent) -> (Doing, Result<Outcome, Refusal>)
-        requires { IsServing self.core.nodes self.core.node self }
-        ensures { CarriesOn event self result.1 result.0 }
+    /// An event at a node that is up, but for device calls.
+    pub fn go_on(&mut self, alloc: Global, event: &NodeEvent) -> Result<Outcome, Refusal>
+        requires own { IsServing self.old.core.nodes self.old.core.node self.old }
+        requires other { event.now ≢ NodeEvent.Device }
+        ensures { CarriesOn event.now self.old result (Doing.Serving self.new) }
     {
-        let Serving {
-            mut core,
-            slots,
-            flush,
-        } = self;
         match event {
-            NodeEvent::Submit(command) => {
-                let told = core.submit(command);
-                up(core, slots, flush, quiet(told))
-            }
-            NodeEvent::Hear(message) => {
-                let told = core.hear(&message);
-                up(core, slots, flush, quiet(told))
-            }
-            NodeEvent::Suspect(set) => {
-                let told = core.suspect(set);
-                up(core, slots, flush, quiet(told))
-            }
-            NodeEvent::Tick => {
-                let told = core.tick();
-                up(core, slots, flush, quiet(told))
-            }
-            NodeEvent::Advance => {
-                let told = core.advance();
-                up(core, slots, flush, quiet(told))
-            }
-            NodeEvent::Take => take(alloc, core, slots, flush),
-            NodeEvent::Device => flush_on(core, slots, flush),
-            NodeEvent::Mark => mark(core, slots, flush),
-            NodeEvent::Send => send(core, slots, flush),
-            NodeEvent::Acknowledge => reply(core, slots, flush),
-            NodeEvent::Snap => snap(alloc, core, slots, flush),
-            NodeEvent::Restart => up(core, slots, flush, Err(Refusal::Busy)),
+            NodeEvent::Submit(command) => self.submit(*command),
+            NodeEvent::Hear(message) => self.hear(message),
+            NodeEvent::Suspect(set) => self.suspect(*set),
+            NodeEvent::Tick => self.tick(),
+            NodeEvent::Advance => self.advance(),
+            NodeEvent::Take => self.take(alloc),
+            NodeEvent::Device => unreachable!(),
+            NodeEvent::Mark => self.mark(),
+            NodeEvent::Send => self.send(),
+            NodeEvent::Acknowledge => self.reply(),
+            NodeEvent::Snap => self.snap(alloc),
+            NodeEvent::Restart => Err(Refusal::Busy),
         }
     }
-}
 
-impl Serving {
+    fn submit(&mut self, command: Command) -> Result<Outcome, Refusal>
+        ensures { CarriesOn (NodeEvent.Submit command) self.old result (Doing.Serving self.new) }
+    {
+        quiet(self.core.submit(command))
+    }
+
+    fn hear(&mut self, message: &Message) -> Result<Outcome, Refusal>
+        ensures { CarriesOn (NodeEvent.Hear message.now) self.old result (Doing.Serving self.new) }
+    {
+        quiet(self.core.hear(message))
+    }
+
+    fn suspect(&mut self, set: NodeSet) -> Result<Outcome, Refusal>
+        ensures { CarriesOn (NodeEvent.Suspect set) self.old result (Doing.Serving self.new) }
+    {
+        quiet(self.core.suspect(set))
+    }
+
+    fn tick(&mut self) -> Result<Outcome, Refusal>
+        ensures { CarriesOn NodeEvent.Tick self.old result (Doing.Serving self.new) }
+    {
+        quiet(self.core.tick())
+    }
+
+    fn advance(&mut self) -> Result<Outcome, Refusal>
+        ensures { CarriesOn NodeEvent.Advance self.old result (Doing.Serving self.new) }
+    {
+        quiet(self.core.advance())
+    }
+
+    /// The oldest message that may leave goes.
+    fn send(&mut self) -> Result<Outcome, Refusal>
+        ensures { CarriesOn NodeEvent.Send self.old result (Doing.Serving self.new) }
+    {
+        match self.core.next_message() {
+            Some(cleared) => Ok(Outcome::Left(cleared.message())),
+            None => Ok(Outcome::Quiet),
+        }
+    }
+
+    /// The oldest decided request that waits is acknowledged.
+    fn reply(&mut self) -> Result<Outcome, Refusal>
+        ensures { CarriesOn NodeEvent.Acknowledge self.old result (Doing.Serving self.new) }
+    {
+        match self.core.next_ack() {
+            Some((request, reply)) => Ok(Outcome::Replied(request, reply)),
+            None => Ok(Outcome::Quiet),
+        }
+    }
+
+    /// A flush of the staged facts begins.
+    fn take(&mut self, alloc: Global) -> Result<Outcome, Refusal>
+        ensures { CarriesOn NodeEvent.Take self.old result (Doing.Serving self.new) }
+    {
+        match self.flush {
+            Flush::Resting => self.begin(alloc),
+            _ => Err(Refusal::Busy),
+        }
+    }
+
+    /// A flush of the staged facts begins where none runs.
+    fn begin(&mut self, alloc: Global) -> Result<Outcome, Refusal>
+        requires { self.old.flush ≡ Flush.Resting }
+        ensures { CarriesOn NodeEvent.Take self.old result (Doing.Serving self.new) }
+    {
+        match self.core.take_group() {
+            Err(refusal) => Err(refusal),
+            Ok(None) => Ok(Outcome::Quiet),
+            Ok(Some(group)) => match self.slots.begin(alloc, group) {
+                Ok(job) => {
+                    self.runs(Flush::Body(job));
+                    Ok(Outcome::Quiet)
+                }
+                Err((refusal, group)) => {
+                    put_back(&mut self.core, group);
+                    Err(refusal)
+                }
+            },
+        }
+    }
+
+    /// This job runs from now on, or none.
+    fn runs(&mut self, flush: Flush)
+        ensures { self.new ≡ record self.old { flush = flush } }
+    {
+        mem::replace(&mut self.flush, flush).abandon();
+    }
+
+    /// The synced group is marked.
+    fn mark(&mut self) -> Result<Outcome, Refusal>
+        ensures { CarriesOn NodeEvent.Mark self.old result (Doing.Serving self.new) }
+    {
+        match mem::replace(&mut self.flush, Flush::Resting) {
+            Flush::Flushed(synced) => match self.core.mark(synced) {
+                Ok(()) => Ok(Outcome::Quiet),
+                Err((refusal, synced)) => {
+                    self.runs(Flush::Flushed(synced));
+                    Err(refusal)
+                }
+            },
+            other => {
+                self.runs(other);
+                Ok(Outcome::Quiet)
+            }
+        }
+    }
+
+    /// A switch to a snapshot of the marked facts begins.
+    fn snap(&mut self, alloc: Global) -> Result<Outcome, Refusal>
+        requires { IsServing self.old.core.nodes self.old.core.node self.old }
+        ensures { CarriesOn NodeEvent.Snap self.old result (Doing.Serving self.new) }
+    {
+        match self.flush {
+            Flush::Resting => self.begin_switch(alloc),
+            _ => Err(Refusal::Busy),
+        }
+    }
+
+    /// A switch begins where no job runs.
+    fn begin_switch(&mut self, alloc: Global) -> Result<Outcome, Refusal>
+        requires own { IsServing self.old.core.nodes self.old.core.node self.old }
+        requires rests { self.old.flush ≡ Flush.Resting }
+        ensures { CarriesOn NodeEvent.Snap self.old result (Doing.Serving self.new) }
+    {
+        let promise = match self.core.marked_promise(alloc) {
+            Ok(promise) => promise,
+            Err(refusal) => return Err(refusal),
+        };
+        match self.slots.begin_snapshot(alloc, promise) {
+            Ok(job) => {
+                self.runs(Flush::Switching(job));
+                Ok(Outcome::Quiet)
+            }
+            Err(refusal) => Err(refusal),
+        }
+    }
+
+    /// The next device call of the job. Where it is refused, the node has failed, and no job runs.
+    pub fn flush_on(&mut self) -> Result<(), Refusal>
+        ensures ok { OnOk result (CarriesOn NodeEvent.Device self.old (Ok Quiet) (Doing.Serving self.new)) }
+        ensures err { IfErr result (λ e. CarriesOn NodeEvent.Device self.old (Err e) (Doing.Faulted self.new.slots.disk)) }
+    {
+        let flush = mem::replace(&mut self.flush, Flush::Resting);
+        let next = step_on(&mut self.slots, flush)?;
+        self.runs(next);
+        Ok(())
+    }
+
     /// The next device call of the job fails with this fill; where none is due nothing happens.
     pub fn fail(self, fill: Vec<u8>) -> (Doing, Result<Outcome, Refusal>)
         ensures { (n p : ℕ) → CarriesFailing n p fill.items (Doing.Serving self) result.1 result.0 }
@@ -170,6 +299,44 @@ impl Serving {
             Flush::GateSet(job) => fail_gate_sync(slots, job, fill),
             Flush::Switching(job) => fail_switch(slots, job, fill),
         }
+    }
+}
+
+/// The next device call of a job, and the job after it.
+fn step_on(slots: &mut Journal<NodeDisk>, flush: Flush) -> Result<Flush, Refusal>
+    ensures { (core : NodeState) → StepsOn core slots.old flush result slots.new }
+{
+    match flush {
+        Flush::Resting => Ok(Flush::Resting),
+        Flush::Flushed(synced) => Ok(Flush::Flushed(synced)),
+        Flush::Body(job) => match job.step(slots) {
+            Ok(job) => Ok(Flush::BodyOut(job)),
+            Err(refusal) => Err(refusal),
+        },
+        Flush::BodyOut(job) => match job.step(slots) {
+            Ok(job) => Ok(Flush::BodySafe(job)),
+            Err(refusal) => Err(refusal),
+        },
+        Flush::BodySafe(job) => match job.step(slots) {
+            Ok(job) => Ok(Flush::GateSet(job)),
+            Err(refusal) => Err(refusal),
+        },
+        Flush::GateSet(job) => match job.step(slots) {
+            Ok(synced) => Ok(Flush::Flushed(synced)),
+            Err(refusal) => Err(refusal),
+        },
+        Flush::Switching(job) => switch_on(slots, job),
+    }
+}
+
+/// The next device call of a switch, and the switch after it, or no job.
+fn switch_on(slots: &mut Journal<NodeDisk>, job: SwitchJob) -> Result<Flush, Refusal>
+    ensures { (core : NodeState) → StepsOn core slots.old (Flush.Switching job) result slots.new }
+{
+    match job.step(slots) {
+        Ok(Switching::More(job)) => Ok(Flush::Switching(job)),
+        Ok(Switching::Done) => Ok(Flush::Resting),
+        Err(refusal) => Err(refusal),
     }
 }
 
@@ -192,78 +359,6 @@ fn quiet(told: Result<(), Refusal>) -> Result<Outcome, Refusal>
     match told {
         Ok(()) => Ok(Outcome::Quiet),
         Err(refusal) => Err(refusal),
-    }
-}
-
-/// The oldest message that may leave goes.
-fn send(mut core: Core, slots: Journal<NodeDisk>, flush: Flush) -> (Doing, Result<Outcome, Refusal>)
-    ensures { CarriesOn NodeEvent.Send (record { core = core; slots = slots; flush = flush }) result.1 result.0 }
-{
-    let outcome = match core.next_message() {
-        Some(cleared) => Outcome::Left(cleared.message()),
-        None => Outcome::Quiet,
-    };
-    up(core, slots, flush, Ok(outcome))
-}
-
-/// The oldest decided request that waits is acknowledged.
-fn reply(
-    mut core: Core,
-    slots: Journal<NodeDisk>,
-    flush: Flush,
-) -> (Doing, Result<Outcome, Refusal>)
-    ensures { CarriesOn NodeEvent.Acknowledge (record { core = core; slots = slots; flush = flush }) result.1 result.0 }
-{
-    let outcome = match core.next_ack() {
-        Some((request, reply)) => Outcome::Replied(request, reply),
-        None => Outcome::Quiet,
-    };
-    up(core, slots, flush, Ok(outcome))
-}
-
-/// The next device call of a job.
-fn flush_on(
-    core: Core,
-    mut slots: Journal<NodeDisk>,
-    flush: Flush,
-) -> (Doing, Result<Outcome, Refusal>)
-    ensures { CarriesOn NodeEvent.Device (record { core = core; slots = slots; flush = flush }) result.1 result.0 }
-{
-    match flush {
-        Flush::Resting => up(core, slots, Flush::Resting, Ok(Outcome::Quiet)),
-        Flush::Flushed(synced) => up(core, slots, Flush::Flushed(synced), Ok(Outcome::Quiet)),
-        Flush::Body(job) => match job.step(&mut slots) {
-            Ok(job) => up(core, slots, Flush::BodyOut(job), Ok(Outcome::Quiet)),
-            Err(refusal) => fallen(slots, refusal),
-        },
-        Flush::BodyOut(job) => match job.step(&mut slots) {
-            Ok(job) => up(core, slots, Flush::BodySafe(job), Ok(Outcome::Quiet)),
-            Err(refusal) => fallen(slots, refusal),
-        },
-        Flush::BodySafe(job) => match job.step(&mut slots) {
-            Ok(job) => up(core, slots, Flush::GateSet(job), Ok(Outcome::Quiet)),
-            Err(refusal) => fallen(slots, refusal),
-        },
-        Flush::GateSet(job) => match job.step(&mut slots) {
-            Ok(synced) => up(core, slots, Flush::Flushed(synced), Ok(Outcome::Quiet)),
-            Err(refusal) => fallen(slots, refusal),
-        },
-        Flush::Switching(job) => switch_on(core, slots, job),
-    }
-}
-
-/// The next device call of a switch.
-fn switch_on(
-    core: Core,
-    mut slots: Journal<NodeDisk>,
-    job: SwitchJob,
-) -> (Doing, Result<Outcome, Refusal>)
-    ensures { CarriesOn NodeEvent.Device (record { core = core; slots = slots; flush = Flush.Switching job }) result.1 result.0 }
-{
-    match job.step(&mut slots) {
-        Ok(Switching::More(job)) => up(core, slots, Flush::Switching(job), Ok(Outcome::Quiet)),
-        Ok(Switching::Done) => up(core, slots, Flush::Resting, Ok(Outcome::Quiet)),
-        Err(refusal) => fallen(slots, refusal),
     }
 }
 
@@ -365,93 +460,9 @@ fn fail_switch(
     }
 }
 
-/// A flush of the staged facts begins.
-fn take(
-    alloc: Global,
-    core: Core,
-    slots: Journal<NodeDisk>,
-    flush: Flush,
-) -> (Doing, Result<Outcome, Refusal>)
-    ensures { CarriesOn NodeEvent.Take (record { core = core; slots = slots; flush = flush }) result.1 result.0 }
-{
-    match flush {
-        Flush::Resting => begin(alloc, core, slots),
-        running => up(core, slots, running, Err(Refusal::Busy)),
-    }
-}
-
-/// A flush of the staged facts begins where none runs.
-fn begin(
-    alloc: Global,
-    mut core: Core,
-    mut slots: Journal<NodeDisk>,
-) -> (Doing, Result<Outcome, Refusal>)
-    ensures { CarriesOn NodeEvent.Take (record { core = core; slots = slots; flush = Flush.Resting }) result.1 result.0 }
-{
-    match core.take_group() {
-        Err(refusal) => up(core, slots, Flush::Resting, Err(refusal)),
-        Ok(None) => up(core, slots, Flush::Resting, Ok(Outcome::Quiet)),
-        Ok(Some(group)) => match slots.begin(alloc, group) {
-            Ok(job) => up(core, slots, Flush::Body(job), Ok(Outcome::Quiet)),
-            Err((refusal, group)) => {
-                put_back(&mut core, group);
-                up(core, slots, Flush::Resting, Err(refusal))
-            }
-        },
-    }
-}
-
 /// The group that the core has just given goes back to it.
 fn put_back(core: &mut Core, group: Group)
     ensures { running_group core.old ≡ Some group → core.new ≡ group_put_back core.old }
 {
     let _own = core.put_back(group);
-}
-
-/// The synced group is marked.
-fn mark(mut core: Core, slots: Journal<NodeDisk>, flush: Flush) -> (Doing, Result<Outcome, Refusal>)
-    ensures { CarriesOn NodeEvent.Mark (record { core = core; slots = slots; flush = flush }) result.1 result.0 }
-{
-    match flush {
-        Flush::Flushed(synced) => match core.mark(synced) {
-            Ok(()) => up(core, slots, Flush::Resting, Ok(Outcome::Quiet)),
-            Err((refusal, synced)) => up(core, slots, Flush::Flushed(synced), Err(refusal)),
-        },
-        other => up(core, slots, other, Ok(Outcome::Quiet)),
-    }
-}
-
-/// A switch to a snapshot of the marked facts begins.
-fn snap(
-    alloc: Global,
-    core: Core,
-    slots: Journal<NodeDisk>,
-    flush: Flush,
-) -> (Doing, Result<Outcome, Refusal>)
-    requires { IsServing core.nodes core.node (record { core = core; slots = slots; flush = flush }) }
-    ensures { CarriesOn NodeEvent.Snap (record { core = core; slots = slots; flush = flush }) result.1 result.0 }
-{
-    match flush {
-        Flush::Resting => begin_switch(alloc, core, slots),
-        runs => up(core, slots, runs, Err(Refusal::Busy)),
-    }
-}
-
-/// A switch begins where no job runs.
-fn begin_switch(
-    alloc: Global,
-    core: Core,
-    mut slots: Journal<NodeDisk>,
-) -> (Doing, Result<Outcome, Refusal>)
-    requires { IsServing core.nodes core.node (record { core = core; slots = slots; flush = Flush.Resting }) }
-    ensures { CarriesOn NodeEvent.Snap (record { core = core; slots = slots; flush = Flush.Resting }) result.1 result.0 }
-{
-    let promise = match core.marked_promise(alloc) {
-        Ok(promise) => promise,
-        Err(refusal) => return up(core, slots, Flush::Resting, Err(refusal)),
-    };
-    match slots.begin_snapshot(alloc, promise) {
-        Ok(job) => up(core, slots, Flush::Switching(job), Ok(Outcome::Quiet)),
-        Err(refusal) => up(core, slots, Flush::Resting, Err(refusal)),
-    }
 }

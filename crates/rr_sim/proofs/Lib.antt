@@ -2,6 +2,7 @@ pub mod ChosenLemmas
 pub mod TellingLaws
 pub mod SubmittedLaws
 pub mod ClusterLaws
+mod AloneLaws
 pub mod RealTimeLaws
 pub mod HeadlineLaws
 pub mod NodeLaws

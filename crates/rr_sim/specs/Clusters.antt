@@ -84,6 +84,23 @@ event_step at starved (Snap p) c = at_node p at starved node.Snap c
 event_step at starved (Crash p a b fill) c = crash_at p a b fill c
 event_step at starved (Restart p) c = at_node p at starved node.Restart c
 
+-- an event is the node's alone: it is no hearing of a message, no crash and no failing device call
+abbrev pub IsOfNode : Event → Type 0
+IsOfNode (Submit p v) = Unit {0}
+IsOfNode (Hear p k) = ⊥
+IsOfNode (Suspect p set) = Unit {0}
+IsOfNode (Tick p) = Unit {0}
+IsOfNode (Advance p) = Unit {0}
+IsOfNode (Take p) = Unit {0}
+IsOfNode (Device p) = Unit {0}
+IsOfNode (Fail p fill) = ⊥
+IsOfNode (Mark p) = Unit {0}
+IsOfNode (Send p) = Unit {0}
+IsOfNode (Ack p) = Unit {0}
+IsOfNode (Snap p) = Unit {0}
+IsOfNode (Crash p a b fill) = ⊥
+IsOfNode (Restart p) = Unit {0}
+
 -- the fact holds where memory was there, or where it was wanting
 abbrev pub IsEither : (Bool → Type 0) → Type 0
 IsEither Holds = Holds false ⊎ Holds true

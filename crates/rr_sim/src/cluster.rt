@@ -1,11 +1,14 @@
 //! A cluster of nodes with their disks: what each event of a schedule does to it.
 
-ghost use Rattle.std.specs.Prelude.{◌≡◌, ◌⊎◌, ◌↔◌, ◌++◌, [], length, slice_get, option_to_list, None, Some, IsTrue, MatchOption, Ok, OnOk, IfOk, IfErr};
-ghost use Rattle.rr_sim.specs.Clusters.{shown, note_of, new_cluster, at_node, fail_at, hear_at, crash_at, IsEither, Steps, TellsOfWant, IsSpeltAt, IsSpeltBehind};
+ghost use Rattle.std.specs.Prelude.{◌≡◌, ◌⊎◌, ◌↔◌, ◌++◌, ℕ, Bool, [], length, slice_get, option_to_list, None, Some, IsTrue, MatchOption, Ok, OnOk, IfOk, IfErr};
+ghost use Rattle.rr_sim.specs.Clusters as clusters;
+ghost use Rattle.rr_sim.specs.Clusters.{shown, note_of, new_cluster, at_node, fail_at, hear_at, crash_at, event_step, IsOfNode, IsEither, Steps, TellsOfWant, IsSpeltAt, IsSpeltBehind};
+ghost use Rattle.rr_text.specs.Scheduled.{node_of};
 ghost use Rattle.rr_sim.specs.Random.{IsFailing, StepsInMemory};
 ghost use Rattle.rr_node.specs.Runs.{sent_by};
 ghost use Rattle.rr_sim.specs.Told.{told};
 
+use crate::simulator::node_of;
 use rr_disk::MemDisk;
 use rr_node::{Node, NodeEvent, Outcome};
 use rr_registry::Holding;
@@ -58,12 +61,12 @@ pub fn shown(alloc: Global, names: &rr_node::BoundNames) -> Result<BoundNames, R
     Ok(BoundNames::new(bindings))
 }
 
-/// The message that an answer puts on the wire.
-fn message_of(answer: &Result<Outcome, Refusal>) -> Option<Message>
-    ensures { option_to_list result ≡ sent_by answer.now }
+/// The message that an outcome puts on the wire.
+fn message_of(outcome: &Outcome) -> Option<Message>
+    ensures { option_to_list result ≡ sent_by (Ok outcome.now) }
 {
-    match answer {
-        Ok(Outcome::Left(message)) => Some(*message),
+    match outcome {
+        Outcome::Left(message) => Some(*message),
         _ => None,
     }
 }
@@ -102,23 +105,6 @@ fn line_of(
     }
 }
 
-/// What a report says of an answer.
-fn noted(
-    alloc: Global,
-    node: NodeId,
-    line: u64,
-    sent: u64,
-    answer: Result<Outcome, Refusal>,
-) -> Result<Option<ReportLine>, Refusal>
-    ensures ok { IfOk result (λ noted. option_to_list noted ≡ note_of node line sent answer) }
-    ensures err { IfErr result (λ e. e ≡ Refusal.OutOfMemory) }
-{
-    match answer {
-        Ok(outcome) => line_of(alloc, node, line, sent, outcome),
-        Err(refusal) => Ok(Some(ReportLine::Refuse { line, refusal })),
-    }
-}
-
 fn push_some<T: Drop>(list: &mut Vec<T>, item: Option<T>) -> Result<(), Refusal>
     ensures ok { OnOk result (list.new.items ≡ list.old.items ++ option_to_list item) }
     ensures err { IfErr result (λ e. e ≡ Refusal.OutOfMemory) }
@@ -127,6 +113,28 @@ fn push_some<T: Drop>(list: &mut Vec<T>, item: Option<T>) -> Result<(), Refusal>
         list.push(item)?;
     }
     Ok(())
+}
+
+/// What happens at the node by an event that is the node's alone. This is a function of its own, so that the
+/// caller has room for one event of a node and not for each kind.
+fn node_event(event: &Event) -> NodeEvent
+    requires { IsOfNode event.now }
+    ensures { (at : ℕ) (starved : Bool) (c : clusters.Cluster) → event_step at starved event.now c ≡ at_node (node_of event.now) at starved result c }
+{
+    match event {
+        Event::Submit { command, .. } => NodeEvent::Submit(*command),
+        Event::Suspect { set, .. } => NodeEvent::Suspect(*set),
+        Event::Tick { .. } => NodeEvent::Tick,
+        Event::Advance { .. } => NodeEvent::Advance,
+        Event::Take { .. } => NodeEvent::Take,
+        Event::Device { .. } => NodeEvent::Device,
+        Event::Mark { .. } => NodeEvent::Mark,
+        Event::Send { .. } => NodeEvent::Send,
+        Event::Ack { .. } => NodeEvent::Acknowledge,
+        Event::Snap { .. } => NodeEvent::Snap,
+        Event::Restart { .. } => NodeEvent::Restart,
+        Event::Hear { .. } | Event::Crash { .. } | Event::Fail { .. } => unreachable!(),
+    }
 }
 
 /// Whether an event is a failing device call.
@@ -280,9 +288,33 @@ impl Cluster {
         }) }
         ensures err { IfErr result (λ e. e ≡ Refusal.OutOfMemory) }
     {
-        let message = message_of(&answer);
+        match answer {
+            Ok(Outcome::Quiet) => Ok(()),
+            Ok(outcome) => self.take_outcome(alloc, node, line, outcome),
+            Err(refusal) => {
+                self.lines.push(ReportLine::Refuse { line, refusal })?;
+                Ok(())
+            }
+        }
+    }
+
+    /// What an outcome puts on the wire and into the report.
+    fn take_outcome(
+        &mut self,
+        alloc: Global,
+        node: NodeId,
+        line: u64,
+        outcome: Outcome,
+    ) -> Result<(), Refusal>
+        ensures ok { OnOk result (self.new ≡ record self.old {
+          wire = self.old.wire ++ sent_by (Ok outcome);
+          lines = self.old.lines ++ note_of node line (length self.old.wire) (Ok outcome);
+        }) }
+        ensures err { IfErr result (λ e. e ≡ Refusal.OutOfMemory) }
+    {
+        let message = message_of(&outcome);
         let sent = self.wire.len() as u64;
-        let noted = noted(alloc, node, line, sent, answer)?;
+        let noted = line_of(alloc, node, line, sent, outcome)?;
         push_some(&mut self.lines, noted)?;
         push_some(&mut self.wire, message)
     }
@@ -299,13 +331,12 @@ impl Cluster {
         ensures spelt { OnOk result ((self.new ≡ self.old) ⊎ IsSpeltAt node self.new) }
         ensures err { IfErr result (λ e. e ≡ Refusal.OutOfMemory) }
     {
-        let Some(message) = self.wire.get(number as usize).copied() else {
-            return Ok(());
-        };
-        if message.to == node {
-            self.at_node(alloc, node, line, NodeEvent::Hear(message))
-        } else {
-            Ok(())
+        match self.wire.get(number as usize) {
+            Some(message) if message.to == node => {
+                let event = NodeEvent::Hear(*message);
+                self.at_node(alloc, node, line, event)
+            }
+            _ => Ok(()),
         }
     }
 
@@ -334,28 +365,7 @@ impl Cluster {
         ensures err { IfErr result (λ e. e ≡ Refusal.OutOfMemory) }
     {
         match event {
-            Event::Submit { node, command } => self.at_node(
-                alloc,
-                *node,
-                line,
-                NodeEvent::Submit(*command),
-            ),
             Event::Hear { node, message } => self.hear_at(alloc, *node, line, *message),
-            Event::Suspect { node, set } => self.at_node(
-                alloc,
-                *node,
-                line,
-                NodeEvent::Suspect(*set),
-            ),
-            Event::Tick { node } => self.at_node(alloc, *node, line, NodeEvent::Tick),
-            Event::Advance { node } => self.at_node(alloc, *node, line, NodeEvent::Advance),
-            Event::Take { node } => self.at_node(alloc, *node, line, NodeEvent::Take),
-            Event::Device { node } => self.at_node(alloc, *node, line, NodeEvent::Device),
-            Event::Mark { node } => self.at_node(alloc, *node, line, NodeEvent::Mark),
-            Event::Send { node } => self.at_node(alloc, *node, line, NodeEvent::Send),
-            Event::Ack { node } => self.at_node(alloc, *node, line, NodeEvent::Acknowledge),
-            Event::Snap { node } => self.at_node(alloc, *node, line, NodeEvent::Snap),
-            Event::Restart { node } => self.at_node(alloc, *node, line, NodeEvent::Restart),
             Event::Crash {
                 node,
                 cut_0,
@@ -366,7 +376,18 @@ impl Cluster {
                 Ok(())
             }
             Event::Fail { node, fill } => self.fail_at(alloc, *node, line, fill.as_bytes()),
+            _ => self.take_event(alloc, line, event),
         }
+    }
+
+    /// What an event does that is the node's alone.
+    fn take_event(&mut self, alloc: Global, line: u64, event: &Event) -> Result<(), Refusal>
+        requires { IsOfNode event.now }
+        ensures ok { OnOk result (Steps line event.now self.old self.new) }
+        ensures spelt { OnOk result (IsSpeltBehind event.now self.old self.new) }
+        ensures err { IfErr result (λ e. e ≡ Refusal.OutOfMemory) }
+    {
+        self.at_node(alloc, node_of(event), line, node_event(event))
     }
 
     /// What the event of a line does where memory is there; `OutOfMemory` where it is wanting, as the answer tells. A

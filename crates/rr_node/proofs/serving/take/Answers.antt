@@ -1,4 +1,0 @@
-use Rattle.rr_node.proofs.serving.take.Goals as goal
-
-pub returns-in-Resting : goal.returns-in-Resting
-returns-in-Resting c = rw c.in-Resting.is c.begin.ensures
