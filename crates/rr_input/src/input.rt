@@ -61,16 +61,13 @@ pub fn submitted(step: &mut Step<'_>, command: Command, is_held: bool) -> Result
 /// A tick: a beat, the detector's suspects, the restatement of the open instances, and where the node is
 /// behind a question.
 #[tactic(auto, using(crate::proofs::InputLemmas::everyone_after_owe), unfolding(rr_model::specs::NodeStep::ticked_on))]
-pub fn ticked_on(step: &mut Step<'_>, alloc: Global) -> Result<(), Refusal>
+pub fn ticked_on(step: &mut Step<'_>) -> Result<(), Refusal>
     ensures ok { OnOk result (step.new ≡ stepped ticked_on step.old) }
     ensures err { IfErr result (λ e. e ≡ Refusal.OutOfMemory) }
 {
     step.tick_watches();
     let late = step.late_nodes();
-    let open = match step.open_instances(alloc) {
-        Ok(open) => open,
-        Err(refusal) => return Err(refusal),
-    };
+    let open = step.open_instances();
     match step.owe_others(Body::Beat, None) {
         Ok(()) => (),
         Err(refusal) => return Err(refusal),
@@ -79,7 +76,7 @@ pub fn ticked_on(step: &mut Step<'_>, alloc: Global) -> Result<(), Refusal>
         Ok(()) => (),
         Err(refusal) => return Err(refusal),
     }
-    match restate_all(step, &open) {
+    match restate_all(step, open.as_slice()) {
         Ok(()) => ask_if_behind(step),
         Err(refusal) => Err(refusal),
     }
@@ -88,7 +85,7 @@ pub fn ticked_on(step: &mut Step<'_>, alloc: Global) -> Result<(), Refusal>
 /// The lowest open instance that has a round enters the next one; in the last round it is refused, for which it
 /// takes no memory.
 #[tactic(auto, unfolding(rr_model::specs::NodeStep::advanced))]
-pub fn advanced(step: &mut Step<'_>, alloc: Global) -> Result<(), Refusal>
+pub fn advanced(step: &mut Step<'_>) -> Result<(), Refusal>
     ensures ok { OnOk result (step.new ≡ stepped advanced step.old) }
     ensures allowed { OnOk result (advance_refusal step.old.state ≡ None) }
     ensures order { (e : Refusal) → advance_refusal step.old.state ≡ Some e → result ≡ Err e }
@@ -101,7 +98,7 @@ pub fn advanced(step: &mut Step<'_>, alloc: Global) -> Result<(), Refusal>
             if round == rr_types::MAX_ROUND {
                 return Err(Refusal::RoundsOut);
             }
-            enter(step, alloc, instance, Round::at(round + 1), None)
+            enter(step, instance, Round::at(round + 1), None)
         }
     }
 }
@@ -109,7 +106,6 @@ pub fn advanced(step: &mut Step<'_>, alloc: Global) -> Result<(), Refusal>
 /// Where a round lies above the instance's, the instance enters it.
 fn catch_up(
     step: &mut Step<'_>,
-    alloc: Global,
     instance: Instance,
     round: Round,
     command: Command,
@@ -119,7 +115,7 @@ fn catch_up(
     ensures err { IfErr result (λ e. e ≡ Refusal.OutOfMemory) }
 {
     if step.round(instance) < round.number() {
-        enter(step, alloc, instance, round, Some(command))
+        enter(step, instance, round, Some(command))
     } else {
         Ok(())
     }
@@ -228,7 +224,7 @@ fn hear_estimate(
         Ok(()) => (),
         Err(refusal) => return Err(refusal),
     }
-    match catch_up(step, alloc, instance, round, command) {
+    match catch_up(step, instance, round, command) {
         Ok(()) => take_estimate(step, alloc, instance, from, estimate),
         Err(refusal) => Err(refusal),
     }
@@ -237,7 +233,6 @@ fn hear_estimate(
 #[tactic(auto, using(crate::proofs::InputLemmas::undecided_first, crate::proofs::InputLemmas::pooled_undecided), unfolding(rr_model::specs::NodeStep::heard_body))]
 fn hear_proposal(
     step: &mut Step<'_>,
-    alloc: Global,
     from: NodeId,
     instance: Instance,
     round: Round,
@@ -262,7 +257,7 @@ fn hear_proposal(
         Err(refusal) => return Err(refusal),
     }
     let entered = command;
-    match catch_up(step, alloc, instance, round, entered) {
+    match catch_up(step, instance, round, entered) {
         Ok(()) => take_proposal(step, instance, round, command, from),
         Err(refusal) => Err(refusal),
     }
@@ -315,7 +310,7 @@ fn hear_body(step: &mut Step<'_>, alloc: Global, from: NodeId, body: Body) -> Re
             hear_estimate(step, alloc, from, instance, estimate)
         }
         Body::Proposal(instance, round, command) => {
-            hear_proposal(step, alloc, from, instance, round, command)
+            hear_proposal(step, from, instance, round, command)
         }
         Body::Ack(instance, round) => hear_ack(step, alloc, from, instance, round),
         Body::Decision(instance, command) => hear_decision(step, from, instance, command),

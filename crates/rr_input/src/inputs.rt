@@ -19,11 +19,11 @@ use std::alloc::Global;
 
 /// All that is due is done: what the step has changed then, if the next fact has a number.
 #[tactic(auto, using(crate::proofs::InputSteps::settled))]
-fn finish(mut step: Step<'_>, alloc: Global) -> Result<Changes, Refusal>
+fn finish(mut step: Step<'_>) -> Result<Changes, Refusal>
     ensures ok { IfOk result (λ c. IsSettled step.entry.base step.entry.state c) }
     ensures refused { IfErr result (λ e. (e ≡ Refusal.OutOfMemory) ⊎ ((e ≡ Refusal.TooLarge) × (2 ^ 64 ≤ next_number (settle step.entry.state)))) }
 {
-    match settle(&mut step, alloc) {
+    match settle(&mut step) {
         Ok(()) => (),
         Err(refusal) => return Err(refusal),
     }
@@ -60,11 +60,8 @@ fn restatement(state: &State, alloc: Global) -> Result<Changes, Refusal>
     ensures err { IfErr result (λ e. e ≡ Refusal.OutOfMemory) }
 {
     let mut step = Step::new(alloc, state);
-    let open = match step.open_instances(alloc) {
-        Ok(open) => open,
-        Err(refusal) => return Err(refusal),
-    };
-    match restate_all(&mut step, &open) {
+    let open = step.open_instances();
+    match restate_all(&mut step, open.as_slice()) {
         Ok(()) => Ok(step.into_changes()),
         Err(refusal) => Err(refusal),
     }
@@ -90,7 +87,7 @@ pub fn submit_step(
         return Err(refusal);
     }
     match submitted(&mut step, command, is_held) {
-        Ok(()) => finish(step, alloc),
+        Ok(()) => finish(step),
         Err(refusal) => Err(refusal),
     }
 }
@@ -103,7 +100,7 @@ pub fn hear_step(state: &State, alloc: Global, message: &Message) -> Result<Chan
 {
     let mut step = Step::new(alloc, state);
     match heard(&mut step, alloc, message) {
-        Ok(()) => finish(step, alloc),
+        Ok(()) => finish(step),
         Err(refusal) => Err(refusal),
     }
 }
@@ -116,7 +113,7 @@ pub fn suspect_step(state: &State, alloc: Global, suspects: NodeSet) -> Result<C
 {
     let mut step = Step::new(alloc, state);
     step.suspect(suspects);
-    finish(step, alloc)
+    finish(step)
 }
 
 /// What a tick changes.
@@ -126,8 +123,8 @@ pub fn tick_step(state: &State, alloc: Global) -> Result<Changes, Refusal>
     ensures refused { IfErr result (λ e. (e ≡ Refusal.OutOfMemory) ⊎ (refusal_of Tick state.now ≡ Some e)) }
 {
     let mut step = Step::new(alloc, state);
-    match ticked_on(&mut step, alloc) {
-        Ok(()) => finish(step, alloc),
+    match ticked_on(&mut step) {
+        Ok(()) => finish(step),
         Err(refusal) => Err(refusal),
     }
 }
@@ -140,8 +137,8 @@ pub fn advance_step(state: &State, alloc: Global) -> Result<Changes, Refusal>
     ensures refused { IfErr result (λ e. (e ≡ Refusal.OutOfMemory) ⊎ (refusal_of Advance state.now ≡ Some e)) }
 {
     let mut step = Step::new(alloc, state);
-    match advanced(&mut step, alloc) {
-        Ok(()) => finish(step, alloc),
+    match advanced(&mut step) {
+        Ok(()) => finish(step),
         Err(refusal) => Err(refusal),
     }
 }

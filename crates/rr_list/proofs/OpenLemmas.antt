@@ -17,6 +17,7 @@ use Rattle.rr_list.specs.Listed.{put_rows, decision_at, KeepsDecisions}
 use Rattle.rr_list.specs.Rowed.{AscendFrom, is_undecided}
 use Rattle.rr_list.specs.Opened.{open_in}
 use Rattle.rr_list.proofs.TableLemmas.{decision_none, none_below}
+use Rattle.rr_model.proofs.NodeRows.{row_of-put_row}
 use Rattle.rr_list.proofs.NotedLemmas.{row_stays}
 
 -- a row has decided where it has a decision
@@ -232,6 +233,52 @@ unfolding open_in
 runs_short old new window h g keeps w few =
     let all : length (lowest_undecided 8 0 old) ≡ length window = ap (λ (x : List ℕ). length x) (sym w) in
     ap (filter (is_undecided new)) w ∙ short old new h g keeps 8 0 8 (omega arith) (omega (arith, all))
+
+none_of : {A : Type 0} (o : Option A) → is_some o ≡ false → o ≡ None
+none_of None h = refl
+none_of (Some x) h = cc
+
+neither : (a b : Bool) → (a || b) ≡ false → (a ≡ false) × (b ≡ false)
+neither true b h = cc
+neither false b h = (refl, h)
+
+-- a row that hasn't decided leaves an undecided instance so
+undecided_put : (c : Row) (rows : List Row) (i : ℕ) → is_decided c ≡ false → decision_at rows i ≡ None → decision_at (put_row c rows) i ≡ None
+undecided_put c rows i d h = ap (λ (x : Option Row). decision_of (option_map (λ (r : Row). r.standing) x)) (row_of-put_row c rows i) ∙ by (c.instance == i)
+  where
+    by : (b : Bool) → decision_of (option_map (λ (r : Row). r.standing) (if b then Some c else row_of rows i)) ≡ None
+    by true = none_of (decided_command c) (sym (decided_row c) ∙ d)
+    by false = h
+
+undecided_puts : (rows changes : List Row) (i : ℕ) → decision_at rows i ≡ None → list_any (λ r. is_decided r) changes ≡ false → decision_at (put_rows rows changes) i ≡ None
+undecided_puts rows [] i h n = h
+undecided_puts rows (c ∷ cs) i h n =
+    let s = neither (is_decided c) (list_any (λ r. is_decided r) cs) n in
+    undecided_puts (put_row c rows) cs i (undecided_put c rows i s.0 h) s.1
+
+-- the lowest undecided instance is undecided
+lowest_is : (rows : List Row) (i : ℕ) → AscendFrom 0 rows → decision_at rows (undecided_from i rows) ≡ None
+lowest_is rows i h =
+    let u = undecided_from i rows in
+    either (decision_at rows u) (λ d. d)
+    (λ v d.
+    let le = undecided_from_le i rows in
+    let same : undecided_from u rows ≡ u = undecided_between rows i u h le (omega arith) in
+    let next : undecided_from u rows ≡ undecided_from (u + 1) rows = undecided_past 0 u v rows h d in
+    let more = undecided_from_le (u + 1) rows in
+    absurd (omega (arith, same, next, more)))
+
+lowest_alike : (n i : ℕ) (old new : List Row) → ((j : ℕ) → undecided_from j new ≡ undecided_from j old) → lowest_undecided n i new ≡ lowest_undecided n i old
+lowest_alike zero i old new h = refl
+lowest_alike (suc n) i old new h = rw (h i) (ap (λ (xs : List ℕ). if nat_lt (undecided_from i old) 1048576 then undecided_from i old ∷ xs else []) (lowest_alike n (undecided_from i old + 1) old new h))
+
+-- the open instances stay where none of the rows that were put has decided
+pub open_stays : (old new changes : List Row) → AscendFrom 0 old → AscendFrom 0 new → KeepsDecisions old new → new ≡ put_rows old changes → list_any (λ r. is_decided r) changes ≡ false → open_in new ≡ open_in old
+unfolding open_in
+open_stays old new changes h g keeps put none =
+    lowest_alike 8 0 old new (λ j.
+    undecided_jump old new h g keeps j
+    ∙ undecided_here (undecided_from j old) new (ap (λ (rows : List Row). decision_at rows (undecided_from j old)) put ∙ undecided_puts old changes (undecided_from j old) (lowest_is old j h) none))
 
 pub open_is : (rows : List Row) (window : List ℕ) → window ≡ open_in rows → window ≡ lowest_undecided 8 0 rows
 unfolding open_in

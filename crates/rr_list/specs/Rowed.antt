@@ -74,8 +74,12 @@ pub record IsNoted (rows : List Row) (instances : List ℕ) (before after : List
 abbrev pub is_undecided : List Row → ℕ → Bool
 is_undecided rows i = not (is_some (decision_at rows i))
 
--- a table of rows with the requests that they have decided, and the end of the decided instances
-pub record IsTable (entries : List (ℕ × Row)) (requests : List (RequestNo × Unit {0})) (end : ℕ) : Type 0 where
+-- each row lies below a number
+abbrev pub LieBelow : ℕ → List Row → Type 0
+LieBelow named rows = (i : ℕ) → named ≤ i → row_of rows i ≡ None
+
+-- a table of rows with the requests that they have decided, the end of the decided instances, and a number above all rows
+pub record IsTable (entries : List (ℕ × Row)) (requests : List (RequestNo × Unit {0})) (end named : ℕ) : Type 0 where
   pub keyed : AreKeyed entries
   pub ascend : AscendFrom 0 (rows_in entries)
   pub instances : AreInstances (rows_in entries)
@@ -83,3 +87,4 @@ pub record IsTable (entries : List (ℕ × Row)) (requests : List (RequestNo × 
   pub holds : HoldsDecided (rows_in entries) requests
   pub reached : IsReached (rows_in entries) end
   pub above : IsAbove (rows_in entries) end
+  pub below : LieBelow named (rows_in entries)

@@ -10,7 +10,7 @@ ghost use Rattle.rr_list.specs.Rowed.{AscendFrom, has_decided};
 ghost use Rattle.rr_list.specs.Opened.{open_in};
 
 use crate::marks::Marks;
-use crate::rows::Rows;
+use crate::rows::{Rows, is_any_decided};
 use crate::window::Window;
 use rr_instance::Row;
 use rr_types::{Command, Entry, Fact, Instance, Op, Refusal, RequestNo, Standing};
@@ -105,6 +105,14 @@ impl Instances {
         window.as_slice()
     }
 
+    /// The open instances as a value of their own.
+    pub fn window(&self) -> Window
+        ensures value { result ≡ open_in self.now.rows }
+        ensures ascend { AscendFrom 0 self.now.rows }
+    {
+        self.window.copied()
+    }
+
     /// The lowest undecided instance from this one on; 1,048,576 where there is none. Beyond the open instances it
     /// is looked for one after another.
     pub fn undecided_from(&self, from: u32) -> u32
@@ -138,13 +146,17 @@ impl Instances {
         ensures kept { OnErr result (self.new ≡ self.old) }
         ensures err { IfErr result (λ e. e ≡ Refusal.OutOfMemory) }
     {
+        if rows.is_empty() {
+            return Ok(());
+        }
         match self.marks.make_places(&rows) {
             Ok(()) => (),
             Err(refusal) => return Err(refusal),
         }
+        let is_decision_new = is_any_decided(&rows);
         match self.rows.absorb(alloc, rows) {
             Ok(()) => {
-                self.window = self.rows.slide(&self.window);
+                self.window = self.rows.slide_behind(&self.window, is_decision_new);
                 Ok(())
             }
             Err(refusal) => Err(refusal),

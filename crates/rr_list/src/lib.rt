@@ -14,4 +14,6 @@ mod window;
 pub use arrivals::{Requested, Values};
 pub use instances::Instances;
 pub use pool::Pool;
+pub use rows::is_any_decided;
 pub use waiting::Waiting;
+pub use window::Window;

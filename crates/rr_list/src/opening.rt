@@ -1,9 +1,10 @@
 //! The open instances: the eight lowest undecided ones.
 
 ghost use Rattle.std.specs.Prelude.{◌≡◌, ◌<◌, ◌≤◌, ◌-◌, ◌++◌, ◌∷◌, List, [], length, filter, is_some, IsTrue};
-ghost use Rattle.rr_model.specs.NodeState.{undecided_from, lowest_undecided};
+ghost use Rattle.std.specs.List.{list_any};
+ghost use Rattle.rr_model.specs.NodeState.{is_decided, undecided_from, lowest_undecided};
 ghost use Rattle.rr_model.specs.NodeState as model;
-ghost use Rattle.rr_list.specs.Listed.{decision_at, KeepsDecisions};
+ghost use Rattle.rr_list.specs.Listed.{decision_at, put_rows, KeepsDecisions};
 ghost use Rattle.rr_list.specs.Rowed.{AscendFrom, is_undecided};
 ghost use Rattle.rr_list.specs.Opened.{open_in};
 
@@ -87,6 +88,19 @@ impl Rows {
             return kept;
         }
         self.fill(kept, instances[WINDOW - 1].number() + 1)
+    }
+
+    /// The open instances behind rows that were put, where these were open before. They are the same unless a row has
+    /// decided.
+    pub(crate) fn slide_behind(&self, window: &Window, is_decision_new: bool) -> Window
+        requires { AscendFrom 0 self.now }
+        ensures { (before changes : List model.Row) → AscendFrom 0 before → KeepsDecisions before self.now → self.now ≡ put_rows before changes → is_decision_new ≡ list_any (λ r. is_decided r) changes → window.now ≡ open_in before → result ≡ open_in self.now }
+    {
+        if is_decision_new {
+            self.slide(window)
+        } else {
+            window.copied()
+        }
     }
 
     /// The lowest undecided instance from this one on. As long as it isn't above all these open instances, it is

@@ -1,6 +1,6 @@
 //! The rows of the instances that the facts name, and what these have decided.
 
-ghost use Rattle.std.specs.Prelude.{◌≡◌, ◌<◌, ◌&&◌, ℕ, [], ◌∷◌, map, Some, None, nat_lt, IsTrue, IfOk, IfErr, OnOk, OnErr, MatchOption};
+ghost use Rattle.std.specs.Prelude.{◌≡◌, ◌<◌, ◌≤◌, ◌&&◌, ℕ, [], ◌∷◌, map, Some, None, nat_lt, IsTrue, IfOk, IfErr, OnOk, OnErr, MatchOption};
 ghost use Rattle.std.specs.List.{list_any, All};
 ghost use Rattle.std.specs.Ordering.{nat_cmp};
 ghost use Rattle.rr_types.specs.declared.command.RequestNo.{RequestNo};
@@ -17,13 +17,14 @@ use std::alloc::Global;
 use std::collections::BTreeMap;
 use std::marker::Model;
 
-/// The rows, each at its instance; the requests that they have decided; and the number above the highest instance
-/// that has decided, or 0.
+/// The rows, each at its instance; the requests that they have decided; the number above the highest instance
+/// that has decided, or 0; and a number below which all rows lie, so that a look-up above them costs nothing.
 #[derive(Drop)]
 pub(crate) struct Rows {
     rows: BTreeMap<u32, Option<Row>>,
     requests: BTreeMap<RequestNo, Option<()>>,
     end: u32,
+    named: u32,
 }
 
 impl Model for Rows {
@@ -36,7 +37,7 @@ impl Model for Rows {
 
     ghost view = { λ t. rows_in (filled t.rows.entries) };
 
-    ghost invariant = { λ t. IsTable (filled t.rows.entries) (filled t.requests.entries) t.end };
+    ghost invariant = { λ t. IsTable (filled t.rows.entries) (filled t.requests.entries) t.end t.named };
 }
 
 /// Makes a place for the row of each of these instances.
@@ -157,6 +158,33 @@ fn instances_of(alloc: Global, rows: &[Row]) -> Result<Vec<Instance>, Refusal>
     Ok(instances)
 }
 
+/// The least number from this one on below which these rows lie.
+fn named_with(named: u32, rows: &[Row]) -> u32
+    ensures grown { named ≤ result }
+    ensures below { All (λ r. r.instance < result) rows.now }
+{
+    let mut above = named;
+    for row in rows {
+        let number = row.instance.number();
+        if above <= number {
+            above = number + 1;
+        }
+    }
+    above
+}
+
+/// Whether one of these rows has decided.
+pub fn is_any_decided(rows: &[Row]) -> bool
+    ensures { result ≡ list_any (λ r. is_decided r) rows.now }
+{
+    for row in rows {
+        if row.is_decided() {
+            return true;
+        }
+    }
+    false
+}
+
 /// Takes what an instance has decided into the table: its request, which has a place, and the table's end, which
 /// it gives. It needs no memory.
 fn note_decision(
@@ -211,6 +239,7 @@ impl Rows {
             rows: BTreeMap::new(alloc),
             requests: BTreeMap::new(alloc),
             end: 0,
+            named: 0,
         }
     }
 
@@ -220,6 +249,9 @@ impl Rows {
         ensures ascend { AscendFrom 0 self.now }
         ensures instances { AreInstances self.now }
     {
+        if self.named <= number {
+            return None;
+        }
         match value_of(&self.rows, &number) {
             Some(row) => Some(row),
             None => None,
@@ -258,6 +290,7 @@ impl Rows {
         };
         match make_places(&mut self.rows, &mut self.requests, &rows) {
             Ok(()) => {
+                self.named = named_with(self.named, &rows);
                 put_all(&mut self.rows, rows);
                 self.end = note_decisions(&self.rows, &mut self.requests, self.end, &instances);
                 Ok(())

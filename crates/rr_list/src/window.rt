@@ -7,7 +7,7 @@ use std::marker::Model;
 
 /// Up to eight instances, in order. No call needs memory.
 #[derive(Drop)]
-pub(crate) struct Window {
+pub struct Window {
     places: [Instance; 8],
     count: usize,
 }
@@ -24,7 +24,7 @@ impl Model for Window {
 
 impl Window {
     /// No instance.
-    pub(crate) fn new() -> Window
+    pub fn new() -> Window
         ensures { result ≡ [] }
     {
         match Instance::new(0) {
@@ -37,15 +37,25 @@ impl Window {
     }
 
     /// The instances.
-    pub(crate) fn as_slice(&self) -> &[Instance]
+    pub fn as_slice(&self) -> &[Instance]
         ensures value { result.now ≡ self.now }
         ensures range { length result.now ≤ 8 }
     {
         &self.places[..self.count]
     }
 
+    /// A copy.
+    pub fn copied(&self) -> Window
+        ensures { result ≡ self.now }
+    {
+        Window {
+            places: self.places,
+            count: self.count,
+        }
+    }
+
     /// Puts an instance last.
-    pub(crate) fn push(&mut self, instance: Instance)
+    pub fn push(&mut self, instance: Instance)
         requires { length self.old < 8 }
         ensures { self.new ≡ self.old ++ instance ∷ [] }
     {

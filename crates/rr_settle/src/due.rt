@@ -1,6 +1,6 @@
 //! What a node does of its own accord, one thing after another until nothing is due.
 
-ghost use Rattle.std.specs.Prelude.{◌≡◌, ◌<◌, IfOk, IfErr, IfSome, OnOk, option_map, Some};
+ghost use Rattle.std.specs.Prelude.{◌≡◌, ◌<◌, IfErr, IfSome, OnOk, option_map, Some};
 ghost use Rattle.rr_types.specs.Standings.{round_of};
 ghost use Rattle.rr_model.specs.NodeState.{open_instances};
 ghost use Rattle.rr_model.specs.NodeDue.{due_of_coordinator, due_of_participant, due_of_row, first_due, due, carry_out, settle};
@@ -12,7 +12,6 @@ use rr_relay::conclude;
 use rr_round::Tally;
 use rr_step::Step;
 use rr_types::{Command, Instance, Refusal, Round, Standing, coordinator};
-use std::alloc::Global;
 
 /// The most turns until nothing is due.
 const TURNS: u64 = 1 << 54;
@@ -118,49 +117,45 @@ fn first_due(step: &Step<'_>, instances: &[Instance]) -> Option<Due>
 
 /// What is due: the lowest open instance to which anything applies. What is found can be carried out.
 #[tactic(auto, unfolding(rr_model::specs::NodeDue::due))]
-pub fn find_due(step: &Step<'_>, alloc: Global) -> Result<Option<Due>, Refusal>
-    ensures value { IfOk result (λ found. option_map meaning_of found ≡ due step.now.state) }
-    ensures ready { IfOk result (λ found. IfSome found (CanBeCarriedOut step.now.state)) }
-    ensures err { IfErr result (λ e. e ≡ Refusal.OutOfMemory) }
+pub fn find_due(step: &Step<'_>) -> Option<Due>
+    ensures value { option_map meaning_of result ≡ due step.now.state }
+    ensures ready { IfSome result (CanBeCarriedOut step.now.state) }
 {
-    match step.open_instances(alloc) {
-        Ok(instances) => Ok(first_due(step, &instances)),
-        Err(refusal) => Err(refusal),
-    }
+    let open = step.open_instances();
+    first_due(step, open.as_slice())
 }
 
 /// The node does what is due.
 #[tactic(auto, unfolding(rr_model::specs::NodeDue::carry_out))]
-pub fn carry_out(step: &mut Step<'_>, alloc: Global, due: Due) -> Result<(), Refusal>
+pub fn carry_out(step: &mut Step<'_>, due: Due) -> Result<(), Refusal>
     requires { CanBeCarriedOut step.old.state due }
     ensures ok { OnOk result (step.new ≡ stepped (carry_out (meaning_of due)) step.old) }
     ensures err { IfErr result (λ e. e ≡ Refusal.OutOfMemory) }
 {
     match due {
-        Due::Begin(instance) => enter(step, alloc, instance, Round::at(1), None),
+        Due::Begin(instance) => enter(step, instance, Round::at(1), None),
         Due::Offer(instance, round, command) => propose(step, instance, round, command),
         Due::Conclude(instance, command) => conclude(step, instance, command),
         Due::MoveOn(instance) => {
             let round = step.round(instance);
-            enter(step, alloc, instance, Round::at(round + 1), None)
+            enter(step, instance, Round::at(round + 1), None)
         }
     }
 }
 
 /// The node does what is due until nothing is.
 #[tactic(auto, using(crate::proofs::DueLemmas::settled, crate::proofs::DueLemmas::settle_more, crate::proofs::DueLemmas::settle_none), unfolding(rr_model::specs::NodeDue::settle))]
-pub fn settle(step: &mut Step<'_>, alloc: Global) -> Result<(), Refusal>
+pub fn settle(step: &mut Step<'_>) -> Result<(), Refusal>
     ensures ok { OnOk result (step.new ≡ stepped settle step.old) }
     ensures err { IfErr result (λ e. e ≡ Refusal.OutOfMemory) }
 {
     for turn in 0..TURNS {
-        match find_due(step, alloc) {
-            Ok(Some(due)) => match carry_out(step, alloc, due) {
+        match find_due(step) {
+            Some(due) => match carry_out(step, due) {
                 Ok(()) => (),
                 Err(refusal) => return Err(refusal),
             },
-            Ok(None) => return Ok(()),
-            Err(refusal) => return Err(refusal),
+            None => return Ok(()),
         }
     }
     Ok(())

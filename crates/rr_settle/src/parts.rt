@@ -1,7 +1,7 @@
 //! The parts of a step: entering rounds, restating, proposing.
 //! Each changes the state as its definition says, or is refused for memory and then leaves no promise.
 
-ghost use Rattle.std.specs.Prelude.{◌≡◌, ◌<◌, true, IfOk, IfErr, OnOk};
+ghost use Rattle.std.specs.Prelude.{◌≡◌, ◌<◌, true, IfErr, OnOk};
 ghost use Rattle.rr_types.specs.declared.fact.Fact.TheVariants as staged;
 ghost use Rattle.rr_types.specs.Standings.{round_of, is_undecided};
 ghost use Rattle.rr_model.specs.NodeState.{standing_at};
@@ -12,7 +12,6 @@ use crate::rounds::{enter_with, entering_estimate, leave_round, restate_open};
 use rr_instance::with_proposal;
 use rr_step::Step;
 use rr_types::{Body, Command, Fact, Instance, Refusal, Round, Standing};
-use std::alloc::Global;
 
 /// Stages a proposal.
 fn stage_propose(
@@ -31,23 +30,17 @@ fn stage_propose(
 
 /// The first pool command that is no estimate of an open instance but this one.
 #[tactic(auto, using(crate::proofs::RoundLemmas::first_free_is))]
-pub fn free_command(
-    step: &Step<'_>,
-    alloc: Global,
-    instance: Instance,
-) -> Result<Option<Command>, Refusal>
-    ensures value { IfOk result (λ c. c ≡ free_command step.now.state instance) }
-    ensures err { IfErr result (λ e. e ≡ Refusal.OutOfMemory) }
+pub fn free_command(step: &Step<'_>, instance: Instance) -> Option<Command>
+    ensures { result ≡ free_command step.now.state instance }
 {
-    let open = step.open_instances(alloc)?;
-    Ok(step.first_free(&open, instance))
+    let open = step.open_instances();
+    step.first_free(open.as_slice(), instance)
 }
 
 /// The instance enters a round above its own, with its estimate, a free command of the pool or the one heard.
 #[tactic(auto, using(crate::proofs::RoundLemmas::left_undecided), unfolding(rr_model::specs::NodeParts::enter))]
 pub fn enter(
     step: &mut Step<'_>,
-    alloc: Global,
     instance: Instance,
     round: Round,
     heard: Option<Command>,
@@ -57,7 +50,7 @@ pub fn enter(
     ensures ok { OnOk result (step.new ≡ stepped (enter instance round heard) step.old) }
     ensures err { IfErr result (λ e. e ≡ Refusal.OutOfMemory) }
 {
-    match entering_estimate(step, alloc, instance, round, heard)? {
+    match entering_estimate(step, instance, round, heard) {
         None => Ok(()),
         Some(estimate) => {
             leave_round(step, instance)?;

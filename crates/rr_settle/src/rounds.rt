@@ -1,6 +1,6 @@
 //! The parts of entering a round and of restating where an instance stands.
 
-ghost use Rattle.std.specs.Prelude.{◌≡◌, ◌<◌, true, Some, IfOk, IfErr, OnOk};
+ghost use Rattle.std.specs.Prelude.{◌≡◌, ◌<◌, true, Some, IfErr, OnOk};
 ghost use Rattle.rr_types.specs.declared.fact.Fact.TheVariants as staged;
 ghost use Rattle.rr_types.specs.declared.promise.Standing.TheVariants as stands;
 ghost use Rattle.rr_types.specs.Standings.{round_of, is_undecided};
@@ -15,7 +15,6 @@ use rr_step::Step;
 use rr_types::{
     Body, Command, Estimate, Fact, Instance, OpenStanding, Refusal, Round, Standing, coordinator,
 };
-use std::alloc::Global;
 
 /// The numbers that back the messages of an instance; 0 where no fact names it.
 fn backing_or_none(step: &Step<'_>, instance: Instance) -> Backing
@@ -41,25 +40,23 @@ fn proposal_number(step: &Step<'_>, instance: Instance) -> u128
 /// The estimate with which an instance enters a round above its own, if there is one.
 pub fn entering_estimate(
     step: &Step<'_>,
-    alloc: Global,
     instance: Instance,
     round: Round,
     heard: Option<Command>,
-) -> Result<Option<Estimate>, Refusal>
+) -> Option<Estimate>
     requires { round_of (standing_at step.now.state instance) < round }
-    ensures value { IfOk result (λ e. e ≡ entering_estimate instance round heard step.now.state) }
-    ensures err { IfErr result (λ e. e ≡ Refusal.OutOfMemory) }
+    ensures { result ≡ entering_estimate instance round heard step.now.state }
 {
     if let Some(standing) = step.standing(instance) {
         if let Standing::Open(at) = standing {
-            return Ok(Some(estimate_at(round, at.stamp(), at.estimate())));
+            return Some(estimate_at(round, at.stamp(), at.estimate()));
         }
     }
-    match free_command(step, alloc, instance)? {
-        Some(command) => Ok(Some(estimate_at(round, 0, command))),
+    match free_command(step, instance) {
+        Some(command) => Some(estimate_at(round, 0, command)),
         None => match heard {
-            Some(command) => Ok(Some(estimate_at(round, 0, command))),
-            None => Ok(None),
+            Some(command) => Some(estimate_at(round, 0, command)),
+            None => None,
         },
     }
 }

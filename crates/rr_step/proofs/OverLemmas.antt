@@ -1,5 +1,5 @@
 -- Rows with changed ones over them.
-use Rattle.std.proofs.Common.{◌≡◌, ◌≢◌, ◌+◌, ◌<◌, ◌≤◌, ℕ, arith, Bool, true, false, ltb, eqb, cond, ◌&&◌, ◌||◌, not, List, [], ◌∷◌, ◌++◌, reverse, ap, sym, ◌∙◌, refl, subst, Option, Some, None, option_map}
+use Rattle.std.proofs.Common.{◌≡◌, ◌≢◌, ◌+◌, ◌<◌, ◌≤◌, ℕ, zero, suc, arith, Bool, true, false, ltb, eqb, cond, ◌&&◌, ◌||◌, not, List, [], ◌∷◌, ◌++◌, length, get_or, set, reverse, ap, sym, ◌∙◌, refl, subst, Option, Some, None, option_map}
 use Rattle.std.proofs.lemmas.List.{reverse-append}
 use Rattle.std.specs.List.{list_any}
 use Rattle.std.specs.Option.{option_map_or}
@@ -13,7 +13,7 @@ use Rattle.rr_types.specs.declared.fact.Fact.{Fact}
 use Rattle.rr_types.specs.Facts.{decision_of, instance_of, after_fact}
 use Rattle.rr_types.specs.Standings.{is_undecided}
 use Rattle.rr_types.specs.declared.fact.Fact.TheVariants.{Enter, Propose, Adopt, Decide}
-use Rattle.rr_model.specs.NodeState.{NodeState, next_number, Row, row_of, put_row, is_decided, decided_command, undecided_from}
+use Rattle.rr_model.specs.NodeState.{NodeState, next_number, Row, row_of, put_row, is_decided, decided_command, undecided_from, lowest_undecided}
 use Rattle.rr_model.specs.NodeParts.{row_after, fresh_row, rows_after}
 use Rattle.rr_list.specs.Rowed.{AscendFrom, has_decided}
 use Rattle.rr_list.specs.Listed as listed
@@ -264,6 +264,28 @@ none_between rs rows j k d e =
     let off : is_decided_at j (put_rows rs rows) ≡ false = over_decides rs rows j k ∙ rw (d, e) refl in
     undecided_stays j (put_rows rs rows) off
 
+-- a row that has decided is among the changed ones, if one of this instance is
+none_at : (j : ℕ) (rs : List Row) → list_any (λ r. is_decided r) rs ≡ false → is_decided_at j rs ≡ false
+none_at j [] h = refl
+none_at j (r ∷ rs) h = by (is_decided r) (eqb r.instance j) refl h (λ k. none_at j rs k)
+  where
+    by : (a b : Bool) → is_decided r ≡ a → (a || list_any (λ q. is_decided q) rs) ≡ false → (list_any (λ q. is_decided q) rs ≡ false → is_decided_at j rs ≡ false) → ((b && is_decided r) || is_decided_at j rs) ≡ false
+    by true b e k more = absurd (false≢true (sym k))
+    by false true e k more = rw e (more k)
+    by false false e k more = more k
+
+same_lowest : (rs rows : List Row) → AscendFrom 0 rows → KeepDecisions rs rows → list_any (λ r. is_decided r) rs ≡ false → (i : ℕ) → undecided_from i (put_rows rs rows) ≡ undecided_from i rows
+same_lowest rs rows a k none i =
+    let u = undecided_from i rows in
+    sym (from_base rs rows i u a k refl) ∙ none_between rs rows u k (none_at u rs none) (lowest_open rows i u a refl)
+
+-- the lowest undecided instances stay where no changed row has decided
+pub open_stays : (rs rows : List Row) → AscendFrom 0 rows → KeepDecisions rs rows → list_any (λ r. is_decided r) rs ≡ false → (n i : ℕ) → lowest_undecided n i (put_rows rs rows) ≡ lowest_undecided n i rows
+open_stays rs rows a k none zero i = refl
+open_stays rs rows a k none (suc n) i =
+    rw (same_lowest rs rows a k none i)
+    (ap (λ (xs : List ℕ). cond (ltb (undecided_from i rows) 1048576) (undecided_from i rows ∷ xs) []) (open_stays rs rows a k none n (undecided_from i rows + 1)))
+
 -- by the changed rows, or else by those below
 pub above_then : (first : ℕ) (rs rows : List Row) (x : Bool) → KeepDecisions rs rows → x ≡ list_any (λ (r : Row). ltb first r.instance && is_decided r) rs → x ≡ true → x ≡ list_any (λ (r : Row). ltb first r.instance && is_decided r) (put_rows rs rows)
 above_then first rs rows x k e t = t ∙ sym (above_changed first rs rows k ∙ rw (sym e ∙ t) refl)
@@ -303,6 +325,46 @@ rows_put k f st rows r h e = by (row_of rows (instance_of f)) refl
 pub put_last : (rs rows : List Row) (r : Row) → put_rows (rs ++ r ∷ []) rows ≡ put_rows rs (put_row r rows)
 put_last [] rows r = refl
 put_last (q ∷ rs) rows r = ap (put_row q) (put_last rs rows r)
+
+-- of two rows of one instance that are put one after another, the last is there
+put_twice : (r o : Row) (rows : List Row) → r.instance ≡ o.instance → put_row r (put_row o rows) ≡ put_row r rows
+put_twice r o [] same =
+    let off : ltb r.instance o.instance ≡ false = le-ltb _ _ (omega (arith, same)) in
+    let on : eqb r.instance o.instance ≡ true = eq-eqb _ _ same in
+    rw (off, on) refl
+put_twice r o (p ∷ ps) same = by (put_twice r o ps same) (ltb o.instance p.instance) (eqb o.instance p.instance) refl refl
+  where
+    by : put_row r (put_row o ps) ≡ put_row r ps → (a b : Bool) → ltb o.instance p.instance ≡ a → eqb o.instance p.instance ≡ b → put_row r (put_row o (p ∷ ps)) ≡ put_row r (p ∷ ps)
+    by more a b e f = by_both more a b e f (ap (λ (i : ℕ). ltb i p.instance) same ∙ e) (ap (λ (i : ℕ). eqb i p.instance) same ∙ f)
+      where
+        off : ltb r.instance o.instance ≡ false
+        off = le-ltb _ _ (omega (arith, same))
+
+        on : eqb r.instance o.instance ≡ true
+        on = eq-eqb _ _ same
+
+        by_both : put_row r (put_row o ps) ≡ put_row r ps → (a b : Bool) → ltb o.instance p.instance ≡ a → eqb o.instance p.instance ≡ b → ltb r.instance p.instance ≡ a → eqb r.instance p.instance ≡ b → put_row r (put_row o (p ∷ ps)) ≡ put_row r (p ∷ ps)
+        by_both m true b g h i j = rw (g, i, off, on) refl
+        by_both m false true g h i j = rw (g, h, i, j, off, on) refl
+        by_both m false false g h i j = rw (g, h, i, j) (ap (λ (x : List Row). p ∷ x) m)
+
+-- a row takes the place of the newest changed one, which is of its instance
+pub replaced_rows : (rs new : List Row) (r d : Row) → 0 < length rs → (get_or rs 0 d).instance ≡ r.instance → new ≡ set rs 0 r → (rows : List Row) → put_rows new rows ≡ put_row r (put_rows rs rows)
+replaced_rows [] new r d l same e rows = absurd (omega arith)
+replaced_rows (o ∷ os) new r d l same e rows = ap (λ (x : List Row). put_rows x rows) e ∙ sym (put_twice r o (put_rows os rows) (sym same))
+
+pub replaced_keep : (rs new : List Row) (r d : Row) → 0 < length rs → (get_or rs 0 d).instance ≡ r.instance → new ≡ set rs 0 r → (rows : List Row) → KeepDecisions rs rows → KeepsDecision (put_rows rs rows) r → KeepDecisions new rows
+replaced_keep [] new r d l same e rows k h = absurd (omega arith)
+replaced_keep (o ∷ os) new r d l same e rows k h =
+    subst (λ (x : List Row). KeepDecisions x rows) (sym e) (kept, k.1)
+  where
+    there : row_of (put_rows (o ∷ os) rows) r.instance ≡ Some o
+    there = row_of_put o (put_rows os rows) r.instance ∙ (let on : eqb o.instance r.instance ≡ true = eq-eqb _ _ same in rw on refl)
+
+    kept : KeepsDecision (put_rows os rows) r
+    kept v d =
+        h v (ap (λ (x : Option Row). decision_of (option_map (λ (q : Row). q.standing) x)) there
+        ∙ k.0 v (ap (λ (i : ℕ). decision_of (option_map (λ (q : Row). q.standing) (row_of (put_rows os rows) i))) same ∙ d))
 
 -- what is decided stays decided with one more changed row
 pub decided_stay : (rows : List Row) (r : Row) (q : RequestNo) → KeepsDecision rows r → list_any (has_decided q) rows ≡ true → list_any (has_decided q) (put_row r rows) ≡ true

@@ -13,9 +13,9 @@ use rr_types::{Command, Instance, RequestNo, Standing};
 pub fn is_estimate_of(step: &Step<'_>, instance: Instance, command: &Command) -> bool
     ensures { result ≡ is_estimate_of step.now.state.rows instance command.now }
 {
-    match step.standing(instance) {
+    match step.row(instance) {
         None => false,
-        Some(standing) => match standing {
+        Some(row) => match &row.standing {
             Standing::Decided(_) => false,
             Standing::Open(at) => at.estimate().is_same(command),
         },

@@ -6,9 +6,11 @@ ghost use Rattle.rr_types.specs.Registry.{has_request, is_same_request};
 ghost use Rattle.rr_model.specs.NodeState.{next_number, row_of, is_decided, is_decided_request, undecided_from};
 ghost use Rattle.rr_model.specs.NodeStep.{is_waiting};
 ghost use Rattle.rr_list.specs.Rowed.{AscendFrom};
+ghost use Rattle.rr_list.specs.Opened.{open_in};
 
 use crate::state::State;
 use rr_instance::Row;
+use rr_list::Window;
 use rr_types::{Instance, RequestNo};
 
 impl State {
@@ -25,6 +27,14 @@ impl State {
         ensures { MatchOption result (row_of self.now.rows instance ≡ None) (λ r. row_of self.now.rows instance ≡ Some r.now) }
     {
         self.instances.row(instance)
+    }
+
+    /// The open instances; the rows ascend.
+    pub(crate) fn window(&self) -> Window
+        ensures value { result ≡ open_in self.now.rows }
+        ensures ascend { AscendFrom 0 self.now.rows }
+    {
+        self.instances.window()
     }
 
     /// The lowest undecided instance from `from` on; the rows ascend.

@@ -1,17 +1,18 @@
 //! The rows of a state with the rows that a step has changed, of which the newest stands first.
 
-ghost use Rattle.std.specs.Prelude.{◌≡◌, ◌≤◌, ◌<◌, ◌&&◌, ◌==◌, nat_lt, IsTrue, None, Some, find, option_map, MatchOption, IfOk, IfErr, IfSome};
+ghost use Rattle.std.specs.Prelude.{◌≡◌, ◌≤◌, ◌<◌, ◌&&◌, ◌==◌, nat_lt, IsTrue, List, None, Some, find, option_map, MatchOption, IfSome, IfErr, OnOk, OnErr};
 ghost use Rattle.std.specs.List.{list_any};
 ghost use Rattle.rr_types.specs.Standings.{round_of};
-ghost use Rattle.rr_model.specs.NodeState.{row_of, is_decided, undecided_from, lowest_undecided};
+ghost use Rattle.rr_model.specs.NodeState as model;
+ghost use Rattle.rr_model.specs.NodeState.{row_of, put_row, is_decided, undecided_from, lowest_undecided};
 ghost use Rattle.rr_list.specs.Rowed.{has_decided};
-ghost use Rattle.rr_step.specs.Steps.{put_rows, KeepDecisions};
+ghost use Rattle.rr_step.specs.Steps.{put_rows, KeepsDecision, KeepDecisions};
 
 use crate::rows::{find_row, has_decided_request};
 use crate::state::State;
 use rr_instance::{Row, round_in};
-use rr_types::{Instance, Refusal, RequestNo};
-use std::alloc::Global;
+use rr_list::{Window, is_any_decided};
+use rr_types::{Instance, Refusal, RequestNo, WINDOW};
 
 /// The row of an instance.
 #[tactic(auto, using(crate::proofs::OverLemmas::row_changed, crate::proofs::OverLemmas::row_same))]
@@ -22,6 +23,26 @@ pub fn row_over<'a>(base: &'a State, changed: &'a [Row], instance: Instance) -> 
         Some(row) => Some(row),
         None => base.row(instance),
     }
+}
+
+/// The newest changed row comes first. It takes the place of the one before it where that is of its instance. Most
+/// steps change one row, so that they get room for one.
+#[tactic(auto, using(crate::proofs::OverLemmas::replaced_rows, crate::proofs::OverLemmas::replaced_keep))]
+pub fn put_newest(changed: &mut Vec<Row>, row: Row) -> Result<(), Refusal>
+    ensures rows { OnOk result ((rows : List model.Row) → put_rows changed.new.items rows ≡ put_row row (put_rows changed.old.items rows)) }
+    ensures keep { OnOk result ((rows : List model.Row) → KeepDecisions changed.old.items rows → KeepsDecision (put_rows changed.old.items rows) row → KeepDecisions changed.new.items rows) }
+    ensures kept { OnErr result (changed.new.items ≡ changed.old.items) }
+    ensures err { IfErr result (λ e. e ≡ Refusal.OutOfMemory) }
+{
+    if changed.len() > 0 && changed[0].instance == row.instance {
+        changed[0] = row;
+        return Ok(());
+    }
+    if changed.len() == 0 {
+        changed.reserve_exact(1)?;
+    }
+    changed.insert(0, row)?;
+    Ok(())
 }
 
 /// Whether a row of this instance has decided.
@@ -53,30 +74,36 @@ pub fn undecided_over(base: &State, changed: &[Row], from: u32) -> u32
     lowest
 }
 
-/// The `count` lowest undecided instances, ascending.
-#[tactic(auto, using(crate::proofs::RowLemmas::lowest_next, crate::proofs::RowLemmas::lowest_done, crate::proofs::RowLemmas::push_next))]
-pub fn lowest_over(
-    alloc: Global,
-    base: &State,
-    changed: &[Row],
-    count: usize,
-) -> Result<Vec<Instance>, Refusal>
+/// The open instances, ascending: those of the state, where no changed row has decided.
+pub fn open_over(base: &State, changed: &[Row]) -> Window
     requires { KeepDecisions changed.now base.now.rows }
-    ensures value { IfOk result (λ found. found.items ≡ lowest_undecided count 0 (put_rows changed.now base.now.rows)) }
-    ensures err { IfErr result (λ e. e ≡ Refusal.OutOfMemory) }
+    ensures { result ≡ lowest_undecided 8 0 (put_rows changed.now base.now.rows) }
 {
-    let mut found = Vec::new(alloc);
+    if is_any_decided(changed) {
+        lowest_over(base, changed)
+    } else {
+        base.window()
+    }
+}
+
+/// The eight lowest undecided instances, ascending.
+#[tactic(auto, using(crate::proofs::RowLemmas::lowest_next, crate::proofs::RowLemmas::lowest_done, crate::proofs::RowLemmas::push_next))]
+fn lowest_over(base: &State, changed: &[Row]) -> Window
+    requires { KeepDecisions changed.now base.now.rows }
+    ensures { result ≡ lowest_undecided 8 0 (put_rows changed.now base.now.rows) }
+{
+    let mut found = Window::new();
     let mut from = 0;
-    for _turn in 0..count {
+    for _turn in 0..WINDOW {
         match Instance::new(undecided_over(base, changed, from)) {
-            None => return Ok(found),
+            None => return found,
             Some(instance) => {
-                found.push(instance)?;
+                found.push(instance);
                 from = instance.number() + 1;
             }
         }
     }
-    Ok(found)
+    found
 }
 
 /// Whether an instance is one of the `count` lowest undecided ones.

@@ -18,6 +18,7 @@ use crate::state::State;
 use crate::{estimates, over, owing, staging};
 use rr_heartbeat::Heartbeat;
 use rr_instance::{Backing, Row, instance_of};
+use rr_list::Window;
 use rr_mark::Owed;
 use rr_suspect::Suspects;
 use rr_types::{
@@ -226,13 +227,12 @@ impl<'a> Step<'a> {
         over::undecided_over(self.base, &self.rows, 0)
     }
 
-    /// The open instances, ascending.
+    /// The open instances, ascending. It takes no memory.
     #[tactic(auto, unfolding(rr_model::specs::NodeState::open_instances))]
-    pub fn open_instances(&self, alloc: Global) -> Result<Vec<Instance>, Refusal>
-        ensures value { IfOk result (λ found. found.items ≡ open_instances self.now.state) }
-        ensures err { IfErr result (λ e. e ≡ Refusal.OutOfMemory) }
+    pub fn open_instances(&self) -> Window
+        ensures { result ≡ open_instances self.now.state }
     {
-        over::lowest_over(alloc, self.base, &self.rows, WINDOW)
+        over::open_over(self.base, &self.rows)
     }
 
     /// Whether an instance is open.
@@ -373,8 +373,7 @@ impl<'a> Step<'a> {
         ensures ok { OnOk result (self.new ≡ stepped (λ s. record s { rows = put_row row s.rows }) self.old) }
         ensures err { IfErr result (λ e. e ≡ Refusal.OutOfMemory) }
     {
-        self.rows.insert(0, row)?;
-        Ok(())
+        over::put_newest(&mut self.rows, row)
     }
 
     /// The row of a fact's instance is changed by it, where the instance then stands so.

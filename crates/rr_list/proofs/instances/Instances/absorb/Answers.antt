@@ -1,6 +1,6 @@
-use Rattle.std.proofs.Common.{IsTrue, ap, sym, subst}
-use Rattle.std.specs.List.{All}
-use Rattle.rr_model.specs.NodeState.{Row}
+use Rattle.std.proofs.Common.{IsTrue, ap, sym, subst, ◌∙◌}
+use Rattle.std.specs.List.{All, list_any}
+use Rattle.rr_model.specs.NodeState.{Row, is_decided}
 use Rattle.rr_list.specs.Listed.{Listed, put_rows, KeepsDecisions}
 use Rattle.rr_list.specs.Marked.{has_mark_place}
 use Rattle.rr_list.proofs.ListedLemmas.{listed_absorbed}
@@ -12,8 +12,8 @@ absorb-requires c = subst (λ rows. KeepsDecisions rows (put_rows rows c.args.ro
 pub invariant_of-self-in-Ok-absorb : goal.invariant_of-self-in-Ok-absorb
 invariant_of-self-in-Ok-absorb c =
     let keeps = subst (λ rows. KeepsDecisions rows (put_rows rows c.args.rows.items)) (sym (ap (λ (t : Listed). t.rows) c.self.view_is)) c.requires in
-    listed_absorbed c.self.inside.rows c.absorb.new.self c.args.rows.items c.self.inside.window c.slide-self-inside.result c.self.inside.marks c.make_places.new.self c.self.invariant
+    listed_absorbed c.self.inside.rows c.absorb.new.self c.args.rows.items c.self.inside.window c.slide_behind-self-inside.result c.self.inside.marks c.make_places.new.self c.self.invariant
     c.in-Ok-absorb.ensures.ok c.in-Ok-absorb.ensures.ascend c.in-Ok-absorb.ensures.instances
-    (c.slide-self-inside.ensures c.self.inside.rows c.self.invariant.ascend (subst (KeepsDecisions c.self.inside.rows) (sym c.in-Ok-absorb.ensures.ok) keeps) c.self.invariant.shown)
+    (c.slide_behind-self-inside.ensures c.self.inside.rows c.args.rows.items c.self.invariant.ascend (subst (KeepsDecisions c.self.inside.rows) (sym c.in-Ok-absorb.ensures.ok) keeps) c.in-Ok-absorb.ensures.ok (c.is_any_decided-is_decision_new.ensures ∙ ap (list_any (λ r. is_decided r)) c.deref-2.ensures.value) c.self.invariant.shown)
     c.in-Ok.ensures.marks c.in-Ok.ensures.value c.in-Ok.ensures.prefix c.in-Ok.ensures.stay
     (subst (All (λ (r : Row). IsTrue (has_mark_place c.make_places.new.self r.instance))) c.deref.ensures.value c.in-Ok.ensures.made)
