@@ -9,6 +9,7 @@ use std::fs;
 use std::fs::Permissions;
 use std::os::unix::fs::PermissionsExt;
 use std::process::Abort;
+use std::rt::Files;
 
 /// Area 0 of a node alone that decided one command, behind four facts.
 static AREA: [u8; 193] = [
@@ -61,7 +62,7 @@ fn migrated(
     disk: FailingDisk<MemDisk>,
 ) -> Result<Vec<u8>, Refusal> {
     let nodes = Nodes::new(1).expect(rt, "nodes");
-    let node = NodeId::at(0).expect(rt, "a node");
+    let node = NodeId::new(nodes, 0).expect(rt, "a node");
     migrate_disk(alloc, nodes, node, disk)
 }
 
@@ -76,7 +77,7 @@ fn migrates_disks_of_any_kind(rt: HostRuntime) {
 }
 
 /// Asserts that `rr show` tells a folder as a fault of the device.
-fn assert_device(rt: &HostRuntime, folder: &str) {
+fn assert_device<R: Files + AllocGlobal + Abort>(rt: &R, folder: &str) {
     let mut out = Counted::new(Vec::new(rt.alloc()));
     let mut err = Vec::new(rt.alloc());
     let words = ["rr", "show", folder];
@@ -87,7 +88,7 @@ fn assert_device(rt: &HostRuntime, folder: &str) {
 }
 
 /// Makes a folder of two areas, of which the first may not be read.
-fn make_unreadable(rt: &HostRuntime, folder: &str) {
+fn make_unreadable<R: Files + AllocGlobal + Abort>(rt: &R, folder: &str) {
     let _ = fs::remove_dir_all(rt, folder);
     fs::create_dir(rt, folder).expect(rt, "a folder");
     fs::write(rt, "rr_cli_not_readable/a0", area()).expect(rt, "a file");

@@ -3,7 +3,7 @@
 use rr_run::{Lockable, execute};
 use rr_stream::Counted;
 use std::fs;
-use std::fs::{File, OpenFile};
+use std::fs::OpenFile;
 use std::io::{Read, Seek, Write};
 use std::process::Abort;
 use std::rt::Files;
@@ -35,18 +35,12 @@ fn assert_ended<
     assert!(rt; err.as_slice() == error.as_bytes());
 }
 
-/// Locks the folder of node 1.
-fn lock(rt: &HostRuntime) -> File {
-    fs::create_dir_all(rt, "rr_run_locked/1").expect(rt, "a folder");
-    let folder = fs::open(rt, "rr_run_locked/1").expect(rt, "a folder");
-    assert!(rt; folder.lock_now().expect(rt, "a lock"));
-    folder
-}
-
 #[test]
 fn a_locked_folder_is_told(rt: HostRuntime) {
     fs::write(&rt, "rr_run_locked.script", b"look 0 a\n").expect(&rt, "a script");
-    let other = lock(&rt);
+    fs::create_dir_all(&rt, "rr_run_locked/1").expect(&rt, "a folder");
+    let other = fs::open(&rt, "rr_run_locked/1").expect(&rt, "a folder");
+    assert!(rt; other.lock_now().expect(&rt, "a lock"));
     let told = "rr: 2 Device\nrr_run_locked/1: another program has locked it\n";
     assert_ended(&rt, 5, "", told);
     drop(other);
