@@ -213,7 +213,7 @@ fn a_reader_that_has_gone_is_told_nothing(rt: HostRuntime) {
 }
 
 /// How a run ends whose output and error nobody reads.
-fn closed(rt: &HostRuntime, words: &[&str]) -> u8 {
+fn ending_unread(rt: &HostRuntime, words: &[&str]) -> u8 {
     let mut out = Counted::new(Closed);
     execute(
         rt,
@@ -227,6 +227,10 @@ fn closed(rt: &HostRuntime, words: &[&str]) -> u8 {
 #[test]
 fn words_are_told_to_nobody(rt: HostRuntime) {
     for word in ["--help", "--version"] {
-        assert_eq!(rt; closed(&rt, &["rr", word]), 5, "the status of {word}");
+        assert_eq!(rt;
+            ending_unread(&rt, &["rr", word]),
+            5,
+            "the status of {word}"
+        );
     }
 }
