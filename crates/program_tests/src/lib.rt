@@ -1,21 +1,14 @@
-//! Tests of the program `rr` over memory: what it prints, and with which status it ends.
+//! Tests of the program `rr` that no row of `program_rows` can say: streams and disks that fail, a folder that another
+//! program holds, a file that may not be read, refusals in words, and lively schedules.
 #![tactic(auto)]
 
 #[cfg(test)]
-mod audited;
+mod disks;
 #[cfg(test)]
-mod drawn;
+mod folders;
 #[cfg(test)]
-mod migrated;
+mod lively;
 #[cfg(test)]
-mod pictured;
-#[cfg(test)]
-mod rows;
-#[cfg(test)]
-mod runs;
-#[cfg(test)]
-mod shown;
+mod refusals;
 #[cfg(test)]
 mod streams;
-#[cfg(test)]
-mod swept;

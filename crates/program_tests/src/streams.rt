@@ -1,10 +1,9 @@
-//! Runs over streams that give or take one byte a call, that are interrupted, or that fail.
+//! Runs over streams that give or take one byte a call, that are interrupted, that fail or that are closed.
 
 use rr_cli::execute;
 use rr_stream::Counted;
 use std::io;
 use std::io::{ErrorKind, Read, Write};
-use std::test::Fail;
 
 const SCHEDULE: &[u8] = b"nodes 1\nsubmit 0 7 1 claim a x\n";
 
@@ -111,13 +110,12 @@ fn ends(rt: &HostRuntime, from: Manner, to: Manner, status: u8, text: &[u8], err
 }
 
 #[test]
-fn goes_on_byte_by_byte(rt: HostRuntime) -> Result<(), Fail> {
+fn goes_on_byte_by_byte(rt: HostRuntime) {
     assert!(rt; ends(&rt, Manner::Slow, Manner::Slow, 0, REPORT, b""));
-    Ok(())
 }
 
 #[test]
-fn makes_an_interrupted_call_again(rt: HostRuntime) -> Result<(), Fail> {
+fn makes_an_interrupted_call_again(rt: HostRuntime) {
     assert!(rt;
         ends(
             &rt,
@@ -128,22 +126,111 @@ fn makes_an_interrupted_call_again(rt: HostRuntime) -> Result<(), Fail> {
             b""
         )
     );
-    Ok(())
 }
 
 #[test]
-fn tells_a_stream_that_breaks_in_the_middle(rt: HostRuntime) -> Result<(), Fail> {
+fn tells_a_stream_that_breaks_in_the_middle(rt: HostRuntime) {
     let unread = b"rr: standard input: broken\n";
     assert!(rt; ends(&rt, Manner::Broken, Manner::Slow, 5, b"", unread));
     let front = b"refuse 2 ";
     let unwritten = b"rr: standard output: write zero\n";
     assert!(rt; ends(&rt, Manner::Slow, Manner::Broken, 5, front, unwritten));
-    Ok(())
 }
 
 #[test]
-fn tells_a_flush_that_fails(rt: HostRuntime) -> Result<(), Fail> {
+fn tells_a_flush_that_fails(rt: HostRuntime) {
     let unflushed = b"rr: standard output: full\n";
     assert!(rt; ends(&rt, Manner::Slow, Manner::Unflushed, 5, REPORT, unflushed));
-    Ok(())
+}
+
+/// A reader that fails behind its first bytes.
+#[derive(Drop)]
+struct Torn {
+    given: bool,
+}
+
+impl Read for Torn {
+    fn read(&mut self, buf: &mut [u8]) -> io::Result<usize> {
+        let first = b"nodes 3\n";
+        if self.given || buf.len() < first.len() {
+            return Err(io::Error::new(ErrorKind::Other, "torn"));
+        }
+        self.given = true;
+        buf[..first.len()].copy_from_slice(first);
+        Ok(first.len())
+    }
+}
+
+#[test]
+fn tells_a_reader_that_fails(rt: HostRuntime) {
+    let mut out = Counted::new(Vec::new(rt.alloc()));
+    let mut err = Vec::new(rt.alloc());
+    let mut input = Counted::new(Torn { given: false });
+    let status = execute(&rt, &["rr", "sim"], &mut input, &mut out, &mut err);
+    assert_eq!(rt; status, 5);
+    assert!(rt; err.as_slice() == b"rr: standard input: torn\n".as_slice());
+    assert!(rt; out.into_inner().is_empty());
+}
+
+/// A writer that takes nothing.
+#[derive(Drop)]
+struct Closed;
+
+impl Write for Closed {
+    fn write(&mut self, _buf: &[u8]) -> io::Result<usize> {
+        Err(io::Error::new(ErrorKind::BrokenPipe, "closed"))
+    }
+
+    fn flush(&mut self) -> io::Result<()> {
+        Ok(())
+    }
+}
+
+/// How a run of this input ends whose output nobody reads, and whether its error is empty.
+fn unread(rt: &HostRuntime, words: &[&str], input: &[u8]) -> (u8, bool) {
+    let mut err = Vec::new(rt.alloc());
+    let mut out = Counted::new(Closed);
+    let status = execute(rt, words, &mut Counted::new(input), &mut out, &mut err);
+    (status, err.is_empty())
+}
+
+#[test]
+fn a_reader_that_has_gone_is_told_nothing(rt: HostRuntime) {
+    let runs: [(&[&str], &[u8]); 3] = [
+        (&["rr", "sim"], b"nodes 3\n"),
+        (
+            &["rr", "draw"],
+            b"nodes 2\nrestart 0\nrestart 1\ndev 0\ndev 1\n",
+        ),
+        (
+            &["rr", "sweep", "--seed", "1"],
+            b"nodes 1\nrestart 0\ndev 0\ndev 0\n",
+        ),
+    ];
+    for (words, input) in runs {
+        assert_eq!(rt; unread(&rt, words, input), (5, true));
+    }
+}
+
+/// How a run ends whose output and error nobody reads.
+fn ending_unread(rt: &HostRuntime, words: &[&str]) -> u8 {
+    let mut out = Counted::new(Closed);
+    execute(
+        rt,
+        words,
+        &mut Counted::new(&b""[..]),
+        &mut out,
+        &mut Closed,
+    )
+}
+
+#[test]
+fn words_are_told_to_nobody(rt: HostRuntime) {
+    for word in ["--help", "--version"] {
+        assert_eq!(rt;
+            ending_unread(&rt, &["rr", word]),
+            5,
+            "the status of {word}"
+        );
+    }
 }

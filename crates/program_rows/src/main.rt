@@ -1,0 +1,67 @@
+//! Runs the program `rr` by rows, and says of each row what came otherwise; then it ends with 1.
+//!
+//! Its words name files of rows. Behind the word `cli`, `view` or `run` the rows of a file are run by the call of that
+//! library. RULES.md says what the lines of a row mean.
+#![tactic(auto)]
+
+mod check;
+mod lines;
+mod run;
+
+use crate::check::is_wanted;
+use crate::lines::text_of;
+use crate::run::{Library, outcome_of, prepare};
+use rr_run::Lockable;
+use std::fs::OpenFile;
+use std::io::{ErrorKind, Read, Seek, Write};
+use std::rt::Files;
+use std::sync::Wait;
+use std::thread::Threads;
+use std::{env, fs, io};
+
+/// Whether a row gives what it wants; what came otherwise is printed.
+fn is_right<
+    F: Read + Write + Seek + OpenFile + Drop + Send + Lockable,
+    R: Files<File = F> + Print + AllocGlobal + Threads + Wait + Sync,
+>(rt: &R, library: Library, row: &str) -> io::Result<bool> {
+    prepare(rt, row)?;
+    let given = outcome_of(rt, library, row)?;
+    is_wanted(rt, row, &given)
+}
+
+/// How many rows of a file come otherwise.
+fn count_faults<
+    F: Read + Write + Seek + OpenFile + Drop + Send + Lockable,
+    R: Files<File = F> + Print + AllocGlobal + Threads + Wait + Sync,
+>(rt: &R, library: Library, path: &str) -> io::Result<u64> {
+    let text = fs::read_to_string(rt, path)?;
+    let mut rows = 0u64;
+    let mut faults = 0u64;
+    for row in text.split("\n\n") {
+        rows = rows.saturating_add(1);
+        if !is_right(rt, library, row)? {
+            faults = faults.saturating_add(1);
+            println!(rt; "{path}: the row {} came otherwise", text_of(row, "row"))?;
+        }
+    }
+    println!(rt; "{path}: {rows} rows")?;
+    Ok(faults)
+}
+
+fn main(rt: HostRuntime) -> io::Result<()> {
+    let mut library = Library::Cli;
+    let mut faults = 0u64;
+    for word in env::args(&rt)?.skip(1) {
+        match word.as_str() {
+            "cli" => library = Library::Cli,
+            "view" => library = Library::View,
+            "run" => library = Library::Run,
+            path => faults = faults.saturating_add(count_faults(&rt, library, path)?),
+        }
+    }
+    if faults == 0 {
+        Ok(())
+    } else {
+        Err(io::Error::new(ErrorKind::Other, "rows came otherwise"))
+    }
+}

@@ -1,0 +1,111 @@
+//! What `rr show` and `rr migrate` tell of disks that fail, and of a file that may not be read.
+
+use rr_cli::{execute, migrate_disk, show_disk};
+use rr_disk::{Area, Disk, FailingDisk, MemDisk};
+use rr_stream::Counted;
+use rr_types::{NodeId, Nodes, Refusal};
+use std::alloc::Global;
+use std::fs;
+use std::fs::Permissions;
+use std::os::unix::fs::PermissionsExt;
+use std::process::Abort;
+use std::rt::Files;
+
+/// Area 0 of a node alone that decided one command, behind four facts.
+static AREA: [u8; 193] = [
+    0xA5, 0, 0, 0, 0x17, 2, 0, 1, 0, 0, 0, 0, 0, 0, 0, 1, 0, 0, 0, 0, 0, 0, 0, 0, 0, 0, 0, 0, 0xA5,
+    0, 0, 0, 0x28, 0, 0, 0, 0, 0, 0, 0, 0, 0, 1, 1, 0, 0, 0, 0, 0, 0, 0, 1, 0, 0, 0, 0, 0, 0, 0, 7,
+    0, 0, 0, 0, 0, 0, 0, 1, 1, 1, 0x61, 1, 0x78, 0xA5, 0, 0, 0, 0x24, 0, 0, 0, 0, 0, 0, 0, 1, 0, 1,
+    2, 0, 0, 0, 0, 0, 0, 0, 1, 0, 0, 0, 7, 0, 0, 0, 0, 0, 0, 0, 1, 1, 1, 0x61, 1, 0x78, 0xA5, 0, 0,
+    0, 0x24, 0, 0, 0, 0, 0, 0, 0, 2, 0, 1, 3, 0, 0, 0, 0, 0, 0, 0, 1, 0, 0, 0, 7, 0, 0, 0, 0, 0, 0,
+    0, 1, 1, 1, 0x61, 1, 0x78, 0xA5, 0, 0, 0, 0x20, 0, 0, 0, 0, 0, 0, 0, 3, 0, 1, 4, 0, 0, 0, 0, 0,
+    0, 0, 7, 0, 0, 0, 0, 0, 0, 0, 1, 1, 1, 0x61, 1, 0x78, 0,
+];
+
+/// Area 1 behind the switch that followed.
+static SNAPSHOT: [u8; 51] = [
+    0xA5, 0, 0, 0, 0x2D, 2, 0, 1, 0, 0, 0, 0, 0, 0, 0, 2, 0, 0, 0, 0, 0, 0, 0, 4, 0, 0, 0, 1, 0, 0,
+    0, 0, 1, 0, 0, 0, 7, 0, 0, 0, 0, 0, 0, 0, 1, 1, 1, 0x61, 1, 0x78, 0,
+];
+
+/// The bytes of area 0. (A test that names a table itself is proved over each of its bytes.)
+fn area() -> &'static [u8] {
+    &AREA
+}
+
+/// The bytes of area 1 behind the switch.
+fn snapshot() -> &'static [u8] {
+    &SNAPSHOT
+}
+
+/// A disk in memory, of which one area is that one.
+fn disk(rt: &impl Abort, alloc: Global, place: Area) -> FailingDisk<MemDisk> {
+    let mut disk = FailingDisk::new(MemDisk::new(alloc));
+    disk.write_at(place, 0, area()).expect(rt, "a write");
+    disk
+}
+
+#[test]
+fn tells_disks_of_any_kind(rt: HostRuntime) {
+    let mut disk = disk(&rt, rt.alloc(), Area::Second);
+    let text = "area 0 unformatted\narea 1 epoch 1 node 0 of 1 facts 4 decided 1\n";
+    let shown = show_disk(rt.alloc(), &mut disk).expect(&rt, "a text");
+    assert!(rt; shown.as_slice() == text.as_bytes());
+    disk.fail_next(Vec::new(rt.alloc()));
+    assert!(rt; matches!(show_disk(rt.alloc(), &mut disk), Err(Refusal::Device)));
+}
+
+/// What `rr migrate` tells of the disk of a node alone.
+fn migrated(
+    rt: &impl Abort,
+    alloc: Global,
+    disk: FailingDisk<MemDisk>,
+) -> Result<Vec<u8>, Refusal> {
+    let nodes = Nodes::new(1).expect(rt, "nodes");
+    let node = NodeId::new(nodes, 0).expect(rt, "a node");
+    migrate_disk(alloc, nodes, node, disk)
+}
+
+#[test]
+fn migrates_disks_of_any_kind(rt: HostRuntime) {
+    let text = "area 0 epoch 1 node 0 of 1 facts 4 decided 1\narea 1 unformatted\n";
+    let told = migrated(&rt, rt.alloc(), disk(&rt, rt.alloc(), Area::First));
+    assert!(rt; told.expect(&rt, "a text").as_slice() == text.as_bytes());
+    let mut failing = FailingDisk::new(MemDisk::new(rt.alloc()));
+    failing.fail_next(Vec::new(rt.alloc()));
+    assert!(rt; matches!(migrated(&rt, rt.alloc(), failing), Err(Refusal::Device)));
+}
+
+/// Asserts that `rr show` tells a folder as a fault of the device.
+fn assert_device<R: Files + AllocGlobal + Abort>(rt: &R, folder: &str) {
+    let mut out = Counted::new(Vec::new(rt.alloc()));
+    let mut err = Vec::new(rt.alloc());
+    let words = ["rr", "show", folder];
+    let status = execute(rt, &words, &mut Counted::new(&b""[..]), &mut out, &mut err);
+    assert_eq!(rt; status, 5);
+    assert!(rt; err.as_slice() == b"rr: 2 Device\n".as_slice());
+    assert!(rt; out.into_inner().is_empty());
+}
+
+/// Makes a folder of two areas, of which the first may not be read.
+fn make_unreadable<R: Files + AllocGlobal + Abort>(rt: &R, folder: &str) {
+    let _ = fs::remove_dir_all(rt, folder);
+    fs::create_dir(rt, folder).expect(rt, "a folder");
+    fs::write(rt, "rr_cli_not_readable/a0", area()).expect(rt, "a file");
+    fs::write(rt, "rr_cli_not_readable/a1", snapshot()).expect(rt, "a file");
+    fs::set_permissions(rt, "rr_cli_not_readable/a0", Permissions::from_mode(0)).expect(
+        rt,
+        "a permission",
+    );
+}
+
+/// A file that may not be read is a fault of the device. Whoever may read any file sees nothing of that.
+#[test]
+fn tells_a_file_that_may_not_be_read(rt: HostRuntime) {
+    let folder = "rr_cli_not_readable";
+    make_unreadable(&rt, folder);
+    if fs::read(&rt, "rr_cli_not_readable/a0").is_err() {
+        assert_device(&rt, folder);
+    }
+    fs::remove_dir_all(&rt, folder).expect(&rt, "the folder goes");
+}
