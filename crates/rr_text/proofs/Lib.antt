@@ -2,6 +2,7 @@ pub mod CutLemmas
 pub mod EventReading
 pub mod FillLoop
 pub mod FirstLine
+pub mod Keywords
 pub mod LineReading
 pub mod NumberLemmas
 pub mod OpReading
