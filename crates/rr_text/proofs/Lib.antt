@@ -6,6 +6,7 @@ pub mod Keywords
 pub mod LineReading
 pub mod NumberLemmas
 pub mod OpReading
+pub mod RefusalTails
 pub mod ScheduleReading
 pub mod TextReading
 pub mod WordLemmas
