@@ -2,9 +2,11 @@ pub mod CutLemmas
 pub mod EventReading
 pub mod FillLoop
 pub mod FirstLine
+pub mod Keywords
 pub mod LineReading
 pub mod NumberLemmas
 pub mod OpReading
+pub mod RefusalTails
 pub mod ScheduleReading
 pub mod TextReading
 pub mod WordLemmas

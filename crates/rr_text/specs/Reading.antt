@@ -159,6 +159,23 @@ first_node_at n text = cut_at 32 text >>= λ w. node_at n w.0 >>= λ p. Some (p,
 abbrev pub cuts_at : List ℕ → Option (ℕ × ℕ × List ℕ)
 cuts_at text = cut_at 32 text >>= λ a. small_at a.0 >>= λ cut_0. cut_at 32 a.1 >>= λ b. small_at b.0 >>= λ cut_1. fill_at b.1 >>= λ fill. Some (cut_0, cut_1, fill)
 
+-- the event of this keyword at a node, where that is all that it says
+abbrev pub plain_at : Keyword → ℕ → Option Event
+plain_at Tick p = Some (events.Tick p)
+plain_at Advance p = Some (events.Advance p)
+plain_at Take p = Some (events.Take p)
+plain_at Device p = Some (events.Device p)
+plain_at Mark p = Some (events.Mark p)
+plain_at Send p = Some (events.Send p)
+plain_at Ack p = Some (events.Ack p)
+plain_at Snap p = Some (events.Snap p)
+plain_at Restart p = Some (events.Restart p)
+plain_at _ p = None
+
+-- an event of this keyword that says nothing but its node, among n nodes
+abbrev pub node_alone_at : ℕ → Keyword → List ℕ → Option Event
+node_alone_at n k text = node_at n text >>= plain_at k
+
 -- the event of this keyword among n nodes
 abbrev pub fields_at : ℕ → Keyword → List ℕ → Option Event
 fields_at n Submit text = first_node_at n text >>= λ p. submitted_at p.1 >>= λ c. Some (events.Submit p.0 c)

@@ -1,11 +1,11 @@
 //! Reading schedules.
 
-ghost use Rattle.std.specs.Prelude.{◌≡◌, ◌⊎◌, ◌+◌, ◌<◌, ◌≤◌, ◌++◌, ◌∷◌, [], None, Some, MatchOption, MatchResult, IfOk, IfErr, length};
+ghost use Rattle.std.specs.Prelude.{◌≡◌, ℕ, ◌⊎◌, ◌+◌, ◌<◌, ◌≤◌, ◌++◌, ◌∷◌, [], None, Some, MatchOption, MatchResult, IfOk, IfErr, length};
 ghost use Rattle.std.specs.List.{flat_map, AllByRecursion};
 ghost use Rattle.rr_text.specs.Scheduled.{Scheduled, IsEvent, IsSchedule};
 ghost use Rattle.rr_text.specs.Lines.{nodes_line, HasNoLine, ArePrinted, IsStop, IsFirstFault, IsFault};
 ghost use Rattle.rr_text.specs.ScheduleTexts.{event_line, schedule_text};
-ghost use Rattle.rr_text.specs.Reading.{pairs_at, fill_at, first_node_at, cuts_at, fields_at, event_at, nodes_at, count_at};
+ghost use Rattle.rr_text.specs.Reading.{node_alone_at, pairs_at, fill_at, first_node_at, cuts_at, plain_at, fields_at, event_at, nodes_at, count_at};
 
 use crate::event::{Event, Fill};
 use crate::keyword::Keyword;
@@ -63,40 +63,71 @@ pub fn first_node(nodes: Nodes, text: &[u8]) -> Option<(NodeId, &[u8])>
     }
 }
 
-fn submit(nodes: Nodes, text: &[u8]) -> Option<Event>
-    ensures { result ≡ fields_at nodes Keyword.Submit text.now }
+fn submit(nodes: Nodes, text: &[u8]) -> Result<Option<Event>, Refusal>
+    ensures ok { IfOk result (λ e. e ≡ fields_at nodes Keyword.Submit text.now) }
+    ensures err { IfErr result (λ e. e ≡ Refusal.OutOfMemory) }
 {
     let Some((node, rest)) = first_node(nodes, text) else {
-        return None;
+        return Ok(None);
     };
     let Some(command) = submitted(rest) else {
-        return None;
+        return Ok(None);
     };
-    Some(Event::Submit { node, command })
+    Ok(Some(Event::Submit { node, command }))
 }
 
-fn hear(nodes: Nodes, text: &[u8]) -> Option<Event>
-    ensures { result ≡ fields_at nodes Keyword.Hear text.now }
+fn hear(nodes: Nodes, text: &[u8]) -> Result<Option<Event>, Refusal>
+    ensures ok { IfOk result (λ e. e ≡ fields_at nodes Keyword.Hear text.now) }
+    ensures err { IfErr result (λ e. e ≡ Refusal.OutOfMemory) }
 {
     let Some((node, rest)) = first_node(nodes, text) else {
-        return None;
+        return Ok(None);
     };
     let Some(message) = small_number(rest) else {
-        return None;
+        return Ok(None);
     };
-    Some(Event::Hear { node, message })
+    Ok(Some(Event::Hear { node, message }))
 }
 
-fn suspect(nodes: Nodes, text: &[u8]) -> Option<Event>
-    ensures { result ≡ fields_at nodes Keyword.Suspect text.now }
+fn suspect(nodes: Nodes, text: &[u8]) -> Result<Option<Event>, Refusal>
+    ensures ok { IfOk result (λ e. e ≡ fields_at nodes Keyword.Suspect text.now) }
+    ensures err { IfErr result (λ e. e ≡ Refusal.OutOfMemory) }
 {
     let Some((node, rest)) = first_node(nodes, text) else {
-        return None;
+        return Ok(None);
     };
     let Some(set) = set(nodes, rest) else {
-        return None;
+        return Ok(None);
     };
-    Some(Event::Suspect { node, set })
+    Ok(Some(Event::Suspect { node, set }))
+}
+
+// The event of this keyword at a node, where that is all that it says.
+fn plain(keyword: Keyword, node: NodeId) -> Option<Event>
+    ensures { result ≡ plain_at keyword node }
+{
+    match keyword {
+        Keyword::Tick => Some(Event::Tick { node }),
+        Keyword::Advance => Some(Event::Advance { node }),
+        Keyword::Take => Some(Event::Take { node }),
+        Keyword::Device => Some(Event::Device { node }),
+        Keyword::Mark => Some(Event::Mark { node }),
+        Keyword::Send => Some(Event::Send { node }),
+        Keyword::Ack => Some(Event::Ack { node }),
+        Keyword::Snap => Some(Event::Snap { node }),
+        Keyword::Restart => Some(Event::Restart { node }),
+        _ => None,
+    }
+}
+
+fn at_node(nodes: Nodes, keyword: Keyword, text: &[u8]) -> Result<Option<Event>, Refusal>
+    ensures ok { IfOk result (λ e. e ≡ node_alone_at nodes keyword text.now) }
+    ensures err { IfErr result (λ e. e ≡ Refusal.OutOfMemory) }
+{
+    match node(nodes, text) {
+        Some(node) => Ok(plain(keyword, node)),
+        None => Ok(None),
+    }
 }
 
 fn fail(alloc: Global, nodes: Nodes, text: &[u8]) -> Result<Option<Event>, Refusal>
@@ -166,33 +197,33 @@ pub fn fields(
     ensures err { IfErr result (λ e. e ≡ Refusal.OutOfMemory) }
 {
     match keyword {
-        Keyword::Submit => Ok(submit(nodes, text)),
-        Keyword::Hear => Ok(hear(nodes, text)),
-        Keyword::Suspect => Ok(suspect(nodes, text)),
-        Keyword::Tick => Ok(node(nodes, text).map(|node| Event::Tick { node })),
-        Keyword::Advance => Ok(node(nodes, text).map(|node| Event::Advance { node })),
-        Keyword::Take => Ok(node(nodes, text).map(|node| Event::Take { node })),
-        Keyword::Device => Ok(node(nodes, text).map(|node| Event::Device { node })),
+        Keyword::Submit => submit(nodes, text),
+        Keyword::Hear => hear(nodes, text),
+        Keyword::Suspect => suspect(nodes, text),
         Keyword::Fail => fail(alloc, nodes, text),
-        Keyword::Mark => Ok(node(nodes, text).map(|node| Event::Mark { node })),
-        Keyword::Send => Ok(node(nodes, text).map(|node| Event::Send { node })),
-        Keyword::Ack => Ok(node(nodes, text).map(|node| Event::Ack { node })),
-        Keyword::Snap => Ok(node(nodes, text).map(|node| Event::Snap { node })),
         Keyword::Crash => crash(alloc, nodes, text),
-        Keyword::Restart => Ok(node(nodes, text).map(|node| Event::Restart { node })),
+        Keyword::Tick
+        | Keyword::Advance
+        | Keyword::Take
+        | Keyword::Device
+        | Keyword::Mark
+        | Keyword::Send
+        | Keyword::Ack
+        | Keyword::Snap
+        | Keyword::Restart => at_node(nodes, keyword, text),
     }
 }
 
-fn event(alloc: Global, nodes: Nodes, text: &[u8]) -> Result<Option<Event>, Refusal>
-    ensures ok { IfOk result (λ e. e ≡ event_at nodes text.now) }
-    ensures err { IfErr result (λ e. e ≡ Refusal.OutOfMemory) }
+// What the first word of a line stands for, and the text behind it.
+fn first_keyword(text: &[u8]) -> Option<(Keyword, &[u8])>
+    ensures { (n : ℕ) → MatchOption result (event_at n text.now ≡ None) (λ x. event_at n text.now ≡ fields_at n x.0 x.1.now) }
 {
     let Some((word, rest)) = cut(text, b' ') else {
-        return Ok(None);
+        return None;
     };
     match keyword(word) {
-        Some(keyword) => fields(alloc, nodes, keyword, rest),
-        None => Ok(None),
+        Some(keyword) => Some((keyword, rest)),
+        None => None,
     }
 }
 
@@ -271,7 +302,10 @@ pub fn next_event(
     let Some((text, rest)) = cut(bytes, b'\n') else {
         return Err(Refusal::BadEvent(line));
     };
-    match event(alloc, nodes, text)? {
+    let Some((keyword, words)) = first_keyword(text) else {
+        return Err(Refusal::BadEvent(line));
+    };
+    match fields(alloc, nodes, keyword, words)? {
         Some(event) => Ok(Some((event, rest))),
         None => Err(Refusal::BadEvent(line)),
     }

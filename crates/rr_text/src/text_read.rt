@@ -1,10 +1,10 @@
 //! Reading the words of a schedule.
 
-ghost use Rattle.std.specs.Prelude.{true, [], unwrap_or, IfSome, ◌≡◌, ◌+◌, ◌-◌, ◌*◌, ◌<◌, ◌≤◌, ◌^◌, ◌==◌, SomeIff, nat_lt, if◌then◌else◌, IsTrue, None, Some, MatchOption, IfOk, IfErr};
+ghost use Rattle.std.specs.Prelude.{true, [], ◌∷◌, unwrap_or, IfSome, ◌≡◌, ◌+◌, ◌-◌, ◌*◌, ◌<◌, ◌≤◌, ◌^◌, ◌==◌, SomeIff, nat_lt, if◌then◌else◌, IsTrue, None, Some, MatchOption, IfOk, IfErr};
 ghost use Rattle.std.specs.List.{list_all, position};
 ghost use Rattle.std.specs.Str.Parse.{digits_value};
 ghost use Rattle.rr_text.specs.Numbers.{is_digit, is_number};
-ghost use Rattle.rr_text.specs.Reading.{cut_at, number_at, small_at, node_at, name_at, filled_value_at, members_at, set_at, hex_value, hex_byte, pairs_at, fill_at, submitted_at, first_node_at, cuts_at, fields_at, event_at, target_at, keyword_at, verb_at, name_and_value, named_at, transferred_at, op_at};
+ghost use Rattle.rr_text.specs.Reading.{find_by, keyword_text, cut_at, number_at, small_at, node_at, name_at, filled_value_at, members_at, set_at, hex_value, hex_byte, pairs_at, fill_at, submitted_at, first_node_at, cuts_at, fields_at, event_at, target_at, keyword_at, verb_at, name_and_value, named_at, transferred_at, op_at};
 
 use crate::keyword::{Keyword, Verb};
 use rr_types::{Command, Name, NodeId, NodeSet, Nodes, Op, Refusal, RequestNo, Value};
@@ -258,39 +258,50 @@ pub fn submitted(text: &[u8]) -> Option<Command>
     })
 }
 
-/// The event that a word stands for.
-pub fn keyword(word: &[u8]) -> Option<Keyword>
-    ensures { result ≡ keyword_at word.now }
+// The event that one of the four longest words stands for.
+fn long_keyword(word: &[u8]) -> Option<Keyword>
+    ensures { result ≡ find_by keyword_text word.now (Keyword.Submit ∷ Keyword.Suspect ∷ Keyword.Advance ∷ Keyword.Restart ∷ []) }
 {
     if word == b"submit".as_slice() {
         Some(Keyword::Submit)
-    } else if word == b"hear".as_slice() {
-        Some(Keyword::Hear)
     } else if word == b"suspect".as_slice() {
         Some(Keyword::Suspect)
-    } else if word == b"tick".as_slice() {
-        Some(Keyword::Tick)
     } else if word == b"advance".as_slice() {
         Some(Keyword::Advance)
-    } else if word == b"take".as_slice() {
-        Some(Keyword::Take)
-    } else if word == b"dev".as_slice() {
-        Some(Keyword::Device)
-    } else if word == b"fail".as_slice() {
-        Some(Keyword::Fail)
-    } else if word == b"mark".as_slice() {
-        Some(Keyword::Mark)
-    } else if word == b"send".as_slice() {
-        Some(Keyword::Send)
-    } else if word == b"ack".as_slice() {
-        Some(Keyword::Ack)
-    } else if word == b"snap".as_slice() {
-        Some(Keyword::Snap)
-    } else if word == b"crash".as_slice() {
-        Some(Keyword::Crash)
     } else if word == b"restart".as_slice() {
         Some(Keyword::Restart)
     } else {
         None
+    }
+}
+
+// The event that one of the other words stands for. Patterns look at the first byte, and not at one word after another.
+fn short_keyword(word: &[u8]) -> Option<Keyword>
+    ensures { result ≡ find_by keyword_text word.now (Keyword.Hear ∷ Keyword.Tick ∷ Keyword.Take ∷ Keyword.Device ∷ Keyword.Fail ∷ Keyword.Mark ∷ Keyword.Send ∷ Keyword.Ack ∷ Keyword.Snap ∷ Keyword.Crash ∷ []) }
+{
+    match word {
+        [b'h', b'e', b'a', b'r'] => Some(Keyword::Hear),
+        [b't', b'i', b'c', b'k'] => Some(Keyword::Tick),
+        [b't', b'a', b'k', b'e'] => Some(Keyword::Take),
+        [b'd', b'e', b'v'] => Some(Keyword::Device),
+        [b'f', b'a', b'i', b'l'] => Some(Keyword::Fail),
+        [b'm', b'a', b'r', b'k'] => Some(Keyword::Mark),
+        [b's', b'e', b'n', b'd'] => Some(Keyword::Send),
+        [b'a', b'c', b'k'] => Some(Keyword::Ack),
+        [b's', b'n', b'a', b'p'] => Some(Keyword::Snap),
+        [b'c', b'r', b'a', b's', b'h'] => Some(Keyword::Crash),
+        _ => None,
+    }
+}
+
+/// The event that a word stands for.
+#[tactic(auto, using(crate::proofs::Keywords::long_words, crate::proofs::Keywords::short_words))]
+pub fn keyword(word: &[u8]) -> Option<Keyword>
+    ensures { result ≡ keyword_at word.now }
+{
+    if word.len() > 5 {
+        long_keyword(word)
+    } else {
+        short_keyword(word)
     }
 }

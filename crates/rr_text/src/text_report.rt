@@ -179,6 +179,32 @@ pub fn refusal_name(refusal: &Refusal) -> &'static str
     }
 }
 
+// What a line of a report says behind the number of a line that was refused: the number and the name of the refusal.
+fn refusal_tail(refusal: &Refusal) -> &'static str
+    ensures { result.now ≡ 32 ∷ decimal (number_of refusal.now) ++ 32 ∷ refusal_name refusal.now }
+{
+    match refusal {
+        Refusal::OutOfMemory => " 1 OutOfMemory",
+        Refusal::Device => " 2 Device",
+        Refusal::Damaged { .. } => " 3 Damaged",
+        Refusal::Failed => " 4 Failed",
+        Refusal::Down => " 5 Down",
+        Refusal::BadNodes => " 6 BadNodes",
+        Refusal::BadName => " 7 BadName",
+        Refusal::BadValue => " 8 BadValue",
+        Refusal::ListFull => " 9 ListFull",
+        Refusal::RoundsOut => " 10 RoundsOut",
+        Refusal::Malformed(_) => " 11 Malformed",
+        Refusal::StrangeMark => " 12 StrangeMark",
+        Refusal::Busy => " 13 Busy",
+        Refusal::BadEvent(_) => " 14 BadEvent",
+        Refusal::SeatsTaken => " 15 SeatsTaken",
+        Refusal::TooLarge => " 16 TooLarge",
+        Refusal::AuditNo(_) => " 17 AuditNo",
+        Refusal::NoGuard => " 18 NoGuard",
+    }
+}
+
 /// Appends the words of a line of a report.
 ///
 /// # Errors
@@ -215,10 +241,9 @@ pub fn push_report_words(out: &mut Vec<u8>, report_line: &ReportLine) -> Result<
             push_registry(out, *decided, bindings.as_slice())
         }
         ReportLine::Refuse { line, refusal } => {
-            push_bytes(out, b"refuse")?;
-            push_number_word(out, *line)?;
-            push_number_word(out, u64::from(refusal.number()))?;
-            push_word(out, refusal_name(refusal).as_bytes())
+            push_bytes(out, b"refuse ")?;
+            push_number(out, *line)?;
+            push_bytes(out, refusal_tail(refusal).as_bytes())
         }
     }
 }

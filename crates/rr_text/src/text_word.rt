@@ -27,10 +27,14 @@ pub fn push_byte(out: &mut Vec<u8>, byte: u8) -> Result<(), Refusal>
 }
 
 /// Appends a number in decimal.
+#[tactic(auto, using(std::proofs::lemmas::Fmt::decimal_digit))]
 pub fn push_number(out: &mut Vec<u8>, number: u64) -> Result<(), Refusal>
     ensures ok { OnOk result (out.new.items ≡ out.old.items ++ decimal number) }
     ensures err { IfErr result (λ e. e ≡ Refusal.OutOfMemory) }
 {
+    if number < 10 {
+        return push_byte(out, b'0' + number as u8);
+    }
     let mut buffer = Buffer::new();
     push_bytes(out, buffer.format(number).as_bytes())
 }
