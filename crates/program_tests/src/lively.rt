@@ -2,6 +2,7 @@
 
 use rr_lively::{DEFAULT_FAULTS, lively_run};
 use rr_sim::report_on;
+use rr_stream::Counted;
 use rr_types::Nodes;
 use std::alloc::Global;
 use std::process::Abort;
@@ -15,7 +16,12 @@ fn drawn(rt: &impl Abort, alloc: Global, seed: u64, faults: u32) -> String {
 
 /// Whether a report is that of a schedule.
 fn is_report(rt: &impl Abort, alloc: Global, schedule: &str, report: &str) -> bool {
-    let told = report_on(alloc, schedule.as_bytes()).expect(rt, "a report");
+    let told = report_on(
+        alloc,
+        schedule.as_bytes(),
+        &mut Counted::new(Vec::new(alloc)),
+    )
+    .expect(rt, "a report");
     told.as_slice() == report.as_bytes()
 }
 

@@ -63,6 +63,9 @@ fn print_refused_folder<R: Files + AllocGlobal, W: Write>(
 ) -> io::Result<()> {
     for node in 0..nodes.count() {
         let path = format!(in rt.alloc(); "{dir}/{node}")?;
+        if fs::open(rt, path.as_str()).is_err() {
+            return writeln!(err, "{path}: the folder can't be made or opened");
+        }
         if let Err(refusal) = read_folder(rt, path.as_str()) {
             return print_folder_fault(rt, err, path.as_str(), &refusal);
         }

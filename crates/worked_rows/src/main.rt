@@ -16,6 +16,7 @@ ghost use Rattle.rr_sim.specs.Told.{IsReportOn};
 use crate::areas::areas_behind;
 use rr_audit::Verdict;
 use rr_cli::{audit_on, print_refusal, report_on};
+use rr_stream::Counted;
 use rr_sweep::push_sweep_lines;
 use rr_tape::Tape;
 use rr_text::Schedule;
