@@ -1,25 +1,38 @@
-use Rattle.std.proofs.Common.{rules, refl}
+use Rattle.std.proofs.Common.{◌∙◌, rules, refl}
 use Rattle.rr_sim.proofs.ToldLaws.{told_none, told_more, told_all}
 use Rattle.rr_sim.proofs.telling.tell_events.Goals as goal
 
 pub loop-event-init : goal.loop-event-init
-loop-event-init c = told_none c.args.nodes c.args.bytes.now c.args.cluster.now c.args.text.now.items c.requires
+loop-event-init g c =
+    record {
+      told = told_none c.args.nodes c.args.bytes.now c.args.cluster.now c.args.text.now.items c.requires;
+      unprinted = refl;
+    }
 
 pub loop-event-preserved-in_ok-tell : goal.loop-event-preserved-in_ok-tell
-loop-event-preserved-in_ok-tell c =
-    told_more c.args.nodes c.args.bytes.now c.args.cluster.now c.args.text.now.items c.loop-event.line _ c.loop-event.rest.now c.in-Some.behind.now c.loop-event.cluster c.step.new.self c.tell.new.self c.loop-event.text.items c.tell.new.text.items c.in-Some.event
-    c.loop-event.invariant (search rules) c.in_ok-step.ensures.ok c.in_ok-step.ensures.spelt c.in_ok-tell.ensures.kept c.in_ok-tell.ensures.told refl
+loop-event-preserved-in_ok-tell g c =
+    record {
+      told = told_more c.args.nodes c.args.bytes.now c.args.cluster.now c.args.text.now.items c.loop-event.line _ c.loop-event.rest.now c.in-Some.behind.now c.loop-event.cluster c.step.new.self c.tell.new.self c.loop-event.text.items c.tell.new.text.items c.in-Some.event
+          c.loop-event.invariant.told (search rules) c.in_ok-step.ensures.ok c.in_ok-step.ensures.spelt c.in_ok-tell.ensures.kept c.in_ok-tell.ensures.told refl;
+      unprinted = c.tell_line.ensures ∙ c.loop-event.invariant.unprinted;
+    }
 
 pub loop-event-preserved-in_ok-tell-2 : goal.loop-event-preserved-in_ok-tell-2
-loop-event-preserved-in_ok-tell-2 c =
-    told_more c.args.nodes c.args.bytes.now c.args.cluster.now c.args.text.now.items c.loop-event.line _ c.loop-event.rest.now c.in-Some.behind.now c.loop-event.cluster c.step.new.self c.tell.new.self c.loop-event.text.items c.tell.new.text.items c.in-Some.event
-    c.loop-event.invariant (search rules) c.in_ok-step.ensures.ok c.in_ok-step.ensures.spelt c.in_ok-tell.ensures.kept c.in_ok-tell.ensures.told refl
+loop-event-preserved-in_ok-tell-2 g c =
+    record {
+      told = told_more c.args.nodes c.args.bytes.now c.args.cluster.now c.args.text.now.items c.loop-event.line _ c.loop-event.rest.now c.in-Some.behind.now c.loop-event.cluster c.step.new.self c.tell.new.self c.loop-event.text.items c.tell.new.text.items c.in-Some.event
+          c.loop-event.invariant.told (search rules) c.in_ok-step.ensures.ok c.in_ok-step.ensures.spelt c.in_ok-tell.ensures.kept c.in_ok-tell.ensures.told refl;
+      unprinted = c.tell_line.ensures ∙ c.loop-event.invariant.unprinted;
+    }
 
 pub loop-event-preserved : goal.loop-event-preserved
-loop-event-preserved c =
-    told_more c.args.nodes c.args.bytes.now c.args.cluster.now c.args.text.now.items c.loop-event.line _ c.loop-event.rest.now c.in-Some.behind.now c.loop-event.cluster c.step.new.self c.tell.new.self c.loop-event.text.items c.tell.new.text.items c.in-Some.event
-    c.loop-event.invariant (search rules) c.in_ok-step.ensures.ok c.in_ok-step.ensures.spelt c.in_ok-tell.ensures.kept c.in_ok-tell.ensures.told refl
+loop-event-preserved g c =
+    record {
+      told = told_more c.args.nodes c.args.bytes.now c.args.cluster.now c.args.text.now.items c.loop-event.line _ c.loop-event.rest.now c.in-Some.behind.now c.loop-event.cluster c.step.new.self c.tell.new.self c.loop-event.text.items c.tell.new.text.items c.in-Some.event
+          c.loop-event.invariant.told (search rules) c.in_ok-step.ensures.ok c.in_ok-step.ensures.spelt c.in_ok-tell.ensures.kept c.in_ok-tell.ensures.told refl;
+      unprinted = c.tell_line.ensures ∙ c.loop-event.invariant.unprinted;
+    }
 
 pub returns-clause-ok : goal.returns-clause-ok
-returns-clause-ok c =
-    told_all c.args.nodes c.args.bytes.now c.args.cluster.now c.args.text.now.items c.loop-event.line c.loop-event.rest.now c.loop-event.cluster c.loop-event.text.items c.loop-event.invariant (search rules)
+returns-clause-ok g c =
+    told_all c.args.nodes c.args.bytes.now c.args.cluster.now c.args.text.now.items c.loop-event.line c.loop-event.rest.now c.loop-event.cluster c.loop-event.text.items c.loop-event.invariant.told (search rules)
