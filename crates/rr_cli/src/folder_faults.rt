@@ -62,7 +62,7 @@ fn print_damage<R: Files + AllocGlobal, W: Write>(
         Ok(0) => write!(err, ", where it ends")?,
         Ok(count) => {
             write!(err, ", where it has")?;
-            for byte in &room[..count] {
+            for byte in room.iter().take(count) {
                 write!(err, " {byte:02x}")?;
             }
         }

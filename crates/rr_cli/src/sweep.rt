@@ -129,12 +129,16 @@ fn sweep_schedule<O: Sink, E: Write>(
     ensures ends { (bytes : List ℕ) → IsSchedule schedule.now → bytes ≡ schedule_text schedule.now → EndsOnSweep seed bytes result (O.printing out.old) (O.printing out.new) }
     ensures quiet { result ≡ 0 → Keeps (E.contents err.old) (E.contents err.new) }
 {
-    let printed = print_sweep(alloc, schedule, seed, out);
-    out.tell_progress(1, 1);
-    match printed {
+    match print_sweep(alloc, schedule, seed, out) {
         Ok(()) => end_by_text(out, err, b""),
-        Err(Stop::Refused(refusal)) => end_by_refusal(err, &refusal),
-        Err(Stop::Unprinted(error)) => end_by_unprinted(err, &error),
+        Err(Stop::Refused(refusal)) => {
+            out.tell_progress(1, 1);
+            end_by_refusal(err, &refusal)
+        }
+        Err(Stop::Unprinted(error)) => {
+            out.tell_progress(1, 1);
+            end_by_unprinted(err, &error)
+        }
     }
 }
 

@@ -21,10 +21,10 @@ returns-in-Ok-report_on-clause-ends g c =
     let on : IsReportOn c.in-Ok.bytes.items c.as_slice-in-Ok-report_on.result.now =
     subst (λ text. IsReportOn c.in-Ok.bytes.items text) (sym c.as_slice-in-Ok-report_on.ensures.value)
     (subst (λ bytes. IsReportOn bytes c.in-Ok-report_on.text.items) c.as_slice.ensures.value c.in-Ok-report_on.ensures.ok) in
-    read c.in-Ok.bytes.items c.in-Ok.ensures.all (reported c.as_slice-in-Ok-report_on.result.now on c.end_by_text.ensures.ends)
+    read c.in-Ok.bytes.items c.in-Ok.ensures.all (reported c.as_slice-in-Ok-report_on.result.now on (rw c.report_on.ensures.unprinted at c.end_by_text.ensures.ends))
 
 pub returns-clause-ends : goal.returns-clause-ends
 returns-clause-ends g c =
     let fault : IsFault IsEvent event_line c.in-Ok.bytes.items c.in-Err-report_on.refusal =
     subst (λ bytes. IsFault IsEvent event_line bytes c.in-Err-report_on.refusal) c.as_slice.ensures.value c.in-Err-report_on.ensures.fault in
-    read c.in-Ok.bytes.items c.in-Ok.ensures.all (refused c.in-Err-report_on.refusal fault c.end_by_schedule_fault.ensures refl)
+    read c.in-Ok.bytes.items c.in-Ok.ensures.all (refused c.in-Err-report_on.refusal fault c.end_by_schedule_fault.ensures c.report_on.ensures.unprinted)
