@@ -1,6 +1,6 @@
 -- Rows of cells, and writes to them.
 use Rattle.std.proofs.Common.{◌≡◌, ℕ, ◌+◌, ◌-◌, ◌<◌, ◌≤◌, List, [], ◌∷◌, ◌++◌, map, length, get_or, set, take, drop, sym, ◌∙◌, ap, arith, add_assoc}
-use Rattle.std.proofs.lemmas.List.{length-append, map-append, take-append-drop, drop-drop, take_all, drop_all, length-take, length-drop, append-nil, append_assoc, take_more, get_or_default, get_or-map, length-map}
+use Rattle.std.proofs.lemmas.List.{length-append, map-append, take-append-drop, drop-drop, take_all, drop_all, length-take, length-drop, append-nil, append_assoc, take_more, take_more_set, map_more, get_or_default, get_or-map, length-map}
 use Rattle.std.proofs.lemmas.List.Edits.{map_over_more, take-paste, drop-paste}
 use lib.Seq.{paste}
 use Rattle.rr_disk.specs.Areas.{firm_cell}
@@ -10,6 +10,15 @@ use Rattle.rr_disk.specs.declared.cell.Cell.{Cell}
 -- one more element changed in place
 pub map_over_at : {X : Type 0} (f : X → X) (xs ys : List X) (i : ℕ) (d : X) → i < length xs → length ys ≡ length xs → ys ≡ map f (take i xs) ++ drop i xs → set ys i (f (get_or ys i d)) ≡ map f (take (i + 1) xs) ++ drop (i + 1) xs
 map_over_at f xs ys i d lt long is = map_over_more f xs ys i (get_or ys i d) lt is (get_or_default ys i d (get_or ys i d) (omega arith))
+
+-- one more element of a row computed into another
+pub map_into : (f : Cell → ℕ) (xs : List Cell) (ys : List ℕ) (i : ℕ) (d : Cell) → i < length xs → length ys ≡ length xs → take i ys ≡ map f (take i xs) → take (i + 1) (set ys i (f (get_or xs i d))) ≡ map f (take (i + 1) xs)
+map_into f xs ys i d lt long is =
+    take_more_set ys i (f (get_or xs i d)) (omega arith) ∙ ap (λ zs. zs ++ f (get_or xs i d) ∷ []) is ∙ sym (map_more f xs i d lt)
+
+-- and at its end
+pub map_into_end : (f : Cell → ℕ) (xs : List Cell) (ys : List ℕ) (i : ℕ) → length xs ≤ i → length ys ≡ length xs → take i ys ≡ map f (take i xs) → ys ≡ map f xs
+map_into_end f xs ys i le long is = sym (take_all i ys (omega arith)) ∙ is ∙ ap (map f) (take_all i xs le)
 
 -- one more byte written, in place or at the end
 pub paste_byte : (f : ℕ → Cell) (d ys : List Cell) (at : ℕ) (bytes : List ℕ) (i : ℕ) → at ≤ length d → i < length bytes → ys ≡ paste d at (map f bytes) i

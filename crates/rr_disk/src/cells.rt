@@ -13,7 +13,19 @@ use std::alloc::{AllocError, Global};
 pub fn bytes_in(alloc: Global, cells: &[Cell]) -> Result<Vec<u8>, AllocError>
     ensures { IfOk result (λ v. v.items ≡ map (λ cell. cell.byte) cells.now) }
 {
-    cells.iter().map(|cell| cell.byte).collect(alloc)
+    let mut bytes = vec![in alloc; 0u8; cells.len()]?;
+    put_bytes(&mut bytes, cells);
+    Ok(bytes)
+}
+
+// Puts the bytes of these cells into a row of as many.
+fn put_bytes(bytes: &mut [u8], cells: &[Cell])
+    requires { length bytes.old ≡ length cells.now }
+    ensures { bytes.new ≡ map (λ cell. cell.byte) cells.now }
+{
+    for i in 0..cells.len() {
+        bytes[i] = cells[i].byte;
+    }
 }
 
 /// The cells from an offset on, where there are any.
