@@ -17,6 +17,8 @@ EXAMPLE = TREE / "examples/one_command.schedule"
 SEED = "1"
 DRAWS = ((1, 0, 2), (1, 40, 1), (2, 120, 2), (3, 200, 3), (1, 300, 7))
 SHORT = ("one_command", "snapshot", "second_snapshot_crashes", "failed_write_of_a_body", "heartbeats", "no_events")
+# The line on a damaged place without the bytes there, or no line on a folder.
+BARE = re.compile(rb"(?:[^\n]+: the file a[01] is damaged at byte \d+\n)?")
 
 
 def tasks(options):
@@ -174,9 +176,9 @@ def is_report_of_starved(rig, text, ending, of_report):
 
 
 def is_bare_verdict(rig, tally, ending, whole):
-    """Whether it refuses an event of a tape, and memory was wanting just for the line that tells people why."""
-    is_bare = whole.status == 7 and ending == whole and not rig.why
-    tally.counts["verdicts without the line for people"] += is_bare
+    """Whether it refuses an event of a tape or a folder, and memory was wanting just for what tells people why."""
+    is_bare = ending == whole and (not rig.why if whole.status == 7 else whole.status in (4, 5) and BARE.fullmatch(rig.why) is not None)
+    tally.counts["refusals without all of the line for people"] += is_bare
     return is_bare
 
 

@@ -44,7 +44,7 @@ pub fn print_folder_fault<R: Files + AllocGlobal, W: Write>(
     }
 }
 
-// Prints where an area is damaged, and what stands there.
+// Prints where an area is damaged, and what is there if that can be read.
 fn print_damage<R: Files + AllocGlobal, W: Write>(
     rt: &R,
     err: &mut W,
@@ -52,13 +52,13 @@ fn print_damage<R: Files + AllocGlobal, W: Write>(
     area: u8,
     offset: u64,
 ) -> io::Result<()> {
+    let mut room = [0u8; TOLD_BYTES];
+    let read = read_area(rt, folder, area, offset, &mut room);
     write!(
         err,
         "{folder}: the file a{area} is damaged at byte {offset}"
     )?;
-    let path = format!(in rt.alloc(); "{folder}/a{area}")?;
-    let mut room = [0u8; TOLD_BYTES];
-    match read_at(rt, path.as_str(), offset, &mut room) {
+    match read {
         Ok(0) => write!(err, ", where it ends")?,
         Ok(count) => {
             write!(err, ", where it has")?;
@@ -71,17 +71,18 @@ fn print_damage<R: Files + AllocGlobal, W: Write>(
     writeln!(err)
 }
 
-// Reads a file from an offset on, as much as one call gives, and says how much that is.
-fn read_at<R: Files>(
+// Reads the file of an area from an offset on, as much as one call gives, and says how much that is.
+fn read_area<R: Files + AllocGlobal>(
     rt: &R,
-    path: &str,
+    folder: &str,
+    area: u8,
     offset: u64,
     room: &mut [u8; TOLD_BYTES],
 ) -> io::Result<usize> {
-    let mut file = fs::open(rt, path)?;
+    let path = format!(in rt.alloc(); "{folder}/a{area}")?;
+    let mut file = fs::open(rt, path.as_str())?;
     file.seek(SeekFrom::Start(offset))?;
-    let count = file.read(room)?;
-    Ok(count.min(TOLD_BYTES))
+    file.read(room)
 }
 
 // Prints why the first file of a folder can't be opened that can't be.
