@@ -7,103 +7,48 @@ use std::alloc::Global;
 use std::process::Abort;
 
 /// The acknowledgement of round 1 of instance 0, from node 2 to node 1.
-static ACK: [u8; 12] = [2, 2, 1, 3, 0, 0, 0, 0, 0, 0, 0, 1];
+const ACK: [u8; 12] = [2, 2, 1, 3, 0, 0, 0, 0, 0, 0, 0, 1];
 
 /// The estimate `7.1 claim a x` with stamp 0 in round 1 of instance 0, from node 0 to itself.
-static ESTIMATE: [u8; 33] = [
+const ESTIMATE: [u8; 33] = [
     2, 0, 0, 1, 0, 0, 0, 0, 0, 0, 0, 1, 0, 0, 0, 0, 0, 0, 0, 7, 0, 0, 0, 0, 0, 0, 0, 1, 1, 1, b'a',
     1, b'x',
 ];
 
 /// In round 258 of instance 5 node 1 proposes `7.1 claim a x` to node 2.
-static PROPOSAL: [u8; 29] = [
+const PROPOSAL: [u8; 29] = [
     2, 1, 2, 2, 0, 0, 0, 5, 0, 0, 1, 2, 0, 0, 0, 7, 0, 0, 0, 0, 0, 0, 0, 1, 1, 1, b'a', 1, b'x',
 ];
 
 /// The last instance has decided `7.1 claim a x`, from node 2 to node 0.
-static DECISION: [u8; 25] = [
+const DECISION: [u8; 25] = [
     2, 2, 0, 4, 0, 15, 255, 255, 0, 0, 0, 7, 0, 0, 0, 0, 0, 0, 0, 1, 1, 1, b'a', 1, b'x',
 ];
 
 /// Node 0 refuses the last round of instance 1, to node 1.
-static NACK: [u8; 12] = [2, 0, 1, 6, 0, 0, 0, 1, 127, 255, 255, 255];
+const NACK: [u8; 12] = [2, 0, 1, 6, 0, 0, 0, 1, 127, 255, 255, 255];
 
 /// Node 6 is up, to node 5.
-static BEAT: [u8; 4] = [2, 6, 5, 7];
+const BEAT: [u8; 4] = [2, 6, 5, 7];
 
 /// Node 0 suspects nodes 0 and 2, to itself.
-static SUSPECTS: [u8; 5] = [2, 0, 0, 8, 5];
+const SUSPECTS: [u8; 5] = [2, 0, 0, 8, 5];
 
 /// Node 1 asks node 0 for the decision of instance 3.
-static ASK: [u8; 8] = [2, 1, 0, 9, 0, 0, 0, 3];
+const ASK: [u8; 8] = [2, 1, 0, 9, 0, 0, 0, 3];
 
 /// The request `7.2 transfer a 9`, from node 0 to node 1.
-static REQUEST: [u8; 23] = [
+const REQUEST: [u8; 23] = [
     2, 0, 1, 5, 0, 0, 0, 7, 0, 0, 0, 0, 0, 0, 0, 2, 4, 1, b'a', 0, 0, 0, 9,
 ];
 
 /// In version 1: the last instance has decided `7.1 claim a x`, from node 2 to node 0.
-static OLD_DECISION: [u8; 25] = [
+const OLD_DECISION: [u8; 25] = [
     1, 2, 0, 4, 0, 0, 255, 255, 0, 0, 0, 7, 0, 0, 0, 0, 0, 0, 0, 1, 1, 1, b'a', 1, b'x',
 ];
 
 /// In version 1: the request `7.3 release b`, from node 0 to node 1.
-static OLD_REQUEST: [u8; 19] = [1, 0, 1, 5, 0, 0, 0, 7, 0, 0, 0, 0, 0, 0, 0, 3, 3, 1, b'b'];
-
-/// The bytes of the acknowledgement. (A test that names a table itself is proved over each of its bytes.)
-fn ack_bytes() -> &'static [u8] {
-    &ACK
-}
-
-/// The bytes of the estimate.
-fn estimate_bytes() -> &'static [u8] {
-    &ESTIMATE
-}
-
-/// The bytes of the proposal.
-fn proposal_bytes() -> &'static [u8] {
-    &PROPOSAL
-}
-
-/// The bytes of the decision.
-fn decision_bytes() -> &'static [u8] {
-    &DECISION
-}
-
-/// The bytes of the refusal of a round.
-fn nack_bytes() -> &'static [u8] {
-    &NACK
-}
-
-/// The bytes of the beat.
-fn beat_bytes() -> &'static [u8] {
-    &BEAT
-}
-
-/// The bytes of the suspicions.
-fn suspects_bytes() -> &'static [u8] {
-    &SUSPECTS
-}
-
-/// The bytes of the question.
-fn ask_bytes() -> &'static [u8] {
-    &ASK
-}
-
-/// The bytes of the request.
-fn request_bytes() -> &'static [u8] {
-    &REQUEST
-}
-
-/// The bytes of the decision of version 1.
-fn old_decision_bytes() -> &'static [u8] {
-    &OLD_DECISION
-}
-
-/// The bytes of the request of version 1.
-fn old_request_bytes() -> &'static [u8] {
-    &OLD_REQUEST
-}
+const OLD_REQUEST: [u8; 19] = [1, 0, 1, 5, 0, 0, 0, 7, 0, 0, 0, 0, 0, 0, 0, 3, 3, 1, b'b'];
 
 /// The command `7.1 claim a x`.
 fn claim(rt: &impl Abort) -> Command {
@@ -149,8 +94,8 @@ fn put_at(bytes: &mut [u8], place: usize, byte: u8) {
 }
 
 /// The bytes with another one at this place.
-fn with_byte(rt: &impl Abort, alloc: Global, bytes: &[u8], place: usize, byte: u8) -> Vec<u8> {
-    let mut changed = bytes.to_vec(alloc).expect(rt, "memory");
+fn with_byte<const N: usize>(bytes: &[u8; N], place: usize, byte: u8) -> [u8; N] {
+    let mut changed = *bytes;
     put_at(&mut changed, place, byte);
     changed
 }
@@ -189,50 +134,25 @@ fn assert_spelled(rt: &impl Abort, alloc: Global, nodes: u8, message: &Message, 
     assert_read(rt, nodes, message, bytes);
 }
 
-/// An example among so many nodes, another byte at a place of it, and where it is refused then.
-type Change = (u8, &'static [u8], (usize, u8), u64);
-
-/// Changes that are refused, in version 2.
-fn changes() -> [Change; 10] {
-    [
-        (3, ack_bytes(), (11, 0), 8),
-        (3, ack_bytes(), (3, 10), 3),
-        (3, ack_bytes(), (0, 0), 0),
-        (3, ack_bytes(), (0, 3), 0),
-        (1, estimate_bytes(), (15, 1), 12),
-        (1, estimate_bytes(), (29, 0), 29),
-        (1, estimate_bytes(), (29, 65), 29),
-        (1, estimate_bytes(), (30, 0x41), 30),
-        (1, estimate_bytes(), (31, 65), 31),
-        (1, estimate_bytes(), (31, 2), 32),
-    ]
-}
-
 #[test]
 fn decoding_table(rt: HostRuntime) {
-    for (nodes, example, (place, byte), offset) in changes() {
-        let bytes = with_byte(&rt, rt.alloc(), example, place, byte);
-        assert_refused(&rt, nodes, &bytes, offset);
-    }
-}
-
-/// The front of bytes up to a place, or all of them.
-fn cut(bytes: &[u8], place: usize) -> &[u8] {
-    match bytes.split_at_checked(place) {
-        Some((front, _)) => front,
-        None => bytes,
-    }
-}
-
-#[test]
-fn decoding_table_of_other_bytes(rt: HostRuntime) {
-    let rows: [(u8, &[u8], u64); 6] = [
-        (3, cut(ack_bytes(), 11), 8),
+    let rows: [(u8, &[u8], u64); 16] = [
+        (3, &ACK[..11], 8),
+        (3, &with_byte(&ACK, 11, 0), 8),
         (3, &[2, 2, 1, 3, 0, 0, 0, 0, 0, 0, 0, 1, 0], 12),
+        (3, &with_byte(&ACK, 3, 10), 3),
         (3, &[], 0),
-        (2, ack_bytes(), 1),
+        (2, &ACK, 1),
+        (3, &with_byte(&ACK, 0, 0), 0),
+        (3, &with_byte(&ACK, 0, 3), 0),
+        (1, &with_byte(&ESTIMATE, 15, 1), 12),
+        (1, &with_byte(&ESTIMATE, 29, 0), 29),
+        (1, &with_byte(&ESTIMATE, 29, 65), 29),
+        (1, &with_byte(&ESTIMATE, 30, 0x41), 30),
+        (1, &with_byte(&ESTIMATE, 31, 65), 31),
+        (1, &with_byte(&ESTIMATE, 31, 2), 32),
         (3, &[2, 0, 0, 8, 8], 4),
-        (1, request_bytes(), 2),
+        (1, &REQUEST, 2),
     ];
     for (nodes, bytes, offset) in rows {
         assert_refused(&rt, nodes, bytes, offset);
@@ -298,52 +218,42 @@ fn ask(rt: &impl Abort) -> Message {
     message(rt, 1, 0, Body::Ask(instance(rt, 3)))
 }
 
-/// What `REQUEST` says.
-fn request(rt: &impl Abort) -> Message {
-    message(rt, 0, 1, Body::Request(transfer(rt)))
-}
-
-/// What `OLD_REQUEST` says.
-fn old_request(rt: &impl Abort) -> Message {
-    message(rt, 0, 1, Body::Request(release(rt)))
-}
-
-/// What `BEAT` says.
-fn beat(rt: &impl Abort) -> Message {
-    message(rt, 6, 5, Body::Beat)
-}
-
 #[test]
 fn each_message_both_ways(rt: HostRuntime) {
-    let alloc = rt.alloc();
-    assert_spelled(&rt, alloc, 3, &estimate(&rt), estimate_bytes());
-    assert_spelled(&rt, alloc, 7, &proposal(&rt), proposal_bytes());
-    assert_spelled(&rt, alloc, 3, &ack(&rt), ack_bytes());
-    assert_spelled(&rt, alloc, 7, &decision(&rt, 1_048_575), decision_bytes());
-    assert_spelled(&rt, alloc, 2, &request(&rt), request_bytes());
-    assert_spelled(&rt, alloc, 2, &nack(&rt), nack_bytes());
-    assert_spelled(&rt, alloc, 7, &beat(&rt), beat_bytes());
-    assert_spelled(&rt, alloc, 3, &suspects(&rt), suspects_bytes());
-    assert_spelled(&rt, alloc, 2, &ask(&rt), ask_bytes());
-}
-
-/// Asserts that among so many nodes these bytes are read as a message, with the number of version 1 before them.
-fn assert_read_of_old(rt: &impl Abort, alloc: Global, nodes: u8, message: &Message, bytes: &[u8]) {
-    assert_read(rt, nodes, message, &with_byte(rt, alloc, bytes, 0, 1));
+    let request = message(&rt, 0, 1, Body::Request(transfer(&rt)));
+    let rows: [(u8, Message, &[u8]); 9] = [
+        (3, estimate(&rt), &ESTIMATE),
+        (7, proposal(&rt), &PROPOSAL),
+        (3, ack(&rt), &ACK),
+        (7, decision(&rt, 1_048_575), &DECISION),
+        (2, request, &REQUEST),
+        (2, nack(&rt), &NACK),
+        (7, message(&rt, 6, 5, Body::Beat), &BEAT),
+        (3, suspects(&rt), &SUSPECTS),
+        (2, ask(&rt), &ASK),
+    ];
+    for (nodes, message, bytes) in rows {
+        assert_spelled(&rt, rt.alloc(), nodes, &message, bytes);
+    }
 }
 
 #[test]
 fn each_message_of_version_1(rt: HostRuntime) {
-    let alloc = rt.alloc();
-    assert_read_of_old(&rt, alloc, 3, &estimate(&rt), estimate_bytes());
-    assert_read_of_old(&rt, alloc, 7, &proposal(&rt), proposal_bytes());
-    assert_read_of_old(&rt, alloc, 3, &ack(&rt), ack_bytes());
-    assert_read(&rt, 7, &decision(&rt, 65_535), old_decision_bytes());
-    assert_read(&rt, 2, &old_request(&rt), old_request_bytes());
-    assert_read_of_old(&rt, alloc, 2, &nack(&rt), nack_bytes());
-    assert_read_of_old(&rt, alloc, 7, &beat(&rt), beat_bytes());
-    assert_read_of_old(&rt, alloc, 3, &suspects(&rt), suspects_bytes());
-    assert_read_of_old(&rt, alloc, 2, &ask(&rt), ask_bytes());
+    let request = message(&rt, 0, 1, Body::Request(release(&rt)));
+    let rows: [(u8, Message, &[u8]); 9] = [
+        (3, estimate(&rt), &with_byte(&ESTIMATE, 0, 1)),
+        (7, proposal(&rt), &with_byte(&PROPOSAL, 0, 1)),
+        (3, ack(&rt), &with_byte(&ACK, 0, 1)),
+        (7, decision(&rt, 65_535), &OLD_DECISION),
+        (2, request, &OLD_REQUEST),
+        (2, nack(&rt), &with_byte(&NACK, 0, 1)),
+        (7, message(&rt, 6, 5, Body::Beat), &with_byte(&BEAT, 0, 1)),
+        (3, suspects(&rt), &with_byte(&SUSPECTS, 0, 1)),
+        (2, ask(&rt), &with_byte(&ASK, 0, 1)),
+    ];
+    for (nodes, message, bytes) in rows {
+        assert_read(&rt, nodes, &message, bytes);
+    }
 }
 
 /// Whether version 1 has a spelling of a command.
@@ -393,102 +303,45 @@ fn field_of(fields: &[u8], place: usize) -> u64 {
     found as u64
 }
 
-/// Bytes with another one at this place, of each value, are exact.
-fn assert_exact_at(
-    rt: &impl Abort,
-    alloc: Global,
-    nodes: Nodes,
-    bytes: &mut Vec<u8>,
-    place: usize,
-) {
-    for byte in 0..=255 {
-        put_at(bytes.as_mut_slice(), place, byte);
-        assert_exact(rt, alloc, nodes, bytes.as_slice());
-    }
-}
-
 /// Each byte of an example at each value is exact; cut, it is refused at the field that is cut.
 fn sweep(rt: &impl Abort, alloc: Global, nodes: u8, example: &[u8], fields: &[u8]) {
     let all = Nodes::new(nodes).expect(rt, "nodes");
     let mut bytes = example.to_vec(alloc).expect(rt, "memory");
     for (place, kept) in example.iter().enumerate() {
         assert_refused(rt, nodes, &example[..place], field_of(fields, place));
-        assert_exact_at(rt, alloc, all, &mut bytes, place);
+        for byte in 0..=255 {
+            put_at(&mut bytes, place, byte);
+            assert_exact(rt, alloc, all, &bytes);
+        }
         put_at(&mut bytes, place, *kept);
     }
     bytes.push(0).expect(rt, "memory");
     assert_refused(rt, nodes, &bytes, example.len() as u64);
 }
 
-/// An example among so many nodes, and where its fields begin.
-type Example = (u8, &'static [u8], &'static [u8]);
-
-/// The examples of version 2.
-fn examples() -> [Example; 9] {
-    [
-        (
-            3,
-            estimate_bytes(),
-            &[0, 1, 2, 3, 4, 8, 12, 16, 20, 28, 29, 30, 31, 32],
-        ),
-        (
-            7,
-            proposal_bytes(),
-            &[0, 1, 2, 3, 4, 8, 12, 16, 24, 25, 26, 27, 28],
-        ),
-        (3, ack_bytes(), &[0, 1, 2, 3, 4, 8]),
-        (
-            7,
-            decision_bytes(),
-            &[0, 1, 2, 3, 4, 8, 12, 20, 21, 22, 23, 24],
-        ),
-        (2, request_bytes(), &[0, 1, 2, 3, 4, 8, 16, 17, 18, 19]),
-        (2, nack_bytes(), &[0, 1, 2, 3, 4, 8]),
-        (7, beat_bytes(), &[0, 1, 2, 3]),
-        (3, suspects_bytes(), &[0, 1, 2, 3, 4]),
-        (2, ask_bytes(), &[0, 1, 2, 3, 4]),
-    ]
-}
-
 #[test]
 fn each_byte_and_each_cut(rt: HostRuntime) {
-    for (nodes, example, fields) in examples() {
-        sweep(&rt, rt.alloc(), nodes, example, fields);
-    }
-}
-
-/// The examples of version 1, but for the number of the version.
-fn old_examples() -> [Example; 9] {
-    [
+    let rows: [(u8, &[u8], &[u8]); 9] = [
         (
             3,
-            estimate_bytes(),
+            &ESTIMATE,
             &[0, 1, 2, 3, 4, 8, 12, 16, 20, 28, 29, 30, 31, 32],
         ),
         (
             7,
-            proposal_bytes(),
+            &PROPOSAL,
             &[0, 1, 2, 3, 4, 8, 12, 16, 24, 25, 26, 27, 28],
         ),
-        (3, ack_bytes(), &[0, 1, 2, 3, 4, 8]),
-        (
-            7,
-            old_decision_bytes(),
-            &[0, 1, 2, 3, 4, 8, 12, 20, 21, 22, 23, 24],
-        ),
-        (2, old_request_bytes(), &[0, 1, 2, 3, 4, 8, 16, 17, 18]),
-        (2, nack_bytes(), &[0, 1, 2, 3, 4, 8]),
-        (7, beat_bytes(), &[0, 1, 2, 3]),
-        (3, suspects_bytes(), &[0, 1, 2, 3, 4]),
-        (2, ask_bytes(), &[0, 1, 2, 3, 4]),
-    ]
-}
-
-#[test]
-fn each_byte_and_each_cut_of_version_1(rt: HostRuntime) {
-    for (nodes, example, fields) in old_examples() {
-        let old = with_byte(&rt, rt.alloc(), example, 0, 1);
-        sweep(&rt, rt.alloc(), nodes, &old, fields);
+        (3, &ACK, &[0, 1, 2, 3, 4, 8]),
+        (7, &DECISION, &[0, 1, 2, 3, 4, 8, 12, 20, 21, 22, 23, 24]),
+        (2, &REQUEST, &[0, 1, 2, 3, 4, 8, 16, 17, 18, 19]),
+        (2, &NACK, &[0, 1, 2, 3, 4, 8]),
+        (7, &BEAT, &[0, 1, 2, 3]),
+        (3, &SUSPECTS, &[0, 1, 2, 3, 4]),
+        (2, &ASK, &[0, 1, 2, 3, 4]),
+    ];
+    for (nodes, example, fields) in rows {
+        sweep(&rt, rt.alloc(), nodes, example, fields);
     }
 }
 
@@ -498,24 +351,24 @@ fn assert_taken(rt: &impl Abort, nodes: u8, bytes: &[u8]) {
     assert!(rt; decode(nodes, bytes).is_ok());
 }
 
-/// Asserts that bytes are read, and with the number of version 1 before them refused at this offset.
-fn assert_new_alone(rt: &impl Abort, alloc: Global, nodes: u8, new: &[u8], offset: u64) {
-    assert_refused(rt, nodes, &with_byte(rt, alloc, new, 0, 1), offset);
-    assert_taken(rt, nodes, new);
-}
-
 #[test]
 fn version_1_has_its_own_limits(rt: HostRuntime) {
     // Instance 65,536, the last instance, and a transfer.
-    let far = with_byte(&rt, rt.alloc(), ack_bytes(), 5, 1);
-    assert_new_alone(&rt, rt.alloc(), 3, &far, 4);
-    assert_new_alone(&rt, rt.alloc(), 7, decision_bytes(), 4);
-    assert_new_alone(&rt, rt.alloc(), 2, request_bytes(), 16);
+    let far = with_byte(&ACK, 5, 1);
+    let rows: [(u8, &[u8], &[u8], u64); 3] = [
+        (3, &with_byte(&far, 0, 1), &far, 4),
+        (7, &with_byte(&DECISION, 0, 1), &DECISION, 4),
+        (2, &with_byte(&REQUEST, 0, 1), &REQUEST, 16),
+    ];
+    for (nodes, old, new, offset) in rows {
+        assert_refused(&rt, nodes, old, offset);
+        assert_taken(&rt, nodes, new);
+    }
 }
 
 /// As this version spells it, a request to release the name of so many letters b.
 fn long_request(rt: &impl Abort, alloc: Global, version: u8, count: u8) -> Vec<u8> {
-    let mut bytes = old_request_bytes().to_vec(alloc).expect(rt, "memory");
+    let mut bytes = OLD_REQUEST.to_vec(alloc).expect(rt, "memory");
     put_at(&mut bytes, 0, version);
     put_at(&mut bytes, 17, count);
     bytes
@@ -533,31 +386,50 @@ fn names_are_as_long_as_the_version_has_them(rt: HostRuntime) {
     }
 }
 
-/// Changes that are refused, in version 1.
-fn old_changes() -> [Change; 6] {
-    [
-        (3, ack_bytes(), (11, 0), 8),
-        (3, ack_bytes(), (3, 10), 3),
-        (1, estimate_bytes(), (15, 1), 12),
-        (1, estimate_bytes(), (28, 0), 28),
-        (1, estimate_bytes(), (29, 0), 29),
-        (1, estimate_bytes(), (31, 65), 31),
-    ]
-}
-
-/// The bytes with the number of version 1 before them, and with another one at this place.
-fn old_with_byte(rt: &impl Abort, alloc: Global, bytes: &[u8], place: usize, byte: u8) -> Vec<u8> {
-    let mut changed = with_byte(rt, alloc, bytes, 0, 1);
-    put_at(&mut changed, place, byte);
-    changed
+#[test]
+fn decoding_table_of_version_1(rt: HostRuntime) {
+    let ack = with_byte(&ACK, 0, 1);
+    let estimate = with_byte(&ESTIMATE, 0, 1);
+    let rows: [(u8, &[u8], u64); 7] = [
+        (3, &with_byte(&ack, 11, 0), 8),
+        (3, &with_byte(&ack, 3, 10), 3),
+        (2, &ack, 1),
+        (1, &with_byte(&estimate, 15, 1), 12),
+        (1, &with_byte(&estimate, 28, 0), 28),
+        (1, &with_byte(&estimate, 29, 0), 29),
+        (1, &with_byte(&estimate, 31, 65), 31),
+    ];
+    for (nodes, bytes, offset) in rows {
+        assert_refused(&rt, nodes, bytes, offset);
+    }
 }
 
 #[test]
-fn decoding_table_of_version_1(rt: HostRuntime) {
-    for (nodes, example, (place, byte), offset) in old_changes() {
-        let bytes = old_with_byte(&rt, rt.alloc(), example, place, byte);
-        assert_refused(&rt, nodes, &bytes, offset);
+fn each_byte_and_each_cut_of_version_1(rt: HostRuntime) {
+    let rows: [(u8, &[u8], &[u8]); 9] = [
+        (
+            3,
+            &with_byte(&ESTIMATE, 0, 1),
+            &[0, 1, 2, 3, 4, 8, 12, 16, 20, 28, 29, 30, 31, 32],
+        ),
+        (
+            7,
+            &with_byte(&PROPOSAL, 0, 1),
+            &[0, 1, 2, 3, 4, 8, 12, 16, 24, 25, 26, 27, 28],
+        ),
+        (3, &with_byte(&ACK, 0, 1), &[0, 1, 2, 3, 4, 8]),
+        (
+            7,
+            &OLD_DECISION,
+            &[0, 1, 2, 3, 4, 8, 12, 20, 21, 22, 23, 24],
+        ),
+        (2, &OLD_REQUEST, &[0, 1, 2, 3, 4, 8, 16, 17, 18]),
+        (2, &with_byte(&NACK, 0, 1), &[0, 1, 2, 3, 4, 8]),
+        (7, &with_byte(&BEAT, 0, 1), &[0, 1, 2, 3]),
+        (3, &with_byte(&SUSPECTS, 0, 1), &[0, 1, 2, 3, 4]),
+        (2, &with_byte(&ASK, 0, 1), &[0, 1, 2, 3, 4]),
+    ];
+    for (nodes, example, fields) in rows {
+        sweep(&rt, rt.alloc(), nodes, example, fields);
     }
-    let old = with_byte(&rt, rt.alloc(), ack_bytes(), 0, 1);
-    assert_refused(&rt, 2, &old, 1);
 }

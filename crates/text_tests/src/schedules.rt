@@ -5,6 +5,7 @@ use rr_types::{
 };
 use std::alloc::Global;
 use std::process::Abort;
+use std::test::Fail;
 
 /// Texts of schedules: runs of one and of three nodes, and each event in each of its forms.
 static SCHEDULES: [&str; 5] = [
@@ -225,14 +226,14 @@ fn command(op: Op) -> Command {
     }
 }
 
-fn push_sent(rt: &impl Abort, lines: &mut Vec<ReportLine>, body: Body) {
-    let from = NodeId::at(0).expect(rt, "node 0");
-    let to = NodeId::at(2).expect(rt, "node 2");
+fn push_sent(lines: &mut Vec<ReportLine>, body: Body) -> Result<(), Fail> {
+    let nodes = Nodes::new(3)?;
+    let from = NodeId::new(nodes, 0).ok_or("node 0")?;
+    let to = NodeId::new(nodes, 2).ok_or("node 2")?;
     let number = lines.len() as u64;
     let message = Message { from, to, body };
-    lines
-        .push(ReportLine::Send { number, message })
-        .expect(rt, "memory");
+    lines.push(ReportLine::Send { number, message })?;
+    Ok(())
 }
 
 fn push_replied(rt: &impl Abort, lines: &mut Vec<ReportLine>, reply: Reply) {
@@ -247,43 +248,34 @@ fn push_replied(rt: &impl Abort, lines: &mut Vec<ReportLine>, reply: Reply) {
         .expect(rt, "memory");
 }
 
-fn claim(rt: &impl Abort) -> Command {
-    let name = Name::new(b"a").expect(rt, "a name");
-    let value = Value::new(b"x").expect(rt, "a value");
-    command(Op::Claim(name, value))
-}
-
-/// The lines of messages with commands.
-fn push_commands(rt: &impl Abort, lines: &mut Vec<ReportLine>, instance: Instance, round: Round) {
-    let estimate = Estimate::new(round, 2, claim(rt)).expect(rt, "an estimate");
-    push_sent(rt, lines, Body::Estimate(instance, estimate));
-    push_sent(rt, lines, Body::Proposal(instance, round, claim(rt)));
-    push_sent(rt, lines, Body::Ack(instance, round));
-    let name = Name::new(b"a").expect(rt, "a name");
-    let transfer = command(Op::Transfer(name, 9));
-    push_sent(rt, lines, Body::Decision(instance, transfer));
-    push_sent(rt, lines, Body::Request(claim(rt)));
-}
-
-/// The lines of the other messages.
-fn push_others(rt: &impl Abort, lines: &mut Vec<ReportLine>, instance: Instance, round: Round) {
-    let nodes = Nodes::new(3).expect(rt, "nodes");
-    let set = NodeSet::from_bits(nodes, 6).expect(rt, "a set");
-    push_sent(rt, lines, Body::Nack(instance, round));
-    push_sent(rt, lines, Body::Beat);
-    push_sent(rt, lines, Body::Suspects(NodeSet::empty()));
-    push_sent(rt, lines, Body::Suspects(set));
-    push_sent(rt, lines, Body::Ask(instance));
+fn messages(alloc: Global) -> Result<Vec<ReportLine>, Fail> {
+    let nodes = Nodes::new(3)?;
+    let claim = command(Op::Claim(Name::new(b"a")?, Value::new(b"x")?));
+    let transfer = command(Op::Transfer(Name::new(b"a")?, 9));
+    let instance = Instance::new(5).ok_or("instance 5")?;
+    let round = Round::new(3).ok_or("round 3")?;
+    let mut lines = Vec::new(alloc);
+    let estimate = Estimate::new(round, 2, claim).ok_or("an estimate")?;
+    push_sent(&mut lines, Body::Estimate(instance, estimate))?;
+    push_sent(&mut lines, Body::Proposal(instance, round, claim))?;
+    push_sent(&mut lines, Body::Ack(instance, round))?;
+    push_sent(&mut lines, Body::Decision(instance, transfer))?;
+    push_sent(&mut lines, Body::Request(claim))?;
+    push_sent(&mut lines, Body::Nack(instance, round))?;
+    push_sent(&mut lines, Body::Beat)?;
+    push_sent(&mut lines, Body::Suspects(NodeSet::empty()))?;
+    push_sent(
+        &mut lines,
+        Body::Suspects(NodeSet::from_bits(nodes, 6).ok_or("a set")?),
+    )?;
+    push_sent(&mut lines, Body::Ask(instance))?;
+    Ok(lines)
 }
 
 #[test]
-fn messages_are_printed(rt: HostRuntime) {
-    let instance = Instance::new(5).expect(&rt, "instance 5");
-    let round = Round::new(3).expect(&rt, "round 3");
-    let mut lines = Vec::new(rt.alloc());
-    push_commands(&rt, &mut lines, instance, round);
-    push_others(&rt, &mut lines, instance, round);
-    let report = Report::new(lines, Vec::new(rt.alloc()));
+fn messages_are_printed(rt: HostRuntime) -> Result<(), Fail> {
+    let decided = Vec::new(rt.alloc());
+    let report = Report::new(messages(rt.alloc())?, decided);
     let text = "send 0 0 2 estimate 5 3 2 7.1 claim a x
 send 1 0 2 proposal 5 3 7.1 claim a x
 send 2 0 2 ack 5 3
@@ -296,75 +288,65 @@ send 8 0 2 suspects 12
 send 9 0 2 ask 5
 decided 0
 ";
-    let printed = report.text(rt.alloc()).expect(&rt, "memory");
-    assert_eq!(rt; printed.as_slice(), text.as_bytes());
+    assert_eq!(rt; report.text(rt.alloc())?.as_slice(), text.as_bytes());
+    Ok(())
 }
 
-/// The lines of every reply.
-fn push_replies(rt: &impl Abort, lines: &mut Vec<ReportLine>) {
-    push_replied(rt, lines, Reply::Claimed);
-    push_replied(rt, lines, Reply::Updated);
-    push_replied(rt, lines, Reply::Released);
-    push_replied(rt, lines, Reply::Transferred);
-    push_replied(rt, lines, Reply::Taken(9));
-    push_replied(rt, lines, Reply::Unknown);
-    push_replied(rt, lines, Reply::NotOwner);
-    push_replied(rt, lines, Reply::Full);
-}
-
-fn push_bound(rt: &impl Abort, bindings: &mut Vec<Binding>, name: &[u8], owner: u32, value: &[u8]) {
-    let name = Name::new(name).expect(rt, "a name");
-    let value = Value::new(value).expect(rt, "a value");
+#[test]
+fn replies_restarts_and_refusals_are_printed(rt: HostRuntime) {
+    let mut lines = Vec::new(rt.alloc());
+    push_replied(&rt, &mut lines, Reply::Claimed);
+    push_replied(&rt, &mut lines, Reply::Updated);
+    push_replied(&rt, &mut lines, Reply::Released);
+    push_replied(&rt, &mut lines, Reply::Transferred);
+    push_replied(&rt, &mut lines, Reply::Taken(9));
+    push_replied(&rt, &mut lines, Reply::Unknown);
+    push_replied(&rt, &mut lines, Reply::NotOwner);
+    push_replied(&rt, &mut lines, Reply::Full);
+    let mut bindings = Vec::new(rt.alloc());
+    let (name, other) = (
+        Name::new(b"a").expect(&rt, "memory"),
+        Name::new(b"b").expect(&rt, "memory"),
+    );
     bindings
-        .push(Binding { name, owner, value })
-        .expect(rt, "memory");
-}
-
-/// The line of a restart that finds two names.
-fn push_restart(rt: &impl Abort, alloc: Global, lines: &mut Vec<ReportLine>) {
-    let mut bindings = Vec::new(alloc);
-    push_bound(rt, &mut bindings, b"a", 7, b"x");
-    push_bound(rt, &mut bindings, b"b", 8, b"");
-    let node = NodeId::at(0).expect(rt, "node 0");
+        .push(Binding {
+            name,
+            owner: 7,
+            value: Value::new(b"x").expect(&rt, "memory"),
+        })
+        .expect(&rt, "memory");
+    bindings
+        .push(Binding {
+            name: other,
+            owner: 8,
+            value: Value::new(b"").expect(&rt, "memory"),
+        })
+        .expect(&rt, "memory");
+    let bindings = BoundNames::new(bindings);
+    let node = NodeId::at(0).expect(&rt, "node 0");
     lines
         .push(ReportLine::Restart {
             node,
             facts: 8,
             decided: 2,
-            bindings: BoundNames::new(bindings),
+            bindings,
         })
-        .expect(rt, "memory");
-}
-
-/// The line of a damaged area.
-fn push_refused(rt: &impl Abort, lines: &mut Vec<ReportLine>) {
+        .expect(&rt, "memory");
     let refusal = Refusal::Damaged {
         area: 0,
         offset: 155,
     };
     lines
         .push(ReportLine::Refuse { line: 5, refusal })
-        .expect(rt, "memory");
-}
-
-/// Two commands that are decided.
-fn decided(rt: &impl Abort, alloc: Global) -> Vec<Command> {
-    let mut decided = Vec::new(alloc);
-    decided.push(claim(rt)).expect(rt, "memory");
-    let other = Name::new(b"b").expect(rt, "a name");
+        .expect(&rt, "memory");
+    let mut decided = Vec::new(rt.alloc());
+    decided
+        .push(command(Op::Claim(name, Value::new(b"x").expect(&rt, "memory"))))
+        .expect(&rt, "memory");
     decided
         .push(command(Op::Release(other)))
-        .expect(rt, "memory");
-    decided
-}
-
-#[test]
-fn replies_restarts_and_refusals_are_printed(rt: HostRuntime) {
-    let mut lines = Vec::new(rt.alloc());
-    push_replies(&rt, &mut lines);
-    push_restart(&rt, rt.alloc(), &mut lines);
-    push_refused(&rt, &mut lines);
-    let report = Report::new(lines, decided(&rt, rt.alloc()));
+        .expect(&rt, "memory");
+    let report = Report::new(lines, decided);
     let text = "ack 1 7.1 claimed
 ack 1 7.1 updated
 ack 1 7.1 released

@@ -4,7 +4,7 @@ use std::alloc::Global;
 use std::process::Abort;
 
 /// Texts of scripts for seven nodes: each line in each of its forms, and the ends of their ranges.
-static SCRIPTS: [&str; 4] = [
+const SCRIPTS: [&str; 4] = [
     "",
     "submit 0 7 1 claim a x\nlook 0 a\nsubmit 0 8 1 claim a z\nlook 0 b\n",
     "submit 6 4294967295 18446744073709551615 update name-09\nsubmit 5 0 0 release a\nsubmit 4 7 2 transfer a 4294967295\n",
@@ -12,7 +12,7 @@ static SCRIPTS: [&str; 4] = [
 ];
 
 /// Bytes that are no script for two nodes, and the line at fault, from 1.
-static FAULTS: [(&str, u64); 28] = [
+const FAULTS: [(&str, u64); 28] = [
     ("\n", 1),
     ("look 0 a", 1),
     ("look 0 a\nlook 0 b", 2),
@@ -52,16 +52,6 @@ static FAULTS: [(&str, u64); 28] = [
 /// The answers to the script of one node, and to lines that got none.
 const ANSWERS: &str =
     "ack 0 7.1 claimed\nlook 0 a 7:x\nack 0 8.1 taken 7\nlook 0 b free\nnone 6 4294967295.18446744073709551615\nlook 6 a 9:\nlook 6 a none\n";
-
-/// The texts of scripts. (A test that names a table itself is proved over each of its rows.)
-fn scripts() -> &'static [&'static str] {
-    &SCRIPTS
-}
-
-/// The faults.
-fn faults() -> &'static [(&'static str, u64)] {
-    &FAULTS
-}
 
 fn nodes_of(rt: &impl Abort, count: u8) -> Nodes {
     Nodes::new(count).expect(rt, "1 to 7")
@@ -121,7 +111,7 @@ fn answers_of(rt: &impl Abort, alloc: Global) -> Vec<Answer> {
 #[test]
 fn scripts_are_printed_as_they_were_read(rt: HostRuntime) {
     let nodes = nodes_of(&rt, 7);
-    for text in scripts() {
+    for text in SCRIPTS {
         let script = Script::parse(rt.alloc(), nodes, text.as_bytes()).expect(&rt, "a text");
         let printed = script.text(rt.alloc()).expect(&rt, "memory");
         assert!(rt; printed.as_slice() == text.as_bytes(), "{text}");
@@ -132,9 +122,9 @@ fn scripts_are_printed_as_they_were_read(rt: HostRuntime) {
 #[test]
 fn faulty_lines_of_scripts_are_told(rt: HostRuntime) {
     let nodes = nodes_of(&rt, 2);
-    for (text, line) in faults() {
+    for (text, line) in FAULTS {
         let refused = Script::parse(rt.alloc(), nodes, text.as_bytes()).err();
-        assert_eq!(rt; refused, Some(Refusal::BadEvent(*line)), "{text}");
+        assert_eq!(rt; refused, Some(Refusal::BadEvent(line)), "{text}");
     }
 }
 

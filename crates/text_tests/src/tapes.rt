@@ -7,7 +7,7 @@ use std::alloc::Global;
 use std::process::Abort;
 
 /// Texts of tapes: each event, each message and each reply in each of its forms, and the ends of their ranges.
-static TAPES: [&str; 4] = [
+const TAPES: [&str; 4] = [
     "nodes 3\n",
     "nodes 7\nsubmit 6 4294967295 18446744073709551615 claim name-09\nsubmit 0 7 2 transfer a 9\nhear 5 4294967295\nsuspect 4 -\nsuspect 4 0123456\ntick 0\nadvance 1\ntake 2\nmark 3\n",
     "nodes 7\nsend 0 0 6 estimate 1048575 2147483647 2147483646 7.1 claim a x\nsend 4294967295 1 2 proposal 0 1 7.1 update a\nsend 2 0 0 ack 0 1\nsend 3 0 1 decision 5 7.1 transfer a 9\nsend 4 0 1 request 4294967295.18446744073709551615 release a\nsend 5 0 1 nack 5 3\nsend 6 0 1 beat\nsend 7 0 1 suspects -\nsend 8 0 1 suspects 12\nsend 9 0 1 ask 1048575\n",
@@ -15,7 +15,7 @@ static TAPES: [&str; 4] = [
 ];
 
 /// Bytes that are no tape, and what they are refused with.
-static FAULTS: [(&str, Refusal); 16] = [
+const FAULTS: [(&str, Refusal); 16] = [
     ("", Refusal::BadEvent(1)),
     ("nodes 1", Refusal::BadEvent(1)),
     ("nodes 0\n", Refusal::BadNodes),
@@ -38,7 +38,7 @@ static FAULTS: [(&str, Refusal); 16] = [
 ];
 
 /// Lines that have no place on a tape of three nodes.
-static FAULTY_LINES: [&str; 48] = [
+const FAULTY_LINES: [&str; 48] = [
     "restart 0",
     "dev 0",
     "fail 0 -",
@@ -89,26 +89,6 @@ static FAULTY_LINES: [&str; 48] = [
     "ack 0 7.1.1 claimed",
 ];
 
-/// The texts of tapes. (A test that names a table itself is proved over each of its rows.)
-fn tapes() -> &'static [&'static str] {
-    &TAPES
-}
-
-/// The tapes of runs.
-fn tapes_of_runs() -> &'static [(&'static str, &'static str)] {
-    &ROWS
-}
-
-/// The faults.
-fn faults() -> &'static [(&'static str, Refusal)] {
-    &FAULTS
-}
-
-/// The faulty lines.
-fn faulty_lines() -> &'static [&'static str] {
-    &FAULTY_LINES
-}
-
 /// Whether bytes are refused, or printed as they were read.
 fn is_refused_or_printed(rt: &impl Abort, alloc: Global, bytes: &[u8]) -> bool {
     match Tape::parse(alloc, bytes) {
@@ -128,7 +108,7 @@ fn with_byte(rt: &impl Abort, alloc: Global, text: &[u8], at: usize, byte: u8) -
 
 #[test]
 fn tapes_are_printed_as_they_were_read(rt: HostRuntime) {
-    for text in tapes() {
+    for text in TAPES {
         let tape = Tape::parse(rt.alloc(), text.as_bytes()).expect(&rt, "a text");
         let printed = tape.text(rt.alloc()).expect(&rt, "memory");
         assert!(rt; printed.as_slice() == text.as_bytes(), "{text}");
@@ -137,7 +117,7 @@ fn tapes_are_printed_as_they_were_read(rt: HostRuntime) {
 
 #[test]
 fn rows_are_printed_as_they_were_read(rt: HostRuntime) {
-    for (name, text) in tapes_of_runs() {
+    for (name, text) in &ROWS {
         let tape = Tape::parse(rt.alloc(), text.as_bytes()).expect(&rt, "a text");
         let printed = tape.text(rt.alloc()).expect(&rt, "memory");
         assert!(rt; printed.as_slice() == text.as_bytes(), "{name}");
@@ -146,15 +126,15 @@ fn rows_are_printed_as_they_were_read(rt: HostRuntime) {
 
 #[test]
 fn faults_are_told(rt: HostRuntime) {
-    for (text, refusal) in faults() {
+    for (text, refusal) in FAULTS {
         let refused = Tape::parse(rt.alloc(), text.as_bytes()).err();
-        assert_eq!(rt; refused, Some(*refusal), "{text}");
+        assert_eq!(rt; refused, Some(refusal), "{text}");
     }
 }
 
 #[test]
 fn faulty_lines_are_told(rt: HostRuntime) {
-    for line in faulty_lines() {
+    for line in FAULTY_LINES {
         let mut text = b"nodes 3\ntick 0\n"
             .to_vec(rt.alloc())
             .expect(&rt, "memory");
@@ -168,7 +148,7 @@ fn faulty_lines_are_told(rt: HostRuntime) {
 
 #[test]
 fn no_other_byte_is_taken_for_it(rt: HostRuntime) {
-    for text in tapes() {
+    for text in TAPES {
         let text = text.as_bytes();
         for at in 0..text.len() {
             for byte in 0..=255u8 {
@@ -184,7 +164,7 @@ fn no_other_byte_is_taken_for_it(rt: HostRuntime) {
 
 #[test]
 fn a_text_that_is_cut_is_refused_or_printed(rt: HostRuntime) {
-    for text in tapes() {
+    for text in TAPES {
         let text = text.as_bytes();
         for end in 0..text.len() {
             assert!(rt;
