@@ -17,39 +17,39 @@ pub(crate) enum Form {
 }
 
 /// Instance 258 enters round 3 with `7.1 claim a x`, adopted in round 2.
-static ENTER: [u8; 30] = [
+const ENTER: [u8; 30] = [
     1, 0, 0, 1, 2, 0, 0, 0, 3, 0, 0, 0, 2, 0, 0, 0, 7, 0, 0, 0, 0, 0, 0, 0, 1, 1, 1, 97, 1, 120,
 ];
 
 /// Where its fields begin.
-static ENTER_FIELDS: [usize; 11] = [0, 1, 5, 9, 13, 17, 25, 26, 27, 28, 29];
+const ENTER_FIELDS: [usize; 11] = [0, 1, 5, 9, 13, 17, 25, 26, 27, 28, 29];
 
 /// In the last round of the last instance `7.2 update a-9` is proposed; its value is empty.
-static PROPOSE: [u8; 27] = [
+const PROPOSE: [u8; 27] = [
     2, 0, 15, 255, 255, 127, 255, 255, 255, 0, 0, 0, 7, 0, 0, 0, 0, 0, 0, 0, 2, 2, 3, 97, 45, 57, 0,
 ];
 
 /// Where its fields begin.
-static PROPOSE_FIELDS: [usize; 9] = [0, 1, 5, 9, 13, 21, 22, 23, 26];
+const PROPOSE_FIELDS: [usize; 9] = [0, 1, 5, 9, 13, 21, 22, 23, 26];
 
 /// In round 1 of instance 0 `7.3 release a` is adopted.
-static ADOPT: [u8; 24] = [
+const ADOPT: [u8; 24] = [
     3, 0, 0, 0, 0, 0, 0, 0, 1, 0, 0, 0, 7, 0, 0, 0, 0, 0, 0, 0, 3, 3, 1, 97,
 ];
 
 /// Where its fields begin.
-static ADOPT_FIELDS: [usize; 8] = [0, 1, 5, 9, 13, 21, 22, 23];
+const ADOPT_FIELDS: [usize; 8] = [0, 1, 5, 9, 13, 21, 22, 23];
 
 /// Instance 0 decides `7.2 transfer a 9`.
-static DECIDE: [u8; 24] = [
+const DECIDE: [u8; 24] = [
     4, 0, 0, 0, 0, 0, 0, 0, 7, 0, 0, 0, 0, 0, 0, 0, 2, 4, 1, 97, 0, 0, 0, 9,
 ];
 
 /// Where its fields begin.
-static DECIDE_FIELDS: [usize; 8] = [0, 1, 5, 9, 17, 18, 19, 20];
+const DECIDE_FIELDS: [usize; 8] = [0, 1, 5, 9, 17, 18, 19, 20];
 
 /// A group of these four facts; the first has number 3.
-static GROUP: [u8; 115] = [
+const GROUP: [u8; 115] = [
     0, 0, 0, 0, 0, 0, 0, 3, 0, 4, 1, 0, 0, 1, 2, 0, 0, 0, 3, 0, 0, 0, 2, 0, 0, 0, 7, 0, 0, 0, 0, 0,
     0, 0, 1, 1, 1, 97, 1, 120, 2, 0, 15, 255, 255, 127, 255, 255, 255, 0, 0, 0, 7, 0, 0, 0, 0, 0,
     0, 0, 2, 2, 3, 97, 45, 57, 0, 3, 0, 0, 0, 0, 0, 0, 0, 1, 0, 0, 0, 7, 0, 0, 0, 0, 0, 0, 0, 3, 3,
@@ -57,18 +57,18 @@ static GROUP: [u8; 115] = [
 ];
 
 /// Where its fields begin.
-static GROUP_FIELDS: [usize; 38] = [
+const GROUP_FIELDS: [usize; 38] = [
     0, 8, 10, 11, 15, 19, 23, 27, 35, 36, 37, 38, 39, 40, 41, 45, 49, 53, 61, 62, 63, 66, 67, 68,
     72, 76, 80, 88, 89, 90, 91, 92, 96, 100, 108, 109, 110, 111,
 ];
 
 /// In version 1, in the last round of the last instance `7.2 update a-9` is proposed.
-static OLD_PROPOSE: [u8; 27] = [
+const OLD_PROPOSE: [u8; 27] = [
     2, 0, 0, 255, 255, 127, 255, 255, 255, 0, 0, 0, 7, 0, 0, 0, 0, 0, 0, 0, 2, 2, 3, 97, 45, 57, 0,
 ];
 
 /// A group of version 1, of the facts `ENTER`, `OLD_PROPOSE` and `ADOPT`. Its fields begin where those of `GROUP` do.
-static OLD_GROUP: [u8; 91] = [
+const OLD_GROUP: [u8; 91] = [
     0, 0, 0, 0, 0, 0, 0, 3, 0, 3, 1, 0, 0, 1, 2, 0, 0, 0, 3, 0, 0, 0, 2, 0, 0, 0, 7, 0, 0, 0, 0, 0,
     0, 0, 1, 1, 1, 97, 1, 120, 2, 0, 0, 255, 255, 127, 255, 255, 255, 0, 0, 0, 7, 0, 0, 0, 0, 0, 0,
     0, 2, 2, 3, 97, 45, 57, 0, 3, 0, 0, 0, 0, 0, 0, 0, 1, 0, 0, 0, 7, 0, 0, 0, 0, 0, 0, 0, 3, 3, 1,
@@ -78,7 +78,7 @@ static OLD_GROUP: [u8; 91] = [
 /// In version 1, the snapshot of node 1 of 3 with epoch 5 behind nine facts. Instance 0 has decided `7.1 claim a x`.
 /// Instance 2 is in round 4, in which that was adopted and the node proposed `7.3 release a`. The last instance is in
 /// its last round with `7.2 update a-9`, never adopted, and no proposal.
-static OLD_SNAPSHOT: [u8; 123] = [
+const OLD_SNAPSHOT: [u8; 123] = [
     1, 1, 3, 0, 0, 0, 0, 0, 0, 0, 5, 0, 0, 0, 0, 0, 0, 0, 9, 0, 0, 0, 3, 0, 0, 0, 0, 1, 0, 0, 0, 7,
     0, 0, 0, 0, 0, 0, 0, 1, 1, 1, 97, 1, 120, 0, 0, 0, 2, 2, 0, 0, 0, 4, 0, 0, 0, 4, 0, 0, 0, 7, 0,
     0, 0, 0, 0, 0, 0, 1, 1, 1, 97, 1, 120, 1, 0, 0, 0, 7, 0, 0, 0, 0, 0, 0, 0, 3, 3, 1, 97, 0, 0,
@@ -87,7 +87,7 @@ static OLD_SNAPSHOT: [u8; 123] = [
 ];
 
 /// Where its fields begin.
-static OLD_SNAPSHOT_FIELDS: [usize; 43] = [
+const OLD_SNAPSHOT_FIELDS: [usize; 43] = [
     0, 1, 2, 3, 11, 19, 23, 27, 28, 32, 40, 41, 42, 43, 44, 45, 49, 50, 54, 58, 62, 70, 71, 72, 73,
     74, 75, 76, 80, 88, 89, 90, 91, 95, 96, 100, 104, 108, 116, 117, 118, 121, 122,
 ];
@@ -96,7 +96,7 @@ static OLD_SNAPSHOT_FIELDS: [usize; 43] = [
 /// `7.1 claim a x`. Instance 2 is in round 4, in which `7.2 transfer a 9` was adopted and the node
 /// proposed `7.3 release a`. The last instance is in its last round with `7.2 update a-9`, never
 /// adopted, and no proposal.
-static SNAPSHOT: [u8; 125] = [
+const SNAPSHOT: [u8; 125] = [
     2, 1, 3, 0, 0, 0, 0, 0, 0, 0, 5, 0, 0, 0, 0, 0, 0, 0, 9, 0, 0, 0, 3, 0, 0, 0, 0, 1, 0, 0, 0, 7,
     0, 0, 0, 0, 0, 0, 0, 1, 1, 1, 97, 1, 120, 0, 0, 0, 2, 2, 0, 0, 0, 4, 0, 0, 0, 4, 0, 0, 0, 7, 0,
     0, 0, 0, 0, 0, 0, 2, 4, 1, 97, 0, 0, 0, 9, 1, 0, 0, 0, 7, 0, 0, 0, 0, 0, 0, 0, 3, 3, 1, 97, 0,
@@ -105,52 +105,10 @@ static SNAPSHOT: [u8; 125] = [
 ];
 
 /// Where its fields begin.
-static SNAPSHOT_FIELDS: [usize; 42] = [
+const SNAPSHOT_FIELDS: [usize; 42] = [
     0, 1, 2, 3, 11, 19, 23, 27, 28, 32, 40, 41, 42, 43, 44, 45, 49, 50, 54, 58, 62, 70, 71, 72, 73,
     77, 78, 82, 90, 91, 92, 93, 97, 98, 102, 106, 110, 118, 119, 120, 123, 124,
 ];
-
-/// An example, and where its fields begin.
-type Example = (&'static [u8], &'static [usize]);
-
-/// The facts, in version 2. (A test that names a table itself is proved over each of its bytes.)
-fn facts() -> [Example; 4] {
-    [
-        (&ENTER, &ENTER_FIELDS),
-        (&PROPOSE, &PROPOSE_FIELDS),
-        (&ADOPT, &ADOPT_FIELDS),
-        (&DECIDE, &DECIDE_FIELDS),
-    ]
-}
-
-/// The facts, in version 1.
-fn old_facts() -> [Example; 3] {
-    [
-        (&ENTER, &ENTER_FIELDS),
-        (&OLD_PROPOSE, &PROPOSE_FIELDS),
-        (&ADOPT, &ADOPT_FIELDS),
-    ]
-}
-
-/// The group.
-fn group() -> Example {
-    (&GROUP, &GROUP_FIELDS)
-}
-
-/// The group, in version 1.
-fn old_group() -> Example {
-    (&OLD_GROUP, &GROUP_FIELDS)
-}
-
-/// The snapshot.
-fn snapshot() -> Example {
-    (&SNAPSHOT, &SNAPSHOT_FIELDS)
-}
-
-/// The snapshot, in version 1.
-fn old_snapshot() -> Example {
-    (&OLD_SNAPSHOT, &OLD_SNAPSHOT_FIELDS)
-}
 
 /// Reads bytes, and writes what was read; a snapshot with the first byte of its version.
 pub(crate) fn rewritten(alloc: Global, form: Form, bytes: &[u8]) -> Result<Vec<u8>, Refusal> {
@@ -206,28 +164,21 @@ fn put_at(bytes: &mut [u8], place: usize, byte: u8) {
     }
 }
 
-/// Bytes with another one at this place, of each value, are exact.
-fn assert_exact_at(
+/// The example is exact, also with each byte at each value; cut, it is refused at the cut field.
+fn sweep(
     rt: &impl Abort,
     alloc: Global,
     form: Form,
-    bytes: &mut Vec<u8>,
-    place: usize,
+    example: &[u8],
+    fields: &[usize],
 ) -> Result<(), Refusal> {
-    for byte in 0..=255 {
-        put_at(bytes.as_mut_slice(), place, byte);
-        assert_exact(rt, alloc, form, bytes.as_slice())?;
-    }
-    Ok(())
-}
-
-/// The example is exact, also with each byte at each value; cut, it is refused at the cut field.
-fn sweep(rt: &impl Abort, alloc: Global, form: Form, example: Example) -> Result<(), Refusal> {
-    let (example, fields) = example;
     let mut bytes = example.to_vec(alloc)?;
     for (place, kept) in example.iter().enumerate() {
         assert_refused(rt, alloc, form, &example[..place], field_of(fields, place));
-        assert_exact_at(rt, alloc, form, &mut bytes, place)?;
+        for byte in 0..=255 {
+            put_at(&mut bytes, place, byte);
+            assert_exact(rt, alloc, form, &bytes)?;
+        }
         put_at(&mut bytes, place, *kept);
     }
     assert_eq!(rt; rewritten(alloc, form, example)?.as_slice(), example);
@@ -238,34 +189,48 @@ fn sweep(rt: &impl Abort, alloc: Global, form: Form, example: Example) -> Result
 
 #[test]
 fn each_byte_and_each_cut_of_facts(rt: HostRuntime) {
-    for example in facts() {
-        sweep(&rt, rt.alloc(), Form::Fact(Version::Two), example).expect(&rt, "memory");
+    let rows: [(&[u8], &[usize]); 4] = [
+        (&ENTER, &ENTER_FIELDS),
+        (&PROPOSE, &PROPOSE_FIELDS),
+        (&ADOPT, &ADOPT_FIELDS),
+        (&DECIDE, &DECIDE_FIELDS),
+    ];
+    for (example, fields) in rows {
+        sweep(&rt, rt.alloc(), Form::Fact(Version::Two), example, fields).expect(&rt, "memory");
     }
 }
 
 #[test]
 fn each_byte_and_each_cut_of_a_group(rt: HostRuntime) {
-    sweep(&rt, rt.alloc(), Form::Group(Version::Two), group()).expect(&rt, "memory");
+    let form = Form::Group(Version::Two);
+    sweep(&rt, rt.alloc(), form, &GROUP, &GROUP_FIELDS).expect(&rt, "memory");
 }
 
 #[test]
 fn each_byte_and_each_cut_of_a_snapshot(rt: HostRuntime) {
-    sweep(&rt, rt.alloc(), Form::Snapshot, snapshot()).expect(&rt, "memory");
+    sweep(&rt, rt.alloc(), Form::Snapshot, &SNAPSHOT, &SNAPSHOT_FIELDS).expect(&rt, "memory");
 }
 
 #[test]
 fn each_byte_and_each_cut_of_facts_of_version_1(rt: HostRuntime) {
-    for example in old_facts() {
-        sweep(&rt, rt.alloc(), Form::Fact(Version::One), example).expect(&rt, "memory");
+    let rows: [(&[u8], &[usize]); 3] = [
+        (&ENTER, &ENTER_FIELDS),
+        (&OLD_PROPOSE, &PROPOSE_FIELDS),
+        (&ADOPT, &ADOPT_FIELDS),
+    ];
+    for (example, fields) in rows {
+        sweep(&rt, rt.alloc(), Form::Fact(Version::One), example, fields).expect(&rt, "memory");
     }
 }
 
 #[test]
 fn each_byte_and_each_cut_of_a_group_of_version_1(rt: HostRuntime) {
-    sweep(&rt, rt.alloc(), Form::Group(Version::One), old_group()).expect(&rt, "memory");
+    let form = Form::Group(Version::One);
+    sweep(&rt, rt.alloc(), form, &OLD_GROUP, &GROUP_FIELDS).expect(&rt, "memory");
 }
 
 #[test]
 fn each_byte_and_each_cut_of_a_snapshot_of_version_1(rt: HostRuntime) {
-    sweep(&rt, rt.alloc(), Form::Snapshot, old_snapshot()).expect(&rt, "memory");
+    let fields = &OLD_SNAPSHOT_FIELDS;
+    sweep(&rt, rt.alloc(), Form::Snapshot, &OLD_SNAPSHOT, fields).expect(&rt, "memory");
 }
