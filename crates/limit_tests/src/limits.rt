@@ -51,13 +51,13 @@ fn assert_refused(
     refusal: Refusal,
 ) {
     let _parts: Option<(Message, Op)> = None;
-    assert!(rt; node.step(alloc, event).err() == Some(refusal));
+    assert!(rt; node.step(alloc, &event).err() == Some(refusal));
 }
 
 /// The event is taken, and nothing comes of it.
 fn assert_quiet(rt: &impl Abort, alloc: Global, node: &mut Node, event: NodeEvent) {
     let _parts: Option<(Message, Op)> = None;
-    assert!(rt; matches!(node.step(alloc, event), Ok(Outcome::Quiet)));
+    assert!(rt; matches!(node.step(alloc, &event), Ok(Outcome::Quiet)));
 }
 
 #[test]
@@ -72,7 +72,7 @@ fn the_last_round_isnt_left(rt: HostRuntime) {
         Refusal::RoundsOut,
     );
     // The node is as it was: it still owes the estimate of that round.
-    let left = node.step(alloc, NodeEvent::Send);
+    let left = node.step(alloc, &NodeEvent::Send);
     assert!(rt; matches!(left, Ok(Outcome::Left(_))));
 }
 
@@ -138,7 +138,7 @@ fn no_name_is_bound_behind_the_last(rt: HostRuntime) {
     let mut node = opened(&rt, alloc, &crowded(&rt, alloc), 4097, 4097);
     let last = claim(4096, b"b").expect(&rt, "memory");
     assert_quiet(&rt, alloc, &mut node, NodeEvent::Submit(last));
-    match node.step(alloc, NodeEvent::Acknowledge) {
+    match node.step(alloc, &NodeEvent::Acknowledge) {
         Ok(Outcome::Replied(request, reply)) => {
             assert_eq!(rt; request.seq, 4096);
             assert_eq!(rt; reply, Reply::Full);

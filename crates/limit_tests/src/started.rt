@@ -29,9 +29,9 @@ pub fn node_over(alloc: Global, area: &[u8]) -> Result<Node, Refusal> {
 /// Starts the node, and answers what its opening answers.
 pub fn open(alloc: Global, node: &mut Node) -> Result<Outcome, Refusal> {
     let _parts: Option<(Message, Op)> = None;
-    let mut outcome = node.step(alloc, NodeEvent::Restart)?;
+    let mut outcome = node.step(alloc, &NodeEvent::Restart)?;
     for _ in 0..CALLS {
-        outcome = node.step(alloc, NodeEvent::Device)?;
+        outcome = node.step(alloc, &NodeEvent::Device)?;
     }
     Ok(outcome)
 }

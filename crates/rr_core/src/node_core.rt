@@ -30,7 +30,7 @@ use std::marker::Model;
 #[derive(Drop)]
 pub struct Core {
     alloc: Global,
-    state: State,
+    state: Box<State>,
     registry: Registry,
     searched: Searched,
 }
@@ -43,9 +43,9 @@ impl Model for Core {
 
     ghost Value = { NodeState };
 
-    ghost view = { λ c. c.state };
+    ghost view = { λ c. c.state.value };
 
-    ghost invariant = { λ c. IsKept c.state c.registry × IsSearched c.searched.count c.searched.is_stale c.state };
+    ghost invariant = { λ c. IsKept c.state.value c.registry × IsSearched c.searched.count c.searched.is_stale c.state.value };
 }
 
 impl Core {
@@ -65,7 +65,7 @@ impl Core {
         match registry_of_prefix(&state, alloc) {
             Ok(registry) => Ok(Core {
                 alloc,
-                state,
+                state: Box::new(alloc, state)?,
                 registry,
                 searched: Searched {
                     count: 0,

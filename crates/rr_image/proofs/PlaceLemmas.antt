@@ -1,7 +1,8 @@
 -- Entries at their places.
 use Rattle.std.proofs.Common.{◌≡◌, ℕ, zero, suc, ◌+◌, ◌<◌, ◌≤◌, inl, inr, true, false, eqb, ltb, List, [], ◌∷◌, ◌++◌, length, get_or, take, drop, None, Some, refl, sym, ap, subst, arith}
-use Rattle.std.specs.Prelude.{slice_set}
-use Rattle.std.proofs.lemmas.Bool.{cases_lt, cases_eq, ne_eqb, eq-eqb, eqb-true, eqb-false, lt-ltb, le-ltb}
+use Rattle.std.specs.Prelude.{slice_set, nat_lt}
+use Rattle.std.specs.List.Sorted.{IsPartitionedBy, IsPartitionPoint}
+use Rattle.std.proofs.lemmas.Bool.{cases_lt, cases_eq, ltb-true, ltb-false, ne_eqb, eq-eqb, eqb-true, eqb-false, lt-ltb, le-ltb}
 use Rattle.rr_types.specs.declared.promise.Entry.{Entry}
 use Rattle.rr_types.specs.declared.promise.Standing.{Standing}
 use Rattle.rr_types.specs.Promises.{AscendsFrom, standing_in, set_entry}
@@ -34,6 +35,32 @@ one_more i (suc k) (e ∷ es) d lt le = one_more i k es d (omega arith) le
 pub at_end_is_place : (i : ℕ) (es : List Entry) → IsPlaceOf i 0 (drop (length es) es)
 at_end_is_place i [] = tt
 at_end_is_place i (e ∷ es) = at_end_is_place i es
+
+-- the entries rise
+rises : (low j k : ℕ) (es : List Entry) (d : Entry) → AscendsFrom low es → j ≤ k → k < length es → (get_or es j d).instance ≤ (get_or es k d).instance
+rises low j k [] d up le lt = absurd (omega arith)
+rises low zero zero (e ∷ es) d up le lt = omega arith
+rises low zero (suc k) (e ∷ es) d up le lt = let rest = later_above (e.instance + 1) k es d up.1 (omega arith) in omega arith
+rises low (suc j) zero (e ∷ es) d up le lt = absurd (omega arith)
+rises low (suc j) (suc k) (e ∷ es) d up le lt = rises (e.instance + 1) j k es d up.1 (omega arith) (omega arith)
+
+-- those below an instance stand before the others
+pub lie_before : (i : ℕ) (es : List Entry) → AscendsFrom 0 es → IsPartitionedBy (λ (e : Entry). nat_lt e.instance i) es
+lie_before i es up j k d le lt h =
+    let up_to : (get_or es j d).instance ≤ (get_or es k d).instance = rises 0 j k es d up le lt in
+    let low : (get_or es k d).instance < i = ltb-true (get_or es k d).instance i h in
+    lt-ltb (get_or es j d).instance i (omega (arith, up_to, low))
+
+-- where these end, the instance has its place
+pub place_at : (i k : ℕ) (es : List Entry) → AscendsFrom 0 es → k ≤ length es → IsPartitionPoint (λ (e : Entry). nat_lt e.instance i ≡ true) (λ (e : Entry). nat_lt e.instance i ≡ false) es k → IsPlaceOf i k es
+place_at i k [] up le at = let z : k ≡ 0 = omega (arith, le) in rw z tt
+place_at i k (e ∷ es) up le at =
+    place_from i k 0 (e ∷ es) e up le
+    (λ j s. ltb-true (get_or (e ∷ es) j e).instance i (at.0 j e (omega arith) (omega (arith, s))))
+    (elim (cases_lt k (length (e ∷ es))) [
+      | inl lt ↦ one_more i k (e ∷ es) e lt (ltb-false (get_or (e ∷ es) k e).instance i (at.1 k e (omega arith) lt))
+      | inr ge ↦ let end : length (e ∷ es) ≡ k = omega (arith, le, ge) in subst (λ (n : ℕ). IsPlaceOf i 0 (drop n (e ∷ es))) end (at_end_is_place i (e ∷ es))
+    ])
 
 none_below : (i low : ℕ) (es : List Entry) → AscendsFrom low es → i < low → standing_in es i ≡ None
 none_below i low [] up lt = refl

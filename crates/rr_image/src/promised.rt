@@ -13,20 +13,17 @@ use rr_types::{
 };
 use std::alloc::AllocError;
 
-/// The place of an instance: as many entries lie below it.
+/// The place of an instance: as many entries lie below it. It takes the logarithm of how many there are.
 fn place_of(entries: &[Entry], instance: Instance) -> usize
     requires { IsAscending entries.now }
     ensures place { IsPlaceOf instance result entries.now }
     ensures within { result ≤ length entries.now }
 {
-    let mut place = entries.len();
-    while place > 0 {
-        if entries[place - 1].instance.number() < instance.number() {
-            return place;
-        }
-        place -= 1;
-    }
-    place
+    entries.partition_point(
+        |entry: &Entry| -> bool
+            ensures { result ≡ nat_lt entry.now.instance instance }
+        { entry.instance.number() < instance.number() },
+    )
 }
 
 /// Whether the entry at this place is the instance's.

@@ -144,7 +144,7 @@ impl Row {
     pub fn decided_command(&self) -> Option<Command>
         ensures { result ≡ decided_command self.now }
     {
-        decision_in(self.standing)
+        decision_in(&self.standing)
     }
 
     /// A fact with this number is about the instance, which then stands so. It needs no memory.

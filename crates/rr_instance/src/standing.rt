@@ -39,11 +39,11 @@ pub fn proposal_in(standing: Standing) -> Option<Command>
 }
 
 /// The command that it has decided.
-pub fn decision_in(standing: Standing) -> Option<Command>
-    ensures { result ≡ decision_of (Some standing) }
+pub fn decision_in(standing: &Standing) -> Option<Command>
+    ensures { result ≡ decision_of (Some standing.now) }
 {
     match standing {
-        Standing::Decided(command) => Some(command),
+        Standing::Decided(command) => Some(*command),
         Standing::Open(_) => None,
     }
 }

@@ -75,6 +75,10 @@ placed_over rows changes before after h stay a i f =
     (λ t. let x = place_of after changes i a t in absurd (let y : true ≡ false = sym x ∙ f in cc))
     (λ t. row_stays rows changes i t ∙ h i (by_bool (has_mark_place before i) (λ p. let x = stay i p in absurd (let y : true ≡ false = sym x ∙ f in cc)) (λ p. p)))
 
+-- the places of rows that come to none
+pub placed_all : (changes : List Row) (marks : Marks) → All (λ r. IsTrue (has_mark_place marks r.instance)) changes → ArePlaced (put_rows [] changes) marks
+placed_all changes marks made = placed_over [] changes marks marks (λ i f. refl) (λ i p. p) made
+
 -- with no rows nothing was decided
 pub nothing_kept : (rows : List Row) → KeepsDecisions [] rows
 nothing_kept rows i v d = absurd (none-some v d)

@@ -343,7 +343,6 @@ pub ascend_all : (es : List Entry) (facts : List Fact) → AscendsFrom 0 es → 
 ascend_all es [] h = h
 ascend_all es (f ∷ fs) h = ascend_all (take_on es f) fs (take_by es f (after_fact (standing_in es (instance_of f)) f) refl h)
 
-pub none_of_some : {A : Type 0} (o : Option A) (b : Bool) → is_some o ≡ not b → b ≡ true → o ≡ None
-none_of_some None b h t = refl
-none_of_some (Some x) true h t = cc
-none_of_some (Some x) false h t = cc
+pub undecided_none : {A : Type 0} (o : Option A) (b : Bool) → b ≡ is_some o → b ≡ false → o ≡ None
+undecided_none None b h t = refl
+undecided_none (Some x) b h t = cc

@@ -6,7 +6,7 @@ use Rattle.std.specs.BTreeMap.{is_at}
 use Rattle.std.specs.Map.{lookup}
 use Rattle.std.proofs.lemmas.Bool.{ne_eqb, lt-ltb, ltb-true, ltb-false, eqb-false}
 use Rattle.std.proofs.lemmas.List.{take_more}
-use Rattle.std.proofs.lemmas.List.Elements.{All-head, All-tail, All-push, All-weaker}
+use Rattle.std.proofs.lemmas.List.Elements.{All-head, All-tail, All-push, All-weaker, All-cons}
 use Rattle.std.proofs.lemmas.Option.{none-some, same_Some}
 use Rattle.rr_types.specs.declared.command.RequestNo.{RequestNo}
 use Rattle.rr_types.specs.declared.command.Command.{Command}
@@ -268,6 +268,10 @@ below_puts named rows (c ∷ cs) h a =
 
 pub instances_puts : (rows changes : List Row) → AreInstances rows → All (λ r. r.instance < 1048576) changes → AreInstances (put_rows rows changes)
 instances_puts rows changes h a = below_puts 1048576 rows changes h a
+
+-- what holds of one row holds of a list of it
+pub all_one : (P : Row → Type 0) (row : Row) → P row → All P (row ∷ [])
+all_one P row h = All-cons P row [] h (λ k d l. absurd (omega (arith, l)))
 
 -- the table after rows were put and what their instances have decided was noted
 pub table_absorbed : (es new : List (ℕ × Row)) (changes : List Row) (is : List ℕ) (requests after : List (RequestNo × Unit {0})) (end higher named more : ℕ) → IsTable es requests end named → AreKeyed new → rows_in new ≡ put_rows (rows_in es) changes → is ≡ map (λ (r : Row). r.instance) changes → All (λ r. r.instance < 1048576) changes → named ≤ more → All (λ r. r.instance < more) changes → KeepsDecisions (rows_in es) (put_rows (rows_in es) changes) → IsNoted (rows_in new) is requests after end higher → IsTable new after higher more

@@ -64,10 +64,6 @@ impl Instances {
             Err(refusal) => return Err(refusal),
         };
         let mut marks = Marks::new(alloc);
-        match marks.make_places(&promised) {
-            Ok(()) => (),
-            Err(refusal) => return Err(refusal),
-        }
         match marks.restore(promise) {
             Ok(()) => (),
             Err(refusal) => return Err(refusal),

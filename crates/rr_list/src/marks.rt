@@ -1,6 +1,6 @@
 //! The promise of the marked facts, and its decided prefix.
 
-ghost use Rattle.std.specs.Prelude.{◌≡◌, ◌<◌, ◌≤◌, ◌++◌, ℕ, [], Some, None, length, slice_get, false, IsTrue, IfSome, IfOk, IfErr, OnOk};
+ghost use Rattle.std.specs.Prelude.{◌≡◌, ◌<◌, ◌≤◌, ◌++◌, ℕ, [], Some, None, length, slice_get, false, is_some, IsTrue, IfSome, IfOk, IfErr, OnOk, MatchOption};
 ghost use Rattle.std.specs.List.{All};
 ghost use Rattle.rr_types.specs.Facts.{instance_of, decision_of, after_fact};
 ghost use Rattle.rr_types.specs.Promises.{standing_in, set_entry, take_on, take_on_all, IsAscending};
@@ -9,7 +9,7 @@ ghost use Rattle.rr_list.specs.Listed.{KeepsPromised, IsInRound, AllInRound};
 ghost use Rattle.rr_list.specs.Marked.{marked_in, has_mark_place, AreMarks, IsBegun, IsCounted, HaveMarkPlaces, set_all, decision_after, decided_by};
 
 use rr_instance::{Row, decision_in, entered, instance_of, with_adopted, with_proposal};
-use rr_places::{make_place, put, value_at};
+use rr_places::{insert, make_place, put, value_of};
 use rr_types::{Command, Entry, Fact, INSTANCES, Instance, Op, Refusal, Standing};
 use std::alloc::Global;
 use std::collections::BTreeMap;
@@ -47,13 +47,24 @@ impl Marks {
         }
     }
 
+    /// The entry of the instance with this number, if something of it is marked.
+    fn entry(&self, number: u32) -> Option<&Entry>
+        requires { AreMarks self.now }
+        ensures { MatchOption result (standing_in (marked_in self.now) number ≡ None) (λ e. standing_in (marked_in self.now) number ≡ Some e.now.standing) }
+    {
+        let _parts: Option<(Command, Op, Standing)> = None;
+        match value_of(&self.entries, &number) {
+            Some(entry) => Some(entry),
+            None => None,
+        }
+    }
+
     /// Where the instance with this number stands, if it is one.
     pub(crate) fn standing(&self, number: u32) -> Option<Standing>
         requires { AreMarks self.now }
         ensures { result ≡ standing_in (marked_in self.now) number }
     {
-        let _parts: Option<(Command, Op, Standing)> = None;
-        match value_at(&self.entries, &number) {
+        match self.entry(number) {
             Some(entry) => Some(entry.standing),
             None => None,
         }
@@ -102,6 +113,21 @@ impl Marks {
         put(&mut self.entries, number, Some(*entry));
     }
 
+    /// Sets where an instance stands, and makes a place for it where it has none.
+    fn insert(&mut self, entry: &Entry) -> Result<(), Refusal>
+        requires { AreMarks self.old }
+        ensures value { OnOk result (marked_in self.new ≡ set_entry entry.now.instance entry.now.standing (marked_in self.old)) }
+        ensures marks { AreMarks self.new }
+        ensures prefix { self.new.prefix ≡ self.old.prefix }
+        ensures made { OnOk result (IsTrue (has_mark_place self.new entry.now.instance)) }
+        ensures stay { (i : ℕ) → IsTrue (has_mark_place self.old i) → IsTrue (has_mark_place self.new i) }
+        ensures err { IfErr result (λ e. e ≡ Refusal.OutOfMemory) }
+    {
+        let _parts: Option<(Command, Op, Standing)> = None;
+        insert(&mut self.entries, entry.instance.number(), *entry)?;
+        Ok(())
+    }
+
     /// Takes a fact on.
     fn take_on(&mut self, fact: &Fact)
         requires marks { AreMarks self.old }
@@ -140,9 +166,21 @@ impl Marks {
         ensures value { result ≡ decision_of (standing_in (marked_in self.now) number) }
         ensures range { IfSome result (λ _. number < 1048576) }
     {
-        match self.standing(number) {
-            Some(standing) => decision_in(standing),
+        match self.entry(number) {
+            Some(entry) => decision_in(&entry.standing),
             None => None,
+        }
+    }
+
+    /// Whether the instance with this number has decided.
+    fn has_decided(&self, number: u32) -> bool
+        requires { AreMarks self.now }
+        ensures value { result ≡ is_some (decision_of (standing_in (marked_in self.now) number)) }
+        ensures range { IsTrue result → number < 1048576 }
+    {
+        match self.entry(number) {
+            Some(entry) => matches!(&entry.standing, Standing::Decided(_)),
+            None => false,
         }
     }
 
@@ -154,7 +192,7 @@ impl Marks {
         ensures range { result ≤ 1048576 }
     {
         for place in self.prefix..INSTANCES {
-            if self.decision(place).is_none() {
+            if !self.has_decided(place) {
                 return place;
             }
         }
@@ -195,7 +233,7 @@ impl Marks {
         ensures value { OnOk result (marked_in self.new ≡ promise.now) }
         ensures marks { AreMarks self.new }
         ensures counted { OnOk result (IsCounted self.new) }
-        ensures stay { (i : ℕ) → IsTrue (has_mark_place self.old i) → IsTrue (has_mark_place self.new i) }
+        ensures made { OnOk result (All (λ e. IsTrue (has_mark_place self.new e.instance)) promise.now) }
         ensures err { IfErr result (λ e. e ≡ Refusal.OutOfMemory) }
     {
         match self.set_all(promise) {
@@ -214,12 +252,12 @@ impl Marks {
         ensures value { OnOk result (marked_in self.new ≡ set_all (marked_in self.old) entries.now) }
         ensures marks { AreMarks self.new }
         ensures prefix { self.new.prefix ≡ self.old.prefix }
+        ensures made { OnOk result (All (λ e. IsTrue (has_mark_place self.new e.instance)) entries.now) }
         ensures stay { (i : ℕ) → IsTrue (has_mark_place self.old i) → IsTrue (has_mark_place self.new i) }
         ensures err { IfErr result (λ e. e ≡ Refusal.OutOfMemory) }
     {
         for entry in entries {
-            self.make_place(entry.instance)?;
-            self.set(entry);
+            self.insert(entry)?;
         }
         Ok(())
     }

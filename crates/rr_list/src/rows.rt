@@ -1,6 +1,6 @@
 //! The rows of the instances that the facts name, and what these have decided.
 
-ghost use Rattle.std.specs.Prelude.{◌≡◌, ◌<◌, ◌≤◌, ◌&&◌, ℕ, [], ◌∷◌, map, Some, None, nat_lt, IsTrue, IfOk, IfErr, OnOk, OnErr, MatchOption};
+ghost use Rattle.std.specs.Prelude.{◌≡◌, ◌<◌, ◌≤◌, ◌&&◌, ℕ, [], ◌∷◌, map, option_map, Some, None, nat_lt, IsTrue, IfOk, IfErr, OnOk, OnErr, MatchOption};
 ghost use Rattle.std.specs.List.{list_any, All};
 ghost use Rattle.std.specs.Ordering.{nat_cmp};
 ghost use Rattle.rr_types.specs.declared.command.RequestNo.{RequestNo};
@@ -11,7 +11,7 @@ ghost use Rattle.rr_list.specs.Listed.{put_rows, KeepsDecisions};
 ghost use Rattle.rr_list.specs.Rowed.{rows_in, AreKeyed, AscendFrom, AreInstances, has_decided, has_request_place, HavePlaces, IsNoted};
 
 use rr_instance::Row;
-use rr_places::{drop_free_place, make_place, put, value_at, value_of};
+use rr_places::{drop_free_place, insert, make_place, put, value_at, value_of};
 use rr_types::{Command, Instance, Op, Refusal, RequestNo, Standing};
 use std::alloc::Global;
 use std::collections::BTreeMap;
@@ -158,6 +158,15 @@ fn instances_of(alloc: Global, rows: &[Row]) -> Result<Vec<Instance>, Refusal>
     Ok(instances)
 }
 
+/// The least number from this one on below which an instance lies.
+fn named_above(named: u32, instance: Instance) -> u32
+    ensures grown { named ≤ result }
+    ensures below { instance < result }
+{
+    let number = instance.number();
+    if named <= number { number + 1 } else { named }
+}
+
 /// The least number from this one on below which these rows lie.
 fn named_with(named: u32, rows: &[Row]) -> u32
     ensures grown { named ≤ result }
@@ -165,12 +174,29 @@ fn named_with(named: u32, rows: &[Row]) -> u32
 {
     let mut above = named;
     for row in rows {
-        let number = row.instance.number();
-        if above <= number {
-            above = number + 1;
-        }
+        above = named_above(above, row.instance);
     }
     above
+}
+
+/// The request that a row has decided.
+fn decided_request(row: &Row) -> Option<RequestNo>
+    ensures { result ≡ option_map (λ v. v.request) (decided_command row.now) }
+{
+    match &row.standing {
+        Standing::Decided(command) => Some(command.request),
+        Standing::Open(_) => None,
+    }
+}
+
+/// Takes away the place of a request, if it is free.
+#[inline(never)]
+fn drop_request_place(map: &mut BTreeMap<RequestNo, Option<()>>, request: Option<RequestNo>)
+    ensures { filled map.new.entries ≡ filled map.old.entries }
+{
+    if let Some(request) = request {
+        drop_free_place(map, &request);
+    }
 }
 
 /// Whether one of these rows has decided.
@@ -275,8 +301,55 @@ impl Rows {
         instance.number() < self.end - 1
     }
 
+    /// Puts a row, or after an error none. No decision may change.
+    fn put(&mut self, row: Row) -> Result<(), Refusal>
+        requires { KeepsDecisions self.old (put_rows self.old (row ∷ [])) }
+        ensures ok { OnOk result (self.new ≡ put_rows self.old (row ∷ [])) }
+        ensures kept { OnErr result (self.new ≡ self.old) }
+        ensures ascend { OnOk result (AscendFrom 0 self.new) }
+        ensures instances { OnOk result (AreInstances self.new) }
+        ensures err { IfErr result (λ e. e ≡ Refusal.OutOfMemory) }
+    {
+        let instance = row.instance;
+        let request = decided_request(&row);
+        match make_request_place(&mut self.requests, &row) {
+            Ok(()) => (),
+            Err(refusal) => return Err(refusal),
+        }
+        match insert(&mut self.rows, instance.number(), row) {
+            Ok(()) => {
+                self.named = named_above(self.named, instance);
+                self.end = note_decision(&self.rows, &mut self.requests, self.end, instance);
+                Ok(())
+            }
+            Err(_) => {
+                drop_request_place(&mut self.requests, request);
+                Err(Refusal::OutOfMemory)
+            }
+        }
+    }
+
     /// Puts these rows, all of them or, after an error, none. No decision may change.
     pub(crate) fn absorb(&mut self, alloc: Global, rows: Vec<Row>) -> Result<(), Refusal>
+        requires { KeepsDecisions self.old (put_rows self.old rows.items) }
+        ensures ok { OnOk result (self.new ≡ put_rows self.old rows.items) }
+        ensures kept { OnErr result (self.new ≡ self.old) }
+        ensures ascend { OnOk result (AscendFrom 0 self.new) }
+        ensures instances { OnOk result (AreInstances self.new) }
+        ensures err { IfErr result (λ e. e ≡ Refusal.OutOfMemory) }
+    {
+        let mut rows = rows;
+        if rows.len() == 1 {
+            if let Some(row) = rows.pop() {
+                return self.put(row);
+            }
+        }
+        self.absorb_all(alloc, rows)
+    }
+
+    /// The same of any number of rows.
+    #[inline(never)]
+    fn absorb_all(&mut self, alloc: Global, rows: Vec<Row>) -> Result<(), Refusal>
         requires { KeepsDecisions self.old (put_rows self.old rows.items) }
         ensures ok { OnOk result (self.new ≡ put_rows self.old rows.items) }
         ensures kept { OnErr result (self.new ≡ self.old) }

@@ -138,6 +138,7 @@ fn put_in(doing: &mut Doing, next: Doing)
 }
 
 /// A device call has failed: the node has failed too.
+#[inline(never)]
 fn fall(alloc: Global, doing: &mut Doing)
     ensures { (s : Serving) → doing.old ≡ Doing.Serving s → doing.new ≡ Doing.Faulted s.slots.disk }
 {
@@ -146,6 +147,7 @@ fn fall(alloc: Global, doing: &mut Doing)
 }
 
 /// The opening of a node that is down, has failed or opens already goes on by an event that it takes.
+#[inline(never)]
 fn open_up(
     alloc: Global,
     nodes: Nodes,

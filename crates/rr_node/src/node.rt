@@ -1,8 +1,9 @@
 //! A node over its disk.
 
-ghost use Rattle.std.specs.Prelude.{◌≡◌, ◌≢◌, ◌<◌, IfOk, IfErr};
+ghost use Rattle.std.specs.Prelude.{◌≡◌, ◌≢◌, ◌<◌, Err, IfSome, IfOk, IfErr};
+ghost use Rattle.rr_node.specs.declared.event.NodeEvent.{NodeEvent};
 ghost use Rattle.rr_node.specs.Runs.{IsSpelt};
-ghost use Rattle.rr_node.specs.Seats.{Stopped, Gives, Fails, AtMostOneCall, crashed};
+ghost use Rattle.rr_node.specs.Seats.{Stopped, Gives, Fails, AtMostOneCall, crashed, seat_step};
 ghost use Rattle.rr_node.specs.Stances.{stance_of, synced_of};
 ghost use Rattle.rr_node.specs.Views.{Takes};
 
@@ -86,15 +87,28 @@ impl Node {
     /// the node as it was, but for a device call: an opening that is refused ends, and a node whose flush fails has
     /// failed.
     /// Errors: `OutOfMemory`, `Device`, `Damaged`, `Failed`, `Down`, `ListFull`, `RoundsOut`, `Busy`, `TooLarge`.
-    pub fn step(&mut self, alloc: Global, event: NodeEvent) -> Result<Outcome, Refusal>
-        ensures gives { Gives event self.old result self.new }
+    pub fn step(&mut self, alloc: Global, event: &NodeEvent) -> Result<Outcome, Refusal>
+        ensures gives { Gives event.now self.old result self.new }
         ensures one_call { AtMostOneCall self.old self.new }
-        ensures no_call { event ≢ NodeEvent.Device → self.new.calls ≡ self.old.calls }
+        ensures no_call { event.now ≢ NodeEvent.Device → self.new.calls ≡ self.old.calls }
         ensures spelt { IsSpelt self.new.doing }
     {
-        match self.doing.refusal_of(&event) {
+        match self.doing.refusal_of(event) {
             Some(refusal) => Err(refusal),
-            None => self.go_on(alloc, &event),
+            None => self.go_on(alloc, event),
+        }
+    }
+
+    /// The refusal of each event but a restart and a device call, while the node isn't up. It moves nothing.
+    pub fn refusal(&self) -> Option<Refusal>
+        ensures refused { IfSome result (λ e. (event : NodeEvent) → event ≢ NodeEvent.Restart → event ≢ NodeEvent.Device → seat_step event self.now ≡ (Err e, self.now)) }
+        ensures spelt { IfSome result (λ _. IsSpelt self.now.doing) }
+    {
+        match &self.doing {
+            Doing::Stopped(_) => Some(Refusal::Down),
+            Doing::Faulted(_) => Some(Refusal::Failed),
+            Doing::Opening(_) => Some(Refusal::Down),
+            Doing::Serving(_) => None,
         }
     }
 

@@ -198,6 +198,7 @@ impl Serving {
     }
 
     /// A flush of the staged facts begins where none runs.
+    #[inline(never)]
     fn begin(&mut self, alloc: Global) -> Result<Outcome, Refusal>
         requires { self.old.flush ≡ Flush.Resting }
         ensures { CarriesOn NodeEvent.Take self.old result (Doing.Serving self.new) }
@@ -226,6 +227,7 @@ impl Serving {
     }
 
     /// The synced group is marked.
+    #[inline(never)]
     fn mark(&mut self) -> Result<Outcome, Refusal>
         ensures { CarriesOn NodeEvent.Mark self.old result (Doing.Serving self.new) }
     {
@@ -256,6 +258,7 @@ impl Serving {
     }
 
     /// A switch begins where no job runs.
+    #[inline(never)]
     fn begin_switch(&mut self, alloc: Global) -> Result<Outcome, Refusal>
         requires own { IsServing self.old.core.nodes self.old.core.node self.old }
         requires rests { self.old.flush ≡ Flush.Resting }

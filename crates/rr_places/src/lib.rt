@@ -4,4 +4,4 @@
 
 mod places;
 
-pub use places::{drop_free_place, make_place, put, value_at, value_of};
+pub use places::{drop_free_place, insert, make_place, put, value_at, value_of};

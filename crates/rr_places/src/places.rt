@@ -1,7 +1,7 @@
 //! Maps in which a key may have a place before it has a value. Making a place may need memory;
 //! giving a place a value, and taking it, needs none.
 
-ghost use Rattle.std.specs.Prelude.{◌≡◌, ◌+◌, false, cond, length, None, Some, is_some, IsTrue, IsSome, MatchOption, OnOk};
+ghost use Rattle.std.specs.Prelude.{◌≡◌, ◌+◌, false, cond, length, None, Some, is_some, IsTrue, IsSome, MatchOption, OnOk, OnErr};
 ghost use Rattle.std.specs.BTreeMap.{is_at};
 ghost use Rattle.std.specs.Map.{lookup};
 ghost use Rattle.std.proofs.lemmas.Map.Lookups.{CmpEqualImpliesEq};
@@ -73,6 +73,23 @@ pub fn put<K: Ord + Copy + Drop, V: Drop>(
         Ok(_) => (),
         Err(_) => unreachable!(),
     }
+}
+
+/// Gives a key a value, and a place if it has none. Where memory is refused the map is as it was.
+pub fn insert<K: Ord + Copy + Drop, V: Drop>(
+    map: &mut BTreeMap<K, Option<V>>,
+    key: K,
+    value: V,
+) -> Result<(), AllocError>
+    requires exact { CmpEqualImpliesEq K.cmp }
+    ensures filled { OnOk result (filled map.new.entries ≡ put_entry K.cmp (filled map.old.entries) key (Some value)) }
+    ensures made { OnOk result (IsTrue (has_place K.cmp map.new.entries key)) }
+    ensures kept { (q : K) → IsTrue (has_place K.cmp map.old.entries q) → IsTrue (has_place K.cmp map.new.entries q) }
+    ensures only { (q : K) → is_at (K.cmp key) q ≡ false → has_place K.cmp map.new.entries q ≡ has_place K.cmp map.old.entries q }
+    ensures err { OnErr result (map.new.entries ≡ map.old.entries) }
+{
+    map.insert(key, Some(value))?;
+    Ok(())
 }
 
 /// Takes a key's place away if it is free: the key then has a place just where it has a value.

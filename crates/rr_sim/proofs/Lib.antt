@@ -3,6 +3,7 @@ pub mod TellingLaws
 pub mod SubmittedLaws
 pub mod ClusterLaws
 mod AloneLaws
+mod WaitingLaws
 pub mod RealTimeLaws
 pub mod HeadlineLaws
 pub mod NodeLaws

@@ -1,10 +1,11 @@
 //! A cluster of nodes with their disks: what each event of a schedule does to it.
 
-ghost use Rattle.std.specs.Prelude.{◌≡◌, ◌⊎◌, ◌↔◌, ◌++◌, ℕ, Bool, [], length, slice_get, option_to_list, None, Some, IsTrue, MatchOption, Ok, OnOk, IfOk, IfErr};
+ghost use Rattle.std.specs.Prelude.{◌≡◌, ◌≢◌, ◌⊎◌, ◌↔◌, ◌++◌, ℕ, Bool, [], length, slice_get, option_to_list, None, Some, false, IsTrue, IfSome, MatchOption, Ok, Err, OnOk, IfOk, IfErr};
 ghost use Rattle.rr_sim.specs.Clusters as clusters;
 ghost use Rattle.rr_sim.specs.Clusters.{shown, note_of, new_cluster, at_node, fail_at, hear_at, crash_at, event_step, IsOfNode, IsEither, Steps, TellsOfWant, IsSpeltAt, IsSpeltBehind};
 ghost use Rattle.rr_text.specs.Scheduled.{node_of};
 ghost use Rattle.rr_sim.specs.Random.{IsFailing, StepsInMemory};
+ghost use Rattle.rr_node.specs.declared.event.NodeEvent.{NodeEvent};
 ghost use Rattle.rr_node.specs.Runs.{sent_by};
 ghost use Rattle.rr_sim.specs.Told.{told};
 
@@ -197,6 +198,18 @@ impl Cluster {
         wire
     }
 
+    /// All messages ever sent. The nodes go.
+    pub fn into_wire(self) -> Vec<Message>
+        ensures { result.items ≡ self.wire }
+    {
+        let Cluster {
+            seats: _,
+            wire,
+            lines: _,
+        } = self;
+        wire
+    }
+
     /// The lines of the report so far.
     pub fn into_lines(self) -> Vec<ReportLine>
         ensures { result.items ≡ self.lines }
@@ -235,10 +248,10 @@ impl Cluster {
         alloc: Global,
         node: NodeId,
         line: u64,
-        event: NodeEvent,
+        event: &NodeEvent,
     ) -> Result<(), Refusal>
         ensures ok { OnOk result
-            (IsEither (λ starved. self.new ≡ at_node node line starved event self.old)) }
+            (IsEither (λ starved. self.new ≡ at_node node line starved event.now self.old)) }
         ensures spelt { OnOk result (IsSpeltAt node self.new) }
         ensures err { IfErr result (λ e. e ≡ Refusal.OutOfMemory) }
     {
@@ -252,6 +265,7 @@ impl Cluster {
     }
 
     /// The next device call of a node fails with this fill.
+    #[inline(never)]
     fn fail_at(
         &mut self,
         alloc: Global,
@@ -275,6 +289,7 @@ impl Cluster {
     }
 
     /// What an answer of a node puts on the wire and into the report.
+    #[inline(always)]
     fn take_down(
         &mut self,
         alloc: Global,
@@ -291,14 +306,12 @@ impl Cluster {
         match answer {
             Ok(Outcome::Quiet) => Ok(()),
             Ok(outcome) => self.take_outcome(alloc, node, line, outcome),
-            Err(refusal) => {
-                self.lines.push(ReportLine::Refuse { line, refusal })?;
-                Ok(())
-            }
+            Err(refusal) => self.refuse(line, refusal),
         }
     }
 
     /// What an outcome puts on the wire and into the report.
+    #[inline(never)]
     fn take_outcome(
         &mut self,
         alloc: Global,
@@ -332,14 +345,18 @@ impl Cluster {
         ensures err { IfErr result (λ e. e ≡ Refusal.OutOfMemory) }
     {
         match self.wire.get(number as usize) {
-            Some(message) if message.to == node => {
-                let event = NodeEvent::Hear(*message);
-                self.at_node(alloc, node, line, event)
-            }
+            Some(message) if message.to == node => match self.refusal_at(node) {
+                Some(refusal) => self.refuse(line, refusal),
+                None => {
+                    let event = NodeEvent::Hear(*message);
+                    self.at_node(alloc, node, line, &event)
+                }
+            },
             _ => Ok(()),
         }
     }
 
+    #[inline(never)]
     fn crash_at(
         &mut self,
         alloc: Global,
@@ -387,7 +404,44 @@ impl Cluster {
         ensures spelt { OnOk result (IsSpeltBehind event.now self.old self.new) }
         ensures err { IfErr result (λ e. e ≡ Refusal.OutOfMemory) }
     {
-        self.at_node(alloc, node_of(event), line, node_event(event))
+        match self.refusal_of(event) {
+            Some(refusal) => self.refuse(line, refusal),
+            None => self.at_node(alloc, node_of(event), line, &node_event(event)),
+        }
+    }
+
+    /// The refusal of an event that wants its node up, where the node isn't. It moves nothing.
+    fn refusal_of(&self, event: &Event) -> Option<Refusal>
+        requires { IsOfNode event.now }
+        ensures refused { IfSome result (λ e. (at : ℕ) → event_step at false event.now self.now ≡ record self.now { lines = self.now.lines ++ note_of 0 at 0 (Err e) }) }
+        ensures spelt { IfSome result (λ _. IsSpeltAt (node_of event.now) self.now) }
+    {
+        match event {
+            Event::Restart { .. } => None,
+            Event::Device { .. } => None,
+            _ => self.refusal_at(node_of(event)),
+        }
+    }
+
+    /// The refusal of each event of a node but a restart and a device call, where the node isn't up.
+    fn refusal_at(&self, node: NodeId) -> Option<Refusal>
+        ensures refused { IfSome result (λ e. (at : ℕ) (event : NodeEvent) → event ≢ NodeEvent.Restart → event ≢ NodeEvent.Device
+            → at_node node at false event self.now ≡ record self.now { lines = self.now.lines ++ note_of node at 0 (Err e) }) }
+        ensures spelt { IfSome result (λ _. IsSpeltAt node self.now) }
+    {
+        match self.node(node) {
+            Some(seat) => seat.refusal(),
+            None => None,
+        }
+    }
+
+    /// The event of a line is refused.
+    fn refuse(&mut self, line: u64, refusal: Refusal) -> Result<(), Refusal>
+        ensures ok { OnOk result (self.new ≡ record self.old { lines = self.old.lines ++ note_of 0 line 0 (Err refusal) }) }
+        ensures err { IfErr result (λ e. e ≡ Refusal.OutOfMemory) }
+    {
+        self.lines.push(ReportLine::Refuse { line, refusal })?;
+        Ok(())
     }
 
     /// What the event of a line does where memory is there; `OutOfMemory` where it is wanting, as the answer tells. A

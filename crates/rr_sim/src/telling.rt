@@ -57,7 +57,8 @@ fn tell_events<O: Sink>(
     Ok(())
 }
 
-/// The text of the report on a schedule on so many nodes, of whose lines behind the first the bytes are.
+/// The text of the report on a schedule on so many nodes, of whose lines behind the first the bytes are. The nodes have gone
+/// when the decided list is made, since both would take the most memory at a time.
 fn report_behind<O: Sink>(
     alloc: Global,
     nodes: Nodes,
@@ -73,7 +74,8 @@ fn report_behind<O: Sink>(
     let mut cluster = Cluster::new(alloc, nodes)?;
     let mut text = Vec::new(alloc);
     tell_events(alloc, nodes, bytes, &mut cluster, &mut text, out)?;
-    let decided = decided_list(alloc, nodes, cluster.wire())?;
+    let wire = cluster.into_wire();
+    let decided = decided_list(alloc, nodes, wire.as_slice())?;
     push_decided_list(&mut text, decided.as_slice())?;
     Ok(text)
 }

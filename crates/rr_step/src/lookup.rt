@@ -47,7 +47,7 @@ impl<'a> Step<'a> {
         ensures { result ≡ decision_of (standing_at self.now.state instance) }
     {
         match self.standing(instance) {
-            Some(standing) => decision_in(standing),
+            Some(standing) => decision_in(&standing),
             None => None,
         }
     }

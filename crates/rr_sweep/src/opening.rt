@@ -30,7 +30,7 @@ pub(crate) fn open(alloc: Global, node: NodeId, mut seat: Node) -> Result<Report
     ensures err { IfErr result (λ e. e ≡ Refusal.OutOfMemory) }
 {
     // a node that is down takes a restart
-    let _ = seat.step(alloc, NodeEvent::Restart);
+    let _ = seat.step(alloc, &NodeEvent::Restart);
     for _call in 0..CALLS_OF_AN_OPENING {
         if let Some((facts, decided, names)) = open_on(alloc, &mut seat)? {
             let bindings = shown(alloc, &names)?;
@@ -54,7 +54,7 @@ fn open_on(alloc: Global, seat: &mut Node) -> Result<Option<Ended>, Refusal>
     ensures spelt { IsSpelt seat.new.doing }
     ensures err { IfErr result (λ e. e ≡ Refusal.OutOfMemory) }
 {
-    match seat.step(alloc, NodeEvent::Device) {
+    match seat.step(alloc, &NodeEvent::Device) {
         Ok(outcome) => Ok(ended_by(outcome)),
         Err(refusal) => Err(want_of_memory(refusal)),
     }

@@ -1,4 +1,7 @@
 //! Reading schedules.
+//!
+//! An event is large, and each call that hands it on copies it: the short way of most lines is inlined, and what few lines
+//! need stands apart, so that the others don't clear room for it.
 
 ghost use Rattle.std.specs.Prelude.{◌≡◌, ℕ, ◌⊎◌, ◌+◌, ◌<◌, ◌≤◌, ◌++◌, ◌∷◌, [], None, Some, MatchOption, MatchResult, IfOk, IfErr, length};
 ghost use Rattle.std.specs.List.{flat_map, AllByRecursion};
@@ -63,6 +66,7 @@ pub fn first_node(nodes: Nodes, text: &[u8]) -> Option<(NodeId, &[u8])>
     }
 }
 
+#[inline(never)]
 fn submit(nodes: Nodes, text: &[u8]) -> Result<Option<Event>, Refusal>
     ensures ok { IfOk result (λ e. e ≡ fields_at nodes Keyword.Submit text.now) }
     ensures err { IfErr result (λ e. e ≡ Refusal.OutOfMemory) }
@@ -76,6 +80,7 @@ fn submit(nodes: Nodes, text: &[u8]) -> Result<Option<Event>, Refusal>
     Ok(Some(Event::Submit { node, command }))
 }
 
+#[inline(always)]
 fn hear(nodes: Nodes, text: &[u8]) -> Result<Option<Event>, Refusal>
     ensures ok { IfOk result (λ e. e ≡ fields_at nodes Keyword.Hear text.now) }
     ensures err { IfErr result (λ e. e ≡ Refusal.OutOfMemory) }
@@ -89,6 +94,7 @@ fn hear(nodes: Nodes, text: &[u8]) -> Result<Option<Event>, Refusal>
     Ok(Some(Event::Hear { node, message }))
 }
 
+#[inline(never)]
 fn suspect(nodes: Nodes, text: &[u8]) -> Result<Option<Event>, Refusal>
     ensures ok { IfOk result (λ e. e ≡ fields_at nodes Keyword.Suspect text.now) }
     ensures err { IfErr result (λ e. e ≡ Refusal.OutOfMemory) }
@@ -103,6 +109,7 @@ fn suspect(nodes: Nodes, text: &[u8]) -> Result<Option<Event>, Refusal>
 }
 
 // The event of this keyword at a node, where that is all that it says.
+#[inline(always)]
 fn plain(keyword: Keyword, node: NodeId) -> Option<Event>
     ensures { result ≡ plain_at keyword node }
 {
@@ -120,6 +127,7 @@ fn plain(keyword: Keyword, node: NodeId) -> Option<Event>
     }
 }
 
+#[inline(always)]
 fn at_node(nodes: Nodes, keyword: Keyword, text: &[u8]) -> Result<Option<Event>, Refusal>
     ensures ok { IfOk result (λ e. e ≡ node_alone_at nodes keyword text.now) }
     ensures err { IfErr result (λ e. e ≡ Refusal.OutOfMemory) }
@@ -130,6 +138,7 @@ fn at_node(nodes: Nodes, keyword: Keyword, text: &[u8]) -> Result<Option<Event>,
     }
 }
 
+#[inline(never)]
 fn fail(alloc: Global, nodes: Nodes, text: &[u8]) -> Result<Option<Event>, Refusal>
     ensures ok { IfOk result (λ e. e ≡ fields_at nodes Keyword.Fail text.now) }
     ensures err { IfErr result (λ e. e ≡ Refusal.OutOfMemory) }
@@ -165,6 +174,7 @@ fn cuts(alloc: Global, text: &[u8]) -> Result<Option<(u32, u32, Fill)>, Refusal>
     }
 }
 
+#[inline(never)]
 fn crash(alloc: Global, nodes: Nodes, text: &[u8]) -> Result<Option<Event>, Refusal>
     ensures ok { IfOk result (λ e. e ≡ fields_at nodes Keyword.Crash text.now) }
     ensures err { IfErr result (λ e. e ≡ Refusal.OutOfMemory) }
@@ -187,6 +197,7 @@ fn crash(alloc: Global, nodes: Nodes, text: &[u8]) -> Result<Option<Event>, Refu
 ///
 /// # Errors
 /// `OutOfMemory`.
+#[inline(always)]
 pub fn fields(
     alloc: Global,
     nodes: Nodes,
@@ -215,6 +226,7 @@ pub fn fields(
 }
 
 // What the first word of a line stands for, and the text behind it.
+#[inline(always)]
 fn first_keyword(text: &[u8]) -> Option<(Keyword, &[u8])>
     ensures { (n : ℕ) → MatchOption result (event_at n text.now ≡ None) (λ x. event_at n text.now ≡ fields_at n x.0 x.1.now) }
 {
@@ -283,6 +295,7 @@ pub fn first_line(bytes: &[u8]) -> Result<(Nodes, &[u8]), Refusal>
 /// # Errors
 /// `BadEvent` of the line where no event stands at the front of the bytes, or a million stand before it; `OutOfMemory`.
 #[tactic(auto, using(crate::proofs::ScheduleReading::event_uncut, crate::proofs::ScheduleReading::event_unread))]
+#[inline(always)]
 pub fn next_event(
     alloc: Global,
     nodes: Nodes,

@@ -95,6 +95,7 @@ fn push_node(out: &mut Vec<u8>, node: NodeId) -> Result<(), Refusal>
     push_number_word(out, u64::from(node.index()))
 }
 
+#[inline(never)]
 fn push_message(out: &mut Vec<u8>, message: &Message) -> Result<(), Refusal>
     ensures ok { OnOk result (out.new.items ≡ out.old.items ++ 32 ∷ spaced (message_words message.now)) }
     ensures err { IfErr result (λ e. e ≡ Refusal.OutOfMemory) }
@@ -104,6 +105,7 @@ fn push_message(out: &mut Vec<u8>, message: &Message) -> Result<(), Refusal>
     push_body(out, &message.body)
 }
 
+#[inline(never)]
 fn push_reply(out: &mut Vec<u8>, reply: Reply) -> Result<(), Refusal>
     ensures ok { OnOk result (out.new.items ≡ out.old.items ++ 32 ∷ spaced (reply_words reply)) }
     ensures err { IfErr result (λ e. e ≡ Refusal.OutOfMemory) }
@@ -145,6 +147,7 @@ fn push_bindings(out: &mut Vec<u8>, bindings: &[Binding]) -> Result<(), Refusal>
 }
 
 #[tactic(auto, using(crate::proofs::WordLemmas::registry_words))]
+#[inline(never)]
 fn push_registry(out: &mut Vec<u8>, decided: u64, bindings: &[Binding]) -> Result<(), Refusal>
     ensures ok { OnOk result (out.new.items ≡ out.old.items ++ 32 ∷ spaced (decimal decided ∷ map binding_text bindings.now)) }
     ensures err { IfErr result (λ e. e ≡ Refusal.OutOfMemory) }

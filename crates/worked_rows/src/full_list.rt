@@ -70,17 +70,17 @@ fn full_node(alloc: Global) -> Result<Node, Refusal> {
     disk.write_at(Area::First, 0, &full_area(alloc, nodes, node)?)?;
     disk.sync()?;
     let mut node = Node::new(nodes, node, disk);
-    node.step(alloc, NodeEvent::Restart)?;
+    node.step(alloc, &NodeEvent::Restart)?;
     for _ in 0..CALLS {
-        node.step(alloc, NodeEvent::Device)?;
+        node.step(alloc, &NodeEvent::Device)?;
     }
     Ok(node)
 }
 
 /// What the node answers to a request, where it is acknowledged at once.
 fn answer(alloc: Global, node: &mut Node, seq: u64) -> Result<Outcome, Refusal> {
-    node.step(alloc, NodeEvent::Submit(command(seq)?))?;
-    node.step(alloc, NodeEvent::Acknowledge)
+    node.step(alloc, &NodeEvent::Submit(command(seq)?))?;
+    node.step(alloc, &NodeEvent::Acknowledge)
 }
 
 /// Prints what the node answers to its first and its last decided request, and to a new one.

@@ -1,10 +1,12 @@
-use Rattle.std.proofs.Common.{◌≡◌, ◌-◌, ◌<◌, ℕ, get_or, subst, arith}
-use Rattle.rr_image.proofs.PlaceLemmas.{place_from}
+use Rattle.std.proofs.Common.{rules, of_calls, nat_lt}
+use Rattle.std.proofs.lemmas.Fn.{always_returns_same}
+use Rattle.rr_types.specs.declared.promise.Entry.{Entry}
+use Rattle.rr_image.proofs.PlaceLemmas.{lie_before, place_at}
 use Rattle.rr_image.proofs.promised.place_of.Goals as goal
 
-pub returns-then-number-clause-place : goal.returns-then-number-clause-place
-returns-then-number-clause-place c =
-    let d = c.index-entries-place.result in
+pub returns-clause-place : goal.returns-clause-place
+returns-clause-place c =
     let es = c.args.entries.now in
-    let here : (get_or es (c.loop-place.place - 1) d).instance < c.args.instance = omega (arith, c.number.ensures.value, c.number-in-loop-place.ensures.value, c.if-number.true) in
-    place_from c.args.instance c.loop-place.place 0 es d c.requires.ascends c.loop-place.invariant.within (λ j e. let same : c.loop-place.place - 1 ≡ j = omega arith in subst (λ (k : ℕ). (get_or es k d).instance < c.args.instance) same here) c.loop-place.invariant.above
+    let i = c.args.instance in
+    let ends = c.partition_point.ensures.partitioned (λ (e : Entry). nat_lt e.instance i) (always_returns_same _ _ _ (λ a r f k. search (rules, of_calls))) (lie_before i es c.requires.ascends) in
+    place_at i c.partition_point.result es c.requires.ascends c.partition_point.ensures.bound ends

@@ -1,6 +1,9 @@
-use Rattle.std.proofs.Common.{subst, List, arith, ◌∙◌}
+use Rattle.std.proofs.Common.{false, sym, subst, List, arith, ◌∙◌}
 use Rattle.rr_types.specs.declared.promise.Entry.{Entry}
 use Rattle.rr_types.specs.Promises.{IsAscending}
+use Rattle.rr_model.specs.NodeState.{NodeState}
+use Rattle.rr_core.specs.Kept.{IsKept}
+use Rattle.rr_core.specs.Searched.{IsSearched}
 use Rattle.rr_core.proofs.SearchLemmas.{not_searched}
 use Rattle.rr_core.proofs.TakenLemmas.{started_kept}
 use Rattle.rr_core.proofs.node_core.Core.start.Goals as goal
@@ -8,8 +11,11 @@ use Rattle.rr_core.proofs.node_core.Core.start.Goals as goal
 pub invariant_of-result : goal.invariant_of-result
 invariant_of-result c =
     let P : List Entry → Type 0 = λ es. IsAscending es in
-    let opened = c.args.opened.now in (
-      started_kept opened.nodes opened.node opened.next opened.promise c.in-Ok-registry_of_prefix.registry c.in-Ok.state
-          (subst P (c.entries-entries.ensures.value ∙ c.promise.ensures) c.entries-entries.ensures.ascending) (omega arith) c.in-Ok-registry_of_prefix.ensures.ok c.in-Ok.ensures.ok,
-      not_searched c.in-Ok.state,
+    let opened = c.args.opened.now in
+    let registry = c.in-Ok-registry_of_prefix.registry in
+    let own = sym c.in_ok-new-in-Ok-registry_of_prefix.ensures.ok in (
+      subst (λ (x : NodeState). IsKept x registry) own
+          (started_kept opened.nodes opened.node opened.next opened.promise registry c.in-Ok.state
+          (subst P (c.entries-entries.ensures.value ∙ c.promise.ensures) c.entries-entries.ensures.ascending) (omega arith) c.in-Ok-registry_of_prefix.ensures.ok c.in-Ok.ensures.ok),
+      subst (λ (x : NodeState). IsSearched 0 false x) own (not_searched c.in-Ok.state),
     )

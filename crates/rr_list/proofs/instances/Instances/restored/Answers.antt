@@ -1,17 +1,20 @@
-use Rattle.std.proofs.Common.{IsTrue, List, [], ap, subst, refl, ◌∙◌, ◌++◌, ◌-◌, length}
+use Rattle.std.proofs.Common.{IsTrue, List, [], ap, sym, subst, ◌∙◌, ◌++◌, ◌-◌, length}
 use Rattle.std.specs.List.{All}
-use Rattle.std.proofs.lemmas.List.Elements.{All-weaker}
+use Rattle.std.proofs.lemmas.List.Elements.{All-map}
 use Rattle.rr_model.specs.NodeState.{Row, row_of, lowest_undecided}
+use Rattle.rr_model.specs.NodeStep.{promised_row}
 use Rattle.rr_list.specs.Listed.{put_rows}
 use Rattle.rr_list.specs.Marked.{has_mark_place}
-use Rattle.rr_list.proofs.ListedLemmas.{placed_over, listed_is}
+use Rattle.rr_list.proofs.ListedLemmas.{placed_all, listed_is}
 use Rattle.rr_list.proofs.OpenLemmas.{is_filled, promise_rows}
 use Rattle.rr_list.proofs.instances.Instances.restored.Goals as goal
 
 pub invariant_of-result : goal.invariant_of-result
 invariant_of-result c =
     let put = c.in-Ok-absorb.ensures.ok ∙ ap (λ (rs : List Row). put_rows rs c.in-Ok.promised.items) c.new-rows.ensures in
-    let made = subst (All (λ (r : Row). IsTrue (has_mark_place c.make_places.new.self r.instance))) c.deref.ensures.value c.in-Ok-make_places.ensures.made in
+    let made : All (λ (r : Row). IsTrue (has_mark_place c.restore.new.self r.instance)) c.in-Ok.promised.items =
+    subst (All (λ (r : Row). IsTrue (has_mark_place c.restore.new.self r.instance))) (sym c.in-Ok.ensures.ok)
+    (All-map (λ (r : Row). IsTrue (has_mark_place c.restore.new.self r.instance)) (promised_row c.args.next) c.args.promise.now c.in-Ok-restore.ensures.made) in
     record {
       shown = c.fill-window.ensures ∙ ap (λ k. k ++ lowest_undecided (8 - length k) 0 c.absorb.new.self) c.new.ensures ∙ is_filled c.absorb.new.self;
       ascend = c.in-Ok-absorb.ensures.ascend;
@@ -20,10 +23,8 @@ invariant_of-result c =
       counted = c.in-Ok-restore.ensures.counted;
       placed = λ i f.
           ap (λ rs. row_of rs i) put
-          ∙ placed_over [] c.in-Ok.promised.items c.new-marks.result c.restore.new.self (λ j g. refl)
-          (λ j p. c.in-Ok-restore.ensures.stay j (c.in-Ok-make_places.ensures.stay j p))
-          (All-weaker (λ (r : Row). IsTrue (has_mark_place c.make_places.new.self r.instance)) (λ (r : Row). IsTrue (has_mark_place c.restore.new.self r.instance)) (λ r p. c.in-Ok-restore.ensures.stay r.instance p) c.in-Ok.promised.items made)
-          i f;
+          ∙ placed_all c.in-Ok.promised.items c.restore.new.self
+          made i f;
     }
 
 pub returns-in-Ok-absorb-clause-ok : goal.returns-in-Ok-absorb-clause-ok

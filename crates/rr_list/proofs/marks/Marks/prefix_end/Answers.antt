@@ -1,13 +1,13 @@
 use Rattle.std.proofs.Common.{ap, sym, ◌∙◌, arith}
 use Rattle.rr_types.specs.Facts.{decision_of}
 use Rattle.rr_list.specs.Marked.{marked_in}
-use Rattle.rr_list.proofs.MarkLemmas.{prefix_is, none_of_some}
+use Rattle.rr_list.proofs.MarkLemmas.{prefix_is, undecided_none}
 use Rattle.rr_list.proofs.marks.Marks.prefix_end.Goals as goal
 
-pub returns-then-is_none-clause-value : goal.returns-then-is_none-clause-value
-returns-then-is_none-clause-value c =
+pub returns-then-not-has_decided-clause-value : goal.returns-then-not-has_decided-clause-value
+returns-then-not-has_decided-clause-value c =
     prefix_is (marked_in c.args.self.now) c.loop-place.place c.requires.marks.ascend c.loop-place.invariant
-    (sym c.decision.ensures.value ∙ none_of_some c.decision.result c.is_none.result c.is_none.ensures c.if-is_none.true)
+    (undecided_none _ c.has_decided.result c.has_decided.ensures.value c.if-not-has_decided.true)
 
 pub returns-clause-value : goal.returns-clause-value
 returns-clause-value c =

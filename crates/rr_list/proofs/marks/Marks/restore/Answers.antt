@@ -1,5 +1,6 @@
-use Rattle.std.proofs.Common.{ap, ◌∙◌}
-use Rattle.rr_places.specs.Places.{filled}
+use Rattle.std.proofs.Common.{IsTrue, ap, sym, subst, ◌∙◌, slice_index_or}
+use Rattle.std.specs.Ordering.{nat_cmp}
+use Rattle.rr_places.specs.Places.{filled, has_place}
 use Rattle.rr_list.specs.Marked.{entries_in, set_all}
 use Rattle.rr_list.proofs.ListedLemmas.{promise_set}
 use Rattle.rr_list.proofs.marks.Marks.restore.Goals as goal
@@ -8,3 +9,6 @@ pub returns-in-Ok-clause-value : goal.returns-in-Ok-clause-value
 returns-in-Ok-clause-value c =
     ap (λ m. entries_in (filled m.entries)) c.count_on.ensures.entries ∙ c.in-Ok.ensures.value
     ∙ ap (λ es. set_all es c.args.promise.now) c.requires.empty.0 ∙ promise_set c.args.promise.now c.requires.ascending.ascends
+
+pub returns-in-Ok-clause-made : goal.returns-in-Ok-clause-made
+returns-in-Ok-clause-made c = λ k d l. subst (λ places. IsTrue (has_place nat_cmp places.entries (slice_index_or c.args.promise.now k d).instance)) (sym c.count_on.ensures.entries) (c.in-Ok.ensures.made k d l)

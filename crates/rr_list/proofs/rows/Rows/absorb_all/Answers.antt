@@ -6,7 +6,7 @@ use Rattle.rr_places.specs.Places.{filled, has_place}
 use Rattle.rr_list.specs.Listed.{put_rows, KeepsDecisions}
 use Rattle.rr_list.specs.Rowed.{rows_in, HavePlaces, HoldsDecided, has_request_place, IsNoted, AscendFrom, AreInstances}
 use Rattle.rr_list.proofs.NotedLemmas.{put_places, held_place, table_absorbed, ascend_puts, instances_puts}
-use Rattle.rr_list.proofs.rows.Rows.absorb.Goals as goal
+use Rattle.rr_list.proofs.rows.Rows.absorb_all.Goals as goal
 
 pub put_all-requires-clause-places : goal.put_all-requires-clause-places
 put_all-requires-clause-places c = subst (All (λ (r : Row). IsTrue (has_place nat_cmp c.make_places.new.map.entries r.instance))) c.deref-2.ensures.value c.in-Ok-make_places.ensures.row_places

@@ -1,0 +1,52 @@
+use Rattle.std.proofs.Common.{◌<◌, [], ◌∷◌, List, ap, sym, refl, ◌∙◌, subst, IsTrue}
+use Rattle.std.specs.Ordering.{nat_cmp}
+use Rattle.rr_model.specs.NodeState.{Row, put_row}
+use Rattle.rr_places.specs.Places.{filled, has_place}
+use Rattle.rr_list.specs.Listed.{put_rows, KeepsDecisions}
+use Rattle.rr_list.specs.Rowed.{rows_in, HavePlaces, HoldsDecided, has_request_place, IsNoted, AscendFrom, AreInstances, AreKeyed}
+use Rattle.rr_list.proofs.TableLemmas.{placed_row, keyed_row}
+use Rattle.rr_list.proofs.NotedLemmas.{put_places, held_place, table_absorbed, ascend_puts, instances_puts, all_one}
+use Rattle.rr_list.proofs.rows.Rows.put.Goals as goal
+
+pub note_decision-self-inside-requires-clause-keyed : goal.note_decision-self-inside-requires-clause-keyed
+note_decision-self-inside-requires-clause-keyed c =
+    subst AreKeyed (sym c.in-Ok-insert.ensures.filled) (keyed_row c.args.row _ (filled c.self.inside.rows.entries) c.self.invariant.keyed (c.number.ensures.value ∙ ap (λ (r : Row). r.instance) c.row.view_is))
+
+pub note_decision-self-inside-requires-clause-places : goal.note_decision-self-inside-requires-clause-places
+note_decision-self-inside-requires-clause-places c =
+    let places = c.make_request_place.new.map.entries in
+    let before = rows_in (filled c.self.inside.rows.entries) in
+    let held : HoldsDecided before (filled places) = subst (HoldsDecided before) (sym c.in-Ok.ensures.filled) c.self.invariant.holds in
+    let rows = ap (λ es. rows_in es) c.in-Ok-insert.ensures.filled ∙ placed_row c.args.row _ (filled c.self.inside.rows.entries) c.self.invariant.keyed (c.number.ensures.value ∙ ap (λ (r : Row). r.instance) c.row.view_is) in
+    subst (HavePlaces places) (sym rows) (put_places places before (c.args.row ∷ []) (held_place places before held) (all_one (λ (r : Row). IsTrue (has_request_place places r)) c.args.row c.in-Ok.ensures.made))
+
+pub invariant_of-self-in-Ok-insert : goal.invariant_of-self-in-Ok-insert
+invariant_of-self-in-Ok-insert c =
+    let at = c.number.ensures.value ∙ ap (λ (r : Row). r.instance) c.row.view_is in
+    let rows = ap (λ es. rows_in es) c.in-Ok-insert.ensures.filled ∙ placed_row c.args.row _ (filled c.self.inside.rows.entries) c.self.invariant.keyed at in
+    table_absorbed (filled c.self.inside.rows.entries) (filled c.insert.new.map.entries) (c.args.row ∷ []) (c.args.row.instance ∷ [])
+    (filled c.self.inside.requests.entries) _ c.self.inside.end _ c.self.inside.named c.named_above-self-inside.result c.self.invariant
+    (subst AreKeyed (sym c.in-Ok-insert.ensures.filled) (keyed_row c.args.row _ (filled c.self.inside.rows.entries) c.self.invariant.keyed at))
+    rows refl
+    (all_one (λ (r : Row). r.instance < 1048576) c.args.row (subst (λ i. i < 1048576) at c.number.ensures.range))
+    c.named_above-self-inside.ensures.grown (all_one (λ (r : Row). r.instance < c.named_above-self-inside.result) c.args.row (subst (λ i. i < c.named_above-self-inside.result) (ap (λ (r : Row). r.instance) c.row.view_is) c.named_above-self-inside.ensures.below))
+    (subst (λ before. KeepsDecisions before (put_row c.args.row before)) (sym c.self.view_is) c.requires)
+    (subst (λ i. IsNoted (rows_in (filled c.insert.new.map.entries)) (i ∷ []) (filled c.self.inside.requests.entries) (filled c.note_decision-self-inside.new.requests.entries) c.self.inside.end c.note_decision-self-inside.result) (ap (λ (r : Row). r.instance) c.row.view_is)
+    (subst (λ requests. IsNoted (rows_in (filled c.insert.new.map.entries)) (c.row.inside.instance ∷ []) requests (filled c.note_decision-self-inside.new.requests.entries) c.self.inside.end c.note_decision-self-inside.result) c.in-Ok.ensures.filled c.note_decision-self-inside.ensures.noted))
+
+pub returns-in-Ok-insert-clause-ok : goal.returns-in-Ok-insert-clause-ok
+returns-in-Ok-insert-clause-ok c =
+    ap (λ es. rows_in es) c.in-Ok-insert.ensures.filled
+    ∙ placed_row c.args.row _ (filled c.self.inside.rows.entries) c.self.invariant.keyed (c.number.ensures.value ∙ ap (λ (r : Row). r.instance) c.row.view_is)
+    ∙ ap (put_row c.args.row) c.self.view_is
+
+pub returns-in-Ok-insert-clause-ascend : goal.returns-in-Ok-insert-clause-ascend
+returns-in-Ok-insert-clause-ascend c =
+    let rows = ap (λ es. rows_in es) c.in-Ok-insert.ensures.filled ∙ placed_row c.args.row _ (filled c.self.inside.rows.entries) c.self.invariant.keyed (c.number.ensures.value ∙ ap (λ (r : Row). r.instance) c.row.view_is) in
+    subst (AscendFrom 0) (sym rows) (ascend_puts (rows_in (filled c.self.inside.rows.entries)) (c.args.row ∷ []) c.self.invariant.ascend)
+
+pub returns-in-Ok-insert-clause-instances : goal.returns-in-Ok-insert-clause-instances
+returns-in-Ok-insert-clause-instances c =
+    let at = c.number.ensures.value ∙ ap (λ (r : Row). r.instance) c.row.view_is in
+    let rows = ap (λ es. rows_in es) c.in-Ok-insert.ensures.filled ∙ placed_row c.args.row _ (filled c.self.inside.rows.entries) c.self.invariant.keyed at in
+    subst AreInstances (sym rows) (instances_puts (rows_in (filled c.self.inside.rows.entries)) (c.args.row ∷ []) c.self.invariant.instances (all_one (λ (r : Row). r.instance < 1048576) c.args.row (subst (λ i. i < 1048576) at c.number.ensures.range)))
