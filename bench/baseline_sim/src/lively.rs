@@ -1,14 +1,14 @@
 //! Random schedules in which something happens.
 
-use std::collections::{BTreeMap, BTreeSet};
+use std::collections::{BTreeMap, BTreeSet, HashMap, HashSet};
 
 use crate::cluster::Cluster;
 use crate::draw::{run_line, Pcg32};
 use crate::node::Stance;
-use crate::types::{Body, Fact};
+use crate::types::{Body, Fact, Message, NodeSet, Place, RequestNo};
 
 /// How many requests may be undecided before clients ask for no more.
-const UNDECIDED: u64 = 24;
+const UNDECIDED: usize = 16;
 
 /// How often a step may draw: of each of seven nodes three events that would
 /// change nothing, and one that does.
@@ -23,6 +23,7 @@ const ACK: u32 = 16;
 const TAKE: u32 = 4;
 const SUBMIT: u32 = 16;
 const TRUST: u32 = 8;
+const TICK: u32 = 8;
 
 /// What the drawing remembers of a node.
 #[derive(Default)]
@@ -35,6 +36,17 @@ struct Memory {
     heard: BTreeMap<u32, u32>,
     /// The instances that its marked facts decide.
     decided: BTreeSet<u32>,
+    /// How many of them there are from 0 on without a gap.
+    prefix: u32,
+    /// Of undecided instances, the round that its own messages named last.
+    rounds: BTreeMap<u32, u32>,
+    /// Whose estimates and acknowledgements it has heard since it is up, by
+    /// instance and round.
+    estimates: HashMap<(u32, u32), NodeSet>,
+    acks: HashMap<(u32, u32), NodeSet>,
+    /// The new requests that it was asked for since it is up and that nobody
+    /// has decided.
+    asked: HashSet<RequestNo>,
     /// Whether it may have facts to flush, a message to send, a request to
     /// acknowledge.
     may_take: bool,
@@ -67,8 +79,73 @@ impl Memory {
         self.may_send = true;
         self.may_ack = false;
         self.suspects = false;
+        self.estimates.clear();
+        self.acks.clear();
+        self.asked.clear();
         let heard = std::mem::take(&mut self.heard);
         self.decisions.extend(heard);
+    }
+
+    /// It has sent a message: which tells the round of an instance.
+    fn tell(&mut self, body: &Body) {
+        if let Body::Estimate { instance, round, .. } | Body::Ack { instance, round } = body {
+            self.rounds.insert(*instance, *round);
+        }
+    }
+
+    /// It hears a message.
+    fn hear(&mut self, message: &Message) {
+        self.may_take = true;
+        let (votes, instance, round) = match &message.body {
+            Body::Estimate { instance, round, .. } => (&mut self.estimates, *instance, *round),
+            Body::Ack { instance, round } => (&mut self.acks, *instance, *round),
+            Body::Ask { .. } => {
+                self.may_send = true;
+                return;
+            }
+            _ => return,
+        };
+        *votes.entry((instance, round)).or_default() |= 1 << message.from;
+        self.may_send |= matches!(message.body, Body::Estimate { .. });
+    }
+
+    /// Whether it does nothing when it hears this: the instance is decided, or
+    /// a majority has said the same.
+    fn has_enough(&self, place: Place, body: &Body) -> bool {
+        let is_heard = |votes: &HashMap<(u32, u32), NodeSet>, instance: u32, round: u32| {
+            let senders = votes.get(&(instance, round));
+            senders.is_some_and(|senders| place.is_majority(senders.count_ones()))
+        };
+        match body {
+            Body::Estimate { instance, round, .. } => {
+                !self.decided.contains(instance) && is_heard(&self.estimates, *instance, *round)
+            }
+            Body::Ack { instance, round } => {
+                self.decided.contains(instance) || is_heard(&self.acks, *instance, *round)
+            }
+            Body::Proposal { instance, .. } | Body::Nack { instance, .. } => {
+                self.decided.contains(instance)
+            }
+            _ => false,
+        }
+    }
+
+    /// Its marked facts decide an instance.
+    fn decide(&mut self, instance: u32) {
+        self.may_ack = true;
+        self.decisions.remove(&instance);
+        self.heard.remove(&instance);
+        self.rounds.remove(&instance);
+        self.decided.insert(instance);
+        while self.decided.contains(&self.prefix) {
+            self.prefix += 1;
+        }
+    }
+
+    /// Whether others have decided its first undecided instance, and it has
+    /// heard no Decision of it.
+    fn lags(&self, prefix: u32) -> bool {
+        self.prefix < prefix && !self.heard.contains_key(&self.prefix)
     }
 
     /// An input came, after which it may have something to flush or to send.
@@ -85,8 +162,6 @@ struct Drawing {
     /// from 0 on without a gap.
     decided: BTreeSet<u32>,
     prefix: u32,
-    /// How many requests may be lost.
-    lost: u64,
     /// How many requests were made.
     requests: u64,
     /// How often nobody had anything to do.
@@ -172,7 +247,6 @@ impl Drawing {
             memories: (0..nodes).map(|_| Memory::default()).collect(),
             decided: BTreeSet::new(),
             prefix: 0,
-            lost: 0,
             requests: 0,
             quiet: 0,
         }
@@ -202,6 +276,7 @@ impl Drawing {
                 if kept {
                     let number = cluster.wire().len() - 1;
                     let message = &cluster.wire()[number];
+                    self.memory(p).tell(&message.body);
                     self.memory(message.to).expect(number as u32, &message.body);
                 }
             }
@@ -249,16 +324,15 @@ impl Drawing {
 
     /// Messages that would do nothing are forgotten, up to one that would do something.
     fn forget_idle(&mut self, cluster: &Cluster, p: u8, pick: u32) {
+        let place = Place {
+            node: p,
+            nodes: self.nodes,
+        };
         let memory = self.memory(p);
         while !memory.unheard.is_empty() {
             let at = pick as usize % memory.unheard.len();
-            let about = match &cluster.wire()[memory.unheard[at] as usize].body {
-                Body::Proposal { instance, .. }
-                | Body::Ack { instance, .. }
-                | Body::Nack { instance, .. } => Some(*instance),
-                _ => None,
-            };
-            if !about.is_some_and(|instance| memory.decided.contains(&instance)) {
+            let body = &cluster.wire()[memory.unheard[at] as usize].body;
+            if !memory.has_enough(place, body) {
                 return;
             }
             memory.unheard.swap_remove(at);
@@ -273,10 +347,17 @@ impl Drawing {
         })
     }
 
+    /// Whether clients may ask for a new command.
+    fn may_submit(&self) -> bool {
+        let asked: usize = self.memories.iter().map(|memory| memory.asked.len()).sum();
+        asked + self.decided.len() - (self.prefix as usize) < UNDECIDED
+    }
+
     /// What a node that is up does next, by weights.
     fn choose(&mut self, cluster: &Cluster, p: u8, stance: Stance, b: u32) -> Option<String> {
         let memory = &self.memories[usize::from(p)];
-        let takes_early = b / 256 % 1024 == 0;
+        let detail = b / 256;
+        let is_calm = !self.is_busy(cluster);
         let may = [
             (memory.may_hear(), HEAR),
             (memory.may_send, SEND),
@@ -286,21 +367,18 @@ impl Drawing {
             (
                 stance == Stance::Resting
                     && memory.may_take
-                    && (takes_early || !self.is_busy(cluster)),
+                    && (is_calm || detail % 1024 == 0),
                 TAKE,
             ),
-            (
-                self.requests < u64::from(self.prefix) + self.lost + UNDECIDED,
-                SUBMIT,
-            ),
+            (self.may_submit(), SUBMIT),
             (memory.suspects, TRUST),
+            (is_calm && detail % 16 == 0 && memory.lags(self.prefix), TICK),
         ];
         let sum: u32 = may.iter().filter(|(may, _)| *may).map(|(_, weight)| weight).sum();
         if sum == 0 {
             return None;
         }
         let mut left = b % sum;
-        let detail = b / 256;
         for (kind, (may, weight)) in may.into_iter().enumerate() {
             if !may {
                 continue;
@@ -322,10 +400,14 @@ impl Drawing {
             4 => format!("ack {p}"),
             5 => format!("take {p}"),
             6 => self.submit(p, detail),
-            _ => {
+            7 => {
                 self.memory(p).stir();
                 self.memory(p).suspects = false;
                 format!("suspect {p} -")
+            }
+            _ => {
+                self.memory(p).stir();
+                format!("tick {p}")
             }
         }
     }
@@ -333,9 +415,9 @@ impl Drawing {
     /// The node hears the Decision of the lowest instance, or else some message that it may hear again.
     fn hear(&mut self, cluster: &Cluster, p: u8, detail: u32) -> String {
         let memory = self.memory(p);
-        memory.may_take = true;
         if let Some((instance, number)) = memory.decisions.pop_first() {
             memory.heard.insert(instance, number);
+            memory.may_take = true;
             return format!("hear {p} {number}");
         }
         let at = (detail / 16) as usize % memory.unheard.len();
@@ -343,23 +425,19 @@ impl Drawing {
         if detail % 16 != 0 {
             memory.unheard.swap_remove(at);
         }
-        let body = &cluster.wire()[number as usize].body;
-        if matches!(body, Body::Ask { .. } | Body::Estimate { .. }) {
-            memory.may_send = true;
-        }
+        memory.hear(&cluster.wire()[number as usize]);
         format!("hear {p} {number}")
     }
 
     fn mark(&mut self, cluster: &Cluster, p: u8) -> String {
-        let memory = &mut self.memories[usize::from(p)];
-        memory.may_send = true;
+        self.memory(p).may_send = true;
         for fact in cluster.node(p).synced() {
-            if let Fact::Decide { instance, .. } = fact {
-                memory.may_ack = true;
-                memory.decisions.remove(instance);
-                memory.heard.remove(instance);
-                memory.decided.insert(*instance);
+            if let Fact::Decide { instance, command } = fact {
+                self.memory(p).decide(*instance);
                 self.decided.insert(*instance);
+                for memory in &mut self.memories {
+                    memory.asked.remove(&command.request);
+                }
             }
         }
         while self.decided.contains(&self.prefix) {
@@ -387,30 +465,46 @@ impl Drawing {
         };
         let memory = self.memory(p);
         memory.stir();
-        memory.may_ack |= is_again;
+        if is_again {
+            memory.may_ack = true;
+        } else {
+            memory.asked.insert(RequestNo { client: client as u32, seq });
+        }
         format!("submit {p} {client} {seq} {op}")
     }
 
     /// Nobody has anything to do: a node is restarted, or a client asks for a new
-    /// command, or all nodes in turn suspect a node or tick.
+    /// command, or a node is helped that is behind the others, or all nodes tick
+    /// in turn.
     fn stir(&mut self, cluster: &Cluster, from: u8, b: u32) -> (u8, String) {
         if let Some(p) = self.first_from(cluster, from, is_down) {
             return (p, format!("restart {p}"));
         }
         if b / 256 % 32 == 0 {
-            self.lost = self.requests.saturating_sub(u64::from(self.prefix));
+            for memory in &mut self.memories {
+                memory.asked.clear();
+            }
             return (from, self.submit(from, 1));
         }
-        let nodes = u32::from(self.nodes);
-        let (p, phase) = (self.quiet % nodes, self.quiet / nodes);
-        self.quiet = self.quiet.wrapping_add(1);
-        self.memory(p as u8).stir();
-        if phase % 2 == 1 {
-            return (p as u8, format!("tick {p}"));
+        if let Some(p) = self.first_behind(from) {
+            let instance = self.prefix;
+            *self.memory(p).rounds.entry(instance).or_default() += 1;
+            self.memory(p).stir();
+            return (p, format!("advance {p}"));
         }
-        let suspected = (1 + phase / 2) % nodes;
-        self.memory(p as u8).suspects = true;
-        (p as u8, format!("suspect {p} {suspected}"))
+        let p = (self.quiet % u32::from(self.nodes)) as u8;
+        self.quiet = self.quiet.wrapping_add(1);
+        self.memory(p).stir();
+        (p, format!("tick {p}"))
+    }
+
+    /// The first node, counted from this one on, whose round of the first
+    /// undecided instance lies below another node's.
+    fn first_behind(&self, from: u8) -> Option<u8> {
+        let round = |p: u8| self.memories[usize::from(p)].rounds.get(&self.prefix);
+        let last = (0..self.nodes).filter_map(round).max()?;
+        let mut around = (0..self.nodes).map(|k| (from + k) % self.nodes);
+        around.find(|&p| round(p).is_some_and(|round| round < last))
     }
 
     /// An event with a fault, if it has a place; or a message is lost.

@@ -7,10 +7,10 @@ use crate::memory::Memory;
 use crate::stances::{Kind, node_at, stance_of};
 use rr_sim::{Cluster, Stance};
 use rr_text::Event;
-use rr_types::{Body, NodeId, NodeSet, Refusal};
+use rr_types::{NodeId, NodeSet, Refusal};
 
 /// How many requests may be undecided before clients ask for no more.
-const UNDECIDED: u64 = 24;
+const UNDECIDED: usize = 16;
 
 /// What a node may do.
 #[derive(Clone, Copy)]
@@ -23,6 +23,7 @@ enum Choice {
     Take,
     Submit,
     Trust,
+    Tick,
 }
 
 /// A weight, or none where the choice isn't there.
@@ -31,7 +32,7 @@ fn weight(may: bool, weight: u32) -> u32 {
 }
 
 /// The choice that a word falls on, by the weights; none where there is no weight.
-fn chosen(choices: &[(Choice, u32); 8], word: u32) -> Option<Choice> {
+fn chosen(choices: &[(Choice, u32); 9], word: u32) -> Option<Choice> {
     let mut sum = 0u32;
     for (_, weight) in choices {
         sum = sum.saturating_add(*weight);
@@ -60,9 +61,8 @@ impl Drawing {
     ) -> Result<Option<Event>, Refusal>
         ensures { IfErr result (λ e. e ≡ Refusal.OutOfMemory) }
     {
-        let takes = word / 256 % 1024 == 0 || !self.is_busy(cluster);
         let choices = match self.memories.get(usize::from(node.index())) {
-            Some(memory) => self.choices(memory, stance, takes),
+            Some(memory) => self.choices(memory, stance, !self.is_busy(cluster), word / 256),
             None => return Ok(None),
         };
         match chosen(&choices, word) {
@@ -72,12 +72,16 @@ impl Drawing {
     }
 
     /// What a node may do, with the weights.
-    fn choices(&self, memory: &Memory, stance: Stance, takes: bool) -> [(Choice, u32); 8] {
-        let allowed = self
-            .prefix
-            .saturating_add(self.lost)
-            .saturating_add(UNDECIDED);
+    fn choices(
+        &self,
+        memory: &Memory,
+        stance: Stance,
+        is_calm: bool,
+        detail: u32,
+    ) -> [(Choice, u32); 9] {
+        let takes = is_calm || detail % 1024 == 0;
         let may_take = takes && stance == Stance::Resting && memory.may_take;
+        let may_tick = is_calm && detail % 16 == 0 && memory.lags(self.prefix);
         [
             (Choice::Hear, weight(memory.may_hear(), 32)),
             (Choice::Send, weight(memory.may_send, 32)),
@@ -85,9 +89,19 @@ impl Drawing {
             (Choice::Mark, weight(stance == Stance::Flushed, 32)),
             (Choice::Ack, weight(memory.may_ack, 16)),
             (Choice::Take, weight(may_take, 4)),
-            (Choice::Submit, weight(self.requests < allowed, 16)),
+            (Choice::Submit, weight(self.may_submit(), 16)),
             (Choice::Trust, weight(memory.suspects, 8)),
+            (Choice::Tick, weight(may_tick, 8)),
         ]
+    }
+
+    /// Whether clients may ask for a new command.
+    fn may_submit(&self) -> bool {
+        let mut undecided = self.decided_behind();
+        for memory in &self.memories {
+            undecided = undecided.saturating_add(memory.asked());
+        }
+        undecided < UNDECIDED
     }
 
     /// Whether some node that is up has something to hear or maybe to send.
@@ -123,8 +137,12 @@ impl Drawing {
             }
             Choice::Ack => Ok(Some(Event::Ack { node })),
             Choice::Take => Ok(Some(Event::Take { node })),
-            Choice::Submit => Ok(Some(self.submit(node, detail))),
+            Choice::Submit => {
+                let event = self.submit(node, detail)?;
+                Ok(Some(event))
+            }
             Choice::Trust => Ok(Some(self.trust(node))),
+            Choice::Tick => Ok(Some(self.tick(node))),
         }
     }
 
@@ -145,9 +163,7 @@ impl Drawing {
         };
         memory.may_take = true;
         if let Some(message) = cluster.wire().get(number as usize) {
-            if matches!(message.body, Body::Ask(_) | Body::Estimate(_, _)) {
-                memory.may_send = true;
-            }
+            memory.hear(message)?;
         }
         Ok(Some(Event::Hear {
             node,

@@ -6,7 +6,7 @@ use crate::memory::Memory;
 use crate::stances::{Kind, count_of, first_from, node_at, node_behind, stance_of};
 use rr_sim::{Cluster, Stance};
 use rr_text::Event;
-use rr_types::{Command, Fact, Name, NodeId, NodeSet, Nodes, Op, Refusal, RequestNo, Value};
+use rr_types::{Command, Fact, Name, NodeId, Nodes, Op, Refusal, RequestNo, Value};
 use std::alloc::Global;
 use std::collections::BTreeSet;
 
@@ -18,9 +18,8 @@ pub(crate) struct Drawing {
     /// The instances that some node has decided, and how many of them there are from 0 on without a gap.
     decided: BTreeSet<u32>,
     pub(crate) prefix: u64,
-    /// How many requests were made, and how many of them are taken for lost.
-    pub(crate) requests: u64,
-    pub(crate) lost: u64,
+    /// How many requests were made.
+    requests: u64,
     /// How often nobody had anything to do.
     quiet: u32,
 }
@@ -40,7 +39,6 @@ impl Drawing {
             decided: BTreeSet::new(alloc),
             prefix: 0,
             requests: 0,
-            lost: 0,
             quiet: 0,
         })
     }
@@ -67,13 +65,13 @@ impl Drawing {
             }
         }
         if is_kept && matches!(event, Event::Send { .. }) {
-            self.expect_last(cluster)?;
+            self.carry_last(cluster)?;
         }
         Ok(())
     }
 
-    /// The last message on the wire may be heard from now on.
-    fn expect_last(&mut self, cluster: &Cluster) -> Result<(), Refusal>
+    /// The last message on the wire was sent, and may be heard from now on.
+    fn carry_last(&mut self, cluster: &Cluster) -> Result<(), Refusal>
         ensures { IfErr result (λ e. e ≡ Refusal.OutOfMemory) }
     {
         let Some(message) = cluster.wire().last() else {
@@ -81,6 +79,9 @@ impl Drawing {
         };
         // A schedule has at most a million events, and each sends at most one message.
         let number = (cluster.wire().len() as u64 - 1).min(4_294_967_295) as u32;
+        if let Some(memory) = self.memories.get_mut(usize::from(message.from.index())) {
+            memory.tell(&message.body)?;
+        }
         match self.memories.get_mut(usize::from(message.to.index())) {
             Some(memory) => memory.expect(number, &message.body),
             None => Ok(()),
@@ -102,7 +103,7 @@ impl Drawing {
                 return Ok(event);
             }
         }
-        Ok(self.stir(cluster, from, word))
+        self.stir(cluster, from, word)
     }
 
     /// What a node does next, if there is something.
@@ -115,7 +116,7 @@ impl Drawing {
             Stance::Opening => Ok(Some(Event::Device { node })),
             _ => {
                 if let Some(memory) = self.memories.get_mut(usize::from(node.index())) {
-                    memory.forget_idle(cluster.wire(), word / 4096);
+                    memory.forget_idle(self.nodes, cluster.wire(), word / 4096);
                 }
                 self.choose(cluster, node, stance, word)
             }
@@ -151,8 +152,25 @@ impl Drawing {
                 self.decided.insert(instance.number())?;
             }
         }
+        self.settle(seat.synced());
         self.count_prefix();
         Ok(())
+    }
+
+    /// The requests of decided commands are no longer undecided.
+    fn settle(&mut self, facts: &[Fact]) {
+        for fact in facts {
+            if let Fact::Decide(_, command) = fact {
+                for memory in &mut self.memories {
+                    memory.settle(command.request);
+                }
+            }
+        }
+    }
+
+    /// How many instances are decided beyond the first that isn't.
+    pub(crate) fn decided_behind(&self) -> usize {
+        (self.decided.len() as u64).saturating_sub(self.prefix) as usize
     }
 
     /// Counts the instances that are decided from 0 on.
@@ -166,7 +184,9 @@ impl Drawing {
     }
 
     /// A client asks a node for a new command, or again for one of the last eight.
-    pub(crate) fn submit(&mut self, node: NodeId, detail: u32) -> Event {
+    pub(crate) fn submit(&mut self, node: NodeId, detail: u32) -> Result<Event, Refusal>
+        ensures { IfErr result (λ e. e ≡ Refusal.OutOfMemory) }
+    {
         let is_again = detail % 8 == 0 && self.requests > 0;
         let number = if is_again {
             let back = u64::from(detail / 8) % self.requests.min(8);
@@ -176,41 +196,70 @@ impl Drawing {
             self.requests = number.saturating_add(1);
             number
         };
+        let command = command_of(number);
         if let Some(memory) = self.memories.get_mut(usize::from(node.index())) {
             memory.stir();
-            memory.may_ack = memory.may_ack || is_again;
+            if is_again {
+                memory.may_ack = true;
+            } else {
+                memory.ask(command.request)?;
+            }
         }
-        Event::Submit {
-            node,
-            command: command_of(number),
-        }
+        Ok(Event::Submit { node, command })
     }
 
-    /// Nobody has anything to do: a node is restarted, or a client asks for a new command, or all nodes in turn suspect
-    /// a node or tick.
-    fn stir(&mut self, cluster: &Cluster, from: NodeId, word: u32) -> Event {
+    /// Nobody has anything to do: a node is restarted, or a client asks for a new command, or a node enters the next
+    /// round whose round is behind another's, or all nodes tick in turn.
+    fn stir(&mut self, cluster: &Cluster, from: NodeId, word: u32) -> Result<Event, Refusal>
+        ensures { IfErr result (λ e. e ≡ Refusal.OutOfMemory) }
+    {
         if let Some(node) = first_from(self.nodes, cluster, from, Kind::Down) {
-            return Event::Restart { node };
+            return Ok(Event::Restart { node });
         }
         if word / 256 % 32 == 0 {
-            self.lost = self.requests.saturating_sub(self.prefix);
+            for memory in &mut self.memories {
+                memory.lose_requests();
+            }
             return self.submit(from, 1);
         }
-        let nodes = self.nodes;
-        let count = u32::from(nodes.count());
-        let node = node_at(nodes, self.quiet);
-        let phase = self.quiet / count;
+        if let Some(node) = self.advance_behind(from)? {
+            return Ok(Event::Advance { node });
+        }
+        let node = node_at(self.nodes, self.quiet);
         self.quiet = self.quiet.wrapping_add(1);
-        if let Some(memory) = self.memories.get_mut(usize::from(node.index())) {
-            memory.stir();
-            memory.suspects = memory.suspects || phase % 2 == 0;
+        Ok(self.tick(node))
+    }
+
+    /// The first node, counted from this one on, whose round of the first undecided instance is behind another's enters
+    /// the next one.
+    fn advance_behind(&mut self, from: NodeId) -> Result<Option<NodeId>, Refusal>
+        ensures { IfErr result (λ e. e ≡ Refusal.OutOfMemory) }
+    {
+        let instance = self.prefix.min(4_294_967_295) as u32;
+        let last = self.last_round(instance);
+        for count in 0..self.nodes.count() {
+            let node = node_behind(self.nodes, from, count);
+            if let Some(memory) = self.memories.get_mut(usize::from(node.index())) {
+                if let Some(round) = memory.round_of(instance) {
+                    if round < last {
+                        memory.advance(instance, round)?;
+                        return Ok(Some(node));
+                    }
+                }
+            }
         }
-        if phase % 2 == 1 {
-            Event::Tick { node }
-        } else {
-            let set = NodeSet::empty().with(node_at(nodes, (phase / 2).saturating_add(1)));
-            Event::Suspect { node, set }
+        Ok(None)
+    }
+
+    /// The greatest round of an instance that a node's messages have told, else 0.
+    fn last_round(&self, instance: u32) -> u32 {
+        let mut last = 0u32;
+        for memory in &self.memories {
+            if let Some(round) = memory.round_of(instance) {
+                last = last.max(round);
+            }
         }
+        last
     }
 }
 

@@ -149,7 +149,7 @@ impl Drawing {
     }
 
     /// The heartbeat detector of a node ticks.
-    fn tick(&mut self, node: NodeId) -> Event {
+    pub(crate) fn tick(&mut self, node: NodeId) -> Event {
         self.stir_at(node, false);
         Event::Tick { node }
     }

@@ -2,7 +2,9 @@
 
 ghost use Rattle.std.specs.Prelude.{◌≡◌, IfErr};
 
-use rr_types::{Body, Message, Refusal};
+use rr_types::{
+    Body, Instance, Message, NodeId, NodeSet, Nodes, Refusal, RequestNo, Round, majority,
+};
 use std::alloc::Global;
 use std::collections::{BTreeMap, BTreeSet};
 
@@ -17,6 +19,15 @@ pub(crate) struct Memory {
     heard: BTreeMap<u32, u32>,
     /// The instances that its marked facts decide.
     decided: BTreeSet<u32>,
+    /// How many of them there are from 0 on without a gap.
+    prefix: u32,
+    /// Of instances, the round that its own messages named last.
+    rounds: BTreeMap<u32, u32>,
+    /// Whose Estimates and Acks it has heard since it is up, by instance and round.
+    estimates: BTreeMap<(u32, u32), NodeSet>,
+    acks: BTreeMap<(u32, u32), NodeSet>,
+    /// The new requests that it was asked for since it is up and that nobody has decided.
+    asked: BTreeSet<RequestNo>,
     /// Whether it may have facts to flush, a message to send, a request to acknowledge.
     pub(crate) may_take: bool,
     pub(crate) may_send: bool,
@@ -33,6 +44,11 @@ impl Memory {
             decisions: BTreeMap::new(alloc),
             heard: BTreeMap::new(alloc),
             decided: BTreeSet::new(alloc),
+            prefix: 0,
+            rounds: BTreeMap::new(alloc),
+            estimates: BTreeMap::new(alloc),
+            acks: BTreeMap::new(alloc),
+            asked: BTreeSet::new(alloc),
             may_take: false,
             may_send: false,
             may_ack: false,
@@ -51,7 +67,7 @@ impl Memory {
         self.may_send = true;
     }
 
-    /// It isn't up: what it had heard and not kept, it may hear again.
+    /// It isn't up: what it had heard and not kept, it may hear again, and what it was asked for may be lost.
     pub(crate) fn stop(&mut self) -> Result<(), Refusal>
         ensures { IfErr result (λ e. e ≡ Refusal.OutOfMemory) }
     {
@@ -59,6 +75,9 @@ impl Memory {
         self.may_send = true;
         self.may_ack = false;
         self.suspects = false;
+        self.estimates.clear();
+        self.acks.clear();
+        self.asked.clear();
         self.decisions.append(&mut self.heard)?;
         Ok(())
     }
@@ -79,8 +98,25 @@ impl Memory {
         Ok(())
     }
 
+    /// It has sent a message, which may tell its round of an instance.
+    pub(crate) fn tell(&mut self, body: &Body) -> Result<(), Refusal>
+        ensures { IfErr result (λ e. e ≡ Refusal.OutOfMemory) }
+    {
+        match body {
+            Body::Estimate(instance, estimate) => {
+                self.rounds
+                    .insert(instance.number(), estimate.round().number())?;
+            }
+            Body::Ack(instance, round) => {
+                self.rounds.insert(instance.number(), round.number())?;
+            }
+            _ => (),
+        }
+        Ok(())
+    }
+
     /// Messages that would do nothing are forgotten, up to one that would do something.
-    pub(crate) fn forget_idle(&mut self, wire: &[Message], pick: u32) {
+    pub(crate) fn forget_idle(&mut self, nodes: Nodes, wire: &[Message], pick: u32) {
         for _message in 0..self.unheard.len() {
             let count = self.unheard.len();
             if count == 0 {
@@ -88,7 +124,7 @@ impl Memory {
             }
             let at = pick as usize % count;
             let is_idle = match wire.get(self.unheard[at] as usize) {
-                Some(message) => self.has_decided(&message.body),
+                Some(message) => self.has_enough(nodes, &message.body),
                 None => true,
             };
             if !is_idle {
@@ -98,11 +134,20 @@ impl Memory {
         }
     }
 
-    /// Whether a message is a Proposal, an Ack or a Nack of an instance that it has decided.
-    fn has_decided(&self, body: &Body) -> bool {
+    /// Whether it does nothing when it hears this: the instance is decided, or a majority has said the same.
+    fn has_enough(&self, nodes: Nodes, body: &Body) -> bool {
         match body {
-            Body::Proposal(instance, _, _) | Body::Ack(instance, _) | Body::Nack(instance, _) =>
-                self.decided.contains(&instance.number()),
+            Body::Estimate(instance, estimate) => {
+                !self.decided.contains(&instance.number())
+                    && are_many(nodes, &self.estimates, *instance, estimate.round())
+            }
+            Body::Ack(instance, round) => {
+                self.decided.contains(&instance.number())
+                    || are_many(nodes, &self.acks, *instance, *round)
+            }
+            Body::Proposal(instance, _, _) | Body::Nack(instance, _) => {
+                self.decided.contains(&instance.number())
+            }
             _ => false,
         }
     }
@@ -127,6 +172,29 @@ impl Memory {
         Ok(Some(self.unheard.swap_remove(at)))
     }
 
+    /// It hears a message.
+    pub(crate) fn hear(&mut self, message: &Message) -> Result<(), Refusal>
+        ensures { IfErr result (λ e. e ≡ Refusal.OutOfMemory) }
+    {
+        match &message.body {
+            Body::Estimate(instance, estimate) => {
+                self.may_send = true;
+                note(
+                    &mut self.estimates,
+                    *instance,
+                    estimate.round(),
+                    message.from,
+                )
+            }
+            Body::Ack(instance, round) => note(&mut self.acks, *instance, *round, message.from),
+            Body::Ask(_) => {
+                self.may_send = true;
+                Ok(())
+            }
+            _ => Ok(()),
+        }
+    }
+
     /// One of the messages that it hasn't heard is lost.
     pub(crate) fn lose(&mut self, detail: u32) {
         let count = self.unheard.len();
@@ -142,7 +210,90 @@ impl Memory {
         self.may_ack = true;
         let _ = self.decisions.remove(&instance);
         let _ = self.heard.remove(&instance);
+        let _ = self.rounds.remove(&instance);
         self.decided.insert(instance)?;
+        for _instance in 0..self.decided.len() {
+            if !self.decided.contains(&self.prefix) {
+                break;
+            }
+            self.prefix = self.prefix.saturating_add(1);
+        }
         Ok(())
     }
+
+    /// Whether others have decided its first undecided instance, and it has heard no Decision of it.
+    pub(crate) fn lags(&self, prefix: u64) -> bool {
+        u64::from(self.prefix) < prefix && !self.heard.contains_key(&self.prefix)
+    }
+
+    /// Its round of an instance, where its messages have told one.
+    pub(crate) fn round_of(&self, instance: u32) -> Option<u32> {
+        match self.rounds.get(&instance) {
+            Some(round) => Some(*round),
+            None => None,
+        }
+    }
+
+    /// It enters the round behind this one of an instance.
+    pub(crate) fn advance(&mut self, instance: u32, round: u32) -> Result<(), Refusal>
+        ensures { IfErr result (λ e. e ≡ Refusal.OutOfMemory) }
+    {
+        self.rounds.insert(instance, round.saturating_add(1))?;
+        self.stir();
+        Ok(())
+    }
+
+    /// A client asks it for a new command.
+    pub(crate) fn ask(&mut self, request: RequestNo) -> Result<(), Refusal>
+        ensures { IfErr result (λ e. e ≡ Refusal.OutOfMemory) }
+    {
+        self.asked.insert(request)?;
+        Ok(())
+    }
+
+    /// How many new requests it was asked for that nobody has decided.
+    pub(crate) fn asked(&self) -> usize {
+        self.asked.len()
+    }
+
+    /// A request is decided.
+    pub(crate) fn settle(&mut self, request: RequestNo) {
+        let _ = self.asked.remove(&request);
+    }
+
+    /// All requests that it was asked for are taken for lost.
+    pub(crate) fn lose_requests(&mut self) {
+        self.asked.clear();
+    }
+}
+
+/// Whether a majority of nodes has said the same of an instance and a round.
+fn are_many(
+    nodes: Nodes,
+    said: &BTreeMap<(u32, u32), NodeSet>,
+    instance: Instance,
+    round: Round,
+) -> bool {
+    match said.get(&(instance.number(), round.number())) {
+        Some(senders) => senders.bits().count_ones() >= u32::from(majority(nodes)),
+        None => false,
+    }
+}
+
+/// A node has said something of an instance and a round.
+fn note(
+    said: &mut BTreeMap<(u32, u32), NodeSet>,
+    instance: Instance,
+    round: Round,
+    sender: NodeId,
+) -> Result<(), Refusal>
+    ensures { IfErr result (λ e. e ≡ Refusal.OutOfMemory) }
+{
+    let place = (instance.number(), round.number());
+    let senders = match said.get(&place) {
+        Some(senders) => *senders,
+        None => NodeSet::empty(),
+    };
+    said.insert(place, senders.with(sender))?;
+    Ok(())
 }
