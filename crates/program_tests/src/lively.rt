@@ -10,7 +10,8 @@ use std::process::Abort;
 /// The text of a lively schedule on three nodes, a line `report`, and the report.
 fn drawn(rt: &impl Abort, alloc: Global, seed: u64, faults: u32) -> String {
     let nodes = Nodes::new(3).expect(rt, "nodes");
-    let text = lively_run(alloc, nodes, seed, 1_000, faults).expect(rt, "a schedule");
+    let unwatched = &mut Counted::new(Vec::new(alloc));
+    let text = lively_run(alloc, nodes, seed, 1_000, faults, unwatched).expect(rt, "a schedule");
     String::from_utf8(text).expect(rt, "a text")
 }
 

@@ -9,51 +9,64 @@ ghost use Rattle.rr_account.specs.Accounts.{IsAccountOn, IsReportOf};
 use crate::account::Account;
 use crate::outcome::{Idle, Outcome};
 use rr_sim::{Cluster, Stance, node_of, simulate};
+use rr_stream::{Sink, tell_step};
 use rr_text::{Event, Schedule};
 use rr_types::Refusal;
 use std::alloc::Global;
 
-/// The account of the run of the schedule whose text the bytes are.
+/// The account of the run of the schedule whose text the bytes are. Who watches `out` is told how far it is; `out` takes
+/// nothing.
 ///
 /// # Errors
 /// `BadNodes` and `BadEvent` for bytes that are no schedule, as of `Schedule::parse`; `OutOfMemory`.
-pub fn account_on(alloc: Global, bytes: &[u8]) -> Result<Account, Refusal>
+pub fn account_on<O: Sink>(alloc: Global, bytes: &[u8], out: &mut O) -> Result<Account, Refusal>
     ensures ok { IfOk result (λ account. IsAccountOn bytes.now account) }
     ensures fault { IfErr result (λ e. IsFault IsEvent event_line bytes.now e) }
+    ensures unprinted { O.printing out.new ≡ O.printing out.old }
 {
     match Schedule::parse(alloc, bytes) {
         Ok(schedule) => {
-            let account = watch(alloc, schedule)?;
+            let account = watch(alloc, schedule, out)?;
             Ok(account)
         }
         Err(refusal) => Err(refusal),
     }
 }
 
-/// The account of the run of a schedule. It is run twice: for its report, and to see what comes of each event.
+/// The account of the run of a schedule. It is run twice: to see what comes of each event, and for its report. Who
+/// watches `out` is told how far it is: half of the way, once the second run begins. `out` takes nothing.
 ///
 /// # Errors
 /// `OutOfMemory`.
-pub fn watch(alloc: Global, schedule: Schedule) -> Result<Account, Refusal>
+pub fn watch<O: Sink>(alloc: Global, schedule: Schedule, out: &mut O) -> Result<Account, Refusal>
     ensures schedule { IfOk result (λ account. account.schedule ≡ schedule) }
     ensures run { IfOk result (λ account. IsReportOf schedule account.report) }
     ensures err { IfErr result (λ e. e ≡ Refusal.OutOfMemory) }
+    ensures unprinted { O.printing out.new ≡ O.printing out.old }
 {
     let nodes = schedule.nodes().count();
-    let report = simulate(alloc, nodes, &schedule)?;
-    let outcomes = outcomes_of(alloc, &schedule)?;
-    Ok(Account::new(schedule, outcomes, report))
+    let outcomes = outcomes_of(alloc, &schedule, out);
+    let report = simulate(alloc, nodes, &schedule);
+    out.tell_progress(1, 1);
+    Ok(Account::new(schedule, outcomes?, report?))
 }
 
-// What comes of each event of a schedule, in turn.
-fn outcomes_of(alloc: Global, schedule: &Schedule) -> Result<Vec<Outcome>, Refusal>
-    ensures { IfErr result (λ e. e ≡ Refusal.OutOfMemory) }
+// What comes of each event of a schedule, in turn, which is told as half of the work.
+fn outcomes_of<O: Sink>(
+    alloc: Global,
+    schedule: &Schedule,
+    out: &mut O,
+) -> Result<Vec<Outcome>, Refusal>
+    ensures err { IfErr result (λ e. e ≡ Refusal.OutOfMemory) }
+    ensures unprinted { O.printing out.new ≡ O.printing out.old }
 {
     let mut cluster = Cluster::new(alloc, schedule.nodes())?;
     let mut told = Vec::new(alloc);
     let mut outcomes = Vec::new(alloc);
     let mut line = 2u64;
+    let work = (schedule.events().len() as u64).saturating_mul(2);
     for event in schedule.events() {
+        tell_step(line, line, work, out);
         let before = stance_at(&cluster, event);
         cluster.step(alloc, line, event)?;
         told.clear();

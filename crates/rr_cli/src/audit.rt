@@ -66,7 +66,7 @@ fn audit_bytes<O: Sink, E: Write>(
     ensures ends { EndsOnTape bytes.now result (O.printing out.old) (O.printing out.new) }
     ensures quiet { result ≡ 0 → Keeps (E.contents err.old) (E.contents err.new) }
 {
-    match audit_on(alloc, bytes) {
+    match audit_on(alloc, bytes, out) {
         Ok(verdict) => end_by_verdict(alloc, bytes, verdict, out, err),
         Err(refusal) => end_by_tape_fault(err, name, bytes, &refusal),
     }

@@ -114,50 +114,59 @@ fn numbers_of(words: &DrawWords) -> Option<Draw>
 }
 
 // The text of a random schedule.
-fn lone_schedule(alloc: Global, draw: Draw) -> Result<Vec<u8>, Refusal>
+fn lone_schedule<O: Sink>(alloc: Global, draw: Draw, out: &mut O) -> Result<Vec<u8>, Refusal>
     requires { draw.steps ≤ 999930 }
     ensures ok { IfOk result (λ text. IsDrawnText true None draw.nodes draw.seed draw.steps text.items) }
     ensures err { IfErr result (λ e. e ≡ Refusal.OutOfMemory) }
+    ensures unprinted { O.printing out.new ≡ O.printing out.old }
 {
-    let schedule = random(alloc, draw.nodes, draw.seed, draw.steps)?;
+    let schedule = random(alloc, draw.nodes, draw.seed, draw.steps, out)?;
     schedule.text(alloc)
 }
 
 // The text of a random schedule that isn't lively: alone, or with a line `report` and the report of its run.
-fn random_text(alloc: Global, draw: Draw) -> Result<Vec<u8>, Refusal>
+fn random_text<O: Sink>(alloc: Global, draw: Draw, out: &mut O) -> Result<Vec<u8>, Refusal>
     requires { draw.steps ≤ 999930 }
     ensures ok { IfOk result (λ text. IsDrawnText draw.alone None draw.nodes draw.seed draw.steps text.items) }
     ensures err { IfErr result (λ e. e ≡ Refusal.OutOfMemory) }
+    ensures unprinted { O.printing out.new ≡ O.printing out.old }
 {
     if draw.alone {
-        lone_schedule(alloc, draw)
+        lone_schedule(alloc, draw, out)
     } else {
-        random_run(alloc, draw.nodes, draw.seed, draw.steps)
+        random_run(alloc, draw.nodes, draw.seed, draw.steps, out)
     }
 }
 
 // The text of a lively schedule with so many faults: alone, or with a line `report` and the report of its run.
-fn lively_text(alloc: Global, draw: Draw, faults: u32) -> Result<Vec<u8>, Refusal>
+fn lively_text<O: Sink>(
+    alloc: Global,
+    draw: Draw,
+    faults: u32,
+    out: &mut O,
+) -> Result<Vec<u8>, Refusal>
     requires { draw.steps ≤ 999930 }
     ensures ok { IfOk result (λ text. IsDrawnText draw.alone (Some faults) draw.nodes draw.seed draw.steps text.items) }
     ensures err { IfErr result (λ e. e ≡ Refusal.OutOfMemory) }
+    ensures unprinted { O.printing out.new ≡ O.printing out.old }
 {
     if draw.alone {
-        lively_schedule(alloc, draw.nodes, draw.seed, draw.steps, faults)
+        lively_schedule(alloc, draw.nodes, draw.seed, draw.steps, faults, out)
     } else {
-        lively_run(alloc, draw.nodes, draw.seed, draw.steps, faults)
+        lively_run(alloc, draw.nodes, draw.seed, draw.steps, faults, out)
     }
 }
 
 // The text of a random schedule: alone, or with a line `report` and the report of its run.
-fn drawn_text(alloc: Global, draw: Draw) -> Result<Vec<u8>, Refusal>
+fn drawn_text<O: Sink>(alloc: Global, draw: Draw, out: &mut O) -> Result<Vec<u8>, Refusal>
     requires { draw.steps ≤ 999930 }
     ensures ok { IfOk result (λ text. IsDrawnText draw.alone draw.faults draw.nodes draw.seed draw.steps text.items) }
     ensures err { IfErr result (λ e. e ≡ Refusal.OutOfMemory) }
+    ensures unprinted { O.printing out.new ≡ O.printing out.old }
 {
     match draw.faults {
-        None => random_text(alloc, draw),
-        Some(faults) => lively_text(alloc, draw, faults),
+        None => random_text(alloc, draw, out),
+        Some(faults) => lively_text(alloc, draw, faults, out),
     }
 }
 
@@ -167,7 +176,7 @@ fn print_draw<O: Sink, E: Write>(alloc: Global, draw: Draw, out: &mut O, err: &m
     ensures ends { EndsOnDraw draw.alone draw.faults draw.nodes draw.seed draw.steps result (O.printing out.old) (O.printing out.new) }
     ensures quiet { result ≡ 0 → Keeps (E.contents err.old) (E.contents err.new) }
 {
-    match drawn_text(alloc, draw) {
+    match drawn_text(alloc, draw, out) {
         Ok(text) => end_by_text(out, err, text.as_slice()),
         Err(refusal) => end_by_refusal(err, &refusal),
     }

@@ -143,7 +143,7 @@ fn print_picture<O: Sink, E: Write>(
     ensures ends { EndsOnPicture cut.now bytes.now result (O.printing out.old) (O.printing out.new) }
     ensures quiet { result ≡ 0 → Keeps (E.contents err.old) (E.contents err.new) }
 {
-    match picture_of(alloc, bytes, cut) {
+    match picture_of(alloc, bytes, cut, out) {
         Ok(text) => end_by_text(out, err, text.as_slice()),
         Err(refusal) => end_by_schedule_fault(err, name, bytes, &refusal),
     }

@@ -10,6 +10,7 @@ use crate::cut::Cut;
 use crate::drawing::{Art, Drawing};
 use crate::escape::push_escaped;
 use rr_sim::{Cluster, decided_list};
+use rr_stream::{Sink, tell_step};
 use rr_text::Event;
 use rr_text::text_parse::{first_line, next_event};
 use rr_text::text_report::push_decided_list;
@@ -99,8 +100,8 @@ fn draw_event(
     Ok(())
 }
 
-/// Makes the events of the lines, appends what the report has of them, and draws them.
-fn draw_events(
+/// Makes the events of the lines, appends what the report has of them, draws them, and tells the sink how far it is.
+fn draw_events<O: Sink>(
     alloc: Global,
     nodes: Nodes,
     bytes: &[u8],
@@ -108,15 +109,19 @@ fn draw_events(
     cluster: &mut Cluster,
     drawing: &mut Drawing,
     report: &mut Vec<u8>,
+    out: &mut O,
 ) -> Result<Vec<u8>, Refusal>
     requires { cluster.old.lines ≡ [] }
     ensures ok { IfOk result (λ elements. ShowsAll nodes bytes.now cut.now cluster.old cluster.new report.old.items report.new.items elements.items) }
     ensures err { IfErr result (λ e. IsStop (IsEvent nodes) event_line bytes.now e) }
+    ensures unprinted { O.printing out.new ≡ O.printing out.old }
 {
     let mut elements = Vec::new(alloc);
     let mut line = 2u64;
     let mut rest = bytes;
     while let Some((event, behind)) = next_event(alloc, nodes, rest, line)? {
+        let read = bytes.len().saturating_sub(rest.len());
+        tell_step(line, read as u64, bytes.len() as u64, out);
         cluster.step(alloc, line, &event)?;
         let mut told = Vec::new(alloc);
         cluster.tell(&mut told)?;
@@ -138,11 +143,18 @@ fn draw_events(
 }
 
 /// The picture of the run of a schedule on so many nodes, of whose lines behind the first the bytes are.
-fn picture_behind(alloc: Global, nodes: Nodes, bytes: &[u8], cut: &Cut) -> Result<Vec<u8>, Refusal>
+fn picture_behind<O: Sink>(
+    alloc: Global,
+    nodes: Nodes,
+    bytes: &[u8],
+    cut: &Cut,
+    out: &mut O,
+) -> Result<Vec<u8>, Refusal>
     requires some { 1 ≤ nodes }
     requires few { nodes ≤ 7 }
     ensures ok { IfOk result (λ text. IsPictureOf cut.now (nodes_line nodes ++ bytes.now) text.items) }
     ensures err { IfErr result (λ e. IsStop (IsEvent nodes) event_line bytes.now e) }
+    ensures unprinted { O.printing out.new ≡ O.printing out.old }
 {
     let mut cluster = Cluster::new(alloc, nodes)?;
     let mut drawing = written(Drawing::new(alloc, nodes))?;
@@ -155,6 +167,7 @@ fn picture_behind(alloc: Global, nodes: Nodes, bytes: &[u8], cut: &Cut) -> Resul
         &mut cluster,
         &mut drawing,
         &mut report,
+        out,
     )?;
     let decided = decided_list(alloc, nodes, cluster.wire())?;
     push_decided_list(&mut report, decided.as_slice())?;
@@ -165,19 +178,28 @@ fn picture_behind(alloc: Global, nodes: Nodes, bytes: &[u8], cut: &Cut) -> Resul
     Ok(picture)
 }
 
-/// The picture of the run of the schedule whose text the bytes are, of what a cut shows of it.
+/// The picture of the run of the schedule whose text the bytes are, of what a cut shows of it. Who watches `out` is told
+/// how far it is; `out` takes nothing.
 ///
 /// # Errors
 /// `BadNodes` and `BadEvent` for bytes that are no schedule, as of `Schedule::parse`; `OutOfMemory`.
-pub fn picture_of(alloc: Global, bytes: &[u8], cut: &Cut) -> Result<Vec<u8>, Refusal>
+pub fn picture_of<O: Sink>(
+    alloc: Global,
+    bytes: &[u8],
+    cut: &Cut,
+    out: &mut O,
+) -> Result<Vec<u8>, Refusal>
     ensures ok { IfOk result (λ text. IsPictureOf cut.now bytes.now text.items) }
     ensures fault { IfErr result (λ e. IsFault IsEvent event_line bytes.now e) }
+    ensures unprinted { O.printing out.new ≡ O.printing out.old }
 {
     match first_line(bytes) {
         Err(refusal) => Err(refusal),
         Ok((nodes, rest)) => {
             let _count = nodes.count();
-            picture_behind(alloc, nodes, rest, cut)
+            let picture = picture_behind(alloc, nodes, rest, cut, out);
+            out.tell_progress(1, 1);
+            picture
         }
     }
 }

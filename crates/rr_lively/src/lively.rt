@@ -9,6 +9,7 @@ use crate::stances::node_at;
 use rand_core::SeedableRng;
 use rand_core::utils::NextWord;
 use rand_pcg::Pcg32;
+use rr_stream::{Sink, tell_step};
 use rr_text::Event;
 use rr_types::{NodeId, Nodes, Refusal};
 use std::alloc::Global;
@@ -104,24 +105,27 @@ fn go_on(
     Ok(())
 }
 
-/// A lively schedule as it is drawn, with its run.
-fn drawn_run(
+/// A lively schedule as it is drawn, with its run. The sink is told how far it is.
+fn drawn_run<O: Sink>(
     alloc: Global,
     nodes: Nodes,
     seed: u64,
     steps: u32,
     faults: u32,
+    out: &mut O,
 ) -> Result<Run, Refusal>
     requires { steps ≤ 999930 }
     ensures so_far { IfOk result (λ run. IsSoFar nodes run.line run.cluster run.schedule.items run.report.items) }
     ensures line { IfOk result (λ run. run.line ≤ 2 + 10 * nodes + steps) }
     ensures err { IfErr result (λ e. e ≡ Refusal.OutOfMemory) }
+    ensures unprinted { O.printing out.new ≡ O.printing out.old }
 {
     let mut run = Run::new(alloc, nodes)?;
     open_all(alloc, nodes, &mut run)?;
     let mut drawing = Drawing::new(alloc, nodes)?;
     let mut generator = Pcg32::seed_from_u64(seed);
-    for _step in 0..steps {
+    for step in 0..steps {
+        tell_step(u64::from(step), u64::from(step), u64::from(steps), out);
         let words = (generator.next_word(), generator.next_word());
         go_on(alloc, nodes, faults, words, &mut drawing, &mut run)?;
     }
@@ -130,23 +134,27 @@ fn drawn_run(
 
 /// The text of a lively schedule, a line `report`, and the text of the report of its run. Behind the openings of the
 /// nodes each of the steps draws an event among those that do something at that moment; `faults` in a thousand draw a
-/// crash within a device call, a failing call, a suspicion or the like. The same words give the same text.
+/// crash within a device call, a failing call, a suspicion or the like. The same words give the same text. Who watches
+/// `out` is told how far it is; `out` takes nothing.
 ///
 /// # Errors
 /// `OutOfMemory`, also where memory is wanting for an event of the run.
-pub fn lively_run(
+pub fn lively_run<O: Sink>(
     alloc: Global,
     nodes: Nodes,
     seed: u64,
     steps: u32,
     faults: u32,
+    out: &mut O,
 ) -> Result<Vec<u8>, Refusal>
     requires { steps ≤ 999930 }
     ensures ok { IfOk result (λ text. IsLively nodes steps text.items) }
     ensures err { IfErr result (λ e. e ≡ Refusal.OutOfMemory) }
+    ensures unprinted { O.printing out.new ≡ O.printing out.old }
 {
-    let run = drawn_run(alloc, nodes, seed, steps, faults)?;
-    let text = run.into_text(alloc, nodes)?;
+    let run = drawn_run(alloc, nodes, seed, steps, faults, out);
+    out.tell_progress(1, 1);
+    let text = run?.into_text(alloc, nodes)?;
     Ok(text)
 }
 
@@ -154,17 +162,20 @@ pub fn lively_run(
 ///
 /// # Errors
 /// `OutOfMemory`, also where memory is wanting for an event of the run.
-pub fn lively_schedule(
+pub fn lively_schedule<O: Sink>(
     alloc: Global,
     nodes: Nodes,
     seed: u64,
     steps: u32,
     faults: u32,
+    out: &mut O,
 ) -> Result<Vec<u8>, Refusal>
     requires { steps ≤ 999930 }
     ensures ok { IfOk result (λ text. IsLivelySchedule nodes steps text.items) }
     ensures err { IfErr result (λ e. e ≡ Refusal.OutOfMemory) }
+    ensures unprinted { O.printing out.new ≡ O.printing out.old }
 {
-    let run = drawn_run(alloc, nodes, seed, steps, faults)?;
-    Ok(run.into_schedule(nodes))
+    let run = drawn_run(alloc, nodes, seed, steps, faults, out);
+    out.tell_progress(1, 1);
+    Ok(run?.into_schedule(nodes))
 }

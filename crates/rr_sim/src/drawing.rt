@@ -9,6 +9,7 @@ use crate::cluster::Cluster;
 use rand_core::SeedableRng;
 use rand_core::utils::NextWord;
 use rand_pcg::Pcg32;
+use rr_stream::{Sink, tell_step};
 use rr_text::{Event, Fill, Schedule};
 use rr_types::{Command, Message, Name, NodeId, NodeSet, Nodes, Op, Refusal, RequestNo, Value};
 use std::alloc::Global;
@@ -21,25 +22,35 @@ const CALLS_OF_AN_OPENING: usize = 9;
 
 /// A random schedule: each node opens, and then come `steps` events, each drawn from two words of the generator of
 /// this seed and from the wire as the run has it by then. The same words give the same schedule, unless memory is
-/// wanting for a write that fails.
+/// wanting for a write that fails. Who watches `out` is told how far it is; `out` takes nothing.
 /// Errors: `OutOfMemory`, also where memory is wanting for any other event of the run.
 #[tactic(auto, using(crate::proofs::DrawingLemmas::openings_count))]
-pub fn random(alloc: Global, nodes: Nodes, seed: u64, steps: u32) -> Result<Schedule, Refusal>
+pub fn random<O: Sink>(
+    alloc: Global,
+    nodes: Nodes,
+    seed: u64,
+    steps: u32,
+    out: &mut O,
+) -> Result<Schedule, Refusal>
     requires { steps ≤ 999930 }
     ensures ok { IfOk result (λ schedule. IsRandom nodes seed steps schedule) }
     ensures err { IfErr result (λ e. e ≡ Refusal.OutOfMemory) }
+    ensures unprinted { O.printing out.new ≡ O.printing out.old }
 {
     let mut events = openings(alloc, nodes)?;
     let mut cluster = opened(alloc, nodes, &events)?;
     let mut generator = Pcg32::seed_from_u64(seed);
-    draw_all(
+    let drawn = draw_all(
         alloc,
         nodes,
         steps,
         &mut generator,
         &mut cluster,
         &mut events,
-    )?;
+        out,
+    );
+    out.tell_progress(1, 1);
+    drawn?;
     Ok(Schedule::of_parts(nodes, events))
 }
 
@@ -87,21 +98,24 @@ pub(crate) fn opened(alloc: Global, nodes: Nodes, events: &[Event]) -> Result<Cl
     Ok(cluster)
 }
 
-/// Draws so many events, the first of which stands behind those that are there, and runs them.
-#[tactic(auto, using(crate::proofs::DrawingLemmas::drawing_none))]
-fn draw_all(
+/// Draws so many events, the first of which stands behind those that are there, runs them, and tells the sink how far it
+/// is.
+fn draw_all<O: Sink>(
     alloc: Global,
     nodes: Nodes,
     steps: u32,
     generator: &mut Pcg32,
     cluster: &mut Cluster,
     events: &mut Vec<Event>,
+    out: &mut O,
 ) -> Result<(), Refusal>
     requires short { length events.old.items + steps ≤ 1000000 }
     ensures ok { OnOk result (Draws nodes steps generator.old cluster.old events.old.items events.new.items) }
     ensures err { IfErr result (λ e. e ≡ Refusal.OutOfMemory) }
+    ensures unprinted { O.printing out.new ≡ O.printing out.old }
 {
-    for _step in 0..steps {
+    for step in 0..steps {
+        tell_step(u64::from(step), u64::from(step), u64::from(steps), out);
         let line = events.len() as u64 + 2;
         let event = draw(alloc, nodes, generator, cluster.wire())?;
         cluster.step_in_memory(alloc, line, &event)?;

@@ -12,6 +12,7 @@ use crate::cluster::Cluster;
 use crate::drawing::{draw, opened, openings};
 use rand_core::SeedableRng;
 use rand_pcg::Pcg32;
+use rr_stream::{Sink, tell_step};
 use rr_text::text_report::push_decided_list;
 use rr_text::text_schedule::{push_event_line, push_event_lines, push_nodes_line};
 use rr_types::{Nodes, Refusal};
@@ -24,23 +25,26 @@ struct Texts {
     report: Vec<u8>,
 }
 
-/// Draws so many events behind the openings, makes each and tells it.
-fn tell_drawn(
+/// Draws so many events behind the openings, makes each and tells it, and tells the sink how far it is.
+fn tell_drawn<O: Sink>(
     alloc: Global,
     nodes: Nodes,
     steps: u32,
     generator: &mut Pcg32,
     cluster: &mut Cluster,
     texts: &mut Texts,
+    out: &mut O,
 ) -> Result<(), Refusal>
     requires few { nodes ≤ 7 }
     requires start { cluster.old ≡ record (opened nodes) { lines = [] } }
     requires told { texts.old.report.items ≡ told (opened nodes).lines }
     ensures ok { OnOk result (DrawsAll nodes steps generator.old cluster.new texts.old.schedule.items texts.new.schedule.items texts.new.report.items) }
     ensures err { IfErr result (λ e. e ≡ Refusal.OutOfMemory) }
+    ensures unprinted { O.printing out.new ≡ O.printing out.old }
 {
     let mut line = 2 + 10 * u64::from(nodes.count());
-    for _step in 0..steps {
+    for step in 0..steps {
+        tell_step(u64::from(step), u64::from(step), u64::from(steps), out);
         let event = draw(alloc, nodes, generator, cluster.wire())?;
         cluster.step_in_memory(alloc, line, &event)?;
         push_event_line(&mut texts.schedule, &event)?;
@@ -68,27 +72,37 @@ fn told_openings(alloc: Global, nodes: Nodes, cluster: &mut Cluster) -> Result<T
 }
 
 /// The text of a random schedule, a line `report`, and the text of the report of its run. The schedule is that of
-/// `random`, and it is run once, as it is drawn.
+/// `random`, and it is run once, as it is drawn. Who watches `out` is told how far the run is; `out` takes nothing.
 ///
 /// # Errors
 /// `OutOfMemory`, also where memory is wanting for an event of the run.
-pub fn random_run(alloc: Global, nodes: Nodes, seed: u64, steps: u32) -> Result<Vec<u8>, Refusal>
+pub fn random_run<O: Sink>(
+    alloc: Global,
+    nodes: Nodes,
+    seed: u64,
+    steps: u32,
+    out: &mut O,
+) -> Result<Vec<u8>, Refusal>
     requires { steps ≤ 999930 }
     ensures ok { IfOk result (λ text. IsRandomRun nodes seed steps text.items) }
     ensures err { IfErr result (λ e. e ≡ Refusal.OutOfMemory) }
+    ensures unprinted { O.printing out.new ≡ O.printing out.old }
 {
     let events = openings(alloc, nodes)?;
     let mut cluster = opened(alloc, nodes, events.as_slice())?;
     let mut texts = told_openings(alloc, nodes, &mut cluster)?;
     let mut generator = Pcg32::seed_from_u64(seed);
-    tell_drawn(
+    let drawn = tell_drawn(
         alloc,
         nodes,
         steps,
         &mut generator,
         &mut cluster,
         &mut texts,
-    )?;
+        out,
+    );
+    out.tell_progress(1, 1);
+    drawn?;
     let decided = decided_list(alloc, nodes, cluster.wire())?;
     let Texts {
         mut schedule,

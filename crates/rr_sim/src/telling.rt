@@ -8,23 +8,11 @@ ghost use Rattle.rr_sim.specs.Told.{TellsAll, IsReportOn};
 
 use crate::chosen::decided_list;
 use crate::cluster::Cluster;
-use rr_stream::Sink;
+use rr_stream::{Sink, tell_step};
 use rr_text::text_parse::{first_line, next_event};
 use rr_text::text_report::push_decided_list;
 use rr_types::{Nodes, Refusal};
 use std::alloc::Global;
-
-/// How many lines are read between one word on progress and the next, less one.
-const UNTOLD_LINES: u64 = 8191;
-
-/// Tells the sink at some lines that so many of all bytes are read.
-fn tell_line<O: Sink>(line: u64, read: usize, all: usize, out: &mut O)
-    ensures { O.printing out.new ≡ O.printing out.old }
-{
-    if line & UNTOLD_LINES == 0 {
-        out.tell_progress(read as u64, all as u64);
-    }
-}
 
 /// Makes the events of the lines, appends what the report has of them to the text, and tells the sink how far it is.
 fn tell_events<O: Sink>(
@@ -43,12 +31,8 @@ fn tell_events<O: Sink>(
     let mut line = 2u64;
     let mut rest = bytes;
     while let Some((event, behind)) = next_event(alloc, nodes, rest, line)? {
-        tell_line(
-            line,
-            bytes.len().saturating_sub(rest.len()),
-            bytes.len(),
-            out,
-        );
+        let read = bytes.len().saturating_sub(rest.len());
+        tell_step(line, read as u64, bytes.len() as u64, out);
         cluster.step(alloc, line, &event)?;
         cluster.tell(text)?;
         rest = behind;

@@ -65,7 +65,7 @@ fn show_bytes<O: Sink, E: Write>(
     ensures ends { EndsOnShown how bytes.now result (O.printing out.old) (O.printing out.new) }
     ensures quiet { result ≡ 0 → Keeps (E.contents err.old) (E.contents err.new) }
 {
-    let account = match account_on(alloc, bytes) {
+    let account = match account_on(alloc, bytes, out) {
         Ok(account) => account,
         Err(refusal) => return end_by_schedule_fault(err, name, bytes, &refusal),
     };
@@ -128,7 +128,7 @@ fn compare_bytes<O: Sink, E: Write>(
     ensures ends { EndsOnCompared bytes.now text.now result (O.printing out.old) (O.printing out.new) }
     ensures quiet { result ≡ 0 → Keeps (E.contents err.old) (E.contents err.new) }
 {
-    let account = match account_on(alloc, bytes) {
+    let account = match account_on(alloc, bytes, out) {
         Ok(account) => account,
         Err(refusal) => return end_by_schedule_fault(err, names.0, bytes, &refusal),
     };

@@ -106,7 +106,7 @@ fn print_restarts(rt: &HostRuntime, path: &str, bytes: &[u8]) -> io::Result<()> 
 
 fn audit(rt: &HostRuntime, path: &str, bytes: &[u8]) -> io::Result<()> {
     println!(rt; "{path} audited")?;
-    match audit_on(rt.alloc(), bytes) {
+    match audit_on(rt.alloc(), bytes, &mut Counted::new(rt.stdout())) {
         Ok(Verdict::Yes(count)) => println!(rt; "audit yes {count}"),
         Ok(Verdict::No(number, _, _)) => {
             print_refusal(&mut rt.stdout(), &Refusal::AuditNo(number))

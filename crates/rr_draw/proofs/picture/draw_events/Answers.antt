@@ -1,28 +1,41 @@
-use Rattle.std.proofs.Common.{rules, refl}
+use Rattle.std.proofs.Common.{rules, refl, ◌∙◌}
 use Rattle.rr_draw.proofs.PictureLaws.{shown_none, shown_more, shown_all}
 use Rattle.rr_draw.proofs.picture.draw_events.Goals as goal
 
 pub loop-elements-init : goal.loop-elements-init
-loop-elements-init c = shown_none c.args.nodes c.args.bytes.now c.args.cut.now c.args.cluster.now c.args.report.now.items _ c.requires (search rules)
+loop-elements-init g c =
+    record {
+      shown = shown_none c.args.nodes c.args.bytes.now c.args.cut.now c.args.cluster.now c.args.report.now.items _ c.requires (search rules);
+      unprinted = refl;
+    }
 
 pub loop-elements-preserved-in_ok-draw_event : goal.loop-elements-preserved-in_ok-draw_event
-loop-elements-preserved-in_ok-draw_event c =
-    shown_more c.args.nodes c.args.bytes.now c.args.cut.now c.args.cluster.now c.args.report.now.items c.loop-elements.line _ c.loop-elements.rest.now c.in-Some.behind.now c.loop-elements.cluster c.step.new.self c.tell.new.self
-    c.loop-elements.report.items c.push_bytes.new.out.items c.tell.new.text.items c.loop-elements.elements.items c.draw_event.new.elements.items c.in-Some.event
-    c.loop-elements.invariant (search rules) c.in_ok-step.ensures.ok c.in_ok-step.ensures.spelt c.in_ok-tell.ensures.kept (search rules) (search rules) refl (search rules)
+loop-elements-preserved-in_ok-draw_event g c =
+    record {
+      shown = shown_more c.args.nodes c.args.bytes.now c.args.cut.now c.args.cluster.now c.args.report.now.items c.loop-elements.line _ c.loop-elements.rest.now c.in-Some.behind.now c.loop-elements.cluster c.step.new.self c.tell.new.self
+          c.loop-elements.report.items c.push_bytes.new.out.items c.tell.new.text.items c.loop-elements.elements.items c.draw_event.new.elements.items c.in-Some.event
+          c.loop-elements.invariant.shown (search rules) c.in_ok-step.ensures.ok c.in_ok-step.ensures.spelt c.in_ok-tell.ensures.kept (search rules) (search rules) refl (search rules);
+      unprinted = c.tell_step.ensures ∙ c.loop-elements.invariant.unprinted;
+    }
 
 pub loop-elements-preserved-in_ok-draw_event-2 : goal.loop-elements-preserved-in_ok-draw_event-2
-loop-elements-preserved-in_ok-draw_event-2 c =
-    shown_more c.args.nodes c.args.bytes.now c.args.cut.now c.args.cluster.now c.args.report.now.items c.loop-elements.line _ c.loop-elements.rest.now c.in-Some.behind.now c.loop-elements.cluster c.step.new.self c.tell.new.self
-    c.loop-elements.report.items c.push_bytes.new.out.items c.tell.new.text.items c.loop-elements.elements.items c.draw_event.new.elements.items c.in-Some.event
-    c.loop-elements.invariant (search rules) c.in_ok-step.ensures.ok c.in_ok-step.ensures.spelt c.in_ok-tell.ensures.kept (search rules) (search rules) refl (search rules)
+loop-elements-preserved-in_ok-draw_event-2 g c =
+    record {
+      shown = shown_more c.args.nodes c.args.bytes.now c.args.cut.now c.args.cluster.now c.args.report.now.items c.loop-elements.line _ c.loop-elements.rest.now c.in-Some.behind.now c.loop-elements.cluster c.step.new.self c.tell.new.self
+          c.loop-elements.report.items c.push_bytes.new.out.items c.tell.new.text.items c.loop-elements.elements.items c.draw_event.new.elements.items c.in-Some.event
+          c.loop-elements.invariant.shown (search rules) c.in_ok-step.ensures.ok c.in_ok-step.ensures.spelt c.in_ok-tell.ensures.kept (search rules) (search rules) refl (search rules);
+      unprinted = c.tell_step.ensures ∙ c.loop-elements.invariant.unprinted;
+    }
 
 pub loop-elements-preserved : goal.loop-elements-preserved
-loop-elements-preserved c =
-    shown_more c.args.nodes c.args.bytes.now c.args.cut.now c.args.cluster.now c.args.report.now.items c.loop-elements.line _ c.loop-elements.rest.now c.in-Some.behind.now c.loop-elements.cluster c.step.new.self c.tell.new.self
-    c.loop-elements.report.items c.push_bytes.new.out.items c.tell.new.text.items c.loop-elements.elements.items c.draw_event.new.elements.items c.in-Some.event
-    c.loop-elements.invariant (search rules) c.in_ok-step.ensures.ok c.in_ok-step.ensures.spelt c.in_ok-tell.ensures.kept (search rules) (search rules) refl (search rules)
+loop-elements-preserved g c =
+    record {
+      shown = shown_more c.args.nodes c.args.bytes.now c.args.cut.now c.args.cluster.now c.args.report.now.items c.loop-elements.line _ c.loop-elements.rest.now c.in-Some.behind.now c.loop-elements.cluster c.step.new.self c.tell.new.self
+          c.loop-elements.report.items c.push_bytes.new.out.items c.tell.new.text.items c.loop-elements.elements.items c.draw_event.new.elements.items c.in-Some.event
+          c.loop-elements.invariant.shown (search rules) c.in_ok-step.ensures.ok c.in_ok-step.ensures.spelt c.in_ok-tell.ensures.kept (search rules) (search rules) refl (search rules);
+      unprinted = c.tell_step.ensures ∙ c.loop-elements.invariant.unprinted;
+    }
 
 pub returns-clause-ok : goal.returns-clause-ok
-returns-clause-ok c =
-    shown_all c.args.nodes c.args.bytes.now c.args.cut.now c.args.cluster.now c.args.report.now.items c.loop-elements.line c.loop-elements.rest.now c.loop-elements.cluster c.loop-elements.report.items c.loop-elements.elements.items c.loop-elements.invariant (search rules)
+returns-clause-ok g c =
+    shown_all c.args.nodes c.args.bytes.now c.args.cut.now c.args.cluster.now c.args.report.now.items c.loop-elements.line c.loop-elements.rest.now c.loop-elements.cluster c.loop-elements.report.items c.loop-elements.elements.items c.loop-elements.invariant.shown (search rules)

@@ -8,7 +8,7 @@ use Rattle.rr_draw.proofs.PictureLaws.{is_picture}
 use Rattle.rr_draw.proofs.picture.picture_behind.Goals as goal
 
 pub returns-clause-ok : goal.returns-clause-ok
-returns-clause-ok c =
+returns-clause-ok g c =
     let from_start : ShowsAll c.args.nodes c.args.bytes.now c.args.cut.now (new_cluster c.args.nodes) c.draw_events.new.cluster [] c.draw_events.new.report.items c.in_ok-elements.elements.items =
     subst (λ (start : Cluster). ShowsAll c.args.nodes c.args.bytes.now c.args.cut.now start c.draw_events.new.cluster [] c.draw_events.new.report.items c.in_ok-elements.elements.items) c.in_ok-cluster.ensures.ok
     (subst (λ (before : List ℕ). ShowsAll c.args.nodes c.args.bytes.now c.args.cut.now c.in_ok-cluster.cluster c.draw_events.new.cluster before c.draw_events.new.report.items c.in_ok-elements.elements.items) c.new-report.ensures.items c.in_ok-elements.ensures.ok) in

@@ -3,5 +3,5 @@ use Rattle.rr_sim.proofs.DrawingLemmas.{is_a_schedule}
 use Rattle.rr_sim.proofs.drawing.random.Goals as goal
 
 pub of_parts-requires : goal.of_parts-requires
-of_parts-requires c =
-    is_a_schedule c.args.nodes c.args.steps c.seed_from_u64-generator.result c.in_ok-cluster.cluster c.draw_all.new.events.items (search rules) (search rules) (search rules) (search rules)
+of_parts-requires g c =
+    is_a_schedule c.args.nodes c.args.steps c.seed_from_u64-generator.result c.in_ok-cluster.cluster c.draw_all-drawn.new.events.items (search rules) (search rules) (search rules) (search rules)

@@ -8,25 +8,25 @@ use Rattle.rr_view.specs.Views.{same, other, refused}
 use Rattle.rr_view.proofs.views.compare_bytes.Goals as goal
 
 pub returns-in-Err-clause-ends : goal.returns-in-Err-clause-ends
-returns-in-Err-clause-ends g c = refused c.in-Err.refusal c.in-Err.ensures.fault c.end_by_schedule_fault.ensures refl
+returns-in-Err-clause-ends g c = refused c.in-Err.refusal c.in-Err.ensures.fault c.end_by_schedule_fault.ensures c.account_on.ensures.unprinted
 
 pub returns-in-Err-text-clause-ends : goal.returns-in-Err-text-clause-ends
 returns-in-Err-text-clause-ends g c =
-    refused c.in-Err-text.refusal (subst (λ e. IsFault IsEvent event_line c.args.bytes.now e) (sym c.in-Err-text.ensures.err) tt) c.end_by_refusal.ensures refl
+    refused c.in-Err-text.refusal (subst (λ e. IsFault IsEvent event_line c.args.bytes.now e) (sym c.in-Err-text.ensures.err) tt) c.end_by_refusal.ensures c.account_on.ensures.unprinted
 
 pub returns-in-None-clause-ends : goal.returns-in-None-clause-ends
 returns-in-None-clause-ends g c =
     let reported : c.as_slice.result.now ≡ report_text c.in-Ok.account.report = c.as_slice.ensures.value ∙ (c.in-Ok-text.ensures.ok ∙ ap report_text c.report.ensures) in
-    same c.in-Ok.account c.in-Ok.ensures.ok (sym (c.difference_of.ensures.same c.in-None.is) ∙ reported) refl refl
+    same c.in-Ok.account c.in-Ok.ensures.ok (sym (c.difference_of.ensures.same c.in-None.is) ∙ reported) refl c.account_on.ensures.unprinted
 
 pub returns-in-Ok-difference_text-clause-ends : goal.returns-in-Ok-difference_text-clause-ends
 returns-in-Ok-difference_text-clause-ends g c =
     let reported : c.as_slice.result.now ≡ report_text c.in-Ok.account.report = c.as_slice.ensures.value ∙ (c.in-Ok-text.ensures.ok ∙ ap report_text c.report.ensures) in
     other c.in-Ok.account c.in-Ok-difference_text.told.items c.end_by_text.result c.in-Ok.ensures.ok (λ is. c.in-Some.ensures.other refl (reported ∙ sym is))
-    (subst (λ text. Prints text c.end_by_text.result (g.O.Sink.printing c.args.out.now) (g.O.Sink.printing c.end_by_text.new.out)) c.as_slice-in-Ok-difference_text.ensures.value c.end_by_text.ensures.ends)
+    (rw c.account_on.ensures.unprinted at subst (λ text. Prints text c.end_by_text.result (g.O.Sink.printing c.account_on.new.out) (g.O.Sink.printing c.end_by_text.new.out)) c.as_slice-in-Ok-difference_text.ensures.value c.end_by_text.ensures.ends)
     c.different.ensures
 
 pub returns-clause-ends : goal.returns-clause-ends
 returns-clause-ends g c =
     refused c.in-Err-difference_text.refusal (subst (λ e. IsFault IsEvent event_line c.args.bytes.now e) (sym c.in-Err-difference_text.ensures) tt)
-    c.end_by_refusal-in-Err-difference_text.ensures refl
+    c.end_by_refusal-in-Err-difference_text.ensures c.account_on.ensures.unprinted

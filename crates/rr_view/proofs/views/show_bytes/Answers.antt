@@ -1,4 +1,4 @@
-use Rattle.std.proofs.Common.{refl, sym, subst}
+use Rattle.std.proofs.Common.{sym, subst}
 use Rattle.rr_text.specs.Lines.{IsFault}
 use Rattle.rr_text.specs.Scheduled.{IsEvent}
 use Rattle.rr_text.specs.ScheduleTexts.{event_line}
@@ -7,13 +7,13 @@ use Rattle.rr_view.specs.Views.{viewed, refused}
 use Rattle.rr_view.proofs.views.show_bytes.Goals as goal
 
 pub returns-in-Err-clause-ends : goal.returns-in-Err-clause-ends
-returns-in-Err-clause-ends g c = refused c.in-Err.refusal c.in-Err.ensures.fault c.end_by_schedule_fault.ensures refl
+returns-in-Err-clause-ends g c = refused c.in-Err.refusal c.in-Err.ensures.fault c.end_by_schedule_fault.ensures c.account_on.ensures.unprinted
 
 pub returns-in-Ok-shown_text-clause-ends : goal.returns-in-Ok-shown_text-clause-ends
 returns-in-Ok-shown_text-clause-ends g c =
     viewed c.in-Ok.account c.in-Ok-shown_text.text.items c.in-Ok.ensures.ok c.in-Ok-shown_text.ensures.ok
-    (subst (λ text. Prints text c.end_by_text.result (g.O.Sink.printing c.args.out.now) (g.O.Sink.printing c.end_by_text.new.out)) c.as_slice.ensures.value c.end_by_text.ensures.ends)
+    (rw c.account_on.ensures.unprinted at subst (λ text. Prints text c.end_by_text.result (g.O.Sink.printing c.account_on.new.out) (g.O.Sink.printing c.end_by_text.new.out)) c.as_slice.ensures.value c.end_by_text.ensures.ends)
 
 pub returns-clause-ends : goal.returns-clause-ends
 returns-clause-ends g c =
-    refused c.in-Err-shown_text.refusal (subst (λ e. IsFault IsEvent event_line c.args.bytes.now e) (sym c.in-Err-shown_text.ensures.err) tt) c.end_by_refusal.ensures refl
+    refused c.in-Err-shown_text.refusal (subst (λ e. IsFault IsEvent event_line c.args.bytes.now e) (sym c.in-Err-shown_text.ensures.err) tt) c.end_by_refusal.ensures c.account_on.ensures.unprinted
