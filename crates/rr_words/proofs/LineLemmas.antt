@@ -1,20 +1,26 @@
 -- Command lines that are built by parts.
-use Rattle.std.proofs.Common.{◌≡◌, ◌∙◌, ap, ap₂, false, ◌||◌}
-use Rattle.clap.specs.Words.{AddsArg, AddsSubcommand, App, app_of, rule_of, with_rule, with_subcommand}
+use Rattle.std.proofs.Common.{Result, ◌≡◌, ◌∙◌, ap, ap₂, ◌||◌}
+use Rattle.clap.specs.Words.{AddsArg, AddsSubcommand, App, app_of, with_rule, with_subcommand}
 use Rattle.clap.specs.Walk.{Rule}
 use Rattle.clap.specs.declared.builder.arg.Arg.{Arg}
 use Rattle.clap.specs.declared.builder.command.Command.{Command}
-use Rattle.clap.specs.declared.builder.command.Command.TheViews.{out-Command}
-use Rattle.rr_words.specs.Lines.{and_also}
+use Rattle.std.specs.Prelude.{IfOk}
+use Rattle.std.proofs.lemmas.Result.{IfOk-weaker}
+use Rattle.std.specs.declared.alloc.AllocError.{AllocError}
+use Rattle.rr_words.specs.Lines.{IsArg, IsLine, and_also, with_arg}
 
--- one argument more, of which none is global
-pub with_arg : (old new : Command) (arg : Arg) (app : App) (rule : Rule) → app_of old ≡ app → AddsArg old arg new → rule_of arg ≡ rule → arg.global ≡ false → app_of new ≡ with_rule app rule
-with_arg old new arg app rule is added by local = added.shape local ∙ ap₂ with_rule is by
+-- one argument more
+pub adds_arg : {line : App} {rule : Rule} {old new : Command} {arg : Arg} → IsLine line old → AddsArg old arg new → IsArg rule arg → IsLine (with_arg line rule) new
+unfolding with_arg
+adds_arg before added is = record {
+  reads = added.shape is.local ∙ ap₂ with_rule before.reads is.reads;
+  local = added.globals ∙ ap₂ (λ a b. a || b) before.local is.local;
+}
 
-pub stays_local : (old new : Command) (arg : Arg) → (out-Command old).has_globals ≡ false → AddsArg old arg new → arg.global ≡ false → (out-Command new).has_globals ≡ false
-stays_local old new arg is added local = added.globals ∙ ap₂ (λ a b. a || b) is local
+pub last_arg : {line : App} {rule : Rule} {old : Command} {arg : Arg} (r : Result Command AllocError) → IsLine line old → IfOk r (AddsArg old arg) → IsArg rule arg → IfOk r (IsLine (with_arg line rule))
+last_arg r before added is = IfOk-weaker r _ _ (λ new adds. adds_arg before adds is) added
 
 -- one subcommand more
-pub with_line : (old new sub : Command) (app line : App) → app_of old ≡ app → AddsSubcommand old sub new → app_of sub ≡ line → (out-Command sub).has_globals ≡ false → app_of new ≡ and_also app line
+pub adds_line : {above line : App} {old new sub : Command} → app_of old ≡ above → AddsSubcommand old sub new → IsLine line sub → app_of new ≡ and_also above line
 unfolding and_also
-with_line old new sub app line is added by local = added.shape local ∙ ap₂ with_subcommand is (ap (λ (a : App). a.top) by)
+adds_line before added is = added.shape is.local ∙ ap₂ with_subcommand before (ap (λ (a : App). a.top) is.reads)

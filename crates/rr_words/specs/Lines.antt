@@ -1,90 +1,115 @@
 -- The command line of rr. Its parts are folded: a proof that needs what one says unfolds it.
-use Rattle.std.specs.Prelude.{ℕ, Bool, true, false, Some, codes}
-use Rattle.clap.specs.Words.{App, Text, new_app, new_rule, with_rule, with_subcommand}
+use Rattle.std.specs.Prelude.{◌≡◌, ℕ, Bool, true, false, Some, codes}
+use Rattle.clap.specs.Words.{App, Text, app_of, new_app, new_rule, rule_of, with_rule, with_subcommand}
 use Rattle.clap.specs.Walk.{Rule}
 use Rattle.clap.specs.Simple.{on_top}
+use Rattle.clap.specs.declared.builder.arg.Arg.{Arg}
+use Rattle.clap.specs.declared.builder.command.Command.{Command}
+use Rattle.clap.specs.declared.builder.command.Command.TheViews.{out-Command}
 use Rattle.clap.specs.declared.builder.action.ArgAction.TheVariants.{SetTrue}
 use Rattle.clap.specs.declared.builder.value_parser.ValueParser.TheVariants.{Unsigned}
+
+-- an argument of this rule, which is of one command alone
+pub record IsArg (rule : Rule) (arg : Arg) : Type 0 where
+  pub reads : rule_of arg ≡ rule
+  pub local : arg.global ≡ false
+
+-- a command of this line, whose arguments are of it alone
+pub record IsLine (line : App) (command : Command) : Type 0 where
+  pub reads : app_of command ≡ line
+  pub local : (out-Command command).has_globals ≡ false
 
 -- a word, which has to be there or may be left out
 abbrev pub word_rule : Text → Bool → Rule
 word_rule id wanted = record (new_rule id) { required = wanted }
 
--- an option that has to be there, with a number in a range
-abbrev pub number_rule : Text → Text → ℕ → ℕ → Rule
-number_rule id long least most = record (new_rule id) { long = Some long; required = true; parser = Some (Unsigned least most) }
+-- an option of this name
+abbrev pub named_rule : Text → Text → Rule
+named_rule id long = record (new_rule id) { long = Some long }
 
 -- an option that may be left out, with a number in a range
 abbrev pub optional_number_rule : Text → Text → ℕ → ℕ → Rule
-optional_number_rule id long least most = record (new_rule id) { long = Some long; parser = Some (Unsigned least most) }
+optional_number_rule id long least most = record (named_rule id long) { parser = Some (Unsigned least most) }
+
+-- an option that has to be there, with a number in a range
+abbrev pub number_rule : Text → Text → ℕ → ℕ → Rule
+number_rule id long least most = record (optional_number_rule id long least most) { required = true }
 
 -- an option with a text, which has to be there or may be left out
 abbrev pub option_rule : Text → Text → Bool → Rule
-option_rule id long wanted = record (new_rule id) { long = Some long; required = wanted }
+option_rule id long wanted = record (named_rule id long) { required = wanted }
 
 -- an option without a text, which may be left out
 abbrev pub flag_rule : Text → Text → Rule
-flag_rule id long = record (new_rule id) { long = Some long; action = Some SetTrue }
+flag_rule id long = record (named_rule id long) { action = Some SetTrue }
+
+-- one argument more
+unfoldable pub with_arg : App → Rule → App
+with_arg line rule = with_rule line rule
 
 -- the subcommand sim, with a FILE that may be left out, and the options for reasons and for JSON
 unfoldable pub sim_line : App
-sim_line = with_rule (with_rule (with_rule (new_app (codes "sim")) (word_rule (codes "FILE") false)) (flag_rule (codes "EXPLAIN") (codes "explain"))) (flag_rule (codes "JSON") (codes "json"))
+sim_line = with_arg (with_arg (with_arg (new_app (codes "sim")) (word_rule (codes "FILE") false)) (flag_rule (codes "EXPLAIN") (codes "explain"))) (flag_rule (codes "JSON") (codes "json"))
 
 -- the subcommand stats, with a FILE that may be left out, and the option for JSON
 unfoldable pub stats_line : App
-stats_line = with_rule (with_rule (new_app (codes "stats")) (word_rule (codes "FILE") false)) (flag_rule (codes "JSON") (codes "json"))
+stats_line = with_arg (with_arg (new_app (codes "stats")) (word_rule (codes "FILE") false)) (flag_rule (codes "JSON") (codes "json"))
 
 -- the subcommand check, with a FILE and a REPORT
 unfoldable pub check_line : App
-check_line = with_rule (with_rule (new_app (codes "check")) (word_rule (codes "FILE") true)) (word_rule (codes "REPORT") true)
+check_line = with_arg (with_arg (new_app (codes "check")) (word_rule (codes "FILE") true)) (word_rule (codes "REPORT") true)
 
 -- the subcommand show, with a DIR
 unfoldable pub show_line : App
-show_line = with_rule (new_app (codes "show")) (word_rule (codes "DIR") true)
+show_line = with_arg (new_app (codes "show")) (word_rule (codes "DIR") true)
 
 -- the subcommand random, with a seed, a number of steps and a number of nodes
 unfoldable pub numbers_line : App
 numbers_line =
-    with_rule (with_rule (with_rule (new_app (codes "random")) (number_rule (codes "SEED") (codes "seed") 0 18446744073709551615)) (number_rule (codes "STEPS") (codes "steps") 0 999930)) (number_rule (codes "NODES") (codes "nodes") 1 7)
+    with_arg (with_arg (with_arg (new_app (codes "random")) (number_rule (codes "SEED") (codes "seed") 0 18446744073709551615)) (number_rule (codes "STEPS") (codes "steps") 0 999930)) (number_rule (codes "NODES") (codes "nodes") 1 7)
 
 -- the same with the option for lively schedules, the number of their faults, which may be left out, and the option for the
 -- schedule alone
 unfoldable pub random_line : App
 random_line =
-    with_rule (with_rule (with_rule numbers_line (flag_rule (codes "LIVELY") (codes "lively"))) (optional_number_rule (codes "FAULTS") (codes "faults") 0 1000)) (flag_rule (codes "ALONE") (codes "schedule-only"))
+    with_arg (with_arg (with_arg numbers_line (flag_rule (codes "LIVELY") (codes "lively"))) (optional_number_rule (codes "FAULTS") (codes "faults") 0 1000)) (flag_rule (codes "ALONE") (codes "schedule-only"))
 
 -- the subcommand audit, with a FILE that may be left out
 unfoldable pub audit_line : App
-audit_line = with_rule (new_app (codes "audit")) (word_rule (codes "FILE") false)
+audit_line = with_arg (new_app (codes "audit")) (word_rule (codes "FILE") false)
 
 -- the subcommand run, with a number of nodes, the folder of their folders, the file of a script, and the file for a tape,
 -- which may be left out
 unfoldable pub run_line : App
 run_line =
-    with_rule
-    (with_rule (with_rule (with_rule (new_app (codes "run")) (number_rule (codes "NODES") (codes "nodes") 1 7)) (option_rule (codes "DIR") (codes "dir") true)) (option_rule (codes "SCRIPT") (codes "script") true))
+    with_arg
+    (with_arg (with_arg (with_arg (new_app (codes "run")) (number_rule (codes "NODES") (codes "nodes") 1 7)) (option_rule (codes "DIR") (codes "dir") true)) (option_rule (codes "SCRIPT") (codes "script") true))
     (option_rule (codes "TAPE") (codes "tape") false)
 
 -- the subcommand sweep, with a FILE that may be left out, and a seed
 unfoldable pub sweep_line : App
-sweep_line = with_rule (with_rule (new_app (codes "sweep")) (word_rule (codes "FILE") false)) (number_rule (codes "SEED") (codes "seed") 0 18446744073709551615)
+sweep_line = with_arg (with_arg (new_app (codes "sweep")) (word_rule (codes "FILE") false)) (number_rule (codes "SEED") (codes "seed") 0 18446744073709551615)
 
 -- the subcommand draw, with a FILE, the first line and the last one, a node and an instance, all of which may be left out
 unfoldable pub draw_line : App
 draw_line =
-    with_rule
-    (with_rule
-    (with_rule (with_rule (with_rule (new_app (codes "draw")) (word_rule (codes "FILE") false)) (optional_number_rule (codes "FROM") (codes "from") 1 4294967295)) (optional_number_rule (codes "TO") (codes "to") 1 4294967295))
+    with_arg
+    (with_arg
+    (with_arg (with_arg (with_arg (new_app (codes "draw")) (word_rule (codes "FILE") false)) (optional_number_rule (codes "FROM") (codes "from") 1 4294967295)) (optional_number_rule (codes "TO") (codes "to") 1 4294967295))
     (optional_number_rule (codes "NODE") (codes "node") 0 6))
     (optional_number_rule (codes "INSTANCE") (codes "instance") 0 1048575)
 
 -- the subcommand migrate, with a DIR, the number of a node and a number of nodes
 unfoldable pub migrate_line : App
-migrate_line = with_rule (with_rule (with_rule (new_app (codes "migrate")) (word_rule (codes "DIR") true)) (number_rule (codes "NODE") (codes "node") 0 6)) (number_rule (codes "NODES") (codes "nodes") 1 7)
+migrate_line = with_arg (with_arg (with_arg (new_app (codes "migrate")) (word_rule (codes "DIR") true)) (number_rule (codes "NODE") (codes "node") 0 6)) (number_rule (codes "NODES") (codes "nodes") 1 7)
+
+-- a command with a version
+unfoldable pub with_version : App → App
+with_version = on_top (λ s. record s { has_version = true })
 
 -- a command with a version, which needs a subcommand
 unfoldable pub rr_settings : App → App
-rr_settings = on_top (λ s. record s { has_version = true; arg_required_else_help = true; subcommand_required = true })
+rr_settings line = on_top (λ s. record s { arg_required_else_help = true; subcommand_required = true }) (with_version line)
 
 -- one subcommand more
 unfoldable pub and_also : App → App → App

@@ -1,9 +1,8 @@
 //! The command line of `rr` that `clap` reads words by.
 
-ghost use Rattle.std.specs.Prelude.{◌≡◌, false, IfOk, codes};
-ghost use Rattle.clap.specs.Words.{app_of, new_app, rule_of};
-ghost use Rattle.clap.specs.declared.builder.command.Command.TheViews.{out-Command};
-ghost use Rattle.rr_words.specs.Lines.{rr_line, schedule_lines, rr_settings, sim_line, stats_line, check_line, show_line, migrate_line, word_rule, number_rule, option_rule, optional_number_rule, flag_rule, numbers_line, random_line, audit_line, run_line, sweep_line, draw_line};
+ghost use Rattle.std.specs.Prelude.{◌≡◌, IfOk, codes};
+ghost use Rattle.clap.specs.Words.{app_of, new_app};
+ghost use Rattle.rr_words.specs.Lines.{IsArg, IsLine, rr_line, schedule_lines, rr_settings, with_version, named_rule, sim_line, stats_line, check_line, show_line, migrate_line, word_rule, number_rule, option_rule, optional_number_rule, flag_rule, numbers_line, random_line, audit_line, run_line, sweep_line, draw_line};
 
 use crate::helps;
 use clap::builder::ValueParser;
@@ -23,62 +22,67 @@ pub const MAX_FAULTS: u64 = 1_000;
 pub(crate) fn command_line<'a>(alloc: Global) -> Result<Command<'a>, AllocError>
     ensures { IfOk result (λ c. app_of c ≡ rr_line) }
 {
-    let running = run_line(alloc)?;
-    let audit = audit_line(alloc)?;
-    let show = show_line(alloc)?;
-    let migrate = migrate_line(alloc)?;
     schedule_lines(alloc)?
-        .subcommand(running)?
-        .subcommand(audit)?
-        .subcommand(show)?
-        .subcommand(migrate)
+        .subcommand(run_line(alloc)?)?
+        .subcommand(audit_line(alloc)?)?
+        .subcommand(show_line(alloc)?)?
+        .subcommand(migrate_line(alloc)?)
 }
 
 // The command line with the subcommands on schedules.
 fn schedule_lines<'a>(alloc: Global) -> Result<Command<'a>, AllocError>
     ensures { IfOk result (λ c. app_of c ≡ schedule_lines) }
 {
-    let sim = sim_line(alloc)?;
-    let stats = stats_line(alloc)?;
-    let check = check_line(alloc)?;
-    let random = random_line(alloc)?;
-    let sweep = sweep_line(alloc)?;
-    let draw = draw_line(alloc)?;
     top_line(alloc)
-        .subcommand(sim)?
-        .subcommand(stats)?
-        .subcommand(check)?
-        .subcommand(random)?
-        .subcommand(sweep)?
-        .subcommand(draw)
+        .subcommand(sim_line(alloc)?)?
+        .subcommand(stats_line(alloc)?)?
+        .subcommand(check_line(alloc)?)?
+        .subcommand(random_line(alloc)?)?
+        .subcommand(sweep_line(alloc)?)?
+        .subcommand(draw_line(alloc)?)
 }
 
 // The command line without its subcommands.
 fn top_line<'a>(alloc: Global) -> Command<'a>
-    ensures { app_of result ≡ rr_settings (new_app (codes "rr")) }
+    ensures { IsLine (rr_settings (new_app (codes "rr"))) result }
 {
-    Command::new(alloc, "rr")
-        .version("0.1.0")
-        .about("A replicated name registry that recovers from crashes")
-        .after_long_help(helps::program())
+    versioned_line(alloc)
         .arg_required_else_help(true)
         .subcommand_required(true)
 }
 
-// A subcommand without its arguments: what it does, and what its long help ends with.
-fn subcommand<'a>(alloc: Global, name: &'a str, about: &'a str, more: &'a str) -> Command<'a>
-    ensures app { app_of result ≡ new_app name.entry.now }
-    ensures local { (out-Command result).has_globals ≡ false }
+// The command with its version.
+fn versioned_line<'a>(alloc: Global) -> Command<'a>
+    ensures { IsLine (with_version (new_app (codes "rr"))) result }
+{
+    bare_line(
+        alloc,
+        "rr",
+        "A replicated name registry that recovers from crashes",
+        helps::program(),
+    )
+    .version("0.1.0")
+}
+
+// A command without its arguments: what it does, and what its long help ends with.
+fn bare_line<'a>(alloc: Global, name: &'a str, about: &'a str, more: &'a str) -> Command<'a>
+    ensures { IsLine (new_app name.entry.now) result }
 {
     Command::new(alloc, name).about(about).after_long_help(more)
 }
 
 // A word, which has to be there or may be left out.
 fn word_arg<'a>(alloc: Global, id: &'a str, help: &'a str, wanted: bool) -> Arg<'a>
-    ensures rule { rule_of result ≡ word_rule id.entry.now wanted }
-    ensures local { result.global ≡ false }
+    ensures { IsArg (word_rule id.entry.now wanted) result }
 {
     Arg::new(alloc, id).help(help).required(wanted)
+}
+
+// An option, by its name and its help.
+fn named_arg<'a>(alloc: Global, id: &'a str, long: &'a str, help: &'a str) -> Arg<'a>
+    ensures { IsArg (named_rule id.entry.now long.entry.now) result }
+{
+    Arg::new(alloc, id).long(long).help(help)
 }
 
 // An option that has to be there, with a number in a range.
@@ -90,14 +94,9 @@ fn number_arg<'a>(
     least: u64,
     most: u64,
 ) -> Arg<'a>
-    ensures rule { rule_of result ≡ number_rule id.entry.now long.entry.now least most }
-    ensures local { result.global ≡ false }
+    ensures { IsArg (number_rule id.entry.now long.entry.now least most) result }
 {
-    Arg::new(alloc, id)
-        .long(long)
-        .help(help)
-        .required(true)
-        .value_parser(ValueParser::unsigned(least, most))
+    optional_number_arg(alloc, id, long, help, least, most).required(true)
 }
 
 // An option that may be left out, with a number in a range.
@@ -109,286 +108,240 @@ fn optional_number_arg<'a>(
     least: u64,
     most: u64,
 ) -> Arg<'a>
-    ensures rule { rule_of result ≡ optional_number_rule id.entry.now long.entry.now least most }
-    ensures local { result.global ≡ false }
+    ensures { IsArg (optional_number_rule id.entry.now long.entry.now least most) result }
 {
-    Arg::new(alloc, id)
-        .long(long)
-        .help(help)
-        .value_parser(ValueParser::unsigned(least, most))
+    named_arg(alloc, id, long, help).value_parser(ValueParser::unsigned(least, most))
 }
 
 // An option with a text, which has to be there or may be left out.
 fn option_arg<'a>(alloc: Global, id: &'a str, long: &'a str, help: &'a str, wanted: bool) -> Arg<'a>
-    ensures rule { rule_of result ≡ option_rule id.entry.now long.entry.now wanted }
-    ensures local { result.global ≡ false }
+    ensures { IsArg (option_rule id.entry.now long.entry.now wanted) result }
 {
-    Arg::new(alloc, id).long(long).help(help).required(wanted)
+    named_arg(alloc, id, long, help).required(wanted)
 }
 
 // An option without a text, which may be left out.
 fn flag_arg<'a>(alloc: Global, id: &'a str, long: &'a str, help: &'a str) -> Arg<'a>
-    ensures rule { rule_of result ≡ flag_rule id.entry.now long.entry.now }
-    ensures local { result.global ≡ false }
+    ensures { IsArg (flag_rule id.entry.now long.entry.now) result }
 {
-    Arg::new(alloc, id)
-        .long(long)
-        .help(help)
-        .action(ArgAction::SetTrue)
+    named_arg(alloc, id, long, help).action(ArgAction::SetTrue)
 }
 
 // The command line of `rr sim`.
 fn sim_line<'a>(alloc: Global) -> Result<Command<'a>, AllocError>
-    ensures line { IfOk result (λ c. app_of c ≡ sim_line) }
-    ensures local { IfOk result (λ c. (out-Command c).has_globals ≡ false) }
+    ensures { IfOk result (IsLine sim_line) }
 {
-    let file = word_arg(alloc, "FILE", helps::schedule(), false);
-    let explain = flag_arg(alloc, "EXPLAIN", "explain", helps::explain());
-    let json = flag_arg(
-        alloc,
-        "JSON",
-        "json",
-        "Prints an object of JSON for each line",
-    );
-    subcommand(
+    bare_line(
         alloc,
         "sim",
         "Runs a schedule and prints its report",
         helps::sim(),
     )
-    .arg(file)?
-    .arg(explain)?
-    .arg(json)
+    .arg(word_arg(alloc, "FILE", helps::schedule(), false))?
+    .arg(flag_arg(alloc, "EXPLAIN", "explain", helps::explain()))?
+    .arg(flag_arg(
+        alloc,
+        "JSON",
+        "json",
+        "Prints an object of JSON for each line",
+    ))
 }
 
 // The command line of `rr stats`.
 fn stats_line<'a>(alloc: Global) -> Result<Command<'a>, AllocError>
-    ensures line { IfOk result (λ c. app_of c ≡ stats_line) }
-    ensures local { IfOk result (λ c. (out-Command c).has_globals ≡ false) }
+    ensures { IfOk result (IsLine stats_line) }
 {
-    let file = word_arg(alloc, "FILE", helps::schedule(), false);
-    let json = flag_arg(alloc, "JSON", "json", "Prints an object of JSON");
-    subcommand(
+    bare_line(
         alloc,
         "stats",
         "Runs a schedule and counts what happens in its run",
         helps::stats(),
     )
-    .arg(file)?
-    .arg(json)
+    .arg(word_arg(alloc, "FILE", helps::schedule(), false))?
+    .arg(flag_arg(alloc, "JSON", "json", "Prints an object of JSON"))
 }
 
 // The command line of `rr check`.
 fn check_line<'a>(alloc: Global) -> Result<Command<'a>, AllocError>
-    ensures line { IfOk result (λ c. app_of c ≡ check_line) }
-    ensures local { IfOk result (λ c. (out-Command c).has_globals ≡ false) }
+    ensures { IfOk result (IsLine check_line) }
 {
-    let file = word_arg(alloc, "FILE", "The schedule", true);
-    let report = word_arg(alloc, "REPORT", "The report that it is to have", true);
-    subcommand(
+    bare_line(
         alloc,
         "check",
         "Runs a schedule and compares its report with a file",
         helps::check(),
     )
-    .arg(file)?
-    .arg(report)
+    .arg(word_arg(alloc, "FILE", "The schedule", true))?
+    .arg(word_arg(alloc, "REPORT", "The report that it is to have", true))
 }
 
 // The command line of `rr show`.
 fn show_line<'a>(alloc: Global) -> Result<Command<'a>, AllocError>
-    ensures line { IfOk result (λ c. app_of c ≡ show_line) }
-    ensures local { IfOk result (λ c. (out-Command c).has_globals ≡ false) }
+    ensures { IfOk result (IsLine show_line) }
 {
-    let folder = word_arg(alloc, "DIR", "The folder of the node", true);
-    subcommand(
+    bare_line(
         alloc,
         "show",
         "Tells what the areas of a node's disk hold",
         helps::show(),
     )
-    .arg(folder)
+    .arg(word_arg(alloc, "DIR", "The folder of the node", true))
 }
 
 // The command line of `rr random`, with its seed, its steps and its nodes.
 fn numbers_line<'a>(alloc: Global) -> Result<Command<'a>, AllocError>
-    ensures line { IfOk result (λ c. app_of c ≡ numbers_line) }
-    ensures local { IfOk result (λ c. (out-Command c).has_globals ≡ false) }
+    ensures { IfOk result (IsLine numbers_line) }
 {
-    let seed = number_arg(alloc, "SEED", "seed", "The generator's seed", 0, u64::MAX);
-    let steps = number_arg(
+    bare_line(
+        alloc,
+        "random",
+        "Draws a random schedule, prints it and the report of its run",
+        helps::random(),
+    )
+    .arg(number_arg(alloc, "SEED", "seed", "The generator's seed", 0, u64::MAX))?
+    .arg(number_arg(
         alloc,
         "STEPS",
         "steps",
         "How many steps follow the openings",
         0,
         MAX_STEPS,
-    );
-    let nodes = number_arg(alloc, "NODES", "nodes", "How many nodes there are", 1, 7);
-    subcommand(
-        alloc,
-        "random",
-        "Draws a random schedule, prints it and the report of its run",
-        helps::random(),
-    )
-    .arg(seed)?
-    .arg(steps)?
-    .arg(nodes)
+    ))?
+    .arg(number_arg(alloc, "NODES", "nodes", "How many nodes there are", 1, 7))
 }
 
 // The command line of `rr random`.
 fn random_line<'a>(alloc: Global) -> Result<Command<'a>, AllocError>
-    ensures line { IfOk result (λ c. app_of c ≡ random_line) }
-    ensures local { IfOk result (λ c. (out-Command c).has_globals ≡ false) }
+    ensures { IfOk result (IsLine random_line) }
 {
-    let lively = flag_arg(
-        alloc,
-        "LIVELY",
-        "lively",
-        "Draws among the events that do something",
-    );
-    let faults = optional_number_arg(
-        alloc,
-        "FAULTS",
-        "faults",
-        "With --lively, how many steps in a thousand have a fault [default: 10]",
-        0,
-        MAX_FAULTS,
-    );
-    let alone = flag_arg(
-        alloc,
-        "ALONE",
-        "schedule-only",
-        "Prints the schedule alone, without the report",
-    );
-    numbers_line(alloc)?.arg(lively)?.arg(faults)?.arg(alone)
+    numbers_line(alloc)?
+        .arg(flag_arg(
+            alloc,
+            "LIVELY",
+            "lively",
+            "Draws among the events that do something",
+        ))?
+        .arg(optional_number_arg(
+            alloc,
+            "FAULTS",
+            "faults",
+            "With --lively, how many steps in a thousand have a fault [default: 10]",
+            0,
+            MAX_FAULTS,
+        ))?
+        .arg(flag_arg(
+            alloc,
+            "ALONE",
+            "schedule-only",
+            "Prints the schedule alone, without the report",
+        ))
 }
 
 // The command line of `rr audit`.
 fn audit_line<'a>(alloc: Global) -> Result<Command<'a>, AllocError>
-    ensures line { IfOk result (λ c. app_of c ≡ audit_line) }
-    ensures local { IfOk result (λ c. (out-Command c).has_globals ≡ false) }
+    ensures { IfOk result (IsLine audit_line) }
 {
-    let file = word_arg(alloc, "FILE", "The tape [default: standard input]", false);
-    subcommand(
+    bare_line(
         alloc,
         "audit",
         "Says whether the events of a tape are what nodes do",
         helps::audit(),
     )
-    .arg(file)
+    .arg(word_arg(alloc, "FILE", "The tape [default: standard input]", false))
 }
 
 // The command line of `rr run`.
 fn run_line<'a>(alloc: Global) -> Result<Command<'a>, AllocError>
-    ensures line { IfOk result (λ c. app_of c ≡ run_line) }
-    ensures local { IfOk result (λ c. (out-Command c).has_globals ≡ false) }
+    ensures { IfOk result (IsLine run_line) }
 {
-    let nodes = number_arg(alloc, "NODES", "nodes", "How many nodes there are", 1, 7);
-    let dir = option_arg(
-        alloc,
-        "DIR",
-        "dir",
-        "The folder of the nodes' folders",
-        true,
-    );
-    let script = option_arg(alloc, "SCRIPT", "script", "The script", true);
-    let tape = option_arg(alloc, "TAPE", "tape", "Where the tape is written", false);
-    subcommand(
+    bare_line(
         alloc,
         "run",
         "Runs nodes in threads over folders, and prints the answers to a script",
         helps::run(),
     )
-    .arg(nodes)?
-    .arg(dir)?
-    .arg(script)?
-    .arg(tape)
+    .arg(number_arg(alloc, "NODES", "nodes", "How many nodes there are", 1, 7))?
+    .arg(option_arg(
+        alloc,
+        "DIR",
+        "dir",
+        "The folder of the nodes' folders",
+        true,
+    ))?
+    .arg(option_arg(alloc, "SCRIPT", "script", "The script", true))?
+    .arg(option_arg(alloc, "TAPE", "tape", "Where the tape is written", false))
 }
 
 // The command line of `rr sweep`.
 fn sweep_line<'a>(alloc: Global) -> Result<Command<'a>, AllocError>
-    ensures line { IfOk result (λ c. app_of c ≡ sweep_line) }
-    ensures local { IfOk result (λ c. (out-Command c).has_globals ≡ false) }
+    ensures { IfOk result (IsLine sweep_line) }
 {
-    let file = word_arg(alloc, "FILE", helps::schedule(), false);
-    let seed = number_arg(
+    bare_line(
+        alloc,
+        "sweep",
+        "Crashes a node after each device call of a schedule, and tells what it restarts with",
+        helps::sweep(),
+    )
+    .arg(word_arg(alloc, "FILE", helps::schedule(), false))?
+    .arg(number_arg(
         alloc,
         "SEED",
         "seed",
         "The seed of the last ending's words",
         0,
         u64::MAX,
-    );
-    subcommand(
-        alloc,
-        "sweep",
-        "Crashes a node after each device call of a schedule, and tells what it restarts with",
-        helps::sweep(),
-    )
-    .arg(file)?
-    .arg(seed)
+    ))
 }
 
 // The command line of `rr draw`.
 fn draw_line<'a>(alloc: Global) -> Result<Command<'a>, AllocError>
-    ensures line { IfOk result (λ c. app_of c ≡ draw_line) }
-    ensures local { IfOk result (λ c. (out-Command c).has_globals ≡ false) }
+    ensures { IfOk result (IsLine draw_line) }
 {
-    let file = word_arg(alloc, "FILE", helps::schedule(), false);
-    let from = optional_number_arg(
+    bare_line(
+        alloc,
+        "draw",
+        "Draws the run of a schedule as an SVG picture",
+        helps::draw(),
+    )
+    .arg(word_arg(alloc, "FILE", helps::schedule(), false))?
+    .arg(optional_number_arg(
         alloc,
         "FROM",
         "from",
         "The first line [default: 1]",
         1,
         LAST_LINE,
-    );
-    let to = optional_number_arg(
+    ))?
+    .arg(optional_number_arg(
         alloc,
         "TO",
         "to",
         "The last line [default: the end]",
         1,
         LAST_LINE,
-    );
-    let node = optional_number_arg(alloc, "NODE", "node", "The node [default: all nodes]", 0, 6);
-    let instance = optional_number_arg(
+    ))?
+    .arg(optional_number_arg(alloc, "NODE", "node", "The node [default: all nodes]", 0, 6))?
+    .arg(optional_number_arg(
         alloc,
         "INSTANCE",
         "instance",
         "The instance of the messages [default: all events]",
         0,
         1_048_575,
-    );
-    subcommand(
-        alloc,
-        "draw",
-        "Draws the run of a schedule as an SVG picture",
-        helps::draw(),
-    )
-    .arg(file)?
-    .arg(from)?
-    .arg(to)?
-    .arg(node)?
-    .arg(instance)
+    ))
 }
 
 // The command line of `rr migrate`.
 fn migrate_line<'a>(alloc: Global) -> Result<Command<'a>, AllocError>
-    ensures line { IfOk result (λ c. app_of c ≡ migrate_line) }
-    ensures local { IfOk result (λ c. (out-Command c).has_globals ≡ false) }
+    ensures { IfOk result (IsLine migrate_line) }
 {
-    let folder = word_arg(alloc, "DIR", "The folder of the node", true);
-    let node = number_arg(alloc, "NODE", "node", "Which node it is", 0, 6);
-    let nodes = number_arg(alloc, "NODES", "nodes", "How many nodes there are", 1, 7);
-    subcommand(
+    bare_line(
         alloc,
         "migrate",
         "Opens the folder of a node, brings it to version 2 if need be, and tells what its areas hold",
         helps::migrate(),
     )
-    .arg(folder)?
-    .arg(node)?
-    .arg(nodes)
+    .arg(word_arg(alloc, "DIR", "The folder of the node", true))?
+    .arg(number_arg(alloc, "NODE", "node", "Which node it is", 0, 6))?
+    .arg(number_arg(alloc, "NODES", "nodes", "How many nodes there are", 1, 7))
 }

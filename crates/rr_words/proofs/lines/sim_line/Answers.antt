@@ -1,17 +1,8 @@
 use Rattle.std.proofs.lemmas.Result.{IfOk-weaker}
 use Rattle.rr_words.specs.Lines.{sim_line}
-use Rattle.rr_words.proofs.LineLemmas.{with_arg, stays_local}
+use Rattle.rr_words.proofs.LineLemmas.{adds_arg}
 use Rattle.rr_words.proofs.lines.sim_line.Goals as goal
 
-pub returns-clause-line : goal.returns-clause-line
+pub returns : goal.returns
 unfolding sim_line
-returns-clause-line c =
-    let one = with_arg c.subcommand.result c.in_ok-arg.field-0 c.word_arg-file.result _ _ c.subcommand.ensures.app c.in_ok-arg.ensures c.word_arg-file.ensures.rule c.word_arg-file.ensures.local in
-    let two = with_arg c.in_ok-arg.field-0 c.in_ok-arg-2.field-0 c.flag_arg-explain.result _ _ one c.in_ok-arg-2.ensures c.flag_arg-explain.ensures.rule c.flag_arg-explain.ensures.local in
-    IfOk-weaker c.arg-3.result _ _ (λ r added. with_arg c.in_ok-arg-2.field-0 r c.flag_arg-json.result _ _ two added c.flag_arg-json.ensures.rule c.flag_arg-json.ensures.local) c.arg-3.ensures
-
-pub returns-clause-local : goal.returns-clause-local
-returns-clause-local c =
-    let one = stays_local c.subcommand.result c.in_ok-arg.field-0 c.word_arg-file.result c.subcommand.ensures.local c.in_ok-arg.ensures c.word_arg-file.ensures.local in
-    let two = stays_local c.in_ok-arg.field-0 c.in_ok-arg-2.field-0 c.flag_arg-explain.result one c.in_ok-arg-2.ensures c.flag_arg-explain.ensures.local in
-    IfOk-weaker c.arg-3.result _ _ (λ r added. stays_local c.in_ok-arg-2.field-0 r c.flag_arg-json.result two added c.flag_arg-json.ensures.local) c.arg-3.ensures
+returns c = IfOk-weaker c.arg-3.result _ _ (λ r added. adds_arg (adds_arg (adds_arg c.bare_line.ensures c.in_ok-arg.ensures c.word_arg.ensures) c.in_ok-arg-2.ensures c.flag_arg.ensures) added c.flag_arg-2.ensures) c.arg-3.ensures
