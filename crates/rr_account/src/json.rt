@@ -4,6 +4,7 @@ ghost use Rattle.std.specs.Prelude.{◌≡◌, ◌+◌, ℕ, length, OnOk, IfOk,
 ghost use Rattle.rr_account.specs.Texts.{AreObjects};
 
 use crate::account::Account;
+use crate::kind::MessageKind;
 use crate::note::push_object;
 use crate::reasons::{Reason, reason_text};
 use rr_text::text_report::refusal_name;
@@ -63,43 +64,21 @@ struct CommandRow {
     owner: Option<u32>,
 }
 
-// What a message says, as JSON.
+// What a message says, as JSON: its kind, and the members that this kind has. (Of an enum with a tag, one function would
+// write all members of all variants, and that proves slowly.)
 #[derive(Drop, Serialize)]
-#[serde(tag = "kind", rename_all = "lowercase")]
-enum BodyRow {
-    Estimate {
-        instance: u32,
-        round: u32,
-        stamp: u32,
-        command: CommandRow,
-    },
-    Proposal {
-        instance: u32,
-        round: u32,
-        command: CommandRow,
-    },
-    Ack {
-        instance: u32,
-        round: u32,
-    },
-    Decision {
-        instance: u32,
-        command: CommandRow,
-    },
-    Request {
-        command: CommandRow,
-    },
-    Nack {
-        instance: u32,
-        round: u32,
-    },
-    Beat,
-    Suspects {
-        nodes: Vec<u8>,
-    },
-    Ask {
-        instance: u32,
-    },
+struct BodyRow {
+    kind: MessageKind,
+    #[serde(skip_serializing_if = "Option::is_none")]
+    instance: Option<u32>,
+    #[serde(skip_serializing_if = "Option::is_none")]
+    round: Option<u32>,
+    #[serde(skip_serializing_if = "Option::is_none")]
+    stamp: Option<u32>,
+    #[serde(skip_serializing_if = "Option::is_none")]
+    command: Option<CommandRow>,
+    #[serde(skip_serializing_if = "Option::is_none")]
+    nodes: Option<Vec<u8>>,
 }
 
 // A reply as JSON.
@@ -127,54 +106,84 @@ struct EventRow {
     note: Option<Words>,
 }
 
+// A sent message as JSON.
+#[derive(Drop, Serialize)]
+struct SendRow {
+    kind: &'static str,
+    number: u64,
+    from: u8,
+    to: u8,
+    message: BodyRow,
+}
+
+// An acknowledgement as JSON.
+#[derive(Drop, Serialize)]
+struct AckRow {
+    kind: &'static str,
+    node: u8,
+    client: u32,
+    request: u64,
+    reply: ReplyRow,
+}
+
+// A restart as JSON.
+#[derive(Drop, Serialize)]
+struct RestartRow {
+    kind: &'static str,
+    node: u8,
+    facts: u64,
+    decided: u64,
+    names: Vec<NameRow>,
+}
+
+// A refusal as JSON.
+#[derive(Drop, Serialize)]
+struct RefuseRow {
+    kind: &'static str,
+    line: u64,
+    number: u8,
+    name: &'static str,
+}
+
+// An event of which the report has no line, as JSON.
+#[derive(Drop, Serialize)]
+struct AloneRow {
+    kind: &'static str,
+    event: EventRow,
+}
+
+// The number of decided commands as JSON.
+#[derive(Clone, Copy, Serialize)]
+struct DecidedRow {
+    kind: &'static str,
+    commands: u64,
+}
+
+// A decided command as JSON.
+#[derive(Clone, Copy, Serialize)]
+struct PlaceRow {
+    kind: &'static str,
+    place: u64,
+    command: CommandRow,
+}
+
+// What a line of a report tells, as JSON. Each row names its kind.
+#[derive(Drop, Serialize)]
+#[serde(untagged)]
+enum Row {
+    Send(SendRow),
+    Ack(AckRow),
+    Restart(RestartRow),
+    Refuse(RefuseRow),
+}
+
 // A line of a report as JSON, with its event where that is known.
 #[derive(Drop, Serialize)]
-#[serde(tag = "kind", rename_all = "lowercase")]
-enum Row {
-    Send {
-        number: u64,
-        from: u8,
-        to: u8,
-        message: BodyRow,
-        #[serde(skip_serializing_if = "Option::is_none")]
-        event: Option<EventRow>,
-    },
-    Ack {
-        node: u8,
-        client: u32,
-        request: u64,
-        reply: ReplyRow,
-        #[serde(skip_serializing_if = "Option::is_none")]
-        event: Option<EventRow>,
-    },
-    Restart {
-        node: u8,
-        facts: u64,
-        decided: u64,
-        names: Vec<NameRow>,
-        #[serde(skip_serializing_if = "Option::is_none")]
-        event: Option<EventRow>,
-    },
-    Refuse {
-        line: u64,
-        number: u8,
-        name: &'static str,
-        #[serde(skip_serializing_if = "Option::is_none")]
-        event: Option<EventRow>,
-    },
-    Done {
-        event: EventRow,
-    },
-    Idle {
-        event: EventRow,
-    },
-    Decided {
-        commands: u64,
-    },
-    Command {
-        place: u64,
-        command: CommandRow,
-    },
+struct LineRow {
+    #[serde(flatten)]
+    row: Row,
+    #[serde(skip_serializing_if = "Option::is_none")]
+    event: Option<EventRow>,
 }
 
 // Bytes as text. Names and values are ASCII, and so are the texts of events.
@@ -219,43 +228,65 @@ fn members(alloc: Global, set: NodeSet) -> Result<Vec<u8>, Refusal>
     Ok(members)
 }
 
+// The kind of a message, and its instance, its round and its command, where it names them.
+fn named(body: &Body) -> (MessageKind, Option<u32>, Option<u32>, Option<CommandRow>) {
+    match body {
+        Body::Estimate(instance, estimate) => (
+            MessageKind::Estimate,
+            Some(instance.number()),
+            Some(estimate.round().number()),
+            Some(command_row(&estimate.command())),
+        ),
+        Body::Proposal(instance, round, command) => (
+            MessageKind::Proposal,
+            Some(instance.number()),
+            Some(round.number()),
+            Some(command_row(command)),
+        ),
+        Body::Ack(instance, round) => (
+            MessageKind::Ack,
+            Some(instance.number()),
+            Some(round.number()),
+            None,
+        ),
+        Body::Decision(instance, command) => (
+            MessageKind::Decision,
+            Some(instance.number()),
+            None,
+            Some(command_row(command)),
+        ),
+        Body::Request(command) => (MessageKind::Request, None, None, Some(command_row(command))),
+        Body::Nack(instance, round) => (
+            MessageKind::Nack,
+            Some(instance.number()),
+            Some(round.number()),
+            None,
+        ),
+        Body::Beat => (MessageKind::Beat, None, None, None),
+        Body::Suspects(_) => (MessageKind::Suspects, None, None, None),
+        Body::Ask(instance) => (MessageKind::Ask, Some(instance.number()), None, None),
+    }
+}
+
 fn body_row(alloc: Global, body: &Body) -> Result<BodyRow, Refusal>
     ensures { IfErr result (λ e. e ≡ Refusal.OutOfMemory) }
 {
-    Ok(match body {
-        Body::Estimate(instance, estimate) => BodyRow::Estimate {
-            instance: instance.number(),
-            round: estimate.round().number(),
-            stamp: estimate.stamp(),
-            command: command_row(&estimate.command()),
-        },
-        Body::Proposal(instance, round, command) => BodyRow::Proposal {
-            instance: instance.number(),
-            round: round.number(),
-            command: command_row(command),
-        },
-        Body::Ack(instance, round) => BodyRow::Ack {
-            instance: instance.number(),
-            round: round.number(),
-        },
-        Body::Decision(instance, command) => BodyRow::Decision {
-            instance: instance.number(),
-            command: command_row(command),
-        },
-        Body::Request(command) => BodyRow::Request {
-            command: command_row(command),
-        },
-        Body::Nack(instance, round) => BodyRow::Nack {
-            instance: instance.number(),
-            round: round.number(),
-        },
-        Body::Beat => BodyRow::Beat,
-        Body::Suspects(set) => BodyRow::Suspects {
-            nodes: members(alloc, *set)?,
-        },
-        Body::Ask(instance) => BodyRow::Ask {
-            instance: instance.number(),
-        },
+    let (kind, instance, round, command) = named(body);
+    let stamp = match body {
+        Body::Estimate(_, estimate) => Some(estimate.stamp()),
+        _ => None,
+    };
+    let nodes = match body {
+        Body::Suspects(set) => Some(members(alloc, *set)?),
+        _ => None,
+    };
+    Ok(BodyRow {
+        kind,
+        instance,
+        round,
+        stamp,
+        command,
+        nodes,
     })
 }
 
@@ -287,46 +318,46 @@ fn name_rows(alloc: Global, bindings: &[Binding]) -> Result<Vec<NameRow>, Refusa
     Ok(rows)
 }
 
-fn row_of(alloc: Global, line: &ReportLine, event: Option<EventRow>) -> Result<Row, Refusal>
+fn row_of(alloc: Global, line: &ReportLine) -> Result<Row, Refusal>
     ensures { IfErr result (λ e. e ≡ Refusal.OutOfMemory) }
 {
     Ok(match line {
-        ReportLine::Send { number, message } => Row::Send {
+        ReportLine::Send { number, message } => Row::Send(SendRow {
+            kind: "send",
             number: *number,
             from: message.from.index(),
             to: message.to.index(),
             message: body_row(alloc, &message.body)?,
-            event,
-        },
+        }),
         ReportLine::Ack {
             node,
             request,
             reply,
-        } => Row::Ack {
+        } => Row::Ack(AckRow {
+            kind: "ack",
             node: node.index(),
             client: request.client,
             request: request.seq,
             reply: reply_row(*reply),
-            event,
-        },
+        }),
         ReportLine::Restart {
             node,
             facts,
             decided,
             bindings,
-        } => Row::Restart {
+        } => Row::Restart(RestartRow {
+            kind: "restart",
             node: node.index(),
             facts: *facts,
             decided: *decided,
             names: name_rows(alloc, bindings.as_slice())?,
-            event,
-        },
-        ReportLine::Refuse { line, refusal } => Row::Refuse {
+        }),
+        ReportLine::Refuse { line, refusal } => Row::Refuse(RefuseRow {
+            kind: "refuse",
             line: *line,
             number: refusal.number(),
             name: refusal_name(refusal),
-            event,
-        },
+        }),
     })
 }
 
@@ -340,8 +371,8 @@ fn push_row(
     ensures ok { OnOk result ((count : ℕ) → AreObjects count text.old.items → AreObjects (count + 1) text.new.items) }
     ensures err { IfErr result (λ e. e ≡ Refusal.OutOfMemory) }
 {
-    let row = row_of(alloc, line, event)?;
-    push_object(alloc, text, &row)?;
+    let row = row_of(alloc, line)?;
+    push_object(alloc, text, &LineRow { row, event })?;
     Ok(())
 }
 
@@ -351,11 +382,18 @@ fn push_decided(alloc: Global, text: &mut Vec<u8>, decided: &[Command]) -> Resul
     ensures err { IfErr result (λ e. e ≡ Refusal.OutOfMemory) }
 {
     let commands = decided.len() as u64;
-    push_object(alloc, text, &Row::Decided { commands })?;
+    let kind = "decided";
+    push_object(alloc, text, &DecidedRow { kind, commands })?;
     let mut place = 0u64;
     for command in decided {
         let command = command_row(command);
-        push_object(alloc, text, &Row::Command { place, command })?;
+        let kind = "command";
+        let row = PlaceRow {
+            kind,
+            place,
+            command,
+        };
+        push_object(alloc, text, &row)?;
         place = place.saturating_add(1);
     }
     Ok(())
@@ -409,12 +447,8 @@ fn push_happening(
     match line {
         Some(line) => push_row(alloc, text, line, Some(event)),
         None => {
-            let row = if reason.is_idle() {
-                Row::Idle { event }
-            } else {
-                Row::Done { event }
-            };
-            push_object(alloc, text, &row)
+            let kind = if reason.is_idle() { "idle" } else { "done" };
+            push_object(alloc, text, &AloneRow { kind, event })
         }
     }
 }

@@ -5,11 +5,10 @@ ghost use Rattle.rr_account.specs.Counts.{is_event_kind, is_message_kind};
 
 use rr_text::Event;
 use rr_types::Body;
-use serde::Serialize;
+use serde::{Described, Serialize, Serializer};
 
 /// What an event does, by its keyword.
-#[derive(Clone, Copy, Serialize)]
-#[serde(rename_all = "lowercase")]
+#[derive(Clone, Copy)]
 pub enum EventKind {
     Submit,
     Hear,
@@ -17,7 +16,6 @@ pub enum EventKind {
     Tick,
     Advance,
     Take,
-    #[serde(rename = "dev")]
     Device,
     Fail,
     Mark,
@@ -26,6 +24,15 @@ pub enum EventKind {
     Snap,
     Crash,
     Restart,
+}
+
+impl Described for EventKind {}
+
+// As JSON a kind is its word.
+impl Serialize for EventKind {
+    fn serialize<S: Serializer>(&self, out: &mut S) -> Result<(), S::Error> {
+        self.word().serialize(out)
+    }
 }
 
 /// All kinds of events.
@@ -91,8 +98,7 @@ impl EventKind {
 }
 
 /// What a message says.
-#[derive(Clone, Copy, Serialize)]
-#[serde(rename_all = "lowercase")]
+#[derive(Clone, Copy)]
 pub enum MessageKind {
     Estimate,
     Proposal,
@@ -103,6 +109,15 @@ pub enum MessageKind {
     Beat,
     Suspects,
     Ask,
+}
+
+impl Described for MessageKind {}
+
+// As JSON a kind is its word.
+impl Serialize for MessageKind {
+    fn serialize<S: Serializer>(&self, out: &mut S) -> Result<(), S::Error> {
+        self.word().serialize(out)
+    }
 }
 
 /// All kinds of messages.

@@ -94,76 +94,99 @@ pub(crate) fn reason_text(
     }
 }
 
+// Words that may stand around the number of a node.
+#[derive(Clone, Copy)]
+enum Words {
+    // The whole text.
+    Plain(&'static str),
+    // What stands before the number of the node, and behind it.
+    Around(&'static str, &'static str),
+}
+
+// Appends words, with this node's number where they stand around one.
+fn push_words(text: &mut Vec<u8>, words: Words, node: u8) -> io::Result<()> {
+    match words {
+        Words::Plain(words) => write!(text, "{words}"),
+        Words::Around(front, back) => write!(text, "{front}{node}{back}"),
+    }
+}
+
+// What an event did.
+fn done_words(event: &Event) -> Words {
+    match event {
+        Event::Submit { .. } => Words::Around("node ", " takes the request"),
+        Event::Hear { .. } => Words::Around("node ", " hears it"),
+        Event::Suspect { .. } => Words::Around("the suspects of node ", " are these now"),
+        Event::Tick { .. } => Words::Around("the detector of node ", " ticks"),
+        Event::Advance { .. } => Words::Around(
+            "the lowest open instance of node ",
+            " that has a round, if any, enters the next",
+        ),
+        Event::Take { .. } => Words::Around("node ", " begins to flush its staged facts"),
+        Event::Device { .. } => Words::Around("node ", " makes its next device call"),
+        Event::Mark { .. } => Words::Around("the synced group of node ", " is marked"),
+        Event::Snap { .. } => Words::Around("node ", " begins to switch to a snapshot"),
+        Event::Crash { .. } => Words::Around("node ", " is down"),
+        Event::Restart { .. } => Words::Around("node ", " begins to open its disk"),
+        Event::Fail { .. } | Event::Send { .. } | Event::Ack { .. } => Words::Plain("done"),
+    }
+}
+
 // Appends what an event did.
 fn push_done(text: &mut Vec<u8>, event: &Event) -> io::Result<()> {
-    let node = node_of(event).index();
-    match event {
-        Event::Submit { .. } => write!(text, "node {node} takes the request"),
-        Event::Hear { .. } => write!(text, "node {node} hears it"),
-        Event::Suspect { .. } => write!(text, "the suspects of node {node} are these now"),
-        Event::Tick { .. } => write!(text, "the detector of node {node} ticks"),
-        Event::Advance { .. } => write!(
-            text,
-            "the lowest open instance of node {node} that has a round, if any, enters the next"
-        ),
-        Event::Take { .. } => write!(text, "node {node} begins to flush its staged facts"),
-        Event::Device { .. } => write!(text, "node {node} makes its next device call"),
-        Event::Mark { .. } => write!(text, "the synced group of node {node} is marked"),
-        Event::Snap { .. } => write!(text, "node {node} begins to switch to a snapshot"),
-        Event::Crash { .. } => write!(text, "node {node} is down"),
-        Event::Restart { .. } => write!(text, "node {node} begins to open its disk"),
-        Event::Fail { .. } | Event::Send { .. } | Event::Ack { .. } => write!(text, "done"),
-    }
+    push_words(text, done_words(event), node_of(event).index())
 }
 
 // Appends why an event was refused.
 fn push_refused(text: &mut Vec<u8>, event: &Event, refusal: Refusal) -> io::Result<()> {
     let node = node_of(event).index();
-    match (refusal, event) {
-        (Refusal::Down, _) => write!(text, "node {node} is down or opens its disk"),
-        (Refusal::Failed, _) => write!(
-            text,
-            "a device call of node {node} has failed, and it waits for a restart"
+    let words = match (refusal, event) {
+        (Refusal::Down, _) => Words::Around("node ", " is down or opens its disk"),
+        (Refusal::Failed, _) => Words::Around(
+            "a device call of node ",
+            " has failed, and it waits for a restart",
         ),
         (Refusal::Busy, Event::Restart { .. }) => {
-            write!(text, "node {node} is up or opens its disk already")
+            Words::Around("node ", " is up or opens its disk already")
         }
-        (Refusal::Busy, _) => write!(text, "a flush or a switch of node {node} isn't over"),
-        (Refusal::Device, _) => write!(text, "the device call failed, and so has node {node}"),
+        (Refusal::Busy, _) => Words::Around("a flush or a switch of node ", " isn't over"),
+        (Refusal::Device, _) => Words::Around("the device call failed, and so has node ", ""),
         (Refusal::Damaged { area, offset }, _) => {
-            write!(
+            return write!(
                 text,
                 "area {area} of node {node} is damaged at byte {offset}"
-            )
+            );
         }
-        (Refusal::OutOfMemory, _) => write!(text, "memory was wanting"),
-        (Refusal::ListFull, _) => write!(text, "node {node} has decided all instances"),
-        (Refusal::RoundsOut, _) => write!(text, "the instance is in its last round"),
-        (Refusal::TooLarge, _) => write!(
-            text,
-            "the area, the epoch or the facts' numbers would pass their limit"
-        ),
-        (other, _) => write!(text, "{other}"),
-    }
+        (Refusal::OutOfMemory, _) => Words::Plain("memory was wanting"),
+        (Refusal::ListFull, _) => Words::Around("node ", " has decided all instances"),
+        (Refusal::RoundsOut, _) => Words::Plain("the instance is in its last round"),
+        (Refusal::TooLarge, _) => {
+            Words::Plain("the area, the epoch or the facts' numbers would pass their limit")
+        }
+        (other, _) => return write!(text, "{other}"),
+    };
+    push_words(text, words, node)
 }
 
 // Appends why an event came to nothing.
 fn push_idle(text: &mut Vec<u8>, event: &Event, idle: Idle) -> io::Result<()> {
-    let node = node_of(event).index();
-    match idle {
+    let words = match idle {
         Idle::NoMessage(message, sent) => {
-            write!(
+            return write!(
                 text,
                 "message {message} isn't on the wire, {sent} were sent"
-            )
+            );
         }
-        Idle::OtherAddressee(message, to) => write!(text, "message {message} is for node {to}"),
-        Idle::NothingStaged => write!(text, "node {node} has no fact to flush"),
-        Idle::NoCallDue => write!(text, "no device call of node {node} is due"),
-        Idle::NothingSynced => write!(text, "node {node} has no synced group to mark"),
-        Idle::NothingToSend => write!(text, "no message of node {node} may leave"),
+        Idle::OtherAddressee(message, to) => {
+            return write!(text, "message {message} is for node {to}");
+        }
+        Idle::NothingStaged => Words::Around("node ", " has no fact to flush"),
+        Idle::NoCallDue => Words::Around("no device call of node ", " is due"),
+        Idle::NothingSynced => Words::Around("node ", " has no synced group to mark"),
+        Idle::NothingToSend => Words::Around("no message of node ", " may leave"),
         Idle::NothingToAcknowledge => {
-            write!(text, "no request that waits at node {node} is decided")
+            Words::Around("no request that waits at node ", " is decided")
         }
-    }
+    };
+    push_words(text, words, node_of(event).index())
 }
