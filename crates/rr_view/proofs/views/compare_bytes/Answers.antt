@@ -1,4 +1,4 @@
-use Rattle.std.proofs.Common.{◌≡◌, ◌∙◌, refl, sym, ap, subst}
+use Rattle.std.proofs.Common.{◌≡◌, ◌∙◌, List, ℕ, refl, sym, ap, subst}
 use Rattle.rr_text.specs.Lines.{IsFault}
 use Rattle.rr_text.specs.Scheduled.{IsEvent}
 use Rattle.rr_text.specs.ScheduleTexts.{event_line}
@@ -22,9 +22,9 @@ returns-in-None-clause-ends g c =
 pub returns-in-Ok-difference_text-clause-ends : goal.returns-in-Ok-difference_text-clause-ends
 returns-in-Ok-difference_text-clause-ends g c =
     let reported : c.as_slice.result.now ≡ report_text c.in-Ok.account.report = c.as_slice.ensures.value ∙ (c.in-Ok-text.ensures.ok ∙ ap report_text c.report.ensures) in
-    other c.in-Ok.account c.in-Ok-difference_text.told.items c.end_by_text.result c.in-Ok.ensures.ok (λ is. c.in-Some.ensures.other refl (reported ∙ sym is))
-    (rw c.account_on.ensures.unprinted at subst (λ text. Prints text c.end_by_text.result (g.O.Sink.printing c.account_on.new.out) (g.O.Sink.printing c.end_by_text.new.out)) c.as_slice-in-Ok-difference_text.ensures.value c.end_by_text.ensures.ends)
-    c.different.ensures
+    let ends : Prints c.in-Ok-difference_text.told.items c.end_by_text.result (g.O.Sink.printing c.account_on.new.out) (g.O.Sink.printing c.end_by_text.new.out) =
+    subst (λ (text : List ℕ). Prints text c.end_by_text.result (g.O.Sink.printing c.account_on.new.out) (g.O.Sink.printing c.end_by_text.new.out)) c.as_slice-in-Ok-difference_text.ensures.value c.end_by_text.ensures.ends in
+    other c.in-Ok.account c.in-Ok-difference_text.told.items c.end_by_text.result c.in-Ok.ensures.ok (λ is. c.in-Some.ensures.other refl (reported ∙ sym is)) (rw c.account_on.ensures.unprinted at ends) c.different.ensures
 
 pub returns-clause-ends : goal.returns-clause-ends
 returns-clause-ends g c =

@@ -1,4 +1,4 @@
-use Rattle.std.proofs.Common.{sym, subst}
+use Rattle.std.proofs.Common.{List, ℕ, sym, subst}
 use Rattle.rr_text.specs.Lines.{IsFault}
 use Rattle.rr_text.specs.Scheduled.{IsEvent}
 use Rattle.rr_text.specs.ScheduleTexts.{event_line}
@@ -11,8 +11,9 @@ returns-in-Err-clause-ends g c = refused c.in-Err.refusal c.in-Err.ensures.fault
 
 pub returns-in-Ok-shown_text-clause-ends : goal.returns-in-Ok-shown_text-clause-ends
 returns-in-Ok-shown_text-clause-ends g c =
-    viewed c.in-Ok.account c.in-Ok-shown_text.text.items c.in-Ok.ensures.ok c.in-Ok-shown_text.ensures.ok
-    (rw c.account_on.ensures.unprinted at subst (λ text. Prints text c.end_by_text.result (g.O.Sink.printing c.account_on.new.out) (g.O.Sink.printing c.end_by_text.new.out)) c.as_slice.ensures.value c.end_by_text.ensures.ends)
+    let ends : Prints c.in-Ok-shown_text.text.items c.end_by_text.result (g.O.Sink.printing c.account_on.new.out) (g.O.Sink.printing c.end_by_text.new.out) =
+    subst (λ (text : List ℕ). Prints text c.end_by_text.result (g.O.Sink.printing c.account_on.new.out) (g.O.Sink.printing c.end_by_text.new.out)) c.as_slice.ensures.value c.end_by_text.ensures.ends in
+    viewed c.in-Ok.account c.in-Ok-shown_text.text.items c.in-Ok.ensures.ok c.in-Ok-shown_text.ensures.ok (rw c.account_on.ensures.unprinted at ends)
 
 pub returns-clause-ends : goal.returns-clause-ends
 returns-clause-ends g c =
