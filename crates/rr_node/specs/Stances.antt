@@ -1,7 +1,9 @@
 -- What a node waits for, and which group of it is synced.
-use Rattle.std.specs.Prelude.{List, []}
+use Rattle.std.specs.Prelude.{List, [], Option, None, Some}
 use Rattle.std.specs.Option.{option_map_or}
 use Rattle.rr_types.specs.declared.fact.Fact.{Fact}
+use Rattle.rr_types.specs.declared.refusal.Refusal.{Refusal}
+use Rattle.rr_types.specs.declared.refusal.Refusal.TheVariants as because
 use Rattle.rr_node.specs.declared.event.Stance.{Stance}
 use Rattle.rr_node.specs.declared.event.Stance.TheVariants as waits
 use Rattle.rr_node.specs.Seats.{Doing, Stopped, Faulted, Opening, Serving, Flush, Resting, Writing, Flushed, Switching}
@@ -33,3 +35,10 @@ synced_of Stopped = []
 synced_of Faulted = []
 synced_of (Opening phase) = []
 synced_of (Serving s journal flush) = synced_by (option_map_or (λ facts. facts) s.running []) flush
+
+-- the refusal of each event but a restart and a device call, while a node isn't up
+abbrev pub refusal_by : Doing → Option Refusal
+refusal_by Stopped = Some because.Down
+refusal_by Faulted = Some because.Failed
+refusal_by (Opening phase) = Some because.Down
+refusal_by (Serving s journal flush) = None

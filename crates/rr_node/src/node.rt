@@ -4,7 +4,7 @@ ghost use Rattle.std.specs.Prelude.{◌≡◌, ◌≢◌, ◌<◌, Err, IfSome, 
 ghost use Rattle.rr_node.specs.declared.event.NodeEvent.{NodeEvent};
 ghost use Rattle.rr_node.specs.Runs.{IsSpelt};
 ghost use Rattle.rr_node.specs.Seats.{Stopped, Gives, Fails, AtMostOneCall, crashed, seat_step};
-ghost use Rattle.rr_node.specs.Stances.{stance_of, synced_of};
+ghost use Rattle.rr_node.specs.Stances.{stance_of, synced_of, refusal_by};
 ghost use Rattle.rr_node.specs.Views.{Takes};
 
 use crate::doing::{Doing, crash, fail, go_on};
@@ -101,6 +101,7 @@ impl Node {
 
     /// The refusal of each event but a restart and a device call, while the node isn't up. It moves nothing.
     pub fn refusal(&self) -> Option<Refusal>
+        ensures value { result ≡ refusal_by self.now.doing }
         ensures refused { IfSome result (λ e. (event : NodeEvent) → event ≢ NodeEvent.Restart → event ≢ NodeEvent.Device → seat_step event self.now ≡ (Err e, self.now)) }
         ensures spelt { IfSome result (λ _. IsSpelt self.now.doing) }
     {
