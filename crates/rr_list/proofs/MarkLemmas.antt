@@ -346,3 +346,13 @@ ascend_all es (f ∷ fs) h = ascend_all (take_on es f) fs (take_by es f (after_f
 pub undecided_none : {A : Type 0} (o : Option A) (b : Bool) → b ≡ is_some o → b ≡ false → o ≡ None
 undecided_none None b h t = refl
 undecided_none (Some x) b h t = cc
+
+-- the instance behind the decided prefix hasn't decided
+pub prefix_open : (es : List Entry) (p : ℕ) → AscendsFrom 0 es → p ≡ length (decided_from 0 es) → decided_in es p ≡ None
+prefix_open es p h e =
+    some_or (decided_in es p) (λ n. n)
+    (λ v d.
+    let all : length (run_from es 0) ≡ length (decided_from 0 es) = ap (λ (r : List Command). length r) (run_all es h) in
+    let run : length (run_from es 0) ≡ p + length (run_from es p) = run_length es h p 0 (λ i a l. prefix_decided es i h (omega (arith, e, l))) ∙ ap (λ k. p + length (run_from es k)) (omega arith) in
+    let more : length (run_from es p) ≡ suc (length (run_from es (p + 1))) = longer es h p v d in
+    absurd (omega (arith, e, all, run, more)))

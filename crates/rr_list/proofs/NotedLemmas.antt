@@ -1,10 +1,10 @@
 -- What instances have decided, taken into a table.
-use Rattle.std.proofs.Common.{◌≡◌, ℕ, ◌+◌, ◌-◌, ◌<◌, ◌≤◌, Bool, true, false, cond, ◌==◌, nat_lt, ◌||◌, ◌&&◌, List, [], ◌∷◌, ◌++◌, map, length, take, get_or, Option, None, Some, option_map, is_some, IsTrue, refl, ap, sym, ◌∙◌, arith, subst, eqb-true}
+use Rattle.std.proofs.Common.{◌≡◌, ℕ, ◌+◌, ◌-◌, ◌<◌, ◌≤◌, Bool, true, false, cond, ◌==◌, nat_lt, ◌||◌, ◌&&◌, List, [], ◌∷◌, ◌++◌, map, length, take, get_or, Option, None, Some, option_map, is_some, IsTrue, IfSome, refl, ap, sym, ◌∙◌, arith, subst, eqb-true}
 use Rattle.std.specs.Option.{option_map_or}
 use Rattle.std.specs.List.{list_any, All}
 use Rattle.std.specs.BTreeMap.{is_at}
 use Rattle.std.specs.Map.{lookup}
-use Rattle.std.proofs.lemmas.Bool.{ne_eqb, lt-ltb, ltb-true, ltb-false, eqb-false}
+use Rattle.std.proofs.lemmas.Bool.{ne_eqb, eq-eqb, lt-ltb, ltb-true, ltb-false, eqb-false}
 use Rattle.std.proofs.lemmas.List.{take_more}
 use Rattle.std.proofs.lemmas.List.Elements.{All-head, All-tail, All-push, All-weaker, All-cons}
 use Rattle.std.proofs.lemmas.Option.{none-some, same_Some}
@@ -298,3 +298,29 @@ table_absorbed es new changes is requests after end higher named more h keyed ro
 
     by_touch : {Z : Type 0} (i : ℕ) → (list_any (λ j. j == i) is ≡ true → Z) → (list_any (λ j. j == i) (map (λ (r : Row). r.instance) changes) ≡ false → Z) → Z
     by_touch i f g = by_bool (list_any (λ j. j == i) is) f (λ x. g (sym (ap (list_any (λ j. j == i)) e) ∙ x))
+
+-- the request of a decision
+pub request_none : (o : Option Command) → option_map (λ (v : Command). v.request) o ≡ None → o ≡ None
+request_none None h = refl
+request_none (Some v) h = cc
+
+pub request_some : (o : Option Command) (q : RequestNo) → option_map (λ (v : Command). v.request) o ≡ Some q → (v : Command) × (o ≡ Some v) × (v.request ≡ q)
+request_some None q h = cc
+request_some (Some v) q h = (v, refl, same_Some v.request q h)
+
+pub request_place : (places : List (RequestNo × Option (Unit {0}))) (rows : List Row) (i : ℕ) (o : Option RequestNo) → HavePlaces places rows → option_map (λ (v : Command). v.request) (decision_at rows i) ≡ o → IfSome o (λ q. IsTrue (has_place request_cmp places q))
+request_place places rows i None h e = tt
+request_place places rows i (Some q) h e =
+    let d = request_some (decision_at rows i) q e in
+    subst (λ (r : RequestNo). IsTrue (has_place request_cmp places r)) d.2 (h i d.0 d.1)
+
+pub request_made : (places : List (RequestNo × Option (Unit {0}))) (row : Row) (o : Option RequestNo) → IsTrue (has_request_place places row) → o ≡ option_map (λ (v : Command). v.request) (decided_command row) → IfSome o (λ q. IsTrue (has_place request_cmp places q))
+request_made places row o h e = at (decided_command row) refl
+  where
+    at : (d : Option Command) → decided_command row ≡ d → IfSome o (λ q. IsTrue (has_place request_cmp places q))
+    at None k = rw (e, k) tt
+    at (Some v) k = rw (e, k) (rw k at h)
+
+-- a row that was put has its own decision
+pub decision_put : (row : Row) (rows : List Row) → decision_at (put_row row rows) row.instance ≡ decided_command row
+decision_put row rows = decision_some (put_row row rows) row.instance row (row_of-put_row row rows row.instance ∙ rw (eq-eqb row.instance row.instance refl))

@@ -2,7 +2,7 @@
 use Rattle.std.proofs.Common.{◌≡◌, ℕ, zero, suc, ◌+◌, ◌-◌, ◌<◌, ◌≤◌, Bool, true, false, not, ◌==◌, nat_lt, ◌||◌, ◌&&◌, if◌then◌else◌, List, [], ◌∷◌, ◌++◌, map, filter, length, take, drop, get_or, Option, None, Some, option_map, is_some, refl, ap, sym, ◌∙◌, arith, subst, eqb-true, append_assoc, append-nil}
 use Rattle.std.specs.List.{list_any, All}
 use Rattle.std.proofs.lemmas.Bool.{ne_eqb, lt-ltb, le-ltb, ltb-true, ltb-false, eqb-false}
-use Rattle.std.proofs.lemmas.List.{take_more, drop_more}
+use Rattle.std.proofs.lemmas.List.{take_more, drop_more, drop_all}
 use Rattle.std.proofs.lemmas.List.Elements.{All-head, All-tail}
 use Rattle.std.proofs.lemmas.Option.{none-some}
 use Rattle.rr_types.specs.declared.command.Command.{Command}
@@ -14,7 +14,7 @@ use Rattle.rr_types.specs.Promises.{AscendsFrom}
 use Rattle.rr_model.specs.NodeState.{Row, row_of, put_row, is_decided, decided_command, undecided_from, lowest_undecided}
 use Rattle.rr_model.specs.NodeStep.{promised_row}
 use Rattle.rr_list.specs.Listed.{put_rows, decision_at, KeepsDecisions}
-use Rattle.rr_list.specs.Rowed.{AscendFrom, is_undecided}
+use Rattle.rr_list.specs.Rowed.{AscendFrom, EachKeeps, is_undecided}
 use Rattle.rr_list.specs.Opened.{open_in}
 use Rattle.rr_list.proofs.TableLemmas.{decision_none, none_below}
 use Rattle.rr_model.proofs.NodeRows.{row_of-put_row}
@@ -432,3 +432,46 @@ put_promise next low rows (e ∷ es) h b =
 -- the rows of a promise put into no rows
 pub promise_rows : (next : ℕ) (es : List Entry) → AscendsFrom 0 es → put_rows [] (map (promised_row next) es) ≡ map (promised_row next) es
 promise_rows next es h = put_promise next 0 [] es h tt
+
+-- a row above the others changes no decision
+none_above : (low : ℕ) (rows : List Row) (i : ℕ) → AreBelow low rows → low ≤ i → row_of rows i ≡ None
+none_above low [] i h l = refl
+none_above low (r ∷ rs) i h l =
+    let k = h.0 in
+    let e : (r.instance == i) ≡ false = ne_eqb _ _ (λ x. omega (arith, x)) in
+    rw e (none_above low rs i h.1 l)
+
+keeps_above : (row : Row) (rows : List Row) → AreBelow row.instance rows → KeepsDecisions rows (put_row row rows)
+keeps_above row rows h i v d = at (row.instance == i) refl
+  where
+    at : (b : Bool) → (row.instance == i) ≡ b → decision_at (put_row row rows) i ≡ Some v
+    at true e = absurd (none-some v (sym (decision_none rows i (none_above row.instance rows i h (let x = eqb-true row.instance i e in omega (arith, x)))) ∙ d))
+    at false e = ap (λ (o : Option Row). decision_of (option_map (λ (r : Row). r.standing) o)) (row_of-put_row row rows i ∙ rw e) ∙ d
+
+keeps_promise : (next low : ℕ) (rows : List Row) (es : List Entry) → AscendsFrom low es → AreBelow low rows → EachKeeps rows (map (promised_row next) es)
+keeps_promise next low rows [] h b = tt
+keeps_promise next low rows (e ∷ es) h b =
+    let l = h.0 in
+    let row = promised_row next e in
+    let below : AreBelow e.instance rows = below_more low e.instance rows (omega arith) b in
+    let more : AreBelow (e.instance + 1) (rows ++ row ∷ []) = below_push (e.instance + 1) rows row (below_more e.instance (e.instance + 1) rows (omega arith) below) (omega arith) in
+    (keeps_above row rows below, keeps_promise next (e.instance + 1) (put_row row rows) es h.1 (subst (AreBelow (e.instance + 1)) (sym (put_behind row rows below)) more))
+
+-- so that of a promise each row can be put
+pub promise_keeps : (next : ℕ) (es : List Entry) → AscendsFrom 0 es → EachKeeps [] (map (promised_row next) es)
+promise_keeps next es h = keeps_promise next 0 [] es h tt
+
+rows_at : (next : ℕ) (es : List Entry) (k : ℕ) (e : Entry) → k < length es → e ≡ get_or es k e → map (promised_row next) (drop k es) ≡ promised_row next e ∷ map (promised_row next) (drop (k + 1) es)
+rows_at next es k e l g = ap (map (promised_row next)) (drop_more es k e l ∙ ap (λ (y : Entry). y ∷ drop (k + 1) es) (sym g))
+
+pub restore_more : (next : ℕ) (rows : List Row) (es : List Entry) (k : ℕ) (e : Entry) → k < length es → e ≡ get_or es k e → put_rows rows (map (promised_row next) (drop k es)) ≡ put_rows (put_rows rows (promised_row next e ∷ [])) (map (promised_row next) (drop (k + 1) es))
+restore_more next rows es k e l g = ap (put_rows rows) (rows_at next es k e l g)
+
+pub keeps_here : (next : ℕ) (rows : List Row) (es : List Entry) (k : ℕ) (e : Entry) → k < length es → e ≡ get_or es k e → EachKeeps rows (map (promised_row next) (drop k es)) → KeepsDecisions rows (put_rows rows (promised_row next e ∷ []))
+keeps_here next rows es k e l g h = let P : List Row → Type 0 = λ r. EachKeeps rows r in (subst P (rows_at next es k e l g) h).0
+
+pub keeps_more : (next : ℕ) (rows : List Row) (es : List Entry) (k : ℕ) (e : Entry) → k < length es → e ≡ get_or es k e → EachKeeps rows (map (promised_row next) (drop k es)) → EachKeeps (put_rows rows (promised_row next e ∷ [])) (map (promised_row next) (drop (k + 1) es))
+keeps_more next rows es k e l g h = let P : List Row → Type 0 = λ r. EachKeeps rows r in (subst P (rows_at next es k e l g) h).1
+
+pub restore_end : (next : ℕ) (rows : List Row) (es : List Entry) (k : ℕ) → length es ≤ k → put_rows rows (map (promised_row next) (drop k es)) ≡ rows
+restore_end next rows es k l = ap (λ (r : List Entry). put_rows rows (map (promised_row next) r)) (drop_all k es l)

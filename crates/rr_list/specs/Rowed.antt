@@ -7,9 +7,9 @@ use Rattle.rr_types.specs.declared.command.RequestNo.{RequestNo}
 use Rattle.rr_types.specs.declared.command.Command.{Command}
 use Rattle.rr_types.specs.Registry.{is_same_request}
 use Rattle.rr_registry.specs.Kept.{request_cmp}
-use Rattle.rr_model.specs.NodeState.{Row, row_of, decided_command}
+use Rattle.rr_model.specs.NodeState.{Row, row_of, put_row, decided_command}
 use Rattle.rr_places.specs.Places.{has_place}
-use Rattle.rr_list.specs.Listed.{decision_at}
+use Rattle.rr_list.specs.Listed.{decision_at, KeepsDecisions}
 
 -- the rows of a table, which has each at its instance
 abbrev pub rows_in : List (ℕ × Row) → List Row
@@ -88,3 +88,8 @@ pub record IsTable (entries : List (ℕ × Row)) (requests : List (RequestNo × 
   pub reached : IsReached (rows_in entries) end
   pub above : IsAbove (rows_in entries) end
   pub below : LieBelow named (rows_in entries)
+
+-- rows put one after another, each of which keeps what has decided before it
+abbrev pub EachKeeps : List Row → List Row → Type 0
+EachKeeps rows [] = Unit {0}
+EachKeeps rows (c ∷ cs) = KeepsDecisions rows (put_row c rows) × EachKeeps (put_row c rows) cs

@@ -39,19 +39,6 @@ impl Model for Instances {
     ghost invariant = { λ t. IsListed t.rows t.window t.marks };
 }
 
-/// The rows of a promise's entries.
-fn promised_rows(alloc: Global, next: u64, promise: &[Entry]) -> Result<Vec<Row>, Refusal>
-    ensures ok { IfOk result (λ rows. rows.items ≡ map (promised_row next) promise.now) }
-    ensures err { IfErr result (λ e. e ≡ Refusal.OutOfMemory) }
-{
-    let mut rows = Vec::new(alloc);
-    for entry in promise {
-        let row = Row::promised(alloc, next, entry);
-        rows.push(row)?;
-    }
-    Ok(rows)
-}
-
 impl Instances {
     /// The table of a node that knows its promise and nothing else; `next` is the number of its next fact.
     pub fn restored(alloc: Global, promise: &[Entry], next: u64) -> Result<Instances, Refusal>
@@ -59,17 +46,13 @@ impl Instances {
         ensures ok { IfOk result (λ t. t ≡ record { rows = map (promised_row next) promise.now; marked = promise.now }) }
         ensures err { IfErr result (λ e. e ≡ Refusal.OutOfMemory) }
     {
-        let promised = match promised_rows(alloc, next, promise) {
-            Ok(promised) => promised,
-            Err(refusal) => return Err(refusal),
-        };
         let mut marks = Marks::new(alloc);
         match marks.restore(promise) {
             Ok(()) => (),
             Err(refusal) => return Err(refusal),
         }
         let mut rows = Rows::new(alloc);
-        match rows.absorb(alloc, promised) {
+        match rows.restore(alloc, promise, next) {
             Ok(()) => {
                 let window = rows.fill(Window::new(), 0);
                 Ok(Instances {

@@ -221,8 +221,11 @@ impl Marks {
         ensures counted { IsCounted self.new }
         ensures places { (i : ℕ) → has_mark_place self.new i ≡ has_mark_place self.old i }
     {
+        let is_longer = decided_by(facts, self.prefix).is_some();
         self.take_on_all(facts);
-        self.count_on();
+        if is_longer {
+            self.count_on();
+        }
     }
 
     /// Marks the entries of a promise where nothing is marked. Where memory is refused, some are marked.
@@ -285,12 +288,16 @@ impl Marks {
     /// The command that the instance with this number has decided once these facts are marked.
     fn decision_after(&self, facts: &[Fact], number: u32) -> Option<Command>
         requires marks { AreMarks self.now }
+        requires counted { IsCounted self.now }
         requires keeps { KeepsPromised (marked_in self.now) (take_on_all (marked_in self.now) facts.now) }
         ensures value { result ≡ decision_of (standing_in (take_on_all (marked_in self.now) facts.now) number) }
         ensures range { IfSome result (λ _. number < 1048576) }
     {
-        if let Some(command) = self.decision(number) {
-            return Some(command);
+        // The instance behind the prefix decides by these facts or not at all, and needs no look-up.
+        if number != self.prefix {
+            if let Some(command) = self.decision(number) {
+                return Some(command);
+            }
         }
         decided_by(facts, number)
     }

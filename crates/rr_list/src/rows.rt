@@ -1,18 +1,20 @@
 //! The rows of the instances that the facts name, and what these have decided.
 
-ghost use Rattle.std.specs.Prelude.{◌≡◌, ◌<◌, ◌≤◌, ◌&&◌, ℕ, [], ◌∷◌, map, option_map, Some, None, nat_lt, IsTrue, IfOk, IfErr, OnOk, OnErr, MatchOption};
+ghost use Rattle.std.specs.Prelude.{◌≡◌, ◌<◌, ◌≤◌, ◌&&◌, ℕ, List, [], ◌∷◌, map, option_map, Some, None, nat_lt, IsTrue, IfSome, IfOk, IfErr, OnOk, OnErr, MatchOption};
 ghost use Rattle.std.specs.List.{list_any, All};
 ghost use Rattle.std.specs.Ordering.{nat_cmp};
 ghost use Rattle.rr_types.specs.declared.command.RequestNo.{RequestNo};
 ghost use Rattle.rr_registry.specs.Kept.{request_cmp};
 ghost use Rattle.rr_model.specs.NodeState.{row_of, put_row, is_decided, decided_command};
+ghost use Rattle.rr_model.specs.NodeState as model;
+ghost use Rattle.rr_model.specs.NodeStep.{promised_row};
 ghost use Rattle.rr_places.specs.Places.{filled, has_place};
-ghost use Rattle.rr_list.specs.Listed.{put_rows, KeepsDecisions};
-ghost use Rattle.rr_list.specs.Rowed.{rows_in, AreKeyed, AscendFrom, AreInstances, has_decided, has_request_place, HavePlaces, IsNoted};
+ghost use Rattle.rr_list.specs.Listed.{put_rows, decision_at, KeepsDecisions};
+ghost use Rattle.rr_list.specs.Rowed.{EachKeeps, rows_in, AreKeyed, AscendFrom, AreInstances, has_decided, has_request_place, HavePlaces, IsNoted};
 
 use rr_instance::Row;
 use rr_places::{drop_free_place, insert, make_place, put, value_at, value_of};
-use rr_types::{Command, Instance, Op, Refusal, RequestNo, Standing};
+use rr_types::{Command, Entry, Instance, Op, Refusal, RequestNo, Standing};
 use std::alloc::Global;
 use std::collections::BTreeMap;
 use std::marker::Model;
@@ -31,7 +33,7 @@ impl Model for Rows {
     ghost use Rattle.std.specs.Prelude.{List};
     ghost use Rattle.rr_model.specs.NodeState as model;
     ghost use Rattle.rr_places.specs.Places.{filled};
-    ghost use Rattle.rr_list.specs.Rowed.{rows_in, IsTable};
+    ghost use Rattle.rr_list.specs.Rowed.{EachKeeps, rows_in, IsTable};
 
     ghost Value = { List model.Row };
 
@@ -211,6 +213,28 @@ pub fn is_any_decided(rows: &[Row]) -> bool
     false
 }
 
+/// Takes the request that an instance has decided, which has a place, into the table, and gives the table's end. It
+/// needs no memory.
+fn note_request(
+    requests: &mut BTreeMap<RequestNo, Option<()>>,
+    end: u32,
+    instance: Instance,
+    request: Option<RequestNo>,
+) -> u32
+    requires place { IfSome request (λ q. IsTrue (has_place request_cmp requests.old.entries q)) }
+    ensures noted { (rows : List model.Row) → option_map (λ v. v.request) (decision_at rows instance) ≡ request → IsNoted rows (instance ∷ []) (filled requests.old.entries) (filled requests.new.entries) end result }
+    ensures places { (q : RequestNo) → has_place request_cmp requests.new.entries q ≡ has_place request_cmp requests.old.entries q }
+{
+    match request {
+        None => end,
+        Some(request) => {
+            let number = instance.number();
+            put(requests, request, Some(()));
+            if end <= number { number + 1 } else { end }
+        }
+    }
+}
+
 /// Takes what an instance has decided into the table: its request, which has a place, and the table's end, which
 /// it gives. It needs no memory.
 fn note_decision(
@@ -224,17 +248,9 @@ fn note_decision(
     ensures noted { IsNoted (rows_in (filled rows.now.entries)) (instance ∷ []) (filled requests.old.entries) (filled requests.new.entries) end result }
     ensures places { (q : RequestNo) → has_place request_cmp requests.new.entries q ≡ has_place request_cmp requests.old.entries q }
 {
-    let _parts: Option<(Command, Op, Standing)> = None;
-    let number = instance.number();
-    match value_of(rows, &number) {
+    match value_of(rows, &instance.number()) {
         None => end,
-        Some(row) => match row.decided_command() {
-            None => end,
-            Some(command) => {
-                put(requests, command.request, Some(()));
-                if end <= number { number + 1 } else { end }
-            }
-        },
+        Some(row) => note_request(requests, end, instance, decided_request(row)),
     }
 }
 
@@ -319,7 +335,7 @@ impl Rows {
         match insert(&mut self.rows, instance.number(), row) {
             Ok(()) => {
                 self.named = named_above(self.named, instance);
-                self.end = note_decision(&self.rows, &mut self.requests, self.end, instance);
+                self.end = note_request(&mut self.requests, self.end, instance, request);
                 Ok(())
             }
             Err(_) => {
@@ -327,6 +343,28 @@ impl Rows {
                 Err(Refusal::OutOfMemory)
             }
         }
+    }
+
+    /// Puts the rows of a promise's entries, one after another; after an error, some of them. No decision may change.
+    #[tactic(auto, using(crate::proofs::OpenLemmas::restore_more, crate::proofs::OpenLemmas::keeps_here, crate::proofs::OpenLemmas::keeps_more, crate::proofs::OpenLemmas::restore_end))]
+    pub(crate) fn restore(
+        &mut self,
+        alloc: Global,
+        promise: &[Entry],
+        next: u64,
+    ) -> Result<(), Refusal>
+        requires keeps { EachKeeps self.old (map (promised_row next) promise.now) }
+        requires ascend { AscendFrom 0 self.old }
+        requires instances { AreInstances self.old }
+        ensures ok { OnOk result (self.new ≡ put_rows self.old (map (promised_row next) promise.now)) }
+        ensures ascend { OnOk result (AscendFrom 0 self.new) }
+        ensures instances { OnOk result (AreInstances self.new) }
+        ensures err { IfErr result (λ e. e ≡ Refusal.OutOfMemory) }
+    {
+        for entry in promise {
+            self.put(Row::promised(alloc, next, entry))?;
+        }
+        Ok(())
     }
 
     /// Puts these rows, all of them or, after an error, none. No decision may change.

@@ -1,7 +1,8 @@
-use Rattle.std.proofs.Common.{ap, ◌∙◌, arith, is_some}
+use Rattle.std.proofs.Common.{ap, sym, ◌∙◌, arith, is_some, length}
 use Rattle.rr_types.specs.Promises.{take_on_all}
+use Rattle.rr_model.specs.NodeState.{decided_from}
 use Rattle.rr_list.specs.Marked.{marked_in}
-use Rattle.rr_list.proofs.MarkLemmas.{decided_in, prefix_stays}
+use Rattle.rr_list.proofs.MarkLemmas.{decided_in, decided_after, prefix_stays, prefix_open, prefix_is, ascend_all, undecided_none}
 use Rattle.rr_list.proofs.marks.Marks.mark.Goals as goal
 
 pub count_on-requires-clause-begun : goal.count_on-requires-clause-begun
@@ -9,3 +10,20 @@ count_on-requires-clause-begun c = λ i l.
     ap (λ es. is_some (decided_in es i)) c.take_on_all.ensures.value
     ∙ prefix_stays (marked_in c.args.self.now) (take_on_all (marked_in c.args.self.now) c.args.facts.now) i c.requires.marks.ascend c.requires.keeps
     (let e = c.requires.counted.count in let p = c.take_on_all.ensures.prefix in omega (arith, e, p, l))
+
+pub returns-else-is_longer-clause-counted : goal.returns-else-is_longer-clause-counted
+returns-else-is_longer-clause-counted c =
+    let es = marked_in c.args.self.now in
+    let after = take_on_all es c.args.facts.now in
+    let p = c.args.self.now.prefix in
+    let count = c.requires.counted.count in
+    let none =
+        decided_after es c.args.facts.now p (prefix_open es p c.requires.marks.ascend count)
+        ∙ sym c.decided_by.ensures.value ∙ undecided_none c.decided_by.result c.is_some-is_longer.result c.is_some-is_longer.ensures c.if-is_longer.false in
+    let is =
+        prefix_is after p (ascend_all es c.args.facts.now c.requires.marks.ascend)
+        (λ i l. prefix_stays es after i c.requires.marks.ascend c.requires.keeps (omega (arith, count, l))) none in
+    record {
+      count = c.take_on_all.ensures.prefix ∙ is ∙ ap (λ entries. length (decided_from 0 entries)) (sym c.take_on_all.ensures.value);
+      small = let same = c.take_on_all.ensures.prefix in let low = c.requires.counted.small in omega (arith, same, low);
+    }

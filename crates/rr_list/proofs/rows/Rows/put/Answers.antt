@@ -1,24 +1,17 @@
-use Rattle.std.proofs.Common.{◌<◌, [], ◌∷◌, List, ap, sym, refl, ◌∙◌, subst, IsTrue}
+use Rattle.std.proofs.Common.{option_map, ◌<◌, [], ◌∷◌, List, ap, sym, refl, ◌∙◌, subst, IsTrue}
 use Rattle.std.specs.Ordering.{nat_cmp}
+use Rattle.rr_types.specs.declared.command.Command.{Command}
 use Rattle.rr_model.specs.NodeState.{Row, put_row}
 use Rattle.rr_places.specs.Places.{filled, has_place}
-use Rattle.rr_list.specs.Listed.{put_rows, KeepsDecisions}
+use Rattle.rr_list.specs.Listed.{put_rows, decision_at, KeepsDecisions}
 use Rattle.rr_list.specs.Rowed.{rows_in, HavePlaces, HoldsDecided, has_request_place, IsNoted, AscendFrom, AreInstances, AreKeyed}
 use Rattle.rr_list.proofs.TableLemmas.{placed_row, keyed_row}
-use Rattle.rr_list.proofs.NotedLemmas.{put_places, held_place, table_absorbed, ascend_puts, instances_puts, all_one}
+use Rattle.rr_list.proofs.NotedLemmas.{table_absorbed, ascend_puts, instances_puts, all_one, request_made, decision_put}
 use Rattle.rr_list.proofs.rows.Rows.put.Goals as goal
 
-pub note_decision-self-inside-requires-clause-keyed : goal.note_decision-self-inside-requires-clause-keyed
-note_decision-self-inside-requires-clause-keyed c =
-    subst AreKeyed (sym c.in-Ok-insert.ensures.filled) (keyed_row c.args.row _ (filled c.self.inside.rows.entries) c.self.invariant.keyed (c.number.ensures.value ∙ ap (λ (r : Row). r.instance) c.row.view_is))
-
-pub note_decision-self-inside-requires-clause-places : goal.note_decision-self-inside-requires-clause-places
-note_decision-self-inside-requires-clause-places c =
-    let places = c.make_request_place.new.map.entries in
-    let before = rows_in (filled c.self.inside.rows.entries) in
-    let held : HoldsDecided before (filled places) = subst (HoldsDecided before) (sym c.in-Ok.ensures.filled) c.self.invariant.holds in
-    let rows = ap (λ es. rows_in es) c.in-Ok-insert.ensures.filled ∙ placed_row c.args.row _ (filled c.self.inside.rows.entries) c.self.invariant.keyed (c.number.ensures.value ∙ ap (λ (r : Row). r.instance) c.row.view_is) in
-    subst (HavePlaces places) (sym rows) (put_places places before (c.args.row ∷ []) (held_place places before held) (all_one (λ (r : Row). IsTrue (has_request_place places r)) c.args.row c.in-Ok.ensures.made))
+pub note_request-self-inside-requires : goal.note_request-self-inside-requires
+note_request-self-inside-requires c =
+    record { place = request_made c.make_request_place.new.map.entries c.args.row c.decided_request-request.result c.in-Ok.ensures.made c.decided_request-request.ensures }
 
 pub invariant_of-self-in-Ok-insert : goal.invariant_of-self-in-Ok-insert
 invariant_of-self-in-Ok-insert c =
@@ -31,8 +24,11 @@ invariant_of-self-in-Ok-insert c =
     (all_one (λ (r : Row). r.instance < 1048576) c.args.row (subst (λ i. i < 1048576) at c.number.ensures.range))
     c.named_above-self-inside.ensures.grown (all_one (λ (r : Row). r.instance < c.named_above-self-inside.result) c.args.row (subst (λ i. i < c.named_above-self-inside.result) (ap (λ (r : Row). r.instance) c.row.view_is) c.named_above-self-inside.ensures.below))
     (subst (λ before. KeepsDecisions before (put_row c.args.row before)) (sym c.self.view_is) c.requires)
-    (subst (λ i. IsNoted (rows_in (filled c.insert.new.map.entries)) (i ∷ []) (filled c.self.inside.requests.entries) (filled c.note_decision-self-inside.new.requests.entries) c.self.inside.end c.note_decision-self-inside.result) (ap (λ (r : Row). r.instance) c.row.view_is)
-    (subst (λ requests. IsNoted (rows_in (filled c.insert.new.map.entries)) (c.row.inside.instance ∷ []) requests (filled c.note_decision-self-inside.new.requests.entries) c.self.inside.end c.note_decision-self-inside.result) c.in-Ok.ensures.filled c.note_decision-self-inside.ensures.noted))
+    (subst (λ i. IsNoted (rows_in (filled c.insert.new.map.entries)) (i ∷ []) (filled c.self.inside.requests.entries) (filled c.note_request-self-inside.new.requests.entries) c.self.inside.end c.note_request-self-inside.result) (ap (λ (r : Row). r.instance) c.row.view_is)
+    (subst (λ requests. IsNoted (rows_in (filled c.insert.new.map.entries)) (c.row.inside.instance ∷ []) requests (filled c.note_request-self-inside.new.requests.entries) c.self.inside.end c.note_request-self-inside.result) c.in-Ok.ensures.filled
+    (c.note_request-self-inside.ensures.noted (rows_in (filled c.insert.new.map.entries))
+    (ap (option_map (λ (v : Command). v.request)) (ap (decision_at (rows_in (filled c.insert.new.map.entries))) (ap (λ (r : Row). r.instance) c.row.view_is) ∙ ap (λ rs. decision_at rs c.args.row.instance) rows ∙ decision_put c.args.row (rows_in (filled c.self.inside.rows.entries)))
+    ∙ sym c.decided_request-request.ensures))))
 
 pub returns-in-Ok-insert-clause-ok : goal.returns-in-Ok-insert-clause-ok
 returns-in-Ok-insert-clause-ok c =
