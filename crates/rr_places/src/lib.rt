@@ -2,6 +2,8 @@
 //! written needs none.
 #![tactic(auto)]
 
+mod numbered;
 mod places;
 
+pub use numbered::Numbered;
 pub use places::{drop_free_place, insert, make_place, put, value_at, value_of};
