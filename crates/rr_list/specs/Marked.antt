@@ -22,15 +22,15 @@ AreEntered (e ∷ es) = (e.0 ≡ e.1.instance) × AreEntered es
 
 -- the promise that the marks make
 abbrev pub marked_in : Marks → List Entry
-marked_in m = entries_in (filled m.entries.entries)
+marked_in m = entries_in (filled m.entries)
 
 -- whether an instance can be marked without memory
 abbrev pub has_mark_place : Marks → ℕ → Bool
-has_mark_place m i = has_place nat_cmp m.entries.entries i
+has_mark_place m i = has_place nat_cmp m.entries i
 
 -- the entries are at their instances, ascend, and lie below 1,048,576
 pub record AreMarks (m : Marks) : Type 0 where
-  pub entered : AreEntered (filled m.entries.entries)
+  pub entered : AreEntered (filled m.entries)
   pub ascend : AscendsFrom 0 (marked_in m)
   pub instances : (i : ℕ) → 1048576 ≤ i → standing_in (marked_in m) i ≡ None
 

@@ -9,15 +9,14 @@ ghost use Rattle.rr_list.specs.Listed.{KeepsPromised, IsInRound, AllInRound};
 ghost use Rattle.rr_list.specs.Marked.{marked_in, has_mark_place, AreMarks, IsBegun, IsCounted, HaveMarkPlaces, set_all, decision_after, decided_by};
 
 use rr_instance::{Row, decision_in, entered, instance_of, with_adopted, with_proposal};
-use rr_places::{insert, make_place, put, value_of};
+use rr_places::Numbered;
 use rr_types::{Command, Entry, Fact, INSTANCES, Instance, Op, Refusal, Standing};
 use std::alloc::Global;
-use std::collections::BTreeMap;
 
 /// Where each instance stands by the marked facts, and how many commands the decided prefix has.
 #[derive(Drop)]
 pub(crate) struct Marks {
-    entries: BTreeMap<u32, Option<Entry>>,
+    entries: Numbered<Entry>,
     prefix: u32,
 }
 
@@ -42,7 +41,7 @@ impl Marks {
         ensures counted { IsCounted result }
     {
         Marks {
-            entries: BTreeMap::new(alloc),
+            entries: Numbered::new(alloc),
             prefix: 0,
         }
     }
@@ -53,7 +52,7 @@ impl Marks {
         ensures { MatchOption result (standing_in (marked_in self.now) number ≡ None) (λ e. standing_in (marked_in self.now) number ≡ Some e.now.standing) }
     {
         let _parts: Option<(Command, Op, Standing)> = None;
-        match value_of(&self.entries, &number) {
+        match self.entries.get(number) {
             Some(entry) => Some(entry),
             None => None,
         }
@@ -80,7 +79,7 @@ impl Marks {
         ensures err { IfErr result (λ e. e ≡ Refusal.OutOfMemory) }
     {
         let _parts: Option<(Command, Op, Standing)> = None;
-        make_place(&mut self.entries, instance.number())?;
+        self.entries.make_place(instance.number())?;
         Ok(())
     }
 
@@ -110,7 +109,7 @@ impl Marks {
     {
         let _parts: Option<(Command, Op, Standing)> = None;
         let number = entry.instance.number();
-        put(&mut self.entries, number, Some(*entry));
+        self.entries.put(number, *entry);
     }
 
     /// Sets where an instance stands, and makes a place for it where it has none.
@@ -124,7 +123,7 @@ impl Marks {
         ensures err { IfErr result (λ e. e ≡ Refusal.OutOfMemory) }
     {
         let _parts: Option<(Command, Op, Standing)> = None;
-        insert(&mut self.entries, entry.instance.number(), *entry)?;
+        self.entries.insert(entry.instance.number(), *entry)?;
         Ok(())
     }
 
@@ -336,13 +335,7 @@ impl Marks {
         ensures err { IfErr result (λ e. e ≡ Refusal.OutOfMemory) }
     {
         let _parts: Option<(Command, Op, Standing)> = None;
-        let mut promise = Vec::new(alloc);
-        let mut rest = self.entries.iter();
-        while let Some((_, place)) = rest.next() {
-            if let Some(entry) = place {
-                promise.push(*entry)?;
-            }
-        }
+        let promise = self.entries.values(alloc)?;
         Ok(promise)
     }
 }

@@ -13,7 +13,7 @@ ghost use Rattle.rr_list.specs.Listed.{put_rows, decision_at, KeepsDecisions};
 ghost use Rattle.rr_list.specs.Rowed.{EachKeeps, rows_in, AreKeyed, AscendFrom, AreInstances, has_decided, has_request_place, HavePlaces, IsNoted};
 
 use rr_instance::Row;
-use rr_places::{drop_free_place, insert, make_place, put, value_at, value_of};
+use rr_places::{Numbered, drop_free_place, make_place, put, value_at};
 use rr_types::{Command, Entry, Instance, Op, Refusal, RequestNo, Standing};
 use std::alloc::Global;
 use std::collections::BTreeMap;
@@ -23,7 +23,7 @@ use std::marker::Model;
 /// that has decided, or 0; and a number below which all rows lie, so that a look-up above them costs nothing.
 #[derive(Drop)]
 pub(crate) struct Rows {
-    rows: BTreeMap<u32, Option<Row>>,
+    rows: Numbered<Row>,
     requests: BTreeMap<RequestNo, Option<()>>,
     end: u32,
     named: u32,
@@ -37,20 +37,20 @@ impl Model for Rows {
 
     ghost Value = { List model.Row };
 
-    ghost view = { λ t. rows_in (filled t.rows.entries) };
+    ghost view = { λ t. rows_in (filled t.rows) };
 
-    ghost invariant = { λ t. IsTable (filled t.rows.entries) (filled t.requests.entries) t.end t.named };
+    ghost invariant = { λ t. IsTable (filled t.rows) (filled t.requests.entries) t.end t.named };
 }
 
 /// Makes a place for the row of each of these instances.
-fn make_row_places(map: &mut BTreeMap<u32, Option<Row>>, rows: &[Row]) -> Result<(), Refusal>
-    ensures filled { filled map.new.entries ≡ filled map.old.entries }
-    ensures made { OnOk result (All (λ r. IsTrue (has_place nat_cmp map.new.entries r.instance)) rows.now) }
+fn make_row_places(map: &mut Numbered<Row>, rows: &[Row]) -> Result<(), Refusal>
+    ensures filled { filled map.new ≡ filled map.old }
+    ensures made { OnOk result (All (λ r. IsTrue (has_place nat_cmp map.new r.instance)) rows.now) }
     ensures instances { OnOk result (All (λ r. r.instance < 1048576) rows.now) }
     ensures err { IfErr result (λ e. e ≡ Refusal.OutOfMemory) }
 {
     for row in rows {
-        make_place(map, row.instance.number())?;
+        map.make_place(row.instance.number())?;
     }
     Ok(())
 }
@@ -89,13 +89,13 @@ fn make_request_places(
 
 /// Makes a place for each of these rows, and for the request of each of their decisions.
 fn make_places(
-    map: &mut BTreeMap<u32, Option<Row>>,
+    map: &mut Numbered<Row>,
     requests: &mut BTreeMap<RequestNo, Option<()>>,
     rows: &[Row],
 ) -> Result<(), Refusal>
-    ensures rows { filled map.new.entries ≡ filled map.old.entries }
+    ensures rows { filled map.new ≡ filled map.old }
     ensures requests { filled requests.new.entries ≡ filled requests.old.entries }
-    ensures row_places { OnOk result (All (λ r. IsTrue (has_place nat_cmp map.new.entries r.instance)) rows.now) }
+    ensures row_places { OnOk result (All (λ r. IsTrue (has_place nat_cmp map.new r.instance)) rows.now) }
     ensures request_places { OnOk result (All (λ r. IsTrue (has_request_place requests.new.entries r)) rows.now) }
     ensures instances { OnOk result (All (λ r. r.instance < 1048576) rows.now) }
     ensures err { IfErr result (λ e. e ≡ Refusal.OutOfMemory) }
@@ -106,42 +106,33 @@ fn make_places(
     }
 }
 
-/// Takes away what places of these rows are free.
-fn drop_free_places(
-    map: &mut BTreeMap<u32, Option<Row>>,
-    requests: &mut BTreeMap<RequestNo, Option<()>>,
-    rows: &[Row],
-)
-    ensures rows { filled map.new.entries ≡ filled map.old.entries }
-    ensures requests { filled requests.new.entries ≡ filled requests.old.entries }
+/// Takes away what places of these rows' requests are free.
+fn drop_request_places(requests: &mut BTreeMap<RequestNo, Option<()>>, rows: &[Row])
+    ensures { filled requests.new.entries ≡ filled requests.old.entries }
 {
-    let _parts: Option<(Command, Op, Standing)> = None;
     for row in rows {
-        drop_free_place(map, &row.instance.number());
-        if let Some(command) = row.decided_command() {
-            drop_free_place(requests, &command.request);
-        }
+        drop_request_place(requests, decided_request(row));
     }
 }
 
 /// Puts a row, whose instance has a place. It needs no memory.
-fn put_row(map: &mut BTreeMap<u32, Option<Row>>, row: Row)
-    requires place { IsTrue (has_place nat_cmp map.old.entries row.instance) }
-    requires keyed { AreKeyed (filled map.old.entries) }
-    ensures rows { rows_in (filled map.new.entries) ≡ put_row row (rows_in (filled map.old.entries)) }
-    ensures keyed { AreKeyed (filled map.new.entries) }
-    ensures places { (i : ℕ) → has_place nat_cmp map.new.entries i ≡ has_place nat_cmp map.old.entries i }
+fn put_row(map: &mut Numbered<Row>, row: Row)
+    requires place { IsTrue (has_place nat_cmp map.old row.instance) }
+    requires keyed { AreKeyed (filled map.old) }
+    ensures rows { rows_in (filled map.new) ≡ put_row row (rows_in (filled map.old)) }
+    ensures keyed { AreKeyed (filled map.new) }
+    ensures places { (i : ℕ) → has_place nat_cmp map.new i ≡ has_place nat_cmp map.old i }
 {
     let number = row.instance.number();
-    put(map, number, Some(row));
+    map.put(number, row);
 }
 
 /// Puts rows whose instances have places. It needs no memory.
-fn put_all(map: &mut BTreeMap<u32, Option<Row>>, rows: Vec<Row>)
-    requires places { All (λ r. IsTrue (has_place nat_cmp map.old.entries r.instance)) rows.items }
-    requires keyed { AreKeyed (filled map.old.entries) }
-    ensures rows { rows_in (filled map.new.entries) ≡ put_rows (rows_in (filled map.old.entries)) rows.items }
-    ensures keyed { AreKeyed (filled map.new.entries) }
+fn put_all(map: &mut Numbered<Row>, rows: Vec<Row>)
+    requires places { All (λ r. IsTrue (has_place nat_cmp map.old r.instance)) rows.items }
+    requires keyed { AreKeyed (filled map.old) }
+    ensures rows { rows_in (filled map.new) ≡ put_rows (rows_in (filled map.old)) rows.items }
+    ensures keyed { AreKeyed (filled map.new) }
 {
     for row in rows {
         put_row(map, row);
@@ -238,17 +229,17 @@ fn note_request(
 /// Takes what an instance has decided into the table: its request, which has a place, and the table's end, which
 /// it gives. It needs no memory.
 fn note_decision(
-    rows: &BTreeMap<u32, Option<Row>>,
+    rows: &Numbered<Row>,
     requests: &mut BTreeMap<RequestNo, Option<()>>,
     end: u32,
     instance: Instance,
 ) -> u32
-    requires keyed { AreKeyed (filled rows.now.entries) }
-    requires places { HavePlaces requests.old.entries (rows_in (filled rows.now.entries)) }
-    ensures noted { IsNoted (rows_in (filled rows.now.entries)) (instance ∷ []) (filled requests.old.entries) (filled requests.new.entries) end result }
+    requires keyed { AreKeyed (filled rows.now) }
+    requires places { HavePlaces requests.old.entries (rows_in (filled rows.now)) }
+    ensures noted { IsNoted (rows_in (filled rows.now)) (instance ∷ []) (filled requests.old.entries) (filled requests.new.entries) end result }
     ensures places { (q : RequestNo) → has_place request_cmp requests.new.entries q ≡ has_place request_cmp requests.old.entries q }
 {
-    match value_of(rows, &instance.number()) {
+    match rows.get(instance.number()) {
         None => end,
         Some(row) => note_request(requests, end, instance, decided_request(row)),
     }
@@ -256,14 +247,14 @@ fn note_decision(
 
 /// The same for each of these instances.
 fn note_decisions(
-    rows: &BTreeMap<u32, Option<Row>>,
+    rows: &Numbered<Row>,
     requests: &mut BTreeMap<RequestNo, Option<()>>,
     end: u32,
     instances: &[Instance],
 ) -> u32
-    requires keyed { AreKeyed (filled rows.now.entries) }
-    requires places { HavePlaces requests.old.entries (rows_in (filled rows.now.entries)) }
-    ensures noted { IsNoted (rows_in (filled rows.now.entries)) instances.now (filled requests.old.entries) (filled requests.new.entries) end result }
+    requires keyed { AreKeyed (filled rows.now) }
+    requires places { HavePlaces requests.old.entries (rows_in (filled rows.now)) }
+    ensures noted { IsNoted (rows_in (filled rows.now)) instances.now (filled requests.old.entries) (filled requests.new.entries) end result }
 {
     let mut higher = end;
     for instance in instances {
@@ -278,7 +269,7 @@ impl Rows {
         ensures { result ≡ [] }
     {
         Rows {
-            rows: BTreeMap::new(alloc),
+            rows: Numbered::new(alloc),
             requests: BTreeMap::new(alloc),
             end: 0,
             named: 0,
@@ -294,7 +285,7 @@ impl Rows {
         if self.named <= number {
             return None;
         }
-        match value_of(&self.rows, &number) {
+        match self.rows.get(number) {
             Some(row) => Some(row),
             None => None,
         }
@@ -332,7 +323,7 @@ impl Rows {
             Ok(()) => (),
             Err(refusal) => return Err(refusal),
         }
-        match insert(&mut self.rows, instance.number(), row) {
+        match self.rows.insert(instance.number(), row) {
             Ok(()) => {
                 self.named = named_above(self.named, instance);
                 self.end = note_request(&mut self.requests, self.end, instance, request);
@@ -407,7 +398,7 @@ impl Rows {
                 Ok(())
             }
             Err(refusal) => {
-                drop_free_places(&mut self.rows, &mut self.requests, &rows);
+                drop_request_places(&mut self.requests, &rows);
                 Err(refusal)
             }
         }

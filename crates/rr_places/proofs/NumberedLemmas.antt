@@ -117,10 +117,11 @@ module _ {V : Type 0} where
   pub pushed : (k : ℕ) (v : V) (low : List V) (high : List (ℕ × V)) → k ≡ length low → AscendFrom (length low) high → is_some (lookup (is_at (nat_cmp k)) high) ≡ false → (numbered 0 (low ++ v ∷ []) ++ high ≡ insert_entry nat_cmp (numbered 0 low ++ high) k v) × AscendFrom (length (low ++ v ∷ [])) high
   pushed k v low high e h n =
       let more : AscendFrom (k + 1) high = behind k high (subst (λ m. AscendFrom m high) (sym e) h) n in
-      let z : 0 + length low ≡ k = omega (arith, e) in
-      (numbered_push 0 v low high ∙ ap (λ m. numbered 0 low ++ (m, v) ∷ high) z
-      ∙ ap (λ es. numbered 0 low ++ es) (sym (insert_first k v high more)) ∙ sym (insert_high 0 k v low high (omega (arith, e))),
-      subst (λ m. AscendFrom m high) (ap (λ m. m + 1) e ∙ sym (length_push v low)) more)
+      let z : 0 + length low ≡ k = omega (arith, e) in (
+        numbered_push 0 v low high ∙ ap (λ m. numbered 0 low ++ (m, v) ∷ high) z
+            ∙ ap (λ es. numbered 0 low ++ es) (sym (insert_first k v high more)) ∙ sym (insert_high 0 k v low high (omega (arith, e))),
+        subst (λ m. AscendFrom m high) (ap (λ m. m + 1) e ∙ sym (length_push v low)) more,
+      )
 
   pub ascend_insert : (low k : ℕ) (v : V) (es : List (ℕ × V)) → low ≤ k → AscendFrom low es → AscendFrom low (insert_entry nat_cmp es k v)
   ascend_insert low k v [] l h = (l, tt)
@@ -157,9 +158,10 @@ module _ {V : Type 0} where
   moved low high rest e f a h =
       let k : e.0 ≡ length low = subst (IsFirst (length low)) h f in
       let z : 0 + length low ≡ e.0 = omega (arith, k) in
-      let b : AscendFrom (length low) (e ∷ rest) = subst (AscendFrom (length low)) h a in
-      (numbered_push 0 e.1 low rest ∙ ap (λ m. numbered 0 low ++ (m, e.1) ∷ rest) z ∙ ap (λ es. numbered 0 low ++ es) (sym h),
-      subst (λ m. AscendFrom m rest) (ap (λ m. m + 1) k ∙ sym (length_push e.1 low)) b.1)
+      let b : AscendFrom (length low) (e ∷ rest) = subst (AscendFrom (length low)) h a in (
+        numbered_push 0 e.1 low rest ∙ ap (λ m. numbered 0 low ++ (m, e.1) ∷ rest) z ∙ ap (λ es. numbered 0 low ++ es) (sym h),
+        subst (λ m. AscendFrom m rest) (ap (λ m. m + 1) k ∙ sym (length_push e.1 low)) b.1,
+      )
 
 -- the values of the places that have one
 abbrev pub present : {V : Type 0} → List (Option V) → List V

@@ -8,7 +8,7 @@ use Rattle.rr_list.proofs.rows.make_row_places.Given as goal
 abbrev pub invariant-loop-row : goal.invariant-loop-row
 invariant-loop-row l =
     record {
-      kept : filled l.map.entries ≡ filled l.fn.map.entries;
-      made : All (λ r. IsTrue (has_place nat_cmp l.map.entries r.instance)) (take l.row-index l.rows);
+      kept : filled l.map ≡ filled l.fn.map;
+      made : All (λ r. IsTrue (has_place nat_cmp l.map r.instance)) (take l.row-index l.rows);
       instances : All (λ r. r.instance < 1048576) (take l.row-index l.rows);
     }

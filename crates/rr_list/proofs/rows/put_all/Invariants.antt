@@ -11,7 +11,7 @@ use Rattle.rr_list.proofs.rows.put_all.Given as goal
 abbrev pub invariant-loop-row : goal.invariant-loop-row
 invariant-loop-row l =
     record {
-      left : put_rows (rows_in (filled l.map.entries)) (into_iter_items l.row-iterator) ≡ put_rows (rows_in (filled l.initial.map.entries)) (into_iter_items l.initial.row-iterator);
-      keyed : AreKeyed (filled l.map.entries);
-      places : All (λ r. IsTrue (has_place nat_cmp l.map.entries r.instance)) (into_iter_items l.row-iterator);
+      left : put_rows (rows_in (filled l.map)) (into_iter_items l.row-iterator) ≡ put_rows (rows_in (filled l.initial.map)) (into_iter_items l.initial.row-iterator);
+      keyed : AreKeyed (filled l.map);
+      places : All (λ r. IsTrue (has_place nat_cmp l.map r.instance)) (into_iter_items l.row-iterator);
     }

@@ -8,7 +8,7 @@ use Rattle.rr_list.proofs.rows.put_row.Goals as goal
 pub returns-clause-rows : goal.returns-clause-rows
 returns-clause-rows c =
     ap (λ es. rows_in es) c.put.ensures.filled
-    ∙ placed_row c.args.row _ (filled c.args.map.now.entries) c.requires.keyed (c.number-number.ensures.value ∙ ap (λ (r : Row). r.instance) c.row.view_is)
+    ∙ placed_row c.args.row _ (filled c.args.map.now) c.requires.keyed (c.number-number.ensures.value ∙ ap (λ (r : Row). r.instance) c.row.view_is)
 
 pub returns-clause-keyed : goal.returns-clause-keyed
-returns-clause-keyed c = rw c.put.ensures.filled (keyed_row c.args.row _ (filled c.args.map.now.entries) c.requires.keyed (c.number-number.ensures.value ∙ ap (λ (r : Row). r.instance) c.row.view_is))
+returns-clause-keyed c = rw c.put.ensures.filled (keyed_row c.args.row _ (filled c.args.map.now) c.requires.keyed (c.number-number.ensures.value ∙ ap (λ (r : Row). r.instance) c.row.view_is))

@@ -5,15 +5,15 @@ use Rattle.rr_list.proofs.MarkLemmas.{set_entry_at, entered_at, ascend_set, inst
 use Rattle.rr_list.proofs.marks.Marks.insert.Goals as goal
 
 pub returns-clause-value : goal.returns-clause-value
-returns-clause-value c = ap (λ es. entries_in es) c.in_ok-insert.ensures.filled ∙ set_entry_at c.args.entry.now _ (filled c.args.self.now.entries.entries) c.requires.entered c.number.ensures.value
+returns-clause-value c = ap (λ es. entries_in es) c.in_ok-insert.ensures.filled ∙ set_entry_at c.args.entry.now _ (filled c.args.self.now.entries) c.requires.entered c.number.ensures.value
 
 pub returns-clause-marks : goal.returns-clause-marks
 returns-clause-marks c =
-    let value = ap (λ es. entries_in es) c.in_ok-insert.ensures.filled ∙ set_entry_at c.args.entry.now _ (filled c.args.self.now.entries.entries) c.requires.entered c.number.ensures.value in
+    let value = ap (λ es. entries_in es) c.in_ok-insert.ensures.filled ∙ set_entry_at c.args.entry.now _ (filled c.args.self.now.entries) c.requires.entered c.number.ensures.value in
     let e = c.number.ensures.value in
     let r = c.number.ensures.range in
     record {
-      entered = rw c.in_ok-insert.ensures.filled (entered_at c.args.entry.now _ (filled c.args.self.now.entries.entries) c.requires.entered c.number.ensures.value);
-      ascend = rw value (ascend_set 0 c.args.entry.now.instance c.args.entry.now.standing (entries_in (filled c.args.self.now.entries.entries)) c.requires.ascend (omega arith));
-      instances = rw value (instances_set c.args.entry.now.instance c.args.entry.now.standing (entries_in (filled c.args.self.now.entries.entries)) (omega (arith, e, r)) c.requires.instances);
+      entered = rw c.in_ok-insert.ensures.filled (entered_at c.args.entry.now _ (filled c.args.self.now.entries) c.requires.entered c.number.ensures.value);
+      ascend = rw value (ascend_set 0 c.args.entry.now.instance c.args.entry.now.standing (entries_in (filled c.args.self.now.entries)) c.requires.ascend (omega arith));
+      instances = rw value (instances_set c.args.entry.now.instance c.args.entry.now.standing (entries_in (filled c.args.self.now.entries)) (omega (arith, e, r)) c.requires.instances);
     }

@@ -18,11 +18,11 @@ returns-else-is_longer-clause-counted c =
     let p = c.args.self.now.prefix in
     let count = c.requires.counted.count in
     let none =
-        decided_after es c.args.facts.now p (prefix_open es p c.requires.marks.ascend count)
-        ∙ sym c.decided_by.ensures.value ∙ undecided_none c.decided_by.result c.is_some-is_longer.result c.is_some-is_longer.ensures c.if-is_longer.false in
+    decided_after es c.args.facts.now p (prefix_open es p c.requires.marks.ascend count)
+    ∙ sym c.decided_by.ensures.value ∙ undecided_none c.decided_by.result c.is_some-is_longer.result c.is_some-is_longer.ensures c.if-is_longer.false in
     let is =
-        prefix_is after p (ascend_all es c.args.facts.now c.requires.marks.ascend)
-        (λ i l. prefix_stays es after i c.requires.marks.ascend c.requires.keeps (omega (arith, count, l))) none in
+    prefix_is after p (ascend_all es c.args.facts.now c.requires.marks.ascend)
+    (λ i l. prefix_stays es after i c.requires.marks.ascend c.requires.keeps (omega (arith, count, l))) none in
     record {
       count = c.take_on_all.ensures.prefix ∙ is ∙ ap (λ entries. length (decided_from 0 entries)) (sym c.take_on_all.ensures.value);
       small = let same = c.take_on_all.ensures.prefix in let low = c.requires.counted.small in omega (arith, same, low);

@@ -16,33 +16,33 @@ note_request-self-inside-requires c =
 pub invariant_of-self-in-Ok-insert : goal.invariant_of-self-in-Ok-insert
 invariant_of-self-in-Ok-insert c =
     let at = c.number.ensures.value ∙ ap (λ (r : Row). r.instance) c.row.view_is in
-    let rows = ap (λ es. rows_in es) c.in-Ok-insert.ensures.filled ∙ placed_row c.args.row _ (filled c.self.inside.rows.entries) c.self.invariant.keyed at in
-    table_absorbed (filled c.self.inside.rows.entries) (filled c.insert.new.map.entries) (c.args.row ∷ []) (c.args.row.instance ∷ [])
+    let rows = ap (λ es. rows_in es) c.in-Ok-insert.ensures.filled ∙ placed_row c.args.row _ (filled c.self.inside.rows) c.self.invariant.keyed at in
+    table_absorbed (filled c.self.inside.rows) (filled c.insert.new.self) (c.args.row ∷ []) (c.args.row.instance ∷ [])
     (filled c.self.inside.requests.entries) _ c.self.inside.end _ c.self.inside.named c.named_above-self-inside.result c.self.invariant
-    (subst AreKeyed (sym c.in-Ok-insert.ensures.filled) (keyed_row c.args.row _ (filled c.self.inside.rows.entries) c.self.invariant.keyed at))
+    (subst AreKeyed (sym c.in-Ok-insert.ensures.filled) (keyed_row c.args.row _ (filled c.self.inside.rows) c.self.invariant.keyed at))
     rows refl
     (all_one (λ (r : Row). r.instance < 1048576) c.args.row (subst (λ i. i < 1048576) at c.number.ensures.range))
     c.named_above-self-inside.ensures.grown (all_one (λ (r : Row). r.instance < c.named_above-self-inside.result) c.args.row (subst (λ i. i < c.named_above-self-inside.result) (ap (λ (r : Row). r.instance) c.row.view_is) c.named_above-self-inside.ensures.below))
     (subst (λ before. KeepsDecisions before (put_row c.args.row before)) (sym c.self.view_is) c.requires)
-    (subst (λ i. IsNoted (rows_in (filled c.insert.new.map.entries)) (i ∷ []) (filled c.self.inside.requests.entries) (filled c.note_request-self-inside.new.requests.entries) c.self.inside.end c.note_request-self-inside.result) (ap (λ (r : Row). r.instance) c.row.view_is)
-    (subst (λ requests. IsNoted (rows_in (filled c.insert.new.map.entries)) (c.row.inside.instance ∷ []) requests (filled c.note_request-self-inside.new.requests.entries) c.self.inside.end c.note_request-self-inside.result) c.in-Ok.ensures.filled
-    (c.note_request-self-inside.ensures.noted (rows_in (filled c.insert.new.map.entries))
-    (ap (option_map (λ (v : Command). v.request)) (ap (decision_at (rows_in (filled c.insert.new.map.entries))) (ap (λ (r : Row). r.instance) c.row.view_is) ∙ ap (λ rs. decision_at rs c.args.row.instance) rows ∙ decision_put c.args.row (rows_in (filled c.self.inside.rows.entries)))
+    (subst (λ i. IsNoted (rows_in (filled c.insert.new.self)) (i ∷ []) (filled c.self.inside.requests.entries) (filled c.note_request-self-inside.new.requests.entries) c.self.inside.end c.note_request-self-inside.result) (ap (λ (r : Row). r.instance) c.row.view_is)
+    (subst (λ requests. IsNoted (rows_in (filled c.insert.new.self)) (c.row.inside.instance ∷ []) requests (filled c.note_request-self-inside.new.requests.entries) c.self.inside.end c.note_request-self-inside.result) c.in-Ok.ensures.filled
+    (c.note_request-self-inside.ensures.noted (rows_in (filled c.insert.new.self))
+    (ap (option_map (λ (v : Command). v.request)) (ap (decision_at (rows_in (filled c.insert.new.self))) (ap (λ (r : Row). r.instance) c.row.view_is) ∙ ap (λ rs. decision_at rs c.args.row.instance) rows ∙ decision_put c.args.row (rows_in (filled c.self.inside.rows)))
     ∙ sym c.decided_request-request.ensures))))
 
 pub returns-in-Ok-insert-clause-ok : goal.returns-in-Ok-insert-clause-ok
 returns-in-Ok-insert-clause-ok c =
     ap (λ es. rows_in es) c.in-Ok-insert.ensures.filled
-    ∙ placed_row c.args.row _ (filled c.self.inside.rows.entries) c.self.invariant.keyed (c.number.ensures.value ∙ ap (λ (r : Row). r.instance) c.row.view_is)
+    ∙ placed_row c.args.row _ (filled c.self.inside.rows) c.self.invariant.keyed (c.number.ensures.value ∙ ap (λ (r : Row). r.instance) c.row.view_is)
     ∙ ap (put_row c.args.row) c.self.view_is
 
 pub returns-in-Ok-insert-clause-ascend : goal.returns-in-Ok-insert-clause-ascend
 returns-in-Ok-insert-clause-ascend c =
-    let rows = ap (λ es. rows_in es) c.in-Ok-insert.ensures.filled ∙ placed_row c.args.row _ (filled c.self.inside.rows.entries) c.self.invariant.keyed (c.number.ensures.value ∙ ap (λ (r : Row). r.instance) c.row.view_is) in
-    subst (AscendFrom 0) (sym rows) (ascend_puts (rows_in (filled c.self.inside.rows.entries)) (c.args.row ∷ []) c.self.invariant.ascend)
+    let rows = ap (λ es. rows_in es) c.in-Ok-insert.ensures.filled ∙ placed_row c.args.row _ (filled c.self.inside.rows) c.self.invariant.keyed (c.number.ensures.value ∙ ap (λ (r : Row). r.instance) c.row.view_is) in
+    subst (AscendFrom 0) (sym rows) (ascend_puts (rows_in (filled c.self.inside.rows)) (c.args.row ∷ []) c.self.invariant.ascend)
 
 pub returns-in-Ok-insert-clause-instances : goal.returns-in-Ok-insert-clause-instances
 returns-in-Ok-insert-clause-instances c =
     let at = c.number.ensures.value ∙ ap (λ (r : Row). r.instance) c.row.view_is in
-    let rows = ap (λ es. rows_in es) c.in-Ok-insert.ensures.filled ∙ placed_row c.args.row _ (filled c.self.inside.rows.entries) c.self.invariant.keyed at in
-    subst AreInstances (sym rows) (instances_puts (rows_in (filled c.self.inside.rows.entries)) (c.args.row ∷ []) c.self.invariant.instances (all_one (λ (r : Row). r.instance < 1048576) c.args.row (subst (λ i. i < 1048576) at c.number.ensures.range)))
+    let rows = ap (λ es. rows_in es) c.in-Ok-insert.ensures.filled ∙ placed_row c.args.row _ (filled c.self.inside.rows) c.self.invariant.keyed at in
+    subst AreInstances (sym rows) (instances_puts (rows_in (filled c.self.inside.rows)) (c.args.row ∷ []) c.self.invariant.instances (all_one (λ (r : Row). r.instance < 1048576) c.args.row (subst (λ i. i < 1048576) at c.number.ensures.range)))

@@ -5,7 +5,7 @@ use Rattle.rr_list.proofs.TableLemmas.{row_at}
 use Rattle.rr_list.proofs.rows.Rows.row.Goals as goal
 
 pub returns-in-Some-clause-row : goal.returns-in-Some-clause-row
-returns-in-Some-clause-row c = ap (λ rows. row_of rows c.args.number) (sym c.self.view_is) ∙ row_at (filled c.self.inside.rows.entries) c.args.number c.self.invariant.keyed ∙ c.in-Some.ensures
+returns-in-Some-clause-row c = ap (λ rows. row_of rows c.args.number) (sym c.self.view_is) ∙ row_at (filled c.self.inside.rows) c.args.number c.self.invariant.keyed ∙ c.in-Some.ensures
 
 pub returns-in-None-clause-row : goal.returns-in-None-clause-row
-returns-in-None-clause-row c = ap (λ rows. row_of rows c.args.number) (sym c.self.view_is) ∙ row_at (filled c.self.inside.rows.entries) c.args.number c.self.invariant.keyed ∙ c.in-None.ensures
+returns-in-None-clause-row c = ap (λ rows. row_of rows c.args.number) (sym c.self.view_is) ∙ row_at (filled c.self.inside.rows) c.args.number c.self.invariant.keyed ∙ c.in-None.ensures

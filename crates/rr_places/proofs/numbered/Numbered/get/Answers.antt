@@ -30,7 +30,7 @@ returns-in-None g c =
     let l = c.in-None.ensures.lookup in
     let items = c.deref.ensures.value in
     let same =
-        ap (λ es. lookup (is_at (nat_cmp c.args.number)) (filled es)) (sym c.self.view_is)
-        ∙ value_high c.args.number c.self.inside.low.items c.self.inside.high.entries c.self.invariant
-        (subst (λ xs. length xs ≤ c.args.number) items (ltb-false c.args.number (length c.deref.result.now) (sym l.0))) in
+    ap (λ es. lookup (is_at (nat_cmp c.args.number)) (filled es)) (sym c.self.view_is)
+    ∙ value_high c.args.number c.self.inside.low.items c.self.inside.high.entries c.self.invariant
+    (subst (λ xs. length xs ≤ c.args.number) items (ltb-false c.args.number (length c.deref.result.now) (sym l.0))) in
     subst (λ o. MatchOption c.value_of.result (o ≡ None) (λ v. o ≡ Some v.now)) (sym same) c.value_of.ensures

@@ -19,32 +19,32 @@ returns-then-at-len-clause-sorted g c = subst (λ es. IsStrictlySortedBy nat_cmp
 pub invariant_of-self-then-at-len-2 : goal.invariant_of-self-then-at-len-2
 invariant_of-self-then-at-len-2 g c =
     elim c.match-insert.branch [
-      in-Ok w ↦
-        subst (AscendFrom (length c.self.inside.low.items)) (sym w.in-Ok.ensures.entries)
-        (ascend_insert (length c.self.inside.low.items) c.args.number c.args.place c.self.inside.high.entries (let t = c.if-at-len.false in let n = c.len.ensures in omega (arith, t, n)) c.self.invariant)
-    | in-Err w ↦ subst (AscendFrom (length c.self.inside.low.items)) (sym w.in-Err.ensures.err) c.self.invariant
+      | in-Ok w ↦
+          subst (AscendFrom (length c.self.inside.low.items)) (sym w.in-Ok.ensures.entries)
+          (ascend_insert (length c.self.inside.low.items) c.args.number c.args.place c.self.inside.high.entries (let t = c.if-at-len.false in let n = c.len.ensures in omega (arith, t, n)) c.self.invariant)
+      | in-Err w ↦ subst (AscendFrom (length c.self.inside.low.items)) (sym w.in-Err.ensures.err) c.self.invariant
     ]
 
 pub returns-then-at-len-2-clause-ok : goal.returns-then-at-len-2-clause-ok
 returns-then-at-len-2-clause-ok g c =
     elim c.match-insert.branch [
-      in-Ok w ↦
-        rw w.result-is
-        (ap (λ es. numbered 0 c.self.inside.low.items ++ es) w.in-Ok.ensures.entries
-        ∙ sym (insert_high 0 c.args.number c.args.place c.self.inside.low.items c.self.inside.high.entries (let t = c.if-at-len.false in let n = c.len.ensures in omega (arith, t, n)))
-        ∙ ap (λ es. insert_entry nat_cmp es c.args.number c.args.place) c.self.view_is)
-    | in-Err w ↦ rw w.result-is tt
+      | in-Ok w ↦
+          rw w.result-is
+          (ap (λ es. numbered 0 c.self.inside.low.items ++ es) w.in-Ok.ensures.entries
+          ∙ sym (insert_high 0 c.args.number c.args.place c.self.inside.low.items c.self.inside.high.entries (let t = c.if-at-len.false in let n = c.len.ensures in omega (arith, t, n)))
+          ∙ ap (λ es. insert_entry nat_cmp es c.args.number c.args.place) c.self.view_is)
+      | in-Err w ↦ rw w.result-is tt
     ]
 
 pub returns-then-at-len-2-clause-absent : goal.returns-then-at-len-2-clause-absent
 returns-then-at-len-2-clause-absent g c =
     elim c.match-insert.branch [
-      in-Ok w ↦ rw w.result-is tt
-    | in-Err w ↦
-        rw w.result-is
-        (ap (λ es. lookup (is_at (nat_cmp c.args.number)) es) (sym c.self.view_is)
-        ∙ lookup_high 0 c.args.number c.self.inside.low.items c.self.inside.high.entries (let t = c.if-at-len.false in let n = c.len.ensures in omega (arith, t, n))
-        ∙ w.in-Err.ensures.absent)
+      | in-Ok w ↦ rw w.result-is tt
+      | in-Err w ↦
+          rw w.result-is
+          (ap (λ es. lookup (is_at (nat_cmp c.args.number)) es) (sym c.self.view_is)
+          ∙ lookup_high 0 c.args.number c.self.inside.low.items c.self.inside.high.entries (let t = c.if-at-len.false in let n = c.len.ensures in omega (arith, t, n))
+          ∙ w.in-Err.ensures.absent)
     ]
 
 pub returns-then-at-len-2-clause-sorted : goal.returns-then-at-len-2-clause-sorted
@@ -62,12 +62,12 @@ returns-clause-ok g c =
     let next : c.args.number ≡ length c.self.inside.low.items =
     (let t = c.if-at-len.false in let s = c.if-at-len-2.false in let n = c.len.ensures in let m = c.len-2.ensures in omega (arith, t, s, n, m)) in
     elim c.match-push.branch [
-      in-Ok-push w ↦
-        rw w.result-is
-        (w.self-is ∙ w.close_up.ensures.same ∙ ap (λ xs. numbered 0 xs ++ c.self.inside.high.entries) w.in-Ok-push.ensures.items
-        ∙ (pushed c.args.number c.args.place c.self.inside.low.items c.self.inside.high.entries next c.self.invariant (sym c.contains_key.ensures ∙ c.if-contains_key.false)).0
-        ∙ ap (λ es. insert_entry nat_cmp es c.args.number c.args.place) c.self.view_is)
-    | in-Err-push w ↦ rw w.result-is tt
+      | in-Ok-push w ↦
+          rw w.result-is
+          (w.self-is ∙ w.close_up.ensures.same ∙ ap (λ xs. numbered 0 xs ++ c.self.inside.high.entries) w.in-Ok-push.ensures.items
+          ∙ (pushed c.args.number c.args.place c.self.inside.low.items c.self.inside.high.entries next c.self.invariant (sym c.contains_key.ensures ∙ c.if-contains_key.false)).0
+          ∙ ap (λ es. insert_entry nat_cmp es c.args.number c.args.place) c.self.view_is)
+      | in-Err-push w ↦ rw w.result-is tt
     ]
 
 pub returns-clause-absent : goal.returns-clause-absent
@@ -75,12 +75,12 @@ returns-clause-absent g c =
     let next : c.args.number ≡ length c.self.inside.low.items =
     (let t = c.if-at-len.false in let s = c.if-at-len-2.false in let n = c.len.ensures in let m = c.len-2.ensures in omega (arith, t, s, n, m)) in
     elim c.match-push.branch [
-      in-Ok-push w ↦ rw w.result-is tt
-    | in-Err-push w ↦
-        rw w.result-is
-        (ap (λ es. lookup (is_at (nat_cmp c.args.number)) es) (sym c.self.view_is)
-        ∙ lookup_high 0 c.args.number c.self.inside.low.items c.self.inside.high.entries (omega (arith, next))
-        ∙ none_of (lookup (is_at (nat_cmp c.args.number)) c.self.inside.high.entries) (sym c.contains_key.ensures ∙ c.if-contains_key.false))
+      | in-Ok-push w ↦ rw w.result-is tt
+      | in-Err-push w ↦
+          rw w.result-is
+          (ap (λ es. lookup (is_at (nat_cmp c.args.number)) es) (sym c.self.view_is)
+          ∙ lookup_high 0 c.args.number c.self.inside.low.items c.self.inside.high.entries (omega (arith, next))
+          ∙ none_of (lookup (is_at (nat_cmp c.args.number)) c.self.inside.high.entries) (sym c.contains_key.ensures ∙ c.if-contains_key.false))
     ]
 
 pub returns-clause-sorted : goal.returns-clause-sorted
