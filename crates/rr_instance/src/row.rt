@@ -147,6 +147,32 @@ impl Row {
         decision_in(&self.standing)
     }
 
+    /// The row after a fact with this number, by which the instance stands so. A tally that the fact drops isn't copied.
+    ///
+    /// # Errors
+    /// `OutOfMemory`.
+    pub fn after(
+        &self,
+        alloc: Global,
+        number: u128,
+        fact: &Fact,
+        standing: Standing,
+    ) -> Result<Row, Refusal>
+        ensures ok { IfOk result (λ r. r ≡ row_after number fact.now standing self.now) }
+        ensures err { IfErr result (λ e. e ≡ Refusal.OutOfMemory) }
+    {
+        let tally = match fact {
+            Fact::Enter(..) | Fact::Decide(..) => Tally::new(alloc),
+            Fact::Propose(..) | Fact::Adopt(..) => self.tally.try_clone(alloc)?,
+        };
+        Ok(Row {
+            instance: self.instance,
+            standing,
+            backing: self.backing.after(number, fact),
+            tally,
+        })
+    }
+
     /// A fact with this number is about the instance, which then stands so. It needs no memory.
     pub fn advance(&mut self, number: u128, fact: &Fact, standing: Standing)
         ensures { self.new ≡ row_after number fact.now standing self.old }

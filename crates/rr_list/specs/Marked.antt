@@ -1,4 +1,5 @@
 use Rattle.std.specs.Prelude.{◌≡◌, ℕ, ◌<◌, ◌≤◌, Bool, true, false, ◌==◌, if◌then◌else◌, is_some, List, [], ◌∷◌, length, Option, None, Some}
+use Rattle.std.specs.Map.{values_of}
 use Rattle.std.specs.Ordering.{nat_cmp}
 use Rattle.rr_types.specs.declared.command.Command.{Command}
 use Rattle.rr_types.specs.declared.fact.Fact.{Fact}
@@ -12,8 +13,7 @@ use Rattle.rr_list.specs.declared.marks.Marks.{Marks}
 
 -- the entries of a table, which has each at its instance
 abbrev pub entries_in : List (ℕ × Entry) → List Entry
-entries_in [] = []
-entries_in (e ∷ es) = e.1 ∷ entries_in es
+entries_in es = values_of es
 
 -- each entry stands at its instance
 abbrev pub AreEntered : List (ℕ × Entry) → Type 0

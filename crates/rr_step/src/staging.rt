@@ -8,24 +8,8 @@ ghost use Rattle.rr_model.specs.NodeParts.{row_after, fresh_row};
 
 use crate::step::Step;
 use rr_instance::{Row, instance_of};
-use rr_types::{Fact, Instance, Refusal, Standing};
+use rr_types::{Fact, Refusal, Standing};
 use std::alloc::Global;
-
-/// The row of an instance, or a fresh one.
-fn row_or_fresh(
-    alloc: Global,
-    step: &Step<'_>,
-    instance: Instance,
-    standing: &Standing,
-) -> Result<Row, Refusal>
-    ensures ok { IfOk result (λ r. r ≡ option_map_or (λ old. old) (row_of step.now.state.rows instance) (fresh_row instance standing.now)) }
-    ensures err { IfErr result (λ e. e ≡ Refusal.OutOfMemory) }
-{
-    match step.row(instance) {
-        Some(row) => row.try_clone(alloc),
-        None => Ok(Row::fresh(alloc, instance, *standing)),
-    }
-}
 
 /// The row of an instance after a fact with this number, where it then stands so.
 pub fn row_changed(
@@ -38,7 +22,13 @@ pub fn row_changed(
     ensures ok { IfOk result (λ r. r ≡ row_after number fact.now standing (option_map_or (λ old. old) (row_of step.now.state.rows (instance_of fact.now)) (fresh_row (instance_of fact.now) standing))) }
     ensures err { IfErr result (λ e. e ≡ Refusal.OutOfMemory) }
 {
-    let mut row = row_or_fresh(alloc, step, instance_of(fact), &standing)?;
-    row.advance(number, fact, standing);
-    Ok(row)
+    let instance = instance_of(fact);
+    match step.row(instance) {
+        Some(row) => row.after(alloc, number, fact, standing),
+        None => {
+            let mut row = Row::fresh(alloc, instance, standing);
+            row.advance(number, fact, standing);
+            Ok(row)
+        }
+    }
 }

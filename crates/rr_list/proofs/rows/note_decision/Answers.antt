@@ -1,4 +1,4 @@
-use Rattle.std.proofs.Common.{◌≡◌, ap, sym, ◌∙◌, option_map, Option}
+use Rattle.std.proofs.Common.{ap, sym, ◌∙◌, option_map}
 use Rattle.rr_types.specs.declared.command.Command.{Command}
 use Rattle.rr_places.specs.Places.{filled}
 use Rattle.rr_list.specs.Listed.{decision_at}

@@ -9,6 +9,6 @@ use Rattle.rr_list.proofs.rows.note_decisions.Given as goal
 abbrev pub invariant-loop-instance : goal.invariant-loop-instance
 invariant-loop-instance l =
     record {
-      noted : IsNoted (rows_in (filled l.rows.entries)) (take l.instance-index l.instances) (filled l.fn.requests.entries) (filled l.requests.entries) l.fn.end l.higher;
+      noted : IsNoted (rows_in (filled l.rows)) (take l.instance-index l.instances) (filled l.fn.requests.entries) (filled l.requests.entries) l.fn.end l.higher;
       places : (q : RequestNo) → has_place request_cmp l.requests.entries q ≡ has_place request_cmp l.fn.requests.entries q;
     }

@@ -1,4 +1,4 @@
-use Rattle.std.proofs.Common.{arith, ap, sym, ◌∙◌, ◌≡◌, ◌++◌, ◌∷◌, [], subst, length}
+use Rattle.std.proofs.Common.{arith, ap, sym, ◌∙◌, ◌++◌, ◌∷◌, [], subst, length}
 use Rattle.rr_places.specs.Numbered.{numbered, AscendFrom, IsFirst}
 use Rattle.rr_places.proofs.NumberedLemmas.{moved}
 use Rattle.rr_places.proofs.numbered.close_up.Goals as goal

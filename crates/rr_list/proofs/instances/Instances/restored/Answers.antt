@@ -1,4 +1,4 @@
-use Rattle.std.proofs.Common.{IsTrue, List, [], map, refl, ap, sym, subst, ◌∙◌, ◌++◌, ◌-◌, length}
+use Rattle.std.proofs.Common.{IsTrue, List, map, refl, ap, sym, subst, ◌∙◌, ◌++◌, ◌-◌, length}
 use Rattle.std.specs.List.{All}
 use Rattle.std.proofs.lemmas.List.Elements.{All-map}
 use Rattle.rr_model.specs.NodeState.{Row, row_of, lowest_undecided}

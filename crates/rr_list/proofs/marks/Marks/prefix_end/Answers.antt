@@ -1,4 +1,4 @@
-use Rattle.std.proofs.Common.{ap, sym, ◌∙◌, arith}
+use Rattle.std.proofs.Common.{ap, arith}
 use Rattle.rr_types.specs.Facts.{decision_of}
 use Rattle.rr_list.specs.Marked.{marked_in}
 use Rattle.rr_list.proofs.MarkLemmas.{prefix_is, undecided_none}

@@ -7,8 +7,8 @@ use Rattle.rr_list.proofs.marks.Marks.restore.Goals as goal
 
 pub returns-in-Ok-clause-value : goal.returns-in-Ok-clause-value
 returns-in-Ok-clause-value c =
-    ap (λ m. entries_in (filled m.entries)) c.count_on.ensures.entries ∙ c.in-Ok.ensures.value
+    ap (λ m. entries_in (filled m)) c.count_on.ensures.entries ∙ c.in-Ok.ensures.value
     ∙ ap (λ es. set_all es c.args.promise.now) c.requires.empty.0 ∙ promise_set c.args.promise.now c.requires.ascending.ascends
 
 pub returns-in-Ok-clause-made : goal.returns-in-Ok-clause-made
-returns-in-Ok-clause-made c = λ k d l. subst (λ places. IsTrue (has_place nat_cmp places.entries (slice_index_or c.args.promise.now k d).instance)) (sym c.count_on.ensures.entries) (c.in-Ok.ensures.made k d l)
+returns-in-Ok-clause-made c = λ k d l. subst (λ places. IsTrue (has_place nat_cmp places (slice_index_or c.args.promise.now k d).instance)) (sym c.count_on.ensures.entries) (c.in-Ok.ensures.made k d l)

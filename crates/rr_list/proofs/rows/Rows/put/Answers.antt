@@ -1,10 +1,9 @@
-use Rattle.std.proofs.Common.{option_map, ◌<◌, [], ◌∷◌, List, ap, sym, refl, ◌∙◌, subst, IsTrue}
-use Rattle.std.specs.Ordering.{nat_cmp}
+use Rattle.std.proofs.Common.{option_map, ◌<◌, [], ◌∷◌, ap, sym, refl, ◌∙◌, subst}
 use Rattle.rr_types.specs.declared.command.Command.{Command}
 use Rattle.rr_model.specs.NodeState.{Row, put_row}
-use Rattle.rr_places.specs.Places.{filled, has_place}
-use Rattle.rr_list.specs.Listed.{put_rows, decision_at, KeepsDecisions}
-use Rattle.rr_list.specs.Rowed.{rows_in, HavePlaces, HoldsDecided, has_request_place, IsNoted, AscendFrom, AreInstances, AreKeyed}
+use Rattle.rr_places.specs.Places.{filled}
+use Rattle.rr_list.specs.Listed.{decision_at, KeepsDecisions}
+use Rattle.rr_list.specs.Rowed.{rows_in, IsNoted, AscendFrom, AreInstances, AreKeyed}
 use Rattle.rr_list.proofs.TableLemmas.{placed_row, keyed_row}
 use Rattle.rr_list.proofs.NotedLemmas.{table_absorbed, ascend_puts, instances_puts, all_one, request_made, decision_put}
 use Rattle.rr_list.proofs.rows.Rows.put.Goals as goal

@@ -1,4 +1,4 @@
-use Rattle.std.proofs.Common.{ap, sym, ◌∙◌, arith, is_some, ◌≡◌}
+use Rattle.std.proofs.Common.{ap, sym, ◌∙◌, arith}
 use Rattle.std.specs.Ordering.{nat_cmp}
 use Rattle.rr_places.specs.Places.{has_place}
 use Rattle.rr_places.proofs.NumberedLemmas.{place_low, place_high}

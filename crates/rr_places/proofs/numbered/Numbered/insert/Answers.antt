@@ -1,4 +1,4 @@
-use Rattle.std.proofs.Common.{◌≡◌, ◌∙◌, sym, ap, subst, IsTrue, Result, Ok, Err, OnOk, OnErr, Some}
+use Rattle.std.proofs.Common.{◌∙◌, ap, Some}
 use Rattle.std.specs.Ordering.{nat_cmp}
 use Rattle.rr_places.specs.Places.{filled, has_place}
 use Rattle.rr_places.proofs.NumberedLemmas.{value_put, place_made, place_kept, on_ok, both_ways}
