@@ -1,5 +1,6 @@
 -- An event of a node makes at most one device call, and none but a device event.
-use Rattle.std.proofs.Common.{◌≡◌, ◌≢◌, ◌⊎◌, inl, inr, ℕ, ◌+◌, ◌^◌, Bool, true, false, ◌==◌, nat_lt, List, [], ◌∷◌, length, Option, None, Some, Result, Ok, refl, sym, subst, if◌then◌else◌}
+use Rattle.std.proofs.Common.{◌≡◌, ◌≢◌, ◌⊎◌, inl, inr, ℕ, ◌+◌, ◌^◌, Bool, true, false, ◌==◌, nat_lt, List, [], ◌∷◌, length, Option, None, Some, Result, Ok, refl, sym, ap, ◌∙◌, subst, if◌then◌else◌}
+use Rattle.std.specs.Prelude.{IfSome}
 use Rattle.std.specs.Option.{option_map_or}
 use Rattle.rr_types.specs.declared.command.RequestNo.{RequestNo}
 use Rattle.rr_types.specs.declared.command.Reply.{Reply}
@@ -21,7 +22,7 @@ use Rattle.rr_node.specs.declared.event.NodeEvent.TheVariants as at
 use Rattle.rr_node.specs.declared.event.Outcome.{Outcome}
 use Rattle.rr_node.specs.declared.event.Outcome.TheVariants.{Quiet, Left, Replied}
 use Rattle.rr_node.specs.Seats.{Flush, Resting, Writing, Flushed, Switching, Journaled, Doing, Stopped, Faulted, Opening, Serving, Seat, Answer, Gives, Fails, AtMostOneCall, called, refuse, goes_on, read_by, opens_on, open_on, flush_on, told, payload_of, take_up, may_snap, snapshot_of, snap_up, mark_up, send_off, reply_off, serve, wait, await_opening, by_doing, seat_step, fall, grows, starve_call, starve_flush, starve_end, starve_opening, starve_awaiting, starve_beginning, starve_marking, starve_serving, starve_doing, fail_doing, after_failing_starved}
-use Rattle.rr_node.specs.Views.{seat_of, IsSteady, Carries, CarriesFailing}
+use Rattle.rr_node.specs.Views.{seat_of, IsSteady, Carries, CarriesFailing, CarriesQuietly, quiet}
 
 -- no device call was made for an answer
 abbrev MakesNone : Seat → Answer → Type 0
@@ -309,3 +310,30 @@ pub carried : (n p : ℕ) (event made : NodeEvent) (old was new now : code.Doing
 carried n p event made old was new now answer same before after h =
     subst (λ (x : NodeEvent). Carries n p x old answer new) (sym same)
     (subst (λ (d : code.Doing). Carries n p made d answer new) (sym before) (subst (λ (d : code.Doing). Carries n p made was answer d) (sym after) h))
+
+-- ---- of a quiet event
+
+module _ (n p : ℕ) (event : NodeEvent) (inside last : code.Doing) (now : Seat) (is : seat_of n p inside ≡ now) (steady : IsSteady n p inside) where
+  -- what it gave to a node that was steady
+  pub gave_quietly : (r : Option (Result (Unit {0}) Refusal)) → CarriesQuietly event inside r last → IfSome r (λ answer. Gives event now (quiet answer) (seat_of n p last))
+  gave_quietly None carries = tt
+  gave_quietly (Some answer) carries = subst (λ (s : Seat). Gives event s (quiet answer) (seat_of n p last)) is (carries n p steady).0
+
+  -- the node is steady behind it
+  pub steady_quietly : (r : Option (Result (Unit {0}) Refusal)) → CarriesQuietly event inside r last → IsSteady n p last
+  steady_quietly None carries = subst (λ (d : code.Doing). IsSteady n p d) (sym carries) steady
+  steady_quietly (Some answer) carries = (carries n p steady).1
+
+  -- where it gave nothing the node is as it was
+  pub kept_quietly : (r : Option (Result (Unit {0}) Refusal)) → CarriesQuietly event inside r last → r ≡ None → seat_of n p last ≡ now
+  kept_quietly None carries none = ap (seat_of n p) carries ∙ is
+  kept_quietly (Some answer) carries none = absurd (cc)
+
+  -- it made at most one device call, and none but by a device event
+  pub one_quietly : (r : Option (Result (Unit {0}) Refusal)) → CarriesQuietly event inside r last → AtMostOneCall now (seat_of n p last)
+  one_quietly None carries = inl (ap (λ (s : Seat). s.calls) (kept_quietly None carries refl))
+  one_quietly (Some answer) carries = gives_one event now (seat_of n p last) (quiet answer) (gave_quietly (Some answer) carries)
+
+  pub none_quietly : (r : Option (Result (Unit {0}) Refusal)) → CarriesQuietly event inside r last → event ≢ at.Device → (seat_of n p last).calls ≡ now.calls
+  none_quietly None carries other = ap (λ (s : Seat). s.calls) (kept_quietly None carries refl)
+  none_quietly (Some answer) carries other = gives_none event now (seat_of n p last) (quiet answer) (gave_quietly (Some answer) carries) other

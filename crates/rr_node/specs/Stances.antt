@@ -1,9 +1,11 @@
--- What a node waits for, and which group of it is synced.
-use Rattle.std.specs.Prelude.{List, [], Option, None, Some}
+-- What a node waits for, which group of it is synced, and which events give nothing.
+use Rattle.std.specs.Prelude.{Bool, true, false, List, [], Option, None, Some}
 use Rattle.std.specs.Option.{option_map_or}
 use Rattle.rr_types.specs.declared.fact.Fact.{Fact}
 use Rattle.rr_types.specs.declared.refusal.Refusal.{Refusal}
 use Rattle.rr_types.specs.declared.refusal.Refusal.TheVariants as because
+use Rattle.rr_node.specs.declared.event.NodeEvent.{NodeEvent}
+use Rattle.rr_node.specs.declared.event.NodeEvent.TheVariants as at
 use Rattle.rr_node.specs.declared.event.Stance.{Stance}
 use Rattle.rr_node.specs.declared.event.Stance.TheVariants as waits
 use Rattle.rr_node.specs.Seats.{Doing, Stopped, Faulted, Opening, Serving, Flush, Resting, Writing, Flushed, Switching}
@@ -42,3 +44,16 @@ refusal_by Stopped = Some because.Down
 refusal_by Faulted = Some because.Failed
 refusal_by (Opening phase) = Some because.Down
 refusal_by (Serving s journal flush) = None
+
+-- whether an event gives nothing but, perhaps, a refusal where a node is up: any but a send and an acknowledgement
+abbrev pub gives_nothing : NodeEvent → Bool
+gives_nothing at.Send = false
+gives_nothing at.Acknowledge = false
+gives_nothing event = true
+
+-- whether a node that does this is up, and the event is such a one
+abbrev pub is_quiet : NodeEvent → Doing → Bool
+is_quiet event Stopped = false
+is_quiet event Faulted = false
+is_quiet event (Opening phase) = false
+is_quiet event (Serving s journal flush) = gives_nothing event

@@ -202,3 +202,8 @@ Serves n p core j answer new =
 abbrev pub quiet : Result (Unit {0}) Refusal → Result Outcome Refusal
 quiet (Ok x) = Ok Quiet
 quiet (Err e) = Err e
+
+-- an event leads, with this quiet answer, from one doing of whichever node to another; without an answer nothing changes
+abbrev pub CarriesQuietly : NodeEvent → code.Doing → Option (Result (Unit {0}) Refusal) → code.Doing → Type 0
+CarriesQuietly event old None new = new ≡ old
+CarriesQuietly event old (Some answer) new = (n p : ℕ) → Carries n p event old (quiet answer) new

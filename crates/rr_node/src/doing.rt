@@ -1,6 +1,6 @@
 //! What a node does: nothing, an opening, or its service.
 
-ghost use Rattle.std.specs.Prelude.{◌≡◌, ◌≢◌, ◌<◌, ◌↔◌, ℕ, None, Err, IsTrue, IfSome, IfOk, IfErr};
+ghost use Rattle.std.specs.Prelude.{◌≡◌, ◌≢◌, ◌<◌, ◌↔◌, ℕ, None, Err, is_some, IsTrue, IfSome, IfOk, IfErr};
 ghost use Rattle.rr_types.specs.Registry.{registry_of};
 ghost use Rattle.rr_model.specs.NodeState.{decided_prefix};
 ghost use Rattle.rr_types.specs.declared.refusal.Refusal.TheVariants.{OutOfMemory, Device};
@@ -9,7 +9,8 @@ ghost use Rattle.rr_node.specs.Seats as seats;
 ghost use Rattle.rr_node.specs.Seats.{crashed, seat_step};
 ghost use Rattle.rr_node.specs.declared.event.NodeEvent.{NodeEvent};
 ghost use Rattle.rr_node.specs.declared.serving.Serving.{Serving};
-ghost use Rattle.rr_node.specs.Views.{Carries, CarriesFailing, Serves, IsSteady, Takes, areas_of, calls_of, doing_of, due_of, seat_of};
+ghost use Rattle.rr_node.specs.Stances.{is_quiet};
+ghost use Rattle.rr_node.specs.Views.{Carries, CarriesFailing, CarriesQuietly, Serves, IsServing, IsSteady, Takes, areas_of, calls_of, doing_of, due_of, seat_of};
 
 use crate::event::{BoundNames, NodeEvent, Outcome};
 use crate::serving::Serving;
@@ -91,6 +92,33 @@ impl Doing {
     }
 }
 
+/// An event that gives nothing but, perhaps, a refusal, at a node that is up, which stays in its place. `None`: it may
+/// give more, or the node isn't up, and nothing has changed.
+pub fn go_on_quietly(
+    alloc: Global,
+    doing: &mut Doing,
+    event: &NodeEvent,
+) -> Option<Result<(), Refusal>>
+    requires { (s : Serving) → doing.old ≡ Doing.Serving s → IsServing s.core.nodes s.core.node s }
+    ensures taken { is_some result ≡ is_quiet event.now (doing_of doing.old) }
+    ensures carries { CarriesQuietly event.now doing.old result doing.new }
+{
+    match doing {
+        Doing::Serving(serving) => match event {
+            NodeEvent::Send | NodeEvent::Acknowledge => None,
+            NodeEvent::Device => match serving.flush_on() {
+                Ok(()) => Some(Ok(())),
+                Err(refusal) => {
+                    fall(alloc, doing);
+                    Some(Err(refusal))
+                }
+            },
+            _ => Some(serving.take_in(alloc, event)),
+        },
+        _ => None,
+    }
+}
+
 /// An event that a node takes. A node that is up stays in its place.
 pub fn go_on(
     alloc: Global,
@@ -104,22 +132,21 @@ pub fn go_on(
     requires taken { Takes event.now (doing_of doing.old) }
     ensures { Carries nodes node event.now doing.old result doing.new }
 {
-    match doing {
-        Doing::Serving(serving) => match event {
-            NodeEvent::Device => match serving.flush_on() {
-                Ok(()) => Ok(Outcome::Quiet),
-                Err(refusal) => {
-                    fall(alloc, doing);
-                    Err(refusal)
-                }
+    match go_on_quietly(alloc, doing, event) {
+        Some(Ok(())) => Ok(Outcome::Quiet),
+        Some(Err(refusal)) => Err(refusal),
+        None => match doing {
+            Doing::Serving(serving) => match event {
+                NodeEvent::Send => serving.send(),
+                NodeEvent::Acknowledge => serving.reply(),
+                _ => unreachable!(),
             },
-            _ => serving.go_on(alloc, event),
+            _ => {
+                let (next, answer) = open_up(alloc, nodes, node, take_out(alloc, doing));
+                put_in(doing, next);
+                answer
+            }
         },
-        _ => {
-            let (next, answer) = open_up(alloc, nodes, node, take_out(alloc, doing));
-            put_in(doing, next);
-            answer
-        }
     }
 }
 

@@ -1,13 +1,13 @@
 //! A node over its disk.
 
-ghost use Rattle.std.specs.Prelude.{◌≡◌, ◌≢◌, ◌<◌, Err, IfSome, IfOk, IfErr};
+ghost use Rattle.std.specs.Prelude.{◌≡◌, ◌≢◌, ◌<◌, None, Err, is_some, IfSome, IfOk, IfErr};
 ghost use Rattle.rr_node.specs.declared.event.NodeEvent.{NodeEvent};
 ghost use Rattle.rr_node.specs.Runs.{IsSpelt};
 ghost use Rattle.rr_node.specs.Seats.{Stopped, Gives, Fails, AtMostOneCall, crashed, seat_step};
-ghost use Rattle.rr_node.specs.Stances.{stance_of, synced_of, refusal_by};
-ghost use Rattle.rr_node.specs.Views.{Takes};
+ghost use Rattle.rr_node.specs.Stances.{stance_of, synced_of, refusal_by, is_quiet};
+ghost use Rattle.rr_node.specs.Views.{quiet};
 
-use crate::doing::{Doing, crash, fail, go_on};
+use crate::doing::{Doing, crash, fail, go_on, go_on_quietly};
 use crate::event::{NodeEvent, Outcome, Stance};
 use rr_disk::{FailingDisk, MemDisk};
 use rr_types::{Fact, NodeId, Nodes, Refusal};
@@ -95,8 +95,23 @@ impl Node {
     {
         match self.doing.refusal_of(event) {
             Some(refusal) => Err(refusal),
-            None => self.go_on(alloc, event),
+            None => go_on(alloc, self.nodes, self.node, &mut self.doing, event),
         }
+    }
+
+    /// An event that gives nothing but, perhaps, a refusal: any but a send and an acknowledgement, at a node that is up.
+    /// `None`: it may give more, so it is `step`'s, and the node stays as it was. It is `step` without the cost of an
+    /// `Outcome`.
+    /// Errors: `OutOfMemory`, `Device`, `ListFull`, `RoundsOut`, `Busy`, `TooLarge`.
+    pub fn step_quietly(&mut self, alloc: Global, event: &NodeEvent) -> Option<Result<(), Refusal>>
+        ensures taken { is_some result ≡ is_quiet event.now self.old.doing }
+        ensures gives { IfSome result (λ answer. Gives event.now self.old (quiet answer) self.new) }
+        ensures kept { result ≡ None → self.new ≡ self.old }
+        ensures one_call { AtMostOneCall self.old self.new }
+        ensures no_call { event.now ≢ NodeEvent.Device → self.new.calls ≡ self.old.calls }
+        ensures spelt { IsSpelt self.new.doing }
+    {
+        go_on_quietly(alloc, &mut self.doing, event)
     }
 
     /// The refusal of each event but a restart and a device call, while the node isn't up. It moves nothing.
@@ -111,17 +126,6 @@ impl Node {
             Doing::Opening(_) => Some(Refusal::Down),
             Doing::Serving(_) => None,
         }
-    }
-
-    /// An event that the node takes.
-    fn go_on(&mut self, alloc: Global, event: &NodeEvent) -> Result<Outcome, Refusal>
-        requires { Takes event.now self.old.doing }
-        ensures gives { Gives event.now self.old result self.new }
-        ensures one_call { AtMostOneCall self.old self.new }
-        ensures no_call { event.now ≢ NodeEvent.Device → self.new.calls ≡ self.old.calls }
-        ensures spelt { IsSpelt self.new.doing }
-    {
-        go_on(alloc, self.nodes, self.node, &mut self.doing, event)
     }
 
     /// The next device call of the node fails with `Device`, as `FailingDisk::fail_next` says, and the node has

@@ -1,11 +1,11 @@
 //! A node that is up: its core over the areas of its disk, and the job that runs.
 
-ghost use Rattle.std.specs.Prelude.{◌≡◌, ◌≢◌, ℕ, [], Ok, Err, Some, OnOk, IfErr};
+ghost use Rattle.std.specs.Prelude.{◌≡◌, ◌≢◌, ℕ, true, [], Ok, Err, Some, OnOk, IfErr};
 ghost use Rattle.std.specs.Option.{option_map_or};
 ghost use Rattle.rr_model.specs.NodeState.{NodeState};
 ghost use Rattle.rr_model.specs.NodeStep.{running_group, group_put_back};
 ghost use Rattle.rr_node.specs.declared.event.Outcome.TheVariants.{Quiet};
-ghost use Rattle.rr_node.specs.Stances.{stance_by, synced_by};
+ghost use Rattle.rr_node.specs.Stances.{stance_by, synced_by, gives_nothing};
 ghost use Rattle.rr_node.specs.Views.{IsServing, IsFlushOf, CarriesOn, CarriesFailing, StepsOn, flush_of, quiet};
 
 use crate::doing::{Doing, NodeDisk};
@@ -115,11 +115,12 @@ impl Serving {
         slots.into_disk()
     }
 
-    /// An event at a node that is up, but for device calls.
-    pub fn go_on(&mut self, alloc: Global, event: &NodeEvent) -> Result<Outcome, Refusal>
+    /// An event that gives nothing but, perhaps, a refusal, and is no device call.
+    pub fn take_in(&mut self, alloc: Global, event: &NodeEvent) -> Result<(), Refusal>
         requires own { IsServing self.old.core.nodes self.old.core.node self.old }
+        requires gives { gives_nothing event.now ≡ true }
         requires other { event.now ≢ NodeEvent.Device }
-        ensures { CarriesOn event.now self.old result (Doing.Serving self.new) }
+        ensures { CarriesOn event.now self.old (quiet result) (Doing.Serving self.new) }
     {
         match event {
             NodeEvent::Submit(command) => self.submit(*command),
@@ -128,47 +129,45 @@ impl Serving {
             NodeEvent::Tick => self.tick(),
             NodeEvent::Advance => self.advance(),
             NodeEvent::Take => self.take(alloc),
-            NodeEvent::Device => unreachable!(),
             NodeEvent::Mark => self.mark(),
-            NodeEvent::Send => self.send(),
-            NodeEvent::Acknowledge => self.reply(),
             NodeEvent::Snap => self.snap(alloc),
             NodeEvent::Restart => Err(Refusal::Busy),
+            NodeEvent::Device | NodeEvent::Send | NodeEvent::Acknowledge => unreachable!(),
         }
     }
 
-    fn submit(&mut self, command: Command) -> Result<Outcome, Refusal>
-        ensures { CarriesOn (NodeEvent.Submit command) self.old result (Doing.Serving self.new) }
+    fn submit(&mut self, command: Command) -> Result<(), Refusal>
+        ensures { CarriesOn (NodeEvent.Submit command) self.old (quiet result) (Doing.Serving self.new) }
     {
-        quiet(self.core.submit(command))
+        self.core.submit(command)
     }
 
-    fn hear(&mut self, message: &Message) -> Result<Outcome, Refusal>
-        ensures { CarriesOn (NodeEvent.Hear message.now) self.old result (Doing.Serving self.new) }
+    fn hear(&mut self, message: &Message) -> Result<(), Refusal>
+        ensures { CarriesOn (NodeEvent.Hear message.now) self.old (quiet result) (Doing.Serving self.new) }
     {
-        quiet(self.core.hear(message))
+        self.core.hear(message)
     }
 
-    fn suspect(&mut self, set: NodeSet) -> Result<Outcome, Refusal>
-        ensures { CarriesOn (NodeEvent.Suspect set) self.old result (Doing.Serving self.new) }
+    fn suspect(&mut self, set: NodeSet) -> Result<(), Refusal>
+        ensures { CarriesOn (NodeEvent.Suspect set) self.old (quiet result) (Doing.Serving self.new) }
     {
-        quiet(self.core.suspect(set))
+        self.core.suspect(set)
     }
 
-    fn tick(&mut self) -> Result<Outcome, Refusal>
-        ensures { CarriesOn NodeEvent.Tick self.old result (Doing.Serving self.new) }
+    fn tick(&mut self) -> Result<(), Refusal>
+        ensures { CarriesOn NodeEvent.Tick self.old (quiet result) (Doing.Serving self.new) }
     {
-        quiet(self.core.tick())
+        self.core.tick()
     }
 
-    fn advance(&mut self) -> Result<Outcome, Refusal>
-        ensures { CarriesOn NodeEvent.Advance self.old result (Doing.Serving self.new) }
+    fn advance(&mut self) -> Result<(), Refusal>
+        ensures { CarriesOn NodeEvent.Advance self.old (quiet result) (Doing.Serving self.new) }
     {
-        quiet(self.core.advance())
+        self.core.advance()
     }
 
     /// The oldest message that may leave goes.
-    fn send(&mut self) -> Result<Outcome, Refusal>
+    pub fn send(&mut self) -> Result<Outcome, Refusal>
         ensures { CarriesOn NodeEvent.Send self.old result (Doing.Serving self.new) }
     {
         match self.core.next_message() {
@@ -178,7 +177,7 @@ impl Serving {
     }
 
     /// The oldest decided request that waits is acknowledged.
-    fn reply(&mut self) -> Result<Outcome, Refusal>
+    pub fn reply(&mut self) -> Result<Outcome, Refusal>
         ensures { CarriesOn NodeEvent.Acknowledge self.old result (Doing.Serving self.new) }
     {
         match self.core.next_ack() {
@@ -188,8 +187,8 @@ impl Serving {
     }
 
     /// A flush of the staged facts begins.
-    fn take(&mut self, alloc: Global) -> Result<Outcome, Refusal>
-        ensures { CarriesOn NodeEvent.Take self.old result (Doing.Serving self.new) }
+    fn take(&mut self, alloc: Global) -> Result<(), Refusal>
+        ensures { CarriesOn NodeEvent.Take self.old (quiet result) (Doing.Serving self.new) }
     {
         match self.flush {
             Flush::Resting => self.begin(alloc),
@@ -199,17 +198,17 @@ impl Serving {
 
     /// A flush of the staged facts begins where none runs.
     #[inline(never)]
-    fn begin(&mut self, alloc: Global) -> Result<Outcome, Refusal>
+    fn begin(&mut self, alloc: Global) -> Result<(), Refusal>
         requires { self.old.flush ≡ Flush.Resting }
-        ensures { CarriesOn NodeEvent.Take self.old result (Doing.Serving self.new) }
+        ensures { CarriesOn NodeEvent.Take self.old (quiet result) (Doing.Serving self.new) }
     {
         match self.core.take_group() {
             Err(refusal) => Err(refusal),
-            Ok(None) => Ok(Outcome::Quiet),
+            Ok(None) => Ok(()),
             Ok(Some(group)) => match self.slots.begin(alloc, group) {
                 Ok(job) => {
                     self.runs(Flush::Body(job));
-                    Ok(Outcome::Quiet)
+                    Ok(())
                 }
                 Err((refusal, group)) => {
                     put_back(&mut self.core, group);
@@ -228,12 +227,12 @@ impl Serving {
 
     /// The synced group is marked.
     #[inline(never)]
-    fn mark(&mut self) -> Result<Outcome, Refusal>
-        ensures { CarriesOn NodeEvent.Mark self.old result (Doing.Serving self.new) }
+    fn mark(&mut self) -> Result<(), Refusal>
+        ensures { CarriesOn NodeEvent.Mark self.old (quiet result) (Doing.Serving self.new) }
     {
         match mem::replace(&mut self.flush, Flush::Resting) {
             Flush::Flushed(synced) => match self.core.mark(synced) {
-                Ok(()) => Ok(Outcome::Quiet),
+                Ok(()) => Ok(()),
                 Err((refusal, synced)) => {
                     self.runs(Flush::Flushed(synced));
                     Err(refusal)
@@ -241,15 +240,15 @@ impl Serving {
             },
             other => {
                 self.runs(other);
-                Ok(Outcome::Quiet)
+                Ok(())
             }
         }
     }
 
     /// A switch to a snapshot of the marked facts begins.
-    fn snap(&mut self, alloc: Global) -> Result<Outcome, Refusal>
+    fn snap(&mut self, alloc: Global) -> Result<(), Refusal>
         requires { IsServing self.old.core.nodes self.old.core.node self.old }
-        ensures { CarriesOn NodeEvent.Snap self.old result (Doing.Serving self.new) }
+        ensures { CarriesOn NodeEvent.Snap self.old (quiet result) (Doing.Serving self.new) }
     {
         match self.flush {
             Flush::Resting => self.begin_switch(alloc),
@@ -259,10 +258,10 @@ impl Serving {
 
     /// A switch begins where no job runs.
     #[inline(never)]
-    fn begin_switch(&mut self, alloc: Global) -> Result<Outcome, Refusal>
+    fn begin_switch(&mut self, alloc: Global) -> Result<(), Refusal>
         requires own { IsServing self.old.core.nodes self.old.core.node self.old }
         requires rests { self.old.flush ≡ Flush.Resting }
-        ensures { CarriesOn NodeEvent.Snap self.old result (Doing.Serving self.new) }
+        ensures { CarriesOn NodeEvent.Snap self.old (quiet result) (Doing.Serving self.new) }
     {
         let promise = match self.core.marked_promise(alloc) {
             Ok(promise) => promise,
@@ -271,7 +270,7 @@ impl Serving {
         match self.slots.begin_snapshot(alloc, promise) {
             Ok(job) => {
                 self.runs(Flush::Switching(job));
-                Ok(Outcome::Quiet)
+                Ok(())
             }
             Err(refusal) => Err(refusal),
         }
@@ -353,16 +352,6 @@ fn up(
     ensures { result ≡ (Doing.Serving (record { core = core; slots = slots; flush = flush }), answer) }
 {
     (Doing::Serving(Serving { core, slots, flush }), answer)
-}
-
-/// A report tells nothing of an input that was taken.
-fn quiet(told: Result<(), Refusal>) -> Result<Outcome, Refusal>
-    ensures { result ≡ quiet told }
-{
-    match told {
-        Ok(()) => Ok(Outcome::Quiet),
-        Err(refusal) => Err(refusal),
-    }
 }
 
 /// A device call has failed: the node has failed too.

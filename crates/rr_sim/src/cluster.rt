@@ -260,8 +260,14 @@ impl Cluster {
             return Ok(());
         }
         let seat = &mut self.seats[at];
-        let answer = seat.step(alloc, event);
-        self.take_down(alloc, node, line, answer)
+        match seat.step_quietly(alloc, event) {
+            Some(Ok(())) => Ok(()),
+            Some(Err(refusal)) => self.refuse(line, refusal),
+            None => {
+                let answer = seat.step(alloc, event);
+                self.take_down(alloc, node, line, answer)
+            }
+        }
     }
 
     /// The next device call of a node fails with this fill.

@@ -6,5 +6,4 @@ pub returns : goal.returns
 returns c =
     let said = c.hear.ensures in
     let s = c.args.self.now in
-    λ n p h. rw c.quiet.ensures
-    (told_on (Hear c.args.message.now) s.core c.hear.new.self s.slots s.flush c.hear.result n p (record { ok = said.ok; allowed = said.allowed; order = λ e none. cc; refused = said.refused; err = said.err }) h)
+    λ n p h. told_on (Hear c.args.message.now) s.core c.hear.new.self s.slots s.flush c.hear.result n p (record { ok = said.ok; allowed = said.allowed; order = λ e none. cc; refused = said.refused; err = said.err }) h

@@ -1,4 +1,4 @@
-use Rattle.rr_node.proofs.serving.Serving.go_on.Goals as goal
+use Rattle.rr_node.proofs.serving.Serving.take_in.Goals as goal
 
 pub returns-in-Submit : goal.returns-in-Submit
 returns-in-Submit c = rw c.in-Submit.is c.submit.ensures
@@ -14,12 +14,6 @@ returns-in-Take c = rw c.in-Take.is c.take.ensures
 
 pub returns-in-Mark : goal.returns-in-Mark
 returns-in-Mark c = rw c.in-Mark.is c.mark.ensures
-
-pub returns-in-Send : goal.returns-in-Send
-returns-in-Send c = rw c.in-Send.is c.send.ensures
-
-pub returns-in-Acknowledge : goal.returns-in-Acknowledge
-returns-in-Acknowledge c = rw c.in-Acknowledge.is c.reply.ensures
 
 pub returns-in-Snap : goal.returns-in-Snap
 returns-in-Snap c = rw c.in-Snap.is c.snap.ensures
