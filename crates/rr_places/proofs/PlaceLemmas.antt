@@ -1,4 +1,4 @@
-use Rattle.std.proofs.Common.{◌≡◌, ◌+◌, length, Bool, true, false, cond, List, [], ◌∷◌, None, Some, Option, Ordering, is_some, refl, sym, ap, ◌∙◌, arith}
+use Rattle.std.proofs.Common.{◌≡◌, ◌+◌, length, Bool, true, false, cond, List, [], ◌∷◌, None, Some, Option, Ordering, is_some, unwrap_or, refl, sym, ap, ◌∙◌, arith}
 use Rattle.std.specs.declared.cmp.Ordering.TheVariants.{Less, Equal, Greater}
 use Rattle.std.specs.Ordering.{is_eq}
 use Rattle.std.specs.Cmp.{IsTotalOrder}
@@ -56,6 +56,36 @@ module _ {K V : Type 0} where
       at true e = let p : is_some (lookup test es) ≡ true = place_of_value test es e in let n = ap is_some h in cc
       at false e = refl
 
+  remove_past : (test : K → Bool) (k : K) (v : Option V) (es : List (K × V)) → test k ≡ false → remove_entry test (filled_cons k v es) ≡ filled_cons k v (remove_entry test es)
+  remove_past test k None es h = refl
+  remove_past test k (Some v) es h = rw h
+
+  remove_at : (test : K → Bool) (k : K) (v : Option V) (es : List (K × V)) → test k ≡ true → remove_entry test es ≡ es → remove_entry test (filled_cons k v es) ≡ es
+  remove_at test k None es h none = none
+  remove_at test k (Some v) es h none = rw h
+
+  none_first : (test : K → Bool) (e : K × Option V) (es : List (K × Option V)) → (lookup test es ≡ None → remove_entry test (filled es) ≡ filled es) → lookup test (e ∷ es) ≡ None → (b : Bool) → test e.0 ≡ b → remove_entry test (filled (e ∷ es)) ≡ filled (e ∷ es)
+  none_first test e es more none true h = let m = rw h at none in cc
+  none_first test e es more none false h = remove_past test e.0 e.1 (filled es) h ∙ ap (filled_cons e.0 e.1) (more (rw h at none))
+
+  -- where no place is found nothing goes
+  remove_none : (test : K → Bool) (es : List (K × Option V)) → lookup test es ≡ None → remove_entry test (filled es) ≡ filled es
+  remove_none test [] none = refl
+  remove_none test (e ∷ es) none = none_first test e es (remove_none test es) none (test e.0) refl
+
+  remove_first : (test : K → Bool) (e : K × Option V) (es : List (K × Option V)) → (lookup test (remove_entry test es) ≡ None → filled (remove_entry test es) ≡ remove_entry test (filled es)) → lookup test (remove_entry test (e ∷ es)) ≡ None → (b : Bool) → test e.0 ≡ b → filled (remove_entry test (e ∷ es)) ≡ remove_entry test (filled (e ∷ es))
+  remove_first test e es more none true h =
+      let gone : lookup test es ≡ None = rw h at none in
+      rw h (sym (remove_at test e.0 e.1 (filled es) h (remove_none test es gone)))
+  remove_first test e es more none false h =
+      let gone : lookup test (remove_entry test es) ≡ None = rw (h, h) at none in
+      rw h (ap (filled_cons e.0 e.1) (more gone) ∙ sym (remove_past test e.0 e.1 (filled es) h))
+
+  -- what goes with its place, the only one, goes from among the entries
+  pub filled-remove : (test : K → Bool) (es : List (K × Option V)) → lookup test (remove_entry test es) ≡ None → filled (remove_entry test es) ≡ remove_entry test (filled es)
+  filled-remove test [] none = refl
+  filled-remove test (e ∷ es) none = remove_first test e es (filled-remove test es) none (test e.0) refl
+
   length_cons : (k : K) (v : Option V) (es : List (K × V)) → length (filled_cons k v es) ≡ length es + held v
   length_cons k None es = omega arith
   length_cons k (Some v) es = omega arith
@@ -98,6 +128,23 @@ module _ {K V : Type 0} where
     pub filled-free : (k : K) (es : List (K × Option V)) → lookup (is_at (R k)) es ≡ None → filled (insert_entry R es k None) ≡ filled es
     filled-free k [] n = refl
     filled-free k (e ∷ es) n = free_first k e es (filled-free k es) n (R k e.0) refl
+
+    -- what a place holds, written back, changes no entry
+    none_below : (k : K) (es : List (K × Option V)) → IsBelow k es → lookup (is_at (R k)) es ≡ None
+    none_below k [] h = refl
+    none_below k (e ∷ es) h = rw h.0 (none_below k es h.1)
+
+    kept_first : IsTotalOrder R → (k : K) (e : K × Option V) (es : List (K × Option V)) → IsStrictlySortedBy R (keys_of (e ∷ es)) → filled (insert_entry R es k (unwrap_or (lookup (is_at (R k)) es) None)) ≡ filled es → (r : Ordering) → R k e.0 ≡ r → filled (insert_entry R (e ∷ es) k (unwrap_or (lookup (is_at (R k)) (e ∷ es)) None)) ≡ filled (e ∷ es)
+    kept_first o k e es s more Less h =
+        let none = none_below k es (below_less o k e.0 es h (sorted_head R e.0 (keys_of es) s)) in
+        rw (h, none)
+    kept_first o k e es s more Equal h = rw h
+    kept_first o k e es s more Greater h = rw h (ap (filled_cons e.0 e.1) more)
+
+    -- nor does a free place for a key that had none
+    pub filled-kept : IsTotalOrder R → (k : K) (es : List (K × Option V)) → IsStrictlySortedBy R (keys_of es) → filled (insert_entry R es k (unwrap_or (lookup (is_at (R k)) es) None)) ≡ filled es
+    filled-kept o k [] s = refl
+    filled-kept o k (e ∷ es) s = kept_first o k e es s (filled-kept o k es (sorted_tail R e.0 (keys_of es) s)) (R k e.0) refl
 
     -- a free place that goes was no entry
     gone_first : (k : K) (e : K × Option V) (es : List (K × Option V)) → (lookup (is_at (R k)) es ≡ Some None → filled (remove_entry (is_at (R k)) es) ≡ filled es) → lookup (is_at (R k)) (e ∷ es) ≡ Some None → (b : Bool) → is_eq (R k e.0) ≡ b → filled (remove_entry (is_at (R k)) (e ∷ es)) ≡ filled (e ∷ es)

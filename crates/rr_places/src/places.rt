@@ -50,10 +50,13 @@ pub fn make_place<K: Ord + Copy + Drop, V: Drop>(
     ensures kept { (q : K) → IsTrue (has_place K.cmp map.old.entries q) → IsTrue (has_place K.cmp map.new.entries q) }
     ensures only { (q : K) → is_at (K.cmp key) q ≡ false → has_place K.cmp map.new.entries q ≡ has_place K.cmp map.old.entries q }
 {
-    if !map.contains_key(&key) {
-        map.insert(key, None)?;
+    match map.entry(key) {
+        Ok(entry) => {
+            entry.or_insert(None);
+            Ok(())
+        }
+        Err(_) => Err(AllocError),
     }
-    Ok(())
 }
 
 /// Writes what a key's place holds: a value, or `None`. It needs no memory.

@@ -24,8 +24,12 @@ use Rattle.rr_registry.specs.Tables.{bindings_in, kept_in, has_name_place, has_r
 use Rattle.rr_registry.proofs.TableLemmas.{lookup-name}
 use Rattle.rr_registry.proofs.KeptLemmas.{lookup-insert_entry, reply_kept, one_request}
 
-first : (a b : Bool) → a ≡ true → (a || b) ≡ true
+pub first : (a b : Bool) → a ≡ true → (a || b) ≡ true
 first a b h = rw h
+
+pub alone : (a : Bool) → (a || false) ≡ true → a ≡ true
+alone true h = refl
+alone false h = h
 
 second : (a b : Bool) → b ≡ true → (a || b) ≡ true
 second true b h = refl
@@ -52,7 +56,7 @@ held_by true x o h = refl
 held_by false x o h = h
 
 -- a bound name stays bound where one is bound
-bind_stays : (m : Bindings) (k : List ℕ) (x : Holding) (n : List ℕ) → is_some (holding_of m n) ≡ true → is_some (holding_of (insert_entry (slice_cmp nat_cmp) m k x) n) ≡ true
+pub bind_stays : (m : Bindings) (k : List ℕ) (x : Holding) (n : List ℕ) → is_some (holding_of m n) ≡ true → is_some (holding_of (insert_entry (slice_cmp nat_cmp) m k x) n) ≡ true
 bind_stays m k x n h =
     ap is_some (sym (lookup-name n (insert_entry (slice_cmp nat_cmp) m k x)) ∙ lookup-insert_entry (slice_cmp nat_cmp) nat_list_cmp_total exact_bytes k x m n)
     ∙ held_by (is_at (slice_cmp nat_cmp n) k) x (lookup (is_at (slice_cmp nat_cmp n)) m) (ap is_some (lookup-name n m) ∙ h)
@@ -64,7 +68,7 @@ remove_first k n e m more h false p true q = rw (p, q)
 remove_first k n e m more h false p false q = rw (p, q) (more (rw q at h))
 
 -- and where one is freed, but for that one
-remove_stays : (k n : List ℕ) (m : Bindings) → is_some (holding_of m n) ≡ true → (is_some (holding_of (remove_entry (bytes_eq k) m) n) || bytes_eq k n) ≡ true
+pub remove_stays : (k n : List ℕ) (m : Bindings) → is_some (holding_of m n) ≡ true → (is_some (holding_of (remove_entry (bytes_eq k) m) n) || bytes_eq k n) ≡ true
 remove_stays k n [] h = cc
 remove_stays k n (e ∷ m) h = remove_first k n e m (remove_stays k n m) h (bytes_eq k e.0) refl (bytes_eq n e.0) refl
 
@@ -90,7 +94,7 @@ op_stays m client (Transfer name owner) n h = changed m client (holding_of m nam
 
 -- whether a name is bound, whether a request has a reply, and whether some command is about it
 abbrev is_bound : Tables → List ℕ → Bool
-is_bound t n = is_some (holding_of (bindings_in t) n)
+is_bound t n = is_some (holding_of (bindings_in t.names) n)
 
 abbrev has_reply : Tables → RequestNo → Bool
 has_reply t q = is_some (kept_reply (kept_in t) q)
@@ -125,9 +129,9 @@ made true p q a d others h there = second a (true || d) refl
 made false p q a d others h there = h (sym (others refl) ∙ there)
 
 -- places made for a command
-pub free_made : (t u : Tables) (c : Command) (cs : List Command) → kept_in u ≡ kept_in t → ((n : List ℕ) → bytes_eq (name_of c.op) n ≡ false → has_name_place u n ≡ has_name_place t n) → ((q : RequestNo) → is_same_request c.request q ≡ false → has_reply_place u q ≡ has_reply_place t q) → HasFreeOnlyFor t cs → HasFreeOnlyFor u (c ∷ cs)
+pub free_made : (t u : Tables) (c : Command) (cs : List Command) → kept_in u ≡ kept_in t → ((n : List ℕ) → bytes_eq (name_of c.op) n ≡ false → has_name_place u.names n ≡ has_name_place t.names n) → ((q : RequestNo) → is_same_request c.request q ≡ false → has_reply_place u q ≡ has_reply_place t q) → HasFreeOnlyFor t cs → HasFreeOnlyFor u (c ∷ cs)
 free_made t u c cs same names replies h = record {
-  names = λ n p. made (bytes_eq (name_of c.op) n) (has_name_place t n) (has_name_place u n) (is_bound u n) (are_about n cs) (names n)
+  names = λ n p. made (bytes_eq (name_of c.op) n) (has_name_place t.names n) (has_name_place u.names n) (is_bound u n) (are_about n cs) (names n)
       (λ old. ap (λ (k : Kept). is_some (holding_of k.bindings n) || are_about n cs) same ∙ h.names n old) p;
   replies = λ q p. made (is_same_request c.request q) (has_reply_place t q) (has_reply_place u q) (has_reply u q) (are_for q cs) (replies q)
       (λ old. ap (λ (k : Kept). is_some (kept_reply k q) || are_for q cs) same ∙ h.replies q old) p;
@@ -138,14 +142,14 @@ after true a b d f h = begun a b d (f refl)
 after false a b d f h = second a (b || d) (second b d h)
 
 -- a command applied
-pub free_done : (t u : Tables) (c : Command) (reply : Reply) (cs : List Command) → bindings_in u ≡ (apply_op (bindings_in t) c.request.client c.op).0 → (kept_in u).replies ≡ insert_entry request_cmp (kept_in t).replies c.request reply → ((n : List ℕ) → has_name_place u n ≡ has_name_place t n) → ((q : RequestNo) → has_reply_place u q ≡ has_reply_place t q) → HasFreeOnlyFor t cs → HasFreeOnlyFor u (c ∷ cs)
+pub free_done : (t u : Tables) (c : Command) (reply : Reply) (cs : List Command) → bindings_in u.names ≡ (apply_op (bindings_in t.names) c.request.client c.op).0 → (kept_in u).replies ≡ insert_entry request_cmp (kept_in t).replies c.request reply → ((n : List ℕ) → has_name_place u.names n ≡ has_name_place t.names n) → ((q : RequestNo) → has_reply_place u q ≡ has_reply_place t q) → HasFreeOnlyFor t cs → HasFreeOnlyFor u (c ∷ cs)
 free_done t u c reply cs bindings kept names replies h = record {
   names = λ n p. after (is_bound t n) (is_bound u n) (bytes_eq (name_of c.op) n) (are_about n cs)
-      (λ old. ap (λ (m : Bindings). is_some (holding_of m n) || bytes_eq (name_of c.op) n) bindings ∙ op_stays (bindings_in t) c.request.client c.op n old)
+      (λ old. ap (λ (m : Bindings). is_some (holding_of m n) || bytes_eq (name_of c.op) n) bindings ∙ op_stays (bindings_in t.names) c.request.client c.op n old)
       (h.names n (sym (names n) ∙ p));
   replies = λ q p. after (has_reply t q) (has_reply u q) (is_same_request c.request q) (are_for q cs)
       (λ old. first (has_reply u q) (is_same_request c.request q) (ap (λ rs. is_some (lookup (is_same_request q) rs)) kept
-      ∙ ap is_some (reply_kept (kept_in t) c.request (bindings_in t, reply) q)
+      ∙ ap is_some (reply_kept (kept_in t) c.request (bindings_in t.names, reply) q)
       ∙ held_by (is_same_request q c.request) reply (kept_reply (kept_in t) q) old))
       (h.replies q (sym (replies q) ∙ p));
 }
@@ -159,11 +163,11 @@ dropped true p q a d own others h there = first a d (sym (own refl) ∙ there)
 dropped false p q a d own others h there = skipped a d (h (sym (others refl) ∙ there))
 
 -- the free places of a command dropped
-pub free_dropped : (t u : Tables) (c : Command) (cs : List Command) → kept_in u ≡ kept_in t → has_name_place u (name_of c.op) ≡ is_some (holding_of (bindings_in t) (name_of c.op)) → ((n : List ℕ) → bytes_eq (name_of c.op) n ≡ false → has_name_place u n ≡ has_name_place t n) → has_reply_place u c.request ≡ is_some (kept_reply (kept_in t) c.request) → ((q : RequestNo) → is_same_request c.request q ≡ false → has_reply_place u q ≡ has_reply_place t q) → HasFreeOnlyFor t (c ∷ cs) → HasFreeOnlyFor u cs
+pub free_dropped : (t u : Tables) (c : Command) (cs : List Command) → kept_in u ≡ kept_in t → has_name_place u.names (name_of c.op) ≡ is_some (holding_of (bindings_in t.names) (name_of c.op)) → ((n : List ℕ) → bytes_eq (name_of c.op) n ≡ false → has_name_place u.names n ≡ has_name_place t.names n) → has_reply_place u c.request ≡ is_some (kept_reply (kept_in t) c.request) → ((q : RequestNo) → is_same_request c.request q ≡ false → has_reply_place u q ≡ has_reply_place t q) → HasFreeOnlyFor t (c ∷ cs) → HasFreeOnlyFor u cs
 free_dropped t u c cs same name names request replies h = record {
   names = λ n p. ap (λ (k : Kept). is_some (holding_of k.bindings n) || are_about n cs) same
-      ∙ dropped (bytes_eq (name_of c.op) n) (has_name_place t n) (has_name_place u n) (is_bound t n) (are_about n cs)
-      (λ e. subst (λ (x : List ℕ). has_name_place u x ≡ is_some (holding_of (bindings_in t) x)) ((bytes_eq-Decides (name_of c.op) n).0 e) name)
+      ∙ dropped (bytes_eq (name_of c.op) n) (has_name_place t.names n) (has_name_place u.names n) (is_bound t n) (are_about n cs)
+      (λ e. subst (λ (x : List ℕ). has_name_place u.names x ≡ is_some (holding_of (bindings_in t.names) x)) ((bytes_eq-Decides (name_of c.op) n).0 e) name)
       (names n) (h.names n) p;
   replies = λ q p. ap (λ (k : Kept). is_some (kept_reply k q) || are_for q cs) same
       ∙ dropped (is_same_request c.request q) (has_reply_place t q) (has_reply_place u q) (has_reply t q) (are_for q cs)

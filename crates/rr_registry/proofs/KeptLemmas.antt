@@ -35,7 +35,7 @@ module _ {K X : Type 0} (R : K → K → Ordering) where
   lookup-insert_entry t exact k v [] q = refl
   lookup-insert_entry t exact k v (e ∷ es) q = found_first t exact k v e es q (lookup-insert_entry t exact k v es q) (R k e.0) refl
 
-requests_total : IsTotalOrder request_cmp
+pub requests_total : IsTotalOrder request_cmp
 requests_total = then_total (on_total (λ q. q.client) nat_cmp_total) (on_total (λ q. q.seq) nat_cmp_total)
 
 -- the reply to each request once one is kept
@@ -74,10 +74,10 @@ knows_first k seen c step h q false other = let back : is_same_request c.request
 knows_more : (k : Kept) (seen : List Command) (c : Command) (step : Bindings × Reply) → Knows k seen → Knows (keep k c.request step) (c ∷ seen)
 knows_more k seen c step h q = knows_first k seen c step h q (is_same_request q c.request) refl
 
-applied_known : (k : Kept) (c : Command) → is_some (kept_reply k c.request) ≡ true → applied k c ≡ k
+pub applied_known : (k : Kept) (c : Command) → is_some (kept_reply k c.request) ≡ true → applied k c ≡ k
 applied_known k c h = rw h
 
-applied_new : (k : Kept) (c : Command) → is_some (kept_reply k c.request) ≡ false → applied k c ≡ keep k c.request (apply k.bindings c)
+pub applied_new : (k : Kept) (c : Command) → is_some (kept_reply k c.request) ≡ false → applied k c ≡ keep k c.request (apply k.bindings c)
 applied_new k c h = rw h
 
 firsts_known : (seen cs : List Command) (c : Command) → has_request seen c.request ≡ true → firsts_beside seen (c ∷ cs) ≡ firsts_beside seen cs

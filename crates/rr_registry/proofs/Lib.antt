@@ -1,3 +1,5 @@
 pub mod TableLemmas
 pub mod KeptLemmas
 pub mod FreeLemmas
+pub mod NameLemmas
+pub mod AloneLemmas

@@ -13,6 +13,7 @@ use Rattle.rr_types.specs.Registry.{is_same_request}
 use Rattle.rr_types.specs.declared.command.Op.{Op}
 use Rattle.rr_types.specs.declared.command.Op.TheVariants.{Claim, Update, Release, Transfer}
 use Rattle.rr_types.specs.declared.command.Command.{Command}
+use Rattle.rr_registry.specs.declared.names.Names.{Names}
 use Rattle.rr_registry.specs.declared.tables.Tables.{Tables}
 use Rattle.rr_registry.specs.Tables.{has_name_place, has_reply_place, has_op_place, has_places}
 use Rattle.rr_registry.specs.Kept.{request_cmp}
@@ -64,15 +65,15 @@ both true true x y f g h = rw (f refl, g refl)
 both true false x y f g h = cc
 both false b x y f g h = cc
 
-name_places_stay : (t u : Tables) → ((n : List ℕ) → IsTrue (has_name_place t n) → IsTrue (has_name_place u n)) → (op : Op) → IsTrue (has_op_place t op) → IsTrue (has_op_place u op)
+name_places_stay : (t u : Names) → ((n : List ℕ) → IsTrue (has_name_place t n) → IsTrue (has_name_place u n)) → (op : Op) → IsTrue (has_op_place t op) → IsTrue (has_op_place u op)
 name_places_stay t u names (Claim name value) h = names name h
 name_places_stay t u names (Update name value) h = refl
 name_places_stay t u names (Release name) h = refl
 name_places_stay t u names (Transfer name owner) h = refl
 
 -- a command keeps its places where requests and names do
-pub places_stay : (t u : Tables) → ((q : RequestNo) → IsTrue (has_reply_place t q) → IsTrue (has_reply_place u q)) → ((n : List ℕ) → IsTrue (has_name_place t n) → IsTrue (has_name_place u n)) → (c : Command) → IsTrue (has_places t c) → IsTrue (has_places u c)
-places_stay t u replies names c h = both (has_reply_place t c.request) (has_op_place t c.op) (has_reply_place u c.request) (has_op_place u c.op) (replies c.request) (name_places_stay t u names c.op) h
+pub places_stay : (t u : Tables) → ((q : RequestNo) → IsTrue (has_reply_place t q) → IsTrue (has_reply_place u q)) → ((n : List ℕ) → IsTrue (has_name_place t.names n) → IsTrue (has_name_place u.names n)) → (c : Command) → IsTrue (has_places t c) → IsTrue (has_places u c)
+places_stay t u replies names c h = both (has_reply_place t c.request) (has_op_place t.names c.op) (has_reply_place u c.request) (has_op_place u.names c.op) (replies c.request) (name_places_stay t.names u.names names c.op) h
 
-pub places_from : (t : Tables) (c : Command) → IsTrue (has_reply_place t c.request) → IsTrue (has_op_place t c.op) → IsTrue (has_places t c)
+pub places_from : (t : Tables) (c : Command) → IsTrue (has_reply_place t c.request) → IsTrue (has_op_place t.names c.op) → IsTrue (has_places t c)
 places_from t c h k = rw (h, k)

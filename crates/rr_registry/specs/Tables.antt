@@ -1,4 +1,4 @@
-use Rattle.std.specs.Prelude.{◌≡◌, ℕ, Bool, true, ◌&&◌, ◌||◌, List, [], length, is_some, IsTrue}
+use Rattle.std.specs.Prelude.{◌≡◌, ⊤, ℕ, ◌<◌, Bool, true, false, ◌&&◌, ◌||◌, List, [], length, None, is_some, IsTrue}
 use Rattle.std.specs.List.{list_any}
 use Rattle.std.specs.Ordering.{nat_cmp}
 use Rattle.std.specs.Cmp.Lexicographic.{slice_cmp}
@@ -8,14 +8,17 @@ use Rattle.rr_types.specs.declared.command.RequestNo.{RequestNo}
 use Rattle.rr_types.specs.declared.command.Op.{Op}
 use Rattle.rr_types.specs.declared.command.Op.TheVariants.{Claim, Update, Release, Transfer}
 use Rattle.rr_types.specs.declared.command.Command.{Command}
-use Rattle.rr_types.specs.Registry.{Bindings, holding_of, is_same_request}
+use Rattle.rr_types.specs.Registry.{Bindings, holding_of, bind, is_same_request}
+use Rattle.rr_registry.specs.declared.names.Names.{Names}
+use Rattle.rr_registry.specs.declared.names.Effect.{Effect}
+use Rattle.rr_registry.specs.declared.names.Effect.TheVariants.{Nothing, Bind, Replace, Free}
 use Rattle.rr_registry.specs.declared.tables.Tables.{Tables}
 use Rattle.rr_registry.specs.Kept.{Kept, request_cmp, kept_reply}
 use Rattle.rr_places.specs.Places.{filled, has_place}
 
 -- the bound names
-abbrev pub bindings_in : Tables → Bindings
-bindings_in t = filled t.names.entries
+abbrev pub bindings_in : Names → Bindings
+bindings_in t = filled t.places.entries
 
 -- the name free
 abbrev pub unbind : Bindings → List ℕ → Bindings
@@ -23,18 +26,18 @@ unbind m name = remove_entry (bytes_eq name) m
 
 -- the bound names and the kept replies
 abbrev pub kept_in : Tables → Kept
-kept_in t = record { bindings = filled t.names.entries; replies = filled t.replies.entries }
+kept_in t = record { bindings = bindings_in t.names; replies = filled t.replies.entries }
 
 -- whether a name has a place
-abbrev pub has_name_place : Tables → List ℕ → Bool
-has_name_place t name = has_place (slice_cmp nat_cmp) t.names.entries name
+abbrev pub has_name_place : Names → List ℕ → Bool
+has_name_place t name = has_place (slice_cmp nat_cmp) t.places.entries name
 
 -- whether a request has a place for its reply
 abbrev pub has_reply_place : Tables → RequestNo → Bool
 has_reply_place t q = has_place request_cmp t.replies.entries q
 
 -- whether the name that an operation may bind has a place
-abbrev pub has_op_place : Tables → Op → Bool
+abbrev pub has_op_place : Names → Op → Bool
 has_op_place t (Claim name value) = has_name_place t name
 has_op_place t (Update name value) = true
 has_op_place t (Release name) = true
@@ -42,11 +45,11 @@ has_op_place t (Transfer name owner) = true
 
 -- whether a command has its places: it can then be applied without memory
 abbrev pub has_places : Tables → Command → Bool
-has_places t c = has_reply_place t c.request && has_op_place t c.op
+has_places t c = has_reply_place t c.request && has_op_place t.names c.op
 
 -- the count is that of the bound names
-abbrev pub IsCounted : Tables → Type 0
-IsCounted t = t.bound ≡ length (filled t.names.entries)
+abbrev pub IsCounted : Names → Type 0
+IsCounted t = t.bound ≡ length (bindings_in t)
 
 -- the name that an operation is about
 abbrev pub name_of : Op → List ℕ
@@ -55,9 +58,34 @@ name_of (Update name value) = name
 name_of (Release name) = name
 name_of (Transfer name owner) = name
 
+-- whether an operation is a claim
+abbrev pub is_claim : Op → Bool
+is_claim (Claim name value) = true
+is_claim (Update name value) = false
+is_claim (Release name) = false
+is_claim (Transfer name owner) = false
+
+-- the bound names once an operation had this effect on its name
+abbrev pub effected : Bindings → List ℕ → Effect → Bindings
+effected m name Nothing = m
+effected m name (Bind h) = bind m name h.owner h.value
+effected m name (Replace h) = bind m name h.owner h.value
+effected m name Free = unbind m name
+
+-- whether an operation can have this effect: a claim binds a free name while there is room, the others are about a bound name
+abbrev pub CanHave : Names → Op → Effect → Type 0
+CanHave t op Nothing = ⊤
+CanHave t op (Bind h) = IsTrue (is_claim op) × (holding_of (bindings_in t) (name_of op) ≡ None) × (t.bound < 4096)
+CanHave t op (Replace h) = IsTrue (is_some (holding_of (bindings_in t) (name_of op)))
+CanHave t op Free = IsTrue (is_some (holding_of (bindings_in t) (name_of op)))
+
+-- each name with a place is bound
+abbrev pub HasNoFreeName : Names → Type 0
+HasNoFreeName t = (n : List ℕ) → IsTrue (has_name_place t n) → IsTrue (is_some (holding_of (bindings_in t) n))
+
 -- the free places are of these commands: each other name with a place is bound, and each other request with one has a reply
 pub record HasFreeOnlyFor (t : Tables) (cs : List Command) : Type 0 where
-  pub names : (n : List ℕ) → IsTrue (has_name_place t n) → IsTrue (is_some (holding_of (bindings_in t) n) || list_any (λ c. bytes_eq (name_of c.op) n) cs)
+  pub names : (n : List ℕ) → IsTrue (has_name_place t.names n) → IsTrue (is_some (holding_of (bindings_in t.names) n) || list_any (λ c. bytes_eq (name_of c.op) n) cs)
   pub replies : (q : RequestNo) → IsTrue (has_reply_place t q) → IsTrue (is_some (kept_reply (kept_in t) q) || list_any (λ c. is_same_request c.request q) cs)
 
 -- no place is free: a registry keeps the places of its bound names and kept replies alone

@@ -4,10 +4,11 @@
 
 mod entries;
 mod holding;
+mod names;
 mod registry;
 mod tables;
 
 pub use entries::Entries;
 pub use holding::Holding;
+pub use names::MAX_BOUND;
 pub use registry::Registry;
-pub use tables::MAX_BOUND;

@@ -29,7 +29,7 @@ impl Model for Registry {
 
     ghost view = { λ r. kept_in r.tables };
 
-    ghost invariant = { λ r. IsCounted r.tables × HasNoFree r.tables };
+    ghost invariant = { λ r. IsCounted r.tables.names × HasNoFree r.tables };
 }
 
 impl Registry {
@@ -66,17 +66,7 @@ impl Registry {
         ensures refused { IfErr result (λ e. e ≡ Refusal.OutOfMemory) }
         ensures of_list { (L : List Command) → self.old ≡ kept_of L → OnOk result (self.new ≡ kept_of (L ++ commands.now)) }
     {
-        match self.tables.make_all_places(commands) {
-            Ok(()) => {
-                self.tables.perform_all(commands);
-                self.tables.drop_free_places(commands);
-                Ok(())
-            }
-            Err(refusal) => {
-                self.tables.drop_free_places(commands);
-                Err(refusal)
-            }
-        }
+        self.tables.apply_all(commands)
     }
 
     /// The reply to a request that was applied. It takes no memory.

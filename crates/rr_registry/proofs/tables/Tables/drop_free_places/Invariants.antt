@@ -7,6 +7,6 @@ abbrev pub invariant-loop-command : goal.invariant-loop-command
 invariant-loop-command l =
     record {
       kept : kept_in l.self ≡ kept_in l.fn.self;
-      count : l.self.bound ≡ l.fn.self.bound;
+      count : l.self.names.bound ≡ l.fn.self.names.bound;
       free : HasFreeOnlyFor l.self (drop l.command-index l.commands);
     }

@@ -8,7 +8,7 @@ abbrev pub invariant-loop-command : goal.invariant-loop-command
 invariant-loop-command l =
     record {
       kept : kept_in l.self ≡ kept_in l.fn.self;
-      count : l.self.bound ≡ l.fn.self.bound;
+      count : l.self.names.bound ≡ l.fn.self.names.bound;
       made : All (λ c. IsTrue (has_places l.self c)) (take l.command-index l.commands);
       free : HasFreeOnlyFor l.self l.commands;
     }

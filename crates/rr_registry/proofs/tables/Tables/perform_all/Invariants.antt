@@ -9,7 +9,7 @@ abbrev pub invariant-loop-command : goal.invariant-loop-command
 invariant-loop-command l =
     record {
       kept : applied_all (kept_in l.self) (drop l.command-index l.commands) ≡ applied_all (kept_in l.fn.self) l.commands;
-      counted : IsCounted l.self;
+      counted : IsCounted l.self.names;
       places : (c : Command) → has_places l.self c ≡ has_places l.fn.self c;
       free : HasFreeOnlyFor l.self l.commands;
     }

@@ -2,7 +2,7 @@ use Rattle.std.proofs.Common.{◌∙◌, arith}
 use Rattle.std.proofs.lemmas.Map.Lookups.{exact_bytes}
 use Rattle.rr_registry.proofs.TableLemmas.{lookup-name, remove-name}
 use Rattle.rr_registry.specs.Tables.{bindings_in}
-use Rattle.rr_registry.proofs.tables.Tables.unbind.Goals as goal
+use Rattle.rr_registry.proofs.names.Names.unbind.Goals as goal
 
 pub put-requires-clause-exact : goal.put-requires-clause-exact
 put-requires-clause-exact c = exact_bytes

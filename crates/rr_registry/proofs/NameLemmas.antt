@@ -1,0 +1,69 @@
+-- How many names are bound, and which of them have places, as operations have their effects.
+use Rattle.std.proofs.Common.{◌≡◌, ℕ, ◌+◌, Bool, true, false, ◌||◌, List, [], ◌∷◌, length, None, Ordering, is_some, IsTrue, refl, ap, sym, ◌∙◌, arith, subst}
+use Rattle.std.specs.declared.cmp.Ordering.TheVariants.{Less, Equal, Greater}
+use Rattle.std.specs.Ordering.{nat_cmp}
+use Rattle.std.specs.Cmp.Lexicographic.{slice_cmp}
+use Rattle.std.specs.Str.{bytes_eq}
+use Rattle.std.specs.BTreeMap.{insert_entry, is_at}
+use Rattle.std.specs.Map.{lookup, remove_entry}
+use Rattle.std.proofs.lemmas.Cmp.{nat_list_cmp_total}
+use Rattle.std.proofs.lemmas.Map.Lookups.{exact_bytes}
+use Rattle.std.proofs.lemmas.Map.Text.{is_eq-slice_cmp}
+use Rattle.std.proofs.lemmas.Slice.Eq.{bytes_eq-Decides}
+use Rattle.rr_types.specs.Registry.{Holding, Bindings, holding_of}
+use Rattle.rr_registry.specs.declared.names.Names.{Names}
+use Rattle.rr_places.proofs.PlaceLemmas.{place_of_value}
+use Rattle.rr_registry.specs.Tables.{bindings_in, has_name_place}
+use Rattle.rr_registry.proofs.TableLemmas.{lookup-name}
+use Rattle.rr_registry.proofs.KeptLemmas.{lookup-insert_entry}
+use Rattle.rr_registry.proofs.FreeLemmas.{alone, bind_stays, remove_stays}
+
+module _ {K X : Type 0} where
+  inserted_first : (R : K → K → Ordering) (k : K) (v : X) (e : K × X) (es : List (K × X)) → (lookup (is_at (R k)) es ≡ None → length (insert_entry R es k v) ≡ length es + 1) → lookup (is_at (R k)) (e ∷ es) ≡ None → (o : Ordering) → R k e.0 ≡ o → length (insert_entry R (e ∷ es) k v) ≡ length (e ∷ es) + 1
+  inserted_first R k v e es more none Less h = rw h (omega arith)
+  inserted_first R k v e es more none Equal h = let m = rw h at none in cc
+  inserted_first R k v e es more none Greater h = rw h (let m = more (rw h at none) in omega arith)
+
+  -- a new key is one entry more
+  pub length_inserted : (R : K → K → Ordering) (k : K) (v : X) (es : List (K × X)) → lookup (is_at (R k)) es ≡ None → length (insert_entry R es k v) ≡ length es + 1
+  length_inserted R k v [] none = refl
+  length_inserted R k v (e ∷ es) none = inserted_first R k v e es (length_inserted R k v es) none (R k e.0) refl
+
+  removed_first : (test : K → Bool) (e : K × X) (es : List (K × X)) → (is_some (lookup test es) ≡ true → length (remove_entry test es) + 1 ≡ length es) → is_some (lookup test (e ∷ es)) ≡ true → (b : Bool) → test e.0 ≡ b → length (remove_entry test (e ∷ es)) + 1 ≡ length (e ∷ es)
+  removed_first test e es more some true h = rw h (omega arith)
+  removed_first test e es more some false h = rw h (let m = more (rw h at some) in omega arith)
+
+  -- and a key that goes is one less
+  pub length_removed : (test : K → Bool) (es : List (K × X)) → is_some (lookup test es) ≡ true → length (remove_entry test es) + 1 ≡ length es
+  length_removed test [] some = cc
+  length_removed test (e ∷ es) some = removed_first test e es (length_removed test es) some (test e.0) refl
+
+-- a bound name has a place
+pub place_of_bound : (t : Names) (n : List ℕ) → IsTrue (is_some (holding_of (bindings_in t) n)) → IsTrue (has_name_place t n)
+place_of_bound t n h = place_of_value (is_at (slice_cmp nat_cmp n)) t.places.entries (ap is_some (lookup-name n (bindings_in t)) ∙ h)
+
+bound_now : (m : Bindings) (k : List ℕ) (x : Holding) → is_some (holding_of (insert_entry (slice_cmp nat_cmp) m k x) k) ≡ true
+bound_now m k x =
+    let here : is_at (slice_cmp nat_cmp k) k ≡ true = is_eq-slice_cmp k k ∙ (bytes_eq-Decides k k).1 refl in
+    ap is_some (sym (lookup-name k (insert_entry (slice_cmp nat_cmp) m k x)) ∙ lookup-insert_entry (slice_cmp nat_cmp) nat_list_cmp_total exact_bytes k x m k)
+    ∙ rw here
+
+bound_at : (m : Bindings) (k : List ℕ) (x : Holding) (p q : List ℕ → Bool) → ((n : List ℕ) → is_at (slice_cmp nat_cmp k) n ≡ false → q n ≡ p n) → ((n : List ℕ) → p n ≡ true → is_some (holding_of m n) ≡ true) → (n : List ℕ) → q n ≡ true → (b : Bool) → bytes_eq k n ≡ b → is_some (holding_of (insert_entry (slice_cmp nat_cmp) m k x) n) ≡ true
+bound_at m k x p q others free n there true h = subst (λ (y : List ℕ). is_some (holding_of (insert_entry (slice_cmp nat_cmp) m k x) y) ≡ true) ((bytes_eq-Decides k n).0 h) (bound_now m k x)
+bound_at m k x p q others free n there false h = bind_stays m k x n (free n (sym (others n (is_eq-slice_cmp k n ∙ h)) ∙ there))
+
+-- a name bound where no place is free: p says which had places, q which have
+pub bound_alone : (m : Bindings) (k : List ℕ) (x : Holding) (p q : List ℕ → Bool) → ((n : List ℕ) → is_at (slice_cmp nat_cmp k) n ≡ false → q n ≡ p n) → ((n : List ℕ) → p n ≡ true → is_some (holding_of m n) ≡ true) → (n : List ℕ) → q n ≡ true → is_some (holding_of (insert_entry (slice_cmp nat_cmp) m k x) n) ≡ true
+bound_alone m k x p q others free n there = bound_at m k x p q others free n there (bytes_eq k n) refl
+
+freed_at : (m : Bindings) (k : List ℕ) (p q : List ℕ → Bool) → q k ≡ false → ((n : List ℕ) → is_at (slice_cmp nat_cmp k) n ≡ false → q n ≡ p n) → ((n : List ℕ) → p n ≡ true → is_some (holding_of m n) ≡ true) → (n : List ℕ) → q n ≡ true → (b : Bool) → bytes_eq k n ≡ b → is_some (holding_of (remove_entry (bytes_eq k) m) n) ≡ true
+freed_at m k p q gone others free n there true h =
+    let none : q n ≡ false = subst (λ (y : List ℕ). q y ≡ false) ((bytes_eq-Decides k n).0 h) gone in
+    cc
+freed_at m k p q gone others free n there false h =
+    let bound = is_some (holding_of (remove_entry (bytes_eq k) m) n) in
+    alone bound (ap (λ b. bound || b) (sym h) ∙ remove_stays k n m (free n (sym (others n (is_eq-slice_cmp k n ∙ h)) ∙ there)))
+
+-- a name freed, and its place gone with it
+pub freed_alone : (m : Bindings) (k : List ℕ) (p q : List ℕ → Bool) → q k ≡ false → ((n : List ℕ) → is_at (slice_cmp nat_cmp k) n ≡ false → q n ≡ p n) → ((n : List ℕ) → p n ≡ true → is_some (holding_of m n) ≡ true) → (n : List ℕ) → q n ≡ true → is_some (holding_of (remove_entry (bytes_eq k) m) n) ≡ true
+freed_alone m k p q gone others free n there = freed_at m k p q gone others free n there (bytes_eq k n) refl

@@ -1,0 +1,37 @@
+use Rattle.std.proofs.Common.{◌≡◌, None, true, is_some, arith}
+use Rattle.std.specs.BTreeMap.{insert_entry, is_at}
+use Rattle.std.specs.BTreeMap.Entry.{entry_map_ref, map_with_value}
+use Rattle.std.specs.Map.{lookup}
+use Rattle.std.proofs.lemmas.Grind.{common_steps}
+use Rattle.rr_registry.specs.Kept.{request_cmp}
+use Rattle.rr_registry.proofs.AloneLemmas.{known_alone, same_free, applied_alone, free_alone}
+use Rattle.rr_registry.proofs.tables.Tables.apply_one.Goals as goal
+
+pub returns-in-Occupied-clause-kept : goal.returns-in-Occupied-clause-kept
+returns-in-Occupied-clause-kept c =
+    let place : is_some (lookup (is_at (request_cmp c.args.command.now.request)) c.args.self.now.replies.entries) ≡ true =
+    (let found = c.in_ok-_kept.ensures.found in grind (arith, common_steps)) in
+    let known = known_alone c.args.self.now c.args.command.now c.requires.free place in
+    let unchanged : (entry_map_ref c.in_ok-_kept.field-0).now.entries ≡ c.args.self.now.replies.entries = c.in_ok-_kept.ensures.unchanged in
+    grind (arith, common_steps)
+
+pub returns-in-Occupied-clause-free : goal.returns-in-Occupied-clause-free
+returns-in-Occupied-clause-free c =
+    let unchanged : (entry_map_ref c.in_ok-_kept.field-0).now.entries ≡ c.args.self.now.replies.entries = c.in_ok-_kept.ensures.unchanged in
+    same_free c.args.self.now _ (grind (arith, common_steps)) c.requires.free
+
+pub returns-in_ok-try_change-in-Vacant-clause-kept : goal.returns-in_ok-try_change-in-Vacant-clause-kept
+returns-in_ok-try_change-in-Vacant-clause-kept c =
+    let found : lookup (is_at (request_cmp c.args.command.now.request)) c.args.self.now.replies.entries ≡ None =
+    (let found = c.in_ok-_kept.ensures.found in grind (arith, common_steps)) in
+    let entries : (map_with_value c.in_ok-_kept.field-0 c.insert.result.now).entries ≡ insert_entry request_cmp c.args.self.now.replies.entries c.args.command.now.request c.insert.result.now = c.in_ok-_kept.ensures.update.1 c.insert.result.now in
+    let applied = applied_alone c.args.self.now c.try_change.new.self c.args.command.now c.outcome-effect.result.0 c.outcome-effect.result.1 c.entry.ensures.ordered found c.in_ok-try_change-in-Vacant.ensures.bindings c.outcome-effect.ensures.step in
+    grind (arith, common_steps)
+
+pub returns-in_ok-try_change-in-Vacant-clause-free : goal.returns-in_ok-try_change-in-Vacant-clause-free
+returns-in_ok-try_change-in-Vacant-clause-free c =
+    let entries : (map_with_value c.in_ok-_kept.field-0 c.insert.result.now).entries ≡ insert_entry request_cmp c.args.self.now.replies.entries c.args.command.now.request c.insert.result.now = c.in_ok-_kept.ensures.update.1 c.insert.result.now in
+    free_alone c.args.self.now c.try_change.new.self _ c.args.command.now.request c.outcome-effect.result.1 c.entry.ensures.ordered
+    (grind (arith, common_steps))
+    c.requires.free
+    c.try_change.ensures.free

@@ -1,0 +1,240 @@
+//! The bound names, and what an operation does to its name.
+
+ghost use Rattle.std.specs.Prelude.{◌≡◌, ℕ, List, [], ◌+◌, length, false, is_some, IsTrue, IsSome, OnOk, OnErr};
+ghost use Rattle.std.specs.Str.{bytes_eq};
+ghost use Rattle.rr_types.specs.Registry.{holding_of, apply_op, bind};
+ghost use Rattle.rr_places.specs.Places.{held};
+ghost use Rattle.rr_registry.specs.Tables.{bindings_in, effected, unbind, has_name_place, has_op_place, name_of, CanHave, IsCounted, HasNoFreeName};
+
+use crate::entries::Entries;
+use crate::holding::Holding;
+use rr_places::{drop_free_place, insert, make_place, put, value_at};
+use rr_types::{Name, Op, Reply, Value};
+use std::alloc::{AllocError, Global};
+use std::collections::BTreeMap;
+
+/// The most names that are bound at a time.
+pub const MAX_BOUND: usize = 4096;
+
+/// What an operation does to its name.
+#[derive(Clone, Copy, Debug)]
+pub(crate) enum Effect {
+    /// The name stays as it is.
+    Nothing,
+    /// A free name gets an owner and a value.
+    Bind(Holding),
+    /// A bound name gets another owner or another value.
+    Replace(Holding),
+    /// A bound name gets free.
+    Free,
+}
+
+/// A place for each bound name. Others have one only from `make_place` to `drop_free_place`.
+#[derive(Drop)]
+pub(crate) struct Names {
+    places: BTreeMap<Name, Option<Holding>>,
+    bound: usize,
+}
+
+impl Names {
+    pub(crate) fn new(alloc: Global) -> Names
+        ensures empty { bindings_in result ≡ [] }
+        ensures counted { IsCounted result }
+        ensures free { (n : List ℕ) → has_name_place result n ≡ false }
+    {
+        Names {
+            places: BTreeMap::new(alloc),
+            bound: 0,
+        }
+    }
+
+    /// Who has a name.
+    pub(crate) fn holding(&self, name: &Name) -> Option<Holding>
+        ensures value { result ≡ holding_of (bindings_in self.now) name.now }
+        ensures place { IsSome result → IsTrue (has_name_place self.now name.now) }
+    {
+        value_at(&self.places, name)
+    }
+
+    /// The bound names in byte order.
+    pub(crate) fn entries(&self) -> Entries<'_>
+        ensures { result ≡ bindings_in self.now }
+    {
+        Entries::new(self.places.iter())
+    }
+
+    /// Binds a name that has a place, whether it is bound or not.
+    fn bind(&mut self, name: &Name, holding: Holding)
+        requires { IsTrue (has_name_place self.old name.now) }
+        ensures bindings { bindings_in self.new ≡ bind (bindings_in self.old) name.now holding.owner holding.value }
+        ensures count { length (bindings_in self.new) + held (holding_of (bindings_in self.old) name.now) ≡ length (bindings_in self.old) + 1 }
+        ensures places { (n : List ℕ) → has_name_place self.new n ≡ has_name_place self.old n }
+        ensures bound { self.new.bound ≡ self.old.bound }
+    {
+        put(&mut self.places, *name, Some(holding));
+    }
+
+    /// Frees a name that has a place, whether it is bound or not. The place stays.
+    fn unbind(&mut self, name: &Name)
+        requires { IsTrue (has_name_place self.old name.now) }
+        ensures bindings { bindings_in self.new ≡ unbind (bindings_in self.old) name.now }
+        ensures count { length (bindings_in self.new) + held (holding_of (bindings_in self.old) name.now) ≡ length (bindings_in self.old) }
+        ensures places { (n : List ℕ) → has_name_place self.new n ≡ has_name_place self.old n }
+        ensures bound { self.new.bound ≡ self.old.bound }
+    {
+        put(&mut self.places, *name, None);
+    }
+
+    fn claim(&self, client: u32, name: &Name, value: &Value) -> (Effect, Reply)
+        requires { IsCounted self.now }
+        ensures step { (effected (bindings_in self.now) name.now result.0, result.1) ≡ apply_op (bindings_in self.now) client (Op.Claim name.now value.now) }
+        ensures can { CanHave self.now (Op.Claim name.now value.now) result.0 }
+    {
+        if let Some(holding) = self.holding(name) {
+            return (Effect::Nothing, Reply::Taken(holding.owner()));
+        }
+        if self.bound >= MAX_BOUND {
+            return (Effect::Nothing, Reply::Full);
+        }
+        (Effect::Bind(Holding::new(client, *value)), Reply::Claimed)
+    }
+
+    fn update(&self, client: u32, name: &Name, value: &Value) -> (Effect, Reply)
+        ensures step { (effected (bindings_in self.now) name.now result.0, result.1) ≡ apply_op (bindings_in self.now) client (Op.Update name.now value.now) }
+        ensures can { CanHave self.now (Op.Update name.now value.now) result.0 }
+    {
+        match self.holding(name) {
+            None => (Effect::Nothing, Reply::Unknown),
+            Some(present) if present.owner() == client => {
+                let given = Holding::new(client, *value);
+                (Effect::Replace(given), Reply::Updated)
+            }
+            Some(_) => (Effect::Nothing, Reply::NotOwner),
+        }
+    }
+
+    fn release(&self, client: u32, name: &Name) -> (Effect, Reply)
+        ensures step { (effected (bindings_in self.now) name.now result.0, result.1) ≡ apply_op (bindings_in self.now) client (Op.Release name.now) }
+        ensures can { CanHave self.now (Op.Release name.now) result.0 }
+    {
+        match self.holding(name) {
+            None => (Effect::Nothing, Reply::Unknown),
+            Some(holding) if holding.owner() == client => (Effect::Free, Reply::Released),
+            Some(_) => (Effect::Nothing, Reply::NotOwner),
+        }
+    }
+
+    fn transfer(&self, client: u32, name: &Name, owner: u32) -> (Effect, Reply)
+        ensures step { (effected (bindings_in self.now) name.now result.0, result.1) ≡ apply_op (bindings_in self.now) client (Op.Transfer name.now owner) }
+        ensures can { CanHave self.now (Op.Transfer name.now owner) result.0 }
+    {
+        match self.holding(name) {
+            None => (Effect::Nothing, Reply::Unknown),
+            Some(holding) if holding.owner() == client => {
+                let given = Holding::new(owner, holding.value());
+                (Effect::Replace(given), Reply::Transferred)
+            }
+            Some(_) => (Effect::Nothing, Reply::NotOwner),
+        }
+    }
+
+    /// What an operation does to its name for a client, and the reply to it.
+    pub(crate) fn outcome(&self, client: u32, op: &Op) -> (Effect, Reply)
+        requires { IsCounted self.now }
+        ensures step { (effected (bindings_in self.now) (name_of op.now) result.0, result.1) ≡ apply_op (bindings_in self.now) client op.now }
+        ensures can { CanHave self.now op.now result.0 }
+    {
+        match op {
+            Op::Claim(name, value) => self.claim(client, name, value),
+            Op::Update(name, value) => self.update(client, name, value),
+            Op::Release(name) => self.release(client, name),
+            Op::Transfer(name, owner) => self.transfer(client, name, *owner),
+        }
+    }
+
+    /// Has an operation's effect on its name. It takes no memory, as the operation has its place. The place stays.
+    pub(crate) fn change(&mut self, op: &Op, effect: Effect)
+        requires place { IsTrue (has_op_place self.old op.now) }
+        requires can { CanHave self.old op.now effect }
+        requires counted { IsCounted self.old }
+        ensures bindings { bindings_in self.new ≡ effected (bindings_in self.old) (name_of op.now) effect }
+        ensures counted { IsCounted self.new }
+        ensures places { (n : List ℕ) → has_name_place self.new n ≡ has_name_place self.old n }
+    {
+        let name = name_of(op);
+        match effect {
+            Effect::Nothing => (),
+            Effect::Bind(holding) => {
+                self.bind(name, holding);
+                self.bound += 1;
+            }
+            Effect::Replace(holding) => self.bind(name, holding),
+            Effect::Free => {
+                self.unbind(name);
+                self.bound -= 1;
+            }
+        }
+    }
+
+    /// The same where no place is free, and none is left so. Where memory is refused the names are as they were.
+    pub(crate) fn try_change(&mut self, op: &Op, effect: Effect) -> Result<(), AllocError>
+        requires can { CanHave self.old op.now effect }
+        requires counted { IsCounted self.old }
+        requires free { HasNoFreeName self.old }
+        ensures bindings { OnOk result (bindings_in self.new ≡ effected (bindings_in self.old) (name_of op.now) effect) }
+        ensures err { OnErr result (bindings_in self.new ≡ bindings_in self.old) }
+        ensures counted { IsCounted self.new }
+        ensures free { HasNoFreeName self.new }
+    {
+        let name = name_of(op);
+        match effect {
+            Effect::Nothing => (),
+            Effect::Bind(holding) => {
+                insert(&mut self.places, *name, holding)?;
+                self.bound += 1;
+            }
+            Effect::Replace(holding) => self.bind(name, holding),
+            Effect::Free => {
+                self.places.remove(name);
+                self.bound -= 1;
+            }
+        }
+        Ok(())
+    }
+
+    /// Makes the place that an operation needs.
+    pub(crate) fn make_place(&mut self, op: &Op) -> Result<(), AllocError>
+        ensures bindings { bindings_in self.new ≡ bindings_in self.old }
+        ensures bound { self.new.bound ≡ self.old.bound }
+        ensures made { OnOk result (IsTrue (has_op_place self.new op.now)) }
+        ensures stay { (n : List ℕ) → IsTrue (has_name_place self.old n) → IsTrue (has_name_place self.new n) }
+        ensures only { (n : List ℕ) → bytes_eq (name_of op.now) n ≡ false → has_name_place self.new n ≡ has_name_place self.old n }
+    {
+        match op {
+            Op::Claim(name, _) => make_place(&mut self.places, *name),
+            Op::Update(_, _) => Ok(()),
+            Op::Release(_) => Ok(()),
+            Op::Transfer(_, _) => Ok(()),
+        }
+    }
+
+    /// Takes away the place of an operation's name if it is free.
+    pub(crate) fn drop_free_place(&mut self, op: &Op)
+        ensures bindings { bindings_in self.new ≡ bindings_in self.old }
+        ensures bound { self.new.bound ≡ self.old.bound }
+        ensures gone { has_name_place self.new (name_of op.now) ≡ is_some (holding_of (bindings_in self.old) (name_of op.now)) }
+        ensures only { (n : List ℕ) → bytes_eq (name_of op.now) n ≡ false → has_name_place self.new n ≡ has_name_place self.old n }
+    {
+        drop_free_place(&mut self.places, name_of(op));
+    }
+}
+
+/// The name that an operation is about.
+fn name_of(op: &Op) -> &Name
+    ensures { result.now ≡ name_of op.now }
+{
+    match op {
+        Op::Claim(name, _) | Op::Update(name, _) | Op::Release(name) | Op::Transfer(name, _) =>
+            name,
+    }
+}
