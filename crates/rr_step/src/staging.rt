@@ -11,6 +11,15 @@ use rr_instance::{Row, instance_of};
 use rr_types::{Fact, Refusal, Standing};
 use std::alloc::Global;
 
+/// The row of an instance after its first fact, which has this number.
+fn first_row(alloc: Global, number: u128, fact: &Fact, standing: &Standing) -> Row
+    ensures { result ≡ row_after number fact.now standing.now (fresh_row (instance_of fact.now) standing.now) }
+{
+    let mut row = Row::fresh(alloc, instance_of(fact), *standing);
+    row.advance(number, fact, *standing);
+    row
+}
+
 /// The row of an instance after a fact with this number, where it then stands so.
 pub fn row_changed(
     alloc: Global,
@@ -25,10 +34,6 @@ pub fn row_changed(
     let instance = instance_of(fact);
     match step.row(instance) {
         Some(row) => row.after(alloc, number, fact, standing),
-        None => {
-            let mut row = Row::fresh(alloc, instance, standing);
-            row.advance(number, fact, standing);
-            Ok(row)
-        }
+        None => Ok(first_row(alloc, number, fact, &standing)),
     }
 }

@@ -194,6 +194,7 @@ impl<'a> Step<'a> {
     }
 
     /// The row of an instance.
+    #[inline(always)]
     pub fn row(&self, instance: Instance) -> Option<&Row>
         ensures { MatchOption result (row_of self.now.state.rows instance ≡ None) (λ r. row_of self.now.state.rows instance ≡ Some r.now) }
     {
@@ -201,6 +202,7 @@ impl<'a> Step<'a> {
     }
 
     /// Where an instance stands by all facts.
+    #[inline(always)]
     pub fn standing(&self, instance: Instance) -> Option<Standing>
         ensures { result ≡ standing_at self.now.state instance }
     {
