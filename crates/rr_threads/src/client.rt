@@ -4,12 +4,11 @@ use crate::desk::Desk;
 use crate::recorder::Recorder;
 use crate::rest::{LONG, Rest};
 use crate::running::Running;
-use crate::shared::Shared;
 use rr_locked::{Place, Turnstile, submit_on};
 use rr_script::{Answer, ScriptLine};
 use rr_types::{Command, Name, NodeId, Op, Refusal, Reply, RequestNo, Value};
 use rr_window::{Receipt, Seat, Sight, WindowName};
-use std::sync::Wait;
+use std::sync::{Mutex, Wait};
 
 /// So many times a client looks for its receipt before it gives up.
 const POLLS: u32 = 10_000_000;
@@ -67,26 +66,28 @@ fn leaves_a_gap(refusal: &Refusal) -> bool {
 /// Submits a command, and learns of its receipt. A run ends whose tape may lack the submit.
 fn submit<W: WindowName, T: Turnstile, R: Wait>(
     rt: &R,
-    shared: &Shared<'_, T>,
+    running: &Running,
     desk: &Desk<W>,
+    recorder: Option<&Recorder>,
+    turnstile: &T,
+    node: NodeId,
     seat: &mut Seat<W>,
     command: &Command,
 ) -> Answer {
-    let node = desk.node;
     let request = command.request;
-    let asked = ask(rt, desk, shared.recorder, command);
-    shared.turnstile.pass(node, Place::AfterSubmit);
+    let asked = ask(rt, desk, recorder, command);
+    turnstile.pass(node, Place::AfterSubmit);
     match asked {
         Err(refusal) => {
-            if shared.recorder.is_some() && leaves_a_gap(&refusal) {
-                shared.running.fail(rt, node, refusal);
+            if recorder.is_some() && leaves_a_gap(&refusal) {
+                running.fail(rt, node, refusal);
             }
             return Answer::Unacknowledged { node, request };
         }
         Ok(true) => desk.publisher.unpark(),
-        Ok(false) => shared.running.ring(node),
+        Ok(false) => running.ring(node),
     }
-    match receipt_for(rt, &shared.running, desk, request) {
+    match receipt_for(rt, running, desk, request) {
         None => Answer::Unacknowledged { node, request },
         Some(receipt) => {
             seat.learn(&receipt);
@@ -121,40 +122,51 @@ fn look<W: WindowName>(node: NodeId, seat: &mut Seat<W>, name: &Name) -> Answer 
 /// Asks what a line asks.
 fn answer<W: WindowName, T: Turnstile, R: Wait>(
     rt: &R,
-    shared: &Shared<'_, T>,
+    running: &Running,
     desk: &Desk<W>,
+    recorder: Option<&Recorder>,
+    turnstile: &T,
+    node: NodeId,
     seat: &mut Seat<W>,
     line: &ScriptLine,
 ) -> Answer {
     let _parts: Option<(Answer, ScriptLine, Command, Op, Name, Reply, Value)> = None;
     match line {
-        ScriptLine::Submit { node: _, command } => submit(rt, shared, desk, seat, command),
-        ScriptLine::Look { node: _, name } => look(desk.node, seat, name),
+        ScriptLine::Submit { node: _, command } => submit(
+            rt, running, desk, recorder, turnstile, node, seat, command,
+        ),
+        ScriptLine::Look { node: _, name } => look(node, seat, name),
     }
 }
 
 /// Asks what the lines of a script ask of this node, in their order, until the run is over.
 pub fn serve<W: WindowName, T: Turnstile, R: Wait>(
     rt: &R,
-    shared: &Shared<'_, T>,
+    running: &Running,
     desk: &Desk<W>,
+    recorder: Option<&Recorder>,
+    turnstile: &T,
+    node: NodeId,
     seat: Seat<W>,
+    lines: &[ScriptLine],
+    answers: &Mutex<Vec<Answered>>,
 ) {
     let _parts: Option<(Answer, ScriptLine, Command, Op, Name, Reply, Value)> = None;
     let mut seat = seat;
-    let lines = shared.lines;
     for place in 0..lines.len() {
         let line = &lines[place];
-        if line.node().index() == desk.node.index() {
-            let answer = answer(rt, shared, desk, &mut seat, line);
-            let pushed = shared.answers.lock(rt).push(Answered { place, answer });
+        if line.node().index() == node.index() {
+            let answer = answer(
+                rt, running, desk, recorder, turnstile, node, &mut seat, line,
+            );
+            let pushed = answers.lock(rt).push(Answered { place, answer });
             if pushed.is_err() {
-                shared.running.fail(rt, desk.node, Refusal::OutOfMemory);
+                running.fail(rt, node, Refusal::OutOfMemory);
             }
-            if shared.running.is_over() {
+            if running.is_over() {
                 break;
             }
         }
     }
-    shared.running.leave(rt);
+    running.leave(rt);
 }

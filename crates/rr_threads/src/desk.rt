@@ -1,16 +1,15 @@
 //! What the threads of a node share.
 
 use rr_locked::Locked;
-use rr_types::{NodeId, Refusal, RequestNo};
+use rr_types::{Refusal, RequestNo};
 use rr_window::{Receipt, WindowName};
 use std::alloc::Global;
 use std::sync::{Mutex, Wait};
 use std::thread::Parker;
 
-/// Which node it is, the node under its lock, the receipts of its requests, and a bell for each of its other threads.
+/// A node under its lock, the receipts of its requests, and a bell for each of its other threads.
 #[derive(Drop)]
 pub struct Desk<W: WindowName> {
-    pub node: NodeId,
     pub locked: Mutex<Locked>,
     pub flusher: Parker,
     pub publisher: Parker,
@@ -20,9 +19,8 @@ pub struct Desk<W: WindowName> {
 
 impl<W: WindowName> Desk<W> {
     /// A node that is up.
-    pub fn new(alloc: Global, node: NodeId, locked: Locked) -> Desk<W> {
+    pub fn new(alloc: Global, locked: Locked) -> Desk<W> {
         Desk {
-            node,
             locked: Mutex::new(locked),
             flusher: Parker::new(),
             publisher: Parker::new(),

@@ -2,7 +2,7 @@
 
 use crate::desk::Desk;
 use crate::rest::{LONG, Rest};
-use crate::shared::Shared;
+use crate::running::Running;
 use rr_disk::Disk;
 use rr_inbox::{Giver, Taker, TrySendError};
 use rr_journal::{Journal, Synced};
@@ -22,7 +22,11 @@ pub struct Flusher<D: Disk> {
 }
 
 /// Gives back what became of a group, once there is room. Where nobody takes it, the run is over.
-fn give_back<B: Drop, R: Wait>(rt: &R, backs: &mut Giver<B>, back: B) {
+fn give_back<R: Wait>(
+    rt: &R,
+    backs: &mut Giver<Result<Synced, Unflushed>>,
+    back: Result<Synced, Unflushed>,
+) {
     let mut waiting = back;
     for _ in rt.forever() {
         match backs.give(rt, waiting) {
@@ -55,17 +59,19 @@ fn flush_next<D: Disk, T: Turnstile, R: Wait>(
 pub fn flush_all<W: WindowName, D: Disk + Drop, T: Turnstile, R: Wait>(
     rt: &R,
     alloc: Global,
-    shared: &Shared<'_, T>,
+    running: &Running,
     desk: &Desk<W>,
+    turnstile: &T,
+    node: NodeId,
     flusher: Flusher<D>,
 ) {
     let mut flusher = flusher;
     let mut rest = Rest::new(LONG);
     for _ in rt.forever() {
-        if flush_next(rt, alloc, shared.turnstile, desk.node, &mut flusher) {
+        if flush_next(rt, alloc, turnstile, node, &mut flusher) {
             rest.end();
-            shared.running.ring(desk.node);
-        } else if shared.running.is_over() {
+            running.ring(node);
+        } else if running.is_over() {
             break;
         } else {
             rest.wait(rt, &desk.flusher);

@@ -12,7 +12,6 @@ mod recorder;
 mod rest;
 mod run;
 mod running;
-mod shared;
 
 pub use recorder::Recorder;
 pub use run::run_script;

@@ -1,13 +1,12 @@
 //! Runs of 1 to 7 nodes.
 
-ghost use Rattle.std.specs.Prelude.{◌≡◌, ◌<◌};
+ghost use Rattle.std.specs.Prelude.{◌≡◌};
 ghost use Rattle.std.specs.Thread.{IsSend};
 
 use crate::client::Answered;
 use crate::node_run::{Part, run_part};
 use crate::recorder::Recorder;
 use crate::running::Running;
-use crate::shared::Shared;
 use rr_disk::Disk;
 use rr_inbox::{Outlet, Port};
 use rr_locked::{Sent, Turnstile};
@@ -33,52 +32,6 @@ fn ports_of(
     Ok(ports)
 }
 
-/// An inbox for each node.
-fn open_inboxes(alloc: Global, nodes: Nodes) -> Result<VecDeque<Outlet<Sent>>, Refusal> {
-    let mut inboxes = VecDeque::new(alloc);
-    for _ in 0..nodes.count() {
-        inboxes.push_back(Outlet::new(alloc)?)?;
-    }
-    Ok(inboxes)
-}
-
-/// The ends that put into each inbox, for each node.
-fn open_rows(
-    alloc: Global,
-    nodes: Nodes,
-    inboxes: &mut VecDeque<Outlet<Sent>>,
-) -> Result<VecDeque<Vec<Port<Sent>>>, Refusal> {
-    let mut rows = VecDeque::new(alloc);
-    for _ in 0..nodes.count() {
-        rows.push_back(ports_of(alloc, inboxes)?)?;
-    }
-    Ok(rows)
-}
-
-/// Opens a node of this disk.
-fn open_part<D: Disk + Drop>(
-    alloc: Global,
-    nodes: Nodes,
-    node: NodeId,
-    disk: D,
-    inbox: Outlet<Sent>,
-    ports: Vec<Port<Sent>>,
-) -> Result<Part<D>, Refusal>
-    requires exists { node < nodes }
-    requires alike { (one other : D) → D.tells one → D.tells other }
-{
-    match recover(alloc, nodes, node, disk) {
-        Ok((core, journal)) => Ok(Part {
-            node,
-            core,
-            journal,
-            inbox,
-            ports,
-        }),
-        Err((refusal, _)) => Err(refusal),
-    }
-}
-
 /// Opens the nodes of these disks, the lowest first.
 fn open_parts<D: Disk + Drop>(
     alloc: Global,
@@ -87,8 +40,14 @@ fn open_parts<D: Disk + Drop>(
 ) -> Result<Vec<Part<D>>, Refusal>
     requires alike { (one other : D) → D.tells one → D.tells other }
 {
-    let mut inboxes = open_inboxes(alloc, nodes)?;
-    let mut rows = open_rows(alloc, nodes, &mut inboxes)?;
+    let mut inboxes = VecDeque::new(alloc);
+    for _ in 0..nodes.count() {
+        inboxes.push_back(Outlet::new(alloc)?)?;
+    }
+    let mut rows = VecDeque::new(alloc);
+    for _ in 0..nodes.count() {
+        rows.push_back(ports_of(alloc, &mut inboxes)?)?;
+    }
     let mut parts = Vec::new(alloc);
     let mut index = 0u8;
     for disk in disks {
@@ -99,7 +58,16 @@ fn open_parts<D: Disk + Drop>(
         ) else {
             break;
         };
-        parts.push(open_part(alloc, nodes, node, disk, inbox, ports)?)?;
+        match recover(alloc, nodes, node, disk) {
+            Ok((core, journal)) => parts.push(Part {
+                node,
+                core,
+                journal,
+                inbox,
+                ports,
+            })?,
+            Err((refusal, _)) => return Err(refusal),
+        }
         index = index.saturating_add(1);
     }
     Ok(parts)
@@ -108,7 +76,6 @@ fn open_parts<D: Disk + Drop>(
 /// Starts a node's thread.
 fn start_node<
     's,
-    'x: 's,
     E,
     D: Disk + Drop + Send + 's,
     T: Turnstile + Sync + 's,
@@ -117,44 +84,69 @@ fn start_node<
     scope: &Scope<'s, E>,
     rt: &'s R,
     alloc: Global,
-    shared: &'s Shared<'x, T>,
+    running: &'s Running,
+    recorder: Option<&'s Recorder>,
+    turnstile: &'s T,
     part: Part<D>,
+    lines: &'s [ScriptLine],
+    answers: &'s Mutex<Vec<Answered>>,
 ) -> bool {
     scope
-        .spawn(move || run_part(rt, alloc, shared, part))
+        .spawn(move || run_part(
+            rt, alloc, running, recorder, turnstile, part, lines, answers,
+        ))
         .is_ok()
 }
 
 /// Starts a thread for each node. Where one can't be made, the run is over.
 fn start_all<
     's,
-    'x: 's,
     E,
     D: Disk + Drop + Send + 's,
     T: Turnstile + Sync + 's,
     R: Threads + Wait + Sync + 's,
->(scope: &Scope<'s, E>, rt: &'s R, alloc: Global, shared: &'s Shared<'x, T>, parts: Vec<Part<D>>) {
+>(
+    scope: &Scope<'s, E>,
+    rt: &'s R,
+    alloc: Global,
+    running: &'s Running,
+    recorder: Option<&'s Recorder>,
+    turnstile: &'s T,
+    parts: Vec<Part<D>>,
+    lines: &'s [ScriptLine],
+    answers: &'s Mutex<Vec<Answered>>,
+) {
     for part in parts {
         let node = part.node();
-        if !start_node(scope, rt, alloc, shared, part) {
-            shared.running.fail(rt, node, Refusal::OutOfMemory);
+        if !start_node(
+            scope, rt, alloc, running, recorder, turnstile, part, lines, answers,
+        ) {
+            running.fail(rt, node, Refusal::OutOfMemory);
         }
     }
 }
 
 /// All nodes at once.
-fn run_scope<'s, 'x, D: Disk + Drop + Send, T: Turnstile + Sync, R: Threads + Wait + Sync>(
-    rt: &'s R,
+fn run_scope<'x, D: Disk + Drop + Send, T: Turnstile + Sync, R: Threads + Wait + Sync>(
+    rt: &'x R,
     alloc: Global,
-    shared: &'s Shared<'x, T>,
+    running: &'x Running,
+    recorder: Option<&'x Recorder>,
+    turnstile: &'x T,
     parts: Vec<Part<D>>,
+    lines: &'x [ScriptLine],
+    answers: &'x Mutex<Vec<Answered>>,
 ) {
     thread::scope(
         thread::scope_env(),
         rt,
         |scope|
             requires { IsSend D.row }
-        { start_all(scope, rt, alloc, shared, parts) },
+        {
+            start_all(
+                scope, rt, alloc, running, recorder, turnstile, parts, lines, answers,
+            )
+        },
     );
 }
 
@@ -185,21 +177,6 @@ fn in_order(alloc: Global, count: usize, answered: &[Answered]) -> Result<Answer
     Ok(Answers::new(answers))
 }
 
-/// What a run that is over answers: the refusal of the lowest node that failed, or the answers in the order of their lines.
-fn outcome<T>(alloc: Global, shared: Shared<'_, T>) -> Result<Answers, Refusal> {
-    let Shared {
-        running,
-        recorder: _,
-        turnstile: _,
-        lines,
-        answers,
-    } = shared;
-    match running.into_refusal() {
-        Some(refusal) => Err(refusal),
-        None => in_order(alloc, lines.len(), answers.into_inner().as_slice()),
-    }
-}
-
 /// Runs nodes in threads over these disks, the first of them node 0's, with a client of each that asks what the lines of
 /// a script ask of its node, line by line; and answers the lines. A recorder makes a tape of the run, over fresh disks.
 ///
@@ -218,13 +195,14 @@ pub fn run_script<D: Disk + Drop + Send, T: Turnstile + Sync, R: Threads + Wait 
 {
     let nodes = script.nodes();
     let parts = open_parts(alloc, nodes, disks)?;
-    let shared = Shared {
-        running: Running::new(alloc, nodes.count(), parts.len())?,
-        recorder,
-        turnstile,
-        lines: script.lines(),
-        answers: Mutex::new(Vec::new(alloc)),
-    };
-    run_scope(rt, alloc, &shared, parts);
-    outcome(alloc, shared)
+    let running = Running::new(alloc, nodes.count(), parts.len())?;
+    let answers: Mutex<Vec<Answered>> = Mutex::new(Vec::new(alloc));
+    let lines = script.lines();
+    run_scope(
+        rt, alloc, &running, recorder, turnstile, parts, lines, &answers,
+    );
+    match running.into_refusal() {
+        Some(refusal) => Err(refusal),
+        None => in_order(alloc, lines.len(), answers.into_inner().as_slice()),
+    }
 }

@@ -1,4 +1,4 @@
-//! How a run ends, and how its nodes are rung.
+//! What all threads of a run share.
 
 use rr_locked::{Ending, Failure};
 use rr_types::{NodeId, Refusal};
