@@ -9,10 +9,12 @@ a copy of these crates and those below. Where the kit keeps what earlier runs on
 --anew. N checks run side by side, as many as there are processors if left out.
 
 The gate leaves these edits out for its time: they turn the meaning of what stands inside a crate, or of a public function that another
-edit turns in the gate. At the end it says how many were refused, and names those that weren't. It also names the edits of this run of
+edit turns in the gate. Edits of the bodies of different functions are tried in one check, since a function's proof rests on the contracts
+of others alone. An edit whose function is still proved there is tried alone. At the end it says how many were refused, and names those that weren't. It also names the edits of this run of
 which proof files alone complain, and no goal of a source: there a proof by hand no longer fits, and whether the contract is broken has
 to be read."""
 import argparse
+import concurrent.futures
 import importlib.machinery
 import importlib.util
 import os
@@ -75,24 +77,128 @@ def copy_tree(copy, edits):
             shutil.copy2(file, copy / "crates" / name / "must-fail")
 
 
+def pairs_of(edit):
+    """The pairs of an edit, each with the path of its file, and its old and new line."""
+    path = old = ""
+    for line in pathlib.Path(edit).read_text().split("\n"):
+        word, _, rest = line.partition(":")
+        if word == "file":
+            path = rest.strip()
+        elif word == "old":
+            old = rest.removeprefix(" ")
+        elif word == "new":
+            yield path, old, rest.removeprefix(" ")
+
+
+def functions_in(text):
+    """The functions of a source, each with its name, its first line and its last."""
+    lines = text.split("\n")
+    for first, line in enumerate(lines, 1):
+        found = re.match(r"( *)(?:pub(?:\([a-z]+\))? )?fn (\w+)", line)
+        if found:
+            ends = (at for at in range(first, len(lines) + 1) if lines[at - 1].rstrip() in (found[1] + "}", found[1] + "{}"))
+            yield found[2], first, next(ends, first)
+
+
+def body_of(folder, edit):
+    """The path and the name of the one function whose body an edit changes, if it changes nothing else."""
+    found = set()
+    for path, old, _ in pairs_of(edit):
+        file = pathlib.Path(folder) / path
+        text = file.read_text() if path.startswith("src/") and file.is_file() else ""
+        if text.count(old) != 1:
+            return None
+        line = text[: text.index(old)].count("\n") + 1
+        if re.match(r" *(ensures|requires|#)", text.split("\n")[line - 1]):
+            return None
+        inside = [(path, name, first) for name, first, last in functions_in(text) if first < line <= last]
+        found.add(inside[-1] if inside else None)
+    return found.pop()[:2] if len(found) == 1 and None not in found else None
+
+
+class Together:
+    """Tries edits of the bodies of different functions of a crate in one check over its seed."""
+
+    MOST = 12
+
+    def __init__(self, rt):
+        self.rt, self.alone, self.lock, self.told, self.by_hand = rt, rt.must_fail, threading.Lock(), {}, set()
+
+    def claim(self, crate, edit):
+        """This edit, and others of the crate that nobody has tried, each with its function."""
+        claimed = {}
+        for it in [edit, *self.rt.edits_of(crate)[0]]:
+            body = None if it in self.told else body_of(crate.folder, it)
+            if body and body not in claimed.values() and len(claimed) < self.MOST:
+                claimed[it] = body
+                self.told[it] = concurrent.futures.Future()
+        return claimed
+
+    def __call__(self, crate, edit, flags, kept=None):
+        with self.lock:
+            is_told = edit in self.told and self.told[edit].done()
+            # (while another check tries this edit, this one tries what is left)
+            claimed = {} if kept is None or is_told else self.claim(crate, edit)
+        try:
+            if claimed:
+                self.check(crate, claimed, flags, kept)
+        finally:
+            for it in claimed:
+                if not self.told[it].done():
+                    self.told[it].set_result(None)
+        told = self.told[edit].result() if kept is not None and edit in self.told else None
+        return told or self.alone(crate, edit, flags, *([kept] if kept else []))
+
+    def check(self, crate, claimed, flags, kept):
+        """Checks the crate with all of these edits, and notes those whose function isn't proved."""
+        texts = {}
+        for edit in claimed:
+            for path, old, new in pairs_of(edit):
+                text = texts.get(path) or (pathlib.Path(crate.folder) / path).read_text()
+                # (an edit that no longer applies beside the others leaves its function proved)
+                texts[path] = text.replace(old, new) if text.count(old) == 1 else text
+        ran = self.rt.checked(crate, texts, flags, kept)
+        if ran.returncode != 1 or not ran.stdout.rstrip("\n").split("\n")[-1].startswith("logic=not-proved"):
+            return
+        verdicts = re.findall(r"^fn (\S+): (.*)$", ran.stdout, re.MULTILINE)
+        for edit, (path, name) in claimed.items():
+            module = "::".join([crate.name, *pathlib.PurePath(path).with_suffix("").parts[1:]]).removesuffix("::lib")
+            own = [verdict for full, verdict in verdicts if full.startswith(module + "::") and full.rpartition("::")[2] == name]
+            if own == ["not proved"]:
+                self.told[edit].set_result((self.rt.REFUSED, self.note(crate, edit, path, name, texts[path], ran.stdout)))
+
+    def note(self, crate, edit, path, name, text, said):
+        """What is said of a refused edit; it is noted if proof files alone complain of its function."""
+        ranges = [(first, last) for it, first, last in functions_in(text) if it == name]
+        lines = re.findall(rf"^(?:note: )?(?:\./)?{re.escape(path)}:(\d+):", said, re.MULTILINE)
+        label = f"{crate.name}/{os.path.basename(edit)}"
+        if not any(first <= int(line) <= last for line in lines for first, last in ranges):
+            self.by_hand.add(label)
+        return f"must-fail {label}: refused, as it must be: {name} is not proved"
+
+
 def kit():
     """Loads the kit's command as a module. Notes what it says of each edit, and the edits of which proof files alone complain."""
     sys.dont_write_bytecode = True
     loader = importlib.machinery.SourceFileLoader("rt_command", os.path.realpath(shutil.which("rt")))
     rt = importlib.util.module_from_spec(importlib.util.spec_from_loader("rt_command", loader))
     loader.exec_module(rt)
-    checked, must_fail, say, last, by_hand, verdicts = rt.checked, rt.must_fail, rt.say, threading.local(), set(), {}
+    checked, say, last, verdicts, together = rt.checked, rt.say, threading.local(), {}, Together(rt)
+    by_hand, alone = together.by_hand, together.alone
 
     def noted(*given):
         last.ran = checked(*given)
         return last.ran
 
     def judged(crate, edit, *given):
-        kind, text = must_fail(crate, edit, *given)
+        kind, text = alone(crate, edit, *given)
         told = re.findall(r"^(?:note: )?(?:\./)?(\w+)/\S+:\d+:\d+:", last.ran.stdout, re.MULTILINE)
-        # (one kit gives a kind here, another whether it is refused)
-        if kind == getattr(rt, "REFUSED", True) and told and set(told) == {"proofs"}:
+        if kind == rt.REFUSED and told and set(told) == {"proofs"}:
             by_hand.add(f"{crate.name}/{os.path.basename(edit)}")
+        return kind, text
+
+    def tried(crate, edit, *given):
+        kind, text = together(crate, edit, *given)
         print(f"tried {crate.name}/{os.path.basename(edit)}: {kind}", file=sys.stderr, flush=True)
         return kind, text
 
@@ -102,7 +208,8 @@ def kit():
             verdicts[told[1]] = told[2]
         say(text, *given)
 
-    rt.checked, rt.must_fail, rt.say = noted, judged, said
+    together.alone = judged
+    rt.checked, rt.must_fail, rt.say = noted, tried, said
     return rt, by_hand, verdicts
 
 
