@@ -31,10 +31,7 @@ pub fn take_group(state: &mut State, alloc: Global) -> Result<Option<Group>, Ref
     if state.unmarked.count() == 0 {
         return Ok(None);
     }
-    let facts = match state.unmarked.front(alloc, GROUP) {
-        Ok(facts) => facts,
-        Err(refusal) => return Err(refusal),
-    };
+    let facts = state.unmarked.front(alloc, GROUP)?;
     match Group::new(state.mark.end(), facts) {
         Ok(group) => {
             state.unmarked.run(GROUP);

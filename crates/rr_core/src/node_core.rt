@@ -58,10 +58,7 @@ impl Core {
         // That a promise ascends and that a fact's number has 64 bits is told by these calls alone.
         let _entries = opened.promise().entries();
         let _next = opened.next();
-        let state = match started(alloc, opened) {
-            Ok(state) => state,
-            Err(refusal) => return Err(refusal),
-        };
+        let state = started(alloc, opened)?;
         match registry_of_prefix(&state, alloc) {
             Ok(registry) => Ok(Core {
                 alloc,
@@ -203,10 +200,7 @@ impl Core {
         if !is_running_group(&self.state, synced.group()) {
             return Err(Refusal::StrangeMark);
         }
-        let more = match commands_after(&self.state, self.alloc) {
-            Ok(more) => more,
-            Err(refusal) => return Err(refusal),
-        };
+        let more = commands_after(&self.state, self.alloc)?;
         match self.registry.apply_all(&more) {
             Ok(()) => {
                 mark_running(&mut self.state, synced);

@@ -248,13 +248,7 @@ pub fn inspect<D: Disk>(
     ensures calls { OnOk result (D.calls disk.new ≡ counted (counted (D.calls disk.old))) }
     ensures tells { D.tells disk.old → D.tells disk.new }
 {
-    let first = match disk.read(alloc, Area::First, 0, u64::MAX) {
-        Ok(bytes) => bytes,
-        Err(refusal) => return Err(refusal),
-    };
-    let second = match disk.read(alloc, Area::Second, 0, u64::MAX) {
-        Ok(bytes) => bytes,
-        Err(refusal) => return Err(refusal),
-    };
+    let first = disk.read(alloc, Area::First, 0, u64::MAX)?;
+    let second = disk.read(alloc, Area::Second, 0, u64::MAX)?;
     inspect_bytes(alloc, first.as_slice(), second.as_slice())
 }

@@ -2,16 +2,13 @@
 
 ghost use Rattle.std.specs.Prelude.{◌≡◌, true, None, Some, Err, IfErr, OnOk, ◌⊎◌};
 ghost use Rattle.rr_types.specs.declared.refusal.Refusal.{Refusal};
-ghost use Rattle.rr_types.specs.declared.fact.Fact.TheVariants as staged;
 ghost use Rattle.rr_types.specs.declared.message.Body.TheVariants as say;
 ghost use Rattle.rr_types.specs.Standings.{round_of, is_undecided};
 ghost use Rattle.rr_types.specs.Registry.{has_request};
 ghost use Rattle.rr_model.specs.NodeState.{standing_at, decided_prefix};
-ghost use Rattle.rr_model.specs.NodeParts.{stage};
 ghost use Rattle.rr_model.specs.NodeStep.{submitted, submit_refusal, ticked_on, advanced, advance_refusal, catch_up, acknowledge, take_proposal, take_estimate, heard_body, heard};
 ghost use Rattle.rr_step.specs.Steps.{stepped};
 
-use rr_instance::with_adopted;
 use rr_relay::{answer, ask, ask_if_behind, hear_ask, hear_decision};
 use rr_settle::{enter, restate_all};
 use rr_step::Step;
@@ -44,18 +41,13 @@ pub fn submitted(step: &mut Step<'_>, command: Command, is_held: bool) -> Result
 {
     let request = command.request;
     let is_known = is_held || step.is_waiting(request);
-    match step.wait_for(request) {
-        Ok(()) => (),
-        Err(refusal) => return Err(refusal),
-    }
+    step.wait_for(request)?;
     if is_known {
         return Ok(());
     }
     let pooled = command;
-    match step.pool_add(pooled) {
-        Ok(()) => step.owe_others(Body::Request(command), None),
-        Err(refusal) => Err(refusal),
-    }
+    step.pool_add(pooled)?;
+    step.owe_others(Body::Request(command), None)
 }
 
 /// A tick: a beat, the detector's suspects, the restatement of the open instances, and where the node is
@@ -68,18 +60,10 @@ pub fn ticked_on(step: &mut Step<'_>) -> Result<(), Refusal>
     step.tick_watches();
     let late = step.late_nodes();
     let open = step.open_instances();
-    match step.owe_others(Body::Beat, None) {
-        Ok(()) => (),
-        Err(refusal) => return Err(refusal),
-    }
-    match step.owe_everyone(Body::Suspects(late), None) {
-        Ok(()) => (),
-        Err(refusal) => return Err(refusal),
-    }
-    match restate_all(step, open.as_slice()) {
-        Ok(()) => ask_if_behind(step),
-        Err(refusal) => Err(refusal),
-    }
+    step.owe_others(Body::Beat, None)?;
+    step.owe_everyone(Body::Suspects(late), None)?;
+    restate_all(step, open.as_slice())?;
+    ask_if_behind(step)
 }
 
 /// The lowest open instance that has a round enters the next one; in the last round it is refused, for which it
@@ -137,22 +121,6 @@ fn acknowledge(
     step.owe(Body::Ack(instance, round), Some(adopted), to)
 }
 
-/// Stages the adoption of a proposal of the present round.
-fn stage_adopt(
-    step: &mut Step<'_>,
-    instance: Instance,
-    round: Round,
-    command: Command,
-) -> Result<(), Refusal>
-    requires { round_of (standing_at step.old.state instance) ≡ round }
-    ensures ok { OnOk result (step.new ≡ stepped (stage (staged.Adopt instance round command)) step.old) }
-    ensures err { IfErr result (λ e. e ≡ Refusal.OutOfMemory) }
-{
-    let command = &command;
-    let standing = with_adopted(step.standing(instance), *command);
-    step.stage(Fact::Adopt(instance, round, *command), standing)
-}
-
 /// A proposal of the present round is adopted once; an acknowledgement is owed each time.
 #[tactic(auto, unfolding(rr_model::specs::NodeStep::take_proposal))]
 fn take_proposal(
@@ -169,13 +137,9 @@ fn take_proposal(
         return Ok(());
     }
     if step.stamp(instance) < round.number() {
-        match stage_adopt(step, instance, round, command) {
-            Ok(()) => acknowledge(step, instance, round, from),
-            Err(refusal) => Err(refusal),
-        }
-    } else {
-        acknowledge(step, instance, round, from)
+        step.stage(Fact::Adopt(instance, round, command))?;
     }
+    acknowledge(step, instance, round, from)
 }
 
 /// An estimate of the present round is kept.
@@ -220,14 +184,9 @@ fn hear_estimate(
         return Ok(());
     }
     let pooled = command;
-    match step.pool_add(pooled) {
-        Ok(()) => (),
-        Err(refusal) => return Err(refusal),
-    }
-    match catch_up(step, instance, round, command) {
-        Ok(()) => take_estimate(step, alloc, instance, from, estimate),
-        Err(refusal) => Err(refusal),
-    }
+    step.pool_add(pooled)?;
+    catch_up(step, instance, round, command)?;
+    take_estimate(step, alloc, instance, from, estimate)
 }
 
 #[tactic(auto, using(crate::proofs::InputLemmas::undecided_first, crate::proofs::InputLemmas::pooled_undecided), unfolding(rr_model::specs::NodeStep::heard_body))]
@@ -252,15 +211,10 @@ fn hear_proposal(
         return Ok(());
     }
     let pooled = command;
-    match step.pool_add(pooled) {
-        Ok(()) => (),
-        Err(refusal) => return Err(refusal),
-    }
+    step.pool_add(pooled)?;
     let entered = command;
-    match catch_up(step, instance, round, entered) {
-        Ok(()) => take_proposal(step, instance, round, command, from),
-        Err(refusal) => Err(refusal),
-    }
+    catch_up(step, instance, round, entered)?;
+    take_proposal(step, instance, round, command, from)
 }
 
 #[tactic(auto, unfolding(rr_model::specs::NodeStep::heard_body))]

@@ -23,10 +23,7 @@ fn finish(mut step: Step<'_>) -> Result<Changes, Refusal>
     ensures ok { IfOk result (λ c. IsSettled step.entry.base step.entry.state c) }
     ensures refused { IfErr result (λ e. (e ≡ Refusal.OutOfMemory) ⊎ ((e ≡ Refusal.TooLarge) × (2 ^ 64 ≤ next_number (settle step.entry.state)))) }
 {
-    match settle(&mut step) {
-        Ok(()) => (),
-        Err(refusal) => return Err(refusal),
-    }
+    settle(&mut step)?;
     if step.next_number() > u128::from(u64::MAX) {
         return Err(Refusal::TooLarge);
     }
@@ -39,18 +36,10 @@ pub fn started(alloc: Global, opened: &Opened) -> Result<State, Refusal>
     ensures ok { IfOk result (λ s. s ≡ started opened.now.nodes opened.now.node opened.now.promise opened.now.next) }
     ensures err { IfErr result (λ e. e ≡ Refusal.OutOfMemory) }
 {
-    let mut state = match State::restored(alloc, opened) {
-        Ok(state) => state,
-        Err(refusal) => return Err(refusal),
-    };
-    let changes = match restatement(&state, alloc) {
-        Ok(changes) => changes,
-        Err(refusal) => return Err(refusal),
-    };
-    match state.absorb(alloc, changes) {
-        Ok(()) => Ok(state),
-        Err(refusal) => Err(refusal),
-    }
+    let mut state = State::restored(alloc, opened)?;
+    let changes = restatement(&state, alloc)?;
+    state.absorb(alloc, changes)?;
+    Ok(state)
 }
 
 /// What the restatement of the open instances changes.
@@ -61,10 +50,8 @@ fn restatement(state: &State, alloc: Global) -> Result<Changes, Refusal>
 {
     let mut step = Step::new(alloc, state);
     let open = step.open_instances();
-    match restate_all(&mut step, open.as_slice()) {
-        Ok(()) => Ok(step.into_changes()),
-        Err(refusal) => Err(refusal),
-    }
+    restate_all(&mut step, open.as_slice())?;
+    Ok(step.into_changes())
 }
 
 /// What a client's command changes. `is_held`: whether the decided prefix has its request number. Where it is refused
@@ -86,10 +73,8 @@ pub fn submit_step(
     if let Some(refusal) = submit_refusal(&step, asked) {
         return Err(refusal);
     }
-    match submitted(&mut step, command, is_held) {
-        Ok(()) => finish(step),
-        Err(refusal) => Err(refusal),
-    }
+    submitted(&mut step, command, is_held)?;
+    finish(step)
 }
 
 /// What a message changes.
@@ -99,10 +84,8 @@ pub fn hear_step(state: &State, alloc: Global, message: &Message) -> Result<Chan
     ensures refused { IfErr result (λ e. (e ≡ Refusal.OutOfMemory) ⊎ (refusal_of (Hear message.now) state.now ≡ Some e)) }
 {
     let mut step = Step::new(alloc, state);
-    match heard(&mut step, alloc, message) {
-        Ok(()) => finish(step),
-        Err(refusal) => Err(refusal),
-    }
+    heard(&mut step, alloc, message)?;
+    finish(step)
 }
 
 /// What other suspects change.
@@ -123,10 +106,8 @@ pub fn tick_step(state: &State, alloc: Global) -> Result<Changes, Refusal>
     ensures refused { IfErr result (λ e. (e ≡ Refusal.OutOfMemory) ⊎ (refusal_of Tick state.now ≡ Some e)) }
 {
     let mut step = Step::new(alloc, state);
-    match ticked_on(&mut step) {
-        Ok(()) => finish(step),
-        Err(refusal) => Err(refusal),
-    }
+    ticked_on(&mut step)?;
+    finish(step)
 }
 
 /// What an advance changes. In the last round it is refused for that, also where memory is wanting.
@@ -137,8 +118,6 @@ pub fn advance_step(state: &State, alloc: Global) -> Result<Changes, Refusal>
     ensures refused { IfErr result (λ e. (e ≡ Refusal.OutOfMemory) ⊎ (refusal_of Advance state.now ≡ Some e)) }
 {
     let mut step = Step::new(alloc, state);
-    match advanced(&mut step) {
-        Ok(()) => finish(step),
-        Err(refusal) => Err(refusal),
-    }
+    advanced(&mut step)?;
+    finish(step)
 }

@@ -1,12 +1,10 @@
 //! The row of an instance.
 
 ghost use Rattle.std.specs.Prelude.{◌≡◌, IfOk, IfErr};
-ghost use Rattle.rr_types.specs.Facts.{instance_of};
 ghost use Rattle.rr_model.specs.NodeState.{is_decided, decided_command};
 ghost use Rattle.rr_model.specs.NodeParts.{backing_after, row_after, fresh_row};
 ghost use Rattle.rr_model.specs.NodeStep.{promised_row};
 
-use crate::standing::decision_in;
 use rr_round::Tally;
 use rr_types::{Command, Entry, Fact, Instance, Refusal, Standing};
 use std::alloc::Global;
@@ -144,7 +142,7 @@ impl Row {
     pub fn decided_command(&self) -> Option<Command>
         ensures { result ≡ decided_command self.now }
     {
-        decision_in(&self.standing)
+        self.standing.decision()
     }
 
     /// The row after a fact with this number, by which the instance stands so. A tally that the fact drops isn't copied.
@@ -184,17 +182,5 @@ impl Row {
             Fact::Enter(..) | Fact::Decide(..) => self.tally.clear(),
             Fact::Propose(..) | Fact::Adopt(..) => {}
         }
-    }
-}
-
-/// The instance that a fact is about.
-pub fn instance_of(fact: &Fact) -> Instance
-    ensures { result ≡ instance_of fact.now }
-{
-    match fact {
-        Fact::Enter(instance, _) => *instance,
-        Fact::Propose(instance, _, _) => *instance,
-        Fact::Adopt(instance, _, _) => *instance,
-        Fact::Decide(instance, _) => *instance,
     }
 }

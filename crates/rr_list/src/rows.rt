@@ -100,10 +100,8 @@ fn make_places(
     ensures instances { OnOk result (All (λ r. r.instance < 1048576) rows.now) }
     ensures err { IfErr result (λ e. e ≡ Refusal.OutOfMemory) }
 {
-    match make_row_places(map, rows) {
-        Ok(()) => make_request_places(requests, rows),
-        Err(refusal) => Err(refusal),
-    }
+    make_row_places(map, rows)?;
+    make_request_places(requests, rows)
 }
 
 /// Takes away what places of these rows' requests are free.
@@ -319,10 +317,7 @@ impl Rows {
     {
         let instance = row.instance;
         let request = decided_request(&row);
-        match make_request_place(&mut self.requests, &row) {
-            Ok(()) => (),
-            Err(refusal) => return Err(refusal),
-        }
+        make_request_place(&mut self.requests, &row)?;
         match self.rows.insert(instance.number(), row) {
             Ok(()) => {
                 self.named = named_above(self.named, instance);
@@ -386,10 +381,7 @@ impl Rows {
         ensures instances { OnOk result (AreInstances self.new) }
         ensures err { IfErr result (λ e. e ≡ Refusal.OutOfMemory) }
     {
-        let instances = match instances_of(alloc, &rows) {
-            Ok(instances) => instances,
-            Err(refusal) => return Err(refusal),
-        };
+        let instances = instances_of(alloc, &rows)?;
         match make_places(&mut self.rows, &mut self.requests, &rows) {
             Ok(()) => {
                 self.named = named_with(self.named, &rows);

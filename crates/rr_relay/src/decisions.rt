@@ -1,27 +1,15 @@
 //! Decisions: the node takes one and owes it to each other node; where it has one, it owes it to whoever needs it.
 
 ghost use Rattle.std.specs.Prelude.{◌≡◌, true, IfErr, OnOk};
-ghost use Rattle.rr_types.specs.declared.fact.Fact.TheVariants as staged;
 ghost use Rattle.rr_types.specs.declared.message.Body.TheVariants as say;
 ghost use Rattle.rr_types.specs.Standings.{is_undecided};
 ghost use Rattle.rr_model.specs.NodeState.{standing_at};
-ghost use Rattle.rr_model.specs.NodeParts.{stage, conclude};
+ghost use Rattle.rr_model.specs.NodeParts.{conclude};
 ghost use Rattle.rr_model.specs.NodeStep.{answer, heard_body};
 ghost use Rattle.rr_step.specs.Steps.{stepped};
 
 use rr_step::Step;
-use rr_types::{Body, Command, Fact, Instance, NodeId, Refusal, Standing};
-
-/// Stages a decision.
-fn stage_decide(step: &mut Step<'_>, instance: Instance, command: Command) -> Result<(), Refusal>
-    requires undecided { is_undecided (standing_at step.old.state instance) ≡ true }
-    ensures ok { OnOk result (step.new ≡ stepped (stage (staged.Decide instance command)) step.old) }
-    ensures err { IfErr result (λ e. e ≡ Refusal.OutOfMemory) }
-{
-    let command = &command;
-    let standing = Some(Standing::Decided(*command));
-    step.stage(Fact::Decide(instance, *command), standing)
-}
+use rr_types::{Body, Command, Fact, Instance, NodeId, Refusal};
 
 /// Decides on a command, and owes the decision to each other node.
 pub fn conclude(step: &mut Step<'_>, instance: Instance, command: Command) -> Result<(), Refusal>
@@ -31,7 +19,7 @@ pub fn conclude(step: &mut Step<'_>, instance: Instance, command: Command) -> Re
 {
     let number = step.next_number();
     let command = &command;
-    stage_decide(step, instance, *command)?;
+    step.stage(Fact::Decide(instance, *command))?;
     step.owe_others(Body::Decision(instance, *command), Some(number))?;
     Ok(())
 }

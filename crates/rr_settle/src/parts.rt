@@ -2,31 +2,14 @@
 //! Each changes the state as its definition says, or is refused for memory and then leaves no promise.
 
 ghost use Rattle.std.specs.Prelude.{◌≡◌, ◌<◌, true, IfErr, OnOk};
-ghost use Rattle.rr_types.specs.declared.fact.Fact.TheVariants as staged;
 ghost use Rattle.rr_types.specs.Standings.{round_of, is_undecided};
 ghost use Rattle.rr_model.specs.NodeState.{standing_at};
-ghost use Rattle.rr_model.specs.NodeParts.{stage, free_command, enter, restate, restate_all, propose};
+ghost use Rattle.rr_model.specs.NodeParts.{free_command, enter, restate, restate_all, propose};
 ghost use Rattle.rr_step.specs.Steps.{stepped};
 
 use crate::rounds::{enter_with, entering_estimate, leave_round, restate_open};
-use rr_instance::with_proposal;
 use rr_step::Step;
 use rr_types::{Body, Command, Fact, Instance, Refusal, Round, Standing};
-
-/// Stages a proposal.
-fn stage_propose(
-    step: &mut Step<'_>,
-    instance: Instance,
-    round: Round,
-    command: Command,
-) -> Result<(), Refusal>
-    ensures ok { OnOk result (step.new ≡ stepped (stage (staged.Propose instance round command)) step.old) }
-    ensures err { IfErr result (λ e. e ≡ Refusal.OutOfMemory) }
-{
-    let command = &command;
-    let standing = with_proposal(step.standing(instance), *command);
-    step.stage(Fact::Propose(instance, round, *command), standing)
-}
 
 /// The first pool command that is no estimate of an open instance but this one.
 #[tactic(auto, using(crate::proofs::RoundLemmas::first_free_is))]
@@ -97,7 +80,7 @@ pub fn propose(
 {
     let number = step.next_number();
     let command = &command;
-    stage_propose(step, instance, round, *command)?;
+    step.stage(Fact::Propose(instance, round, *command))?;
     step.owe_everyone(Body::Proposal(instance, round, *command), Some(number))?;
     Ok(())
 }

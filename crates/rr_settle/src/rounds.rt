@@ -1,16 +1,15 @@
 //! The parts of entering a round and of restating where an instance stands.
 
 ghost use Rattle.std.specs.Prelude.{◌≡◌, ◌<◌, true, Some, IfErr, OnOk};
-ghost use Rattle.rr_types.specs.declared.fact.Fact.TheVariants as staged;
 ghost use Rattle.rr_types.specs.declared.promise.Standing.TheVariants as stands;
 ghost use Rattle.rr_types.specs.Standings.{round_of, is_undecided};
 ghost use Rattle.rr_model.specs.NodeState.{standing_at};
-ghost use Rattle.rr_model.specs.NodeParts.{backing_at, stage, leave_round, enter_with, entering_estimate, restate};
+ghost use Rattle.rr_model.specs.NodeParts.{backing_at, leave_round, enter_with, entering_estimate, restate};
 ghost use Rattle.rr_step.specs.Steps.{stepped};
 ghost use Rattle.rr_settle.specs.Rounds.{owe_coordinator};
 
 use crate::parts::free_command;
-use rr_instance::{Backing, entered, estimate_at};
+use rr_instance::Backing;
 use rr_step::Step;
 use rr_types::{
     Body, Command, Estimate, Fact, Instance, OpenStanding, Refusal, Round, Standing, coordinator,
@@ -49,13 +48,13 @@ pub fn entering_estimate(
 {
     if let Some(standing) = step.standing(instance) {
         if let Standing::Open(at) = standing {
-            return Some(estimate_at(round, at.stamp(), at.estimate()));
+            return Some(Estimate::at(round, at.stamp(), at.estimate()));
         }
     }
     match free_command(step, instance) {
-        Some(command) => Some(estimate_at(round, 0, command)),
+        Some(command) => Some(Estimate::at(round, 0, command)),
         None => match heard {
-            Some(command) => Some(estimate_at(round, 0, command)),
+            Some(command) => Some(Estimate::at(round, 0, command)),
             None => None,
         },
     }
@@ -83,16 +82,6 @@ pub fn leave_round(step: &mut Step<'_>, instance: Instance) -> Result<(), Refusa
     }
 }
 
-/// Stages the entering of a round.
-fn stage_enter(step: &mut Step<'_>, instance: Instance, estimate: Estimate) -> Result<(), Refusal>
-    requires undecided { is_undecided (standing_at step.old.state instance) ≡ true }
-    ensures ok { OnOk result (step.new ≡ stepped (stage (staged.Enter instance estimate)) step.old) }
-    ensures err { IfErr result (λ e. e ≡ Refusal.OutOfMemory) }
-{
-    let standing = Some(entered(&estimate));
-    step.stage(Fact::Enter(instance, estimate), standing)
-}
-
 /// Stages the entering of a round with this estimate, and owes the estimate to the round's coordinator.
 pub fn enter_with(
     step: &mut Step<'_>,
@@ -105,7 +94,7 @@ pub fn enter_with(
 {
     let number = step.next_number();
     let to = coordinator(estimate.round(), step.nodes());
-    stage_enter(step, instance, estimate)?;
+    step.stage(Fact::Enter(instance, estimate))?;
     step.owe(Body::Estimate(instance, estimate), Some(number), to)
 }
 
@@ -123,7 +112,7 @@ fn owe_coordinator(
     let round = at.round();
     let to = coordinator(round, step.nodes());
     if at.stamp() < round.number() {
-        let estimate = estimate_at(round, at.stamp(), at.estimate());
+        let estimate = Estimate::at(round, at.stamp(), at.estimate());
         step.owe(
             Body::Estimate(instance, estimate),
             Some(backing.entered),

@@ -4,6 +4,7 @@ ghost use Rattle.std.specs.Prelude.{◌≡◌, ◌++◌, ◌∷◌, [], ◌^◌,
 ghost use Rattle.std.specs.List.{list_any};
 ghost use Rattle.rr_types.specs.Registry.{has_request};
 ghost use Rattle.rr_types.specs.Facts.{instance_of, after_fact, decision_of};
+ghost use Rattle.rr_types.specs.Standings.{IsInRound};
 ghost use Rattle.rr_types.specs.Standings.{round_of};
 ghost use Rattle.rr_model.specs.NodeState.{next_number, standing_at, row_of, put_row, is_decided, first_undecided, open_instances, is_open, is_decided_request, everyone, others};
 ghost use Rattle.rr_model.specs.NodeDetector.{all_ticked, heard_beat, late_nodes, reduced};
@@ -17,7 +18,7 @@ use crate::known::is_among;
 use crate::state::State;
 use crate::{estimates, over, owing, staging};
 use rr_heartbeat::Heartbeat;
-use rr_instance::{Backing, Row, instance_of};
+use rr_instance::{Backing, Row};
 use rr_list::Window;
 use rr_mark::Owed;
 use rr_suspect::Suspects;
@@ -425,15 +426,16 @@ impl<'a> Step<'a> {
         Ok(())
     }
 
-    /// Stages a fact about an instance that then stands so; a decision there stays.
+    /// Stages a fact about an instance; a decision there stays.
     #[tactic(auto, using(crate::proofs::OverLemmas::decision_decides), unfolding(rr_model::specs::NodeParts::stage))]
-    pub fn stage(&mut self, fact: Fact, standing: Option<Standing>) -> Result<(), Refusal>
-        requires after { standing ≡ after_fact (standing_at self.old.state (instance_of fact)) fact }
-        requires keeps { KeepsStanding (standing_at self.old.state (instance_of fact)) standing }
+    pub fn stage(&mut self, fact: Fact) -> Result<(), Refusal>
+        requires round { IsInRound (standing_at self.old.state (instance_of fact)) fact }
+        requires keeps { KeepsStanding (standing_at self.old.state (instance_of fact)) (after_fact (standing_at self.old.state (instance_of fact)) fact) }
         ensures ok { OnOk result (self.new ≡ stepped (stage fact) self.old) }
         ensures err { IfErr result (λ e. e ≡ Refusal.OutOfMemory) }
     {
         let fact = &fact;
+        let standing = Standing::after(&self.standing(fact.instance()), fact);
         self.put_row_after(fact, standing)?;
         self.take_decided(fact)?;
         self.push_staged(fact)
