@@ -5,11 +5,8 @@ use Rattle.std.proofs.lemmas.Nat.{pow_pos}
 use Rattle.std.proofs.Math.Nat.{mul_comm}
 use Rattle.std.specs.Int.{bit_at}
 use Rattle.rr_types.specs.Nodes.{has_member, with_member}
-use Rattle.rr_model.specs.NodeDetector.{joined, joined_below, reduced}
-
--- one node more of the second set
-pub joined_more : (n q a b : ℕ) → n ≡ q + 1 → joined_below n a b ≡ joined_below q (if has_member b q then with_member a q else a) b
-joined_more n q a b e = let f : n ≡ suc q = omega arith in rw f refl
+use Rattle.rr_model.specs.NodeDetector.{reduced}
+use Rattle.rr_types.specs.Nodes.{joined, joined_below}
 
 parts : (s m : ℕ) → 0 < m → (s / m) * m + s % m ≡ s
 parts s m l = let c : m * (s / m) ≡ (s / m) * m = mul_comm m (s / m) in omega arith

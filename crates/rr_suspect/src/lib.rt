@@ -7,7 +7,7 @@ ghost use Rattle.rr_suspect.specs.Receipts.{Receipt, IsWhatWasTold, IsCompleteOv
 
 mod suspects;
 
-pub use suspects::{Suspects, joined};
+pub use suspects::Suspects;
 
 /// Laws of the reduction over any list of receipts: which nodes the output has at its end; who is named and
 /// stays silent is in it; who isn't named and wasn't in it before stays out.

@@ -1,7 +1,7 @@
 //! The output of the reduction: one set, changed at each receipt.
 
 ghost use Rattle.std.specs.Prelude.{◌≡◌};
-ghost use Rattle.rr_model.specs.NodeDetector.{joined, reduced};
+ghost use Rattle.rr_model.specs.NodeDetector.{reduced};
 
 use rr_types::{NodeId, NodeSet};
 use std::marker::Model;
@@ -34,7 +34,7 @@ impl Suspects {
     pub fn receive(&mut self, node: NodeId, set: NodeSet)
         ensures { self.new ≡ reduced self.old node set }
     {
-        self.output = joined(self.output, set).without(node);
+        self.output = self.output.joined(set).without(node);
     }
 
     /// Who is suspected.
@@ -43,23 +43,4 @@ impl Suspects {
     {
         self.output
     }
-}
-
-/// Two sets of nodes together.
-#[tactic(auto, using(crate::proofs::SetLemmas::joined_more), unfolding(rr_model::specs::NodeDetector::joined))]
-pub fn joined(set: NodeSet, other: NodeSet) -> NodeSet
-    ensures { result ≡ joined set other }
-{
-    let mut all = set;
-    let mut left = 7;
-    while left > 0 {
-        left -= 1;
-        let Some(node) = NodeId::at(left) else {
-            unreachable!()
-        };
-        if other.contains(node) {
-            all = all.with(node);
-        }
-    }
-    all
 }
