@@ -1,6 +1,6 @@
 //! The last round.
 
-use rr_instance::next_round;
+use rr_round::next_round;
 use rr_types::{Command, MAX_ROUND, Name, Op, OpenStanding, Refusal, RequestNo, Round};
 
 #[test]

@@ -8,8 +8,7 @@ ghost use Rattle.rr_model.specs.NodeStep.{group_taken, running_group, group_put_
 ghost use Rattle.rr_core.specs.Lawful.{IsLawful};
 
 use rr_journal::Synced;
-use rr_mark::Mark;
-use rr_staged::are_same_facts;
+use rr_outbox::{Mark, are_same_facts};
 use rr_step::State;
 use rr_types::{Command, GROUP, Group, Refusal};
 use std::alloc::Global;

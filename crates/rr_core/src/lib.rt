@@ -8,4 +8,4 @@ mod node_core;
 mod prefix;
 
 pub use node_core::Core;
-pub use rr_mark::{Cleared, Mark};
+pub use rr_outbox::{Cleared, Mark};

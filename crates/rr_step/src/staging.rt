@@ -7,7 +7,7 @@ ghost use Rattle.rr_model.specs.NodeState.{row_of};
 ghost use Rattle.rr_model.specs.NodeParts.{row_after, fresh_row};
 
 use crate::step::Step;
-use rr_instance::Row;
+use rr_round::Row;
 use rr_types::{Fact, Refusal, Standing};
 use std::alloc::Global;
 

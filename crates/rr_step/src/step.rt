@@ -10,18 +10,17 @@ ghost use Rattle.rr_model.specs.NodeState.{next_number, standing_at, row_of, put
 ghost use Rattle.rr_model.specs.NodeDetector.{all_ticked, heard_beat, late_nodes, reduced};
 ghost use Rattle.rr_model.specs.NodeParts.{owe, pool_add, stage, rows_after, pool_after};
 ghost use Rattle.rr_model.specs.NodeStep.{wait_for, is_waiting, lowest_in_round};
-ghost use Rattle.rr_mark.specs.Marks.{is_free};
+ghost use Rattle.rr_outbox.specs.Marks.{is_free};
 ghost use Rattle.rr_step.specs.Places.{first_free};
 ghost use Rattle.rr_step.specs.Steps.{stepped, combined, KeepsDecision, KeepsStanding, IsFitting, IsDecidedFact};
 
 use crate::known::is_among;
 use crate::state::State;
 use crate::{estimates, over, owing, staging};
-use rr_heartbeat::Heartbeat;
-use rr_instance::{Backing, Row};
+use rr_detector::{Heartbeat, Suspects};
+use rr_round::{Backing, Row};
 use rr_list::Window;
-use rr_mark::Owed;
-use rr_suspect::Suspects;
+use rr_outbox::Owed;
 use rr_types::{
     Body, Command, Fact, Instance, NodeId, NodeSet, Nodes, Op, Refusal, RequestNo, Standing, WINDOW,
 };
@@ -176,7 +175,7 @@ impl<'a> Step<'a> {
     }
 
     /// The nodes that the heartbeat detector suspects; a node disregards itself.
-    #[tactic(auto, using(rr_heartbeat::proofs::BitLemmas::late_beside))]
+    #[tactic(auto, using(rr_detector::proofs::BitLemmas::late_beside))]
     pub fn late_nodes(&self) -> NodeSet
         ensures { result ≡ late_nodes self.now.state.node self.now.state.watches }
     {
