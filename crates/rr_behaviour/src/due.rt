@@ -7,8 +7,9 @@ ghost use Rattle.rr_model.specs.NodeDue.{due_of_coordinator, due_of_participant,
 ghost use Rattle.rr_step.specs.Steps.{stepped};
 ghost use Rattle.rr_behaviour.specs.Dues.{meaning_of, MovesBelowLast, CanBeCarriedOut};
 
-use crate::parts::{enter, propose};
 use crate::decisions::conclude;
+use crate::entering::enter;
+use crate::proposing::propose;
 use rr_round::Tally;
 use rr_step::Step;
 use rr_types::{Command, Instance, Refusal, Round, Standing, coordinator};

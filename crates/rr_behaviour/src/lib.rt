@@ -4,10 +4,17 @@
 
 mod decisions;
 mod due;
-mod input;
-mod inputs;
-mod parts;
+mod entering;
+mod finish;
+mod hear;
+mod proposing;
 mod questions;
-mod rounds;
+mod restating;
+mod start;
+mod submit;
+mod tick;
 
-pub use inputs::{advance_step, hear_step, started, submit_step, suspect_step, tick_step};
+pub use hear::hear_step;
+pub use start::started;
+pub use submit::submit_step;
+pub use tick::{advance_step, suspect_step, tick_step};

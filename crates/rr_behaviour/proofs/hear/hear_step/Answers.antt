@@ -2,7 +2,7 @@ use Rattle.std.proofs.Common.{◌≡◌, ◌∙◌, ap, sym}
 use Rattle.rr_model.specs.NodeStep.{Hear, heard}
 use Rattle.rr_step.specs.Steps.{Stepped, stepped}
 use Rattle.rr_behaviour.proofs.InputSteps.{refused_of, hear_large}
-use Rattle.rr_behaviour.proofs.inputs.hear_step.Goals as goal
+use Rattle.rr_behaviour.proofs.hear.hear_step.Goals as goal
 
 pub returns-in-Ok-clause-refused : goal.returns-in-Ok-clause-refused
 returns-in-Ok-clause-refused c =

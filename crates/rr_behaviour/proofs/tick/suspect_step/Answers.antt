@@ -3,7 +3,7 @@ use Rattle.rr_model.specs.NodeStep.{Suspect}
 use Rattle.rr_model.specs.NodeState.{NodeState}
 use Rattle.rr_step.specs.Steps.{Stepped, stepped}
 use Rattle.rr_behaviour.proofs.InputSteps.{refused_of, suspect_large}
-use Rattle.rr_behaviour.proofs.inputs.suspect_step.Goals as goal
+use Rattle.rr_behaviour.proofs.tick.suspect_step.Goals as goal
 
 pub returns-clause-refused : goal.returns-clause-refused
 returns-clause-refused c =

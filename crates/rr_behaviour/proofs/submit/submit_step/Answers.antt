@@ -2,7 +2,7 @@ use Rattle.std.proofs.Common.{◌≡◌, ◌∙◌, ap, sym}
 use Rattle.rr_model.specs.NodeStep.{Submit, submitted, submit_refusal}
 use Rattle.rr_step.specs.Steps.{Stepped, stepped}
 use Rattle.rr_behaviour.proofs.InputSteps.{refused_of, submit_large, submit_err, none_of}
-use Rattle.rr_behaviour.proofs.inputs.submit_step.Goals as goal
+use Rattle.rr_behaviour.proofs.submit.submit_step.Goals as goal
 
 pub returns-in-Ok-clause-refused : goal.returns-in-Ok-clause-refused
 returns-in-Ok-clause-refused c =

@@ -1,92 +1,20 @@
-//! What each input does at once.
+//! A message: what each kind of it does.
 
-ghost use Rattle.std.specs.Prelude.{◌≡◌, true, None, Some, Err, IfErr, OnOk, ◌⊎◌};
-ghost use Rattle.rr_types.specs.declared.refusal.Refusal.{Refusal};
-ghost use Rattle.rr_types.specs.declared.message.Body.TheVariants as say;
-ghost use Rattle.rr_types.specs.Standings.{round_of, is_undecided};
-ghost use Rattle.rr_types.specs.Registry.{has_request};
-ghost use Rattle.rr_model.specs.NodeState.{standing_at, decided_prefix};
-ghost use Rattle.rr_model.specs.NodeStep.{submitted, submit_refusal, ticked_on, advanced, advance_refusal, catch_up, acknowledge, take_proposal, take_estimate, heard_body, heard};
+ghost use Rattle.std.specs.Prelude.{◌≡◌, true, IfErr, OnOk, Some, ◌⊎◌, IfOk};
+ghost use Rattle.rr_types.specs.Standings.{is_undecided};
+ghost use Rattle.rr_model.specs.NodeState.{standing_at};
 ghost use Rattle.rr_step.specs.Steps.{stepped};
+ghost use Rattle.rr_model.specs.NodeStep.{catch_up, acknowledge, take_proposal, take_estimate, heard_body, heard, Hear, refusal_of};
+ghost use Rattle.rr_behaviour.specs.Changes.{IsStep};
+ghost use Rattle.rr_types.specs.declared.message.Body.TheVariants as say;
 
 use crate::decisions::{answer, hear_ask, hear_decision};
-use crate::questions::{ask, ask_if_behind};
-use crate::parts::{enter, restate_all};
-use rr_step::Step;
-use rr_types::{
-    Body, Command, Estimate, Fact, Instance, Message, NodeId, Refusal, Round, coordinator,
-};
+use crate::entering::enter;
+use crate::finish::finish;
+use crate::questions::ask;
+use rr_step::{Changes, State, Step};
+use rr_types::{Body, Command, Estimate, Fact, Instance, Message, NodeId, Refusal, Round, coordinator};
 use std::alloc::Global;
-
-/// Why a submit is refused: a new request, with all instances decided here.
-pub fn submit_refusal(step: &Step<'_>, command: Command) -> Option<Refusal>
-    ensures { result ≡ submit_refusal command step.now.state }
-{
-    if step.is_list_full()
-        && !step.is_decided_request(command.request)
-        && !step.is_waiting(command.request)
-    {
-        Some(Refusal::ListFull)
-    } else {
-        None
-    }
-}
-
-/// A submit: a request that is new waits, is pooled and sent to each other node. `is_held`: whether the
-/// decided prefix holds it.
-#[tactic(auto, using(crate::proofs::InputLemmas::others_after_pool_add, crate::proofs::InputLemmas::others_after_wait_for), unfolding(rr_model::specs::NodeStep::submitted))]
-pub fn submitted(step: &mut Step<'_>, command: Command, is_held: bool) -> Result<(), Refusal>
-    requires { is_held ≡ has_request (decided_prefix step.old.state) command.request }
-    ensures ok { OnOk result (step.new ≡ stepped (submitted command) step.old) }
-    ensures err { IfErr result (λ e. e ≡ Refusal.OutOfMemory) }
-{
-    let request = command.request;
-    let is_known = is_held || step.is_waiting(request);
-    step.wait_for(request)?;
-    if is_known {
-        return Ok(());
-    }
-    let pooled = command;
-    step.pool_add(pooled)?;
-    step.owe_others(Body::Request(command), None)
-}
-
-/// A tick: a beat, the detector's suspects, the restatement of the open instances, and where the node is
-/// behind a question.
-#[tactic(auto, using(crate::proofs::InputLemmas::everyone_after_owe), unfolding(rr_model::specs::NodeStep::ticked_on))]
-pub fn ticked_on(step: &mut Step<'_>) -> Result<(), Refusal>
-    ensures ok { OnOk result (step.new ≡ stepped ticked_on step.old) }
-    ensures err { IfErr result (λ e. e ≡ Refusal.OutOfMemory) }
-{
-    step.tick_watches();
-    let late = step.late_nodes();
-    let open = step.open_instances();
-    step.owe_others(Body::Beat, None)?;
-    step.owe_everyone(Body::Suspects(late), None)?;
-    restate_all(step, open.as_slice())?;
-    ask_if_behind(step)
-}
-
-/// The lowest open instance that has a round enters the next one; in the last round it is refused, for which it
-/// takes no memory.
-#[tactic(auto, unfolding(rr_model::specs::NodeStep::advanced))]
-pub fn advanced(step: &mut Step<'_>) -> Result<(), Refusal>
-    ensures ok { OnOk result (step.new ≡ stepped advanced step.old) }
-    ensures allowed { OnOk result (advance_refusal step.old.state ≡ None) }
-    ensures order { (e : Refusal) → advance_refusal step.old.state ≡ Some e → result ≡ Err e }
-    ensures err { IfErr result (λ e. (e ≡ Refusal.OutOfMemory) ⊎ (advance_refusal step.old.state ≡ Some e)) }
-{
-    match step.lowest_in_round() {
-        None => Ok(()),
-        Some(instance) => {
-            let round = step.round(instance);
-            if round == rr_types::MAX_ROUND {
-                return Err(Refusal::RoundsOut);
-            }
-            enter(step, instance, Round::at(round + 1), None)
-        }
-    }
-}
 
 /// Where a round lies above the instance's, the instance enters it.
 fn catch_up(
@@ -284,7 +212,7 @@ fn hear_body(step: &mut Step<'_>, alloc: Global, from: NodeId, body: Body) -> Re
 }
 
 /// A message; one for another node is dropped.
-pub fn heard(step: &mut Step<'_>, alloc: Global, message: &Message) -> Result<(), Refusal>
+fn heard(step: &mut Step<'_>, alloc: Global, message: &Message) -> Result<(), Refusal>
     ensures ok { OnOk result (step.new ≡ stepped (heard message.now) step.old) }
     ensures err { IfErr result (λ e. e ≡ Refusal.OutOfMemory) }
 {
@@ -293,4 +221,15 @@ pub fn heard(step: &mut Step<'_>, alloc: Global, message: &Message) -> Result<()
     } else {
         Ok(())
     }
+}
+
+/// What a message changes.
+#[tactic(auto, using(crate::proofs::InputSteps::hear_is_step, crate::proofs::InputSteps::hear_large))]
+pub fn hear_step(state: &State, alloc: Global, message: &Message) -> Result<Changes, Refusal>
+    ensures ok { IfOk result (λ c. IsStep (Hear message.now) state.now c) }
+    ensures refused { IfErr result (λ e. (e ≡ Refusal.OutOfMemory) ⊎ (refusal_of (Hear message.now) state.now ≡ Some e)) }
+{
+    let mut step = Step::new(alloc, state);
+    heard(&mut step, alloc, message)?;
+    finish(step)
 }

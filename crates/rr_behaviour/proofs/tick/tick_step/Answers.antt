@@ -2,7 +2,7 @@ use Rattle.std.proofs.Common.{◌≡◌, ◌∙◌, ap, sym}
 use Rattle.rr_model.specs.NodeStep.{Tick, ticked_on}
 use Rattle.rr_step.specs.Steps.{Stepped, stepped}
 use Rattle.rr_behaviour.proofs.InputSteps.{refused_of, tick_large}
-use Rattle.rr_behaviour.proofs.inputs.tick_step.Goals as goal
+use Rattle.rr_behaviour.proofs.tick.tick_step.Goals as goal
 
 pub returns-in-Ok-clause-refused : goal.returns-in-Ok-clause-refused
 returns-in-Ok-clause-refused c =
