@@ -1,5 +1,23 @@
-//! The pure core of a node: a state machine without input and output. It is told what happens, stages facts,
-//! and owes messages; whoever runs it flushes the facts and carries the messages.
+//! The pure core of a node: a state machine without input and output. Whoever runs it does four things, over and over:
+//!
+//! 1. tells it what happened, by `submit`, `hear`, `tick`, `suspect` or `advance`. It stages facts and owes messages;
+//! 2. flushes what is staged: `take_group`, a flush of `rr_journal`, and `mark`;
+//! 3. carries each message that may leave by then (`next_message`) to its addressee, which hears it;
+//! 4. tells clients the replies (`next_ack`).
+//!
+//! ```
+//! core.submit(command)?;
+//! while let Some(group) = core.take_group()? {
+//!     let job = journal.begin(alloc, group)?;
+//!     core.mark(job.step(journal)?.step(journal)?.step(journal)?.step(journal)?)?;
+//!     while let Some(cleared) = core.next_message() {
+//!         core.hear(&cleared.message())?;
+//!     }
+//! }
+//! ```
+//!
+//! `crates/one_node` is such a program. What an input does is in `rr_behaviour`: for a message in `hear.rt`. A core is made by
+//! `rr_recover`.
 #![tactic(auto)]
 
 mod group;
