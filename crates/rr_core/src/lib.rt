@@ -5,19 +5,8 @@
 //! 3. carries each message that may leave by then (`next_message`) to its addressee, which hears it;
 //! 4. tells clients the replies (`next_ack`).
 //!
-//! ```
-//! core.submit(command)?;
-//! while let Some(group) = core.take_group()? {
-//!     let job = journal.begin(alloc, group)?;
-//!     core.mark(job.step(journal)?.step(journal)?.step(journal)?.step(journal)?)?;
-//!     while let Some(cleared) = core.next_message() {
-//!         core.hear(&cleared.message())?;
-//!     }
-//! }
-//! ```
-//!
-//! `crates/one_node` is such a program. What an input does is in `rr_behaviour`: for a message in `hear.rt`. A core is made by
-//! `rr_recover`.
+//! `crates/one_node` is such a program, and README shows its middle. `rr_recover` makes a core. What an input does is in
+//! `rr_behaviour`: for a message in `hear.rt`.
 #![tactic(auto)]
 
 mod group;
