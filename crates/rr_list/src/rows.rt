@@ -19,14 +19,13 @@ use std::alloc::Global;
 use std::collections::BTreeMap;
 use std::marker::Model;
 
-/// The rows, each at its instance; the requests that they have decided; the number above the highest instance
-/// that has decided, or 0; and a number below which all rows lie, so that a look-up above them costs nothing.
+/// The rows, each at its instance; the requests that they have decided; and the number above the highest instance
+/// that has decided, or 0.
 #[derive(Drop)]
 pub(crate) struct Rows {
     rows: Numbered<Row>,
     requests: BTreeMap<RequestNo, Option<()>>,
     end: u32,
-    named: u32,
 }
 
 impl Model for Rows {
@@ -39,7 +38,7 @@ impl Model for Rows {
 
     ghost view = { λ t. rows_in (filled t.rows) };
 
-    ghost invariant = { λ t. IsTable (filled t.rows) (filled t.requests.entries) t.end t.named };
+    ghost invariant = { λ t. IsTable (filled t.rows) (filled t.requests.entries) t.end };
 }
 
 /// Makes a place for the row of each of these instances.
@@ -149,27 +148,6 @@ fn instances_of(alloc: Global, rows: &[Row]) -> Result<Vec<Instance>, Refusal>
     Ok(instances)
 }
 
-/// The least number from this one on below which an instance lies.
-fn named_above(named: u32, instance: Instance) -> u32
-    ensures grown { named ≤ result }
-    ensures below { instance < result }
-{
-    let number = instance.number();
-    if named <= number { number + 1 } else { named }
-}
-
-/// The least number from this one on below which these rows lie.
-fn named_with(named: u32, rows: &[Row]) -> u32
-    ensures grown { named ≤ result }
-    ensures below { All (λ r. r.instance < result) rows.now }
-{
-    let mut above = named;
-    for row in rows {
-        above = named_above(above, row.instance);
-    }
-    above
-}
-
 /// The request that a row has decided.
 fn decided_request(row: &Row) -> Option<RequestNo>
     ensures { result ≡ option_map (λ v. v.request) (decided_command row.now) }
@@ -270,7 +248,6 @@ impl Rows {
             rows: Numbered::new(alloc),
             requests: BTreeMap::new(alloc),
             end: 0,
-            named: 0,
         }
     }
 
@@ -280,9 +257,6 @@ impl Rows {
         ensures ascend { AscendFrom 0 self.now }
         ensures instances { AreInstances self.now }
     {
-        if self.named <= number {
-            return None;
-        }
         match self.rows.get(number) {
             Some(row) => Some(row),
             None => None,
@@ -320,7 +294,6 @@ impl Rows {
         make_request_place(&mut self.requests, &row)?;
         match self.rows.insert(instance.number(), row) {
             Ok(()) => {
-                self.named = named_above(self.named, instance);
                 self.end = note_request(&mut self.requests, self.end, instance, request);
                 Ok(())
             }
@@ -384,7 +357,6 @@ impl Rows {
         let instances = instances_of(alloc, &rows)?;
         match make_places(&mut self.rows, &mut self.requests, &rows) {
             Ok(()) => {
-                self.named = named_with(self.named, &rows);
                 put_all(&mut self.rows, rows);
                 self.end = note_decisions(&self.rows, &mut self.requests, self.end, &instances);
                 Ok(())
