@@ -1,27 +1,31 @@
-//! A client.
+//! Clients: who asks a node, and what becomes of what it asks.
 
 use crate::desk::Desk;
 use crate::recorder::Recorder;
 use crate::rest::{LONG, Rest};
 use crate::running::Running;
+use crate::shared::Shared;
 use rr_locked::{Place, Turnstile, submit_on};
 use rr_script::{Answer, ScriptLine};
 use rr_types::{Command, Name, NodeId, Op, Refusal, Reply, RequestNo, Value};
 use rr_window::{Receipt, Seat, Sight, WindowName};
-use std::sync::{Mutex, Wait};
+use std::sync::Wait;
+use std::thread::Parker;
 
 /// So many times a client looks for its receipt before it gives up.
 const POLLS: u32 = 10_000_000;
 
-/// An answer, and the place of its line in the script.
-#[derive(Clone, Copy, Debug)]
-pub struct Answered {
-    pub place: usize,
-    pub answer: Answer,
+/// Someone who asks one node, in a thread of its own and with a seat of its own.
+pub trait Client {
+    /// What it asks next, as a line that its node answers, whichever node the line names. `None`: it is done.
+    fn ask(&mut self) -> Option<ScriptLine>;
+
+    /// What it asked last is answered. An error ends the run.
+    fn hear(&mut self, answer: Answer) -> Result<(), Refusal>;
 }
 
 /// The node is asked for a command. Answers whether the reply is there already.
-fn ask<W: WindowName, R: Wait>(
+fn submit_in<W: WindowName, R: Wait>(
     rt: &R,
     desk: &Desk<W>,
     recorder: Option<&Recorder>,
@@ -40,6 +44,7 @@ fn receipt_for<W: WindowName, R: Wait>(
     rt: &R,
     running: &Running,
     desk: &Desk<W>,
+    bell: &Parker,
     request: RequestNo,
 ) -> Option<Receipt<W>> {
     let mut rest = Rest::new(LONG);
@@ -50,7 +55,7 @@ fn receipt_for<W: WindowName, R: Wait>(
         if running.is_over() {
             break;
         }
-        rest.wait(rt, &desk.client);
+        rest.wait(rt, bell);
     }
     None
 }
@@ -66,28 +71,27 @@ fn leaves_a_gap(refusal: &Refusal) -> bool {
 /// Submits a command, and learns of its receipt. A run ends whose tape may lack the submit.
 fn submit<W: WindowName, T: Turnstile, R: Wait>(
     rt: &R,
-    running: &Running,
+    shared: &Shared<'_, T>,
     desk: &Desk<W>,
-    recorder: Option<&Recorder>,
-    turnstile: &T,
-    node: NodeId,
+    bell: &Parker,
     seat: &mut Seat<W>,
     command: &Command,
 ) -> Answer {
+    let node = desk.node;
     let request = command.request;
-    let asked = ask(rt, desk, recorder, command);
-    turnstile.pass(node, Place::AfterSubmit);
-    match asked {
+    let submitted = submit_in(rt, desk, shared.recorder, command);
+    shared.turnstile.pass(node, Place::AfterSubmit);
+    match submitted {
         Err(refusal) => {
-            if recorder.is_some() && leaves_a_gap(&refusal) {
-                running.fail(rt, node, refusal);
+            if shared.recorder.is_some() && leaves_a_gap(&refusal) {
+                shared.running.fail(rt, node, refusal);
             }
             return Answer::Unacknowledged { node, request };
         }
         Ok(true) => desk.publisher.unpark(),
-        Ok(false) => running.ring(node),
+        Ok(false) => shared.running.ring(node),
     }
-    match receipt_for(rt, running, desk, request) {
+    match receipt_for(rt, &shared.running, desk, bell, request) {
         None => Answer::Unacknowledged { node, request },
         Some(receipt) => {
             seat.learn(&receipt);
@@ -122,51 +126,55 @@ fn look<W: WindowName>(node: NodeId, seat: &mut Seat<W>, name: &Name) -> Answer 
 /// Asks what a line asks.
 fn answer<W: WindowName, T: Turnstile, R: Wait>(
     rt: &R,
-    running: &Running,
+    shared: &Shared<'_, T>,
     desk: &Desk<W>,
-    recorder: Option<&Recorder>,
-    turnstile: &T,
-    node: NodeId,
+    bell: &Parker,
     seat: &mut Seat<W>,
     line: &ScriptLine,
 ) -> Answer {
     let _parts: Option<(Answer, ScriptLine, Command, Op, Name, Reply, Value)> = None;
     match line {
-        ScriptLine::Submit { node: _, command } => submit(
-            rt, running, desk, recorder, turnstile, node, seat, command,
-        ),
-        ScriptLine::Look { node: _, name } => look(node, seat, name),
+        ScriptLine::Submit { node: _, command } => submit(rt, shared, desk, bell, seat, command),
+        ScriptLine::Look { node: _, name } => look(desk.node, seat, name),
     }
 }
 
-/// Asks what the lines of a script ask of this node, in their order, until the run is over.
-pub fn serve<W: WindowName, T: Turnstile, R: Wait>(
+/// Asks a node what a client asks, line by line, until the client is done or the run is over.
+fn serve_at<W: WindowName, T: Turnstile, R: Wait, C: Client>(
     rt: &R,
-    running: &Running,
+    shared: &Shared<'_, T>,
     desk: &Desk<W>,
-    recorder: Option<&Recorder>,
-    turnstile: &T,
-    node: NodeId,
-    seat: Seat<W>,
-    lines: &[ScriptLine],
-    answers: &Mutex<Vec<Answered>>,
+    bell: &Parker,
+    seat: &mut Seat<W>,
+    client: &mut C,
 ) {
-    let _parts: Option<(Answer, ScriptLine, Command, Op, Name, Reply, Value)> = None;
-    let mut seat = seat;
-    for place in 0..lines.len() {
-        let line = &lines[place];
-        if line.node().index() == node.index() {
-            let answer = answer(
-                rt, running, desk, recorder, turnstile, node, &mut seat, line,
-            );
-            let pushed = answers.lock(rt).push(Answered { place, answer });
-            if pushed.is_err() {
-                running.fail(rt, node, Refusal::OutOfMemory);
-            }
-            if running.is_over() {
-                break;
-            }
+    for _ in rt.forever() {
+        let Some(line) = client.ask() else {
+            break;
+        };
+        let answer = answer(rt, shared, desk, bell, seat, &line);
+        if let Err(refusal) = client.hear(answer) {
+            shared.running.fail(rt, desk.node, refusal);
+        }
+        if shared.running.is_over() {
+            break;
         }
     }
-    running.leave(rt);
+}
+
+/// Serves the client at this place of its node.
+pub fn serve<W: WindowName, T: Turnstile, R: Wait, C: Client + Drop>(
+    rt: &R,
+    shared: &Shared<'_, T>,
+    desk: &Desk<W>,
+    place: usize,
+    seat: Seat<W>,
+    client: C,
+) {
+    let mut seat = seat;
+    let mut client = client;
+    if let Some(bell) = desk.bell(place) {
+        serve_at(rt, shared, desk, bell, &mut seat, &mut client);
+    }
+    shared.running.leave(rt);
 }

@@ -2,7 +2,7 @@
 
 use crate::desk::Desk;
 use crate::rest::{LONG, Rest};
-use crate::running::Running;
+use crate::shared::Shared;
 use rr_disk::Disk;
 use rr_inbox::{Giver, Taker, TrySendError};
 use rr_journal::{Journal, Synced};
@@ -22,11 +22,7 @@ pub struct Flusher<D: Disk> {
 }
 
 /// Gives back what became of a group, once there is room. Where nobody takes it, the run is over.
-fn give_back<R: Wait>(
-    rt: &R,
-    backs: &mut Giver<Result<Synced, Unflushed>>,
-    back: Result<Synced, Unflushed>,
-) {
+fn give_back<B: Drop, R: Wait>(rt: &R, backs: &mut Giver<B>, back: B) {
     let mut waiting = back;
     for _ in rt.forever() {
         match backs.give(rt, waiting) {
@@ -59,19 +55,17 @@ fn flush_next<D: Disk, T: Turnstile, R: Wait>(
 pub fn flush_all<W: WindowName, D: Disk + Drop, T: Turnstile, R: Wait>(
     rt: &R,
     alloc: Global,
-    running: &Running,
+    shared: &Shared<'_, T>,
     desk: &Desk<W>,
-    turnstile: &T,
-    node: NodeId,
     flusher: Flusher<D>,
 ) {
     let mut flusher = flusher;
     let mut rest = Rest::new(LONG);
     for _ in rt.forever() {
-        if flush_next(rt, alloc, turnstile, node, &mut flusher) {
+        if flush_next(rt, alloc, shared.turnstile, desk.node, &mut flusher) {
             rest.end();
-            running.ring(node);
-        } else if running.is_over() {
+            shared.running.ring(desk.node);
+        } else if shared.running.is_over() {
             break;
         } else {
             rest.wait(rt, &desk.flusher);

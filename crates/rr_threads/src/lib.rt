@@ -1,5 +1,5 @@
-//! Nodes in threads. Each node has four: one hears, marks, sends and ticks, one flushes, one publishes, and one is its
-//! client. Nodes send to one another through inboxes.
+//! Nodes in threads. Each node has three, and one for each of its clients: one hears, marks, sends and ticks, one flushes, one
+//! publishes. Nodes send to one another through inboxes.
 #![tactic(auto)]
 
 mod client;
@@ -12,6 +12,10 @@ mod recorder;
 mod rest;
 mod run;
 mod running;
+mod script_run;
+mod shared;
 
+pub use client::Client;
 pub use recorder::Recorder;
-pub use run::run_script;
+pub use run::run_clients;
+pub use script_run::run_script;

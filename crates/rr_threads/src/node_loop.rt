@@ -4,10 +4,11 @@ use crate::desk::Desk;
 use crate::recorder::Recorder;
 use crate::rest::{Rest, SHORT};
 use crate::running::Running;
+use crate::shared::Shared;
 use rr_inbox::{Giver, Outlet, Port, Taker, TrySendError};
 use rr_journal::Synced;
 use rr_locked::{IdleTurns, Locked, Sent, Unflushed, hear_on, mark_on, send_on, take_on, tick_on};
-use rr_types::{Body, Command, Estimate, Group, Message, NodeId, Op, Refusal};
+use rr_types::{Body, Command, Estimate, Group, Message, Op, Refusal};
 use rr_window::WindowName;
 use std::sync::{Mutex, Wait};
 
@@ -113,25 +114,31 @@ fn take<R: Wait>(
     }
 }
 
-/// The oldest staged facts go to the flusher. Answers whether there were any. There is room for them, since the flusher
-/// has given back what it had.
+/// Gives a group to the flusher. There is room for it, since the flusher has given back what it had.
+fn give<G: Drop, R: Wait>(rt: &R, groups: &mut Giver<G>, group: G) {
+    let mut waiting = group;
+    for _ in rt.forever() {
+        match groups.give(rt, waiting) {
+            Err(TrySendError::Full(refused)) => waiting = refused,
+            _ => break,
+        }
+    }
+}
+
+/// The oldest staged facts go to the flusher. Answers whether there were any.
 fn flush_next<R: Wait>(
     rt: &R,
     node: &Mutex<Locked>,
     recorder: Option<&Recorder>,
     groups: &mut Giver<Group>,
 ) -> Result<bool, Refusal> {
-    let mut waiting = match take(rt, node, recorder)? {
-        None => return Ok(false),
-        Some(group) => group,
-    };
-    for _ in rt.forever() {
-        match groups.give(rt, waiting) {
-            Err(TrySendError::Full(group)) => waiting = group,
-            _ => break,
+    match take(rt, node, recorder)? {
+        None => Ok(false),
+        Some(group) => {
+            give(rt, groups, group);
+            Ok(true)
         }
     }
-    Ok(true)
 }
 
 /// The oldest message that may leave, with its number.
@@ -217,14 +224,13 @@ fn turn<W: WindowName, R: Wait>(
 }
 
 /// Runs a node, until the run is over.
-pub fn run_node<W: WindowName, R: Wait>(
+pub fn run_node<W: WindowName, T, R: Wait>(
     rt: &R,
-    running: &Running,
+    shared: &Shared<'_, T>,
     desk: &Desk<W>,
-    recorder: Option<&Recorder>,
-    node: NodeId,
     runner: Runner,
 ) {
+    let running = &shared.running;
     let mut runner = runner;
     let mut idle = IdleTurns::new();
     let mut rest = Rest::new(SHORT);
@@ -232,14 +238,14 @@ pub fn run_node<W: WindowName, R: Wait>(
         if running.is_over() {
             break;
         }
-        match turn(rt, running, desk, recorder, &mut runner, &mut idle) {
+        match turn(rt, running, desk, shared.recorder, &mut runner, &mut idle) {
             Ok(true) => rest.end(),
             Ok(false) => {
-                if let Some(bell) = running.bell(node) {
+                if let Some(bell) = running.bell(desk.node) {
                     rest.wait(rt, bell);
                 }
             }
-            Err(refusal) => running.fail(rt, node, refusal),
+            Err(refusal) => running.fail(rt, desk.node, refusal),
         }
     }
     desk.ring_all();

@@ -3,9 +3,9 @@
 use crate::desk::Desk;
 use crate::recorder::Recorder;
 use crate::rest::{LONG, Rest};
-use crate::running::Running;
+use crate::shared::Shared;
 use rr_locked::{ack_on, follow};
-use rr_types::{NodeId, Refusal, Reply, RequestNo};
+use rr_types::{Refusal, Reply, RequestNo};
 use rr_window::{Publisher, WindowName};
 use std::alloc::Global;
 use std::collections::VecDeque;
@@ -67,25 +67,23 @@ fn publish_next<W: WindowName, R: Wait>(
 }
 
 /// Publishes what is marked, until the run is over.
-pub fn publish_all<W: WindowName, R: Wait>(
+pub fn publish_all<W: WindowName, T, R: Wait>(
     rt: &R,
     alloc: Global,
-    running: &Running,
+    shared: &Shared<'_, T>,
     desk: &Desk<W>,
-    recorder: Option<&Recorder>,
-    node: NodeId,
     publisher: &mut Publisher<W>,
 ) {
     let mut acknowledged = VecDeque::new(alloc);
     let mut rest = Rest::new(LONG);
     for _ in rt.forever() {
-        if running.is_over() {
+        if shared.running.is_over() {
             break;
         }
-        match publish_next(rt, desk, recorder, publisher, &mut acknowledged) {
+        match publish_next(rt, desk, shared.recorder, publisher, &mut acknowledged) {
             Ok(true) => rest.end(),
             Ok(false) => rest.wait(rt, &desk.publisher),
-            Err(refusal) => running.fail(rt, node, refusal),
+            Err(refusal) => shared.running.fail(rt, desk.node, refusal),
         }
     }
 }

@@ -1,21 +1,21 @@
-//! Runs of 1 to 7 nodes.
+//! Runs of 1 to 7 nodes, for clients of any kind.
 
-ghost use Rattle.std.specs.Prelude.{◌≡◌};
+ghost use Rattle.std.specs.Prelude.{◌≡◌, ◌<◌};
 ghost use Rattle.std.specs.Thread.{IsSend};
 
-use crate::client::Answered;
+use crate::client::Client;
 use crate::node_run::{Part, run_part};
 use crate::recorder::Recorder;
 use crate::running::Running;
+use crate::shared::Shared;
 use rr_disk::Disk;
 use rr_inbox::{Outlet, Port};
 use rr_locked::{Sent, Turnstile};
 use rr_recover::recover;
-use rr_script::{Answer, Answers, Script, ScriptLine};
-use rr_types::{Name, NodeId, Nodes, Op, Refusal, Reply, Value};
+use rr_types::{NodeId, Nodes, Refusal};
 use std::alloc::Global;
 use std::collections::VecDeque;
-use std::sync::{Mutex, Wait};
+use std::sync::Wait;
 use std::thread;
 use std::thread::{Scope, Threads};
 
@@ -32,25 +32,66 @@ fn ports_of(
     Ok(ports)
 }
 
-/// Opens the nodes of these disks, the lowest first.
-fn open_parts<D: Disk + Drop>(
-    alloc: Global,
-    nodes: Nodes,
-    disks: Vec<D>,
-) -> Result<Vec<Part<D>>, Refusal>
-    requires alike { (one other : D) → D.tells one → D.tells other }
-{
+/// An inbox for each node.
+fn open_inboxes(alloc: Global, nodes: Nodes) -> Result<VecDeque<Outlet<Sent>>, Refusal> {
     let mut inboxes = VecDeque::new(alloc);
     for _ in 0..nodes.count() {
         inboxes.push_back(Outlet::new(alloc)?)?;
     }
+    Ok(inboxes)
+}
+
+/// The ends that put into each inbox, for each node.
+fn open_rows(
+    alloc: Global,
+    nodes: Nodes,
+    inboxes: &mut VecDeque<Outlet<Sent>>,
+) -> Result<VecDeque<Vec<Port<Sent>>>, Refusal> {
     let mut rows = VecDeque::new(alloc);
     for _ in 0..nodes.count() {
-        rows.push_back(ports_of(alloc, &mut inboxes)?)?;
+        rows.push_back(ports_of(alloc, inboxes)?)?;
     }
+    Ok(rows)
+}
+
+/// Opens a node of this disk.
+fn open_part<D: Disk + Drop>(
+    alloc: Global,
+    nodes: Nodes,
+    node: NodeId,
+    disk: D,
+    inbox: Outlet<Sent>,
+    ports: Vec<Port<Sent>>,
+) -> Result<Part<D>, Refusal>
+    requires exists { node < nodes }
+    requires alike { (one other : D) → D.tells one → D.tells other }
+{
+    match recover(alloc, nodes, node, disk) {
+        Ok((core, journal)) => Ok(Part {
+            node,
+            core,
+            journal,
+            inbox,
+            ports,
+        }),
+        Err((refusal, _)) => Err(refusal),
+    }
+}
+
+/// Opens the nodes of these disks, the lowest first, each with its clients.
+fn open_parts<D: Disk + Drop, C: Drop>(
+    alloc: Global,
+    nodes: Nodes,
+    disks: Vec<D>,
+    clients: Vec<Vec<C>>,
+) -> Result<Vec<(Part<D>, Vec<C>)>, Refusal>
+    requires alike { (one other : D) → D.tells one → D.tells other }
+{
+    let mut inboxes = open_inboxes(alloc, nodes)?;
+    let mut rows = open_rows(alloc, nodes, &mut inboxes)?;
     let mut parts = Vec::new(alloc);
     let mut index = 0u8;
-    for disk in disks {
+    for (disk, clients) in disks.into_iter().zip(clients) {
         let (Some(node), Some(inbox), Some(ports)) = (
             NodeId::new(nodes, index),
             inboxes.pop_front(),
@@ -58,16 +99,8 @@ fn open_parts<D: Disk + Drop>(
         ) else {
             break;
         };
-        match recover(alloc, nodes, node, disk) {
-            Ok((core, journal)) => parts.push(Part {
-                node,
-                core,
-                journal,
-                inbox,
-                ports,
-            })?,
-            Err((refusal, _)) => return Err(refusal),
-        }
+        let part = open_part(alloc, nodes, node, disk, inbox, ports)?;
+        parts.push((part, clients))?;
         index = index.saturating_add(1);
     }
     Ok(parts)
@@ -76,133 +109,115 @@ fn open_parts<D: Disk + Drop>(
 /// Starts a node's thread.
 fn start_node<
     's,
+    'x: 's,
     E,
     D: Disk + Drop + Send + 's,
     T: Turnstile + Sync + 's,
     R: Threads + Wait + Sync + 's,
+    C: Client + Drop + Send + 's,
 >(
     scope: &Scope<'s, E>,
     rt: &'s R,
     alloc: Global,
-    running: &'s Running,
-    recorder: Option<&'s Recorder>,
-    turnstile: &'s T,
+    shared: &'s Shared<'x, T>,
     part: Part<D>,
-    lines: &'s [ScriptLine],
-    answers: &'s Mutex<Vec<Answered>>,
+    clients: Vec<C>,
 ) -> bool {
     scope
-        .spawn(move || run_part(
-            rt, alloc, running, recorder, turnstile, part, lines, answers,
-        ))
+        .spawn(move || run_part(rt, alloc, shared, part, clients))
         .is_ok()
 }
 
 /// Starts a thread for each node. Where one can't be made, the run is over.
 fn start_all<
     's,
+    'x: 's,
     E,
     D: Disk + Drop + Send + 's,
     T: Turnstile + Sync + 's,
     R: Threads + Wait + Sync + 's,
+    C: Client + Drop + Send + 's,
 >(
     scope: &Scope<'s, E>,
     rt: &'s R,
     alloc: Global,
-    running: &'s Running,
-    recorder: Option<&'s Recorder>,
-    turnstile: &'s T,
-    parts: Vec<Part<D>>,
-    lines: &'s [ScriptLine],
-    answers: &'s Mutex<Vec<Answered>>,
+    shared: &'s Shared<'x, T>,
+    parts: Vec<(Part<D>, Vec<C>)>,
 ) {
-    for part in parts {
+    for (part, clients) in parts {
         let node = part.node();
-        if !start_node(
-            scope, rt, alloc, running, recorder, turnstile, part, lines, answers,
-        ) {
-            running.fail(rt, node, Refusal::OutOfMemory);
+        if !start_node(scope, rt, alloc, shared, part, clients) {
+            shared.running.fail(rt, node, Refusal::OutOfMemory);
         }
     }
 }
 
 /// All nodes at once.
-fn run_scope<'x, D: Disk + Drop + Send, T: Turnstile + Sync, R: Threads + Wait + Sync>(
-    rt: &'x R,
+fn run_scope<
+    's,
+    'x,
+    D: Disk + Drop + Send,
+    T: Turnstile + Sync,
+    R: Threads + Wait + Sync,
+    C: Client + Drop + Send,
+>(
+    rt: &'s R,
     alloc: Global,
-    running: &'x Running,
-    recorder: Option<&'x Recorder>,
-    turnstile: &'x T,
-    parts: Vec<Part<D>>,
-    lines: &'x [ScriptLine],
-    answers: &'x Mutex<Vec<Answered>>,
+    shared: &'s Shared<'x, T>,
+    parts: Vec<(Part<D>, Vec<C>)>,
 ) {
     thread::scope(
         thread::scope_env(),
         rt,
         |scope|
-            requires { IsSend D.row }
-        {
-            start_all(
-                scope, rt, alloc, running, recorder, turnstile, parts, lines, answers,
-            )
-        },
+            requires { IsSend D.row × IsSend C.row }
+        { start_all(scope, rt, alloc, shared, parts) },
     );
 }
 
-/// Room for the answers to so many lines.
-fn slots(alloc: Global, count: usize) -> Result<Vec<Option<Answer>>, Refusal> {
-    let mut slots = Vec::new(alloc);
-    for _ in 0..count {
-        slots.push(None)?;
+/// How many clients these are.
+fn count_clients<D: Disk, C>(parts: &[(Part<D>, Vec<C>)]) -> usize {
+    let mut count = 0usize;
+    for (_, clients) in parts {
+        count = count.saturating_add(clients.len());
     }
-    Ok(slots)
+    count
 }
 
-/// The answers in the order of their lines.
-fn in_order(alloc: Global, count: usize, answered: &[Answered]) -> Result<Answers, Refusal> {
-    let _parts: Option<(Answer, Name, Op, Reply, Value)> = None;
-    let mut slots = slots(alloc, count)?;
-    for one in answered {
-        if let Some(slot) = slots.get_mut(one.place) {
-            *slot = Some(one.answer);
-        }
-    }
-    let mut answers = Vec::new(alloc);
-    for slot in &slots {
-        if let Some(answer) = slot {
-            answers.push(*answer)?;
-        }
-    }
-    Ok(Answers::new(answers))
-}
-
-/// Runs nodes in threads over these disks, the first of them node 0's, with a client of each that asks what the lines of
-/// a script ask of its node, line by line; and answers the lines. A recorder makes a tape of the run, over fresh disks.
+/// Runs nodes in threads over these disks, the first of them node 0's, until each client is done. A node's clients stand at its
+/// place; where there are fewer places than disks, the other disks aren't used. Of two clients of a node that ask the same
+/// request at the same time one gets the reply.
 ///
-/// Errors, of several the lowest node's: `OutOfMemory`; `Device`, where a device call failed; `Damaged`, of a disk that
-/// holds no facts; `TooLarge`, where a node's journal or its facts are at their end; with a recorder `BadEvent` of the
-/// event for which the tape has no place.
-pub fn run_script<D: Disk + Drop + Send, T: Turnstile + Sync, R: Threads + Wait + Sync>(
+/// # Errors
+/// Of several the lowest node's: `OutOfMemory`; `Device`, where a device call failed; `Damaged`, of a disk that holds no
+/// facts; `TooLarge`, where a node's journal or its facts are at their end; `SeatsTaken`, of a node with more than 64 clients;
+/// what a client's `hear` gives; with a recorder, which wants fresh disks, `BadEvent` of the event for which the tape has no
+/// place.
+pub fn run_clients<
+    D: Disk + Drop + Send,
+    T: Turnstile + Sync,
+    R: Threads + Wait + Sync,
+    C: Client + Drop + Send,
+>(
     rt: &R,
     alloc: Global,
+    nodes: Nodes,
     disks: Vec<D>,
-    script: &Script,
+    clients: Vec<Vec<C>>,
     turnstile: &T,
     recorder: Option<&Recorder>,
-) -> Result<Answers, Refusal>
+) -> Result<(), Refusal>
     requires alike { (one other : D) → D.tells one → D.tells other }
 {
-    let nodes = script.nodes();
-    let parts = open_parts(alloc, nodes, disks)?;
-    let running = Running::new(alloc, nodes.count(), parts.len())?;
-    let answers: Mutex<Vec<Answered>> = Mutex::new(Vec::new(alloc));
-    let lines = script.lines();
-    run_scope(
-        rt, alloc, &running, recorder, turnstile, parts, lines, &answers,
-    );
-    match running.into_refusal() {
+    let parts = open_parts(alloc, nodes, disks, clients)?;
+    let shared = Shared {
+        running: Running::new(alloc, nodes.count(), count_clients(&parts))?,
+        recorder,
+        turnstile,
+    };
+    run_scope(rt, alloc, &shared, parts);
+    match shared.running.into_refusal() {
         Some(refusal) => Err(refusal),
-        None => in_order(alloc, lines.len(), answers.into_inner().as_slice()),
+        None => Ok(()),
     }
 }

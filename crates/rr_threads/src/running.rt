@@ -1,4 +1,4 @@
-//! What all threads of a run share.
+//! How a run ends, and how its nodes are rung.
 
 use rr_locked::{Ending, Failure};
 use rr_types::{NodeId, Refusal};
