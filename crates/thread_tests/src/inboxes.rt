@@ -6,7 +6,7 @@ use rr_inbox::{Outlet, Port, ROOM};
 use std::alloc::Global;
 use std::process::Abort;
 use std::sync::Wait;
-use std::thread::{Threads, join, yield_now};
+use std::thread::{Threads, join, map_vec, yield_now};
 
 /// More tries than any test needs.
 const TURNS: u32 = 10_000_000;
@@ -98,4 +98,60 @@ fn nothing_is_lost_and_each_end_keeps_its_order(rt: HostRuntime) {
     let (put, taken) = two_beside_one(&rt, one, two, outlet);
     assert!(rt; put);
     assert!(rt; taken);
+}
+
+/// So many ends fill an inbox.
+const ENDS: usize = 7;
+
+/// Puts numbers from this one on until one comes back, and says how many went in.
+fn put_until_full<R: Wait>(rt: &R, port: Port<u32>, from: u32) -> u32 {
+    let mut port = port;
+    for put in 0..EACH {
+        if port.put(rt, from.saturating_add(put)).is_err() {
+            return put;
+        }
+    }
+    EACH
+}
+
+/// Seven ends, in a thread each, put until a number comes back. Answers how many each put.
+fn fill<R: Threads + Wait + Abort + AllocGlobal + Sync>(
+    rt: &R,
+    outlet: &mut Outlet<u32>,
+) -> Vec<u32> {
+    let mut ends = Vec::new(rt.alloc());
+    for end in 0..ENDS as u32 {
+        let port = outlet.port().expect(rt, "an end that puts");
+        ends.push((port, EACH * end)).expect(rt, "memory");
+    }
+    map_vec(rt, ends, &|(port, from)| put_until_full(rt, port, from)).expect(rt, "memory")
+}
+
+/// Takes what waits, and says whether it is so much of each end, in the end's order, and no more.
+fn takes_each<R: Wait>(rt: &R, outlet: &mut Outlet<u32>, counts: &[u32]) -> bool {
+    let mut taken = [0u32; ENDS];
+    for _ in 0..ROOM {
+        let Some(number) = outlet.take(rt) else {
+            return false;
+        };
+        let end = (number / EACH) as usize;
+        if end >= ENDS || taken[end] != number % EACH {
+            return false;
+        }
+        taken[end] = number % EACH + 1;
+    }
+    outlet.take(rt).is_none() && taken.as_slice() == counts
+}
+
+fn seven_fill_it<R: Threads + Wait + Abort + AllocGlobal + Sync>(rt: &R) {
+    let mut outlet: Outlet<u32> = Outlet::new(rt.alloc()).expect(rt, "an inbox");
+    for _ in 0..3u8 {
+        let counts = fill(rt, &mut outlet);
+        assert!(rt; takes_each(rt, &mut outlet, counts.as_slice()));
+    }
+}
+
+#[test]
+fn a_full_inbox_hands_back_to_each_of_seven_ends(rt: HostRuntime) {
+    seven_fill_it(&rt);
 }
