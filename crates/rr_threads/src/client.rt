@@ -1,9 +1,8 @@
-//! Clients: who asks a node, and what becomes of what it asks.
+//! Clients of a node, and what they ask it with.
 
 use crate::desk::Desk;
 use crate::recorder::Recorder;
 use crate::rest::{LONG, Rest};
-use crate::running::Running;
 use crate::shared::Shared;
 use rr_locked::{Place, Turnstile, submit_on};
 use rr_script::{Answer, ScriptLine};
@@ -17,11 +16,20 @@ const POLLS: u32 = 10_000_000;
 
 /// Someone who asks one node, in a thread of its own and with a seat of its own.
 pub trait Client {
-    /// What it asks next, as a line that its node answers, whichever node the line names. `None`: it is done.
-    fn ask(&mut self) -> Option<ScriptLine>;
+    /// Asks what it has to ask, by this handle. The run goes on until each client has come back from here. An error ends it.
+    fn run<W: WindowName, T: Turnstile, R: Wait>(
+        &mut self,
+        handle: &mut Handle<'_, W, T, R>,
+    ) -> Result<(), Refusal>;
+}
 
-    /// What it asked last is answered. An error ends the run.
-    fn hear(&mut self, answer: Answer) -> Result<(), Refusal>;
+/// What a client asks its node with.
+pub struct Handle<'d, W: WindowName, T, R> {
+    pub(crate) rt: &'d R,
+    pub(crate) shared: &'d Shared<'d, T>,
+    pub(crate) desk: &'d Desk<W>,
+    pub(crate) bell: &'d Parker,
+    pub(crate) seat: Seat<W>,
 }
 
 /// The node is asked for a command. Answers whether the reply is there already.
@@ -39,27 +47,6 @@ fn submit_in<W: WindowName, R: Wait>(
     Ok(locked.reply(command.request).is_some())
 }
 
-/// The receipt for a request, once it is there.
-fn receipt_for<W: WindowName, R: Wait>(
-    rt: &R,
-    running: &Running,
-    desk: &Desk<W>,
-    bell: &Parker,
-    request: RequestNo,
-) -> Option<Receipt<W>> {
-    let mut rest = Rest::new(LONG);
-    for _ in 0..POLLS {
-        if let Some(receipt) = desk.take_receipt(rt, request) {
-            return Some(receipt);
-        }
-        if running.is_over() {
-            break;
-        }
-        rest.wait(rt, bell);
-    }
-    None
-}
-
 /// Whether a submit that is refused so may have been made, and have no place on the tape.
 fn leaves_a_gap(refusal: &Refusal) -> bool {
     match refusal {
@@ -68,96 +55,93 @@ fn leaves_a_gap(refusal: &Refusal) -> bool {
     }
 }
 
-/// Submits a command, and learns of its receipt. A run ends whose tape may lack the submit.
-fn submit<W: WindowName, T: Turnstile, R: Wait>(
-    rt: &R,
-    shared: &Shared<'_, T>,
-    desk: &Desk<W>,
-    bell: &Parker,
-    seat: &mut Seat<W>,
-    command: &Command,
-) -> Answer {
-    let node = desk.node;
-    let request = command.request;
-    let submitted = submit_in(rt, desk, shared.recorder, command);
-    shared.turnstile.pass(node, Place::AfterSubmit);
-    match submitted {
-        Err(refusal) => {
-            if shared.recorder.is_some() && leaves_a_gap(&refusal) {
-                shared.running.fail(rt, node, refusal);
-            }
-            return Answer::Unacknowledged { node, request };
-        }
-        Ok(true) => desk.publisher.unpark(),
-        Ok(false) => shared.running.ring(node),
+impl<'d, W: WindowName, T: Turnstile, R: Wait> Handle<'d, W, T, R> {
+    /// What the client may wait with.
+    pub fn rt(&self) -> &R {
+        self.rt
     }
-    match receipt_for(rt, &shared.running, desk, bell, request) {
-        None => Answer::Unacknowledged { node, request },
-        Some(receipt) => {
-            seat.learn(&receipt);
-            let reply = receipt.reply();
-            Answer::Acknowledged {
-                node,
-                request,
-                reply,
-            }
-        }
-    }
-}
 
-/// Looks at a name.
-fn look<W: WindowName>(node: NodeId, seat: &mut Seat<W>, name: &Name) -> Answer {
-    let _parts: Option<(Op, Sight, Value)> = None;
-    let name = *name;
-    match seat.look(&name) {
-        Err(_) => Answer::Unseen { node, name },
-        Ok(sight) => match &sight {
-            Sight::Free => Answer::Free { node, name },
-            Sight::Bound(owner, value) => Answer::Bound {
-                node,
-                name,
-                owner: *owner,
-                value: *value,
+    /// The node that it asks.
+    pub fn node(&self) -> NodeId {
+        self.desk.node
+    }
+
+    /// Whether the run is over. Then no submit is acknowledged any more.
+    pub fn is_over(&self) -> bool {
+        self.shared.running.is_over()
+    }
+
+    /// The receipt for a request, once it is there.
+    fn receipt_for(&self, request: RequestNo) -> Option<Receipt<W>> {
+        let mut rest = Rest::new(LONG);
+        for _ in 0..POLLS {
+            if let Some(receipt) = self.desk.take_receipt(self.rt, request) {
+                return Some(receipt);
+            }
+            if self.is_over() {
+                break;
+            }
+            rest.wait(self.rt, self.bell);
+        }
+        None
+    }
+
+    /// Submits a command, and waits for its reply. What is looked at from then on has it. A run ends whose tape may lack the
+    /// submit. Of two clients of a node that ask the same request at the same time one gets the reply.
+    pub fn submit(&mut self, command: &Command) -> Answer {
+        let node = self.node();
+        let request = command.request;
+        let submitted = submit_in(self.rt, self.desk, self.shared.recorder, command);
+        self.shared.turnstile.pass(node, Place::AfterSubmit);
+        match submitted {
+            Err(refusal) => {
+                if self.shared.recorder.is_some() && leaves_a_gap(&refusal) {
+                    self.shared.running.fail(self.rt, node, refusal);
+                }
+                return Answer::Unacknowledged { node, request };
+            }
+            Ok(true) => self.desk.publisher.unpark(),
+            Ok(false) => self.shared.running.ring(node),
+        }
+        match self.receipt_for(request) {
+            None => Answer::Unacknowledged { node, request },
+            Some(receipt) => {
+                self.seat.learn(&receipt);
+                let reply = receipt.reply();
+                Answer::Acknowledged {
+                    node,
+                    request,
+                    reply,
+                }
+            }
+        }
+    }
+
+    /// Looks at a name, without waiting.
+    pub fn look(&mut self, name: &Name) -> Answer {
+        let _parts: Option<(Op, Sight, Value)> = None;
+        let node = self.node();
+        let name = *name;
+        match self.seat.look(&name) {
+            Err(_) => Answer::Unseen { node, name },
+            Ok(sight) => match &sight {
+                Sight::Free => Answer::Free { node, name },
+                Sight::Bound(owner, value) => Answer::Bound {
+                    node,
+                    name,
+                    owner: *owner,
+                    value: *value,
+                },
             },
-        },
-    }
-}
-
-/// Asks what a line asks.
-fn answer<W: WindowName, T: Turnstile, R: Wait>(
-    rt: &R,
-    shared: &Shared<'_, T>,
-    desk: &Desk<W>,
-    bell: &Parker,
-    seat: &mut Seat<W>,
-    line: &ScriptLine,
-) -> Answer {
-    let _parts: Option<(Answer, ScriptLine, Command, Op, Name, Reply, Value)> = None;
-    match line {
-        ScriptLine::Submit { node: _, command } => submit(rt, shared, desk, bell, seat, command),
-        ScriptLine::Look { node: _, name } => look(desk.node, seat, name),
-    }
-}
-
-/// Asks a node what a client asks, line by line, until the client is done or the run is over.
-fn serve_at<W: WindowName, T: Turnstile, R: Wait, C: Client>(
-    rt: &R,
-    shared: &Shared<'_, T>,
-    desk: &Desk<W>,
-    bell: &Parker,
-    seat: &mut Seat<W>,
-    client: &mut C,
-) {
-    for _ in rt.forever() {
-        let Some(line) = client.ask() else {
-            break;
-        };
-        let answer = answer(rt, shared, desk, bell, seat, &line);
-        if let Err(refusal) = client.hear(answer) {
-            shared.running.fail(rt, desk.node, refusal);
         }
-        if shared.running.is_over() {
-            break;
+    }
+
+    /// Asks what a line asks, of this node whichever the line names.
+    pub fn ask(&mut self, line: &ScriptLine) -> Answer {
+        let _parts: Option<(Answer, ScriptLine, Command, Op, Name, Reply, Value)> = None;
+        match line {
+            ScriptLine::Submit { node: _, command } => self.submit(command),
+            ScriptLine::Look { node: _, name } => self.look(name),
         }
     }
 }
@@ -171,10 +155,18 @@ pub fn serve<W: WindowName, T: Turnstile, R: Wait, C: Client + Drop>(
     seat: Seat<W>,
     client: C,
 ) {
-    let mut seat = seat;
     let mut client = client;
     if let Some(bell) = desk.bell(place) {
-        serve_at(rt, shared, desk, bell, &mut seat, &mut client);
+        let mut handle = Handle {
+            rt,
+            shared,
+            desk,
+            bell,
+            seat,
+        };
+        if let Err(refusal) = client.run(&mut handle) {
+            shared.running.fail(rt, desk.node, refusal);
+        }
     }
     shared.running.leave(rt);
 }

@@ -15,7 +15,7 @@ mod running;
 mod script_run;
 mod shared;
 
-pub use client::Client;
+pub use client::{Client, Handle};
 pub use recorder::Recorder;
 pub use run::run_clients;
 pub use script_run::run_script;

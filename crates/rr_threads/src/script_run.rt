@@ -2,13 +2,14 @@
 
 ghost use Rattle.std.specs.Prelude.{◌≡◌};
 
-use crate::client::Client;
+use crate::client::{Client, Handle};
 use crate::recorder::Recorder;
 use crate::run::run_clients;
 use rr_disk::Disk;
 use rr_locked::Turnstile;
 use rr_script::{Answer, Answers, Script, ScriptLine};
-use rr_types::{Name, Nodes, Op, Refusal, Reply, Value};
+use rr_types::{Command, Name, Nodes, Op, Refusal, Reply, Value};
+use rr_window::WindowName;
 use std::alloc::Global;
 use std::sync::{Mutex, Wait};
 use std::thread::Threads;
@@ -20,36 +21,33 @@ struct Answered {
     answer: Answer,
 }
 
-/// The client of a node that asks what the lines of a script ask of it.
+/// The client that asks what the lines of a script ask of its node.
 #[derive(Drop)]
-struct Reader<'x, R> {
-    rt: &'x R,
-    node: u8,
+struct Reader<'x> {
     lines: &'x [ScriptLine],
-    next: usize,
     answers: &'x Mutex<Vec<Answered>>,
 }
 
-impl<'x, R: Wait> Client for Reader<'x, R> {
-    fn ask(&mut self) -> Option<ScriptLine> {
-        for place in self.next..self.lines.len() {
+impl<'x> Client for Reader<'x> {
+    fn run<W: WindowName, T: Turnstile, R: Wait>(
+        &mut self,
+        handle: &mut Handle<'_, W, T, R>,
+    ) -> Result<(), Refusal> {
+        let _parts: Option<(Answer, ScriptLine, Command, Op, Name, Reply, Value)> = None;
+        for place in 0..self.lines.len() {
             let line = &self.lines[place];
-            if line.node().index() == self.node {
-                self.next = place + 1;
-                return Some(*line);
+            if line.node().index() == handle.node().index() {
+                let answer = handle.ask(line);
+                let pushed = self.answers.lock(handle.rt()).push(Answered { place, answer });
+                if pushed.is_err() {
+                    return Err(Refusal::OutOfMemory);
+                }
+                if handle.is_over() {
+                    break;
+                }
             }
         }
-        self.next = self.lines.len();
-        None
-    }
-
-    fn hear(&mut self, answer: Answer) -> Result<(), Refusal> {
-        let place = self.next.saturating_sub(1);
-        let pushed = self.answers.lock(self.rt).push(Answered { place, answer });
-        match pushed {
-            Ok(()) => Ok(()),
-            Err(_) => Err(Refusal::OutOfMemory),
-        }
+        Ok(())
     }
 }
 
@@ -81,23 +79,15 @@ fn in_order(alloc: Global, count: usize, answered: &[Answered]) -> Result<Answer
 }
 
 /// A client of each node, that asks what the lines ask of it.
-fn readers<'x, R: Wait>(
-    rt: &'x R,
+fn readers<'x>(
     alloc: Global,
     nodes: Nodes,
     lines: &'x [ScriptLine],
     answers: &'x Mutex<Vec<Answered>>,
-) -> Result<Vec<Vec<Reader<'x, R>>>, Refusal> {
+) -> Result<Vec<Vec<Reader<'x>>>, Refusal> {
     let mut readers = Vec::new(alloc);
-    for node in 0..nodes.count() {
-        let reader = Reader {
-            rt,
-            node,
-            lines,
-            next: 0,
-            answers,
-        };
-        readers.push(vec![in alloc; reader]?)?;
+    for _ in 0..nodes.count() {
+        readers.push(vec![in alloc; Reader { lines, answers }]?)?;
     }
     Ok(readers)
 }
@@ -120,7 +110,7 @@ pub fn run_script<D: Disk + Drop + Send, T: Turnstile + Sync, R: Threads + Wait 
     let nodes = script.nodes();
     let lines = script.lines();
     let answers: Mutex<Vec<Answered>> = Mutex::new(Vec::new(alloc));
-    let clients = readers(rt, alloc, nodes, lines, &answers)?;
+    let clients = readers(alloc, nodes, lines, &answers)?;
     run_clients(rt, alloc, nodes, disks, clients, turnstile, recorder)?;
     in_order(alloc, lines.len(), answers.into_inner().as_slice())
 }

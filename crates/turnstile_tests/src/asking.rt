@@ -3,8 +3,9 @@
 use rr_disk::MemDisk;
 use rr_locked::Turnstile;
 use rr_script::{Answer, ScriptLine};
-use rr_threads::{Client, run_clients};
+use rr_threads::{Client, Handle, run_clients};
 use rr_types::{Command, Name, NodeId, Nodes, Op, Refusal, Reply, RequestNo, Value};
+use rr_window::WindowName;
 use std::process::Abort;
 use std::sync::Wait;
 use std::sync::atomic::{AtomicU64, Ordering};
@@ -30,7 +31,7 @@ pub fn comes<R: Clock>(rt: &R, number: &AtomicU64, least: u64) -> bool {
 pub struct Asker<'a, R> {
     pub rt: &'a R,
     pub line: ScriptLine,
-    pub left: u32,
+    pub times: u32,
     /// It asks only once this number isn't 0.
     pub waits_for: Option<&'a AtomicU64>,
     /// How many clients had that answer.
@@ -47,20 +48,23 @@ fn is_right(answer: &Answer) -> bool {
 }
 
 impl<'a, R: Clock> Client for Asker<'a, R> {
-    fn ask(&mut self) -> Option<ScriptLine> {
-        self.left = self.left.checked_sub(1)?;
+    fn run<W: WindowName, T: Turnstile, H: Wait>(
+        &mut self,
+        handle: &mut Handle<'_, W, T, H>,
+    ) -> Result<(), Refusal> {
         if let Some(number) = self.waits_for {
             if !comes(self.rt, number, 1) {
-                return None;
+                return Ok(());
             }
         }
-        Some(self.line)
-    }
-
-    fn hear(&mut self, answer: Answer) -> Result<(), Refusal> {
-        if is_right(&answer) {
-            self.left = 0;
-            self.right.fetch_add(1, Ordering::SeqCst);
+        for _ in 0..self.times {
+            if is_right(&handle.ask(&self.line)) {
+                self.right.fetch_add(1, Ordering::SeqCst);
+                break;
+            }
+            if handle.is_over() {
+                break;
+            }
         }
         Ok(())
     }
@@ -98,7 +102,7 @@ pub fn claimers<'a, R: Abort + AllocGlobal>(
         let asker = Asker {
             rt,
             line: claim(rt, node, u64::from(index), *letter),
-            left: 1,
+            times: 1,
             waits_for: None,
             right,
         };

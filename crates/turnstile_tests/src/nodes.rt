@@ -52,14 +52,14 @@ fn answers_while_it_flushes<R: Threads + Wait + Clock + Abort + AllocGlobal + Sy
     let first = Asker {
         rt,
         line: claim(rt, node, 1, b'a'),
-        left: 1,
+        times: 1,
         waits_for: None,
         right: &right,
     };
     let second = Asker {
         rt,
         line: claim(rt, node, 2, b'b'),
-        left: 1,
+        times: 1,
         waits_for: Some(&turnstile.calls),
         right: &right,
     };
@@ -131,14 +131,14 @@ fn a_seat_elsewhere_shows_it<R: Threads + Wait + Clock + Abort + AllocGlobal + S
     let claimer = Asker {
         rt,
         line: claim(rt, zero, 1, b'a'),
-        left: 1,
+        times: 1,
         waits_for: None,
         right: &right,
     };
     let looker = Asker {
         rt,
         line: ScriptLine::Look { node: one, name },
-        left: LOOKS,
+        times: LOOKS,
         waits_for: None,
         right: &right,
     };
