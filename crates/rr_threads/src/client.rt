@@ -24,6 +24,7 @@ pub trait Client {
 }
 
 /// What a client asks its node with.
+#[derive(Drop)]
 pub struct Handle<'d, W: WindowName, T, R> {
     pub(crate) rt: &'d R,
     pub(crate) shared: &'d Shared<'d, T>,

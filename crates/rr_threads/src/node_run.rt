@@ -356,16 +356,9 @@ pub fn run_part<
     T: Turnstile + Sync,
     R: Threads + Wait + Sync,
     C: Client + Drop + Send,
->(
-    rt: &R,
-    alloc: Global,
-    shared: &Shared<'_, T>,
-    part: Part<D>,
-    clients: Vec<C>,
-) {
+>(rt: &R, alloc: Global, shared: &Shared<'_, T>, part: Part<D>, clients: Vec<C>) {
     let node = part.node();
-    let ran =
-        run_window::<Brand, D, T, R, C>(rt, alloc, shared, part, clients, NewList::new());
+    let ran = run_window::<Brand, D, T, R, C>(rt, alloc, shared, part, clients, NewList::new());
     if let Err(refusal) = ran {
         shared.running.fail(rt, node, refusal);
     }

@@ -160,12 +160,7 @@ fn run_scope<
     T: Turnstile + Sync,
     R: Threads + Wait + Sync,
     C: Client + Drop + Send,
->(
-    rt: &'s R,
-    alloc: Global,
-    shared: &'s Shared<'x, T>,
-    parts: Vec<(Part<D>, Vec<C>)>,
-) {
+>(rt: &'s R, alloc: Global, shared: &'s Shared<'x, T>, parts: Vec<(Part<D>, Vec<C>)>) {
     thread::scope(
         thread::scope_env(),
         rt,
@@ -216,7 +211,12 @@ pub fn run_clients<
         turnstile,
     };
     run_scope(rt, alloc, &shared, parts);
-    match shared.running.into_refusal() {
+    let Shared {
+        running,
+        recorder: _,
+        turnstile: _,
+    } = shared;
+    match running.into_refusal() {
         Some(refusal) => Err(refusal),
         None => Ok(()),
     }

@@ -38,7 +38,10 @@ impl<'x> Client for Reader<'x> {
             let line = &self.lines[place];
             if line.node().index() == handle.node().index() {
                 let answer = handle.ask(line);
-                let pushed = self.answers.lock(handle.rt()).push(Answered { place, answer });
+                let pushed = self
+                    .answers
+                    .lock(handle.rt())
+                    .push(Answered { place, answer });
                 if pushed.is_err() {
                     return Err(Refusal::OutOfMemory);
                 }
