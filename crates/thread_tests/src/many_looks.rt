@@ -29,6 +29,7 @@ fn value_after(count: u32) -> Result<Value, Refusal> {
 
 /// The value that a look at the name tells, if client 7 has it.
 fn seen<W: WindowName>(seat: &mut Seat<W>, name: &Name) -> Option<Value> {
+    let _parts: Option<(Op, Sight, Value)> = None;
     match seat.look(name) {
         Ok(Sight::Bound(7, value)) => Some(value),
         _ => None,
