@@ -19,15 +19,15 @@ pub trait Client {
     /// Asks what it has to ask, by this handle. The run goes on until each client has come back from here. An error ends it.
     fn run<W: WindowName, T: Turnstile, R: Wait>(
         &mut self,
-        handle: &mut Handle<'_, W, T, R>,
+        handle: &mut Handle<'_, '_, W, T, R>,
     ) -> Result<(), Refusal>;
 }
 
 /// What a client asks its node with.
 #[derive(Drop)]
-pub struct Handle<'d, W: WindowName, T, R> {
+pub struct Handle<'d, 'x, W: WindowName, T, R> {
     pub(crate) rt: &'d R,
-    pub(crate) shared: &'d Shared<'d, T>,
+    pub(crate) shared: &'d Shared<'x, T>,
     pub(crate) desk: &'d Desk<W>,
     pub(crate) bell: &'d Parker,
     pub(crate) seat: Seat<W>,
@@ -56,7 +56,7 @@ fn leaves_a_gap(refusal: &Refusal) -> bool {
     }
 }
 
-impl<'d, W: WindowName, T: Turnstile, R: Wait> Handle<'d, W, T, R> {
+impl<'d, 'x, W: WindowName, T: Turnstile, R: Wait> Handle<'d, 'x, W, T, R> {
     /// What the client may wait with.
     pub fn rt(&self) -> &R {
         self.rt
@@ -148,10 +148,10 @@ impl<'d, W: WindowName, T: Turnstile, R: Wait> Handle<'d, W, T, R> {
 }
 
 /// Serves the client at this place of its node.
-pub fn serve<W: WindowName, T: Turnstile, R: Wait, C: Client + Drop>(
-    rt: &R,
-    shared: &Shared<'_, T>,
-    desk: &Desk<W>,
+pub fn serve<'d, 'x, W: WindowName, T: Turnstile, R: Wait, C: Client + Drop>(
+    rt: &'d R,
+    shared: &'d Shared<'x, T>,
+    desk: &'d Desk<W>,
     place: usize,
     seat: Seat<W>,
     client: C,

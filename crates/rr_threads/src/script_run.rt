@@ -31,7 +31,7 @@ struct Reader<'x> {
 impl<'x> Client for Reader<'x> {
     fn run<W: WindowName, T: Turnstile, R: Wait>(
         &mut self,
-        handle: &mut Handle<'_, W, T, R>,
+        handle: &mut Handle<'_, '_, W, T, R>,
     ) -> Result<(), Refusal> {
         let _parts: Option<(Answer, ScriptLine, Command, Op, Name, Reply, Value)> = None;
         for place in 0..self.lines.len() {

@@ -50,7 +50,7 @@ fn is_right(answer: &Answer) -> bool {
 impl<'a, R: Clock> Client for Asker<'a, R> {
     fn run<W: WindowName, T: Turnstile, H: Wait>(
         &mut self,
-        handle: &mut Handle<'_, W, T, H>,
+        handle: &mut Handle<'_, '_, W, T, H>,
     ) -> Result<(), Refusal> {
         if let Some(number) = self.waits_for {
             if !comes(self.rt, number, 1) {
