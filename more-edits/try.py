@@ -9,10 +9,10 @@ a copy of these crates and those below. Where the kit keeps what earlier runs on
 --anew. N checks run side by side, as many as there are processors if left out.
 
 The gate leaves these edits out for its time: they turn the meaning of what stands inside a crate, or of a public function that another
-edit turns in the gate. Edits of the bodies of different functions are tried in one check, since a function's proof rests on the contracts
-of others alone. An edit whose function is still proved there is tried alone. At the end it says how many were refused, and names those that weren't. It also names the edits of this run of
-which proof files alone complain, and no goal of a source: there a proof by hand no longer fits, and whether the contract is broken has
-to be read."""
+edit turns in the gate. Edits of the bodies of different functions are tried in one check, since a function's proof rests on the
+contracts of others alone. An edit whose function is still proved there is tried alone. At the end it says how many were
+refused, and names those that weren't. It also names the edits of this run of which proof files alone complain, and no goal of a
+source: there a proof by hand no longer fits, and whether the contract is broken has to be read."""
 import argparse
 import concurrent.futures
 import importlib.machinery
@@ -91,13 +91,21 @@ def pairs_of(edit):
 
 
 def functions_in(text):
-    """The functions of a source, each with its name, its first line and its last."""
+    """The functions of a source, each with its name, the line that opens its body, and its last line."""
     lines = text.split("\n")
     for first, line in enumerate(lines, 1):
         found = re.match(r"( *)(?:pub(?:\([a-z]+\))? )?fn (\w+)", line)
         if found:
-            ends = (at for at in range(first, len(lines) + 1) if lines[at - 1].rstrip() in (found[1] + "}", found[1] + "{}"))
-            yield found[2], first, next(ends, first)
+            opens = (at for at in range(first, len(lines) + 1) if re.match(found[1] + r"(\S.*)?\{\}?$", lines[at - 1]))
+            opening = next(opens, first)
+            ends = (at for at in range(opening, len(lines) + 1) if lines[at - 1].rstrip() in (found[1] + "}", found[1] + "{}"))
+            yield found[2], opening, next(ends, opening)
+
+
+def with_first_lines(text):
+    """The same, each with its first line."""
+    firsts = [at for at, line in enumerate(text.split("\n"), 1) if re.match(r" *(?:pub(?:\([a-z]+\))? )?fn \w+", line)]
+    return zip(firsts, functions_in(text))
 
 
 def body_of(folder, edit):
@@ -111,7 +119,7 @@ def body_of(folder, edit):
         line = text[: text.index(old)].count("\n") + 1
         if re.match(r" *(ensures|requires|#)", text.split("\n")[line - 1]):
             return None
-        inside = [(path, name, first) for name, first, last in functions_in(text) if first < line <= last]
+        inside = [(path, name, opening) for name, opening, last in functions_in(text) if opening < line <= last]
         found.add(inside[-1] if inside else None)
     return found.pop()[:2] if len(found) == 1 and None not in found else None
 
@@ -169,10 +177,10 @@ class Together:
 
     def note(self, crate, edit, path, name, text, said):
         """What is said of a refused edit; it is noted if proof files alone complain of its function."""
-        ranges = [(first, last) for it, first, last in functions_in(text) if it == name]
+        spans = [(line, last) for line, (it, _, last) in with_first_lines(text) if it == name]
         lines = re.findall(rf"^(?:note: )?(?:\./)?{re.escape(path)}:(\d+):", said, re.MULTILINE)
         label = f"{crate.name}/{os.path.basename(edit)}"
-        if not any(first <= int(line) <= last for line in lines for first, last in ranges):
+        if not any(first <= int(line) <= last for line in lines for first, last in spans):
             self.by_hand.add(label)
         return f"must-fail {label}: refused, as it must be: {name} is not proved"
 
