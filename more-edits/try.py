@@ -135,11 +135,13 @@ class Together:
         self.rt, self.alone, self.lock, self.told, self.by_hand = rt, rt.must_fail, threading.Lock(), {}, set()
 
     def claim(self, crate, edit):
-        """This edit, and others of the crate that nobody has tried, each with its function."""
-        claimed = {}
-        for it in [edit, *self.rt.edits_of(crate)[0]]:
+        """This edit, and others of the crate that nobody has tried, each with its function: so many that each job has some."""
+        claimed, edits = {}, self.rt.edits_of(crate)[0]
+        jobs = int(os.environ.get("RT_JOBS") or os.cpu_count())
+        most = min(self.MOST, -(-len(edits) // jobs))
+        for it in [edit, *edits]:
             body = None if it in self.told else body_of(crate.folder, it)
-            if body and body not in claimed.values() and len(claimed) < self.MOST:
+            if body and body not in claimed.values() and len(claimed) < most:
                 claimed[it] = body
                 self.told[it] = concurrent.futures.Future()
         return claimed
