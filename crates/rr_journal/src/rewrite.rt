@@ -98,11 +98,11 @@ impl Rewrite {
         if epoch == u64::MAX {
             return Err(Refusal::TooLarge);
         }
-        let snapshot = Snapshot::new(nodes, node, epoch + 1, next, content.into_promise()) {
+        let snapshot = match Snapshot::new(nodes, node, epoch + 1, next, content.into_promise()) {
             Ok(snapshot) => snapshot,
             Err(_) => unreachable!(),
         };
-        let body = match frame_of(alloc, &snapshot)?;
+        let body = frame_of(alloc, &snapshot)?;
         let content = Content::new(epoch, snapshot.into_promise(), next, gate);
         Ok(Rewrite::new(Image::Outdated(area, content), body, closes))
     }

@@ -21,11 +21,6 @@ pub(crate) struct Run {
     report: Vec<u8>,
 }
 
-{
-    op_law(&command.op);
-    request_law(command.request);
-}
-
 /// Whether a fill has one byte, as each that is drawn.
 fn has_one_byte(fill: &Fill) -> bool
     ensures { IsTrue result → IsFill fill.now }
