@@ -1,5 +1,5 @@
-pub mod Idle
 pub mod Endings
 pub mod Listed
 pub mod Flushed
 pub mod Recorded
+pub mod Ticks

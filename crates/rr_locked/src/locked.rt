@@ -1,8 +1,8 @@
 //! What lies under a node's lock.
 
-ghost use Rattle.std.specs.Prelude.{◌≡◌, ◌≢◌, ◌⊎◌, [], true, None, Some, IfOk, IfErr, IfSome, IsSome, MatchOption, OnOk, OnErr};
+ghost use Rattle.std.specs.Prelude.{◌≡◌, ◌≢◌, ◌⊎◌, [], true, None, Some, Err, IfOk, IfErr, IfSome, IsSome, MatchOption, OnOk, OnErr};
 ghost use Rattle.rr_model.specs.NodeState.{decided_prefix};
-ghost use Rattle.rr_model.specs.NodeStep.{Submit, Tick, Hear, node_step, refusal_of, group_taken, running_group, group_put_back, marked_running, next_leaving, message_left, next_acknowledged, acknowledged};
+ghost use Rattle.rr_model.specs.NodeStep.{Submit, Tick, Advance, Hear, node_step, advance_refusal, refusal_of, group_taken, running_group, group_put_back, marked_running, next_leaving, message_left, next_acknowledged, acknowledged};
 ghost use Rattle.rr_types.specs.Promises.{all_fit};
 ghost use Rattle.rr_types.specs.Registry.{reply_of};
 ghost use Rattle.rr_outbox.specs.Marks.{IsFreeOrBacked};
@@ -103,6 +103,20 @@ impl Locked {
         ensures err { OnErr result (self.new ≡ self.old) }
     {
         let told = self.core.tick();
+        self.core.leaves_covered();
+        told
+    }
+
+    /// The lowest open instance that has a round enters the next one. It is `RoundsOut` where that is the last
+    /// round already, and `TooLarge` where a fact would have no number.
+    pub fn advance(&mut self) -> Result<(), Refusal>
+        ensures ok { OnOk result (self.new ≡ node_step Advance self.old) }
+        ensures allowed { OnOk result (refusal_of Advance self.old ≡ None) }
+        ensures order { (e : Refusal) → advance_refusal self.old ≡ Some e → result ≡ Err e }
+        ensures refused { IfErr result (λ e. (e ≡ Refusal.OutOfMemory) ⊎ (refusal_of Advance self.old ≡ Some e)) }
+        ensures err { OnErr result (self.new ≡ self.old) }
+    {
+        let told = self.core.advance();
         self.core.leaves_covered();
         told
     }

@@ -66,6 +66,20 @@ pub fn tick_on(locked: &mut Locked, recording: &mut Recording) -> Result<(), Ref
     recording.note(&event)
 }
 
+/// The lowest open instance of a node that has a round enters the next one.
+pub fn advance_on(locked: &mut Locked, recording: &mut Recording) -> Result<(), Refusal>
+    ensures step { OnOk result ((locked.new ≡ node_step node.Advance locked.old) × (refusal_of node.Advance locked.old ≡ None)) }
+    ensures event { OnOk result (recording.new ≡ with_event recording.old (tape.Advance locked.old.node)) }
+    ensures kept { OnErr result (recording.new ≡ recording.old) }
+    ensures cause { IfErr result (λ e. ((locked.new ≡ locked.old) × ((e ≡ Refusal.OutOfMemory) ⊎ (refusal_of node.Advance locked.old ≡ Some e)))
+        ⊎ ((locked.new ≡ node_step node.Advance locked.old) × HasNoPlace recording.old (tape.Advance locked.old.node) e)) }
+{
+    let node = locked.node();
+    locked.advance()?;
+    let event = TapeEvent::Advance { node };
+    recording.note(&event)
+}
+
 /// The oldest staged facts of a node become its running group. `None`: nothing is staged, and nothing is recorded.
 pub fn take_on(locked: &mut Locked, recording: &mut Recording) -> Result<Option<Group>, Refusal>
     ensures none { IfOk result (λ g. g ≡ None → (locked.new ≡ locked.old) × (locked.old.staged ≡ []) × (recording.new ≡ recording.old)) }

@@ -41,28 +41,41 @@ fn take_leaving(owed: &mut VecDeque<Owed>, mark: &Mark) -> Option<Cleared>
     ensures backed { IfSome result (IsFreeOrBacked mark.now owed.old.items) }
 {
     for at in 0..owed.len() {
-        let first = owed[at];
-        if let Some(cleared) = cleared(&first, mark) {
-            drop(owed.remove(at));
-            return Some(cleared);
+        // (a message is large, so only the one that leaves is copied)
+        if is_leaving(&owed[at], mark) {
+            return match owed.remove(at) {
+                Some(first) => Some(cleared(first, mark)),
+                None => None,
+            };
         }
     }
     None
 }
 
-/// The message where it may leave: a free one at once, another one by its draft.
-fn cleared(owed: &Owed, mark: &Mark) -> Option<Cleared>
-    requires { IsOwn mark.now.node owed.now }
-    ensures { MatchOption result (may_leave mark.now.end owed.now ≡ false) (λ m. (may_leave mark.now.end owed.now ≡ true) × (m ≡ owed.now.message)) }
+/// Whether a message may leave: it is free, or the fact that backs it is marked.
+fn is_leaving(owed: &Owed, mark: &Mark) -> bool
+    ensures { result ≡ may_leave mark.now.end owed.now }
 {
-    let message = owed.message;
     match owed.backing {
+        Some(number) => number < u128::from(mark.end()),
+        None => true,
+    }
+}
+
+/// The message of one that may leave: a free one at once, another one by its draft.
+fn cleared(owed: Owed, mark: &Mark) -> Cleared
+    requires own { IsOwn mark.now.node owed }
+    requires leaving { may_leave mark.now.end owed ≡ true }
+    ensures { result ≡ owed.message }
+{
+    let Owed { message, backing } = owed;
+    match backing {
         Some(number) => match Draft::new(message, number).clear(mark) {
-            Ok(cleared) => Some(cleared),
-            Err(_) => None,
+            Ok(cleared) => cleared,
+            Err(_) => unreachable!(),
         },
         None => match Cleared::free(message) {
-            Ok(cleared) => Some(cleared),
+            Ok(cleared) => cleared,
             Err(_) => unreachable!(),
         },
     }

@@ -1,6 +1,10 @@
 //! Clients of a node, and what they ask it with.
 
-use crate::desk::Desk;
+ghost use Rattle.std.specs.Prelude.{◌≡◌, IfSome};
+ghost use mathlib.Core.List.{IsPrefix};
+ghost use Rattle.rr_threads.specs.Asking.{IsAnswered, IsSeen, IsAnswerTo};
+
+use crate::desk::{Counter, Desk};
 use crate::recorder::Recorder;
 use crate::rest::{LONG, Rest};
 use crate::shared::Shared;
@@ -8,8 +12,8 @@ use rr_locked::{Place, Turnstile, submit_on};
 use rr_script::{Answer, ScriptLine};
 use rr_types::{Command, Name, NodeId, Op, Refusal, Reply, RequestNo, Value};
 use rr_window::{Receipt, Seat, Sight, WindowName};
+use std::marker::Model;
 use std::sync::Wait;
-use std::thread::Parker;
 
 /// So many times a client looks for its receipt before it gives up.
 const POLLS: u32 = 10_000_000;
@@ -23,14 +27,23 @@ pub trait Client {
     ) -> Result<(), Refusal>;
 }
 
-/// What a client asks its node with.
+/// What a client asks its node with. Contracts see the node, and the longest list that the client's seat has seen or learned.
 #[derive(Drop)]
 pub struct Handle<'d, 'x, W: WindowName, T, R> {
-    pub(crate) rt: &'d R,
-    pub(crate) shared: &'d Shared<'x, T>,
-    pub(crate) desk: &'d Desk<W>,
-    pub(crate) bell: &'d Parker,
-    pub(crate) seat: Seat<W>,
+    rt: &'d R,
+    shared: &'d Shared<'x, T>,
+    desk: &'d Desk<W>,
+    counter: &'d Counter<W>,
+    node: NodeId,
+    seat: Seat<W>,
+}
+
+impl<'d, 'x, W: WindowName, T, R> Model for Handle<'d, 'x, W, T, R> {
+    ghost use Rattle.rr_threads.specs.Asking.{Asking};
+
+    ghost Value = { Asking };
+
+    ghost view = { λ h. record { node = h.node; known = h.seat } };
 }
 
 /// The node is asked for a command. Answers whether the reply is there already.
@@ -56,6 +69,72 @@ fn leaves_a_gap(refusal: &Refusal) -> bool {
     }
 }
 
+/// Asks the node for a command, and answers whether it took that. A run ends whose tape may lack the submit.
+fn is_taken<W: WindowName, T: Turnstile, R: Wait>(
+    rt: &R,
+    shared: &Shared<'_, T>,
+    desk: &Desk<W>,
+    command: &Command,
+) -> bool {
+    let submitted = submit_in(rt, desk, shared.recorder, command);
+    shared.turnstile.pass(desk.node, Place::AfterSubmit);
+    match submitted {
+        Err(refusal) => {
+            if shared.recorder.is_some() && leaves_a_gap(&refusal) {
+                shared.running.fail(rt, desk.node, refusal);
+            }
+            false
+        }
+        Ok(true) => {
+            desk.publisher.unpark();
+            true
+        }
+        Ok(false) => {
+            shared.running.ring(desk.node);
+            true
+        }
+    }
+}
+
+/// The receipt that comes to a counter, unless the run ends before or the client gives up.
+fn receipt_at<W: WindowName, T, R: Wait>(
+    rt: &R,
+    shared: &Shared<'_, T>,
+    counter: &Counter<W>,
+) -> Option<Receipt<W>> {
+    let mut rest = Rest::new(LONG);
+    for _ in 0..POLLS {
+        if counter.is_told(rt) || shared.running.is_over() {
+            break;
+        }
+        rest.wait(rt, &counter.bell);
+    }
+    counter.take(rt)
+}
+
+/// The receipt of a request, once the node has it decided and published.
+#[tactic(auto, using(crate::proofs::Replies::same_request))]
+fn receipt_for<W: WindowName, T: Turnstile, R: Wait>(
+    rt: &R,
+    shared: &Shared<'_, T>,
+    desk: &Desk<W>,
+    counter: &Counter<W>,
+    command: &Command,
+) -> Option<Receipt<W>>
+    ensures { IfSome result (λ receipt. receipt.request ≡ command.now.request) }
+{
+    counter.wait_for(rt, command.request);
+    if !is_taken(rt, shared, desk, command) {
+        return None;
+    }
+    let receipt = receipt_at(rt, shared, counter)?;
+    if receipt.request().is_same(command.request) {
+        Some(receipt)
+    } else {
+        None
+    }
+}
+
 impl<'d, 'x, W: WindowName, T: Turnstile, R: Wait> Handle<'d, 'x, W, T, R> {
     /// What the client may wait with.
     pub fn rt(&self) -> &R {
@@ -63,8 +142,10 @@ impl<'d, 'x, W: WindowName, T: Turnstile, R: Wait> Handle<'d, 'x, W, T, R> {
     }
 
     /// The node that it asks.
-    pub fn node(&self) -> NodeId {
-        self.desk.node
+    pub fn node(&self) -> NodeId
+        ensures { result ≡ self.now.node }
+    {
+        self.node
     }
 
     /// Whether the run is over. Then no submit is acknowledged any more.
@@ -72,39 +153,17 @@ impl<'d, 'x, W: WindowName, T: Turnstile, R: Wait> Handle<'d, 'x, W, T, R> {
         self.shared.running.is_over()
     }
 
-    /// The receipt for a request, once it is there.
-    fn receipt_for(&self, request: RequestNo) -> Option<Receipt<W>> {
-        let mut rest = Rest::new(LONG);
-        for _ in 0..POLLS {
-            if let Some(receipt) = self.desk.take_receipt(self.rt, request) {
-                return Some(receipt);
-            }
-            if self.is_over() {
-                break;
-            }
-            rest.wait(self.rt, self.bell);
-        }
-        None
-    }
-
     /// Submits a command, and waits for its reply. What is looked at from then on has it. A run ends whose tape may lack the
-    /// submit. Of two clients of a node that ask the same request at the same time one gets the reply.
-    pub fn submit(&mut self, command: &Command) -> Answer {
-        let node = self.node();
+    /// submit.
+    #[tactic(auto, using(crate::proofs::Replies::later_reply))]
+    pub fn submit(&mut self, command: &Command) -> Answer
+        ensures answer { IsAnswered command.now.request self.new result }
+        ensures later { IsPrefix self.old.known self.new.known }
+        ensures same { self.new.node ≡ self.old.node }
+    {
+        let node = self.node;
         let request = command.request;
-        let submitted = submit_in(self.rt, self.desk, self.shared.recorder, command);
-        self.shared.turnstile.pass(node, Place::AfterSubmit);
-        match submitted {
-            Err(refusal) => {
-                if self.shared.recorder.is_some() && leaves_a_gap(&refusal) {
-                    self.shared.running.fail(self.rt, node, refusal);
-                }
-                return Answer::Unacknowledged { node, request };
-            }
-            Ok(true) => self.desk.publisher.unpark(),
-            Ok(false) => self.shared.running.ring(node),
-        }
-        match self.receipt_for(request) {
+        match receipt_for(self.rt, self.shared, self.desk, self.counter, command) {
             None => Answer::Unacknowledged { node, request },
             Some(receipt) => {
                 self.seat.learn(&receipt);
@@ -119,9 +178,13 @@ impl<'d, 'x, W: WindowName, T: Turnstile, R: Wait> Handle<'d, 'x, W, T, R> {
     }
 
     /// Looks at a name, without waiting.
-    pub fn look(&mut self, name: &Name) -> Answer {
+    pub fn look(&mut self, name: &Name) -> Answer
+        ensures answer { IsSeen name.now self.old self.new result }
+        ensures later { IsPrefix self.old.known self.new.known }
+        ensures same { self.new.node ≡ self.old.node }
+    {
         let _parts: Option<(Op, Sight, Value)> = None;
-        let node = self.node();
+        let node = self.node;
         let name = *name;
         match self.seat.look(&name) {
             Err(_) => Answer::Unseen { node, name },
@@ -138,7 +201,11 @@ impl<'d, 'x, W: WindowName, T: Turnstile, R: Wait> Handle<'d, 'x, W, T, R> {
     }
 
     /// Asks what a line asks, of this node whichever the line names.
-    pub fn ask(&mut self, line: &ScriptLine) -> Answer {
+    pub fn ask(&mut self, line: &ScriptLine) -> Answer
+        ensures answer { IsAnswerTo line.now self.old self.new result }
+        ensures later { IsPrefix self.old.known self.new.known }
+        ensures same { self.new.node ≡ self.old.node }
+    {
         let _parts: Option<(Answer, ScriptLine, Command, Op, Name, Reply, Value)> = None;
         match line {
             ScriptLine::Submit { node: _, command } => self.submit(command),
@@ -157,12 +224,13 @@ pub fn serve<'d, 'x, W: WindowName, T: Turnstile, R: Wait, C: Client + Drop>(
     client: C,
 ) {
     let mut client = client;
-    if let Some(bell) = desk.bell(place) {
+    if let Some(counter) = desk.counter(place) {
         let mut handle = Handle {
             rt,
             shared,
             desk,
-            bell,
+            counter,
+            node: desk.node,
             seat,
         };
         if let Err(refusal) = client.run(&mut handle) {

@@ -1,73 +1,121 @@
 //! What the threads of a node share.
 
+ghost use Rattle.std.specs.Prelude.{◌≡◌, Some};
+ghost use Rattle.rr_types.specs.Registry.{reply_of};
+
 use rr_locked::Locked;
-use rr_types::{NodeId, Refusal, RequestNo};
-use rr_window::{Receipt, WindowName};
-use std::alloc::Global;
+use rr_types::{NodeId, Reply, RequestNo};
+use rr_window::{Publisher, Receipt, WindowName};
+use std::mem;
 use std::sync::{Mutex, Wait};
 use std::thread::Parker;
 
-/// Which node it is, the node under its lock, the receipts of its requests, and a bell for each of its threads but its loop.
+/// What a client waits for, and what has come of it.
+#[derive(Drop)]
+enum Waiting<W: WindowName> {
+    Nothing,
+    Reply(RequestNo),
+    Told(Receipt<W>),
+}
+
+/// Where a client waits for its receipts: what it waits for, and its bell.
+#[derive(Drop)]
+pub struct Counter<W: WindowName> {
+    pub bell: Parker,
+    waiting: Mutex<Waiting<W>>,
+}
+
+impl<W: WindowName> Counter<W> {
+    /// Nobody waits here yet.
+    pub fn new() -> Counter<W> {
+        Counter {
+            bell: Parker::new(),
+            waiting: Mutex::new(Waiting::Nothing),
+        }
+    }
+
+    /// From now on the client waits for the reply to this request.
+    pub fn wait_for<R: Wait>(&self, rt: &R, request: RequestNo) {
+        *self.waiting.lock(rt) = Waiting::Reply(request);
+    }
+
+    /// The client waits for nothing any more. A receipt that has come is its.
+    pub fn take<R: Wait>(&self, rt: &R) -> Option<Receipt<W>> {
+        match mem::replace(&mut *self.waiting.lock(rt), Waiting::Nothing) {
+            Waiting::Told(receipt) => Some(receipt),
+            _ => None,
+        }
+    }
+
+    /// Whether a receipt has come.
+    pub fn is_told<R: Wait>(&self, rt: &R) -> bool {
+        matches!(*self.waiting.lock(rt), Waiting::Told(_))
+    }
+
+    /// If the client waits for the reply to this request, it gets a receipt.
+    fn tell<R: Wait>(&self, rt: &R, publisher: &Publisher<W>, request: RequestNo, reply: Reply)
+        requires { reply_of publisher.now.published request ≡ Some reply }
+    {
+        let mut waiting = self.waiting.lock(rt);
+        let is_for = match &*waiting {
+            Waiting::Reply(own) => own.is_same(request),
+            _ => false,
+        };
+        if is_for {
+            *waiting = Waiting::Told(publisher.receipt(request, reply));
+            self.bell.unpark();
+        }
+    }
+}
+
+/// Which node it is, the node under its lock, a bell for its flusher and its publisher, and a counter for each client.
 #[derive(Drop)]
 pub struct Desk<W: WindowName> {
     pub node: NodeId,
     pub locked: Mutex<Locked>,
     pub flusher: Parker,
     pub publisher: Parker,
-    clients: Vec<Parker>,
-    receipts: Mutex<Vec<Receipt<W>>>,
+    counters: Vec<Counter<W>>,
 }
 
 impl<W: WindowName> Desk<W> {
-    /// A node that is up, with a bell for each of its clients.
-    pub fn new(alloc: Global, node: NodeId, locked: Locked, clients: Vec<Parker>) -> Desk<W> {
+    /// A node that is up, with a counter for each of its clients.
+    pub fn new(node: NodeId, locked: Locked, counters: Vec<Counter<W>>) -> Desk<W> {
         Desk {
             node,
             locked: Mutex::new(locked),
             flusher: Parker::new(),
             publisher: Parker::new(),
-            clients,
-            receipts: Mutex::new(Vec::new(alloc)),
+            counters,
         }
     }
 
-    /// The bell of the client at this place, if there are so many.
-    pub fn bell(&self, place: usize) -> Option<&Parker> {
-        self.clients.get(place)
-    }
-
-    fn ring_clients(&self) {
-        for bell in &self.clients {
-            bell.unpark();
-        }
+    /// The counter of the client at this place, if there are so many.
+    pub fn counter(&self, place: usize) -> Option<&Counter<W>> {
+        self.counters.get(place)
     }
 
     /// Rings for all of the node's threads but its loop.
     pub fn ring_all(&self) {
         self.flusher.unpark();
         self.publisher.unpark();
-        self.ring_clients();
-    }
-
-    /// A receipt waits for its client.
-    pub fn give_receipt<R: Wait>(&self, rt: &R, receipt: Receipt<W>) -> Result<(), Refusal> {
-        let pushed = self.receipts.lock(rt).push(receipt);
-        match pushed {
-            Ok(()) => {
-                self.ring_clients();
-                Ok(())
-            }
-            Err(_) => Err(Refusal::OutOfMemory),
+        for counter in &self.counters {
+            counter.bell.unpark();
         }
     }
 
-    /// The receipt for a request, if it is there. One stays whose client gave up.
-    pub fn take_receipt<R: Wait>(&self, rt: &R, request: RequestNo) -> Option<Receipt<W>> {
-        let mut guard = self.receipts.lock(rt);
-        let receipts = &mut *guard;
-        let place = receipts
-            .iter()
-            .position(|receipt| receipt.request().is_same(request))?;
-        Some(receipts.swap_remove(place))
+    /// Each client that waits for the reply to this request gets a receipt.
+    pub fn tell_all<R: Wait>(
+        &self,
+        rt: &R,
+        publisher: &Publisher<W>,
+        request: RequestNo,
+        reply: Reply,
+    )
+        requires { reply_of publisher.now.published request ≡ Some reply }
+    {
+        for counter in &self.counters {
+            counter.tell(rt, publisher, request, reply);
+        }
     }
 }

@@ -7,8 +7,11 @@ use crate::running::Running;
 use crate::shared::Shared;
 use rr_inbox::{Giver, Outlet, Port, Taker, TrySendError};
 use rr_journal::Synced;
-use rr_locked::{IdleTurns, Locked, Sent, Unflushed, hear_on, mark_on, send_on, take_on, tick_on};
-use rr_types::{Body, Command, Estimate, Group, Message, Op, Refusal};
+use rr_locked::{
+    Locked, Sent, Standstill, Turns, Unflushed, advance_on, hear_on, mark_on, send_on, take_on,
+    tick_on,
+};
+use rr_types::{Body, Command, Estimate, Group, Message, NodeId, NodeSet, Op, Refusal};
 use rr_window::WindowName;
 use std::sync::{Mutex, Wait};
 
@@ -161,17 +164,18 @@ fn leave<R: Wait>(
     }
 }
 
-/// A message goes into the inbox of its receiver, and is lost where that is full.
-fn put<R: Wait>(rt: &R, running: &Running, ports: &mut Vec<Port<Sent>>, sent: &Sent) {
+/// A message goes into the inbox of its receiver, and is lost where that is full. Gives the receiver.
+fn put<R: Wait>(rt: &R, ports: &mut Vec<Port<Sent>>, sent: &Sent) -> NodeId {
     let _parts: Option<(Body, Command, Estimate, Message, Op)> = None;
     let to = sent.message.to;
     if let Some(port) = ports.get_mut(usize::from(to.index())) {
         let _lost = port.put(rt, *sent);
-        running.ring(to);
     }
+    to
 }
 
-/// The messages that may leave go into the inboxes of their receivers, of many the oldest. Answers whether there was one.
+/// The messages that may leave go into the inboxes of their receivers, of many the oldest. Their receivers are rung once all
+/// are there, so that each wakes once. Answers whether there was one.
 fn send_all<R: Wait>(
     rt: &R,
     running: &Running,
@@ -180,13 +184,15 @@ fn send_all<R: Wait>(
     ports: &mut Vec<Port<Sent>>,
 ) -> Result<bool, Refusal> {
     let _parts: Option<(Body, Command, Estimate, Message, Op)> = None;
-    for sent in 0..BATCH {
+    let mut receivers = NodeSet::empty();
+    for _ in 0..BATCH {
         match leave(rt, node, recorder)? {
-            None => return Ok(sent > 0),
-            Some(message) => put(rt, running, ports, &message),
+            None => break,
+            Some(sent) => receivers = receivers.with(put(rt, ports, &sent)),
         }
     }
-    Ok(true)
+    running.ring_each(receivers);
+    Ok(receivers.bits() != 0)
 }
 
 /// The node ticks.
@@ -198,15 +204,65 @@ fn tick<R: Wait>(rt: &R, node: &Mutex<Locked>, recorder: Option<&Recorder>) -> R
     }
 }
 
-/// A turn of the loop: hears messages, marks what is flushed, flushes what is staged, sends messages, and ticks where it is
-/// time to. Answers whether there was something to do.
-fn turn<W: WindowName, R: Wait>(
+/// The node enters the next round of its lowest open instance, if that has one.
+fn advance<R: Wait>(
+    rt: &R,
+    node: &Mutex<Locked>,
+    recorder: Option<&Recorder>,
+) -> Result<(), Refusal> {
+    let mut locked = node.lock(rt);
+    let advanced = match recorder {
+        None => locked.advance(),
+        Some(recorder) => advance_on(&mut locked, &mut recorder.recording().lock(rt)),
+    };
+    match advanced {
+        Err(Refusal::RoundsOut) => Ok(()),
+        _ => advanced,
+    }
+}
+
+/// How many turns a node has made since its last tick, and for how many ticks it has got no further.
+#[derive(Drop)]
+struct Clockwork {
+    turns: Turns,
+    standstill: Standstill,
+}
+
+/// One more turn: the node ticks where it is time to, and advances where it has got no further.
+fn count_turn<R: Wait>(
+    rt: &R,
+    node: &Mutex<Locked>,
+    recorder: Option<&Recorder>,
+    clockwork: &mut Clockwork,
+    is_idle: bool,
+) -> Result<(), Refusal> {
+    if !clockwork.turns.count(is_idle) {
+        return Ok(());
+    }
+    tick(rt, node, recorder)?;
+    let decided = node.lock(rt).core().decided_count();
+    if clockwork.standstill.count(decided) {
+        advance(rt, node, recorder)?;
+    }
+    Ok(())
+}
+
+/// Whether the loop of a node rests until someone rings, or looks once more at once.
+fn rests<R: Wait>(rt: &R, running: &Running, node: NodeId, rest: &mut Rest) -> bool {
+    match running.bell(node) {
+        Some(bell) => rest.wait(rt, bell),
+        None => false,
+    }
+}
+
+/// A look at what there is to do: hears messages, marks what is flushed, flushes what is staged, sends messages. Answers
+/// whether there was something.
+fn look<W: WindowName, R: Wait>(
     rt: &R,
     running: &Running,
     desk: &Desk<W>,
     recorder: Option<&Recorder>,
     runner: &mut Runner,
-    idle: &mut IdleTurns,
 ) -> Result<bool, Refusal> {
     let node = &desk.locked;
     let has_heard = hear_all(rt, node, recorder, &mut runner.inbox)?;
@@ -216,11 +272,24 @@ fn turn<W: WindowName, R: Wait>(
         desk.flusher.unpark();
     }
     let has_sent = send_all(rt, running, node, recorder, &mut runner.ports)?;
-    let has_found = has_heard || has_marked || has_staged || has_sent;
-    if idle.count(has_found) {
-        tick(rt, node, recorder)?;
+    Ok(has_heard || has_marked || has_staged || has_sent)
+}
+
+/// A turn of the loop: does what there is to do, or rests.
+fn turn<W: WindowName, T, R: Wait>(
+    rt: &R,
+    shared: &Shared<'_, T>,
+    desk: &Desk<W>,
+    runner: &mut Runner,
+    clockwork: &mut Clockwork,
+    rest: &mut Rest,
+) -> Result<(), Refusal> {
+    if look(rt, &shared.running, desk, shared.recorder, runner)? {
+        rest.end();
+    } else if !rests(rt, &shared.running, desk.node, rest) {
+        return Ok(());
     }
-    Ok(has_found)
+    count_turn(rt, &desk.locked, shared.recorder, clockwork, rest.is_long())
 }
 
 /// Runs a node, until the run is over.
@@ -230,22 +299,18 @@ pub fn run_node<W: WindowName, T, R: Wait>(
     desk: &Desk<W>,
     runner: Runner,
 ) {
-    let running = &shared.running;
     let mut runner = runner;
-    let mut idle = IdleTurns::new();
+    let mut clockwork = Clockwork {
+        turns: Turns::new(),
+        standstill: Standstill::new(),
+    };
     let mut rest = Rest::new(SHORT);
     for _ in rt.forever() {
-        if running.is_over() {
+        if shared.running.is_over() {
             break;
         }
-        match turn(rt, running, desk, shared.recorder, &mut runner, &mut idle) {
-            Ok(true) => rest.end(),
-            Ok(false) => {
-                if let Some(bell) = running.bell(desk.node) {
-                    rest.wait(rt, bell);
-                }
-            }
-            Err(refusal) => running.fail(rt, desk.node, refusal),
+        if let Err(refusal) = turn(rt, shared, desk, &mut runner, &mut clockwork, &mut rest) {
+            shared.running.fail(rt, desk.node, refusal);
         }
     }
     desk.ring_all();

@@ -4,7 +4,7 @@ ghost use Rattle.std.specs.Prelude.{◌≡◌};
 ghost use Rattle.std.specs.Thread.{IsSend};
 
 use crate::client::{Client, serve};
-use crate::desk::Desk;
+use crate::desk::{Counter, Desk};
 use crate::flushing::{Flusher, flush_all};
 use crate::node_loop::{Runner, run_node};
 use crate::publishing::publish_all;
@@ -20,7 +20,7 @@ use std::alloc::Global;
 use std::marker::Brand;
 use std::sync::Wait;
 use std::thread;
-use std::thread::{Parker, Scope, Threads};
+use std::thread::{Scope, Threads};
 
 /// A node that is up, before its threads start.
 #[derive(Drop)]
@@ -105,13 +105,13 @@ fn open_ends<W: WindowName, C: Drop, R: Wait>(
     }
 }
 
-/// A bell for each of so many clients.
-fn bells_for(alloc: Global, count: usize) -> Result<Vec<Parker>, Refusal> {
-    let mut bells = Vec::new(alloc);
+/// A counter for each of so many clients.
+fn counters_for<W: WindowName>(alloc: Global, count: usize) -> Result<Vec<Counter<W>>, Refusal> {
+    let mut counters = Vec::new(alloc);
     for _ in 0..count {
-        bells.push(Parker::new())?;
+        counters.push(Counter::new())?;
     }
-    Ok(bells)
+    Ok(counters)
 }
 
 /// A node that is up, shared out among its threads.
@@ -294,7 +294,7 @@ fn run_crew<
     shared: &Shared<'_, T>,
     crew: Crew<D>,
     ends: Ends<W, C>,
-    bells: Vec<Parker>,
+    counters: Vec<Counter<W>>,
 ) {
     let Crew {
         node,
@@ -307,7 +307,7 @@ fn run_crew<
         seated,
         seats: _seats,
     } = ends;
-    let desk: Desk<W> = Desk::new(alloc, node, Locked::new(core), bells);
+    let desk: Desk<W> = Desk::new(node, Locked::new(core), counters);
     run_threads(
         rt,
         alloc,
@@ -339,11 +339,11 @@ fn run_window<
     requires { list ≡ W.book }
 {
     let hand_overs = open_hand_overs(alloc)?;
-    let bells = bells_for(alloc, clients.len())?;
+    let counters = counters_for(alloc, clients.len())?;
     match open_ends::<W, C, R>(rt, alloc, list, clients) {
         Ok(ends) => {
             let crew = share_out(part, hand_overs);
-            run_crew(rt, alloc, shared, crew, ends, bells);
+            run_crew(rt, alloc, shared, crew, ends, counters);
             Ok(())
         }
         Err(refusal) => Err(refusal),

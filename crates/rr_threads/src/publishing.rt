@@ -26,24 +26,24 @@ fn follow_node<W: WindowName, R: Wait>(
     }
 }
 
-/// The client gets a receipt for the oldest request that was acknowledged, once its reply is published. Answers whether
-/// there was one.
+/// The clients that wait for the oldest request that was acknowledged get receipts, once its reply is published. Answers
+/// whether there was one.
 fn tell_next<W: WindowName, R: Wait>(
     rt: &R,
     desk: &Desk<W>,
     publisher: &Publisher<W>,
     acknowledged: &mut VecDeque<RequestNo>,
-) -> Result<bool, Refusal> {
+) -> bool {
     let Some(request) = acknowledged.front() else {
-        return Ok(false);
+        return false;
     };
     let request = *request;
     let Some(reply) = publisher.reply(request) else {
-        return Ok(false);
+        return false;
     };
-    desk.give_receipt(rt, publisher.receipt(request, reply))?;
+    desk.tell_all(rt, publisher, request, reply);
     drop(acknowledged.pop_front());
-    Ok(true)
+    true
 }
 
 /// A turn: takes on what is marked, publishes it, and gives a receipt. Answers whether there was something to do.
@@ -62,7 +62,7 @@ fn publish_next<W: WindowName, R: Wait>(
     if has_more {
         drop(publisher.publish(rt)?);
     }
-    let has_told = tell_next(rt, desk, publisher, acknowledged)?;
+    let has_told = tell_next(rt, desk, publisher, acknowledged);
     Ok(has_more || has_told)
 }
 
@@ -82,7 +82,9 @@ pub fn publish_all<W: WindowName, T, R: Wait>(
         }
         match publish_next(rt, desk, shared.recorder, publisher, &mut acknowledged) {
             Ok(true) => rest.end(),
-            Ok(false) => rest.wait(rt, &desk.publisher),
+            Ok(false) => {
+                rest.wait(rt, &desk.publisher);
+            }
             Err(refusal) => shared.running.fail(rt, desk.node, refusal),
         }
     }

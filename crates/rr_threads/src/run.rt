@@ -1,6 +1,6 @@
 //! Runs of 1 to 7 nodes, for clients of any kind.
 
-ghost use Rattle.std.specs.Prelude.{◌≡◌, ◌<◌};
+ghost use Rattle.std.specs.Prelude.{◌≡◌, ◌<◌, length, IfOk};
 ghost use Rattle.std.specs.Thread.{IsSend};
 
 use crate::client::Client;
@@ -180,11 +180,10 @@ fn count_clients<D: Disk, C>(parts: &[(Part<D>, Vec<C>)]) -> usize {
 }
 
 /// Runs nodes in threads over these disks, the first of them node 0's, until each client is done. A node's clients stand at its
-/// place; where there are fewer places than disks, the other disks aren't used. Of two clients of a node that ask the same
-/// request at the same time one gets the reply.
+/// place.
 ///
 /// # Errors
-/// Of several the lowest node's: `OutOfMemory`; `Device`, where a device call failed; `Damaged`, of a disk that holds no
+/// `BadNodes`, unless there are a disk and a place for clients for each node. Of several others the lowest node's: `OutOfMemory`; `Device`, where a device call failed; `Damaged`, of a disk that holds no
 /// facts; `TooLarge`, where a node's journal or its facts are at their end; `SeatsTaken`, of a node with more than 64 clients;
 /// what a client's `hear` gives; with a recorder, which wants fresh disks, `BadEvent` of the event for which the tape has no
 /// place.
@@ -203,7 +202,12 @@ pub fn run_clients<
     recorder: Option<&Recorder>,
 ) -> Result<(), Refusal>
     requires alike { (one other : D) → D.tells one → D.tells other }
+    ensures counts { IfOk result (λ _. (length disks.items ≡ nodes) × (length clients.items ≡ nodes)) }
 {
+    let count = usize::from(nodes.count());
+    if disks.len() != count || clients.len() != count {
+        return Err(Refusal::BadNodes);
+    }
     let parts = open_parts(alloc, nodes, disks, clients)?;
     let shared = Shared {
         running: Running::new(alloc, nodes.count(), count_clients(&parts))?,

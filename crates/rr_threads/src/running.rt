@@ -1,7 +1,7 @@
 //! How a run ends, and how its nodes are rung.
 
 use rr_locked::{Ending, Failure};
-use rr_types::{NodeId, Refusal};
+use rr_types::{NodeId, NodeSet, Refusal};
 use std::alloc::Global;
 use std::sync::atomic::{AtomicBool, Ordering};
 use std::sync::{Mutex, Wait};
@@ -44,6 +44,17 @@ impl Running {
     pub fn ring(&self, node: NodeId) {
         if let Some(bell) = self.bell(node) {
             bell.unpark();
+        }
+    }
+
+    /// Rings for the loops of these nodes.
+    pub fn ring_each(&self, nodes: NodeSet) {
+        let mut bits = nodes.bits();
+        for bell in &self.bells {
+            if bits % 2 == 1 {
+                bell.unpark();
+            }
+            bits /= 2;
         }
     }
 

@@ -1,6 +1,6 @@
 //! Runs of a script: a client of each node asks what the lines ask of it.
 
-ghost use Rattle.std.specs.Prelude.{◌≡◌};
+ghost use Rattle.std.specs.Prelude.{◌≡◌, length, IfOk};
 
 use crate::client::{Client, Handle};
 use crate::recorder::Recorder;
@@ -99,7 +99,7 @@ fn readers<'x>(
 /// a script ask of its node, line by line; and answers the lines. A recorder makes a tape of the run, over fresh disks.
 ///
 /// # Errors
-/// As of `run_clients`, but `SeatsTaken`.
+/// As of `run_clients`, but `SeatsTaken`. It is `BadNodes` unless there is a disk for each node of the script.
 pub fn run_script<D: Disk + Drop + Send, T: Turnstile + Sync, R: Threads + Wait + Sync>(
     rt: &R,
     alloc: Global,
@@ -109,6 +109,7 @@ pub fn run_script<D: Disk + Drop + Send, T: Turnstile + Sync, R: Threads + Wait 
     recorder: Option<&Recorder>,
 ) -> Result<Answers, Refusal>
     requires alike { (one other : D) → D.tells one → D.tells other }
+    ensures counts { IfOk result (λ _. length disks.items ≡ script.now.nodes) }
 {
     let nodes = script.nodes();
     let lines = script.lines();

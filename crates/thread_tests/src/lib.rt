@@ -6,6 +6,8 @@ mod hand_overs;
 #[cfg(test)]
 mod inboxes;
 #[cfg(test)]
+mod many_looks;
+#[cfg(test)]
 mod seats;
 #[cfg(test)]
 mod windows;

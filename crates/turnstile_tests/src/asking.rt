@@ -1,0 +1,172 @@
+//! Clients that ask one thing, and runs of them over empty disks.
+
+use rr_disk::MemDisk;
+use rr_locked::Turnstile;
+use rr_script::{Answer, ScriptLine};
+use rr_threads::{Client, Handle, run_clients};
+use rr_types::{Command, Name, NodeId, Nodes, Op, Refusal, Reply, RequestNo, Value};
+use rr_window::WindowName;
+use std::alloc::Global;
+use std::process::Abort;
+use std::sync::Wait;
+use std::sync::atomic::{AtomicBool, AtomicU64, Ordering};
+use std::thread::{Threads, yield_now};
+
+/// So many times a thread looks at most whether a number has come to be.
+const LOOKS: u32 = 30_000_000;
+
+/// What the threads of a test share: the lines that are asked, and what is counted.
+#[derive(Drop)]
+pub struct Shared {
+    pub lines: Vec<ScriptLine>,
+    /// The device calls of flushes: of node 0, and of the other nodes.
+    pub first_calls: AtomicU64,
+    pub other_calls: AtomicU64,
+    /// The submits that were answered.
+    pub submitted: AtomicU64,
+    /// The clients that were answered that a name is their own.
+    pub right: AtomicU64,
+    /// A thread has waited for a number that didn't come to be.
+    pub gave_up: AtomicBool,
+}
+
+impl Shared {
+    pub fn new(lines: Vec<ScriptLine>) -> Shared {
+        Shared {
+            lines,
+            first_calls: AtomicU64::new(0),
+            other_calls: AtomicU64::new(0),
+            submitted: AtomicU64::new(0),
+            right: AtomicU64::new(0),
+            gave_up: AtomicBool::new(false),
+        }
+    }
+
+    /// Waits until a number is so large.
+    pub fn wait_for(&self, number: &AtomicU64, least: u64) {
+        for _ in 0..LOOKS {
+            if number.load(Ordering::SeqCst) >= least {
+                return;
+            }
+            yield_now();
+        }
+        self.gave_up.store(true, Ordering::SeqCst);
+    }
+
+    /// Whether nobody gave up, and so many clients were answered that a name is their own.
+    pub fn came_to(&self, right: u64) -> bool {
+        !self.gave_up.load(Ordering::SeqCst) && self.right.load(Ordering::SeqCst) == right
+    }
+}
+
+/// A client that asks the line at a place, so many times at most, until the answer says that the name is its own.
+#[derive(Drop)]
+pub struct Asker<'s> {
+    pub shared: &'s Shared,
+    pub place: usize,
+    pub times: u32,
+    /// Whether it asks only once node 0 flushes.
+    pub waits: bool,
+}
+
+/// Whether an answer says that client 7 has the name, or that the node has claimed it.
+fn is_right(answer: &Answer) -> bool {
+    match answer {
+        Answer::Acknowledged { reply, .. } => matches!(reply, Reply::Claimed),
+        Answer::Bound { owner, .. } => *owner == 7,
+        _ => false,
+    }
+}
+
+impl<'s> Client for Asker<'s> {
+    fn run<W: WindowName, T: Turnstile, R: Wait>(
+        &mut self,
+        handle: &mut Handle<'_, '_, W, T, R>,
+    ) -> Result<(), Refusal> {
+        let shared = self.shared;
+        let Some(line) = shared.lines.get(self.place) else {
+            return Ok(());
+        };
+        if self.waits {
+            shared.wait_for(&shared.first_calls, 1);
+        }
+        for _ in 0..self.times {
+            if is_right(&handle.ask(line)) {
+                shared.right.fetch_add(1, Ordering::SeqCst);
+                break;
+            }
+            if handle.is_over() {
+                break;
+            }
+        }
+        Ok(())
+    }
+}
+
+/// A claim of a name by client 7, as request SEQ.
+pub fn claim(rt: &impl Abort, node: NodeId, seq: u64, letter: u8) -> ScriptLine {
+    let name = Name::new(&[letter]).expect(rt, "a name");
+    let value = Value::new(b"x").expect(rt, "a value");
+    let command = Command {
+        request: RequestNo { client: 7, seq },
+        op: Op::Claim(name, value),
+    };
+    ScriptLine::Submit { node, command }
+}
+
+pub fn numbered(rt: &impl Abort, count: u8) -> Nodes {
+    Nodes::new(count).expect(rt, "so many nodes")
+}
+
+pub fn node_of(rt: &impl Abort, nodes: Nodes, index: u8) -> NodeId {
+    NodeId::new(nodes, index).expect(rt, "a node")
+}
+
+/// For each node the claim of a name of its own.
+pub fn claims(rt: &impl Abort, alloc: Global, nodes: Nodes) -> Result<Vec<ScriptLine>, Refusal> {
+    let mut lines = Vec::new(alloc);
+    for index in 0..nodes.count() {
+        let letter = *b"abcdefg".get(usize::from(index)).expect(rt, "a letter");
+        let node = node_of(rt, nodes, index);
+        lines.push(claim(rt, node, u64::from(index), letter))?;
+    }
+    Ok(lines)
+}
+
+/// A client of each node, which asks the line at its place once.
+pub fn askers<'s>(
+    alloc: Global,
+    nodes: Nodes,
+    shared: &'s Shared,
+) -> Result<Vec<Vec<Asker<'s>>>, Refusal> {
+    let mut clients = Vec::new(alloc);
+    for index in 0..nodes.count() {
+        let asker = Asker {
+            shared,
+            place: usize::from(index),
+            times: 1,
+            waits: false,
+        };
+        clients.push(vec![in alloc; asker]?)?;
+    }
+    Ok(clients)
+}
+
+/// Empty disks in memory.
+pub fn disks_for<R: Abort + AllocGlobal>(rt: &R, nodes: Nodes) -> Vec<MemDisk> {
+    let mut disks = Vec::new(rt.alloc());
+    for _ in 0..nodes.count() {
+        disks.push(MemDisk::new(rt.alloc())).expect(rt, "memory");
+    }
+    disks
+}
+
+/// Runs these clients over empty disks, and says whether the run ended well.
+pub fn runs<
+    T: Turnstile + Sync,
+    C: Client + Drop + Send,
+    R: Threads + Wait + Abort + AllocGlobal + Sync,
+>(rt: &R, nodes: Nodes, clients: Vec<Vec<C>>, turnstile: &T) -> bool {
+    let disks = disks_for(rt, nodes);
+    run_clients(rt, rt.alloc(), nodes, disks, clients, turnstile, None).is_ok()
+}

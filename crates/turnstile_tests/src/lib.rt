@@ -1,0 +1,12 @@
+//! Tests of runs of nodes in real threads: flushes that are held up at a turnstile, clients that look until they see something,
+//! and disks that fail. Each is bounded in time.
+#![tactic(auto)]
+
+#[cfg(test)]
+mod asking;
+#[cfg(test)]
+mod failing;
+#[cfg(test)]
+mod nodes;
+#[cfg(test)]
+mod taped;
