@@ -30,14 +30,13 @@ pub struct Runner {
 /// The node hears a message.
 fn hear<R: Wait>(
     rt: &R,
-    node: &Mutex<Locked>,
+    locked: &mut Locked,
     recorder: Option<&Recorder>,
     sent: &Sent,
 ) -> Result<(), Refusal> {
-    let mut locked = node.lock(rt);
     match recorder {
         None => locked.hear(&sent.message),
-        Some(recorder) => hear_on(&mut locked, &mut recorder.recording().lock(rt), sent),
+        Some(recorder) => hear_on(locked, &mut recorder.recording().lock(rt), sent),
     }
 }
 
@@ -48,10 +47,15 @@ fn hear_all<R: Wait>(
     recorder: Option<&Recorder>,
     inbox: &mut Outlet<Sent>,
 ) -> Result<bool, Refusal> {
-    for heard in 0..BATCH {
+    let Some(first) = inbox.take(rt) else {
+        return Ok(false);
+    };
+    let mut locked = node.lock(rt);
+    hear(rt, &mut locked, recorder, &first)?;
+    for _ in 1..BATCH {
         match inbox.take(rt) {
-            None => return Ok(heard > 0),
-            Some(sent) => hear(rt, node, recorder, &sent)?,
+            None => break,
+            Some(sent) => hear(rt, &mut locked, recorder, &sent)?,
         }
     }
     Ok(true)
@@ -147,11 +151,10 @@ fn flush_next<R: Wait>(
 /// The oldest message that may leave, with its number.
 fn leave<R: Wait>(
     rt: &R,
-    node: &Mutex<Locked>,
+    locked: &mut Locked,
     recorder: Option<&Recorder>,
 ) -> Result<Option<Sent>, Refusal> {
     let _parts: Option<(Body, Command, Estimate, Message, Op)> = None;
-    let mut locked = node.lock(rt);
     match recorder {
         None => match locked.next_message() {
             None => Ok(None),
@@ -160,7 +163,7 @@ fn leave<R: Wait>(
                 Ok(Some(Sent { number: 0, message }))
             }
         },
-        Some(recorder) => send_on(&mut locked, &mut recorder.recording().lock(rt)),
+        Some(recorder) => send_on(locked, &mut recorder.recording().lock(rt)),
     }
 }
 
@@ -174,8 +177,27 @@ fn put<R: Wait>(rt: &R, ports: &mut Vec<Port<Sent>>, sent: &Sent) -> NodeId {
     to
 }
 
-/// The messages that may leave go into the inboxes of their receivers, of many the oldest. Their receivers are rung once all
-/// are there, so that each wakes once. Answers whether there was one.
+/// The messages that may leave go into the inboxes of their receivers, of many the oldest. Gives the receivers.
+fn put_all<R: Wait>(
+    rt: &R,
+    node: &Mutex<Locked>,
+    recorder: Option<&Recorder>,
+    ports: &mut Vec<Port<Sent>>,
+) -> Result<NodeSet, Refusal> {
+    let _parts: Option<(Body, Command, Estimate, Message, Op)> = None;
+    let mut receivers = NodeSet::empty();
+    let mut locked = node.lock(rt);
+    for _ in 0..BATCH {
+        match leave(rt, &mut locked, recorder)? {
+            None => break,
+            Some(sent) => receivers = receivers.with(put(rt, ports, &sent)),
+        }
+    }
+    Ok(receivers)
+}
+
+/// The messages that may leave are sent. Their receivers are rung once all are there, so that each wakes once. Answers
+/// whether there was one.
 fn send_all<R: Wait>(
     rt: &R,
     running: &Running,
@@ -183,14 +205,7 @@ fn send_all<R: Wait>(
     recorder: Option<&Recorder>,
     ports: &mut Vec<Port<Sent>>,
 ) -> Result<bool, Refusal> {
-    let _parts: Option<(Body, Command, Estimate, Message, Op)> = None;
-    let mut receivers = NodeSet::empty();
-    for _ in 0..BATCH {
-        match leave(rt, node, recorder)? {
-            None => break,
-            Some(sent) => receivers = receivers.with(put(rt, ports, &sent)),
-        }
-    }
+    let receivers = put_all(rt, node, recorder, ports)?;
     running.ring_each(receivers);
     Ok(receivers.bits() != 0)
 }
