@@ -1,10 +1,8 @@
-//! Tests of a node's parts: the failure detectors, an instance's rounds and tallies, the tables and the registry.
+//! Tests of a node's parts: the failure detectors, a round's tallies, the tables and the registry.
 #![tactic(auto)]
 
 #[cfg(test)]
 mod heartbeat;
-#[cfg(test)]
-mod instance;
 #[cfg(test)]
 mod list;
 #[cfg(test)]

@@ -1,6 +1,6 @@
 //! The tables in use, with ample memory. What is expected follows from the definitions.
 
-use rr_instance::Row;
+use rr_round::Row;
 use rr_list::{Instances, Pool, Waiting};
 use rr_types::{Command, Entry, Fact, Instance, Name, Op, Refusal, RequestNo, Standing, Value};
 use std::alloc::Global;

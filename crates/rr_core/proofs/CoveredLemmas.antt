@@ -5,7 +5,7 @@ use Rattle.std.specs.Option.{option_map_or}
 use Rattle.std.proofs.lemmas.Bool.{ltb-true}
 use Rattle.rr_model.specs.NodeState.{Owed}
 use Rattle.rr_model.specs.NodeStep.{may_leave}
-use Rattle.rr_mark.specs.Marks.{is_free, IsOwn}
+use Rattle.rr_outbox.specs.Marks.{is_free, IsOwn}
 use Rattle.rr_core.specs.Covered.{IsCovered}
 
 covered : (node end : ℕ) (o : Owed) → IsOwn node o → IsCovered node end o

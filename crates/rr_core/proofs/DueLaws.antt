@@ -8,7 +8,7 @@ use Rattle.rr_types.specs.Rounds.{coordinator_of}
 use Rattle.rr_types.specs.Nodes.{has_member}
 use Rattle.rr_types.specs.Standings.{is_undecided, round_of, proposal_of}
 use Rattle.rr_model.specs.NodeState.{NodeState, Row, Tally, row_of, standing_at, open_instances}
-use Rattle.rr_model.specs.NodeDetector.{joined}
+use Rattle.rr_types.specs.Nodes.{joined}
 use Rattle.rr_model.specs.NodeParts.{free_command}
 use Rattle.rr_model.specs.NodeDue.{Due, Begin, Offer, Conclude, MoveOn, pick, is_majority, due_of_coordinator, due_of_participant, due_of_row, due_at, first_due, due, carry_out, settle_within, settle}
 use Rattle.rr_core.proofs.QuietLaws.{IsStep, step_none, step_then}

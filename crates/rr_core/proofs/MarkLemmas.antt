@@ -18,6 +18,7 @@ use Rattle.rr_types.specs.Groups.{Grouped}
 use Rattle.rr_types.specs.Facts.{instance_of, after_fact, decision_of}
 use Rattle.rr_types.specs.Promises.{standing_in, take_on, take_on_all, all_fit}
 use Rattle.rr_types.specs.Standings.{fits, is_undecided, round_of}
+use Rattle.rr_types.proofs.StandingLemmas.{fits_in_round}
 use Rattle.rr_registry.specs.Kept.{Kept, kept_of, kept_reply}
 use Rattle.rr_registry.proofs.KeptLemmas.{reply-kept_of, bindings-kept_of}
 use Rattle.rr_model.specs.NodeState.{NodeState, Row, decided_prefix, decided_from, standing_at}
@@ -25,11 +26,11 @@ use Rattle.rr_model.specs.NodeStep.{group_taken, group_put_back, marked_running,
 use Rattle.rr_model.proofs.Fits.{take_both, fit_first, fit_later}
 use Rattle.rr_model.proofs.Promised.{standing_in-take_on}
 use Rattle.rr_list.specs.Arrived.{without_first}
-use Rattle.rr_list.specs.Listed.{IsInRound, AllInRound, KeepsPromised, HaveRows}
+use Rattle.rr_list.specs.Listed.{AllInRound, KeepsPromised, HaveRows}
 use Rattle.rr_list.proofs.MarkLemmas.{ascend_all, none_before}
 use Rattle.rr_core.specs.Lawful.{IsLawful, unmarked_facts}
 use Rattle.rr_core.specs.Kept.{IsKept}
-use Rattle.rr_staged.proofs.SameLemmas.{and_left, and_right, request_is}
+use Rattle.rr_outbox.proofs.SameLemmas.{and_left, and_right, request_is}
 use Rattle.rr_core.proofs.LeavingLemmas.{find_same, without_held}
 
 -- facts that moved between the running group and those staged are the same facts
@@ -81,14 +82,7 @@ put_back_kept s t k e kept =
       kept = kept.kept;
     }
 
--- a fact that fits is of the present round, if it is an Adopt
-fits_in_round : (n p : ℕ) (st : Option Standing) (f : Fact) → fits n p st f ≡ true → IsInRound st f
-fits_in_round n p st (Enter i e) h = tt
-fits_in_round n p st (Propose i r v) h = tt
-fits_in_round n p st (Adopt i r v) h = eqb-true _ _ (and_right _ _ (and_left (is_undecided st && round_of st == r) _ h))
-fits_in_round n p st (Decide i v) h = tt
-
--- so each of facts that fit is
+-- each of facts that fit is of the present round, if it is an Adopt
 all_in_round : (n p : ℕ) (es : List Entry) (fs : List Fact) → all_fit n p es fs ≡ true → AllInRound es fs
 all_in_round n p es [] h = tt
 all_in_round n p es (f ∷ fs) h = (fits_in_round n p (standing_in es (instance_of f)) f (and_left _ _ h), all_in_round n p (take_on es f) fs (and_right _ _ h))

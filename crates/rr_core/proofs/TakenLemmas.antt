@@ -11,8 +11,8 @@ use Rattle.rr_registry.specs.Kept.{Kept, kept_of, kept_reply}
 use Rattle.rr_model.specs.NodeState.{NodeState, next_number, open_instances, decided_prefix}
 use Rattle.rr_model.specs.NodeStep.{Input, Submit, Suspect, Tick, Advance, Hear, node_step, input_refusal, refusal_of, restored, started}
 use Rattle.rr_step.specs.Steps.{Changed, combined}
-use Rattle.rr_input.specs.Changes.{IsStep}
-use Rattle.rr_input.proofs.RefusalLemmas as refusals
+use Rattle.rr_behaviour.specs.Changes.{IsStep}
+use Rattle.rr_behaviour.proofs.RefusalLemmas as refusals
 use Rattle.rr_core.specs.Lawful.{IsLawful}
 use Rattle.rr_core.specs.Kept.{IsKept}
 use Rattle.rr_core.specs.Taken.{CanBeTaken}

@@ -8,8 +8,7 @@ ghost use Rattle.rr_model.specs.NodeStep.{group_taken, running_group, group_put_
 ghost use Rattle.rr_core.specs.Lawful.{IsLawful};
 
 use rr_journal::Synced;
-use rr_mark::Mark;
-use rr_staged::are_same_facts;
+use rr_outbox::{Mark, are_same_facts};
 use rr_step::State;
 use rr_types::{Command, GROUP, Group, Refusal};
 use std::alloc::Global;
@@ -31,10 +30,7 @@ pub fn take_group(state: &mut State, alloc: Global) -> Result<Option<Group>, Ref
     if state.unmarked.count() == 0 {
         return Ok(None);
     }
-    let facts = match state.unmarked.front(alloc, GROUP) {
-        Ok(facts) => facts,
-        Err(refusal) => return Err(refusal),
-    };
+    let facts = state.unmarked.front(alloc, GROUP)?;
     match Group::new(state.mark.end(), facts) {
         Ok(group) => {
             state.unmarked.run(GROUP);

@@ -5,12 +5,12 @@ ghost use Rattle.std.specs.List.{list_any};
 ghost use Rattle.rr_model.specs.NodeStep.{next_leaving, message_left};
 ghost use Rattle.rr_registry.specs.Kept.{kept_reply};
 ghost use Rattle.rr_list.specs.Arrived.{without_first};
-ghost use Rattle.rr_mark.specs.Marks.{IsFreeOrBacked};
+ghost use Rattle.rr_outbox.specs.Marks.{IsFreeOrBacked};
 ghost use Rattle.rr_core.specs.Kept.{IsKept};
 ghost use Rattle.rr_core.specs.Searched.{IsSearched};
 
 use rr_list::Waiting;
-use rr_mark::Cleared;
+use rr_outbox::Cleared;
 use rr_registry::Registry;
 use rr_step::State;
 use rr_types::{Reply, RequestNo};

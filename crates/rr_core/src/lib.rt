@@ -1,5 +1,12 @@
-//! The pure core of a node: a state machine without input and output. It is told what happens, stages facts,
-//! and owes messages; whoever runs it flushes the facts and carries the messages.
+//! The pure core of a node: a state machine without input and output. Whoever runs it does four things, over and over:
+//!
+//! 1. tells it what happened, by `submit`, `hear`, `tick`, `suspect` or `advance`. It stages facts and owes messages;
+//! 2. flushes what is staged: `take_group`, a flush of `rr_journal`, and `mark`;
+//! 3. carries each message that may leave by then (`next_message`) to its addressee, which hears it;
+//! 4. tells clients the replies (`next_ack`).
+//!
+//! `crates/one_node` is such a program, and README shows its middle. `rr_recover` makes a core. What an input does is in
+//! `rr_behaviour`: for a message in `hear.rt`.
 #![tactic(auto)]
 
 mod group;
@@ -8,4 +15,4 @@ mod node_core;
 mod prefix;
 
 pub use node_core::Core;
-pub use rr_mark::{Cleared, Mark};
+pub use rr_outbox::{Cleared, Mark};

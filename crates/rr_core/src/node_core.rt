@@ -6,7 +6,7 @@ ghost use Rattle.rr_model.specs.NodeStep.{Submit, Suspect, Tick, Advance, Hear, 
 ghost use Rattle.rr_types.specs.declared.refusal.Refusal.{Refusal};
 ghost use Rattle.rr_types.specs.Promises.{all_fit};
 ghost use Rattle.rr_types.specs.Registry.{registry_of, reply_of};
-ghost use Rattle.rr_mark.specs.Marks.{IsFreeOrBacked};
+ghost use Rattle.rr_outbox.specs.Marks.{IsFreeOrBacked};
 ghost use Rattle.rr_step.specs.Steps.{combined};
 ghost use Rattle.rr_core.specs.Taken.{CanBeTaken};
 ghost use Rattle.rr_core.specs.Covered.{LeavesCovered};
@@ -14,9 +14,9 @@ ghost use Rattle.rr_core.specs.Covered.{LeavesCovered};
 use crate::group::{commands_after, is_running_group, mark_running, put_back, take_group};
 use crate::leaving::{Searched, is_any_answered, take_acknowledged, take_leaving};
 use crate::prefix::registry_of_prefix;
-use rr_input::{advance_step, hear_step, started, submit_step, suspect_step, tick_step};
+use rr_behaviour::{advance_step, hear_step, started, submit_step, suspect_step, tick_step};
 use rr_journal::{Opened, Synced};
-use rr_mark::Cleared;
+use rr_outbox::Cleared;
 use rr_registry::{Entries, Registry};
 use rr_step::{Changes, State};
 use rr_types::{
@@ -58,10 +58,7 @@ impl Core {
         // That a promise ascends and that a fact's number has 64 bits is told by these calls alone.
         let _entries = opened.promise().entries();
         let _next = opened.next();
-        let state = match started(alloc, opened) {
-            Ok(state) => state,
-            Err(refusal) => return Err(refusal),
-        };
+        let state = started(alloc, opened)?;
         match registry_of_prefix(&state, alloc) {
             Ok(registry) => Ok(Core {
                 alloc,
@@ -203,10 +200,7 @@ impl Core {
         if !is_running_group(&self.state, synced.group()) {
             return Err(Refusal::StrangeMark);
         }
-        let more = match commands_after(&self.state, self.alloc) {
-            Ok(more) => more,
-            Err(refusal) => return Err(refusal),
-        };
+        let more = commands_after(&self.state, self.alloc)?;
         match self.registry.apply_all(&more) {
             Ok(()) => {
                 mark_running(&mut self.state, synced);

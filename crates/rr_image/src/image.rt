@@ -59,7 +59,7 @@ fn front_of(alloc: Global, nodes: Nodes, node: NodeId, bytes: &[u8]) -> Result<F
 }
 
 /// The area with this number is broken at an offset.
-fn broken(area: Area, offset: u64) -> Refusal
+pub(crate) fn broken(area: Area, offset: u64) -> Refusal
     ensures { result ≡ Refusal.Damaged (area_number area) offset }
 {
     match area {

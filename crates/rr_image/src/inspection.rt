@@ -6,10 +6,10 @@ ghost use Rattle.rr_model.specs.NodeState.{decided_from};
 ghost use Rattle.rr_disk.specs.Areas.{bytes_of};
 ghost use Rattle.rr_disk.specs.Counts.{counted, Grew};
 ghost use Rattle.rr_image.specs.Image.{Begins};
-ghost use Rattle.rr_image.specs.Ends.{area_number};
 ghost use Rattle.rr_image.specs.Inspect.{told, active, inspected_by, inspected, IsOwnFront, IsTold, IsDamage, Inspects};
 
 use crate::content::{Content, Halt, OPEN_GATE, frame_behind, read_groups};
+use crate::image::broken;
 use rr_disk::{Area, Disk};
 use rr_frame::{Version, decode_snapshot};
 use rr_types::{Command, Entry, NodeId, Nodes, Op, Refusal, Standing};
@@ -112,16 +112,6 @@ fn report(version: Version, nodes: Nodes, node: NodeId, content: Content) -> Are
         nodes,
         next,
         decided: decided_count(promise.entries()),
-    }
-}
-
-// The area with this number is broken at an offset.
-fn broken(area: Area, offset: u64) -> Refusal
-    ensures { result ≡ Refusal.Damaged (area_number area) offset }
-{
-    match area {
-        Area::First => Refusal::Damaged { area: 0, offset },
-        Area::Second => Refusal::Damaged { area: 1, offset },
     }
 }
 
@@ -248,13 +238,7 @@ pub fn inspect<D: Disk>(
     ensures calls { OnOk result (D.calls disk.new ≡ counted (counted (D.calls disk.old))) }
     ensures tells { D.tells disk.old → D.tells disk.new }
 {
-    let first = match disk.read(alloc, Area::First, 0, u64::MAX) {
-        Ok(bytes) => bytes,
-        Err(refusal) => return Err(refusal),
-    };
-    let second = match disk.read(alloc, Area::Second, 0, u64::MAX) {
-        Ok(bytes) => bytes,
-        Err(refusal) => return Err(refusal),
-    };
+    let first = disk.read(alloc, Area::First, 0, u64::MAX)?;
+    let second = disk.read(alloc, Area::Second, 0, u64::MAX)?;
     inspect_bytes(alloc, first.as_slice(), second.as_slice())
 }

@@ -1,5 +1,6 @@
 //! Inboxes, into which many put messages and from which one takes them, first in first out; and hand-overs of one
-//! value at a time from one thread to another.
+//! value at a time from one thread to another. `Outlet::new` makes an inbox, and `Outlet::port` an end that puts into it;
+//! `hand_over` makes both ends of a hand-over.
 //!
 //! Each end of an inbox or a hand-over carries what it knows of all that was ever put there (`View`). That exists in
 //! proofs alone and takes no bytes.

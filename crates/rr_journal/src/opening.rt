@@ -367,20 +367,16 @@ fn write_on<D: Disk>(alloc: Global, disk: &mut D, rewrite: &Rewrite) -> Result<V
     ensures read { D.tells disk.old → IfOk result (λ v. IsReadBy (due_call (Rewriting rewrite.now.found (stage_calls (area_anew rewrite.now.found) rewrite.now.body rewrite.now.stage))) (D.areas disk.old) v.items) }
     ensures left { D.tells disk.old → OnErr result (IsLeftBy (due_call (Rewriting rewrite.now.found (stage_calls (area_anew rewrite.now.found) rewrite.now.body rewrite.now.stage))) (D.areas disk.old) (D.areas disk.new)) }
 {
-    match rewrite.call(disk) {
-        Ok(()) => Ok(Vec::new(alloc)),
-        Err(refusal) => Err(refusal),
-    }
+    rewrite.call(disk)?;
+    Ok(Vec::new(alloc))
 }
 
 fn done(alloc: Global, called: Result<(), Refusal>) -> Result<Vec<u8>, Refusal>
     ensures ok { OnOk result (called ≡ Ok tt) }
     ensures err { IfErr result (λ e. called ≡ Err e) }
 {
-    match called {
-        Ok(()) => Ok(Vec::new(alloc)),
-        Err(refusal) => Err(refusal),
-    }
+    called?;
+    Ok(Vec::new(alloc))
 }
 
 /// What is known of both areas behind a device call that succeeded.

@@ -102,10 +102,7 @@ impl Rewrite {
             Ok(snapshot) => snapshot,
             Err(_) => unreachable!(),
         };
-        let body = match frame_of(alloc, &snapshot) {
-            Ok(body) => body,
-            Err(refusal) => return Err(refusal),
-        };
+        let body = frame_of(alloc, &snapshot)?;
         let content = Content::new(epoch, snapshot.into_promise(), next, gate);
         Ok(Rewrite::new(Image::Outdated(area, content), body, closes))
     }

@@ -13,11 +13,11 @@ use Rattle.rr_types.specs.declared.promise.Standing.{Standing}
 use Rattle.rr_types.specs.declared.promise.Standing.TheVariants.{Decided, Open}
 use Rattle.rr_types.specs.declared.promise.Entry.{Entry}
 use Rattle.rr_types.specs.Facts.{instance_of, after_fact, decision_of}
-use Rattle.rr_types.specs.Standings.{standing_from}
+use Rattle.rr_types.specs.Standings.{standing_from, IsInRound}
 use Rattle.rr_types.specs.Promises.{AscendsFrom, standing_in, set_entry, take_on, take_on_all}
 use Rattle.rr_model.specs.NodeState.{decided_from}
 use Rattle.rr_model.proofs.Promised.{standing_in-set_entry, standing_in-take_on_all}
-use Rattle.rr_list.specs.Listed.{KeepsPromised, IsInRound, AllInRound}
+use Rattle.rr_list.specs.Listed.{KeepsPromised, AllInRound}
 use Rattle.rr_list.specs.Marked.{entries_in, AreEntered, decision_after, decided_by}
 use Rattle.rr_list.proofs.TableLemmas.{eq_nat_cmp}
 

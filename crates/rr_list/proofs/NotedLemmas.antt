@@ -6,7 +6,7 @@ use Rattle.std.specs.BTreeMap.{is_at}
 use Rattle.std.specs.Map.{lookup}
 use Rattle.std.proofs.lemmas.Bool.{ne_eqb, eq-eqb, lt-ltb, ltb-true, ltb-false, eqb-false}
 use Rattle.std.proofs.lemmas.List.{take_more}
-use Rattle.std.proofs.lemmas.List.Elements.{All-head, All-tail, All-push, All-weaker, All-cons}
+use Rattle.std.proofs.lemmas.List.Elements.{All-head, All-tail, All-cons}
 use Rattle.std.proofs.lemmas.Option.{none-some, same_Some}
 use Rattle.rr_types.specs.declared.command.RequestNo.{RequestNo}
 use Rattle.rr_types.specs.declared.command.Command.{Command}
@@ -57,8 +57,8 @@ same_bool false true f g = g refl
 same_bool false false f g = refl
 
 -- the table of requests has just those that are decided
-pub held_is_decided : (es : List (ℕ × Row)) (requests : List (RequestNo × Unit {0})) (end named : ℕ) (q : RequestNo) → IsTable es requests end named → is_held requests q ≡ list_any (has_decided q) (rows_in es)
-held_is_decided es requests end named q h =
+pub held_is_decided : (es : List (ℕ × Row)) (requests : List (RequestNo × Unit {0})) (end : ℕ) (q : RequestNo) → IsTable es requests end → is_held requests q ≡ list_any (has_decided q) (rows_in es)
+held_is_decided es requests end q h =
     same_bool (is_held requests q) (list_any (has_decided q) (rows_in es)) (h.decided q)
     (λ t. let d = decided_any 0 (rows_in es) q h.ascend t in subst (λ z. is_held requests z ≡ true) (same_request d.1.request q d.3) (h.holds d.0 d.1 d.2))
 
@@ -83,8 +83,8 @@ some_of None h = cc
 some_of (Some x) h = (x, refl)
 
 -- an instance above has decided where the end lies above the next one
-pub above_is_decided : (es : List (ℕ × Row)) (requests : List (RequestNo × Unit {0})) (end named i : ℕ) → IsTable es requests end named → 0 < end → nat_lt i (end - 1) ≡ list_any (is_decided_above i) (rows_in es)
-above_is_decided es requests end named i h p =
+pub above_is_decided : (es : List (ℕ × Row)) (requests : List (RequestNo × Unit {0})) (end i : ℕ) → IsTable es requests end → 0 < end → nat_lt i (end - 1) ≡ list_any (is_decided_above i) (rows_in es)
+above_is_decided es requests end i h p =
     same_bool (nat_lt i (end - 1)) (list_any (is_decided_above i) (rows_in es))
     (λ t.
     let v = some_of (decision_at (rows_in es) (end - 1)) (h.reached p) in
@@ -100,8 +100,8 @@ above_is_decided es requests end named i h p =
     lt-ltb _ _ (omega arith))
 
 -- with the end at 0 nothing has decided
-pub none_decided : (es : List (ℕ × Row)) (requests : List (RequestNo × Unit {0})) (end named i : ℕ) → IsTable es requests end named → end ≡ 0 → false ≡ list_any (is_decided_above i) (rows_in es)
-none_decided es requests end named i h e =
+pub none_decided : (es : List (ℕ × Row)) (requests : List (RequestNo × Unit {0})) (end i : ℕ) → IsTable es requests end → end ≡ 0 → false ≡ list_any (is_decided_above i) (rows_in es)
+none_decided es requests end i h e =
     same_bool false (list_any (is_decided_above i) (rows_in es)) (λ t. cc)
     (λ t.
     let r = any_at (is_decided_above i) 0 (rows_in es) h.ascend t in
@@ -254,12 +254,6 @@ below_put named rows row h l i m =
     let e : (row.instance == i) ≡ false = ne_eqb _ _ (λ x. omega (arith, x)) in
     row_of-put_row row rows i ∙ rw e (h i m)
 
--- one more row lies below a number that may have risen
-pub below_more : (above more k : ℕ) (r : Row) (rows : List Row) → k < length rows → r ≡ get_or rows k r → above ≤ more → r.instance < more → All (λ r. r.instance < above) (take k rows) → All (λ r. r.instance < more) (take (k + 1) rows)
-below_more above more k r rows l e le lt h =
-    subst (All (λ (x : Row). x.instance < more)) (sym (take_more rows k r l ∙ ap (λ (x : Row). take k rows ++ x ∷ []) (sym e)))
-    (All-push (λ (x : Row). x.instance < more) (take k rows) r (All-weaker (λ (x : Row). x.instance < above) (λ (x : Row). x.instance < more) (λ x below. omega arith) (take k rows) h) lt)
-
 -- rows put below a number leave all rows below it
 below_puts : (named : ℕ) (rows changes : List Row) → LieBelow named rows → All (λ r. r.instance < named) changes → LieBelow named (put_rows rows changes)
 below_puts named rows [] h a = h
@@ -274,8 +268,8 @@ pub all_one : (P : Row → Type 0) (row : Row) → P row → All P (row ∷ [])
 all_one P row h = All-cons P row [] h (λ k d l. absurd (omega (arith, l)))
 
 -- the table after rows were put and what their instances have decided was noted
-pub table_absorbed : (es new : List (ℕ × Row)) (changes : List Row) (is : List ℕ) (requests after : List (RequestNo × Unit {0})) (end higher named more : ℕ) → IsTable es requests end named → AreKeyed new → rows_in new ≡ put_rows (rows_in es) changes → is ≡ map (λ (r : Row). r.instance) changes → All (λ r. r.instance < 1048576) changes → named ≤ more → All (λ r. r.instance < more) changes → KeepsDecisions (rows_in es) (put_rows (rows_in es) changes) → IsNoted (rows_in new) is requests after end higher → IsTable new after higher more
-table_absorbed es new changes is requests after end higher named more h keyed rows e all le lower keeps noted =
+pub table_absorbed : (es new : List (ℕ × Row)) (changes : List Row) (is : List ℕ) (requests after : List (RequestNo × Unit {0})) (end higher : ℕ) → IsTable es requests end → AreKeyed new → rows_in new ≡ put_rows (rows_in es) changes → is ≡ map (λ (r : Row). r.instance) changes → All (λ r. r.instance < 1048576) changes → KeepsDecisions (rows_in es) (put_rows (rows_in es) changes) → IsNoted (rows_in new) is requests after end higher → IsTable new after higher
+table_absorbed es new changes is requests after end higher h keyed rows e all keeps noted =
     let kept : KeepsDecisions (rows_in es) (rows_in new) = rw rows keeps in
     record {
       keyed = keyed;
@@ -289,7 +283,6 @@ table_absorbed es new changes is requests after end higher named more h keyed ro
       above = λ i v d.
           by_touch i (λ t. (noted.held i v t d).1)
           (λ o. let l = h.above i v (sym (ap (λ x. decision_of (option_map (λ (r : Row). r.standing) x)) (ap (λ z. row_of z i) rows ∙ row_stays (rows_in es) changes i o)) ∙ d) in let m = noted.risen in omega arith);
-      below = rw rows (below_puts more (rows_in es) changes (λ i m. h.below i (omega arith)) lower);
     }
   where
     by_bool : {Z : Type 0} (b : Bool) → (b ≡ true → Z) → (b ≡ false → Z) → Z

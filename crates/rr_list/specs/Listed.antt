@@ -1,11 +1,10 @@
 use Rattle.std.specs.Prelude.{◌≡◌, ℕ, List, [], ◌∷◌, Option, None, Some, option_map}
 use Rattle.rr_types.specs.declared.command.Command.{Command}
 use Rattle.rr_types.specs.declared.fact.Fact.{Fact}
-use Rattle.rr_types.specs.declared.fact.Fact.TheVariants.{Enter, Propose, Adopt, Decide}
 use Rattle.rr_types.specs.declared.promise.Standing.{Standing}
 use Rattle.rr_types.specs.declared.promise.Entry.{Entry}
 use Rattle.rr_types.specs.Facts.{instance_of, decision_of}
-use Rattle.rr_types.specs.Standings.{round_of}
+use Rattle.rr_types.specs.Standings.{IsInRound}
 use Rattle.rr_types.specs.Promises.{standing_in, take_on}
 use Rattle.rr_model.specs.NodeState.{Row, row_of, put_row}
 
@@ -34,13 +33,6 @@ KeepsPromised entries after = (i : ℕ) (v : Command) → decision_of (standing_
 -- each instance that the entries name has a row
 abbrev pub HaveRows : List Entry → List Row → Type 0
 HaveRows entries rows = (i : ℕ) → row_of rows i ≡ None → standing_in entries i ≡ None
-
--- an Adopt is of the present round
-abbrev pub IsInRound : Option Standing → Fact → Type 0
-IsInRound s (Enter i e) = Unit {0}
-IsInRound s (Propose i r v) = Unit {0}
-IsInRound s (Adopt i r v) = round_of s ≡ r
-IsInRound s (Decide i v) = Unit {0}
 
 -- each Adopt of the facts, oldest first, is of the round in which the entries have its instance by then
 abbrev pub AllInRound : List Entry → List Fact → Type 0

@@ -78,8 +78,8 @@ is_undecided rows i = not (is_some (decision_at rows i))
 abbrev pub LieBelow : ℕ → List Row → Type 0
 LieBelow named rows = (i : ℕ) → named ≤ i → row_of rows i ≡ None
 
--- a table of rows with the requests that they have decided, the end of the decided instances, and a number above all rows
-pub record IsTable (entries : List (ℕ × Row)) (requests : List (RequestNo × Unit {0})) (end named : ℕ) : Type 0 where
+-- a table of rows with the requests that they have decided, and the end of the decided instances
+pub record IsTable (entries : List (ℕ × Row)) (requests : List (RequestNo × Unit {0})) (end : ℕ) : Type 0 where
   pub keyed : AreKeyed entries
   pub ascend : AscendFrom 0 (rows_in entries)
   pub instances : AreInstances (rows_in entries)
@@ -87,7 +87,6 @@ pub record IsTable (entries : List (ℕ × Row)) (requests : List (RequestNo × 
   pub holds : HoldsDecided (rows_in entries) requests
   pub reached : IsReached (rows_in entries) end
   pub above : IsAbove (rows_in entries) end
-  pub below : LieBelow named (rows_in entries)
 
 -- rows put one after another, each of which keeps what has decided before it
 abbrev pub EachKeeps : List Row → List Row → Type 0

@@ -12,7 +12,7 @@ ghost use Rattle.rr_list.specs.Opened.{open_in};
 use crate::marks::Marks;
 use crate::rows::{Rows, is_any_decided};
 use crate::window::Window;
-use rr_instance::Row;
+use rr_round::Row;
 use rr_types::{Command, Entry, Fact, Instance, Op, Refusal, RequestNo, Standing};
 use std::alloc::Global;
 use std::marker::Model;
@@ -47,10 +47,7 @@ impl Instances {
         ensures err { IfErr result (λ e. e ≡ Refusal.OutOfMemory) }
     {
         let mut marks = Marks::new(alloc);
-        match marks.restore(promise) {
-            Ok(()) => (),
-            Err(refusal) => return Err(refusal),
-        }
+        marks.restore(promise)?;
         let mut rows = Rows::new(alloc);
         match rows.restore(alloc, promise, next) {
             Ok(()) => {
@@ -128,10 +125,7 @@ impl Instances {
         if rows.is_empty() {
             return Ok(());
         }
-        match self.marks.make_places(&rows) {
-            Ok(()) => (),
-            Err(refusal) => return Err(refusal),
-        }
+        self.marks.make_places(&rows)?;
         let is_decision_new = is_any_decided(&rows);
         match self.rows.absorb(alloc, rows) {
             Ok(()) => {

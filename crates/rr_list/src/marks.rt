@@ -5,10 +5,11 @@ ghost use Rattle.std.specs.List.{All};
 ghost use Rattle.rr_types.specs.Facts.{instance_of, decision_of, after_fact};
 ghost use Rattle.rr_types.specs.Promises.{standing_in, set_entry, take_on, take_on_all, IsAscending};
 ghost use Rattle.rr_model.specs.NodeState.{decided_from};
-ghost use Rattle.rr_list.specs.Listed.{KeepsPromised, IsInRound, AllInRound};
+ghost use Rattle.rr_types.specs.Standings.{IsInRound};
+ghost use Rattle.rr_list.specs.Listed.{KeepsPromised, AllInRound};
 ghost use Rattle.rr_list.specs.Marked.{marked_in, has_mark_place, AreMarks, IsBegun, IsCounted, HaveMarkPlaces, set_all, decision_after, decided_by};
 
-use rr_instance::{Row, decision_in, entered, instance_of, with_adopted, with_proposal};
+use rr_round::Row;
 use rr_places::Numbered;
 use rr_types::{Command, Entry, Fact, INSTANCES, Instance, Op, Refusal, Standing};
 use std::alloc::Global;
@@ -18,19 +19,6 @@ use std::alloc::Global;
 pub(crate) struct Marks {
     entries: Numbered<Entry>,
     prefix: u32,
-}
-
-/// Where an instance stands after a fact about it.
-fn after_fact(standing: Option<Standing>, fact: &Fact) -> Option<Standing>
-    requires { IsInRound standing fact.now }
-    ensures { result ≡ after_fact standing fact.now }
-{
-    match fact {
-        Fact::Enter(_, estimate) => Some(entered(estimate)),
-        Fact::Propose(_, _, command) => with_proposal(standing, *command),
-        Fact::Adopt(_, _, command) => with_adopted(standing, *command),
-        Fact::Decide(_, command) => Some(Standing::Decided(*command)),
-    }
 }
 
 impl Marks {
@@ -137,8 +125,8 @@ impl Marks {
         ensures prefix { self.new.prefix ≡ self.old.prefix }
         ensures places { (i : ℕ) → has_mark_place self.new i ≡ has_mark_place self.old i }
     {
-        let instance = instance_of(fact);
-        if let Some(standing) = after_fact(self.standing(instance.number()), fact) {
+        let instance = fact.instance();
+        if let Some(standing) = Standing::after(&self.standing(instance.number()), fact) {
             self.set(&Entry { instance, standing });
         }
     }
@@ -166,7 +154,7 @@ impl Marks {
         ensures range { IfSome result (λ _. number < 1048576) }
     {
         match self.entry(number) {
-            Some(entry) => decision_in(&entry.standing),
+            Some(entry) => entry.standing.decision(),
             None => None,
         }
     }
@@ -348,7 +336,7 @@ fn decided_by(facts: &[Fact], number: u32) -> Option<Command>
 {
     let mut decided = None;
     for fact in facts {
-        if instance_of(fact).number() == number {
+        if fact.instance().number() == number {
             decided = decision_after(decided, fact);
         }
     }

@@ -12,21 +12,20 @@ ghost use Rattle.rr_places.specs.Places.{filled, has_place};
 ghost use Rattle.rr_list.specs.Listed.{put_rows, decision_at, KeepsDecisions};
 ghost use Rattle.rr_list.specs.Rowed.{EachKeeps, rows_in, AreKeyed, AscendFrom, AreInstances, has_decided, has_request_place, HavePlaces, IsNoted};
 
-use rr_instance::Row;
+use rr_round::Row;
 use rr_places::{Numbered, drop_free_place, make_place, put, value_at};
 use rr_types::{Command, Entry, Instance, Op, Refusal, RequestNo, Standing};
 use std::alloc::Global;
 use std::collections::BTreeMap;
 use std::marker::Model;
 
-/// The rows, each at its instance; the requests that they have decided; the number above the highest instance
-/// that has decided, or 0; and a number below which all rows lie, so that a look-up above them costs nothing.
+/// The rows, each at its instance; the requests that they have decided; and the number above the highest instance
+/// that has decided, or 0.
 #[derive(Drop)]
 pub(crate) struct Rows {
     rows: Numbered<Row>,
     requests: BTreeMap<RequestNo, Option<()>>,
     end: u32,
-    named: u32,
 }
 
 impl Model for Rows {
@@ -39,7 +38,7 @@ impl Model for Rows {
 
     ghost view = { λ t. rows_in (filled t.rows) };
 
-    ghost invariant = { λ t. IsTable (filled t.rows) (filled t.requests.entries) t.end t.named };
+    ghost invariant = { λ t. IsTable (filled t.rows) (filled t.requests.entries) t.end };
 }
 
 /// Makes a place for the row of each of these instances.
@@ -100,10 +99,8 @@ fn make_places(
     ensures instances { OnOk result (All (λ r. r.instance < 1048576) rows.now) }
     ensures err { IfErr result (λ e. e ≡ Refusal.OutOfMemory) }
 {
-    match make_row_places(map, rows) {
-        Ok(()) => make_request_places(requests, rows),
-        Err(refusal) => Err(refusal),
-    }
+    make_row_places(map, rows)?;
+    make_request_places(requests, rows)
 }
 
 /// Takes away what places of these rows' requests are free.
@@ -149,27 +146,6 @@ fn instances_of(alloc: Global, rows: &[Row]) -> Result<Vec<Instance>, Refusal>
         instances.push(row.instance)?;
     }
     Ok(instances)
-}
-
-/// The least number from this one on below which an instance lies.
-fn named_above(named: u32, instance: Instance) -> u32
-    ensures grown { named ≤ result }
-    ensures below { instance < result }
-{
-    let number = instance.number();
-    if named <= number { number + 1 } else { named }
-}
-
-/// The least number from this one on below which these rows lie.
-fn named_with(named: u32, rows: &[Row]) -> u32
-    ensures grown { named ≤ result }
-    ensures below { All (λ r. r.instance < result) rows.now }
-{
-    let mut above = named;
-    for row in rows {
-        above = named_above(above, row.instance);
-    }
-    above
 }
 
 /// The request that a row has decided.
@@ -272,7 +248,6 @@ impl Rows {
             rows: Numbered::new(alloc),
             requests: BTreeMap::new(alloc),
             end: 0,
-            named: 0,
         }
     }
 
@@ -282,9 +257,6 @@ impl Rows {
         ensures ascend { AscendFrom 0 self.now }
         ensures instances { AreInstances self.now }
     {
-        if self.named <= number {
-            return None;
-        }
         match self.rows.get(number) {
             Some(row) => Some(row),
             None => None,
@@ -319,13 +291,9 @@ impl Rows {
     {
         let instance = row.instance;
         let request = decided_request(&row);
-        match make_request_place(&mut self.requests, &row) {
-            Ok(()) => (),
-            Err(refusal) => return Err(refusal),
-        }
+        make_request_place(&mut self.requests, &row)?;
         match self.rows.insert(instance.number(), row) {
             Ok(()) => {
-                self.named = named_above(self.named, instance);
                 self.end = note_request(&mut self.requests, self.end, instance, request);
                 Ok(())
             }
@@ -386,13 +354,9 @@ impl Rows {
         ensures instances { OnOk result (AreInstances self.new) }
         ensures err { IfErr result (λ e. e ≡ Refusal.OutOfMemory) }
     {
-        let instances = match instances_of(alloc, &rows) {
-            Ok(instances) => instances,
-            Err(refusal) => return Err(refusal),
-        };
+        let instances = instances_of(alloc, &rows)?;
         match make_places(&mut self.rows, &mut self.requests, &rows) {
             Ok(()) => {
-                self.named = named_with(self.named, &rows);
                 put_all(&mut self.rows, rows);
                 self.end = note_decisions(&self.rows, &mut self.requests, self.end, &instances);
                 Ok(())

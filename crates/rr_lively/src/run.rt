@@ -2,14 +2,14 @@
 
 ghost use Rattle.std.specs.Prelude.{◌≡◌, ◌≤◌, ◌+◌, ◌^◌, ◌<◌, false, IsTrue, Ok, OnOk, IfOk, IfErr};
 ghost use Rattle.rr_text.specs.Scheduled.{IsEvent};
-ghost use Rattle.rr_text.specs.Words.{IsOp, IsCommand, IsFill};
+ghost use Rattle.rr_text.specs.Words.{IsFill};
 ghost use Rattle.rr_lively.specs.Lively.{IsSoFar, MayStay, IsLivelyRun, IsScheduleTo};
 
 use rr_sim::{Cluster, Stance, decided_list, node_of};
 use rr_text::text_report::push_decided_list;
 use rr_text::text_schedule::{push_event_line, push_nodes_line};
-use rr_text::{Event, Fill};
-use rr_types::{Command, Nodes, Op, Refusal, RequestNo};
+use rr_text::{Event, Fill, command_law};
+use rr_types::{Nodes, Refusal};
 use std::alloc::Global;
 
 /// The nodes behind the events so far, the line of the next event, and the texts of the schedule and of its report.
@@ -19,45 +19,6 @@ pub(crate) struct Run {
     line: u64,
     schedule: Vec<u8>,
     report: Vec<u8>,
-}
-
-/// An operation has a name, and a value that isn't too long. It does nothing when it runs, as the two below.
-fn op_law(op: &Op)
-    ensures { IsOp op.now }
-{
-    match op {
-        Op::Claim(name, value) => {
-            let _name = name.as_bytes();
-            let _value = value.as_bytes();
-        }
-        Op::Update(name, value) => {
-            let _name = name.as_bytes();
-            let _value = value.as_bytes();
-        }
-        Op::Release(name) => {
-            let _name = name.as_bytes();
-        }
-        Op::Transfer(name, owner) => {
-            let _name = name.as_bytes();
-            let _owner = *owner;
-        }
-    }
-}
-
-/// The numbers of a request are in their ranges.
-fn request_law(request: RequestNo)
-    ensures client { request.client < 2 ^ 32 }
-    ensures seq { request.seq < 2 ^ 64 }
-{
-    let _client = request.client;
-    let _seq = request.seq;
-}
-
-fn command_law(command: &Command)
-    ensures { IsCommand command.now }
-{
-    op_law(&command.op);
-    request_law(command.request);
 }
 
 /// Whether a fill has one byte, as each that is drawn.

@@ -1,50 +1,20 @@
 //! Which events are of which nodes. All else that the grammar of tapes asks of an event is kept by its types.
 
 ghost use Rattle.std.specs.Prelude.{◌≡◌, ◌↔◌, ◌<◌, ◌^◌, IsTrue};
-ghost use Rattle.rr_text.specs.Words.{IsOp, IsCommand};
 ghost use Rattle.rr_tape.specs.Taped.{IsInstance, IsRound, IsEstimate, IsBody, IsMessage, IsRequest, IsReply, IsTapeEvent};
 
 use rr_tape::TapeEvent;
+use rr_text::command_law;
 use rr_types::{
     Body, Command, Estimate, Instance, Message, NodeId, NodeSet, Nodes, Op, Reply, RequestNo, Round,
 };
 
-/// An operation has what there can be. It does nothing when it runs, as the laws below.
-fn op_law(op: &Op)
-    ensures { IsOp op.now }
-{
-    match op {
-        Op::Claim(name, value) => {
-            let _name = name.as_bytes();
-            let _value = value.as_bytes();
-        }
-        Op::Update(name, value) => {
-            let _name = name.as_bytes();
-            let _value = value.as_bytes();
-        }
-        Op::Release(name) => {
-            let _name = name.as_bytes();
-        }
-        Op::Transfer(name, owner) => {
-            let _name = name.as_bytes();
-            let _owner = *owner;
-        }
-    }
-}
-
-/// The numbers of a request are in their ranges.
+/// The numbers of a request are in their ranges. It does nothing when it runs, as the laws below.
 fn request_law(request: RequestNo)
     ensures { IsRequest request }
 {
     let _client = request.client;
     let _seq = request.seq;
-}
-
-fn command_law(command: &Command)
-    ensures { IsCommand command.now }
-{
-    op_law(&command.op);
-    request_law(command.request);
 }
 
 fn instance_law(instance: Instance)

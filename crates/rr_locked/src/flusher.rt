@@ -48,20 +48,11 @@ pub fn flush<D: Disk, T: Turnstile>(
         × OnErr result (EachHoldsEither (Holds job.nodes job.node) (D.areas journal.new.disk) facts job.group.facts) }
 {
     turnstile.pass(node, Place::BeforeDevice);
-    let out = match job.step(journal) {
-        Ok(out) => out,
-        Err(refusal) => return Err(refusal),
-    };
+    let out = job.step(journal)?;
     turnstile.pass(node, Place::BeforeDevice);
-    let safe = match out.step(journal) {
-        Ok(safe) => safe,
-        Err(refusal) => return Err(refusal),
-    };
+    let safe = out.step(journal)?;
     turnstile.pass(node, Place::BeforeDevice);
-    let set = match safe.step(journal) {
-        Ok(set) => set,
-        Err(refusal) => return Err(refusal),
-    };
+    let set = safe.step(journal)?;
     turnstile.pass(node, Place::BeforeDevice);
     set.step(journal)
 }

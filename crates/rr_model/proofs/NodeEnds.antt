@@ -13,7 +13,7 @@ use Rattle.rr_types.specs.Nodes.{has_member}
 use Rattle.rr_types.specs.Facts.{instance_of, after_fact}
 use Rattle.rr_types.specs.Standings.{round_of, stamp_of, estimate_of}
 use Rattle.rr_model.specs.NodeState.{NodeState, Row, row_of, standing_at, undecided_from, lowest_undecided, open_instances}
-use Rattle.rr_model.specs.NodeDetector.{joined}
+use Rattle.rr_types.specs.Nodes.{joined}
 use Rattle.rr_model.specs.NodeParts.{owe, stage, free_command, leave_round, enter_with, entering_estimate, enter, conclude, propose}
 use Rattle.rr_model.specs.NodeDue.{Due, Begin, Offer, Conclude, MoveOn, pick, is_majority, due_of_coordinator, due_of_row, due_at, first_due, due, carry_out, settle_within, settle}
 use Rattle.rr_model.proofs.NodeRows.{stands}

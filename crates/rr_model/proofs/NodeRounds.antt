@@ -23,7 +23,8 @@ use Rattle.rr_types.specs.Facts.{instance_of, after_fact, decision_of}
 use Rattle.rr_types.specs.Promises.{standing_in, promise_of, take_on, take_on_all, all_fit}
 use Rattle.rr_model.specs.Lawful.{Heard}
 use Rattle.rr_model.specs.NodeState.{NodeState, Row, Owed, Tally, next_number, everyone, others, row_of, put_row, standing_at, open_instances, is_open, first_undecided, is_decided_request, decided_prefix}
-use Rattle.rr_model.specs.NodeDetector.{joined, all_ticked, late_nodes}
+use Rattle.rr_model.specs.NodeDetector.{all_ticked, late_nodes}
+use Rattle.rr_types.specs.Nodes.{joined}
 use Rattle.rr_model.specs.NodeParts.{messages_to, owe, pool_add, stage, free_command, backing_at, leave_round, enter_with, entering_estimate, enter, restate, restate_all, conclude, propose}
 use Rattle.rr_model.specs.NodeDue.{Due, Begin, Offer, Conclude, MoveOn, pick, is_majority, due_of_coordinator, due_of_row, due_at, first_due, due, carry_out, settle_within, settle}
 use Rattle.rr_model.specs.NodeStep.{Input, Submit, Suspect, Tick, Advance, Hear, is_waiting, wait_for, submitted, is_list_full, is_behind, ask, ticked_on, lowest_in_round, advanced, with_vote, change_tally, count_estimate, count_ack, count_nack, catch_up, take_proposal, take_estimate, has_proposed, answer, heard_body, taken_in, node_step, group_taken, group_put_back, marked_running, may_leave, next_leaving, restored, started}

@@ -4,7 +4,7 @@ use Rattle.rr_types.specs.declared.message.Body.TheVariants.{Estimate}
 use Rattle.rr_model.specs.Examples.{claim_a_x, first_request, first_estimate, to_itself}
 use Rattle.rr_model.specs.NodeExamples.{told_alone, decided_alone, marked_alone}
 use Rattle.rr_model.specs.NodeState.{open_instances}
-use Rattle.rr_model.specs.NodeDetector.{joined}
+use Rattle.rr_types.specs.Nodes.{joined}
 use Rattle.rr_model.specs.NodeParts.{owe, pool_add, stage, free_command, enter, restate, conclude, propose}
 use Rattle.rr_model.specs.NodeDue.{due, carry_out, settle_within, settle}
 use Rattle.rr_model.specs.NodeStep.{wait_for, submitted, count_estimate, count_ack, take_proposal, heard_body, taken_in, node_step, group_taken, marked_running, next_leaving, next_acknowledged, started}

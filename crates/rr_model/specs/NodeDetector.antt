@@ -1,5 +1,5 @@
 use Rattle.std.specs.Prelude.{ℕ, zero, suc, ◌+◌, ◌^◌, Bool, not, ◌&&◌, ◌==◌, nat_lt, min, if◌then◌else◌, List, [], ◌∷◌, map}
-use Rattle.rr_types.specs.Nodes.{has_member, with_member, without_member}
+use Rattle.rr_types.specs.Nodes.{without_member, joined}
 use Rattle.rr_model.specs.NodeState.{Watch}
 
 -- the first time-out of each node: four ticks without a beat are borne
@@ -40,15 +40,6 @@ late_from p q (w ∷ ws) = (if is_late w && not (q == p) then 2 ^ q else 0) + la
 -- the nodes that the heartbeat detector of node p suspects
 abbrev pub late_nodes : ℕ → List Watch → ℕ
 late_nodes p ws = late_from p 0 ws
-
--- the union of two sets of nodes, of which the second is given by its members below count
-abbrev pub joined_below : ℕ → ℕ → ℕ → ℕ
-joined_below zero a b = a
-joined_below (suc q) a b = joined_below q (if has_member b q then with_member a q else a) b
-
--- two sets of nodes together
-unfoldable pub joined : ℕ → ℕ → ℕ
-joined a b = joined_below 7 a b
 
 -- the completeness reduction: what q suspects is suspected too, and q, which spoke, is not (Chandra and Toueg 1996)
 abbrev pub reduced : ℕ → ℕ → ℕ → ℕ

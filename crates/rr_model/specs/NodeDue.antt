@@ -7,7 +7,7 @@ use Rattle.rr_types.specs.Standings.{round_of}
 use Rattle.rr_types.specs.Rounds.{coordinator_of, majority_of}
 use Rattle.rr_types.specs.Nodes.{has_member}
 use Rattle.rr_model.specs.NodeState.{NodeState, Row, Vote, Tally, row_of, standing_at, open_instances, size_of}
-use Rattle.rr_model.specs.NodeDetector.{joined}
+use Rattle.rr_types.specs.Nodes.{joined}
 use Rattle.rr_model.specs.NodeParts.{free_command, enter, propose, conclude}
 
 -- what a node does of its own accord for an instance

@@ -1,4 +1,5 @@
-//! A node over its disk, one event at a time: at most one device call an event.
+//! A node over its disk, one event at a time: at most one device call an event. `Node::new` is down; `Restart` and `Device`
+//! events open its disk, and from then on it takes the events of a node that is up. `fail` and `crash` happen to it.
 #![tactic(auto)]
 
 mod doing;

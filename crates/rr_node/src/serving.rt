@@ -263,10 +263,7 @@ impl Serving {
         requires rests { self.old.flush ≡ Flush.Resting }
         ensures { CarriesOn NodeEvent.Snap self.old (quiet result) (Doing.Serving self.new) }
     {
-        let promise = match self.core.marked_promise(alloc) {
-            Ok(promise) => promise,
-            Err(refusal) => return Err(refusal),
-        };
+        let promise = self.core.marked_promise(alloc)?;
         match self.slots.begin_snapshot(alloc, promise) {
             Ok(job) => {
                 self.runs(Flush::Switching(job));

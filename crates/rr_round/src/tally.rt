@@ -5,11 +5,10 @@ ghost use Rattle.std.specs.List.{insert, range_with_len};
 ghost use Rattle.rr_types.specs.Nodes.{has_member, with_member};
 ghost use Rattle.rr_model.specs.NodeState.{no_votes};
 ghost use Rattle.rr_model.specs.NodeStep.{with_vote};
-ghost use Rattle.rr_model.specs.NodeDetector.{joined};
+ghost use Rattle.rr_types.specs.Nodes.{joined};
 ghost use Rattle.rr_model.specs.NodeDue.{better, best_vote, pick};
 ghost use Rattle.rr_round.specs.Majorities.{has_majority};
 
-use rr_suspect::joined;
 use rr_types::{Command, Estimate, NodeId, NodeSet, Nodes, Refusal, majority};
 use std::alloc::Global;
 use std::marker::Model;
@@ -189,7 +188,7 @@ impl Tally {
     pub fn is_answered(&self, nodes: Nodes) -> bool
         ensures { result ≡ has_majority nodes (joined self.now.acks self.now.nacks) }
     {
-        is_majority(nodes, joined(self.acks, self.nacks))
+        is_majority(nodes, self.acks.joined(self.nacks))
     }
 }
 

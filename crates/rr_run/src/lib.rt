@@ -1,6 +1,5 @@
-//! `rr run`: nodes in threads, over the files of folders, by a script. This crate alone brings threads to the program;
-//! all other commands are those of `rr_view` and `rr_cli`, which
-//! have none.
+//! `rr run`: nodes in threads, over the files of folders, by a script. This crate alone brings threads to the program. All other
+//! commands are those of `rr_view` and `rr_cli`, which have none.
 #![tactic(auto)]
 
 mod folder;

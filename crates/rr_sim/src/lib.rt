@@ -1,4 +1,5 @@
-//! The simulator: a schedule of what happens to a cluster goes in, the report of its run comes out.
+//! The simulator: a schedule of what happens to a cluster goes in, the report of its run comes out. `simulate` runs a schedule
+//! that is a value, `report_on` one while its text is read; `random` draws one. A `Cluster` takes one event at a time.
 #![tactic(auto)]
 
 mod chosen;

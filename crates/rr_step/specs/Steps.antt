@@ -8,7 +8,7 @@ use Rattle.rr_types.specs.declared.fact.Fact.TheVariants.{Enter, Propose, Adopt,
 use Rattle.rr_types.specs.Facts.{decision_of}
 use Rattle.rr_types.specs.Registry.{is_same_request, has_request}
 use Rattle.rr_model.specs.NodeState.{NodeState, Row, Watch, Owed, row_of, put_row}
-use Rattle.rr_mark.specs.Marks.{IsOwn}
+use Rattle.rr_outbox.specs.Marks.{IsOwn}
 use Rattle.rr_list.specs.Rowed.{has_decided}
 
 -- a node within a step: what it was before, and what it is by now

@@ -93,10 +93,7 @@ fn arrive(
     ensures waiting_kept { OnErr result (waiting.new ≡ waiting.old) }
     ensures err { IfErr result (λ e. e ≡ Refusal.OutOfMemory) }
 {
-    match wait_all(waiting, requests) {
-        Ok(()) => (),
-        Err(refusal) => return Err(refusal),
-    }
+    wait_all(waiting, requests)?;
     match pool_all(pool, commands) {
         Ok(()) => Ok(()),
         Err(refusal) => {
@@ -135,10 +132,7 @@ impl State {
             waiting,
             owed,
         } = changes;
-        match arrive(&mut self.pool, &mut self.waiting, &pooled, &waiting) {
-            Ok(()) => (),
-            Err(refusal) => return Err(refusal),
-        }
+        arrive(&mut self.pool, &mut self.waiting, &pooled, &waiting)?;
         match self.owed.owe_all(&owed) {
             Ok(()) => (),
             Err(refusal) => {

@@ -4,12 +4,10 @@ ghost use Rattle.std.specs.Prelude.{◌≡◌, IfOk, IfErr};
 ghost use Rattle.rr_model.specs.NodeStep.{restored};
 
 use crate::state::State;
-use rr_heartbeat::Heartbeat;
+use rr_detector::{Heartbeat, Suspects};
 use rr_journal::Opened;
 use rr_list::{Instances, Pool, Waiting};
-use rr_mark::{Mark, Outbox};
-use rr_staged::Unmarked;
-use rr_suspect::Suspects;
+use rr_outbox::{Mark, Outbox, Unmarked};
 use rr_types::{NodeSet, Refusal};
 use std::alloc::Global;
 

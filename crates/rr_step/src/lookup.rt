@@ -7,7 +7,6 @@ ghost use Rattle.rr_model.specs.NodeState.{standing_at};
 ghost use Rattle.rr_model.specs.NodeStep.{is_list_full, has_proposed};
 
 use crate::step::Step;
-use rr_instance::{decision_in, proposal_in, round_in, stamp_in};
 use rr_types::{Command, INSTANCES, Instance, Round, Standing};
 
 impl<'a> Step<'a> {
@@ -17,7 +16,7 @@ impl<'a> Step<'a> {
         ensures range { result ≤ 2147483647 }
     {
         match self.standing(instance) {
-            Some(standing) => round_in(standing),
+            Some(standing) => standing.round(),
             None => 0,
         }
     }
@@ -27,7 +26,7 @@ impl<'a> Step<'a> {
         ensures { result ≡ stamp_of (standing_at self.now.state instance) }
     {
         match self.standing(instance) {
-            Some(standing) => stamp_in(standing),
+            Some(standing) => standing.stamp(),
             None => 0,
         }
     }
@@ -37,7 +36,7 @@ impl<'a> Step<'a> {
         ensures { result ≡ proposal_of (standing_at self.now.state instance) }
     {
         match self.standing(instance) {
-            Some(standing) => proposal_in(standing),
+            Some(standing) => standing.proposal(),
             None => None,
         }
     }
@@ -47,7 +46,7 @@ impl<'a> Step<'a> {
         ensures { result ≡ decision_of (standing_at self.now.state instance) }
     {
         match self.standing(instance) {
-            Some(standing) => decision_in(&standing),
+            Some(standing) => standing.decision(),
             None => None,
         }
     }

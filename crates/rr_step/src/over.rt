@@ -10,7 +10,7 @@ ghost use Rattle.rr_step.specs.Steps.{put_rows, KeepsDecision, KeepDecisions};
 
 use crate::rows::{find_row, has_decided_request};
 use crate::state::State;
-use rr_instance::{Row, round_in};
+use rr_round::Row;
 use rr_list::{Window, is_any_decided};
 use rr_types::{Instance, Refusal, RequestNo, WINDOW};
 
@@ -132,7 +132,7 @@ fn has_round_over(base: &State, changed: &[Row], instance: Instance) -> bool
     ensures { result ≡ nat_lt 0 (round_of (option_map (λ r. r.standing) (row_of (put_rows changed.now base.now.rows) instance))) }
 {
     match row_over(base, changed, instance) {
-        Some(row) => round_in(row.standing) > 0,
+        Some(row) => row.standing.round() > 0,
         None => false,
     }
 }

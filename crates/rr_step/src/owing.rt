@@ -4,10 +4,10 @@ ghost use Rattle.std.specs.Prelude.{◌≡◌, ◌++◌, [], ◌∷◌, None, no
 ghost use Rattle.std.specs.List.{range_with_len};
 ghost use Rattle.rr_types.specs.Registry.{is_same_request, has_request};
 ghost use Rattle.rr_model.specs.NodeParts.{messages_to};
-ghost use Rattle.rr_mark.specs.Marks.{is_free, IsOwn};
+ghost use Rattle.rr_outbox.specs.Marks.{is_free, IsOwn};
 ghost use Rattle.rr_step.specs.Places.{message_to, nodes_beside};
 
-use rr_mark::Owed;
+use rr_outbox::Owed;
 use rr_types::{Body, Command, Message, NodeId, Nodes, Refusal, RequestNo};
 
 /// Owes a body to one node.

@@ -7,7 +7,7 @@ ghost use Rattle.rr_model.specs.NodeState.{row_of};
 ghost use Rattle.rr_model.specs.NodeParts.{row_after, fresh_row};
 
 use crate::step::Step;
-use rr_instance::{Row, instance_of};
+use rr_round::Row;
 use rr_types::{Fact, Refusal, Standing};
 use std::alloc::Global;
 
@@ -15,7 +15,7 @@ use std::alloc::Global;
 fn first_row(alloc: Global, number: u128, fact: &Fact, standing: &Standing) -> Row
     ensures { result ≡ row_after number fact.now standing.now (fresh_row (instance_of fact.now) standing.now) }
 {
-    let mut row = Row::fresh(alloc, instance_of(fact), *standing);
+    let mut row = Row::fresh(alloc, fact.instance(), *standing);
     row.advance(number, fact, *standing);
     row
 }
@@ -31,7 +31,7 @@ pub fn row_changed(
     ensures ok { IfOk result (λ r. r ≡ row_after number fact.now standing (option_map_or (λ old. old) (row_of step.now.state.rows (instance_of fact.now)) (fresh_row (instance_of fact.now) standing))) }
     ensures err { IfErr result (λ e. e ≡ Refusal.OutOfMemory) }
 {
-    let instance = instance_of(fact);
+    let instance = fact.instance();
     match step.row(instance) {
         Some(row) => row.after(alloc, number, fact, standing),
         None => Ok(first_row(alloc, number, fact, &standing)),

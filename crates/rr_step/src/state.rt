@@ -1,10 +1,8 @@
 //! What a node that is up knows, as plain data.
 
-use rr_heartbeat::Heartbeat;
+use rr_detector::{Heartbeat, Suspects};
 use rr_list::{Instances, Pool, Waiting};
-use rr_mark::{Mark, Outbox};
-use rr_staged::Unmarked;
-use rr_suspect::Suspects;
+use rr_outbox::{Mark, Outbox, Unmarked};
 use rr_types::{NodeId, Nodes};
 use std::marker::Model;
 

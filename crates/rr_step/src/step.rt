@@ -4,23 +4,22 @@ ghost use Rattle.std.specs.Prelude.{◌≡◌, ◌++◌, ◌∷◌, [], ◌^◌,
 ghost use Rattle.std.specs.List.{list_any};
 ghost use Rattle.rr_types.specs.Registry.{has_request};
 ghost use Rattle.rr_types.specs.Facts.{instance_of, after_fact, decision_of};
-ghost use Rattle.rr_types.specs.Standings.{round_of};
+ghost use Rattle.rr_types.specs.Standings.{round_of, IsInRound};
 ghost use Rattle.rr_model.specs.NodeState.{next_number, standing_at, row_of, put_row, is_decided, first_undecided, open_instances, is_open, is_decided_request, everyone, others};
 ghost use Rattle.rr_model.specs.NodeDetector.{all_ticked, heard_beat, late_nodes, reduced};
 ghost use Rattle.rr_model.specs.NodeParts.{owe, pool_add, stage, rows_after, pool_after};
 ghost use Rattle.rr_model.specs.NodeStep.{wait_for, is_waiting, lowest_in_round};
-ghost use Rattle.rr_mark.specs.Marks.{is_free};
+ghost use Rattle.rr_outbox.specs.Marks.{is_free};
 ghost use Rattle.rr_step.specs.Places.{first_free};
 ghost use Rattle.rr_step.specs.Steps.{stepped, combined, KeepsDecision, KeepsStanding, IsFitting, IsDecidedFact};
 
 use crate::known::is_among;
 use crate::state::State;
 use crate::{estimates, over, owing, staging};
-use rr_heartbeat::Heartbeat;
-use rr_instance::{Backing, Row, instance_of};
+use rr_detector::{Heartbeat, Suspects};
+use rr_round::{Backing, Row};
 use rr_list::Window;
-use rr_mark::Owed;
-use rr_suspect::Suspects;
+use rr_outbox::Owed;
 use rr_types::{
     Body, Command, Fact, Instance, NodeId, NodeSet, Nodes, Op, Refusal, RequestNo, Standing, WINDOW,
 };
@@ -175,7 +174,7 @@ impl<'a> Step<'a> {
     }
 
     /// The nodes that the heartbeat detector suspects; a node disregards itself.
-    #[tactic(auto, using(rr_heartbeat::proofs::BitLemmas::late_beside))]
+    #[tactic(auto, using(rr_detector::proofs::BitLemmas::late_beside))]
     pub fn late_nodes(&self) -> NodeSet
         ensures { result ≡ late_nodes self.now.state.node self.now.state.watches }
     {
@@ -425,15 +424,16 @@ impl<'a> Step<'a> {
         Ok(())
     }
 
-    /// Stages a fact about an instance that then stands so; a decision there stays.
+    /// Stages a fact about an instance; a decision there stays.
     #[tactic(auto, using(crate::proofs::OverLemmas::decision_decides), unfolding(rr_model::specs::NodeParts::stage))]
-    pub fn stage(&mut self, fact: Fact, standing: Option<Standing>) -> Result<(), Refusal>
-        requires after { standing ≡ after_fact (standing_at self.old.state (instance_of fact)) fact }
-        requires keeps { KeepsStanding (standing_at self.old.state (instance_of fact)) standing }
+    pub fn stage(&mut self, fact: Fact) -> Result<(), Refusal>
+        requires round { IsInRound (standing_at self.old.state (instance_of fact)) fact }
+        requires keeps { KeepsStanding (standing_at self.old.state (instance_of fact)) (after_fact (standing_at self.old.state (instance_of fact)) fact) }
         ensures ok { OnOk result (self.new ≡ stepped (stage fact) self.old) }
         ensures err { IfErr result (λ e. e ≡ Refusal.OutOfMemory) }
     {
         let fact = &fact;
+        let standing = Standing::after(&self.standing(fact.instance()), fact);
         self.put_row_after(fact, standing)?;
         self.take_decided(fact)?;
         self.push_staged(fact)

@@ -24,14 +24,9 @@ impl<'a> Step<'a> {
         let Some(row) = self.row(instance) else {
             return Ok(());
         };
-        let mut row = match row.try_clone(alloc) {
-            Ok(row) => row,
-            Err(refusal) => return Err(refusal),
-        };
-        match row.tally.keep_estimate(sender, estimate) {
-            Ok(()) => self.put_row(row),
-            Err(refusal) => Err(refusal),
-        }
+        let mut row = row.try_clone(alloc)?;
+        row.tally.keep_estimate(sender, estimate)?;
+        self.put_row(row)
     }
 
     /// The coordinator keeps an acknowledgement.
@@ -48,10 +43,7 @@ impl<'a> Step<'a> {
         let Some(row) = self.row(instance) else {
             return Ok(());
         };
-        let mut row = match row.try_clone(alloc) {
-            Ok(row) => row,
-            Err(refusal) => return Err(refusal),
-        };
+        let mut row = row.try_clone(alloc)?;
         row.tally.keep_ack(sender);
         self.put_row(row)
     }
@@ -70,10 +62,7 @@ impl<'a> Step<'a> {
         let Some(row) = self.row(instance) else {
             return Ok(());
         };
-        let mut row = match row.try_clone(alloc) {
-            Ok(row) => row,
-            Err(refusal) => return Err(refusal),
-        };
+        let mut row = row.try_clone(alloc)?;
         row.tally.keep_nack(sender);
         self.put_row(row)
     }

@@ -1,4 +1,4 @@
-use Rattle.std.specs.Prelude.{ℕ, Bool, true, false, ◌&&◌, ◌==◌, nat_lt, if◌then◌else◌, List, Option, None, Some, is_none}
+use Rattle.std.specs.Prelude.{◌≡◌, ℕ, Bool, true, false, ◌&&◌, ◌==◌, nat_lt, if◌then◌else◌, List, Option, None, Some, is_none}
 use Rattle.std.specs.List.{fold}
 use Rattle.rr_types.specs.declared.command.Command.{Command}
 use Rattle.rr_types.specs.declared.fact.Fact.{Fact}
@@ -63,3 +63,10 @@ fits n p s (Enter i e) = is_undecided s && nat_lt (round_of s) e.round && carrie
 fits n p s (Propose i r v) = is_undecided s && round_of s == r && coordinator_of r n == p && is_none (proposal_of s)
 fits n p s (Adopt i r v) = is_undecided s && round_of s == r && nat_lt (stamp_of s) r
 fits n p s (Decide i v) = is_undecided s
+
+-- an Adopt is of the present round
+abbrev pub IsInRound : Option Standing → Fact → Type 0
+IsInRound s (Enter i e) = Unit {0}
+IsInRound s (Propose i r v) = Unit {0}
+IsInRound s (Adopt i r v) = round_of s ≡ r
+IsInRound s (Decide i v) = Unit {0}

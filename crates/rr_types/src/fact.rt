@@ -1,6 +1,7 @@
 //! Facts: what a node writes to its disk before it promises anything by a message.
 
 ghost use Rattle.std.specs.Prelude.{◌≡◌, ◌+◌, ◌^◌, ◌<◌, ◌≤◌, ◌↔◌, length, IsSome, IfSome, IsOk, IfOk, IfErr};
+ghost use Rattle.rr_types.specs.Facts.{instance_of};
 
 use crate::command::Command;
 use crate::round::{Instance, Round};
@@ -49,6 +50,18 @@ impl Estimate {
         }
     }
 
+    /// The estimate with this stamp, which is known to lie before the round.
+    pub fn at(round: Round, stamp: u32, command: Command) -> Estimate
+        requires { stamp < round }
+        ensures { result ≡ record { round = round; stamp = stamp; command = command } }
+    {
+        Estimate {
+            round: round.number(),
+            stamp,
+            command,
+        }
+    }
+
     /// The round that the node is in.
     pub fn round(&self) -> Round
         ensures value { result ≡ self.now.round }
@@ -84,6 +97,20 @@ pub enum Fact {
     Adopt(Instance, Round, Command),
     /// The instance has decided on this command.
     Decide(Instance, Command),
+}
+
+impl Fact {
+    /// The instance that the fact is about.
+    pub fn instance(&self) -> Instance
+        ensures { result ≡ instance_of self.now }
+    {
+        match self {
+            Fact::Enter(instance, _)
+            | Fact::Propose(instance, _, _)
+            | Fact::Adopt(instance, _, _)
+            | Fact::Decide(instance, _) => *instance,
+        }
+    }
 }
 
 /// A group of facts that one flush writes: 1 to 64 facts, and the number of the first.

@@ -14,6 +14,7 @@ mod promise;
 mod refusal;
 mod round;
 mod short;
+mod standing;
 
 pub use command::{Command, Op, Reply, RequestNo};
 pub use fact::{Estimate, Fact, GROUP, Group};

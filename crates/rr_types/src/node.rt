@@ -2,7 +2,7 @@
 
 ghost use Rattle.std.specs.Prelude.{◌≡◌, ◌^◌, ◌<◌, ◌≤◌, ◌↔◌, ◌⊎◌, IsOk, IfOk, IsErrOf, IsSome, IfSome};
 ghost use Rattle.rr_types.specs.Rounds.{majority_of, coordinator_of};
-ghost use Rattle.rr_types.specs.Nodes.{has_member, with_member, without_member};
+ghost use Rattle.rr_types.specs.Nodes.{has_member, with_member, without_member, joined};
 
 use crate::refusal::Refusal;
 use crate::round::Round;
@@ -181,6 +181,23 @@ impl NodeSet {
         } else {
             self
         }
+    }
+
+    /// The nodes of both sets.
+    #[tactic(auto, using(crate::proofs::NodeLemmas::joined_more), unfolding(crate::specs::Nodes::joined))]
+    pub fn joined(self, other: NodeSet) -> NodeSet
+        ensures { result ≡ joined self other }
+    {
+        let mut all = self;
+        let mut left = MAX_NODES;
+        while left > 0 {
+            left -= 1;
+            let node = NodeId { index: left };
+            if other.contains(node) {
+                all = all.with(node);
+            }
+        }
+        all
     }
 }
 

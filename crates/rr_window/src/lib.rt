@@ -1,6 +1,9 @@
 //! A window on one list of commands that only grows: one publisher adds to it, and readers look at the registry
 //! of what is published, without waiting for anybody.
 //!
+//! `open` makes a window and `split` its ends. The publisher calls `append` and then `publish`, and hands out receipts. A reader
+//! takes a seat (`Seats::take`), and calls `look`, and `learn` of receipts.
+//!
 //! Contracts see a window's list as its commands. Nothing stores them: readers are served a registry, beside the
 //! length of the beginning of the list of which it is the registry.
 #![tactic(auto)]

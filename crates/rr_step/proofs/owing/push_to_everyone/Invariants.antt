@@ -2,7 +2,7 @@ use Rattle.std.proofs.Common.{◌≡◌, ◌++◌}
 use Rattle.std.specs.List.{range_with_len}
 use Rattle.std.specs.Prelude.{All}
 use Rattle.rr_model.specs.NodeParts.{messages_to}
-use Rattle.rr_mark.specs.Marks.{IsOwn}
+use Rattle.rr_outbox.specs.Marks.{IsOwn}
 use Rattle.rr_step.proofs.owing.push_to_everyone.Given as goal
 
 abbrev pub invariant-loop-index : goal.invariant-loop-index

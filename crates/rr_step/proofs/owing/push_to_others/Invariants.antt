@@ -1,7 +1,7 @@
 use Rattle.std.proofs.Common.{◌≡◌, ◌++◌}
 use Rattle.std.specs.Prelude.{All}
 use Rattle.rr_model.specs.NodeParts.{messages_to}
-use Rattle.rr_mark.specs.Marks.{IsOwn}
+use Rattle.rr_outbox.specs.Marks.{IsOwn}
 use Rattle.rr_step.specs.Places.{nodes_beside}
 use Rattle.rr_step.proofs.owing.push_to_others.Given as goal
 

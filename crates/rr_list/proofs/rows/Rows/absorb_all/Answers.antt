@@ -24,13 +24,12 @@ note_decisions-self-inside-requires-clause-places c =
 pub invariant_of-self : goal.invariant_of-self
 invariant_of-self c =
     let rows = c.put_all.ensures.rows ∙ ap (λ es. put_rows (rows_in es) c.args.rows.items) c.in-Ok-make_places.ensures.rows in
-    table_absorbed (filled c.self.inside.rows) (filled c.put_all.new.map) c.args.rows.items c.deref-in-Ok-make_places-2.result.now
-    (filled c.self.inside.requests.entries) _ c.self.inside.end _ c.self.inside.named c.named_with-self-inside.result c.self.invariant c.put_all.ensures.keyed rows
-    (c.deref-in-Ok-make_places-2.ensures.value ∙ c.in-Ok.ensures.ok ∙ ap (λ (rs : List Row). map (λ (r : Row). r.instance) rs) c.deref.ensures.value)
+    table_absorbed (filled c.self.inside.rows) (filled c.put_all.new.map) c.args.rows.items c.deref-in-Ok-make_places.result.now
+    (filled c.self.inside.requests.entries) _ c.self.inside.end _ c.self.invariant c.put_all.ensures.keyed rows
+    (c.deref-in-Ok-make_places.ensures.value ∙ c.in-Ok.ensures.ok ∙ ap (λ (rs : List Row). map (λ (r : Row). r.instance) rs) c.deref.ensures.value)
     (subst (All (λ (r : Row). r.instance < 1048576)) c.deref-2.ensures.value c.in-Ok-make_places.ensures.instances)
-    c.named_with-self-inside.ensures.grown (subst (All (λ (r : Row). r.instance < c.named_with-self-inside.result)) c.deref-in-Ok-make_places.ensures.value c.named_with-self-inside.ensures.below)
     (subst (λ before. KeepsDecisions before (put_rows before c.args.rows.items)) (sym c.self.view_is) c.requires)
-    (subst (λ requests. IsNoted (rows_in (filled c.put_all.new.map)) c.deref-in-Ok-make_places-2.result.now requests (filled c.note_decisions-self-inside.new.requests.entries) c.self.inside.end c.note_decisions-self-inside.result) c.in-Ok-make_places.ensures.requests c.note_decisions-self-inside.ensures.noted)
+    (subst (λ requests. IsNoted (rows_in (filled c.put_all.new.map)) c.deref-in-Ok-make_places.result.now requests (filled c.note_decisions-self-inside.new.requests.entries) c.self.inside.end c.note_decisions-self-inside.result) c.in-Ok-make_places.ensures.requests c.note_decisions-self-inside.ensures.noted)
 
 pub returns-in-Ok-make_places-clause-ascend : goal.returns-in-Ok-make_places-clause-ascend
 returns-in-Ok-make_places-clause-ascend c =

@@ -8,5 +8,5 @@ use Rattle.rr_list.proofs.rows.Rows.has_decided.Goals as goal
 pub returns : goal.returns
 returns c =
     c.is_some.ensures ∙ ap (λ o. is_some o) c.value_at.ensures.value
-    ∙ held_is_decided (filled c.self.inside.rows) (filled c.self.inside.requests.entries) c.self.inside.end c.self.inside.named c.args.request c.self.invariant
+    ∙ held_is_decided (filled c.self.inside.rows) (filled c.self.inside.requests.entries) c.self.inside.end c.args.request c.self.invariant
     ∙ ap (λ rows. list_any (has_decided c.args.request) rows) c.self.view_is

@@ -17,11 +17,10 @@ invariant_of-self-in-Ok-insert c =
     let at = c.number.ensures.value ∙ ap (λ (r : Row). r.instance) c.row.view_is in
     let rows = ap (λ es. rows_in es) c.in-Ok-insert.ensures.filled ∙ placed_row c.args.row _ (filled c.self.inside.rows) c.self.invariant.keyed at in
     table_absorbed (filled c.self.inside.rows) (filled c.insert.new.self) (c.args.row ∷ []) (c.args.row.instance ∷ [])
-    (filled c.self.inside.requests.entries) _ c.self.inside.end _ c.self.inside.named c.named_above-self-inside.result c.self.invariant
+    (filled c.self.inside.requests.entries) _ c.self.inside.end _ c.self.invariant
     (subst AreKeyed (sym c.in-Ok-insert.ensures.filled) (keyed_row c.args.row _ (filled c.self.inside.rows) c.self.invariant.keyed at))
     rows refl
     (all_one (λ (r : Row). r.instance < 1048576) c.args.row (subst (λ i. i < 1048576) at c.number.ensures.range))
-    c.named_above-self-inside.ensures.grown (all_one (λ (r : Row). r.instance < c.named_above-self-inside.result) c.args.row (subst (λ i. i < c.named_above-self-inside.result) (ap (λ (r : Row). r.instance) c.row.view_is) c.named_above-self-inside.ensures.below))
     (subst (λ before. KeepsDecisions before (put_row c.args.row before)) (sym c.self.view_is) c.requires)
     (subst (λ i. IsNoted (rows_in (filled c.insert.new.self)) (i ∷ []) (filled c.self.inside.requests.entries) (filled c.note_request-self-inside.new.requests.entries) c.self.inside.end c.note_request-self-inside.result) (ap (λ (r : Row). r.instance) c.row.view_is)
     (subst (λ requests. IsNoted (rows_in (filled c.insert.new.self)) (c.row.inside.instance ∷ []) requests (filled c.note_request-self-inside.new.requests.entries) c.self.inside.end c.note_request-self-inside.result) c.in-Ok.ensures.filled

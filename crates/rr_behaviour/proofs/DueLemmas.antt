@@ -1,0 +1,103 @@
+use Rattle.std.proofs.Common.{◌≡◌, ◌+◌, ◌-◌, ◌^◌, ◌<◌, ◌≤◌, ℕ, zero, suc, arith, Bool, true, false, cond, eqb, not, ◌&&◌, ◌||◌, List, [], ◌∷◌, ◌++◌, length, get_or, drop, ap, sym, ◌∙◌, refl, if◌then◌else◌, Option, Some, None, option_map, is_some}
+use Rattle.std.specs.Prelude.{filter, find}
+use Rattle.std.specs.List.{range_with_len, list_any}
+use Rattle.std.specs.Option.{option_map_or}
+use Rattle.std.proofs.lemmas.Bool.{eqb-true, false≢true}
+use Rattle.std.proofs.lemmas.List.{at_drop_more, at_drop_all, map-id, length-append}
+use Rattle.std.proofs.lemmas.List.Elements.{filter-append}
+use Rattle.std.proofs.lemmas.List.FromFn.{map-range_with_len_more}
+use Rattle.rr_types.specs.Nodes.{has_member}
+use Rattle.rr_types.specs.declared.command.Command.{Command}
+use Rattle.rr_types.specs.Commands.{is_same_command}
+use Rattle.rr_types.specs.Standings.{estimate_of}
+use Rattle.rr_types.specs.declared.promise.Standing.{Standing}
+use Rattle.rr_model.specs.NodeState.{NodeState, Vote, Tally, Row, row_of, standing_at, open_instances}
+use Rattle.rr_model.specs.NodeParts.{is_estimate_beside, free_command}
+use Rattle.rr_model.specs.NodeDue.{Due, better, best_vote, due, due_at, due_of_row, first_due, carry_out, settle_within}
+use Rattle.rr_model.specs.NodeDue.Due.{Begin}
+use Rattle.rr_step.specs.Places.{first_free}
+use Rattle.rr_behaviour.proofs.RoundLemmas.{first_free_is}
+
+-- nothing is due for an instance: the next ones are looked at
+pub first_due_more : (s : NodeState) (is : List ℕ) (k i : ℕ) → k < length is → i ≡ get_or is k i → due_at s i ≡ None → first_due s (drop k is) ≡ first_due s (drop (k + 1) is)
+first_due_more s is k i l e n =
+    let f : due_at s (get_or is k i) ≡ None = rw (sym e) n in
+    at_drop_more (first_due s) is k i l ∙ ap (λ (o : Option Due). option_map_or Some o (first_due s (drop (k + 1) is))) f
+
+-- something is due for an instance
+pub first_due_here : (s : NodeState) (is : List ℕ) (k i : ℕ) (d : Due) → k < length is → i ≡ get_or is k i → due_at s i ≡ Some d → first_due s (drop k is) ≡ Some d
+first_due_here s is k i d l e n =
+    let f : due_at s (get_or is k i) ≡ Some d = rw (sym e) n in
+    at_drop_more (first_due s) is k i l ∙ ap (λ (o : Option Due). option_map_or Some o (first_due s (drop (k + 1) is))) f
+
+-- nothing is due
+pub settled : (n : ℕ) (s : NodeState) → due s ≡ None → settle_within n s ≡ s
+unfolding settle_within
+settled zero s e = refl
+settled (suc n) s e = ap (λ (o : Option Due). option_map_or (λ d. settle_within n (carry_out d s)) o s) e
+
+-- one turn
+pub settle_more : (n m : ℕ) (s : NodeState) (d : Due) → n ≡ m + 1 → due s ≡ Some d → settle_within n s ≡ settle_within m (carry_out d s)
+unfolding settle_within
+settle_more n m s d e f = let g : n ≡ suc m = omega arith in rw g (ap (λ (o : Option Due). option_map_or (λ d. settle_within m (carry_out d s)) o s) f)
+
+-- no turn is left
+pub settle_none : (s : NodeState) → settle_within 0 s ≡ s
+unfolding settle_within
+settle_none s = refl
+
+-- the test of a command whether it is the estimate of instance j
+abbrev pub is_estimate_at : NodeState → ℕ → Command → Bool
+is_estimate_at s j c = option_map_or (λ v. is_same_command v c) (estimate_of (standing_at s j)) false
+
+-- an instance that no fact names has no estimate
+no_estimate : (s : NodeState) (i : ℕ) (c : Command) → row_of s.rows i ≡ None → is_estimate_at s i c ≡ false
+no_estimate s i c h = rw h refl
+
+-- beside an instance that no fact names, all open instances count
+beside_all : (s : NodeState) (i : ℕ) (c : Command) (js : List ℕ) → row_of s.rows i ≡ None → list_any (λ j. not (eqb j i) && is_estimate_at s j c) js ≡ list_any (λ j. is_estimate_at s j c) js
+beside_all s i c [] h = refl
+beside_all s i c (j ∷ js) h = by (eqb j i) refl (beside_all s i c js h)
+  where
+    by : (b : Bool) → eqb j i ≡ b → list_any (λ k. not (eqb k i) && is_estimate_at s k c) js ≡ list_any (λ k. is_estimate_at s k c) js → ((not b && is_estimate_at s j c) || list_any (λ k. not (eqb k i) && is_estimate_at s k c) js) ≡ (is_estimate_at s j c || list_any (λ k. is_estimate_at s k c) js)
+    by true e more = let none : is_estimate_at s j c ≡ false = ap (λ k. is_estimate_at s k c) (eqb-true _ _ e) ∙ no_estimate s i c h in rw none more
+    by false e more = ap (λ b. is_estimate_at s j c || b) more
+
+find_same : (p q : Command → Bool) (cs : List Command) → ((c : Command) → p c ≡ q c) → find p cs ≡ find q cs
+find_same p q [] h = refl
+find_same p q (c ∷ cs) h = rw (h c) (ap (λ (o : Option Command). cond (q c) (Some c) o) (find_same p q cs h))
+
+-- the pool has the same command for each instance that no fact names
+pub free_for_each : (s : NodeState) (i j : ℕ) → row_of s.rows i ≡ None → row_of s.rows j ≡ None → free_command s i ≡ free_command s j
+unfolding free_command
+free_for_each s i j h k = find_same (λ c. not (is_estimate_beside s i c)) (λ c. not (is_estimate_beside s j c)) s.pool (λ c. ap not (beside_all s i c (open_instances s) h ∙ sym (beside_all s j c (open_instances s) k)))
+
+-- the pool has no command for an instance that no fact names
+abbrev pub IsSpent : NodeState → Type 0
+IsSpent s = (i : ℕ) → row_of s.rows i ≡ None → free_command s i ≡ None
+
+-- no command came of the search for it
+not_found : (x : Option Command) (b : Bool) → b ≡ is_some x → b ≡ false → x ≡ None
+not_found None b e f = refl
+not_found (Some c) b e f = absurd (false≢true (sym f ∙ e))
+
+pub spent : (s : NodeState) (is : List ℕ) (i : ℕ) (x : Option Command) (b : Bool) → is ≡ open_instances s → x ≡ first_free s.rows is i s.pool → b ≡ is_some x → b ≡ false → row_of s.rows i ≡ None → IsSpent s
+spent s is i x b o f e n h j k =
+    let none : first_free s.rows is i s.pool ≡ None = sym f ∙ not_found x b e n in
+    free_for_each s j i k h ∙ sym (first_free_is s i) ∙ ap (λ xs. first_free s.rows xs i s.pool) (sym o) ∙ none
+
+-- nothing is due for an instance by its row
+pub due_stops : (s : NodeState) (i : ℕ) (r : Row) (t : Tally) (d : Standing) → row_of s.rows i ≡ Some r → t ≡ r.tally → d ≡ r.standing → None ≡ due_of_row s i t d → due_at s i ≡ None
+due_stops s i r t d h e f n = rw h (sym (n ∙ ap (λ x. due_of_row s i x d) e ∙ ap (λ x. due_of_row s i r.tally x) f))
+
+-- nor where no fact names it
+pub due_unnamed : (s : NodeState) (i : ℕ) → row_of s.rows i ≡ None → free_command s i ≡ None → due_at s i ≡ None
+due_unnamed s i h n = rw (h, n) refl
+
+-- where a command was found for it, it begins
+found_begins : (s : NodeState) (i : ℕ) (x : Option Command) (b : Bool) → row_of s.rows i ≡ None → free_command s i ≡ x → b ≡ is_some x → b ≡ true → due_at s i ≡ Some (Begin i)
+found_begins s i None b h n e t = absurd (false≢true (sym e ∙ t))
+found_begins s i (Some c) b h n e t = rw (h, n) refl
+
+pub due_begins : (s : NodeState) (is : List ℕ) (i : ℕ) (x : Option Command) (b : Bool) → is ≡ open_instances s → row_of s.rows i ≡ None → x ≡ first_free s.rows is i s.pool → b ≡ is_some x → b ≡ true → due_at s i ≡ Some (Begin i)
+due_begins s is i x b o h f e t = found_begins s i x b h (sym (first_free_is s i) ∙ ap (λ xs. first_free s.rows xs i s.pool) (sym o) ∙ sym f) e t

@@ -1,0 +1,69 @@
+//! Decisions: the node takes one and owes it to each other node; where it has one, it owes it to whoever needs it.
+
+ghost use Rattle.std.specs.Prelude.{◌≡◌, true, IfErr, OnOk};
+ghost use Rattle.rr_types.specs.declared.message.Body.TheVariants as say;
+ghost use Rattle.rr_types.specs.Standings.{is_undecided};
+ghost use Rattle.rr_model.specs.NodeState.{standing_at};
+ghost use Rattle.rr_model.specs.NodeParts.{conclude};
+ghost use Rattle.rr_model.specs.NodeStep.{answer, heard_body};
+ghost use Rattle.rr_step.specs.Steps.{stepped};
+
+use rr_step::Step;
+use rr_types::{Body, Command, Fact, Instance, NodeId, Refusal};
+
+/// Decides on a command, and owes the decision to each other node.
+pub fn conclude(step: &mut Step<'_>, instance: Instance, command: Command) -> Result<(), Refusal>
+    requires undecided { is_undecided (standing_at step.old.state instance) ≡ true }
+    ensures ok { OnOk result (step.new ≡ stepped (conclude instance command) step.old) }
+    ensures err { IfErr result (λ e. e ≡ Refusal.OutOfMemory) }
+{
+    let number = step.next_number();
+    let command = &command;
+    step.stage(Fact::Decide(instance, *command))?;
+    step.owe_others(Body::Decision(instance, *command), Some(number))?;
+    Ok(())
+}
+
+/// A node that has decided the instance owes the decision.
+pub fn answer(step: &mut Step<'_>, instance: Instance, to: NodeId) -> Result<(), Refusal>
+    ensures ok { OnOk result (step.new ≡ stepped (answer instance to) step.old) }
+    ensures err { IfErr result (λ e. e ≡ Refusal.OutOfMemory) }
+{
+    match step.decision(instance) {
+        None => Ok(()),
+        Some(command) => {
+            let decided = match step.backing(instance) {
+                Some(backing) => backing.decided,
+                None => 0,
+            };
+            step.owe(Body::Decision(instance, command), Some(decided), to)
+        }
+    }
+}
+
+/// A decision that is heard is taken where the instance has none, and passed on.
+#[tactic(auto, unfolding(rr_model::specs::NodeStep::heard_body))]
+pub fn hear_decision(
+    step: &mut Step<'_>,
+    from: NodeId,
+    instance: Instance,
+    command: Command,
+) -> Result<(), Refusal>
+    ensures ok { OnOk result (step.new ≡ stepped (heard_body from (say.Decision instance command)) step.old) }
+    ensures err { IfErr result (λ e. e ≡ Refusal.OutOfMemory) }
+{
+    if step.is_undecided(instance) {
+        conclude(step, instance, command)
+    } else {
+        Ok(())
+    }
+}
+
+/// A question that is heard is answered where its instance has decided.
+#[tactic(auto, unfolding(rr_model::specs::NodeStep::heard_body))]
+pub fn hear_ask(step: &mut Step<'_>, from: NodeId, instance: Instance) -> Result<(), Refusal>
+    ensures ok { OnOk result (step.new ≡ stepped (heard_body from (say.Ask instance)) step.old) }
+    ensures err { IfErr result (λ e. e ≡ Refusal.OutOfMemory) }
+{
+    answer(step, instance, from)
+}

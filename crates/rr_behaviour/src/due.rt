@@ -1,0 +1,163 @@
+//! What a node does of its own accord, one thing after another until nothing is due.
+
+ghost use Rattle.std.specs.Prelude.{◌≡◌, ◌<◌, IfErr, IfSome, OnOk, option_map, Some};
+ghost use Rattle.rr_types.specs.Standings.{round_of};
+ghost use Rattle.rr_model.specs.NodeState.{open_instances};
+ghost use Rattle.rr_model.specs.NodeDue.{due_of_coordinator, due_of_participant, due_of_row, first_due, due, carry_out, settle};
+ghost use Rattle.rr_step.specs.Steps.{stepped};
+ghost use Rattle.rr_behaviour.specs.Dues.{meaning_of, MovesBelowLast, CanBeCarriedOut};
+
+use crate::decisions::conclude;
+use crate::entering::enter;
+use crate::proposing::propose;
+use rr_round::Tally;
+use rr_step::Step;
+use rr_types::{Command, Instance, Refusal, Round, Standing, coordinator};
+
+/// The most turns until nothing is due.
+const TURNS: u64 = 1 << 54;
+
+/// What a node does of its own accord for an instance.
+#[derive(Clone, Copy, Debug)]
+pub enum Due {
+    /// It enters round 1 with a command of the pool.
+    Begin(Instance),
+    /// It proposes this command in the present round.
+    Offer(Instance, Round, Command),
+    /// It decides on this command.
+    Conclude(Instance, Command),
+    /// It enters the next round.
+    MoveOn(Instance),
+}
+
+fn due_of_coordinator(
+    step: &Step<'_>,
+    instance: Instance,
+    tally: &Tally,
+    round: Round,
+    proposal: Option<Command>,
+) -> Option<Due>
+    ensures value { option_map meaning_of result ≡ due_of_coordinator step.now.state instance tally.now round proposal }
+    ensures moves { IfSome result (MovesBelowLast round) }
+{
+    match proposal {
+        None => match tally.pick(step.nodes()) {
+            Some(command) => Some(Due::Offer(instance, round, command)),
+            None => None,
+        },
+        Some(command) => {
+            if tally.is_acknowledged(step.nodes()) {
+                return Some(Due::Conclude(instance, command));
+            }
+            if tally.is_answered(step.nodes()) && round.number() < rr_types::MAX_ROUND {
+                Some(Due::MoveOn(instance))
+            } else {
+                None
+            }
+        }
+    }
+}
+
+fn due_of_participant(step: &Step<'_>, instance: Instance, round: Round) -> Option<Due>
+    ensures value { option_map meaning_of result ≡ due_of_participant step.now.state instance round }
+    ensures moves { IfSome result (MovesBelowLast round) }
+{
+    let is_suspected = step.suspects().contains(coordinator(round, step.nodes()));
+    if is_suspected && round.number() < rr_types::MAX_ROUND {
+        Some(Due::MoveOn(instance))
+    } else {
+        None
+    }
+}
+
+fn due_of_row(step: &Step<'_>, instance: Instance, tally: &Tally, standing: Standing) -> Option<Due>
+    ensures value { option_map meaning_of result ≡ due_of_row step.now.state instance tally.now standing }
+    ensures moves { IfSome result (MovesBelowLast (round_of (Some standing))) }
+{
+    match standing {
+        Standing::Decided(_) => None,
+        Standing::Open(open) => {
+            let round = open.round();
+            if coordinator(round, step.nodes()).index() == step.node().index() {
+                due_of_coordinator(step, instance, tally, round, open.proposal())
+            } else {
+                due_of_participant(step, instance, round)
+            }
+        }
+    }
+}
+
+/// The first of the open instances, which these are, for which something is due. The pool is searched at most once: a
+/// command is free for each instance that no fact names, or for none.
+#[tactic(auto, using(crate::proofs::DueLemmas::first_due_more, crate::proofs::DueLemmas::first_due_here))]
+fn first_due(step: &Step<'_>, instances: &[Instance]) -> Option<Due>
+    requires { instances.now ≡ open_instances step.now.state }
+    ensures value { option_map meaning_of result ≡ first_due step.now.state instances.now }
+    ensures ready { IfSome result (CanBeCarriedOut step.now.state) }
+{
+    let mut is_pool_spent = false;
+    for instance in instances {
+        match step.row(*instance) {
+            Some(row) => {
+                if let Some(due) = due_of_row(step, *instance, &row.tally, row.standing) {
+                    return Some(due);
+                }
+            }
+            None => {
+                if !is_pool_spent {
+                    if step.first_free(instances, *instance).is_some() {
+                        return Some(Due::Begin(*instance));
+                    }
+                    is_pool_spent = true;
+                }
+            }
+        }
+    }
+    None
+}
+
+/// What is due: the lowest open instance to which anything applies. What is found can be carried out.
+#[tactic(auto, unfolding(rr_model::specs::NodeDue::due))]
+pub fn find_due(step: &Step<'_>) -> Option<Due>
+    ensures value { option_map meaning_of result ≡ due step.now.state }
+    ensures ready { IfSome result (CanBeCarriedOut step.now.state) }
+{
+    let open = step.open_instances();
+    first_due(step, open.as_slice())
+}
+
+/// The node does what is due.
+#[tactic(auto, unfolding(rr_model::specs::NodeDue::carry_out))]
+pub fn carry_out(step: &mut Step<'_>, due: Due) -> Result<(), Refusal>
+    requires { CanBeCarriedOut step.old.state due }
+    ensures ok { OnOk result (step.new ≡ stepped (carry_out (meaning_of due)) step.old) }
+    ensures err { IfErr result (λ e. e ≡ Refusal.OutOfMemory) }
+{
+    match due {
+        Due::Begin(instance) => enter(step, instance, Round::at(1), None),
+        Due::Offer(instance, round, command) => propose(step, instance, round, command),
+        Due::Conclude(instance, command) => conclude(step, instance, command),
+        Due::MoveOn(instance) => {
+            let round = step.round(instance);
+            enter(step, instance, Round::at(round + 1), None)
+        }
+    }
+}
+
+/// The node does what is due until nothing is.
+#[tactic(auto, using(crate::proofs::DueLemmas::settled, crate::proofs::DueLemmas::settle_more, crate::proofs::DueLemmas::settle_none), unfolding(rr_model::specs::NodeDue::settle))]
+pub fn settle(step: &mut Step<'_>) -> Result<(), Refusal>
+    ensures ok { OnOk result (step.new ≡ stepped settle step.old) }
+    ensures err { IfErr result (λ e. e ≡ Refusal.OutOfMemory) }
+{
+    for turn in 0..TURNS {
+        match find_due(step) {
+            Some(due) => match carry_out(step, due) {
+                Ok(()) => (),
+                Err(refusal) => return Err(refusal),
+            },
+            None => return Ok(()),
+        }
+    }
+    Ok(())
+}

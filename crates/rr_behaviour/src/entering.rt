@@ -1,0 +1,103 @@
+//! Entering a round: with which estimate, and what becomes of the round before.
+
+ghost use Rattle.std.specs.Prelude.{◌≡◌, ◌<◌, true, IfErr, OnOk};
+ghost use Rattle.rr_types.specs.Standings.{round_of, is_undecided};
+ghost use Rattle.rr_model.specs.NodeState.{standing_at};
+ghost use Rattle.rr_model.specs.NodeParts.{free_command, enter, leave_round, enter_with, entering_estimate};
+ghost use Rattle.rr_step.specs.Steps.{stepped};
+
+use rr_step::Step;
+use rr_types::{Body, Command, Estimate, Fact, Instance, Refusal, Round, Standing, coordinator};
+
+/// The first pool command that is no estimate of an open instance but this one.
+#[tactic(auto, using(crate::proofs::RoundLemmas::first_free_is))]
+fn free_command(step: &Step<'_>, instance: Instance) -> Option<Command>
+    ensures { result ≡ free_command step.now.state instance }
+{
+    let open = step.open_instances();
+    step.first_free(open.as_slice(), instance)
+}
+
+/// The estimate with which an instance enters a round above its own, if there is one.
+fn entering_estimate(
+    step: &Step<'_>,
+    instance: Instance,
+    round: Round,
+    heard: Option<Command>,
+) -> Option<Estimate>
+    requires { round_of (standing_at step.now.state instance) < round }
+    ensures { result ≡ entering_estimate instance round heard step.now.state }
+{
+    if let Some(standing) = step.standing(instance) {
+        if let Standing::Open(at) = standing {
+            return Some(Estimate::at(round, at.stamp(), at.estimate()));
+        }
+    }
+    match free_command(step, instance) {
+        Some(command) => Some(Estimate::at(round, 0, command)),
+        None => match heard {
+            Some(command) => Some(Estimate::at(round, 0, command)),
+            None => None,
+        },
+    }
+}
+
+/// Owes the coordinator of the present round a refusal, where the node leaves that round without adoption.
+fn leave_round(step: &mut Step<'_>, instance: Instance) -> Result<(), Refusal>
+    ensures ok { OnOk result (step.new ≡ stepped (leave_round instance) step.old) }
+    ensures err { IfErr result (λ e. e ≡ Refusal.OutOfMemory) }
+{
+    match step.standing(instance) {
+        None => Ok(()),
+        Some(standing) => match standing {
+            Standing::Decided(_) => Ok(()),
+            Standing::Open(at) => {
+                let round = at.round();
+                let to = coordinator(round, step.nodes());
+                if at.stamp() < round.number() && to != step.node() {
+                    step.owe(Body::Nack(instance, round), None, to)
+                } else {
+                    Ok(())
+                }
+            }
+        },
+    }
+}
+
+/// Stages the entering of a round with this estimate, and owes the estimate to the round's coordinator.
+fn enter_with(
+    step: &mut Step<'_>,
+    instance: Instance,
+    estimate: Estimate,
+) -> Result<(), Refusal>
+    requires undecided { is_undecided (standing_at step.old.state instance) ≡ true }
+    ensures ok { OnOk result (step.new ≡ stepped (enter_with instance estimate) step.old) }
+    ensures err { IfErr result (λ e. e ≡ Refusal.OutOfMemory) }
+{
+    let number = step.next_number();
+    let to = coordinator(estimate.round(), step.nodes());
+    step.stage(Fact::Enter(instance, estimate))?;
+    step.owe(Body::Estimate(instance, estimate), Some(number), to)
+}
+
+/// The instance enters a round above its own, with its estimate, a free command of the pool or the one heard.
+#[tactic(auto, using(crate::proofs::RoundLemmas::left_undecided), unfolding(rr_model::specs::NodeParts::enter))]
+pub fn enter(
+    step: &mut Step<'_>,
+    instance: Instance,
+    round: Round,
+    heard: Option<Command>,
+) -> Result<(), Refusal>
+    requires above { round_of (standing_at step.old.state instance) < round }
+    requires undecided { is_undecided (standing_at step.old.state instance) ≡ true }
+    ensures ok { OnOk result (step.new ≡ stepped (enter instance round heard) step.old) }
+    ensures err { IfErr result (λ e. e ≡ Refusal.OutOfMemory) }
+{
+    match entering_estimate(step, instance, round, heard) {
+        None => Ok(()),
+        Some(estimate) => {
+            leave_round(step, instance)?;
+            enter_with(step, instance, estimate)
+        }
+    }
+}

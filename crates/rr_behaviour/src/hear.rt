@@ -1,0 +1,235 @@
+//! A message: what each kind of it does.
+
+ghost use Rattle.std.specs.Prelude.{◌≡◌, true, IfErr, OnOk, Some, ◌⊎◌, IfOk};
+ghost use Rattle.rr_types.specs.Standings.{is_undecided};
+ghost use Rattle.rr_model.specs.NodeState.{standing_at};
+ghost use Rattle.rr_step.specs.Steps.{stepped};
+ghost use Rattle.rr_model.specs.NodeStep.{catch_up, acknowledge, take_proposal, take_estimate, heard_body, heard, Hear, refusal_of};
+ghost use Rattle.rr_behaviour.specs.Changes.{IsStep};
+ghost use Rattle.rr_types.specs.declared.message.Body.TheVariants as say;
+
+use crate::decisions::{answer, hear_ask, hear_decision};
+use crate::entering::enter;
+use crate::finish::finish;
+use crate::questions::ask;
+use rr_step::{Changes, State, Step};
+use rr_types::{Body, Command, Estimate, Fact, Instance, Message, NodeId, Refusal, Round, coordinator};
+use std::alloc::Global;
+
+/// Where a round lies above the instance's, the instance enters it.
+fn catch_up(
+    step: &mut Step<'_>,
+    instance: Instance,
+    round: Round,
+    command: Command,
+) -> Result<(), Refusal>
+    requires { is_undecided (standing_at step.old.state instance) ≡ true }
+    ensures ok { OnOk result (step.new ≡ stepped (catch_up instance round command) step.old) }
+    ensures err { IfErr result (λ e. e ≡ Refusal.OutOfMemory) }
+{
+    if step.round(instance) < round.number() {
+        enter(step, instance, round, Some(command))
+    } else {
+        Ok(())
+    }
+}
+
+fn acknowledge(
+    step: &mut Step<'_>,
+    instance: Instance,
+    round: Round,
+    to: NodeId,
+) -> Result<(), Refusal>
+    ensures ok { OnOk result (step.new ≡ stepped (acknowledge instance round to) step.old) }
+    ensures err { IfErr result (λ e. e ≡ Refusal.OutOfMemory) }
+{
+    let adopted = match step.backing(instance) {
+        Some(backing) => backing.adopted,
+        None => 0,
+    };
+    step.owe(Body::Ack(instance, round), Some(adopted), to)
+}
+
+/// A proposal of the present round is adopted once; an acknowledgement is owed each time.
+#[tactic(auto, unfolding(rr_model::specs::NodeStep::take_proposal))]
+fn take_proposal(
+    step: &mut Step<'_>,
+    instance: Instance,
+    round: Round,
+    command: Command,
+    from: NodeId,
+) -> Result<(), Refusal>
+    ensures ok { OnOk result (step.new ≡ stepped (take_proposal instance round command from) step.old) }
+    ensures err { IfErr result (λ e. e ≡ Refusal.OutOfMemory) }
+{
+    if step.round(instance) != round.number() {
+        return Ok(());
+    }
+    if step.stamp(instance) < round.number() {
+        step.stage(Fact::Adopt(instance, round, command))?;
+    }
+    acknowledge(step, instance, round, from)
+}
+
+/// An estimate of the present round is kept.
+fn take_estimate(
+    step: &mut Step<'_>,
+    alloc: Global,
+    instance: Instance,
+    from: NodeId,
+    estimate: Estimate,
+) -> Result<(), Refusal>
+    ensures ok { OnOk result (step.new ≡ stepped (take_estimate instance from estimate) step.old) }
+    ensures err { IfErr result (λ e. e ≡ Refusal.OutOfMemory) }
+{
+    if step.round(instance) == estimate.round().number() {
+        step.count_estimate(alloc, instance, from, estimate)
+    } else {
+        Ok(())
+    }
+}
+
+#[tactic(auto, using(crate::proofs::InputLemmas::undecided_first, crate::proofs::InputLemmas::pooled_undecided), unfolding(rr_model::specs::NodeStep::heard_body))]
+fn hear_estimate(
+    step: &mut Step<'_>,
+    alloc: Global,
+    from: NodeId,
+    instance: Instance,
+    estimate: Estimate,
+) -> Result<(), Refusal>
+    ensures ok { OnOk result (step.new ≡ stepped (heard_body from (say.Estimate instance estimate)) step.old) }
+    ensures err { IfErr result (λ e. e ≡ Refusal.OutOfMemory) }
+{
+    if !step.is_undecided(instance) {
+        return answer(step, instance, from);
+    }
+    if !step.is_open(instance) {
+        return ask(step, from);
+    }
+    let round = estimate.round();
+    let command = estimate.command();
+    let nodes = step.nodes();
+    if coordinator(round, nodes).index() != step.node().index() {
+        return Ok(());
+    }
+    let pooled = command;
+    step.pool_add(pooled)?;
+    catch_up(step, instance, round, command)?;
+    take_estimate(step, alloc, instance, from, estimate)
+}
+
+#[tactic(auto, using(crate::proofs::InputLemmas::undecided_first, crate::proofs::InputLemmas::pooled_undecided), unfolding(rr_model::specs::NodeStep::heard_body))]
+fn hear_proposal(
+    step: &mut Step<'_>,
+    from: NodeId,
+    instance: Instance,
+    round: Round,
+    command: Command,
+) -> Result<(), Refusal>
+    ensures ok { OnOk result (step.new ≡ stepped (heard_body from (say.Proposal instance round command)) step.old) }
+    ensures err { IfErr result (λ e. e ≡ Refusal.OutOfMemory) }
+{
+    if !step.is_undecided(instance) {
+        return Ok(());
+    }
+    if !step.is_open(instance) {
+        return ask(step, from);
+    }
+    let nodes = step.nodes();
+    if coordinator(round, nodes).index() != from.index() {
+        return Ok(());
+    }
+    let pooled = command;
+    step.pool_add(pooled)?;
+    let entered = command;
+    catch_up(step, instance, round, entered)?;
+    take_proposal(step, instance, round, command, from)
+}
+
+#[tactic(auto, unfolding(rr_model::specs::NodeStep::heard_body))]
+fn hear_ack(
+    step: &mut Step<'_>,
+    alloc: Global,
+    from: NodeId,
+    instance: Instance,
+    round: Round,
+) -> Result<(), Refusal>
+    ensures ok { OnOk result (step.new ≡ stepped (heard_body from (say.Ack instance round)) step.old) }
+    ensures err { IfErr result (λ e. e ≡ Refusal.OutOfMemory) }
+{
+    if step.is_open(instance) && step.has_proposed(instance, round) {
+        step.count_ack(alloc, instance, from)
+    } else {
+        Ok(())
+    }
+}
+
+#[tactic(auto, unfolding(rr_model::specs::NodeStep::heard_body))]
+fn hear_nack(
+    step: &mut Step<'_>,
+    alloc: Global,
+    from: NodeId,
+    instance: Instance,
+    round: Round,
+) -> Result<(), Refusal>
+    ensures ok { OnOk result (step.new ≡ stepped (heard_body from (say.Nack instance round)) step.old) }
+    ensures err { IfErr result (λ e. e ≡ Refusal.OutOfMemory) }
+{
+    if step.is_open(instance) && step.has_proposed(instance, round) {
+        step.count_nack(alloc, instance, from)
+    } else {
+        Ok(())
+    }
+}
+
+/// What a message says.
+#[tactic(auto, unfolding(rr_model::specs::NodeStep::heard_body))]
+fn hear_body(step: &mut Step<'_>, alloc: Global, from: NodeId, body: Body) -> Result<(), Refusal>
+    ensures ok { OnOk result (step.new ≡ stepped (heard_body from body) step.old) }
+    ensures err { IfErr result (λ e. e ≡ Refusal.OutOfMemory) }
+{
+    match body {
+        Body::Estimate(instance, estimate) => {
+            hear_estimate(step, alloc, from, instance, estimate)
+        }
+        Body::Proposal(instance, round, command) => {
+            hear_proposal(step, from, instance, round, command)
+        }
+        Body::Ack(instance, round) => hear_ack(step, alloc, from, instance, round),
+        Body::Decision(instance, command) => hear_decision(step, from, instance, command),
+        Body::Request(command) => step.pool_add(command),
+        Body::Nack(instance, round) => hear_nack(step, alloc, from, instance, round),
+        Body::Beat => {
+            step.beat(from);
+            Ok(())
+        }
+        Body::Suspects(set) => {
+            step.reduce(from, set);
+            Ok(())
+        }
+        Body::Ask(instance) => hear_ask(step, from, instance),
+    }
+}
+
+/// A message; one for another node is dropped.
+fn heard(step: &mut Step<'_>, alloc: Global, message: &Message) -> Result<(), Refusal>
+    ensures ok { OnOk result (step.new ≡ stepped (heard message.now) step.old) }
+    ensures err { IfErr result (λ e. e ≡ Refusal.OutOfMemory) }
+{
+    if message.to.index() == step.node().index() {
+        hear_body(step, alloc, message.from, message.body)
+    } else {
+        Ok(())
+    }
+}
+
+/// What a message changes.
+#[tactic(auto, using(crate::proofs::InputSteps::hear_is_step, crate::proofs::InputSteps::hear_large))]
+pub fn hear_step(state: &State, alloc: Global, message: &Message) -> Result<Changes, Refusal>
+    ensures ok { IfOk result (λ c. IsStep (Hear message.now) state.now c) }
+    ensures refused { IfErr result (λ e. (e ≡ Refusal.OutOfMemory) ⊎ (refusal_of (Hear message.now) state.now ≡ Some e)) }
+{
+    let mut step = Step::new(alloc, state);
+    heard(&mut step, alloc, message)?;
+    finish(step)
+}

@@ -1,0 +1,25 @@
+//! Proposing a command in a round.
+
+ghost use Rattle.std.specs.Prelude.{◌≡◌, IfErr, OnOk};
+ghost use Rattle.rr_model.specs.NodeParts.{propose};
+ghost use Rattle.rr_step.specs.Steps.{stepped};
+
+use rr_step::Step;
+use rr_types::{Body, Command, Fact, Instance, Refusal, Round};
+
+/// Proposes a command in a round, to every node.
+pub fn propose(
+    step: &mut Step<'_>,
+    instance: Instance,
+    round: Round,
+    command: Command,
+) -> Result<(), Refusal>
+    ensures ok { OnOk result (step.new ≡ stepped (propose instance round command) step.old) }
+    ensures err { IfErr result (λ e. e ≡ Refusal.OutOfMemory) }
+{
+    let number = step.next_number();
+    let command = &command;
+    step.stage(Fact::Propose(instance, round, *command))?;
+    step.owe_everyone(Body::Proposal(instance, round, *command), Some(number))?;
+    Ok(())
+}

@@ -1,0 +1,107 @@
+//! Restating where open instances stand: the estimate or the acknowledgement, and the proposal.
+
+ghost use Rattle.std.specs.Prelude.{◌≡◌, IfErr, OnOk, Some};
+ghost use Rattle.rr_model.specs.NodeState.{standing_at};
+ghost use Rattle.rr_model.specs.NodeParts.{restate, restate_all, backing_at};
+ghost use Rattle.rr_step.specs.Steps.{stepped};
+ghost use Rattle.rr_behaviour.specs.Rounds.{owe_coordinator};
+ghost use Rattle.rr_types.specs.declared.promise.Standing.TheVariants as stands;
+
+use rr_round::Backing;
+use rr_step::Step;
+use rr_types::{Body, Estimate, Instance, OpenStanding, Refusal, Standing, coordinator};
+
+/// The numbers that back the messages of an instance; 0 where no fact names it.
+fn backing_or_none(step: &Step<'_>, instance: Instance) -> Backing
+    ensures entered { result.entered ≡ backing_at (λ b. b.entered) step.now.state instance }
+    ensures adopted { result.adopted ≡ backing_at (λ b. b.adopted) step.now.state instance }
+{
+    match step.backing(instance) {
+        Some(backing) => backing,
+        None => Backing::none(),
+    }
+}
+
+/// The number of the fact that backs the proposal of an instance; 0 where no fact names it.
+fn proposal_number(step: &Step<'_>, instance: Instance) -> u128
+    ensures { result ≡ backing_at (λ b. b.proposed) step.now.state instance }
+{
+    match step.backing(instance) {
+        Some(backing) => backing.proposed,
+        None => 0,
+    }
+}
+
+/// Owes the coordinator the estimate of an open instance, or the acknowledgement where it has adopted.
+#[tactic(auto, unfolding(crate::specs::Rounds::owe_coordinator))]
+fn owe_coordinator(
+    step: &mut Step<'_>,
+    instance: Instance,
+    at: &OpenStanding,
+) -> Result<(), Refusal>
+    ensures ok { OnOk result (step.new ≡ stepped (owe_coordinator instance at.now) step.old) }
+    ensures err { IfErr result (λ e. e ≡ Refusal.OutOfMemory) }
+{
+    let backing = backing_or_none(step, instance);
+    let round = at.round();
+    let to = coordinator(round, step.nodes());
+    if at.stamp() < round.number() {
+        let estimate = Estimate::at(round, at.stamp(), at.estimate());
+        step.owe(
+            Body::Estimate(instance, estimate),
+            Some(backing.entered),
+            to,
+        )
+    } else {
+        step.owe(Body::Ack(instance, round), Some(backing.adopted), to)
+    }
+}
+
+/// Restates where an open instance stands.
+#[tactic(auto, using(crate::proofs::RoundLemmas::restate_silent))]
+fn restate_open(
+    step: &mut Step<'_>,
+    instance: Instance,
+    at: OpenStanding,
+) -> Result<(), Refusal>
+    requires { standing_at step.old.state instance ≡ Some (stands.Open at) }
+    ensures ok { OnOk result (step.new ≡ stepped (restate instance) step.old) }
+    ensures err { IfErr result (λ e. e ≡ Refusal.OutOfMemory) }
+{
+    let number = proposal_number(step, instance);
+    owe_coordinator(step, instance, &at)?;
+    match at.proposal() {
+        None => Ok(()),
+        Some(command) => {
+            let body = Body::Proposal(instance, at.round(), command);
+            step.owe_everyone(body, Some(number))?;
+            Ok(())
+        }
+    }
+}
+
+/// Restates where an open instance stands.
+#[tactic(auto, unfolding(rr_model::specs::NodeParts::restate))]
+fn restate(step: &mut Step<'_>, instance: Instance) -> Result<(), Refusal>
+    ensures ok { OnOk result (step.new ≡ stepped (restate instance) step.old) }
+    ensures err { IfErr result (λ e. e ≡ Refusal.OutOfMemory) }
+{
+    match step.standing(instance) {
+        None => Ok(()),
+        Some(standing) => match standing {
+            Standing::Decided(_) => Ok(()),
+            Standing::Open(at) => restate_open(step, instance, at),
+        },
+    }
+}
+
+/// Restates where these instances stand, in order.
+pub fn restate_all(step: &mut Step<'_>, instances: &[Instance]) -> Result<(), Refusal>
+    ensures ok { OnOk result (step.new ≡ stepped (restate_all instances.now) step.old) }
+    ensures err { IfErr result (λ e. e ≡ Refusal.OutOfMemory) }
+{
+    for instance in instances {
+        restate(step, *instance)?;
+    }
+    Ok(())
+}

@@ -1,0 +1,37 @@
+//! What a node owes after its opening.
+
+ghost use Rattle.std.specs.Prelude.{◌≡◌, IfErr, IfOk};
+ghost use Rattle.rr_model.specs.NodeState.{open_instances};
+ghost use Rattle.rr_model.specs.NodeParts.{restate_all};
+ghost use Rattle.rr_step.specs.Steps.{combined, IsFitting};
+ghost use Rattle.rr_model.specs.NodeStep.{started};
+
+use crate::restating::restate_all;
+use rr_journal::Opened;
+use rr_step::{Changes, State, Step};
+use rr_types::Refusal;
+use std::alloc::Global;
+
+/// A node after its opening: it owes the restatement of its open instances.
+#[tactic(auto, unfolding(rr_model::specs::NodeStep::started))]
+pub fn started(alloc: Global, opened: &Opened) -> Result<State, Refusal>
+    ensures ok { IfOk result (λ s. s ≡ started opened.now.nodes opened.now.node opened.now.promise opened.now.next) }
+    ensures err { IfErr result (λ e. e ≡ Refusal.OutOfMemory) }
+{
+    let mut state = State::restored(alloc, opened)?;
+    let changes = restatement(&state, alloc)?;
+    state.absorb(alloc, changes)?;
+    Ok(state)
+}
+
+/// What the restatement of the open instances changes.
+fn restatement(state: &State, alloc: Global) -> Result<Changes, Refusal>
+    ensures ok { IfOk result (λ c. combined state.now c ≡ restate_all (open_instances state.now) state.now) }
+    ensures fits { IfOk result (λ c. IsFitting state.now c) }
+    ensures err { IfErr result (λ e. e ≡ Refusal.OutOfMemory) }
+{
+    let mut step = Step::new(alloc, state);
+    let open = step.open_instances();
+    restate_all(&mut step, open.as_slice())?;
+    Ok(step.into_changes())
+}

@@ -1,0 +1,70 @@
+//! A client's command.
+
+ghost use Rattle.std.specs.Prelude.{◌≡◌, IfErr, OnOk, Some, Err, ◌⊎◌, IfOk};
+ghost use Rattle.rr_model.specs.NodeState.{decided_prefix};
+ghost use Rattle.rr_step.specs.Steps.{stepped};
+ghost use Rattle.rr_types.specs.declared.refusal.Refusal.{Refusal};
+ghost use Rattle.rr_types.specs.Registry.{has_request};
+ghost use Rattle.rr_model.specs.NodeStep.{submitted, submit_refusal, Submit, refusal_of};
+ghost use Rattle.rr_behaviour.specs.Changes.{IsStep};
+
+use crate::finish::finish;
+use rr_step::{Changes, State, Step};
+use rr_types::{Body, Command, Refusal};
+use std::alloc::Global;
+
+/// Why a submit is refused: a new request, with all instances decided here.
+fn submit_refusal(step: &Step<'_>, command: Command) -> Option<Refusal>
+    ensures { result ≡ submit_refusal command step.now.state }
+{
+    if step.is_list_full()
+        && !step.is_decided_request(command.request)
+        && !step.is_waiting(command.request)
+    {
+        Some(Refusal::ListFull)
+    } else {
+        None
+    }
+}
+
+/// A submit: a request that is new waits, is pooled and sent to each other node. `is_held`: whether the
+/// decided prefix holds it.
+#[tactic(auto, using(crate::proofs::InputLemmas::others_after_pool_add, crate::proofs::InputLemmas::others_after_wait_for), unfolding(rr_model::specs::NodeStep::submitted))]
+fn submitted(step: &mut Step<'_>, command: Command, is_held: bool) -> Result<(), Refusal>
+    requires { is_held ≡ has_request (decided_prefix step.old.state) command.request }
+    ensures ok { OnOk result (step.new ≡ stepped (submitted command) step.old) }
+    ensures err { IfErr result (λ e. e ≡ Refusal.OutOfMemory) }
+{
+    let request = command.request;
+    let is_known = is_held || step.is_waiting(request);
+    step.wait_for(request)?;
+    if is_known {
+        return Ok(());
+    }
+    let pooled = command;
+    step.pool_add(pooled)?;
+    step.owe_others(Body::Request(command), None)
+}
+
+/// What a client's command changes. `is_held`: whether the decided prefix has its request number. Where it is refused
+/// for what it is, this comes before want of memory.
+#[tactic(auto, using(crate::proofs::InputSteps::submit_is_step, crate::proofs::InputSteps::submit_large, crate::proofs::InputSteps::submit_err))]
+pub fn submit_step(
+    state: &State,
+    alloc: Global,
+    command: Command,
+    is_held: bool,
+) -> Result<Changes, Refusal>
+    requires { is_held ≡ has_request (decided_prefix state.now) command.request }
+    ensures ok { IfOk result (λ c. IsStep (Submit command) state.now c) }
+    ensures order { (e : Refusal) → submit_refusal command state.now ≡ Some e → result ≡ Err e }
+    ensures refused { IfErr result (λ e. (e ≡ Refusal.OutOfMemory) ⊎ (refusal_of (Submit command) state.now ≡ Some e)) }
+{
+    let asked = command;
+    let mut step = Step::new(alloc, state);
+    if let Some(refusal) = submit_refusal(&step, asked) {
+        return Err(refusal);
+    }
+    submitted(&mut step, command, is_held)?;
+    finish(step)
+}

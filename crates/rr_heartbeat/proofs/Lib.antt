@@ -1,3 +1,0 @@
-pub mod WatchLemmas
-pub mod BitLemmas
-pub mod RuleLemmas

@@ -1,3 +1,0 @@
-pub mod InputLemmas
-pub mod RefusalLemmas
-pub mod InputSteps

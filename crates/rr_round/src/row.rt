@@ -1,0 +1,186 @@
+//! The row of an instance.
+
+ghost use Rattle.std.specs.Prelude.{◌≡◌, IfOk, IfErr};
+ghost use Rattle.rr_model.specs.NodeState.{is_decided, decided_command};
+ghost use Rattle.rr_model.specs.NodeParts.{backing_after, row_after, fresh_row};
+ghost use Rattle.rr_model.specs.NodeStep.{promised_row};
+
+use crate::tally::Tally;
+use rr_types::{Command, Entry, Fact, Instance, Refusal, Standing};
+use std::alloc::Global;
+use std::marker::Model;
+
+/// The numbers of the facts that back an instance's messages.
+#[derive(Clone, Copy, Debug)]
+pub struct Backing {
+    pub entered: u128,
+    pub proposed: u128,
+    pub adopted: u128,
+    pub decided: u128,
+}
+
+impl Model for Backing {
+    ghost use Rattle.rr_model.specs.NodeState as model;
+
+    ghost Value = { model.Backing };
+
+    ghost view = { λ b. record { entered = b.entered; proposed = b.proposed; adopted = b.adopted; decided = b.decided } };
+
+    ghost inverse = { λ b. record { entered = b.entered; proposed = b.proposed; adopted = b.adopted; decided = b.decided } };
+}
+
+/// An instance that the facts name: where it stands, what backs it, what was heard of its round.
+#[derive(Debug, Drop)]
+pub struct Row {
+    pub instance: Instance,
+    pub standing: Standing,
+    pub backing: Backing,
+    pub tally: Tally,
+}
+
+impl Model for Row {
+    ghost use Rattle.rr_model.specs.NodeState as model;
+
+    ghost Value = { model.Row };
+
+    ghost view = { λ r. record { instance = r.instance; standing = r.standing; backing = r.backing; tally = r.tally } };
+}
+
+impl Backing {
+    /// No fact names the instance.
+    pub fn none() -> Backing
+        ensures { result ≡ record { entered = 0; proposed = 0; adopted = 0; decided = 0 } }
+    {
+        Backing {
+            entered: 0,
+            proposed: 0,
+            adopted: 0,
+            decided: 0,
+        }
+    }
+
+    /// The numbers after a fact with this number.
+    pub fn after(self, number: u128, fact: &Fact) -> Backing
+        ensures { result ≡ backing_after number fact.now self }
+    {
+        match fact {
+            Fact::Enter(..) => Backing {
+                entered: number,
+                proposed: 0,
+                adopted: 0,
+                decided: 0,
+            },
+            Fact::Propose(..) => Backing {
+                proposed: number,
+                ..self
+            },
+            Fact::Adopt(..) => Backing {
+                adopted: number,
+                ..self
+            },
+            Fact::Decide(..) => Backing {
+                decided: number,
+                ..self
+            },
+        }
+    }
+}
+
+impl Row {
+    /// The row of an instance that no fact named before.
+    pub fn fresh(alloc: Global, instance: Instance, standing: Standing) -> Row
+        ensures { result ≡ fresh_row instance standing }
+    {
+        Row {
+            instance,
+            standing,
+            backing: Backing::none(),
+            tally: Tally::new(alloc),
+        }
+    }
+
+    /// The row of an instance that a promise names: all its facts lie below this number.
+    pub fn promised(alloc: Global, next: u64, entry: &Entry) -> Row
+        ensures { result ≡ promised_row next entry.now }
+    {
+        let last = if next == 0 { 0 } else { (next - 1) as u128 };
+        Row {
+            instance: entry.instance,
+            standing: entry.standing,
+            backing: Backing {
+                entered: last,
+                proposed: last,
+                adopted: last,
+                decided: last,
+            },
+            tally: Tally::new(alloc),
+        }
+    }
+
+    /// A copy.
+    pub fn try_clone(&self, alloc: Global) -> Result<Row, Refusal>
+        ensures ok { IfOk result (λ r. r ≡ self.now) }
+        ensures err { IfErr result (λ e. e ≡ Refusal.OutOfMemory) }
+    {
+        let tally = self.tally.try_clone(alloc)?;
+        Ok(Row {
+            instance: self.instance,
+            standing: self.standing,
+            backing: self.backing,
+            tally,
+        })
+    }
+
+    /// Whether the instance has decided.
+    pub fn is_decided(&self) -> bool
+        ensures { result ≡ is_decided self.now }
+    {
+        matches!(self.standing, Standing::Decided(_))
+    }
+
+    /// The command that the instance has decided.
+    pub fn decided_command(&self) -> Option<Command>
+        ensures { result ≡ decided_command self.now }
+    {
+        self.standing.decision()
+    }
+
+    /// The row after a fact with this number, by which the instance stands so. A tally that the fact drops isn't copied.
+    ///
+    /// # Errors
+    /// `OutOfMemory`.
+    pub fn after(
+        &self,
+        alloc: Global,
+        number: u128,
+        fact: &Fact,
+        standing: Standing,
+    ) -> Result<Row, Refusal>
+        ensures ok { IfOk result (λ r. r ≡ row_after number fact.now standing self.now) }
+        ensures err { IfErr result (λ e. e ≡ Refusal.OutOfMemory) }
+    {
+        let tally = match fact {
+            Fact::Enter(..) | Fact::Decide(..) => Tally::new(alloc),
+            Fact::Propose(..) | Fact::Adopt(..) => self.tally.try_clone(alloc)?,
+        };
+        Ok(Row {
+            instance: self.instance,
+            standing,
+            backing: self.backing.after(number, fact),
+            tally,
+        })
+    }
+
+    /// A fact with this number is about the instance, which then stands so. It needs no memory.
+    pub fn advance(&mut self, number: u128, fact: &Fact, standing: Standing)
+        ensures { self.new ≡ row_after number fact.now standing self.old }
+    {
+        let backing = self.backing.after(number, fact);
+        self.standing = standing;
+        self.backing = backing;
+        match fact {
+            Fact::Enter(..) | Fact::Decide(..) => self.tally.clear(),
+            Fact::Propose(..) | Fact::Adopt(..) => {}
+        }
+    }
+}

@@ -1,2 +1,0 @@
-pub mod RoundLemmas
-pub mod DueLemmas

@@ -1,9 +1,0 @@
-use Rattle.std.proofs.Common.{◌≡◌, ◌≤◌}
-use Rattle.rr_model.specs.NodeDetector.{joined, joined_below}
-use Rattle.rr_suspect.proofs.suspects.joined.Given as goal
-
-abbrev pub invariant-loop-left : goal.invariant-loop-left
-invariant-loop-left l = (l.left ≤ 7) × (joined_below l.left l.all l.other ≡ joined l.initial.all l.other)
-
-abbrev pub decreases-loop-left : goal.decreases-loop-left
-decreases-loop-left l = l.left
