@@ -65,11 +65,7 @@ fn leave_round(step: &mut Step<'_>, instance: Instance) -> Result<(), Refusal>
 }
 
 /// Stages the entering of a round with this estimate, and owes the estimate to the round's coordinator.
-fn enter_with(
-    step: &mut Step<'_>,
-    instance: Instance,
-    estimate: Estimate,
-) -> Result<(), Refusal>
+fn enter_with(step: &mut Step<'_>, instance: Instance, estimate: Estimate) -> Result<(), Refusal>
     requires undecided { is_undecided (standing_at step.old.state instance) ≡ true }
     ensures ok { OnOk result (step.new ≡ stepped (enter_with instance estimate) step.old) }
     ensures err { IfErr result (λ e. e ≡ Refusal.OutOfMemory) }

@@ -13,7 +13,9 @@ use crate::entering::enter;
 use crate::finish::finish;
 use crate::questions::ask;
 use rr_step::{Changes, State, Step};
-use rr_types::{Body, Command, Estimate, Fact, Instance, Message, NodeId, Refusal, Round, coordinator};
+use rr_types::{
+    Body, Command, Estimate, Fact, Instance, Message, NodeId, Refusal, Round, coordinator,
+};
 use std::alloc::Global;
 
 /// Where a round lies above the instance's, the instance enters it.

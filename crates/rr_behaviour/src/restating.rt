@@ -59,11 +59,7 @@ fn owe_coordinator(
 
 /// Restates where an open instance stands.
 #[tactic(auto, using(crate::proofs::RoundLemmas::restate_silent))]
-fn restate_open(
-    step: &mut Step<'_>,
-    instance: Instance,
-    at: OpenStanding,
-) -> Result<(), Refusal>
+fn restate_open(step: &mut Step<'_>, instance: Instance, at: OpenStanding) -> Result<(), Refusal>
     requires { standing_at step.old.state instance ≡ Some (stands.Open at) }
     ensures ok { OnOk result (step.new ≡ stepped (restate instance) step.old) }
     ensures err { IfErr result (λ e. e ≡ Refusal.OutOfMemory) }

@@ -136,9 +136,9 @@ pub data EndsOnCut (On : (List ℕ → ℕ → Printing → Printing → Type 0)
 abbrev pub IsMistake : ErrorKind → Type 0
 IsMistake kind = (kind ≢ DisplayHelp) × (kind ≢ DisplayVersion)
 
--- the text on the version: it names the kit that the proofs are checked with
+-- the text on the version: it names the logic of the kits that the proofs are checked with
 abbrev pub version_text : List ℕ
-version_text = line (codes "rr 0.1.0, proved with rattle-kit-13f logic dac8208d650f15bf" ∷ [])
+version_text = line (codes "rr 0.1.0, proved with rattle logic dac8208d650f15bf" ∷ [])
 
 -- the line with which the help ends, behind an empty one
 abbrev pub statuses_text : List ℕ

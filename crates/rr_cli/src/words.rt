@@ -14,8 +14,8 @@ use rr_types::Refusal;
 use std::alloc::{AllocError, Global};
 use std::io::Write;
 
-// The version, and the kit that the proofs are checked with.
-const VERSION: &[u8] = b"rr 0.1.0, proved with rattle-kit-13f logic dac8208d650f15bf\n";
+// The version, and the logic of the kits that the proofs are checked with.
+const VERSION: &[u8] = b"rr 0.1.0, proved with rattle logic dac8208d650f15bf\n";
 
 /// Ends by words that are no command: a mistake is told on standard error, and what was asked for is printed.
 pub fn end_by_words<O: Sink, E: Write>(alloc: Global, out: &mut O, err: &mut E, error: &Error) -> u8

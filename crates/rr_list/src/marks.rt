@@ -9,8 +9,8 @@ ghost use Rattle.rr_types.specs.Standings.{IsInRound};
 ghost use Rattle.rr_list.specs.Listed.{KeepsPromised, AllInRound};
 ghost use Rattle.rr_list.specs.Marked.{marked_in, has_mark_place, AreMarks, IsBegun, IsCounted, HaveMarkPlaces, set_all, decision_after, decided_by};
 
-use rr_round::Row;
 use rr_places::Numbered;
+use rr_round::Row;
 use rr_types::{Command, Entry, Fact, INSTANCES, Instance, Op, Refusal, Standing};
 use std::alloc::Global;
 

@@ -9,8 +9,8 @@ ghost use Rattle.rr_list.specs.Rowed.{AscendFrom};
 ghost use Rattle.rr_list.specs.Opened.{open_in};
 
 use crate::state::State;
-use rr_round::Row;
 use rr_list::Window;
+use rr_round::Row;
 use rr_types::{Instance, RequestNo};
 
 impl State {

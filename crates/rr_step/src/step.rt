@@ -17,9 +17,9 @@ use crate::known::is_among;
 use crate::state::State;
 use crate::{estimates, over, owing, staging};
 use rr_detector::{Heartbeat, Suspects};
-use rr_round::{Backing, Row};
 use rr_list::Window;
 use rr_outbox::Owed;
+use rr_round::{Backing, Row};
 use rr_types::{
     Body, Command, Fact, Instance, NodeId, NodeSet, Nodes, Op, Refusal, RequestNo, Standing, WINDOW,
 };

@@ -19,4 +19,3 @@ fits_in_round n p st (Enter i e) h = tt
 fits_in_round n p st (Propose i r v) h = tt
 fits_in_round n p st (Adopt i r v) h = eqb-true _ _ (and_right _ _ (and_left (is_undecided st && round_of st == r) _ h))
 fits_in_round n p st (Decide i v) h = tt
-
