@@ -3,7 +3,7 @@
 use rr_frame::{Snapshot, encode_group, encode_snapshot, put_u8, put_u32};
 use rr_types::{
     Command, Estimate, Fact, GROUP, Group, Instance, Name, NodeId, Nodes, Op, Promise, Refusal,
-    RequestNo, Round, Value,
+    RequestNo, Round, Value, made_of,
 };
 use std::alloc::Global;
 
@@ -43,7 +43,7 @@ fn fact(number: u64) -> Result<Fact, Refusal> {
 
 /// The group of 64 facts whose first has this number, as bytes.
 fn group(alloc: Global, serial: u64) -> Result<Vec<u8>, Refusal> {
-    let _parts: Option<(Command, Op)> = None;
+    made_of!(Command, Op);
     let mut facts = Vec::with_capacity(alloc, GROUP)?;
     for number in 0..GROUP {
         facts.push(fact(serial.wrapping_add(number as u64))?)?;

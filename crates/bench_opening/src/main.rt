@@ -12,7 +12,7 @@ use anyhow::Result;
 use rr_disk::{Area, Disk, FileDisk};
 use rr_image::{Image, read_image};
 use rr_journal::Journal;
-use rr_types::{Command, NodeId, Nodes, Op, Refusal, Standing};
+use rr_types::{Command, NodeId, Nodes, Op, Refusal, Standing, made_of};
 use std::alloc::Global;
 use std::env;
 use std::time::Instant;
@@ -26,8 +26,7 @@ struct Found {
 
 /// What an area of node 0 of 1 holds.
 fn opened(alloc: Global, area: &[u8]) -> Result<Found, Refusal> {
-    // The check learns what a content is made of from the types of a function's variables.
-    let _parts: Option<(Command, Op, Standing)> = None;
+    made_of!(Command, Op, Standing);
     let nodes = Nodes::new(1)?;
     let node = NodeId::new(nodes, 0).ok_or(Refusal::BadNodes)?;
     match read_image(alloc, nodes, node, area, &[])? {
@@ -59,7 +58,7 @@ fn open_memory(rt: &HostRuntime, kilobytes: u64) -> Result<()> {
 
 /// What the disk of a node 0 of 1 holds in its active area.
 fn opened_disk<D: Disk + Drop>(alloc: Global, disk: D) -> Result<(Found, Area), Refusal> {
-    let _parts: Option<(Command, Op, Standing)> = None;
+    made_of!(Command, Op, Standing);
     let nodes = Nodes::new(1)?;
     let node = NodeId::new(nodes, 0).ok_or(Refusal::BadNodes)?;
     match Journal::open(alloc, nodes, node, disk) {

@@ -8,7 +8,7 @@ mod messages;
 
 use crate::messages::{Texts, message, weight};
 use anyhow::{Context, Result};
-use rr_types::{Body, Command, Nodes, Op, Refusal};
+use rr_types::{Body, Command, Nodes, Op, Refusal, made_of};
 use rr_wire::{decode, encode};
 use std::alloc::Global;
 use std::env;
@@ -23,8 +23,7 @@ struct Sums {
 
 /// Encodes and decodes each of so many messages.
 fn go_through(alloc: Global, texts: &Texts, count: u64) -> Result<Sums, Refusal> {
-    // The check learns what a message is made of from the types of a function's variables.
-    let _parts: Option<(Body, Command, Op)> = None;
+    made_of!(Body, Command, Op);
     let nodes = Nodes::new(7)?;
     let mut sums = Sums {
         bytes: 0,

@@ -2,7 +2,7 @@
 
 use crate::started::{claim, node_over, open, put_decided, put_head};
 use rr_node::{Node, NodeEvent, Outcome};
-use rr_types::{Message, Op, Refusal, Reply};
+use rr_types::{Message, Op, Refusal, Reply, made_of};
 use std::alloc::Global;
 use std::process::Abort;
 
@@ -50,13 +50,13 @@ fn assert_refused(
     event: NodeEvent,
     refusal: Refusal,
 ) {
-    let _parts: Option<(Message, Op)> = None;
+    made_of!(Message, Op);
     assert!(rt; node.step(alloc, &event).err() == Some(refusal));
 }
 
 /// The event is taken, and nothing comes of it.
 fn assert_quiet(rt: &impl Abort, alloc: Global, node: &mut Node, event: NodeEvent) {
-    let _parts: Option<(Message, Op)> = None;
+    made_of!(Message, Op);
     assert!(rt; matches!(node.step(alloc, &event), Ok(Outcome::Quiet)));
 }
 

@@ -2,7 +2,7 @@
 
 use rr_disk::{Area, Disk, MemDisk};
 use rr_node::{Node, NodeEvent, Outcome};
-use rr_types::{Command, Message, Name, NodeId, Nodes, Op, Refusal, RequestNo, Value};
+use rr_types::{Command, Message, Name, NodeId, Nodes, Op, Refusal, RequestNo, Value, made_of};
 use std::alloc::Global;
 
 /// The device calls of an opening that finds an area.
@@ -28,7 +28,7 @@ pub fn node_over(alloc: Global, area: &[u8]) -> Result<Node, Refusal> {
 
 /// Starts the node, and answers what its opening answers.
 pub fn open(alloc: Global, node: &mut Node) -> Result<Outcome, Refusal> {
-    let _parts: Option<(Message, Op)> = None;
+    made_of!(Message, Op);
     let mut outcome = node.step(alloc, &NodeEvent::Restart)?;
     for _ in 0..CALLS {
         outcome = node.step(alloc, &NodeEvent::Device)?;

@@ -6,7 +6,7 @@ use rr_cli::{end_by_refusal, execute};
 use rr_script::{Script, ScriptLine};
 use rr_stream::Counted;
 use rr_text::{Report, ReportLine};
-use rr_types::{Body, Command, Message, Name, Nodes, Op, Refusal, Value};
+use rr_types::{Body, Command, Message, Name, Nodes, Op, Refusal, Value, made_of};
 use rr_wire::{decode, encode};
 use std::alloc::Global;
 use std::fs;
@@ -74,7 +74,7 @@ fn refused(alloc: Global, refusal: &Refusal) -> Answer {
 
 /// The line of a report that has a message.
 fn line_of(alloc: Global, message: Message) -> Result<Vec<u8>, Refusal> {
-    let _parts: Option<(Body, Command, Op)> = None;
+    made_of!(Body, Command, Op);
     let mut lines = Vec::new(alloc);
     lines.push(ReportLine::Send { number: 0, message })?;
     Report::new(lines, Vec::new(alloc)).text(alloc)
@@ -82,7 +82,7 @@ fn line_of(alloc: Global, message: Message) -> Result<Vec<u8>, Refusal> {
 
 /// The message that bytes spell, in a report.
 fn read_message(alloc: Global, bytes: &[u8]) -> Result<Answer> {
-    let _parts: Option<(Body, Command, Op)> = None;
+    made_of!(Body, Command, Op);
     match decode(Nodes::new(7)?, bytes) {
         Ok(message) => {
             let spelled = encode(alloc, &message)?;
@@ -94,7 +94,7 @@ fn read_message(alloc: Global, bytes: &[u8]) -> Result<Answer> {
 
 /// The script that bytes are, by this number of nodes, and how many lines it has.
 fn read_script(alloc: Global, nodes: &str, bytes: &[u8]) -> Result<Answer> {
-    let _parts: Option<(Command, Name, Op, ScriptLine, Value)> = None;
+    made_of!(Command, Name, Op, ScriptLine, Value);
     let nodes = Nodes::new(nodes.parse::<u8>()?)?;
     match Script::parse(alloc, nodes, bytes) {
         Ok(script) => {

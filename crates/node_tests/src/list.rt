@@ -2,7 +2,9 @@
 
 use rr_list::{Instances, Pool, Waiting};
 use rr_round::Row;
-use rr_types::{Command, Entry, Fact, Instance, Name, Op, Refusal, RequestNo, Standing, Value};
+use rr_types::{
+    Command, Entry, Fact, Instance, Name, Op, Refusal, RequestNo, Standing, Value, made_of,
+};
 use std::alloc::Global;
 use std::process::Abort;
 
@@ -30,8 +32,7 @@ fn decided(number: u32, seq: u64) -> Result<Entry, Refusal> {
 
 #[test]
 fn commands_come_and_go_in_order(rt: HostRuntime) {
-    // The check learns what a command is made of from the types of a function's variables.
-    let _parts: Option<(Command, Op)> = None;
+    made_of!(Command, Op);
     let mut pool = Pool::new(rt.alloc());
     pool.push(&command(1).expect(&rt, "memory"))
         .expect(&rt, "memory");

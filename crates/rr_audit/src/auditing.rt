@@ -6,7 +6,7 @@ ghost use Rattle.rr_audit.specs.Audits.{IsTapeRun, AgreesWithOneList, StopsAt, I
 use crate::given::Given;
 use crate::progress::Progress;
 use rr_tape::Tape;
-use rr_types::{Body, Command, Message, NodeId, Op, Refusal};
+use rr_types::{Body, Command, Message, NodeId, Op, Refusal, made_of};
 use std::alloc::Global;
 
 /// What an audit finds.
@@ -53,8 +53,7 @@ pub fn audit(alloc: Global, tape: &Tape) -> Result<u64, Refusal>
     ensures no { (index : ℕ) → result ≡ Err (Refusal.AuditNo index) → StopsAt tape.now.nodes tape.now.events index }
     ensures else_memory { IfErr result (λ e. (e ≡ Refusal.OutOfMemory) ⊎ ((index : ℕ) × (e ≡ Refusal.AuditNo index))) }
 {
-    // The check learns what a message is made of from the types of a function's variables.
-    let _parts: Option<(Body, Command, Message, Op)> = None;
+    made_of!(Body, Command, Message, Op);
     match examine(alloc, tape)? {
         Verdict::Yes(count) => Ok(count),
         Verdict::No(index, _, _) => Err(Refusal::AuditNo(index)),

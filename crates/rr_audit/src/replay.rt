@@ -9,7 +9,7 @@ ghost use Rattle.rr_audit.specs.Following.{Steps};
 use crate::given::Given;
 use crate::replay_node::ReplayNode;
 use rr_tape::TapeEvent;
-use rr_types::{Body, Command, Message, NodeId, Nodes, Op, Refusal};
+use rr_types::{Body, Command, Message, NodeId, Nodes, Op, Refusal, made_of};
 use std::alloc::Global;
 use std::marker::Model;
 
@@ -80,8 +80,7 @@ impl Replay {
         ensures ok { OnOk result (self.new ≡ record self.old { wire = self.old.wire ++ sent_by event.now }) }
         ensures err { IfErr result (λ e. e ≡ Refusal.OutOfMemory) }
     {
-        // The check learns what a message is made of from the types of a function's variables.
-        let _parts: Option<(Body, Command, Message, Op)> = None;
+        made_of!(Body, Command, Message, Op);
         match event {
             TapeEvent::Send { message, .. } => self.wire.push(*message)?,
             _ => (),

@@ -12,7 +12,7 @@ use crate::number::{put_u16, put_u64};
 use crate::reader::Reader;
 use crate::stop::Stop;
 use crate::version::Version;
-use rr_types::{Command, Fact, GROUP, Group, Op, Refusal};
+use rr_types::{Command, Fact, GROUP, Group, Op, Refusal, made_of};
 use std::alloc::{AllocError, Global};
 
 fn read_facts(
@@ -24,8 +24,7 @@ fn read_facts(
     ensures read { Reads (λ v. v.items) result reader.new (facts_at version count reader.old) }
     ensures count { IfOk result (λ v. length v.items ≡ count) }
 {
-    // The check learns what a fact is made of from the types of a function's variables.
-    let _parts: Option<(Command, Op)> = None;
+    made_of!(Command, Op);
     let mut facts = Vec::new(alloc);
     for _ in 0..count {
         let fact = read_fact(version, reader)?;

@@ -17,7 +17,7 @@ use crate::stop::{Fault, Stop};
 use crate::version::{Version, read_version};
 use rr_types::{
     Command, Entry, Instance, NodeId, Nodes, Op, OpenStanding, Promise, Refusal, Standing,
-    coordinator,
+    coordinator, made_of,
 };
 use std::alloc::{AllocError, Global};
 use std::marker::Model;
@@ -163,7 +163,7 @@ fn read_proposal(
 ) -> Result<Option<Command>, Fault>
     ensures { Gives result reader.new (proposal_at version may_stand reader.old) }
 {
-    let _parts: Option<Op> = None;
+    made_of!(Op);
     let here = reader.fault();
     let flag = reader.u8()?;
     if flag == 0 {
@@ -185,7 +185,7 @@ fn read_open(
 ) -> Result<OpenStanding, Fault>
     ensures { Gives result reader.new (open_at version nodes node reader.old) }
 {
-    let _parts: Option<Op> = None;
+    made_of!(Op);
     let round = reader.round()?;
     let here = reader.fault();
     let stamp = reader.u32()?;
@@ -210,7 +210,7 @@ fn read_standing(
 ) -> Result<Standing, Fault>
     ensures { Gives result reader.new (standing_at version nodes node reader.old) }
 {
-    let _parts: Option<(Command, Op)> = None;
+    made_of!(Command, Op);
     let here = reader.fault();
     let kind = reader.u8()?;
     match kind {
@@ -236,7 +236,7 @@ fn read_entry(
 ) -> Result<Entry, Fault>
     ensures { Gives result reader.new (entry_at version nodes node low reader.old) }
 {
-    let _parts: Option<(Command, Op)> = None;
+    made_of!(Command, Op);
     let here = reader.fault();
     let number = reader.u32()?;
     if number < low || number >= version.instances() {
@@ -261,7 +261,7 @@ fn read_entries(
 ) -> Result<Vec<Entry>, Stop>
     ensures { Reads (λ v. v.items) result reader.new (entries_at version nodes node 0 count reader.old) }
 {
-    let _parts: Option<(Command, Op, Standing)> = None;
+    made_of!(Command, Op, Standing);
     let mut entries = Vec::new(alloc);
     let mut low = 0;
     for _ in 0..count {

@@ -6,7 +6,7 @@ ghost use Rattle.rr_image.specs.Ends.{Ends};
 
 use crate::promised::take_on_all;
 use rr_frame::{Reader, Version, decode_group};
-use rr_types::{Command, Entry, Group, NodeId, Nodes, Op, Promise, Refusal, Standing};
+use rr_types::{Command, Entry, Group, NodeId, Nodes, Op, Promise, Refusal, Standing, made_of};
 use std::alloc::{AllocError, Global};
 use std::marker::Model;
 
@@ -126,7 +126,7 @@ impl Content {
         requires { self.gate + 5 + size < 2 ^ 64 }
         ensures { IfOk result (λ c. c ≡ with_group nodes node group.now size self) }
     {
-        let _parts: Option<(Command, Op, Standing)> = None;
+        made_of!(Command, Op, Standing);
         let Content {
             epoch,
             mut entries,

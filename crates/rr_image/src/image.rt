@@ -7,7 +7,7 @@ ghost use Rattle.rr_image.specs.Ends.{IsFront, Finds, area_number};
 use crate::content::{Content, Halt, OPEN_GATE, frame_behind, read_groups};
 use rr_disk::Area;
 use rr_frame::{Version, decode_snapshot};
-use rr_types::{Command, NodeId, Nodes, Op, Refusal, Standing};
+use rr_types::{Command, NodeId, Nodes, Op, Refusal, Standing, made_of};
 use std::alloc::{AllocError, Global};
 
 /// The first frame of an area.
@@ -36,7 +36,7 @@ pub enum Image {
 fn front_of(alloc: Global, nodes: Nodes, node: NodeId, bytes: &[u8]) -> Result<Front, AllocError>
     ensures { IfOk result (λ f. IsFront bytes.now f (front_of nodes node bytes.now)) }
 {
-    let _parts: Option<(Command, Op, Standing)> = None;
+    made_of!(Command, Op, Standing);
     if bytes.len() < 2 || bytes[0] != OPEN_GATE {
         return Ok(Front::Blank);
     }

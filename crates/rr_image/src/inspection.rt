@@ -12,7 +12,7 @@ use crate::content::{Content, Halt, OPEN_GATE, frame_behind, read_groups};
 use crate::image::broken;
 use rr_disk::{Area, Disk};
 use rr_frame::{Version, decode_snapshot};
-use rr_types::{Command, Entry, NodeId, Nodes, Op, Refusal, Standing};
+use rr_types::{Command, Entry, NodeId, Nodes, Op, Refusal, Standing, made_of};
 use std::alloc::{AllocError, Global};
 
 /// What is told of a formatted area.
@@ -56,7 +56,7 @@ pub enum OwnFront {
 fn own_front(alloc: Global, bytes: &[u8]) -> Result<OwnFront, AllocError>
     ensures { IfOk result (λ f. IsOwnFront bytes.now f) }
 {
-    let _parts: Option<(Command, Op, Standing)> = None;
+    made_of!(Command, Op, Standing);
     if bytes.len() < 2 || bytes[0] != OPEN_GATE {
         return Ok(OwnFront::Blank);
     }

@@ -6,7 +6,7 @@ ghost use Rattle.rr_types.specs.Standings.{fits};
 ghost use Rattle.rr_types.specs.Promises.{IsAscending, standing_in, set_entry, take_on, take_on_all, all_fit};
 ghost use Rattle.rr_image.specs.Places.{IsPlaceOf, is_at};
 
-use rr_types::{Command, Entry, Fact, Instance, NodeId, Nodes, Op, Standing};
+use rr_types::{Command, Entry, Fact, Instance, NodeId, Nodes, Op, Standing, made_of};
 use std::alloc::AllocError;
 
 /// The place of an instance: as many entries lie below it. It takes the logarithm of how many there are.
@@ -39,7 +39,7 @@ fn standing_at(entries: &[Entry], place: usize, instance: Instance) -> Option<St
     requires ascending { IsAscending entries.now }
     ensures { result ≡ standing_in entries.now instance }
 {
-    let _parts: Option<(Command, Op)> = None;
+    made_of!(Command, Op);
     if !is_at(entries, place, instance) {
         return None;
     }
@@ -59,7 +59,7 @@ fn set_at(
     ensures ok { OnOk result (entries.new.items ≡ set_entry instance standing entries.old.items) }
     ensures ascending { IsAscending entries.new.items }
 {
-    let _parts: Option<(Command, Op)> = None;
+    made_of!(Command, Op);
     let entry = Entry { instance, standing };
     if is_at(entries, place, instance) {
         entries[place] = entry;

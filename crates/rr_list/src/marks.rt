@@ -11,7 +11,7 @@ ghost use Rattle.rr_list.specs.Marked.{marked_in, has_mark_place, AreMarks, IsBe
 
 use rr_places::Numbered;
 use rr_round::Row;
-use rr_types::{Command, Entry, Fact, INSTANCES, Instance, Op, Refusal, Standing};
+use rr_types::{Command, Entry, Fact, INSTANCES, Instance, Op, Refusal, Standing, made_of};
 use std::alloc::Global;
 
 /// Where each instance stands by the marked facts, and how many commands the decided prefix has.
@@ -39,7 +39,7 @@ impl Marks {
         requires { AreMarks self.now }
         ensures { MatchOption result (standing_in (marked_in self.now) number ≡ None) (λ e. standing_in (marked_in self.now) number ≡ Some e.now.standing) }
     {
-        let _parts: Option<(Command, Op, Standing)> = None;
+        made_of!(Command, Op, Standing);
         match self.entries.get(number) {
             Some(entry) => Some(entry),
             None => None,
@@ -66,7 +66,7 @@ impl Marks {
         ensures stay { (i : ℕ) → IsTrue (has_mark_place self.old i) → IsTrue (has_mark_place self.new i) }
         ensures err { IfErr result (λ e. e ≡ Refusal.OutOfMemory) }
     {
-        let _parts: Option<(Command, Op, Standing)> = None;
+        made_of!(Command, Op, Standing);
         self.entries.make_place(instance.number())?;
         Ok(())
     }
@@ -95,7 +95,7 @@ impl Marks {
         ensures prefix { self.new.prefix ≡ self.old.prefix }
         ensures places { (i : ℕ) → has_mark_place self.new i ≡ has_mark_place self.old i }
     {
-        let _parts: Option<(Command, Op, Standing)> = None;
+        made_of!(Command, Op, Standing);
         let number = entry.instance.number();
         self.entries.put(number, *entry);
     }
@@ -110,7 +110,7 @@ impl Marks {
         ensures stay { (i : ℕ) → IsTrue (has_mark_place self.old i) → IsTrue (has_mark_place self.new i) }
         ensures err { IfErr result (λ e. e ≡ Refusal.OutOfMemory) }
     {
-        let _parts: Option<(Command, Op, Standing)> = None;
+        made_of!(Command, Op, Standing);
         self.entries.insert(entry.instance.number(), *entry)?;
         Ok(())
     }
@@ -301,7 +301,7 @@ impl Marks {
         ensures ok { IfOk result (λ more. decided_from 0 (take_on_all (marked_in self.now) facts.now) ≡ decided_from 0 (marked_in self.now) ++ more.items) }
         ensures err { IfErr result (λ e. e ≡ Refusal.OutOfMemory) }
     {
-        let _parts: Option<Op> = None;
+        made_of!(Op);
         let mut found = Vec::new(alloc);
         for place in self.prefix..INSTANCES {
             match self.decision_after(facts, place) {
@@ -322,7 +322,7 @@ impl Marks {
         ensures ascending { IfOk result (λ entries. IsAscending entries.items) }
         ensures err { IfErr result (λ e. e ≡ Refusal.OutOfMemory) }
     {
-        let _parts: Option<(Command, Op, Standing)> = None;
+        made_of!(Command, Op, Standing);
         let promise = self.entries.values(alloc)?;
         Ok(promise)
     }

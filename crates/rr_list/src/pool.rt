@@ -5,7 +5,7 @@ ghost use Rattle.rr_types.specs.declared.command.Command.{Command};
 ghost use Rattle.rr_types.specs.Registry.{is_same_request, has_request};
 
 use crate::arrivals::{Arrivals, Values};
-use rr_types::{Command, Op, Refusal, RequestNo};
+use rr_types::{Command, Op, Refusal, RequestNo, made_of};
 use std::alloc::Global;
 use std::marker::Model;
 
@@ -29,7 +29,7 @@ impl Pool {
     pub fn new(alloc: Global) -> Pool
         ensures { result ≡ [] }
     {
-        let _parts: Option<(Command, Op)> = None;
+        made_of!(Command, Op);
         Pool {
             commands: Arrivals::new(alloc),
         }
@@ -40,7 +40,7 @@ impl Pool {
     pub fn has(&self, request: RequestNo) -> bool
         ensures { result ≡ has_request self.now request }
     {
-        let _parts: Option<(Command, Op)> = None;
+        made_of!(Command, Op);
         self.commands.has(request)
     }
 
@@ -52,7 +52,7 @@ impl Pool {
         ensures kept { OnErr result (self.new ≡ self.old) }
         ensures err { IfErr result (λ e. e ≡ Refusal.OutOfMemory) }
     {
-        let _parts: Option<(Command, Op)> = None;
+        made_of!(Command, Op);
         self.commands.push(*command)
     }
 
@@ -60,7 +60,7 @@ impl Pool {
     pub fn take_back(&mut self)
         ensures { (cs : List Command) (c : Command) → self.old ≡ cs ++ c ∷ [] → self.new ≡ cs }
     {
-        let _parts: Option<(Command, Op)> = None;
+        made_of!(Command, Op);
         self.commands.take_back();
     }
 
@@ -68,7 +68,7 @@ impl Pool {
     pub fn remove(&mut self, request: RequestNo)
         ensures { self.new ≡ filter (λ c. not (is_same_request c.request request)) self.old }
     {
-        let _parts: Option<(Command, Op)> = None;
+        made_of!(Command, Op);
         self.commands.remove(request);
     }
 
@@ -76,7 +76,7 @@ impl Pool {
     pub fn iter(&self) -> Values<'_, Command>
         ensures { result ≡ self.now }
     {
-        let _parts: Option<(Command, Op)> = None;
+        made_of!(Command, Op);
         self.commands.iter()
     }
 }

@@ -6,7 +6,8 @@ ghost use Rattle.rr_tape.specs.Taped.{IsInstance, IsRound, IsEstimate, IsBody, I
 use rr_tape::TapeEvent;
 use rr_text::command_law;
 use rr_types::{
-    Body, Command, Estimate, Instance, Message, NodeId, NodeSet, Nodes, Op, Reply, RequestNo, Round,
+    Body, Command, Estimate, Instance, Message, NodeId, NodeSet, Nodes, Op, Reply, RequestNo,
+    Round, made_of,
 };
 
 /// The numbers of a request are in their ranges. It does nothing when it runs, as the laws below.
@@ -64,7 +65,7 @@ fn has_all(nodes: Nodes, set: NodeSet) -> bool
 fn is_body_among(nodes: Nodes, body: &Body) -> bool
     ensures { IsTrue result ↔ IsBody nodes body.now }
 {
-    let _parts: Option<(Body, Command, Estimate, Op)> = None;
+    made_of!(Body, Command, Estimate, Op);
     match body {
         Body::Estimate(instance, estimate) => {
             instance_law(*instance);
@@ -118,7 +119,7 @@ fn is_message_among(nodes: Nodes, message: &Message) -> bool
 pub fn is_among(nodes: Nodes, event: &TapeEvent) -> bool
     ensures { IsTrue result ↔ IsTapeEvent nodes event.now }
 {
-    let _parts: Option<(Body, Command, Estimate, Message, Op, Reply)> = None;
+    made_of!(Body, Command, Estimate, Message, Op, Reply);
     match event {
         TapeEvent::Submit { node, command } => {
             command_law(command);

@@ -7,7 +7,7 @@ ghost use Rattle.rr_types.specs.declared.refusal.Refusal.TheVariants.{OutOfMemor
 ghost use Rattle.rr_locked.specs.Listed.{listed};
 
 use rr_core::Core;
-use rr_types::{Op, Refusal};
+use rr_types::{Op, Refusal, made_of};
 use rr_window::{Publisher, WindowName};
 
 /// Appends the commands of the marked prefix that aren't appended yet. Where what is published and appended is a
@@ -25,8 +25,7 @@ pub fn follow<W: WindowName>(core: &Core, publisher: &mut Publisher<W>) -> Resul
         return Ok(());
     }
     for place in count as usize..end {
-        // The check learns what a command is made of from the types of a function's variables.
-        let _parts: Option<Op> = None;
+        made_of!(Op);
         let Some(command) = core.decided_at(place) else {
             unreachable!()
         };

@@ -15,7 +15,7 @@ use crate::locked::Locked;
 use crate::recording::{Recording, Sent};
 use rr_journal::Synced;
 use rr_tape::TapeEvent;
-use rr_types::{Body, Command, Estimate, Group, Message, Op, Refusal, Reply, RequestNo};
+use rr_types::{Body, Command, Estimate, Group, Message, Op, Refusal, Reply, RequestNo, made_of};
 
 /// A client asks a node for a command.
 pub fn submit_on(
@@ -29,7 +29,7 @@ pub fn submit_on(
     ensures cause { IfErr result (λ e. ((locked.new ≡ locked.old) × ((e ≡ Refusal.OutOfMemory) ⊎ (refusal_of (node.Submit command.now) locked.old ≡ Some e)))
         ⊎ ((locked.new ≡ node_step (node.Submit command.now) locked.old) × HasNoPlace recording.old (tape.Submit locked.old.node command.now) e)) }
 {
-    let _parts: Option<Op> = None;
+    made_of!(Op);
     let node = locked.node();
     locked.submit(command)?;
     let command = *command;
@@ -130,7 +130,7 @@ pub fn send_on(locked: &mut Locked, recording: &mut Recording) -> Result<Option<
     ensures kept { OnErr result (recording.new ≡ recording.old) }
     ensures cause { IfErr result (λ e. (message : _) × (next_leaving locked.old ≡ Some message) × (locked.new ≡ message_left locked.old) × HasNoPlace recording.old (tape.Send (sent_on recording.old) message) e) }
 {
-    let _parts: Option<(Body, Command, Estimate, Op)> = None;
+    made_of!(Body, Command, Estimate, Op);
     match locked.next_message() {
         None => Ok(None),
         Some(cleared) => {

@@ -7,7 +7,7 @@ ghost use Rattle.rr_outbox.specs.Marks.{is_free, without_first, IsOwn, IsFreeOrB
 use crate::cleared::{Cleared, Draft};
 use crate::mark::Mark;
 use crate::owed::Owed;
-use rr_types::{Body, Command, Message, NodeId, Op, Refusal};
+use rr_types::{Body, Command, Message, NodeId, Op, Refusal, made_of};
 use std::alloc::Global;
 use std::collections::VecDeque;
 use std::marker::Model;
@@ -88,8 +88,7 @@ fn extend(owed: &mut VecDeque<Owed>, more: &[Owed]) -> Result<(), Refusal>
     ensures kept { OnErr result (owed.new.items ≡ owed.old.items) }
     ensures err { IfErr result (λ e. e ≡ Refusal.OutOfMemory) }
 {
-    // The check learns what a message is made of from the types of a function's variables.
-    let _parts: Option<(Body, Command, Message, Op)> = None;
+    made_of!(Body, Command, Message, Op);
     let before = owed.len();
     for one in more {
         match owed.push_back(*one) {

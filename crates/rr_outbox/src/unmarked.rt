@@ -4,7 +4,7 @@
 ghost use Rattle.std.specs.Prelude.{◌≡◌, ◌+◌, ◌-◌, ◌≤◌, ◌++◌, [], ◌∷◌, None, Some, length, take, drop, is_some, IfOk, IfErr, OnOk, OnErr};
 ghost use Rattle.std.specs.Option.{option_map_or};
 
-use rr_types::{Command, Fact, Op, Refusal};
+use rr_types::{Command, Fact, Op, Refusal, made_of};
 use std::alloc::Global;
 use std::marker::Model;
 
@@ -62,8 +62,7 @@ impl Unmarked {
         ensures kept { OnErr result (self.new ≡ self.old) }
         ensures err { IfErr result (λ e. e ≡ Refusal.OutOfMemory) }
     {
-        // The check learns what a fact is made of from the types of a function's variables.
-        let _parts: Option<(Command, Op)> = None;
+        made_of!(Command, Op);
         self.facts.extend_from_slice(facts)?;
         Ok(())
     }
@@ -73,8 +72,7 @@ impl Unmarked {
         requires { length facts.now ≤ length self.old.staged }
         ensures { self.new ≡ record self.old { staged = take (length self.old.staged - length facts.now) self.old.staged } }
     {
-        // The check learns what a fact is made of from the types of a function's variables.
-        let _parts: Option<(Command, Op)> = None;
+        made_of!(Command, Op);
         let count = self.facts.len() - facts.len();
         self.facts.truncate(count);
     }

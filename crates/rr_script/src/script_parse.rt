@@ -11,7 +11,7 @@ use crate::script::Script;
 use crate::script_line::ScriptLine;
 use rr_text::text_parse::first_node;
 use rr_text::text_read::{cut, name, submitted};
-use rr_types::{Command, Name, Nodes, Op, Refusal, RequestNo};
+use rr_types::{Command, Name, Nodes, Op, Refusal, RequestNo, made_of};
 use std::alloc::Global;
 
 fn submit(nodes: Nodes, text: &[u8]) -> Option<ScriptLine>
@@ -55,8 +55,7 @@ fn script_lines(alloc: Global, nodes: Nodes, bytes: &[u8]) -> Result<Vec<ScriptL
     ensures ok { IfOk result (λ v. AllByRecursion (IsScriptLine nodes) v.items × (bytes.now ≡ script_text v.items)) }
     ensures err { IfErr result (λ e. IsScriptFault nodes bytes.now e) }
 {
-    // The check learns what a line is made of from the types of a function's variables.
-    let _parts: Option<(Command, Name, Op, RequestNo)> = None;
+    made_of!(Command, Name, Op, RequestNo);
     let _count = nodes.count();
     let mut lines = Vec::new(alloc);
     let mut rest = bytes;

@@ -8,7 +8,7 @@ ghost use Rattle.rr_step.specs.Steps.{combined, without_requests, AreNew, AreNew
 use crate::state::State;
 use crate::step::Changes;
 use rr_list::{Pool, Waiting};
-use rr_types::{Command, Op, Refusal, RequestNo};
+use rr_types::{Command, Op, Refusal, RequestNo, made_of};
 use std::alloc::Global;
 
 /// Commands come into the pool, all of them or, after an error, none.
@@ -19,8 +19,7 @@ fn pool_all(pool: &mut Pool, commands: &[Command]) -> Result<(), Refusal>
     ensures kept { OnErr result (pool.new ≡ pool.old) }
     ensures err { IfErr result (λ e. e ≡ Refusal.OutOfMemory) }
 {
-    // The check learns what a command is made of from the types of a function's variables.
-    let _parts: Option<Op> = None;
+    made_of!(Op);
     if commands.len() == 0 {
         return Ok(());
     }
@@ -39,7 +38,7 @@ fn pool_all(pool: &mut Pool, commands: &[Command]) -> Result<(), Refusal>
 fn unpool_all(pool: &mut Pool, commands: &[Command])
     ensures { (cs : List Command) → pool.old ≡ cs ++ commands.now → pool.new ≡ cs }
 {
-    let _parts: Option<Op> = None;
+    made_of!(Op);
     if commands.len() > 0 {
         unpool_all(pool, &commands[1..]);
         pool.take_back();

@@ -21,7 +21,8 @@ use rr_list::Window;
 use rr_outbox::Owed;
 use rr_round::{Backing, Row};
 use rr_types::{
-    Body, Command, Fact, Instance, NodeId, NodeSet, Nodes, Op, Refusal, RequestNo, Standing, WINDOW,
+    Body, Command, Fact, Instance, NodeId, NodeSet, Nodes, Op, Refusal, RequestNo, Standing,
+    WINDOW, made_of,
 };
 use std::alloc::Global;
 use std::marker::Model;
@@ -358,8 +359,7 @@ impl<'a> Step<'a> {
         ensures ok { OnOk result (self.new ≡ stepped (pool_add command) self.old) }
         ensures err { IfErr result (λ e. e ≡ Refusal.OutOfMemory) }
     {
-        // The check learns what a command is made of from the types of a function's variables.
-        let _parts: Option<Op> = None;
+        made_of!(Op);
         if self.has_pooled(command.request) || self.is_decided_request(command.request) {
             return Ok(());
         }
@@ -418,8 +418,7 @@ impl<'a> Step<'a> {
         ensures ok { OnOk result (self.new ≡ stepped (λ s. record s { staged = s.staged ++ fact.now ∷ [] }) self.old) }
         ensures err { IfErr result (λ e. e ≡ Refusal.OutOfMemory) }
     {
-        // The check learns what a fact is made of from the types of a function's variables.
-        let _parts: Option<(Command, Op)> = None;
+        made_of!(Command, Op);
         self.staged.push(*fact)?;
         Ok(())
     }

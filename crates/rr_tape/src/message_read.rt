@@ -4,7 +4,7 @@ ghost use Rattle.std.specs.Prelude.{◌≡◌, None, Some, MatchOption};
 ghost use Rattle.rr_tape.specs.Reading.{instance_at, round_at, request_at, command_at, estimate_at, estimated_at, proposed_at, round_of_at, decided_at, kind_at, body_fields_at, body_at, plain_reply_at, reply_at};
 
 use rr_text::text_read::{cut, number, op, set, small_number};
-use rr_types::{Body, Command, Estimate, Instance, Nodes, Op, Reply, RequestNo, Round};
+use rr_types::{Body, Command, Estimate, Instance, Nodes, Op, Reply, RequestNo, Round, made_of};
 
 /// What a message says, where it says something behind its word.
 #[derive(Clone, Copy, Debug)]
@@ -53,8 +53,7 @@ fn command(text: &[u8]) -> Option<Command>
 fn estimate(text: &[u8]) -> Option<Estimate>
     ensures { result ≡ estimate_at text.now }
 {
-    // The check learns what an estimate is made of from the types of a function's variables.
-    let _parts: Option<(Command, Op)> = None;
+    made_of!(Command, Op);
     let (word, rest) = cut(text, b' ')?;
     let round = round(word)?;
     let (word, rest) = cut(rest, b' ')?;

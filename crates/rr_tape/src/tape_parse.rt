@@ -14,7 +14,7 @@ use rr_text::MAX_EVENTS;
 use rr_text::keyword::Keyword;
 use rr_text::text_parse::{fields, first_line};
 use rr_text::text_read::{cut, keyword, node, small_number};
-use rr_types::{Body, Command, Message, Nodes, Op, Refusal, Reply};
+use rr_types::{Body, Command, Message, Nodes, Op, Refusal, Reply, made_of};
 use std::alloc::Global;
 
 fn message(nodes: Nodes, text: &[u8]) -> Option<Message>
@@ -98,8 +98,7 @@ pub fn next_tape_event(
     ensures ok { IfOk result (λ next. MatchOption next (bytes.now ≡ []) (λ x. (line < 1000002) × IsTapeEvent nodes x.0 × (bytes.now ≡ tape_line x.0 ++ x.1.now))) }
     ensures err { IfErr result (λ e. (e ≡ Refusal.OutOfMemory) ⊎ ((e ≡ Refusal.BadEvent line) × (0 < length bytes.now) × ((1000002 ≤ line) ⊎ HasNoLine (IsTapeEvent nodes) tape_line bytes.now))) }
 {
-    // The check learns what an event is made of from the types of a function's variables.
-    let _parts: Option<(Body, Command, Message, Op, Reply)> = None;
+    made_of!(Body, Command, Message, Op, Reply);
     let _count = nodes.count();
     if bytes.is_empty() {
         return Ok(None);
@@ -121,7 +120,7 @@ fn tape_events(alloc: Global, nodes: Nodes, bytes: &[u8]) -> Result<Vec<TapeEven
     ensures ok { IfOk result (λ v. ArePrinted (IsTapeEvent nodes) tape_line v.items bytes.now) }
     ensures err { IfErr result (λ e. IsStop (IsTapeEvent nodes) tape_line bytes.now e) }
 {
-    let _parts: Option<(Body, Command, Message, Op, Reply)> = None;
+    made_of!(Body, Command, Message, Op, Reply);
     let mut events = Vec::new(alloc);
     let mut rest = bytes;
     loop {

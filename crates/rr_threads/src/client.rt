@@ -10,7 +10,7 @@ use crate::rest::{LONG, Rest};
 use crate::shared::Shared;
 use rr_locked::{Place, Turnstile, submit_on};
 use rr_script::{Answer, ScriptLine};
-use rr_types::{Command, Name, NodeId, Op, Refusal, Reply, RequestNo, Value};
+use rr_types::{Command, Name, NodeId, Op, Refusal, Reply, RequestNo, Value, made_of};
 use rr_window::{Receipt, Seat, Sight, WindowName};
 use std::marker::Model;
 use std::sync::Wait;
@@ -183,7 +183,7 @@ impl<'d, 'x, W: WindowName, T: Turnstile, R: Wait> Handle<'d, 'x, W, T, R> {
         ensures later { IsPrefix self.old.known self.new.known }
         ensures same { self.new.node ≡ self.old.node }
     {
-        let _parts: Option<(Op, Sight, Value)> = None;
+        made_of!(Op, Sight, Value);
         let node = self.node;
         let name = *name;
         match self.seat.look(&name) {
@@ -206,7 +206,7 @@ impl<'d, 'x, W: WindowName, T: Turnstile, R: Wait> Handle<'d, 'x, W, T, R> {
         ensures later { IsPrefix self.old.known self.new.known }
         ensures same { self.new.node ≡ self.old.node }
     {
-        let _parts: Option<(Answer, ScriptLine, Command, Op, Name, Reply, Value)> = None;
+        made_of!(Answer, ScriptLine, Command, Op, Name, Reply, Value);
         match line {
             ScriptLine::Submit { node: _, command } => self.submit(command),
             ScriptLine::Look { node: _, name } => self.look(name),

@@ -11,7 +11,7 @@ use rr_locked::{
     Locked, Sent, Standstill, Turns, Unflushed, advance_on, hear_on, mark_on, send_on, take_on,
     tick_on,
 };
-use rr_types::{Body, Command, Estimate, Group, Message, NodeId, NodeSet, Op, Refusal};
+use rr_types::{Body, Command, Estimate, Group, Message, NodeId, NodeSet, Op, Refusal, made_of};
 use rr_window::WindowName;
 use std::sync::{Mutex, Wait};
 
@@ -154,7 +154,7 @@ fn leave<R: Wait>(
     locked: &mut Locked,
     recorder: Option<&Recorder>,
 ) -> Result<Option<Sent>, Refusal> {
-    let _parts: Option<(Body, Command, Estimate, Message, Op)> = None;
+    made_of!(Body, Command, Estimate, Message, Op);
     match recorder {
         None => match locked.next_message() {
             None => Ok(None),
@@ -169,7 +169,7 @@ fn leave<R: Wait>(
 
 /// A message goes into the inbox of its receiver, and is lost where that is full. Gives the receiver.
 fn put<R: Wait>(rt: &R, ports: &mut Vec<Port<Sent>>, sent: &Sent) -> NodeId {
-    let _parts: Option<(Body, Command, Estimate, Message, Op)> = None;
+    made_of!(Body, Command, Estimate, Message, Op);
     let to = sent.message.to;
     if let Some(port) = ports.get_mut(usize::from(to.index())) {
         let _lost = port.put(rt, *sent);
@@ -184,7 +184,7 @@ fn put_all<R: Wait>(
     recorder: Option<&Recorder>,
     ports: &mut Vec<Port<Sent>>,
 ) -> Result<NodeSet, Refusal> {
-    let _parts: Option<(Body, Command, Estimate, Message, Op)> = None;
+    made_of!(Body, Command, Estimate, Message, Op);
     let mut receivers = NodeSet::empty();
     let mut locked = node.lock(rt);
     for _ in 0..BATCH {

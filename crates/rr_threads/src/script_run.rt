@@ -8,7 +8,7 @@ use crate::run::run_clients;
 use rr_disk::Disk;
 use rr_locked::Turnstile;
 use rr_script::{Answer, Answers, Script, ScriptLine};
-use rr_types::{Command, Name, Nodes, Op, Refusal, Reply, Value};
+use rr_types::{Command, Name, Nodes, Op, Refusal, Reply, Value, made_of};
 use rr_window::WindowName;
 use std::alloc::Global;
 use std::sync::{Mutex, Wait};
@@ -33,7 +33,7 @@ impl<'x> Client for Reader<'x> {
         &mut self,
         handle: &mut Handle<'_, '_, W, T, R>,
     ) -> Result<(), Refusal> {
-        let _parts: Option<(Answer, ScriptLine, Command, Op, Name, Reply, Value)> = None;
+        made_of!(Answer, ScriptLine, Command, Op, Name, Reply, Value);
         for place in 0..self.lines.len() {
             let line = &self.lines[place];
             if line.node().index() == handle.node().index() {
@@ -65,7 +65,7 @@ fn slots(alloc: Global, count: usize) -> Result<Vec<Option<Answer>>, Refusal> {
 
 /// The answers in the order of their lines.
 fn in_order(alloc: Global, count: usize, answered: &[Answered]) -> Result<Answers, Refusal> {
-    let _parts: Option<(Answer, Name, Op, Reply, Value)> = None;
+    made_of!(Answer, Name, Op, Reply, Value);
     let mut slots = slots(alloc, count)?;
     for one in answered {
         if let Some(slot) = slots.get_mut(one.place) {

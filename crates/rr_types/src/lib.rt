@@ -7,6 +7,7 @@
 
 mod command;
 mod fact;
+mod made_of;
 mod message;
 mod name;
 mod node;

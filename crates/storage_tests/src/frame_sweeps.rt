@@ -4,7 +4,7 @@ use rr_frame::{
     Snapshot, Version, decode_fact, decode_group, decode_snapshot, encode_fact, encode_group,
     encode_snapshot,
 };
-use rr_types::{Command, Op, Refusal, Standing};
+use rr_types::{Command, Op, Refusal, Standing, made_of};
 use std::alloc::Global;
 use std::process::Abort;
 
@@ -112,8 +112,7 @@ const SNAPSHOT_FIELDS: [usize; 42] = [
 
 /// Reads bytes, and writes what was read; a snapshot with the first byte of its version.
 pub(crate) fn rewritten(alloc: Global, form: Form, bytes: &[u8]) -> Result<Vec<u8>, Refusal> {
-    // The check learns what these are made of from the types of a function's variables.
-    let _parts: Option<(Command, Op, Standing)> = None;
+    made_of!(Command, Op, Standing);
     match form {
         Form::Fact(version) => encode_fact(alloc, &decode_fact(version, bytes)?),
         Form::Group(version) => encode_group(alloc, &decode_group(alloc, version, bytes)?),

@@ -2,7 +2,7 @@
 
 ghost use Rattle.std.specs.Prelude.{◌≡◌};
 
-use rr_types::{Command, Name, Op, Refusal, RequestNo, Value};
+use rr_types::{Command, Name, Op, Refusal, RequestNo, Value, made_of};
 use rr_window::{NewList, Publisher, SEATS, Seat, Seats, Sight, WindowName, open};
 use std::alloc::Global;
 use std::marker::Brand;
@@ -44,7 +44,7 @@ fn told(sight: &Sight) -> Option<u32> {
 
 /// The same of a look at the name.
 fn seen<W: WindowName>(seat: &mut Seat<W>, name: &Name) -> Option<u32> {
-    let _parts: Option<(Op, Sight, Value)> = None;
+    made_of!(Op, Sight, Value);
     match seat.look(name) {
         Err(_) => None,
         Ok(sight) => told(&sight),
@@ -82,7 +82,7 @@ fn sees_the_last<W: WindowName>(seat: Seat<W>, name: &Name, last: Option<u32>) -
 
 /// Publishes a claim of the name, and then one update of it after another.
 fn publish_all<W: WindowName, R: Wait>(rt: &R, publisher: &mut Publisher<W>, name: &Name) -> bool {
-    let _parts: Option<Op> = None;
+    made_of!(Op);
     for count in 0..COMMANDS {
         let Ok(value) = value_after(count) else {
             return false;

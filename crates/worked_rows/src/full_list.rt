@@ -5,7 +5,7 @@ use rr_frame::{Snapshot, encode_group, encode_snapshot, put_u8, put_u32};
 use rr_node::{Node, NodeEvent, Outcome};
 use rr_types::{
     Command, Fact, GROUP, Group, INSTANCES, Instance, Message, Name, NodeId, Nodes, Op, Promise,
-    Refusal, RequestNo, Value,
+    Refusal, RequestNo, Value, made_of,
 };
 use std::alloc::Global;
 use std::io;
@@ -47,7 +47,7 @@ fn decisions(alloc: Global, first: u32) -> Result<Group, Refusal> {
 
 /// An area in which node 0 of 1 has decided every instance.
 fn full_area(alloc: Global, nodes: Nodes, node: NodeId) -> Result<Vec<u8>, Refusal> {
-    let _parts: Option<(Command, Op)> = None;
+    made_of!(Command, Op);
     let mut area = Vec::new(alloc);
     let empty = Snapshot::new(nodes, node, 1, 0, Promise::new(Vec::new(alloc))).map_err(
         |_| Refusal::BadNodes,
@@ -63,7 +63,7 @@ fn full_area(alloc: Global, nodes: Nodes, node: NodeId) -> Result<Vec<u8>, Refus
 
 /// Node 0 of 1, up, over that area.
 fn full_node(alloc: Global) -> Result<Node, Refusal> {
-    let _parts: Option<(Message, Op)> = None;
+    made_of!(Message, Op);
     let nodes = Nodes::new(1)?;
     let node = NodeId::new(nodes, 0).ok_or(Refusal::BadNodes)?;
     let mut disk = MemDisk::new(alloc);
