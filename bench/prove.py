@@ -152,4 +152,5 @@ def main():
     return 1 if proofs.failed else 0
 
 
-sys.exit(main())
+if __name__ == "__main__":
+    sys.exit(main())

@@ -1,12 +1,13 @@
 #!/usr/bin/env python3
 """Tries the edits in the folders beside it, named after their crates, on a copy of the tree: the prover must refuse each.
 
-    more-edits/try.py [--gate | --all] [--anew] [--since COMMIT] [--jobs N] [CRATE ..]
+    more-edits/try.py [--gate | --all] [--anew] [--kept FOLDER] [--since COMMIT] [--jobs N] [CRATE ..]
 
 With --since it takes the crates of which a source, a definition, a proof or an edit has changed since that commit; else those that
 are named, or all. With --gate it tries the gate's own edits, crates/*/must-fail, and with --all both. It runs the kit's `rt ci` over
 a copy of these crates and those below. Where the kit keeps what earlier runs on this machine proved or tried, it takes that, but with
---anew. N checks run side by side, as many as there are processors if left out.
+--anew. With --kept it takes what bench/prove.py has kept in that folder, and proves there what is lacking. N checks run side by side,
+as many as there are processors if left out.
 
 The gate leaves these edits out for its time: they turn the meaning of what stands inside a crate, or of a public function that another
 edit turns in the gate. Edits of the bodies of different functions are tried in one check, since a function's proof rests on the
@@ -133,6 +134,8 @@ class Together:
 
     def __init__(self, rt):
         self.rt, self.alone, self.lock, self.told, self.by_hand = rt, rt.must_fail, threading.Lock(), {}, set()
+        # (what a kit says of a refused edit: some have a word for it)
+        self.refused = getattr(rt, "REFUSED", True)
 
     def claim(self, crate, edit):
         """This edit, and others of the crate that nobody has tried, each with its function: so many that each job has some."""
@@ -177,7 +180,7 @@ class Together:
             module = "::".join([crate.name, *pathlib.PurePath(path).with_suffix("").parts[1:]]).removesuffix("::lib")
             own = [verdict for full, verdict in verdicts if full.startswith(module + "::") and full.rpartition("::")[2] == name]
             if len(own) == 1 and self.IS_OWN.fullmatch(own[0]):
-                self.told[edit].set_result((self.rt.REFUSED, self.note(crate, edit, path, name, texts[path], ran.stdout)))
+                self.told[edit].set_result((self.refused, self.note(crate, edit, path, name, texts[path], ran.stdout)))
 
     def note(self, crate, edit, path, name, text, said):
         """What is said of a refused edit; it is noted if proof files alone complain of its function."""
@@ -189,12 +192,17 @@ class Together:
         return f"must-fail {label}: refused, as it must be: {name} is not proved"
 
 
-def kit():
-    """Loads the kit's command as a module. Notes what it says of each edit, and the edits of which proof files alone complain."""
+def module(name, file):
+    """Loads a Python file as a module."""
     sys.dont_write_bytecode = True
-    loader = importlib.machinery.SourceFileLoader("rt_command", os.path.realpath(shutil.which("rt")))
-    rt = importlib.util.module_from_spec(importlib.util.spec_from_loader("rt_command", loader))
-    loader.exec_module(rt)
+    loader = importlib.machinery.SourceFileLoader(name, str(file))
+    made = importlib.util.module_from_spec(importlib.util.spec_from_loader(name, loader))
+    loader.exec_module(made)
+    return made
+
+
+def kit(rt):
+    """Has the kit's command note what it says of each edit, and the edits of which proof files alone complain."""
     checked, say, last, verdicts, together = rt.checked, rt.say, threading.local(), {}, Together(rt)
     by_hand, alone = together.by_hand, together.alone
 
@@ -205,7 +213,7 @@ def kit():
     def judged(crate, edit, *given):
         kind, text = alone(crate, edit, *given)
         told = re.findall(r"^(?:note: )?(?:\./)?(\w+)/\S+:\d+:\d+:", last.ran.stdout, re.MULTILINE)
-        if kind == rt.REFUSED and told and set(told) == {"proofs"}:
+        if kind == together.refused and told and set(told) == {"proofs"}:
             by_hand.add(f"{crate.name}/{os.path.basename(edit)}")
         return kind, text
 
@@ -222,7 +230,25 @@ def kit():
 
     together.alone = judged
     rt.checked, rt.must_fail, rt.say = noted, tried, said
-    return rt, by_hand, verdicts
+    return by_hand, verdicts
+
+
+def try_over_kept(kept, names, jobs):
+    """Tries the edits of these crates of the tree here over what is kept in a folder, once what is lacking there is proved."""
+    prover = TREE / "bench" / "prove.py"
+    if subprocess.run([prover, "--tree", ".", "--kept", kept, "--no-tests", *names]).returncode:
+        return 1, set(), {}
+    rt = module("prove", prover).kit()
+    by_hand, verdicts = kit(rt)
+    crates = [crate for crate in rt.rtlib.crates_below(os.getcwd()) if crate.name in names]
+
+    def try_all(crate):
+        for _, text in rt.must_fail_all(crate, rt.edits_of(crate)[0], ["--jobs", "1"]):
+            rt.say(text)
+
+    with concurrent.futures.ThreadPoolExecutor(jobs) as pool:
+        list(pool.map(try_all, crates))
+    return 0, by_hand, verdicts
 
 
 def tell(verdicts, by_hand, asked, minutes):
@@ -246,6 +272,7 @@ def main():
     which.add_argument("--gate", action="store_true")
     which.add_argument("--all", action="store_true")
     words.add_argument("--anew", action="store_true")
+    words.add_argument("--kept", type=pathlib.Path)
     words.add_argument("--since", metavar="COMMIT")
     words.add_argument("--jobs", type=int)
     words.add_argument("crates", nargs="*", metavar="CRATE")
@@ -265,8 +292,12 @@ def main():
         os.environ.pop("CI", None)
         if asked.jobs:
             os.environ["RT_JOBS"] = str(asked.jobs)
-        rt, by_hand, verdicts = kit()
-        status = rt.main(["ci", *(["--anew"] if asked.anew else [])])
+        if asked.kept:
+            status, by_hand, verdicts = try_over_kept(asked.kept.resolve(), names, asked.jobs or os.cpu_count())
+        else:
+            rt = module("rt_command", os.path.realpath(shutil.which("rt")))
+            by_hand, verdicts = kit(rt)
+            status = rt.main(["ci", *(["--anew"] if asked.anew else [])])
         os.chdir(TREE)
     wanted = {f"{name}/{edit.name}" for name in names for edit in edits[name]}
     is_well = tell(verdicts, by_hand, wanted, (time.monotonic() - begun) / 60)

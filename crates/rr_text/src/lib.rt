@@ -1,7 +1,7 @@
 //! The texts of schedules and reports.
 #![tactic(auto)]
 
-mod command_law;
+mod command_laws;
 mod event;
 pub mod keyword;
 mod report;
@@ -13,7 +13,7 @@ pub mod text_report;
 pub mod text_schedule;
 pub mod text_word;
 
-pub use command_law::command_law;
+pub use command_laws::command_law;
 pub use event::{Event, Fill};
 pub use report::{Binding, BoundNames, Report, ReportLine};
 pub use schedule::{MAX_EVENTS, Schedule};

@@ -9,11 +9,11 @@ use Rattle.rr_list.proofs.instances.Instances.absorb.Goals as goal
 pub absorb-requires : goal.absorb-requires
 absorb-requires c = subst (λ rows. KeepsDecisions rows (put_rows rows c.args.rows.items)) (sym (ap (λ (t : Listed). t.rows) c.self.view_is)) c.requires
 
-pub invariant_of-self-in-Ok-absorb : goal.invariant_of-self-in-Ok-absorb
-invariant_of-self-in-Ok-absorb c =
+pub invariant_of-self-in-Ok : goal.invariant_of-self-in-Ok
+invariant_of-self-in-Ok c =
     let keeps = subst (λ rows. KeepsDecisions rows (put_rows rows c.args.rows.items)) (sym (ap (λ (t : Listed). t.rows) c.self.view_is)) c.requires in
     listed_absorbed c.self.inside.rows c.absorb.new.self c.args.rows.items c.self.inside.window c.slide_behind-self-inside.result c.self.inside.marks c.make_places.new.self c.self.invariant
-    c.in-Ok-absorb.ensures.ok c.in-Ok-absorb.ensures.ascend c.in-Ok-absorb.ensures.instances
-    (c.slide_behind-self-inside.ensures c.self.inside.rows c.args.rows.items c.self.invariant.ascend (subst (KeepsDecisions c.self.inside.rows) (sym c.in-Ok-absorb.ensures.ok) keeps) c.in-Ok-absorb.ensures.ok (c.is_any_decided-is_decision_new.ensures ∙ ap (list_any (λ r. is_decided r)) c.deref-2.ensures.value) c.self.invariant.shown)
-    c.in-Ok.ensures.marks c.in-Ok.ensures.value c.in-Ok.ensures.prefix c.in-Ok.ensures.stay
-    (subst (All (λ (r : Row). IsTrue (has_mark_place c.make_places.new.self r.instance))) c.deref.ensures.value c.in-Ok.ensures.made)
+    c.in-Ok.ensures.ok c.in-Ok.ensures.ascend c.in-Ok.ensures.instances
+    (c.slide_behind-self-inside.ensures c.self.inside.rows c.args.rows.items c.self.invariant.ascend (subst (KeepsDecisions c.self.inside.rows) (sym c.in-Ok.ensures.ok) keeps) c.in-Ok.ensures.ok (c.is_any_decided-is_decision_new.ensures ∙ ap (list_any (λ r. is_decided r)) c.deref-2.ensures.value) c.self.invariant.shown)
+    c.in_ok-make_places.ensures.marks c.in_ok-make_places.ensures.value c.in_ok-make_places.ensures.prefix c.in_ok-make_places.ensures.stay
+    (subst (All (λ (r : Row). IsTrue (has_mark_place c.make_places.new.self r.instance))) c.deref.ensures.value c.in_ok-make_places.ensures.made)

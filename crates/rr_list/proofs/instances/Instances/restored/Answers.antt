@@ -21,20 +21,20 @@ restore-requires-2 c =
 
 pub invariant_of-result : goal.invariant_of-result
 invariant_of-result c =
-    let put = c.in-Ok-restore.ensures.ok ∙ ap (λ (rs : List Row). put_rows rs (map (promised_row c.args.next) c.args.promise.now)) c.new-rows.ensures in
+    let put = c.in-Ok.ensures.ok ∙ ap (λ (rs : List Row). put_rows rs (map (promised_row c.args.next) c.args.promise.now)) c.new-rows.ensures in
     let made : All (λ (r : Row). IsTrue (has_mark_place c.restore.new.self r.instance)) (map (promised_row c.args.next) c.args.promise.now) =
-    All-map (λ (r : Row). IsTrue (has_mark_place c.restore.new.self r.instance)) (promised_row c.args.next) c.args.promise.now c.in-Ok.ensures.made in
+    All-map (λ (r : Row). IsTrue (has_mark_place c.restore.new.self r.instance)) (promised_row c.args.next) c.args.promise.now c.in_ok-restore.ensures.made in
     record {
       shown = c.fill-window.ensures ∙ ap (λ k. k ++ lowest_undecided (8 - length k) 0 c.restore-2.new.self) c.new.ensures ∙ is_filled c.restore-2.new.self;
-      ascend = c.in-Ok-restore.ensures.ascend;
-      instances = c.in-Ok-restore.ensures.instances;
-      in_order = c.in-Ok.ensures.marks;
-      counted = c.in-Ok.ensures.counted;
+      ascend = c.in-Ok.ensures.ascend;
+      instances = c.in-Ok.ensures.instances;
+      in_order = c.in_ok-restore.ensures.marks;
+      counted = c.in_ok-restore.ensures.counted;
       placed = λ i f. ap (λ rs. row_of rs i) put ∙ placed_all (map (promised_row c.args.next) c.args.promise.now) c.restore.new.self made i f;
     }
 
-pub returns-in-Ok-restore-clause-ok : goal.returns-in-Ok-restore-clause-ok
-returns-in-Ok-restore-clause-ok c =
+pub returns-in-Ok-clause-ok : goal.returns-in-Ok-clause-ok
+returns-in-Ok-clause-ok c =
     listed_is c.restore-2.new.self _ _ c.args.promise.now
-    (c.in-Ok-restore.ensures.ok ∙ ap (λ (rs : List Row). put_rows rs (map (promised_row c.args.next) c.args.promise.now)) c.new-rows.ensures ∙ promise_rows c.args.next c.args.promise.now c.requires.ascends)
-    c.in-Ok.ensures.value
+    (c.in-Ok.ensures.ok ∙ ap (λ (rs : List Row). put_rows rs (map (promised_row c.args.next) c.args.promise.now)) c.new-rows.ensures ∙ promise_rows c.args.next c.args.promise.now c.requires.ascends)
+    c.in_ok-restore.ensures.value
