@@ -4,7 +4,7 @@ use Rattle.rr_step.specs.Steps.{Stepped, stepped}
 use Rattle.rr_behaviour.proofs.InputSteps.{refused_of, tick_large}
 use Rattle.rr_behaviour.proofs.tick.tick_step.Goals as goal
 
-pub returns-in-Ok-clause-refused : goal.returns-in-Ok-clause-refused
-returns-in-Ok-clause-refused c =
-    let end : c.ticked_on.new.step ≡ stepped ticked_on (record { base = c.args.state.now; state = c.args.state.now }) = c.in-Ok.ensures.ok ∙ ap (stepped ticked_on) c.new-step.ensures in
+pub returns-clause-refused : goal.returns-clause-refused
+returns-clause-refused c =
+    let end : c.ticked_on.new.step ≡ stepped ticked_on (record { base = c.args.state.now; state = c.args.state.now }) = c.in_ok-ticked_on.ensures.ok ∙ ap (stepped ticked_on) c.new-step.ensures in
     refused_of Tick c.args.state.now c.ticked_on.new.step.state c.finish.result (λ x h. tick_large c.args.state.now c.ticked_on.new.step x end h) c.finish.ensures.refused

@@ -11,4 +11,4 @@ unreachable-requires c =
     let P : NodeState → Type 0 = λ s. next_number s < 2 ^ 64 in
     let Ends : ℕ → Type 0 = λ end. end + option_map_or length staging.running 0 + length staging.staged < 2 ^ 64 in
     let room = subst Ends (sym c.end.ensures) (subst P (sym c.state.view_is) c.requires) in
-    false≢true (c.in-Err-new.ensures.valid.1 (front_fits c.end.result c.count.result staging.running staging.staged c.in-Ok.facts.items (sym c.is_running.ensures ∙ c.if-is_running.false) c.count.ensures c.if-count-eq0.false c.in-Ok.ensures.ok room))
+    false≢true (c.in-Err.ensures.valid.1 (front_fits c.end.result c.count.result staging.running staging.staged c.in_ok-facts.facts.items (sym c.is_running.ensures ∙ c.if-is_running.false) c.count.ensures c.if-count-eq0.false c.in_ok-facts.ensures.ok room))

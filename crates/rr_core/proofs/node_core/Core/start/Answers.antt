@@ -12,10 +12,10 @@ pub invariant_of-result : goal.invariant_of-result
 invariant_of-result c =
     let P : List Entry → Type 0 = λ es. IsAscending es in
     let opened = c.args.opened.now in
-    let registry = c.in-Ok-registry_of_prefix.registry in
-    let own = sym c.in_ok-new-in-Ok-registry_of_prefix.ensures.ok in (
+    let registry = c.in-Ok.registry in
+    let own = sym c.in_ok-new-in-Ok.ensures.ok in (
       subst (λ (x : NodeState). IsKept x registry) own
-          (started_kept opened.nodes opened.node opened.next opened.promise registry c.in-Ok.state
-          (subst P (c.entries-entries.ensures.value ∙ c.promise.ensures) c.entries-entries.ensures.ascending) (omega arith) c.in-Ok-registry_of_prefix.ensures.ok c.in-Ok.ensures.ok),
-      subst (λ (x : NodeState). IsSearched 0 false x) own (not_searched c.in-Ok.state),
+          (started_kept opened.nodes opened.node opened.next opened.promise registry c.in_ok-state.state
+          (subst P (c.entries-entries.ensures.value ∙ c.promise.ensures) c.entries-entries.ensures.ascending) (omega arith) c.in-Ok.ensures.ok c.in_ok-state.ensures.ok),
+      subst (λ (x : NodeState). IsSearched 0 false x) own (not_searched c.in_ok-state.state),
     )
