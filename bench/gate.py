@@ -5,7 +5,8 @@
 
 What the command prints goes through. Times are those of the processes below it, seen five times a second: proofs are checks
 from nothing, edits what a crate's must-fail edits take with the check that they begin with, programs what builds and runs
-programs and tests. What lies below no crate, as reading the sources, is in the last row."""
+programs and tests. What comes before `rt ci` has a row of its own. What lies below no crate, as reading the sources, is in
+the last rows alone."""
 import collections
 import os
 import re
@@ -16,6 +17,7 @@ import time
 
 TICK = os.sysconf("SC_CLK_TCK")
 KINDS = ("proofs", "tests", "edits", "programs")
+BEFORE = ("before rt ci", "programs")
 
 
 def processes():
@@ -29,12 +31,24 @@ def processes():
         yield int(pid), int(fields[1]), fields[19], (int(fields[11]) + int(fields[12])) / TICK
 
 
-def crate_and_kind(pid):
+def words_of(pid):
+    """Gives the command line of a process; none if it has ended."""
+    try:
+        with open(f"/proc/{pid}/cmdline") as file:
+            return file.read().split("\0")
+    except OSError:
+        return []
+
+
+def is_gate_of_kit(words):
+    """Whether this is the command line of `rt ci`."""
+    return "ci" in words and any(os.path.basename(word) == "rt" for word in words)
+
+
+def crate_and_kind(pid, words):
     """Tells of a process which crate it works for, and at what."""
     try:
         folder = os.readlink(f"/proc/{pid}/cwd")
-        with open(f"/proc/{pid}/cmdline") as file:
-            words = file.read().split("\0")
     except OSError:
         return None
     ran = re.search(r"/rt-run-[^/]*/bin/(\w+)", " ".join(words))
@@ -53,7 +67,7 @@ def crate_and_kind(pid):
 
 def watch(command):
     """Runs the command and gives its status, the processor seconds by crate and kind, and all of them."""
-    spent, known, parents = {}, {}, {}
+    spent, known, parents, has_begun = {}, {}, {}, False
     started = subprocess.Popen(command)
     while started.poll() is None:
         seen = list(processes())
@@ -65,7 +79,10 @@ def watch(command):
             if above != started.pid:
                 continue
             if known.get((pid, start)) is None:
-                known[pid, start] = crate_and_kind(pid)
+                words = words_of(pid)
+                has_begun = has_begun or is_gate_of_kit(words)
+                # (the command itself becomes `rt ci`, and works for no crate)
+                known[pid, start] = None if pid == started.pid else crate_and_kind(pid, words) if has_begun else BEFORE
             spent[pid, start] = seconds
         time.sleep(0.2)
     used = resource.getrusage(resource.RUSAGE_CHILDREN)

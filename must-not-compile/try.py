@@ -1,7 +1,9 @@
 #!/usr/bin/env python3
-"""Tries the edits beside it, each on a copy of the repository: the compiler must refuse each with its error.
+"""Tries the edits beside it, each on a copy of the repository, side by side: the compiler must refuse each with its error.
 
 The gate can't try them: its must-fail edits have to compile, and it is the prover that refuses those."""
+import concurrent.futures
+import os
 import pathlib
 import re
 import subprocess
@@ -24,7 +26,7 @@ def refused(edit):
         if source.count(field(text, "old")) != 1:
             return "its old text doesn't stand there once"
         path.write_text(source.replace(field(text, "old"), field(text, "new")))
-        # the program, or a crate of tests where an edit names one
+        # the program, or the crate of tests that an edit names, which is smaller
         tests = re.search(r"^crate: (.*)$", text, re.MULTILINE)
         command = ["rt", "try", "--test"] if tests else ["rt", "try", "--", "--version"]
         crate = pathlib.Path(copy) / "crates" / (tests.group(1) if tests else "rr")
@@ -35,8 +37,9 @@ def refused(edit):
 
 
 failed = 0
-for edit in sorted(FOLDER.glob("*.edit")):
-    fault = refused(edit)
-    failed += fault is not None
-    print(edit.stem, "refused" if fault is None else fault, flush=True)
+edits = sorted(FOLDER.glob("*.edit"))
+with concurrent.futures.ThreadPoolExecutor(len(os.sched_getaffinity(0))) as pool:
+    for edit, fault in zip(edits, pool.map(refused, edits)):
+        failed += fault is not None
+        print(edit.stem, "refused" if fault is None else fault, flush=True)
 sys.exit(failed != 0)
