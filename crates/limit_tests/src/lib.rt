@@ -1,5 +1,5 @@
-//! Refusals at limits that no schedule comes near: a node is started over an area that stands there. The areas are
-//! spelled by hand, and what is expected follows from the rules.
+//! Refusals at limits that no schedule comes near. A node opens over an area whose bytes are written by hand. What is expected
+//! follows from the rules.
 #![tactic(auto)]
 
 #[cfg(test)]

@@ -99,7 +99,7 @@ fn make_unreadable<R: Files + AllocGlobal + Abort>(rt: &R, folder: &str) {
     );
 }
 
-/// A file that may not be read is a fault of the device. Whoever may read any file sees nothing of that.
+/// A file that may not be read is a fault of the device. A user who may read any file sees nothing of that.
 #[test]
 fn tells_a_file_that_may_not_be_read(rt: HostRuntime) {
     let folder = "rr_cli_not_readable";

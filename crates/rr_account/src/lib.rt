@@ -1,5 +1,7 @@
-//! The account of a run: what came of each event of its schedule, and its report. It is told with reasons, as JSON, in
-//! counts, and by where it first differs from another report.
+//! The account of a run: what came of each event of its schedule, and its report. `account_on` makes one from bytes, `watch`
+//! from a schedule. `explanation`, `json_report` and `json_explanation` print it. `statistics_of` counts, for
+//! `statistics_table` or `json_statistics`. `difference_of` says where two texts first differ, and `push_difference` tells it
+//! in words.
 #![tactic(auto)]
 
 mod account;

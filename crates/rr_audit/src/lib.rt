@@ -1,5 +1,5 @@
 //! The auditor of tapes: whether what a tape records is what nodes of the world do, event by event. `audit` says yes or no of a
-//! tape, `examine` also what the world gives in the place of an event, and `audit_on` does so while the text is read.
+//! tape, `examine` also what the world gives in the place of an event, and `audit_on` does the same while the text is read.
 #![tactic(auto)]
 
 mod auditing;

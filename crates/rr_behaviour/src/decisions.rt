@@ -1,4 +1,4 @@
-//! Decisions: the node takes one and owes it to each other node; where it has one, it owes it to whoever needs it.
+//! Decisions: the node takes one and owes it to each other node; where it has one, it owes it to a node that needs it.
 
 ghost use Rattle.std.specs.Prelude.{◌≡◌, true, IfErr, OnOk};
 ghost use Rattle.rr_types.specs.declared.message.Body.TheVariants as say;

@@ -1,5 +1,6 @@
-//! What a node does, as changes to its state: at each input what the input does at once, and then all that is due. It enters and
-//! leaves rounds, proposes, adopts, decides, restates where its instances stand, and passes decisions on.
+//! What a node does, as functions on a step of its state. `started` gives the state after an opening. Then each input has a
+//! function: `submit_step`, `hear_step`, `tick_step`, `advance_step`, `suspect_step`. It does what the input asks, and then all
+//! that is due (`due.rt`). It gives `Changes`, and the node takes them on by `State::absorb` of `rr_step`.
 #![tactic(auto)]
 
 mod decisions;

@@ -1,4 +1,6 @@
-//! The program `rr`, from its words and standard input to its exit status.
+//! The commands of `rr`, except views (`rr_view`) and `rr run` (`rr_run`). `run` takes the words and the streams of a program,
+//! and gives its exit status. `execute` does it for words that could be read: `read_words` names the task, and a module here
+//! does it.
 #![tactic(auto)]
 
 mod audit;

@@ -270,7 +270,7 @@ impl Core {
         self.registry.reply(request)
     }
 
-    /// A law for whoever holds a core between its calls: each owed message is the node's own, and one that may
+    /// A law for the holder of a core between its calls: each owed message is the node's own, and one that may
     /// leave is free or backed by a marked fact. It does nothing when it runs.
     #[tactic(auto, using(crate::proofs::CoveredLemmas::all_covered))]
     pub fn leaves_covered(&self)
@@ -314,7 +314,7 @@ impl Core {
         self.state.instances.command_at(place.number() as usize)
     }
 
-    /// The command at a place of the decided prefix, for whoever goes over it by a count, of which not every number
+    /// The command at a place of the decided prefix, for a caller that goes over it by a count, of which not every number
     /// is an instance. It takes no memory.
     pub fn decided_at(&self, place: usize) -> Option<Command>
         ensures { result ≡ slice_get (decided_prefix self.now) place }

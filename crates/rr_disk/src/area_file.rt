@@ -14,21 +14,30 @@ pub trait AreaFile {
     ghost gives: { Self → Call → Self → Type 0 };
 
     /// Fills a buffer with the bytes from an offset on.
-    /// Errors: those of the file; the buffer may then hold any bytes.
+    ///
+    /// # Errors
+    /// Those of the file; the buffer may then hold any bytes.
     fn read_at(&mut self, at: u64, bytes: &mut [u8]) -> io::Result<()>
         ensures { gives self.old (reads at bytes.new (is_ok result)) self.new };
 
     /// Writes the bytes from an offset on.
-    /// Errors: those of the file; some of the bytes may then have been written.
+    ///
+    /// # Errors
+    /// Those of the file; some of the bytes may then have been written.
     fn write_at(&mut self, at: u64, bytes: &[u8]) -> io::Result<()>
         ensures { gives self.old (writes at bytes.now (is_ok result)) self.new };
 
     /// Makes what was written, and the length, last.
-    /// Errors: those of the file; what was written since the last sync may then be lost, though a read gives it.
+    ///
+    /// # Errors
+    /// Those of the file; what was written since the last sync may then be lost, though a read gives it.
     fn sync(&mut self) -> io::Result<()>
         ensures { gives self.old (syncs (is_ok result)) self.new };
 
-    /// The file's length. Errors: those of the file.
+    /// The file's length.
+    ///
+    /// # Errors
+    /// Those of the file.
     fn length(&self) -> io::Result<u64>;
 }
 

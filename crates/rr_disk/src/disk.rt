@@ -37,7 +37,9 @@ pub trait Disk {
     ghost sync_gives: { Self → Result (Unit {0}) Refusal → Self → Type 0 };
 
     /// The bytes of an area from an offset on: `count` of them, or as many as there are.
-    /// Errors: `OutOfMemory`, `Device`; nothing has changed then.
+    ///
+    /// # Errors
+    /// `OutOfMemory`, `Device`; nothing has changed then.
     fn read(&mut self, alloc: Global, area: Area, at: u64, count: u64) -> Result<Vec<u8>, Refusal>
         ensures bytes { tells self.old → IfOk result (λ v. v.items ≡ read_of at count (extent_of (areas self.old) area)) }
         ensures same { tells self.old → areas self.new ≡ areas self.old }
@@ -48,8 +50,10 @@ pub trait Disk {
         ensures exact { read_gives self.old area at count result self.new };
 
     /// Writes over what is there and past the end. The range is loose until the next sync.
-    /// Errors: `Device`, as of a write that starts past the end, which changes nothing. After any other
-    /// failed write the range may hold any bytes, and the area may have grown as far as its end.
+    ///
+    /// # Errors
+    /// `Device`, as of a write that starts past the end, which changes nothing. After any other failed write the range
+    /// may hold any bytes, and the area may have grown as far as its end.
     fn write_at(&mut self, area: Area, at: u64, bytes: &[u8]) -> Result<(), Refusal>
         ensures ok { tells self.old → OnOk result ((at ≤ length (extent_of (areas self.old) area).cells)
             × (areas self.new ≡ replaced (areas self.old) area (written at bytes.now (extent_of (areas self.old) area)))) }
@@ -62,7 +66,9 @@ pub trait Disk {
         ensures exact { write_gives self.old area at bytes.now result self.new };
 
     /// Makes nothing loose and the present lengths safe, in both areas.
-    /// Errors: `Device`; nothing has changed then.
+    ///
+    /// # Errors
+    /// `Device`; nothing has changed then.
     fn sync(&mut self) -> Result<(), Refusal>
         ensures ok { tells self.old → OnOk result (areas self.new ≡ synced (areas self.old)) }
         ensures err { tells self.old → OnErr result (areas self.new ≡ areas self.old) }

@@ -1,9 +1,9 @@
 //! Disks of two areas: what their device calls do, how often they were made and how often they failed, and
 //! what a crash may leave. A disk in memory, a disk of two files, and a disk whose calls fail on demand.
 //!
-//! After a write its range is loose: until the next sync, a crash may leave any bytes there. A sync makes
-//! nothing loose and the present lengths safe. A crash leaves of each area a length between the safe and the
-//! present one, and below it each byte that isn't loose.
+//! After a write (`write_at`) its range is loose: until the next `sync`, a crash may leave any bytes there. After a sync
+//! nothing is loose, and the present lengths are safe. A crash cuts an area no shorter than its safe length. It keeps each
+//! byte below the cut that isn't loose.
 #![tactic(auto)]
 
 mod area;

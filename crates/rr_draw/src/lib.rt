@@ -1,4 +1,5 @@
-//! A space-time diagram of a schedule's run, as an SVG text. Time goes down, and each node has a line.
+//! A space-time diagram of a schedule's run, as an SVG text. Time goes down, and each node has a line. `picture_of` reads the
+//! bytes of a schedule, runs it, and draws the events that a `Cut` names.
 #![tactic(auto)]
 
 mod cut;

@@ -1,4 +1,5 @@
-//! Faults of texts, told to people: where a schedule, a tape or a script is at fault, what stands there, and what may.
+//! Faults of texts, told to people. After parsing was refused, `print_schedule_fault`, `print_tape_fault` or
+//! `print_script_fault` prints one line. It says where the text is at fault, what is there, and what may be there.
 #![tactic(auto)]
 
 mod awaited;

@@ -3,6 +3,8 @@
 //! Numbers are big-endian. Bytes of versions 1 and 2 are read, and version 2 is written. A decoder answers with a
 //! value exactly where the bytes are its spelling in the version, and otherwise with the offset of the first field
 //! that is cut short or holds no lawful value.
+//! `encode_fact`, `encode_group` and `encode_snapshot` write; `decode_fact`, `decode_group` and `decode_snapshot` read a whole
+//! value.
 #![tactic(auto)]
 
 mod command;

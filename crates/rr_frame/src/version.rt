@@ -18,7 +18,7 @@ pub enum Version {
 }
 
 impl Version {
-    /// The byte that stands for it.
+    /// Its byte.
     pub fn number(self) -> u8
         ensures { result ≡ version_number self }
     {

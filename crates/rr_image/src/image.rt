@@ -1,4 +1,4 @@
-//! What the two areas of a disk stand for.
+//! What the two areas of a disk mean.
 
 ghost use Rattle.std.specs.Prelude.{◌≡◌, ◌≤◌, length, drop, IfOk, IfErr};
 ghost use Rattle.rr_image.specs.Image.{front_of, content_behind, active, found};
@@ -21,7 +21,7 @@ pub enum Front {
     Begins(Version, Content),
 }
 
-/// What the two areas stand for, where no fault is found.
+/// What the two areas mean, where no fault is found.
 #[derive(Debug, Drop)]
 pub enum Image {
     /// No area is formatted.
@@ -94,8 +94,10 @@ fn active(
     }
 }
 
-/// What the two areas of a node of so many nodes stand for. Errors: `OutOfMemory`; `Damaged` at the open
-/// gate that stands before bytes that are no lawful frame there.
+/// What the two areas of a node mean.
+///
+/// # Errors
+/// `OutOfMemory`; `Damaged` at the open gate that stands before bytes that are no lawful frame there.
 #[tactic(auto, unfolding(crate::specs::Image::found))]
 pub fn read_image(
     alloc: Global,

@@ -1,4 +1,4 @@
-//! What the areas of a disk tell to whoever only reads them.
+//! What the areas of a disk tell a reader.
 
 ghost use Rattle.std.specs.Prelude.{◌≡◌, ◌⊎◌, ◌^◌, ◌<◌, ◌≤◌, length, drop, Err, IfOk, IfErr, OnOk};
 ghost use Rattle.rr_types.specs.declared.refusal.Refusal.TheVariants.{OutOfMemory, Device};

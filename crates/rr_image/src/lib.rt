@@ -1,5 +1,6 @@
-//! What the two areas of a node's disk mean: which of them is active, which facts its bytes stand for, and where they
-//! are damaged. It reads bytes, and writes none.
+//! What the two areas of a node's disk mean: which is active, which facts its bytes hold, and where they are damaged. An
+//! opening calls `read_image` on both areas. `inspect` and `inspect_bytes` read each area as the node that its snapshot names.
+//! Nothing is written.
 #![tactic(auto)]
 
 mod content;

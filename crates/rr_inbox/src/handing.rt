@@ -69,8 +69,8 @@ pub fn hand_over<T: Drop>(alloc: Global) -> Result<(Giver<T>, Taker<T>), Refusal
 }
 
 impl<T: Drop> Giver<T> {
-    /// Gives a value. It comes back as `Full` only where at some moment of the call the value before it hadn't been
-    /// taken, or as `Disconnected`, where nobody takes any more.
+    /// Gives a value. It comes back as `Full` where the value before it hasn't been taken, or as `Disconnected`, where
+    /// nobody takes any more. Of `Full` the contract names such a history alone, as that of `Port::put` does.
     pub fn give<R: Wait>(&mut self, rt: &R, value: T) -> Result<(), TrySendError<T>>
         ensures given { OnOk result (Puts self.old value self.new) }
         ensures back { IfErr result (λ e. (try_send_message e ≡ value) × (self.new ≡ self.old) × (IsFull e → HasHeld 1 self.old)) }
@@ -81,7 +81,7 @@ impl<T: Drop> Giver<T> {
 }
 
 impl<T: Drop> Taker<T> {
-    /// Takes the oldest value. There is none only where at some moment of the call no value waited.
+    /// Takes the oldest value. There is none only where all that this end knows was given has been taken.
     pub fn take<R: Wait>(&mut self, rt: &R) -> Option<T>
         ensures { MatchOption result ((self.new ≡ self.old) × HasHeld 0 self.old) (λ value. Takes self.old value self.new) }
     {

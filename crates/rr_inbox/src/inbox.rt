@@ -85,7 +85,7 @@ impl<T: Drop> Outlet<T> {
         Ok(Port { inbox, pass })
     }
 
-    /// Takes the oldest message. There is none only where at some moment of the call no message waited.
+    /// Takes the oldest message. There is none only where all that this end knows was put has been taken.
     pub fn take<R: Wait>(&mut self, rt: &R) -> Option<T>
         ensures { MatchOption result ((self.new ≡ self.old) × HasHeld 0 self.old) (λ message. Takes self.old message self.new) }
     {
@@ -94,7 +94,8 @@ impl<T: Drop> Outlet<T> {
 }
 
 impl<T: Drop> Port<T> {
-    /// Puts a message behind all others. It comes back only where at some moment of the call 256 messages waited.
+    /// Puts a message behind all others. It comes back where 256 messages wait. The contract names such a history
+    /// alone, and nothing ties that to the queue.
     pub fn put<R: Wait>(&mut self, rt: &R, message: T) -> Result<(), T>
         ensures put { OnOk result (Puts self.old message self.new) }
         ensures back { IfErr result (λ back. (back ≡ message) × (self.new ≡ self.old) × HasHeld 256 self.old) }

@@ -9,8 +9,10 @@ use crate::journal::Journal;
 use rr_disk::{Area, Disk};
 use rr_types::Refusal;
 
-/// Writes to the journal's disk. Errors: `Failed` of a journal that has failed, and nothing has changed then;
-/// `Device`, of which the journal takes note.
+/// Writes to the journal's disk.
+///
+/// # Errors
+/// `Failed` of a journal that has failed, and nothing has changed then; `Device`, of which the journal takes note.
 pub fn write<D: Disk>(
     journal: &mut Journal<D>,
     area: Area,

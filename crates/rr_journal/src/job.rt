@@ -121,7 +121,9 @@ impl Job<Body> {
     }
 
     /// Writes the body behind the last gate, which it doesn't touch.
-    /// Errors: `Failed` of a journal that has failed, and nothing has changed then; `Device`, of which it takes note.
+    ///
+    /// # Errors
+    /// `Failed` of a journal that has failed, and nothing has changed then; `Device`, of which it takes note.
     pub fn step<D: Disk>(self, journal: &mut Journal<D>) -> Result<Job<BodyOut>, Refusal>
         ensures done { IfOk result (λ job. (job ≡ self) × (journal.old.failed ≡ false) × (journal.new ≡ record journal.old { disk = journal.new.disk })
             × D.write_gives journal.old.disk self.area (self.gate + 1) self.body (Ok tt) journal.new.disk) }

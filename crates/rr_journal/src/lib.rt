@@ -1,11 +1,17 @@
 //! The journal of a node: its facts on a disk of two areas, in groups behind a snapshot. The formatted area of the
-//! greatest epoch is active. An opening reads what a crash left, or formats a fresh disk; where the active area has
-//! version 1 it ends with a switch. A flush appends a group to the active area; a switch writes a snapshot of the facts
-//! to the other one, in version 2, which is active from then on.
+//! greatest epoch is active.
+//! 1. `Opening::step` reads what a crash left. It formats a blank disk, and migrates an area of version 1. `Journal::open`
+//!    makes all steps.
+//! 2. `Journal::begin` begins a flush. Four calls of `Job::step` append the group to the active area, and the last gives a
+//!    `Synced`.
+//! 3. `Journal::begin_snapshot` begins a switch. `SwitchJob::step` writes a snapshot to the other area, which is active from
+//!    then on.
+//!
+//! After a failed device call, take the disk (`into_disk`) and open it again.
 //!
 //! Behind a closed gate bytes mean nothing. So what a crash may leave holds the facts from before a flush until the
 //! gate is written, and those with the group's from the last sync on; between these, one or the other. A snapshot
-//! stands for the same facts, so that each crash in a switch leaves what was there before it.
+//! has the promise of the same facts, so each crash in a switch leaves what was there before it.
 #![tactic(auto)]
 
 mod call;

@@ -137,8 +137,10 @@ impl<D: Disk> Opening<D> {
     }
 
     /// Makes the next device call, where the node is one of its nodes. A refused opening hands its disk back.
-    /// Errors: `OutOfMemory`, `Device`; `Damaged`, of a disk that holds no facts; `TooLarge`, where an area of version 1
-    /// has no next epoch.
+    ///
+    /// # Errors
+    /// `OutOfMemory`, `Device`; `Damaged`, of a disk that holds no facts; `TooLarge`, where an area of version 1 has no
+    /// next epoch.
     pub fn step(self, alloc: Global) -> Result<Progress<D>, (Refusal, D)>
         requires { self.node < self.nodes }
         ensures exact { Steps D.read_gives D.write_gives D.sync_gives self result }
@@ -172,7 +174,9 @@ impl<D: Disk> Opening<D> {
 
     /// Makes all device calls that are left: the journal, and the end of its opening. A refused opening hands its
     /// disk back.
-    /// Errors: as of `step`.
+    ///
+    /// # Errors
+    /// As of `step`.
     pub fn finish(self, alloc: Global) -> Result<(Journal<D>, Opened), (Refusal, D)>
         requires { self.node < self.nodes }
         ensures calls { D.calls (disk_behind result) ≤ D.calls self.disk + calls_left (phase_of self.phase) }
@@ -210,8 +214,10 @@ impl<D: Disk> Opening<D> {
 impl<D: Disk> Journal<D> {
     /// Opens the disk of one of the nodes by all steps of an `Opening`: the journal, and the end of its opening. A
     /// refused opening hands its disk back.
-    /// Errors: `OutOfMemory`, `Device`; `Damaged`, of a disk that holds no facts; `TooLarge`, where an area of version 1
-    /// has no next epoch.
+    ///
+    /// # Errors
+    /// `OutOfMemory`, `Device`; `Damaged`, of a disk that holds no facts; `TooLarge`, where an area of version 1 has no
+    /// next epoch.
     pub fn open(
         alloc: Global,
         nodes: Nodes,

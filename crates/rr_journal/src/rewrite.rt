@@ -59,7 +59,9 @@ impl Rewrite {
     }
 
     /// Of a disk that isn't formatted, to an empty snapshot of epoch 1.
-    /// Errors: `OutOfMemory`.
+    ///
+    /// # Errors
+    /// `OutOfMemory`.
     pub fn formatting(
         alloc: Global,
         nodes: Nodes,
@@ -76,8 +78,9 @@ impl Rewrite {
     }
 
     /// Beside an area of version 1 with this content, to a snapshot of its promise with the next epoch.
-    /// Errors: `TooLarge` where there is no next epoch, or the snapshot would pass byte 4,294,967,295 of its area;
-    /// `OutOfMemory`.
+    ///
+    /// # Errors
+    /// `TooLarge` where there is no next epoch, or the snapshot would pass byte 4,294,967,295 of its area; `OutOfMemory`.
     pub fn migration(
         alloc: Global,
         nodes: Nodes,
@@ -126,7 +129,9 @@ impl Rewrite {
     }
 
     /// Makes the device call that is due.
-    /// Errors: `Device`.
+    ///
+    /// # Errors
+    /// `Device`.
     pub fn call<D: Disk>(&self, disk: &mut D) -> Result<(), Refusal>
         ensures due { writes_anew self.now.found ≡ true }
         ensures gave { Gave D.write_gives D.sync_gives (call_at (area_anew self.now.found) self.now.body self.now.stage) disk.old result disk.new }

@@ -26,8 +26,10 @@ const LARGEST_PAYLOAD: usize = 0xFFFF_FFFF - 6;
 impl<D: Disk> Journal<D> {
     /// Begins a switch to a snapshot of this promise of the synced facts in the area that isn't active. The promise
     /// is one that a snapshot of the node can hold, as the promise of its facts is.
-    /// Errors: `Failed` after a device failure, `Busy` while a job runs, `TooLarge` where the snapshot would pass
-    /// byte 4,294,967,295 of the area or its epoch 2^64 - 1, `OutOfMemory`. Nothing has changed then.
+    ///
+    /// # Errors
+    /// `Failed` after a device failure, `Busy` while a job runs, `TooLarge` where the snapshot would pass byte
+    /// 4,294,967,295 of the area or its epoch 2^64 - 1, `OutOfMemory`. Nothing has changed then.
     #[tactic(auto, using(crate::proofs::SwitchLaws::begins_of))]
     pub fn begin_snapshot(&mut self, alloc: Global, promise: Promise) -> Result<SwitchJob, Refusal>
         requires { IsSnapshot (snapshot_of self.old promise) }
@@ -86,7 +88,9 @@ pub(crate) fn beside(area: Area) -> Area
 }
 
 /// What stands behind the gate of a snapshot's frame.
-/// Errors: `TooLarge` where the frame would pass byte 4,294,967,295, `OutOfMemory`.
+///
+/// # Errors
+/// `TooLarge` where the frame would pass byte 4,294,967,295, `OutOfMemory`.
 fn snapshot_frame(
     alloc: Global,
     nodes: Nodes,

@@ -56,7 +56,9 @@ impl Stage {
     }
 
     /// Makes the device call that is due where this is written behind the gate of the area.
-    /// Errors: `Device`.
+    ///
+    /// # Errors
+    /// `Device`.
     pub fn call<D: Disk>(self, disk: &mut D, area: Area, body: &[u8]) -> Result<(), Refusal>
         ensures gave { Gave D.write_gives D.sync_gives (call_at area body.now self) disk.old result disk.new }
         ensures cause { IfErr result (λ e. (e ≡ Device) × Grew (D.faults disk.old) (D.faults disk.new)) }

@@ -131,7 +131,9 @@ impl SwitchJob {
 
     /// Makes the next device call. With the last one the other area is active, and the journal goes on there
     /// behind the snapshot.
-    /// Errors: `Failed` of a journal that has failed, and nothing has changed then; `Device`, of which it takes note.
+    ///
+    /// # Errors
+    /// `Failed` of a journal that has failed, and nothing has changed then; `Device`, of which it takes note.
     pub fn step<D: Disk>(self, journal: &mut Journal<D>) -> Result<Switching, Refusal>
         ensures done { IfOk result (λ s. (journal.old.failed ≡ false) × GoesOn self journal.old s journal.new
             × Gave D.write_gives D.sync_gives (due_call self) journal.old.disk (Ok tt) journal.new.disk) }

@@ -1,5 +1,6 @@
-//! The tables of a node's core: the instances and the promise of their marked facts, the commands that wait for
-//! an instance, and the requests that wait for their acknowledgement. No call costs more for what it leaves alone.
+//! The tables of a node's core. `Instances` has the rows and the promise of the marked facts: `absorb` puts rows, then `mark`
+//! marks facts. `Pool` has the commands that wait for an instance, `Waiting` the requests that wait for their acknowledgement.
+//! Of both, `push` adds, `take_back` undoes a push, and `remove` takes one out. No call costs more for what it leaves alone.
 #![tactic(auto)]
 
 mod arrivals;

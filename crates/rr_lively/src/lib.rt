@@ -1,5 +1,6 @@
-//! Lively schedules: random ones in which something happens. Each event is drawn among those that do something at that
-//! moment, made and told before the next.
+//! Lively schedules: random ones in which something happens. `lively_run` draws one and gives it with its report,
+//! `lively_schedule` gives it alone. An event is drawn among those that do something at that moment, or with a fault. It is
+//! made before the next is drawn.
 #![tactic(auto)]
 
 mod choosing;

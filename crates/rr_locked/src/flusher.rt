@@ -27,8 +27,10 @@ pub enum Unflushed {
 }
 
 /// The four device calls of a flush, the turnstile before each. Then each image that a crash may leave holds the facts
-/// from before with the group's, and where a call failed, these or the facts from before alone. Errors: `Failed` of a journal that has failed, and
-/// nothing has changed then; `Device`, of which the journal takes note.
+/// from before with the group's, and where a call failed, these or the facts from before alone.
+///
+/// # Errors
+/// `Failed` of a journal that has failed, and nothing has changed then; `Device`, of which the journal takes note.
 pub fn flush<D: Disk, T: Turnstile>(
     turnstile: &T,
     node: NodeId,

@@ -1,5 +1,7 @@
-//! What a node's threads share, and what each of them does in one turn: calls that wait for nobody. The threads
-//! themselves are made elsewhere.
+//! What a node's threads share, and what each does in a turn; `rr_threads` has the loops. `Locked` is a core under its lock:
+//! clients call `submit`, the node's loop `hear`, `mark`, `take_group`, `next_message`, `tick` and `advance`. `carry` flushes a
+//! group, and `follow` takes what is decided to a publisher. The calls named `.._on` also note their event on the tape
+//! (`Recording`).
 #![tactic(auto)]
 
 mod among;

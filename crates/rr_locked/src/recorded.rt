@@ -1,4 +1,4 @@
-//! Each event of a node together with its record. Whoever is lent the node and the tape makes both in one section, so
+//! Each event of a node together with its record. A caller that holds the node and the tape makes both in one section, so
 //! that the tape has the events of all nodes as they were made.
 //!
 //! Where an event was made and couldn't be recorded, the tape has no place for it, and the run ends.

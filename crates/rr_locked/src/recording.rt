@@ -59,8 +59,11 @@ impl Recording {
         self.sent
     }
 
-    /// One more event. After an error nothing has changed. Errors: `OutOfMemory`; `BadEvent` of the line that the event
-    /// would have, where the tape has a million events or the event isn't of its nodes.
+    /// One more event. After an error nothing has changed.
+    ///
+    /// # Errors
+    /// `OutOfMemory`; `BadEvent` of the line that the event would have, where the tape has a million events or the event
+    /// isn't of its nodes.
     #[tactic(auto, using(crate::proofs::Counting::sent_few))]
     pub fn note(&mut self, event: &TapeEvent) -> Result<(), Refusal>
         ensures ok { OnOk result (self.new ≡ with_event self.old event.now) }

@@ -1,4 +1,4 @@
-//! Places at which whoever watches a run may hold it up.
+//! Places at which an observer may hold a run up.
 
 use rr_types::NodeId;
 
@@ -11,7 +11,7 @@ pub enum Place {
     AfterSubmit,
 }
 
-/// What is passed at each place of each node. It may hold up whoever passes.
+/// What is passed at each place of each node. It may hold up the thread that passes.
 pub trait Turnstile {
     fn pass(&self, node: NodeId, place: Place);
 }

@@ -1,5 +1,6 @@
-//! The world of the replicated registry: nodes that crash and restart, messages that are lost, repeated
-//! and reordered, and what stays true through every run of it.
+//! The model: the world, in which nodes crash and messages are lost, repeated and reordered; what a sound run is; and what a
+//! node does. `agreement` says that every run of 1 to 7 nodes is sound. A node is defined in `specs/NodeStep.antt`.
+//! `laws_of_nodes` ties it to the world. The functions here do nothing: their contracts are the theorems.
 #![tactic(auto)]
 
 ghost use Rattle.std.specs.Prelude.{◌≡◌, ℕ, ◌≤◌, Bool, List, [], ◌∷◌, ◌++◌, ◌↔◌, Option, None, Some, IsTrue};

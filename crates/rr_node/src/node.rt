@@ -86,7 +86,9 @@ impl Node {
     /// An event at the node, with at most one device call, and none but by a `Device` event. A refused event leaves
     /// the node as it was, but for a device call: an opening that is refused ends, and a node whose flush fails has
     /// failed.
-    /// Errors: `OutOfMemory`, `Device`, `Damaged`, `Failed`, `Down`, `ListFull`, `RoundsOut`, `Busy`, `TooLarge`.
+    ///
+    /// # Errors
+    /// `OutOfMemory`, `Device`, `Damaged`, `Failed`, `Down`, `ListFull`, `RoundsOut`, `Busy`, `TooLarge`.
     pub fn step(&mut self, alloc: Global, event: &NodeEvent) -> Result<Outcome, Refusal>
         ensures gives { Gives event.now self.old result self.new }
         ensures one_call { AtMostOneCall self.old self.new }
@@ -102,7 +104,9 @@ impl Node {
     /// An event that gives nothing but, perhaps, a refusal: any but a send and an acknowledgement, at a node that is up.
     /// `None`: it may give more, so it is `step`'s, and the node stays as it was. It is `step` without the cost of an
     /// `Outcome`.
-    /// Errors: `OutOfMemory`, `Device`, `ListFull`, `RoundsOut`, `Busy`, `TooLarge`.
+    ///
+    /// # Errors
+    /// `OutOfMemory`, `Device`, `ListFull`, `RoundsOut`, `Busy`, `TooLarge`.
     pub fn step_quietly(&mut self, alloc: Global, event: &NodeEvent) -> Option<Result<(), Refusal>>
         ensures taken { is_some result ≡ is_quiet event.now self.old.doing }
         ensures gives { IfSome result (λ answer. Gives event.now self.old (quiet answer) self.new) }

@@ -1,6 +1,7 @@
-//! What a node owes and has promised, and which of it may leave. Facts are staged, run as a group, staged again, or gone once
-//! they are marked. A draft of a message waits for the fact that backs it; only a message that is free, or that a mark of its
-//! sender covers, can be cleared, and only a cleared one is handed out.
+//! What a node owes and has promised, and which of it may leave. `Unmarked` has the facts: `push_all` stages them, `run` makes
+//! a group of the oldest, `put_back` or `drop_running` ends it. `Outbox` has the messages: `owe_all` adds, `take_leaving` gives
+//! the oldest that is free or whose fact the `Mark` covers. It comes as a `Cleared`: only `Draft::clear` and `Cleared::free`
+//! make one.
 #![tactic(auto)]
 
 mod cleared;

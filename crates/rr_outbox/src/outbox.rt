@@ -124,7 +124,7 @@ impl Outbox {
         extend(&mut self.owed, more)
     }
 
-    /// A law for whoever holds an outbox: each message is the node's own, and free where no fact backs it. It does
+    /// A law for the holder of an outbox: each message is the node's own, and free where no fact backs it. It does
     /// nothing when it runs.
     pub fn owes_own(&self)
         ensures { All (IsOwn self.now.node) self.now.owed }

@@ -1,5 +1,5 @@
-//! Maps in which a key may have a place before it has a value: what needs memory comes first, and what is then
-//! written needs none.
+//! Maps in which a key may have a place before it has a value. `make_place` comes first and may need memory. `put` then writes
+//! the value and needs none. `insert` does both, and `drop_free_place` takes a place without a value away.
 #![tactic(auto)]
 
 mod numbered;

@@ -24,8 +24,10 @@ use std::alloc::Global;
 
 /// Opens one of the nodes by all steps of an opening, over a kind of disk that tells its bytes always or never: its core, and the
 /// areas of its disk. A refused opening hands its disk back.
-/// Errors: `OutOfMemory`; `Device`, where a device call failed; `Damaged`, of a disk that holds no facts; `TooLarge`, where
-/// an area of version 1 has no next epoch.
+///
+/// # Errors
+/// `OutOfMemory`; `Device`, where a device call failed; `Damaged`, of a disk that holds no facts; `TooLarge`, where an
+/// area of version 1 has no next epoch.
 pub fn recover<D: Disk>(
     alloc: Global,
     nodes: Nodes,

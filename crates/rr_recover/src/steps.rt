@@ -32,8 +32,10 @@ pub enum Progress<D: Disk> {
 impl<D: Disk> Opening<D> {
     /// Makes the next device call. At the end the core starts from the promise of the facts that the disk holds. A
     /// refused opening hands its disk back.
-    /// Errors: `OutOfMemory`, `Device`; `Damaged`, of a disk that holds no facts; `TooLarge`, where an area of version 1 has
-    /// no next epoch.
+    ///
+    /// # Errors
+    /// `OutOfMemory`, `Device`; `Damaged`, of a disk that holds no facts; `TooLarge`, where an area of version 1 has no
+    /// next epoch.
     pub fn step(self, alloc: Global) -> Result<Progress<D>, (Refusal, D)>
         ensures exact { Recovers D.read_gives D.write_gives D.sync_gives self result }
         ensures core { IfOk result (λ progress. StartsAtEnd progress) }

@@ -1,5 +1,6 @@
-//! The replicated registry of names, with the replies to its commands: each request is applied once,
-//! and whoever repeats it gets the reply that was kept.
+//! The replicated registry of names, with the replies to its commands. `apply` and `apply_all` take the commands in the order
+//! of the list. Each request is applied once: a repeat changes nothing, and `reply` gives the kept reply. `entry` and `entries`
+//! look names up.
 #![tactic(auto)]
 
 mod entries;

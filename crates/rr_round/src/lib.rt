@@ -1,5 +1,6 @@
-//! An instance over its rounds: where it stands, which facts back its messages, and what the coordinator of its present round
-//! has heard, the estimates, acknowledgements and refusals of distinct senders.
+//! An instance over its rounds. A `Row` says where it stands and which facts back its messages. `fresh` or `promised` makes it,
+//! `after` or `advance` takes a fact on. Its `Tally` is what the coordinator heard: `keep_estimate`, `keep_ack`, `keep_nack`.
+//! Then `pick`, `is_acknowledged` and `is_answered` say whether a majority has spoken.
 #![tactic(auto)]
 
 ghost use Rattle.std.specs.Prelude.{List};

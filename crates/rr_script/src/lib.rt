@@ -1,4 +1,5 @@
-//! The texts of scripts, which say what clients ask of nodes that run in threads, and of the answers.
+//! The texts of scripts, which say what clients ask of nodes in threads, and of the answers. `Script::parse` reads a script,
+//! `lines` gives what is asked. `Answers::new` and `text` print what was answered.
 #![tactic(auto)]
 
 mod answer;

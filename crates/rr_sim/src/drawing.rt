@@ -23,7 +23,9 @@ const CALLS_OF_AN_OPENING: usize = 9;
 /// A random schedule: each node opens, and then come `steps` events, each drawn from two words of the generator of
 /// this seed and from the wire as the run has it by then. The same words give the same schedule, unless memory is
 /// wanting for a write that fails. Who watches `out` is told how far it is; `out` takes nothing.
-/// Errors: `OutOfMemory`, also where memory is wanting for any other event of the run.
+///
+/// # Errors
+/// `OutOfMemory`, also where memory is wanting for any other event of the run.
 #[tactic(auto, using(crate::proofs::DrawingLemmas::openings_count))]
 pub fn random<O: Sink>(
     alloc: Global,

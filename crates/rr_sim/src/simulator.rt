@@ -17,8 +17,10 @@ use std::alloc::Global;
 /// Runs a schedule on `nodes` nodes that are all down at first, over empty disks, and reports what comes of it.
 /// In the decided list, a command that was acknowledged before another was first submitted stands before it.
 /// A report in which no line refuses for want of memory or by the device is the only such one of its schedule.
-/// Errors: `BadNodes` outside 1 to 7; `BadEvent` of the line of the first event whose node isn't there;
-/// `OutOfMemory` where the wire or the report can't grow. On as many nodes as the schedule has it is `OutOfMemory` alone.
+///
+/// # Errors
+/// `BadNodes` outside 1 to 7; `BadEvent` of the line of the first event whose node isn't there; `OutOfMemory` where the
+/// wire or the report can't grow. On as many nodes as the schedule has it is `OutOfMemory` alone.
 #[tactic(auto, using(crate::proofs::ScheduleLaws::no_fault))]
 pub fn simulate(alloc: Global, nodes: u8, schedule: &Schedule) -> Result<Report, Refusal>
     ensures bad_nodes { IsErrOf result Refusal.BadNodes ↔ ((nodes < 1) ⊎ (7 < nodes)) }

@@ -1,5 +1,6 @@
-//! The state of a node that is up, and a step over it: what the node was before, borrowed, and beside it what the
-//! step has changed.
+//! A step of a node. `Step::new` borrows the `State`. Look-ups see the node as the step has left it by then, and changes
+//! (`stage`, `owe`, `pool_add`) are collected beside it. `into_changes` gives them, and `State::absorb` takes on all or none. A
+//! refused step is dropped.
 #![tactic(auto)]
 
 mod absorb;

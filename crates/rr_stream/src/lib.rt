@@ -1,4 +1,5 @@
-//! The streams of a program, whose failed calls are counted: printing all of a text, reading all of an input.
+//! The streams of a program, whose failed calls are counted. `Counted` makes one of a stream of the standard library.
+//! `print_all` prints a text and flushes it, `read_all` reads what an input has left, `tell_step` says how far a long work is.
 #![tactic(auto)]
 
 mod counted;

@@ -17,7 +17,9 @@ pub trait Sink {
     ghost printing: { Self → Printing };
 
     /// Takes a front of the bytes, and says how many: at least one, unless there are none.
-    /// Errors: those of the stream; nothing is taken then.
+    ///
+    /// # Errors
+    /// Those of the stream; nothing is taken then.
     fn write(&mut self, bytes: &[u8]) -> io::Result<usize>
         ensures bound { WritesAtMost result bytes.now }
         ensures some { IfOk result (λ n. 0 < length bytes.now → 0 < n) }
@@ -27,7 +29,10 @@ pub trait Sink {
         ensures faults { (printing self.old).faults ≤ (printing self.new).faults }
         ensures retried { IfErr result (λ e. error_kind e ≢ ErrorKind.Interrupted) };
 
-    /// Hands on all that was taken. Errors: those of the stream.
+    /// Passes on all that was taken.
+    ///
+    /// # Errors
+    /// Those of the stream.
     fn flush(&mut self) -> io::Result<()>
         ensures bytes { Keeps (printing self.old).contents (printing self.new).contents }
         ensures done { OnOk result ((printing self.new).flushed ≡ true) }
@@ -49,7 +54,9 @@ pub trait Source {
 
     /// Puts the next bytes into the front of `room`, and says how many: none only at the end of the stream, or where
     /// there is no room.
-    /// Errors: those of the stream; nothing is read then.
+    ///
+    /// # Errors
+    /// Those of the stream; nothing is read then.
     fn read(&mut self, room: &mut [u8]) -> io::Result<usize>
         ensures bound { ReadsAtMost result room.new }
         ensures bytes { ReadConsumes (reading self.old).remaining (reading self.new).remaining result room.new }

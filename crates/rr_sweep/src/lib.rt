@@ -2,6 +2,7 @@
 //!
 //! The schedule is run once. At a call the disk of the node is copied for each crash, and opened alone: all else of the
 //! node is lost in the crash, and no other node hears of it.
+//! `sweep` does all of it. `Sweeping::new` and `step` do it event by event, and `push_sweep_lines` prints the lines.
 #![tactic(auto)]
 
 mod ending;

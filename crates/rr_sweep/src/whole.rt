@@ -28,8 +28,10 @@ pub fn swept_too_far(events: &[Event]) -> Option<Refusal>
 /// Sweeps a schedule on `nodes` nodes that are all down at first, over empty disks. For each of its device calls, in order,
 /// and each ending it gives a line: what the node restarts with after a crash that ends the call so. Each line is the last one
 /// of the report on the events up to the call, the crash and the opening of the node.
-/// Errors: `BadNodes` outside 1 to 7; `BadEvent` of the line of the first event whose node isn't there, else of line
-/// 999,991 where there are more than 999,989 events; `OutOfMemory`, also where memory is wanting for an event or an opening.
+///
+/// # Errors
+/// `BadNodes` outside 1 to 7; `BadEvent` of the line of the first event whose node isn't there, else of line 999,991
+/// where there are more than 999,989 events; `OutOfMemory`, also where memory is wanting for an event or an opening.
 pub fn sweep(
     alloc: Global,
     nodes: u8,

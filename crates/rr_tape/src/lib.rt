@@ -1,4 +1,5 @@
-//! The texts of tapes: what a cluster whose nodes keep everything did, event by event.
+//! The texts of tapes: what a cluster whose nodes keep everything did, event by event. `Tape::parse` reads a whole one.
+//! `next_tape_event` reads a line, after `first_line` of `rr_text`. `Tape::text` prints one.
 #![tactic(auto)]
 
 mod message_read;

@@ -1,4 +1,5 @@
-//! The texts of schedules and reports.
+//! The texts of schedules and reports. `Schedule::parse` reads a whole schedule. `first_line`, and then `next_event` again and
+//! again, read it line by line. `Schedule::text` and `Report::text` print.
 #![tactic(auto)]
 
 mod command_laws;

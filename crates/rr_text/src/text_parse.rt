@@ -225,7 +225,7 @@ pub fn fields(
     }
 }
 
-// What the first word of a line stands for, and the text behind it.
+// What the first word of a line means, and the text behind it.
 #[inline(always)]
 fn first_keyword(text: &[u8]) -> Option<(Keyword, &[u8])>
     ensures { (n : ℕ) → MatchOption result (event_at n text.now ≡ None) (λ x. event_at n text.now ≡ fields_at n x.0 x.1.now) }

@@ -258,7 +258,7 @@ pub fn submitted(text: &[u8]) -> Option<Command>
     })
 }
 
-// The event that one of the four longest words stands for.
+// The event that one of the four longest words means.
 fn long_keyword(word: &[u8]) -> Option<Keyword>
     ensures { result ≡ find_by keyword_text word.now (Keyword.Submit ∷ Keyword.Suspect ∷ Keyword.Advance ∷ Keyword.Restart ∷ []) }
 {
@@ -275,7 +275,7 @@ fn long_keyword(word: &[u8]) -> Option<Keyword>
     }
 }
 
-// The event that one of the other words stands for. Patterns look at the first byte, and not at one word after another.
+// The event that one of the other words means. Patterns look at the first byte, and not at one word after another.
 fn short_keyword(word: &[u8]) -> Option<Keyword>
     ensures { result ≡ find_by keyword_text word.now (Keyword.Hear ∷ Keyword.Tick ∷ Keyword.Take ∷ Keyword.Device ∷ Keyword.Fail ∷ Keyword.Mark ∷ Keyword.Send ∷ Keyword.Ack ∷ Keyword.Snap ∷ Keyword.Crash ∷ []) }
 {
@@ -294,7 +294,7 @@ fn short_keyword(word: &[u8]) -> Option<Keyword>
     }
 }
 
-/// The event that a word stands for.
+/// The event that a word means.
 #[tactic(auto, using(crate::proofs::Keywords::long_words, crate::proofs::Keywords::short_words))]
 pub fn keyword(word: &[u8]) -> Option<Keyword>
     ensures { result ≡ keyword_at word.now }

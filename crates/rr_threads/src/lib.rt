@@ -1,5 +1,7 @@
-//! Nodes in threads. Each node has three, and one for each of its clients: one hears, marks, sends and ticks, one flushes, one
-//! publishes. Nodes send to one another through inboxes.
+//! Nodes in threads. `run_clients` opens the disks, runs the nodes and your clients, and returns once every `Client::run` has.
+//! `run_script` does it for a script. A client asks by its `Handle`: `submit`, `look`, `ask`. Each node has three threads, and
+//! one for each client: one hears, marks, takes groups, sends and ticks; one flushes; one publishes. Nodes send to one another
+//! through inboxes.
 #![tactic(auto)]
 
 mod client;

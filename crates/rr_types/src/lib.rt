@@ -1,7 +1,7 @@
 //! The vocabulary of a replicated name registry: nodes, rounds and instances, names and values,
 //! commands and replies, facts, promises and messages, and the refusals of every call.
 //!
-//! Each type keeps its range: whoever holds a `Round` holds a number from 1 to 2,147,483,647. Contracts
+//! Each type keeps its range: a `Round` is always a number from 1 to 2,147,483,647. Contracts
 //! see numbers as numbers, names and values as lists of bytes, and the rest as the record or the variant.
 #![tactic(auto)]
 

@@ -1,5 +1,5 @@
-//! Views of the run of a schedule: with reasons, as JSON, in counts, and beside another report. All other commands are
-//! those of `rr_cli`.
+//! Views of the run of a schedule: `rr sim --explain` and `--json`, `rr stats`, `rr check`. `execute` does a view, and passes
+//! every other command to `rr_cli`.
 #![tactic(auto)]
 
 mod input;

@@ -6,6 +6,7 @@
 //!
 //! Contracts see a window's list as its commands. Nothing stores them: readers are served a registry, beside the
 //! length of the beginning of the list of which it is the registry.
+//! At the end the publisher is closed (`close`).
 #![tactic(auto)]
 
 mod addition;

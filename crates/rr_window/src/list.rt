@@ -29,7 +29,7 @@ impl Rule<Command, u64> for Counted {
     ghost moves = { λ ask before after answer. Unit {0} };
 }
 
-/// Whoever takes a step on the list trades nothing for it.
+/// A step on the list trades nothing for it.
 pub struct Nothing;
 
 impl Gain<Command, u64> for Nothing {

@@ -1,4 +1,5 @@
-//! What the words of the program `rr` ask for: its command line, and the task that words name.
+//! What the words of `rr` ask for. `read_words` reads them by the command line (`lines.rt`). It gives the task (`tasks.rt`), or
+//! what `clap` answers.
 #![tactic(auto)]
 
 mod helps;

@@ -45,7 +45,7 @@ pub enum Form {
     Json,
 }
 
-/// What is shown of the run of a schedule. A file that is none stands for standard input.
+/// What is shown of the run of a schedule. A file that is none means standard input.
 #[derive(Clone, Copy, Debug, PartialEq, Eq)]
 pub enum View<'a> {
     /// `rr sim --json [FILE]`: its report, an object a line.
@@ -86,7 +86,7 @@ pub enum Task<'a> {
     Migrate(Option<&'a str>, Option<&'a str>, Option<&'a str>),
 }
 
-// The file that a word names. None stands for standard input: the word is a hyphen or isn't there.
+// The file that a word names. None means standard input: the word is a hyphen or isn't there.
 fn file_of(word: Option<&str>) -> Option<&str>
     ensures { option_map (λ s. s.now) result ≡ file_of (option_map (λ s. s.now) word.entry) }
 {

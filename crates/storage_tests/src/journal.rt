@@ -60,7 +60,7 @@ pub fn put_at(bytes: &mut [u8], place: usize, byte: u8) {
     }
 }
 
-/// What two areas stand for to node 0 of 1.
+/// What two areas mean to node 0 of 1.
 pub fn opened(alloc: Global, first: &[u8], second: &[u8]) -> Result<Image, Refusal> {
     let nodes = Nodes::new(1)?;
     let node = NodeId::new(nodes, 0).ok_or(Refusal::BadNodes)?;
