@@ -86,7 +86,7 @@ TOUR = [
         "A registry to talk to",
         "`rr shell` answers line by line, to a person or through a pipe. What it answered holds after a restart, and request numbers go on.",
         [
-            "printf 'claim printer room-4\\nat 1\\nlook printer\\nupdate printer room-5\\nclaim A\\n' | rr shell --nodes 3 --dir talk --client 7",
+            "printf 'claim printer room-4\\nlook printer\\nupdate printer room-5\\nat 1\\nclaim printer\\nclaim A\\n' | rr shell --nodes 3 --dir talk --client 7",
             "printf 'look printer\\ntransfer printer 9\\nrelease printer\\n' | rr shell --nodes 3 --dir talk --client 7; cat talk/requests",
             "printf 104857 > talk/requests; echo 'look printer' | rr shell --nodes 3 --dir talk",
         ],
