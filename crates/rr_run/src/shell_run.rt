@@ -1,4 +1,4 @@
-//! `rr shell`: nodes in threads, and in the program's own thread the talk with whoever writes its standard input.
+//! `rr shell`: nodes in threads, and in the program's own thread the talk with the person or program at its standard input.
 
 ghost use Rattle.std.specs.Prelude.{◌≡◌, ◌⊎◌, ℕ, length, IfOk, IfSome, option_map};
 ghost use Rattle.std.specs.Io.KnownBytes.{Keeps};

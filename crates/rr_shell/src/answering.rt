@@ -9,16 +9,22 @@ use rr_types::{Name, NodeId, Op, Refusal};
 /// Nodes that a shell asks.
 pub trait Asked {
     /// Waits until they can be asked.
-    /// Errors: why they can't be.
+    ///
+    /// # Errors
+    /// Why they can't be.
     fn wait_until_ready(&mut self) -> Result<(), Refusal>;
 
     /// Submits an operation at a node under a request number of its own, and waits for the reply.
-    /// Errors: why the nodes can't be asked any more.
+    ///
+    /// # Errors
+    /// Why the nodes can't be asked any more.
     fn submit(&mut self, node: NodeId, op: &Op) -> Result<Answer, Refusal>
         ensures { IfOk result (λ a. is_reply_at node a ≡ true) };
 
     /// Looks at a name at a node.
-    /// Errors: why the nodes can't be asked any more.
+    ///
+    /// # Errors
+    /// Why the nodes can't be asked any more.
     fn look(&mut self, node: NodeId, name: &Name) -> Result<Answer, Refusal>
         ensures { IfOk result (λ a. is_sight_at node name.now a ≡ true) };
 }

@@ -23,7 +23,7 @@ pub enum Heard {
     End,
 }
 
-// The next byte, unless the input is at its end. What the shell doesn't hear is thus left for whoever reads the input next. No
+// The next byte, unless the input is at its end. What the shell doesn't hear is left for the next reader of the input. No
 // answer waits for a line behind the one that asks.
 fn next_byte<I: Source>(input: &mut I) -> io::Result<Option<u8>>
     ensures next { IfOk result (IsNextByte (I.reading input.old) (I.reading input.new)) }
