@@ -29,7 +29,7 @@ use Rattle.rr_image.specs.Inspect.{Tells, Breaks, inspected}
 use Rattle.rr_cli.specs.Areas.{areas_text}
 use Rattle.rr_cli.specs.Draws.{IsNumberIn, IsNumberOf, AreNumbers, IsDrawnText}
 use Rattle.rr_cli.specs.Cuts.{IsCutBy}
-use Rattle.rr_words.specs.Tasks.{CutWords, DrawWords, View, Task, Simulate, Viewing, Show, Draw, Audit, Run, Sweep, Picture, Migrate}
+use Rattle.rr_words.specs.Tasks.{CutWords, DrawWords, View, Task, Simulate, Viewing, Show, Draw, Audit, Run, Shell, Sweep, Picture, Migrate}
 use Rattle.rr_cli.specs.Migrations.{IsUnmigrated}
 use Rattle.rr_cli.specs.Refusals.{status_of}
 use Rattle.rr_cli.specs.Tapes.{yes_text}
@@ -171,3 +171,4 @@ pub data EndsBy (faults : Kinds) (task : Task) (from to : Reading) (status : ℕ
   by_migration : (folder of_node of_nodes : Option Text) → faults ≡ [] → task ≡ Migrate folder of_node of_nodes → EndsOnSeat folder of_node of_nodes status old new → EndsBy faults task from to status old new
   without_views : (view : View) → faults ≡ [] → task ≡ Viewing view → status ≡ 2 → new ≡ old → EndsBy faults task from to status old new
   without_threads : (nodes dir script tape : Option Text) → faults ≡ [] → task ≡ Run nodes dir script tape → status ≡ 2 → new ≡ old → EndsBy faults task from to status old new
+  without_shell : (nodes dir client : Option Text) → faults ≡ [] → task ≡ Shell nodes dir client → status ≡ 2 → new ≡ old → EndsBy faults task from to status old new

@@ -30,8 +30,8 @@ pub(crate) struct Draw {
     alone: bool,
 }
 
-// The number that a text writes, where it lies in the range.
-pub(crate) fn number_in(text: &str, least: u64, most: u64) -> Option<u64>
+/// The number that a text writes, where it lies in the range.
+pub fn number_in(text: &str, least: u64, most: u64) -> Option<u64>
     ensures some { IfSome result (λ n. IsNumberIn least most text.now n) }
     ensures none { result ≡ None → (n : ℕ) → IsNumberIn least most text.now n → ⊥ }
 {

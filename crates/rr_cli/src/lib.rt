@@ -13,7 +13,7 @@ mod streams;
 mod sweep;
 mod words;
 
-pub use draw::nodes_of;
+pub use draw::{nodes_of, number_in};
 pub use folder_faults::print_folder_fault;
 pub use migrate::migrate_disk;
 pub use program::{execute, run};
@@ -22,5 +22,5 @@ pub use rr_audit::audit_on;
 pub use rr_sim::{random_run, report_on};
 pub use rr_words::{CutWords, DrawWords, Form, Task, View, read_words};
 pub use show::show_disk;
-pub use streams::{end_by_stream, end_by_text, end_without_words};
+pub use streams::{end_by_stream, end_by_text, end_by_unprinted, end_without_words};
 pub use words::end_by_words;

@@ -14,7 +14,8 @@ use crate::picture::{picture_file, picture_input};
 use crate::refusals::end_by_schedule_fault;
 use crate::show::{end_without_folder, show_folder};
 use crate::streams::{
-    end_by_stream, end_by_text, end_without_threads, end_without_views, end_without_words,
+    end_by_stream, end_by_text, end_without_shell, end_without_threads, end_without_views,
+    end_without_words,
 };
 use crate::sweep::{end_without_seed, sweep_by_word, sweep_file};
 use crate::words::end_by_words;
@@ -91,6 +92,7 @@ pub fn execute<R: Files + AllocGlobal, S: AsStr, I: Source, O: Sink, E: Write>(
         Ok(Task::Audit(Some(path))) => audit_file(rt, path, out, err),
         Ok(Task::View(_)) => end_without_views(err),
         Ok(Task::Run(_, _, _, _)) => end_without_threads(err),
+        Ok(Task::Shell(_, _, _)) => end_without_shell(err),
         Ok(Task::Sweep(_, None)) => end_without_seed(err),
         Ok(Task::Sweep(None, Some(seed))) => {
             sweep_by_word(rt.alloc(), "standard input", seed, input, out, err)

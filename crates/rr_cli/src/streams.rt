@@ -23,7 +23,7 @@ pub fn end_by_text<O: Sink, E: Write>(out: &mut O, err: &mut E, text: &[u8]) -> 
 }
 
 /// Ends by standard output that fails: with 6 for want of memory, else with 5. Where its reader has gone, nothing is told.
-pub(crate) fn end_by_unprinted<E: Write>(err: &mut E, error: &io::Error) -> u8
+pub fn end_by_unprinted<E: Write>(err: &mut E, error: &io::Error) -> u8
     ensures memory { error_kind error.now ≡ ErrorKind.OutOfMemory → result ≡ 6 }
     ensures device { error_kind error.now ≢ ErrorKind.OutOfMemory → result ≡ 5 }
     ensures status { IsStreamStatus result }
@@ -73,5 +73,13 @@ pub(crate) fn end_without_threads<E: Write>(err: &mut E) -> u8
     ensures { result ≡ 2 }
 {
     let _ = writeln!(err, "rr: run: there are no threads");
+    2
+}
+
+// Ends where a shell is asked for of a program without threads.
+pub(crate) fn end_without_shell<E: Write>(err: &mut E) -> u8
+    ensures { result ≡ 2 }
+{
+    let _ = writeln!(err, "rr: shell: there are no threads");
     2
 }

@@ -3,7 +3,7 @@ use Rattle.std.proofs.Common.{◌≡◌, List, [], Option, subst}
 use Rattle.clap.specs.Words.{Text}
 use Rattle.clap.specs.Kinds.{Kinds, IsAmong}
 use Rattle.clap.specs.declared.error.kind.ErrorKind.{ErrorKind}
-use Rattle.rr_words.specs.Tasks.{CutWords, DrawWords, View, Simulate, Viewing, Show, Draw, Audit, Run, Sweep, Picture, Migrate}
+use Rattle.rr_words.specs.Tasks.{CutWords, DrawWords, View, Simulate, Viewing, Show, Draw, Audit, Run, Shell, Sweep, Picture, Migrate}
 
 -- no kind is among none
 pub none_among : (kind : ErrorKind) (kinds : Kinds) → IsAmong kind kinds → kinds ≡ [] → ⊥
@@ -23,6 +23,9 @@ no_audit file view is = absurd cc
 
 pub no_run : (nodes dir script tape : Option Text) (view : View) → Run nodes dir script tape ≡ Viewing view → ⊥
 no_run nodes dir script tape view is = absurd cc
+
+pub no_shell : (nodes dir client : Option Text) (view : View) → Shell nodes dir client ≡ Viewing view → ⊥
+no_shell nodes dir client view is = absurd cc
 
 pub no_sweep : (file seed : Option Text) (view : View) → Sweep file seed ≡ Viewing view → ⊥
 no_sweep file seed view is = absurd cc

@@ -16,11 +16,11 @@ use Rattle.rr_words.specs.Lines.{and_also, with_arg, with_version, audit_line, c
 use Rattle.rr_words.specs.Tasks.{Simulate, faults_of, found_in, task_by, task_of}
 
 is_simple_line : is_simple rr_line ≡ true
-unfolding clap_on_literals rr_line schedule_lines and_also with_arg with_version rr_settings sim_line stats_line check_line show_line numbers_line random_line audit_line run_line sweep_line draw_line migrate_line
+unfolding clap_on_literals rr_line schedule_lines and_also with_arg with_version rr_settings sim_line stats_line check_line show_line numbers_line random_line audit_line run_line shell_line sweep_line draw_line migrate_line
 is_simple_line = refl
 
 is_free_line : is_simple_and_free rr_line ≡ true
-unfolding clap_on_literals rr_line schedule_lines and_also with_arg with_version rr_settings sim_line stats_line check_line show_line numbers_line random_line audit_line run_line sweep_line draw_line migrate_line
+unfolding clap_on_literals rr_line schedule_lines and_also with_arg with_version rr_settings sim_line stats_line check_line show_line numbers_line random_line audit_line run_line shell_line sweep_line draw_line migrate_line
 is_free_line = refl
 
 -- what a parse by this command line found, or failed by

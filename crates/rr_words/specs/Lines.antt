@@ -86,6 +86,11 @@ run_line =
     (with_arg (with_arg (with_arg (new_app (codes "run")) (number_rule (codes "NODES") (codes "nodes") 1 7)) (option_rule (codes "DIR") (codes "dir") true)) (option_rule (codes "SCRIPT") (codes "script") true))
     (option_rule (codes "TAPE") (codes "tape") false)
 
+-- the subcommand shell, with a number of nodes, the folder of their folders, and the number of a client, which may be left out
+unfoldable pub shell_line : App
+shell_line =
+    with_arg (with_arg (with_arg (new_app (codes "shell")) (number_rule (codes "NODES") (codes "nodes") 1 7)) (option_rule (codes "DIR") (codes "dir") true)) (optional_number_rule (codes "CLIENT") (codes "client") 0 4294967295)
+
 -- the subcommand sweep, with a FILE that may be left out, and a seed
 unfoldable pub sweep_line : App
 sweep_line = with_arg (with_arg (new_app (codes "sweep")) (word_rule (codes "FILE") false)) (number_rule (codes "SEED") (codes "seed") 0 18446744073709551615)
@@ -121,4 +126,4 @@ schedule_lines = and_also (and_also (and_also (and_also (and_also (and_also (rr_
 
 -- the command line of rr
 unfoldable pub rr_line : App
-rr_line = and_also (and_also (and_also (and_also schedule_lines run_line) audit_line) show_line) migrate_line
+rr_line = and_also (and_also (and_also (and_also (and_also schedule_lines run_line) shell_line) audit_line) show_line) migrate_line

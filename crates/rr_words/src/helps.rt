@@ -126,6 +126,21 @@ Examples:
   rr run --nodes 3 --dir /tmp/new --script examples/three_clients.script --tape /tmp/tape"
 }
 
+/// The help of `rr shell`.
+pub(crate) fn shell<'a>() -> &'a str {
+    "\
+Each line of standard input is a command, which is answered by one line before the next is read: `claim NAME [VALUE]`,
+`update NAME [VALUE]`, `release NAME`, `transfer NAME OWNER`, `look NAME`, `at NODE`, `help` or `quit`. One space divides
+words. Node 0 is asked first, and from `at NODE` on that node. The answers are `claimed`, `updated`, `released`,
+`transferred`, `taken OWNER`, `unknown`, `notowner`, `full` or `unacknowledged`; to a look `NAME free`,
+`NAME bound OWNER VALUE` or `NAME unseen`; else `error: ` and what is expected. Each node runs in threads over the folder
+DIR/P, as in `rr run`. The file DIR/requests keeps request numbers unique from one start to the next.
+
+Examples:
+  rr shell --nodes 3 --dir /tmp/nodes
+  printf 'claim printer room-4\\nat 1\\nlook printer\\n' | rr shell --nodes 3 --dir /tmp/nodes --client 7"
+}
+
 /// The help of `rr sweep`.
 pub(crate) fn sweep<'a>() -> &'a str {
     "\

@@ -6,6 +6,6 @@ mod lines;
 mod reading;
 mod tasks;
 
-pub use lines::{LAST_LINE, MAX_FAULTS, MAX_STEPS};
+pub use lines::{LAST_CLIENT, LAST_LINE, MAX_FAULTS, MAX_STEPS};
 pub use reading::read_words;
 pub use tasks::{CutWords, DrawWords, Form, Task, View};

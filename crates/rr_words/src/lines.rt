@@ -2,7 +2,7 @@
 
 ghost use Rattle.std.specs.Prelude.{◌≡◌, IfOk, codes};
 ghost use Rattle.clap.specs.Words.{app_of, new_app};
-ghost use Rattle.rr_words.specs.Lines.{IsArg, IsLine, rr_line, schedule_lines, rr_settings, with_version, named_rule, sim_line, stats_line, check_line, show_line, migrate_line, word_rule, number_rule, option_rule, optional_number_rule, flag_rule, numbers_line, random_line, audit_line, run_line, sweep_line, draw_line};
+ghost use Rattle.rr_words.specs.Lines.{IsArg, IsLine, rr_line, schedule_lines, rr_settings, with_version, named_rule, sim_line, stats_line, check_line, show_line, migrate_line, word_rule, number_rule, option_rule, optional_number_rule, flag_rule, numbers_line, random_line, audit_line, run_line, shell_line, sweep_line, draw_line};
 
 use crate::helps;
 use clap::builder::ValueParser;
@@ -18,12 +18,16 @@ pub const MAX_STEPS: u64 = 999_930;
 /// How many steps in a thousand of a lively schedule have a fault at most.
 pub const MAX_FAULTS: u64 = 1_000;
 
+/// The greatest number of a client.
+pub const LAST_CLIENT: u64 = 4_294_967_295;
+
 // The command line of `rr`.
 pub(crate) fn command_line<'a>(alloc: Global) -> Result<Command<'a>, AllocError>
     ensures { IfOk result (λ c. app_of c ≡ rr_line) }
 {
     schedule_lines(alloc)?
         .subcommand(run_line(alloc)?)?
+        .subcommand(shell_line(alloc)?)?
         .subcommand(audit_line(alloc)?)?
         .subcommand(show_line(alloc)?)?
         .subcommand(migrate_line(alloc)?)
@@ -270,6 +274,34 @@ fn run_line<'a>(alloc: Global) -> Result<Command<'a>, AllocError>
     ))?
     .arg(option_arg(alloc, "SCRIPT", "script", "The script", true))?
     .arg(option_arg(alloc, "TAPE", "tape", "Where the tape is written", false))
+}
+
+// The command line of `rr shell`.
+fn shell_line<'a>(alloc: Global) -> Result<Command<'a>, AllocError>
+    ensures { IfOk result (IsLine shell_line) }
+{
+    bare_line(
+        alloc,
+        "shell",
+        "Runs nodes in threads over folders, and answers commands line by line",
+        helps::shell(),
+    )
+    .arg(number_arg(alloc, "NODES", "nodes", "How many nodes there are", 1, 7))?
+    .arg(option_arg(
+        alloc,
+        "DIR",
+        "dir",
+        "The folder of the nodes' folders",
+        true,
+    ))?
+    .arg(optional_number_arg(
+        alloc,
+        "CLIENT",
+        "client",
+        "The client that asks [default: 0]",
+        0,
+        LAST_CLIENT,
+    ))
 }
 
 // The command line of `rr sweep`.

@@ -2,7 +2,7 @@
 
 ghost use Rattle.std.specs.Prelude.{◌≡◌, option_map};
 ghost use Rattle.clap.specs.Words.{first_of, found_of, rows_of};
-ghost use Rattle.rr_words.specs.Tasks.{file_of, is_set, form_of, cut_words_of, cut_words_in, simulate_task, stats_task, check_task, random_task, run_task, sweep_task, picture_task, migrate_task, task_by, task_in};
+ghost use Rattle.rr_words.specs.Tasks.{file_of, is_set, form_of, cut_words_of, cut_words_in, simulate_task, stats_task, check_task, random_task, run_task, shell_task, sweep_task, picture_task, migrate_task, task_by, task_in};
 
 use clap::ArgMatches;
 
@@ -75,6 +75,9 @@ pub enum Task<'a> {
     /// `rr run --nodes NODES --dir DIR --script SCRIPT [--tape TAPE]`: a run of nodes in threads by the script in this
     /// file, and its tape into this file.
     Run(Option<&'a str>, Option<&'a str>, Option<&'a str>, Option<&'a str>),
+    /// `rr shell --nodes NODES --dir DIR [--client CLIENT]`: a run of nodes in threads, whom the lines of standard input ask as
+    /// this client.
+    Shell(Option<&'a str>, Option<&'a str>, Option<&'a str>),
     /// `rr sweep [FILE] --seed SEED`: what a node restarts with after a crash behind each device call of the schedule in
     /// this file, or else in standard input; with the seed of the words of the last ending.
     Sweep(Option<&'a str>, Option<&'a str>),
@@ -194,6 +197,17 @@ fn run_task<'a>(matches: &ArgMatches<'a>) -> Task<'a>
     )
 }
 
+// What `rr shell` is asked for.
+fn shell_task<'a>(matches: &ArgMatches<'a>) -> Task<'a>
+    ensures { task_in result ≡ shell_task (rows_of (found_of matches.now)) }
+{
+    Task::Shell(
+        word_of(matches, "NODES"),
+        word_of(matches, "DIR"),
+        word_of(matches, "CLIENT"),
+    )
+}
+
 // What `rr sweep` is asked for.
 fn sweep_task<'a>(matches: &ArgMatches<'a>) -> Task<'a>
     ensures { task_in result ≡ sweep_task (rows_of (found_of matches.now)) }
@@ -235,6 +249,8 @@ pub(crate) fn task_by<'a>(name: &str, matches: &ArgMatches<'a>) -> Task<'a>
         Task::Audit(file_of(word_of(matches, "FILE")))
     } else if name == "run" {
         run_task(matches)
+    } else if name == "shell" {
+        shell_task(matches)
     } else if name == "sweep" {
         sweep_task(matches)
     } else if name == "draw" {

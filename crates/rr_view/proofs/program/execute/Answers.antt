@@ -1,10 +1,10 @@
 use Rattle.std.proofs.Common.{◌≡◌, ◌∙◌, ℕ, List, Option, option_map, Bor, refl, sym, ap, map, inl, inr}
 use Rattle.clap.specs.Words.{Text, kind_of}
-use Rattle.rr_words.specs.Tasks.{Simulate, Viewing, Show, Draw, Audit, Run, Sweep, Picture, Migrate, cut_words_in, draw_words_in, task_of, task_in, view_in}
+use Rattle.rr_words.specs.Tasks.{Simulate, Viewing, Show, Draw, Audit, Run, Shell, Sweep, Picture, Migrate, cut_words_in, draw_words_in, task_of, task_in, view_in}
 use Rattle.rr_cli.specs.Ends.{mistaken, by_help, by_version}
 use Rattle.rr_cli.proofs.EndLemmas.{kind_cases}
 use Rattle.rr_view.specs.Views.{by_view, by_others, out_of_memory}
-use Rattle.rr_view.proofs.WordLaws.{none_among, no_simulate, no_show, no_draw, no_audit, no_run, no_sweep, no_picture, no_migrate}
+use Rattle.rr_view.proofs.WordLaws.{none_among, no_simulate, no_show, no_draw, no_audit, no_run, no_shell, no_sweep, no_picture, no_migrate}
 use Rattle.rr_view.proofs.program.execute.Goals as goal
 
 -- the text of a word
@@ -58,6 +58,12 @@ returns-in-Ok-Run-clause-ends g c =
     let w = c.in-Ok-Run in
     let task : task_of (map g.S.AsStr.text c.args.words.now) ≡ Run (text_of w.field-0-0) (text_of w.field-0-1) (text_of w.field-0-2) (text_of w.field-0-3) = sym w.ensures.task ∙ ap task_in w.field-0-is in
     by_others (λ none view is. no_run (text_of w.field-0-0) (text_of w.field-0-1) (text_of w.field-0-2) (text_of w.field-0-3) view (sym task ∙ is)) c.execute-in-Ok-Run.ensures.ends
+
+pub returns-in-Ok-Shell-clause-ends : goal.returns-in-Ok-Shell-clause-ends
+returns-in-Ok-Shell-clause-ends g c =
+    let w = c.in-Ok-Shell in
+    let task : task_of (map g.S.AsStr.text c.args.words.now) ≡ Shell (text_of w.field-0-0) (text_of w.field-0-1) (text_of w.field-0-2) = sym w.ensures.task ∙ ap task_in w.field-0-is in
+    by_others (λ none view is. no_shell (text_of w.field-0-0) (text_of w.field-0-1) (text_of w.field-0-2) view (sym task ∙ is)) c.execute-in-Ok-Shell.ensures.ends
 
 pub returns-in-Ok-Sweep-clause-ends : goal.returns-in-Ok-Sweep-clause-ends
 returns-in-Ok-Sweep-clause-ends g c =
