@@ -1,2 +1,4 @@
 pub mod Folders
+pub mod Requests
 pub mod Runs
+pub mod Shells

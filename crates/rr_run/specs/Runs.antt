@@ -1,5 +1,5 @@
 -- How a run in threads ends: the program's exit status, and what standard output has taken.
-use Rattle.std.specs.Prelude.{◌≡◌, ℕ, List, [], Option, Some, IsSome}
+use Rattle.std.specs.Prelude.{◌≡◌, ◌⊎◌, ℕ, List, [], Option, Some, IsSome}
 use Rattle.clap.specs.Kinds.{Kinds}
 use Rattle.clap.specs.Words.{Text}
 use Rattle.rr_types.specs.declared.refusal.Refusal.{Refusal}
@@ -12,8 +12,9 @@ use Rattle.rr_script.specs.Faults.{IsScriptFault}
 use Rattle.rr_cli.specs.Draws.{IsNumberIn}
 use Rattle.rr_cli.specs.Ends.{EndsOnFile, IsStreamStatus, Prints}
 use Rattle.rr_view.specs.Views.{EndsWithViews}
-use Rattle.rr_words.specs.Tasks.{Task, Run}
+use Rattle.rr_words.specs.Tasks.{Task, Run, Shell}
 use Rattle.rr_cli.specs.Refusals.{status_of}
+use Rattle.rr_run.specs.Shells.{EndsOnShellWords}
 
 -- a run in threads, with a file for its tape or none: answers are printed, a line each; or the folders or the run are
 -- refused; or there is to be a tape, and an area is formatted or the tape can't be written. Without answers standard output
@@ -43,8 +44,16 @@ pub record AsksForRun (task : Task) : Type 0 where
   pub tape : Option Text
   pub is : task ≡ Run (Some nodes) (Some dir) (Some script) tape
 
--- the program with threads, by words: a run, or what the program without threads does, or no memory even to read them
+-- words that ask for a shell, and say all that has to be said of it
+pub record AsksForShell (task : Task) : Type 0 where
+  pub nodes : Text
+  pub dir : Text
+  pub client : Option Text
+  pub is : task ≡ Shell (Some nodes) (Some dir) client
+
+-- the program with threads, by words: a run, or a shell, or what the program without threads does, or no memory even to read them
 pub data EndsWithThreads (faults : Kinds) (task : Task) (from to : Reading) (status : ℕ) (old new : Printing) : Type 0 where
   by_script : (asks : AsksForRun task) → faults ≡ [] → EndsOnRun asks.nodes asks.tape status old new → EndsWithThreads faults task from to status old new
-  by_others : (faults ≡ [] → AsksForRun task → ⊥) → EndsWithViews faults task from to status old new → EndsWithThreads faults task from to status old new
+  by_shell : (asks : AsksForShell task) → faults ≡ [] → EndsOnShellWords asks.nodes asks.client from to status old new → EndsWithThreads faults task from to status old new
+  by_others : (faults ≡ [] → AsksForRun task ⊎ AsksForShell task → ⊥) → EndsWithViews faults task from to status old new → EndsWithThreads faults task from to status old new
   out_of_memory : status ≡ 6 → new ≡ old → EndsWithThreads faults task from to status old new

@@ -8,6 +8,7 @@ ghost use Rattle.rr_run.specs.Runs.{EndsWithThreads};
 
 use crate::lock::Lockable;
 use crate::script_run::run_by_words;
+use crate::shell_run::shell_by_words;
 use rr_cli::{Task, end_by_words, end_without_words, read_words};
 use rr_stream::{Sink, Source};
 use std::convert::AsStr;
@@ -19,13 +20,17 @@ use std::sync::Wait;
 use std::thread::Threads;
 
 /// Runs the program `rr` by these words, of which the first is its name, and gives its exit status. It is
-/// `rr_view::execute` with one command more.
+/// `rr_view::execute` with two commands more.
 ///
 /// `rr run --nodes NODES --dir DIR --script SCRIPT [--tape TAPE]` reads a script from the file SCRIPT, runs that many
 /// nodes in threads, node P over the disk in the folder DIR/P, and prints the answers to the script. Folders and files
 /// that are missing are made. With a TAPE all areas have to be unformatted, and the tape of the run is written to that
 /// file before the answers are printed. What goes wrong is told on `err`: the words, then the file, then its text, then
 /// the folders, ascending, then areas that are formatted, then the run, then the file TAPE.
+///
+/// `rr shell --nodes NODES --dir DIR [--client CLIENT]` runs nodes over folders in the same way, and reads commands from `input`.
+/// Each line is answered on `out` before the next is read. What goes wrong is told on `err`: the words, then the folders,
+/// ascending, then the file DIR/requests, then the run or a stream.
 pub fn execute<
     F: Read + Write + Seek + OpenFile + Drop + Send + Lockable,
     R: Files<File = F> + AllocGlobal + Threads + Wait + Sync,
@@ -45,6 +50,11 @@ pub fn execute<
         Ok(Task::Run(None, _, _, _)) => rr_view::execute(rt, words, input, out, err),
         Ok(Task::Run(_, None, _, _)) => rr_view::execute(rt, words, input, out, err),
         Ok(Task::Run(_, _, None, _)) => rr_view::execute(rt, words, input, out, err),
+        Ok(Task::Shell(Some(nodes), Some(dir), client)) => {
+            shell_by_words(rt, nodes, dir, client, input, out, err)
+        }
+        Ok(Task::Shell(None, _, _)) => rr_view::execute(rt, words, input, out, err),
+        Ok(Task::Shell(_, None, _)) => rr_view::execute(rt, words, input, out, err),
         Ok(Task::View(_)) => rr_view::execute(rt, words, input, out, err),
         Ok(Task::Simulate(_)) => rr_view::execute(rt, words, input, out, err),
         Ok(Task::Show(_)) => rr_view::execute(rt, words, input, out, err),

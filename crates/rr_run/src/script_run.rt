@@ -28,8 +28,8 @@ use std::sync::Wait;
 use std::thread::Threads;
 use std::{fs, io};
 
-// Ends by a folder of a node that another program has locked. A second line tells it.
-fn end_in_use<E: Write>(err: &mut E, dir: &str, node: u8) -> u8
+/// Ends by a folder of a node that another program has locked. A second line tells it.
+pub(crate) fn end_in_use<E: Write>(err: &mut E, dir: &str, node: u8) -> u8
     ensures { result ≡ 5 }
 {
     let ending = end_by_refusal(err, &Refusal::Device);
@@ -37,8 +37,8 @@ fn end_in_use<E: Write>(err: &mut E, dir: &str, node: u8) -> u8
     ending
 }
 
-// Ends by the refusal of a run over the folders in the folder DIR. Where a folder has what is refused, a second line tells it.
-fn end_by_run_fault<R: Files + AllocGlobal, E: Write>(
+/// Ends by the refusal of a run over the folders in the folder DIR. Where a folder has what is refused, a second line tells it.
+pub(crate) fn end_by_run_fault<R: Files + AllocGlobal, E: Write>(
     rt: &R,
     err: &mut E,
     dir: &str,

@@ -1,0 +1,123 @@
+//! The request numbers of a shell. They are unique over its restarts, whatever the clock does: the file `DIR/requests` holds the
+//! first number that is not reserved, in decimal, and a line feed.
+
+ghost use Rattle.std.specs.Prelude.{◌≡◌, ◌+◌, ◌^◌, ◌<◌, ◌≤◌, ◌++◌, ◌∷◌, [], IfOk, IfErr, IfSome, decimal};
+ghost use Rattle.rr_run.specs.Requests.{stored_number};
+
+use rr_text::text_read::{cut, number};
+use rr_text::text_word::{push_byte, push_number};
+use rr_types::Refusal;
+use std::alloc::Global;
+use std::fs::OpenFile;
+use std::io::{ErrorKind, Write};
+use std::rt::Files;
+use std::{fs, io};
+
+/// How many numbers are reserved at a time.
+const BLOCK: u64 = 1_048_576;
+
+/// Request numbers that are reserved and not used: from the next one on, below the end.
+#[derive(Clone, Copy, Debug)]
+pub(crate) struct Block {
+    next: u64,
+    end: u64,
+}
+
+impl Block {
+    // The block that begins with this number, unless numbers are out.
+    fn from(first: u64) -> Option<Block>
+        ensures some { IfSome result (λ b. (b.next ≡ first) × (b.end ≡ first + 1048576)) }
+        ensures none { result ≡ None → 2 ^ 64 ≤ first + 1048576 }
+    {
+        match first.checked_add(BLOCK) {
+            Some(end) => Some(Block { next: first, end }),
+            None => None,
+        }
+    }
+
+    /// The next number, which then is used; none where all are.
+    pub(crate) fn take(&mut self) -> Option<u64>
+        ensures some { IfSome result (λ n. (n ≡ self.old.next) × (n < self.old.end) × (self.new ≡ record { next = n + 1; end = self.old.end })) }
+        ensures none { result ≡ None → (self.old.end ≤ self.old.next) × (self.new ≡ self.old) }
+    {
+        if self.next < self.end {
+            let number = self.next;
+            self.next += 1;
+            Some(number)
+        } else {
+            None
+        }
+    }
+}
+
+// The number that the bytes of the file hold.
+fn stored_number(bytes: &[u8]) -> Option<u64>
+    ensures { result ≡ stored_number bytes.now }
+{
+    let (word, rest) = cut(bytes, b'\n')?;
+    match rest {
+        [] => number(word),
+        [_, ..] => None,
+    }
+}
+
+// The bytes of the file that hold a number.
+fn number_text(alloc: Global, stored: u64) -> Result<Vec<u8>, Refusal>
+    ensures ok { IfOk result (λ v. v.items ≡ decimal stored ++ 10 ∷ []) }
+    ensures err { IfErr result (λ e. e ≡ Refusal.OutOfMemory) }
+{
+    let mut text = Vec::new(alloc);
+    push_number(&mut text, stored)?;
+    push_byte(&mut text, b'\n')?;
+    Ok(text)
+}
+
+// The first number that the file says is not reserved: 0 where there is no file.
+fn first_free<R: Files + AllocGlobal>(rt: &R, path: &str) -> Result<u64, Refusal> {
+    match fs::read(rt, path) {
+        Ok(bytes) => match stored_number(bytes.as_slice()) {
+            Some(first) => Ok(first),
+            None => Err(Refusal::Malformed(0)),
+        },
+        Err(error) => match error.kind() {
+            ErrorKind::NotFound => Ok(0),
+            ErrorKind::OutOfMemory => Err(Refusal::OutOfMemory),
+            _ => Err(Refusal::Device),
+        },
+    }
+}
+
+// Puts a text in the place of a file of a folder. A crash leaves the file as it was or with the text, and never a part of it.
+fn replace_file<R: Files>(
+    rt: &R,
+    dir: &str,
+    fresh: &str,
+    path: &str,
+    text: &[u8],
+) -> io::Result<()> {
+    let mut file = fs::create(rt, fresh)?;
+    file.write_all(text)?;
+    file.sync_all()?;
+    fs::rename(rt, fresh, path)?;
+    fs::open(rt, dir)?.sync_all()
+}
+
+/// Reserves the next block of request numbers of a folder that is locked: none of them was ever given by an earlier block.
+///
+/// # Errors
+/// `Malformed`, where the file holds no number: it is left as it is; `TooLarge`, where numbers are out; `Device`, where a file
+/// can't be read or written: it is unknown then which of both numbers it holds; `OutOfMemory`.
+pub(crate) fn reserve<R: Files + AllocGlobal>(rt: &R, dir: &str) -> Result<Block, Refusal>
+    ensures { IfOk result (λ b. b.end ≡ b.next + 1048576) }
+{
+    let path = format!(in rt.alloc(); "{dir}/requests")?;
+    let fresh = format!(in rt.alloc(); "{dir}/requests.new")?;
+    let Some(block) = Block::from(first_free(rt, path.as_str())?) else {
+        return Err(Refusal::TooLarge);
+    };
+    let text = number_text(rt.alloc(), block.end)?;
+    match replace_file(rt, dir, fresh.as_str(), path.as_str(), text.as_slice()) {
+        Ok(()) => Ok(block),
+        Err(_) => Err(Refusal::Device),
+    }
+}

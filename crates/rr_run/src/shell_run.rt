@@ -1,0 +1,391 @@
+//! `rr shell`: nodes in threads, and in the program's own thread the talk with whoever writes its standard input.
+
+ghost use Rattle.std.specs.Prelude.{◌≡◌, ◌⊎◌, ℕ, length, IfOk, IfSome, option_map};
+ghost use Rattle.std.specs.Io.KnownBytes.{Keeps};
+ghost use Rattle.std.specs.Thread.{IsSend, IsSync};
+ghost use Rattle.rr_cli.specs.Refusals.{status_of};
+ghost use Rattle.rr_run.specs.Shells.{Talks, IsClientBy, EndsOnTalk, EndsOnShell, EndsOnShellWords};
+
+use crate::folder::{Folders, Opening, open_folders};
+use crate::lock::Lockable;
+use crate::post::{Post, Teller, tellers};
+use crate::requests::{Block, reserve};
+use crate::script_run::{end_by_run_fault, end_in_use};
+use rr_cli::{end_by_refusal, end_by_stream, end_by_unprinted, nodes_of, number_in};
+use rr_disk::{FileDisk, OpenedFile};
+use rr_locked::Open;
+use rr_script::{Answer, ScriptLine};
+use rr_shell::{Asked, Stop, is_reply_at, is_sight_at, talk};
+use rr_stream::{Sink, Source};
+use rr_threads::run_clients;
+use rr_types::{Command, Name, NodeId, Nodes, Op, Refusal, Reply, RequestNo, Value, made_of};
+use rr_words::LAST_CLIENT;
+use std::alloc::Global;
+use std::fs::OpenFile;
+use std::io::{Read, Seek, Write};
+use std::rt::Files;
+use std::sync::Wait;
+use std::thread;
+use std::thread::{Scope, Threads};
+
+// The nodes that a shell asks, as this client, with the request numbers of the folder DIR.
+#[derive(Drop)]
+struct Console<'x, R> {
+    rt: &'x R,
+    dir: &'x str,
+    client: u32,
+    block: Block,
+    post: &'x Post,
+}
+
+impl<'x, R: Files + AllocGlobal + Wait> Console<'x, R> {
+    // A request number that was never given. At the end of a block the next one is reserved.
+    fn next_request(&mut self) -> Result<RequestNo, Refusal>
+        ensures { IfOk result (λ q. q.client ≡ self.old.client) }
+    {
+        let client = self.client;
+        if let Some(seq) = self.block.take() {
+            return Ok(RequestNo { client, seq });
+        }
+        self.block = reserve(self.rt, self.dir)?;
+        match self.block.take() {
+            Some(seq) => Ok(RequestNo { client, seq }),
+            None => Err(Refusal::TooLarge),
+        }
+    }
+}
+
+impl<'x, R: Files + AllocGlobal + Wait> Asked for Console<'x, R> {
+    fn submit(&mut self, node: NodeId, op: &Op) -> Result<Answer, Refusal> {
+        made_of!(Answer, ScriptLine, Command, Op, Name, Reply, Value);
+        let request = self.next_request()?;
+        let command = Command { request, op: *op };
+        let answer = self
+            .post
+            .ask(self.rt, &ScriptLine::Submit { node, command })?;
+        if is_reply_at(node, &answer) {
+            Ok(answer)
+        } else {
+            Ok(Answer::Unacknowledged { node, request })
+        }
+    }
+
+    fn look(&mut self, node: NodeId, name: &Name) -> Result<Answer, Refusal> {
+        made_of!(Answer, ScriptLine, Command, Op, Name, Reply, Value);
+        let name = *name;
+        let answer = self.post.ask(self.rt, &ScriptLine::Look { node, name })?;
+        if is_sight_at(node, &name, &answer) {
+            Ok(answer)
+        } else {
+            Ok(Answer::Unseen { node, name })
+        }
+    }
+}
+
+// Work that is done beside a run. What it gives is known by this trait even where it is done in a scope of threads.
+trait Work {
+    type Output;
+
+    ghost gives: { Self → Self.Output → Type 0 };
+
+    fn run(self) -> Self::Output
+        ensures { gives self result };
+}
+
+// A talk that is to be held, and what it borrows.
+#[derive(Drop)]
+struct Talking<'a, I, O, A> {
+    alloc: Global,
+    nodes: Nodes,
+    asked: A,
+    input: &'a mut I,
+    out: &'a mut O,
+}
+
+impl<'a, I: Source, O: Sink, A: Asked + Drop> Work for Talking<'a, I, O, A> {
+    type Output = (&'a mut I, &'a mut O, Result<(), Stop>);
+
+    ghost gives = { λ t r. (r.0.ghost_name ≡ t.input.ghost_name) × (r.1.ghost_name ≡ t.out.ghost_name)
+        × Talks t.nodes (I.reading t.input.now) (I.reading r.0.now) (O.printing t.out.now) (O.printing r.1.now) r.2 };
+
+    fn run(self) -> (&'a mut I, &'a mut O, Result<(), Stop>) {
+        let Talking {
+            alloc,
+            nodes,
+            asked,
+            input,
+            out,
+        } = self;
+        let mut asked = asked;
+        let talked = talk(alloc, nodes, &mut asked, input, out);
+        (input, out, talked)
+    }
+}
+
+// Runs the nodes until nothing is asked any more, or the run fails.
+fn run_nodes<
+    F: Read + Write + Seek + OpenFile + Drop + Send,
+    R: AllocGlobal + Threads + Wait + Sync,
+>(
+    rt: &R,
+    nodes: Nodes,
+    disks: Vec<FileDisk<OpenedFile<F>>>,
+    clients: Vec<Vec<Teller<'_>>>,
+    post: &Post,
+) {
+    match run_clients(rt, rt.alloc(), nodes, disks, clients, &Open, None) {
+        Ok(()) => post.end(rt, None),
+        Err(refusal) => post.end(rt, Some(refusal)),
+    }
+}
+
+// Starts the nodes' thread. Where none can be made, the run has ended.
+fn start_nodes<
+    's,
+    E,
+    F: Read + Write + Seek + OpenFile + Drop + Send + 's,
+    R: AllocGlobal + Threads + Wait + Sync + 's,
+>(
+    scope: &Scope<'s, E>,
+    rt: &'s R,
+    nodes: Nodes,
+    disks: Vec<FileDisk<OpenedFile<F>>>,
+    clients: Vec<Vec<Teller<'s>>>,
+    post: &'s Post,
+) {
+    let started = scope.spawn(move || run_nodes(rt, nodes, disks, clients, post));
+    if started.is_err() {
+        post.end(rt, Some(Refusal::OutOfMemory));
+    }
+}
+
+// Does some work while the nodes run. Then they come to their end.
+fn beside_nodes<
+    F: Read + Write + Seek + OpenFile + Drop + Send,
+    R: AllocGlobal + Threads + Wait + Sync,
+    T: Work<Output = A> + Drop,
+    A,
+>(
+    rt: &R,
+    nodes: Nodes,
+    disks: Vec<FileDisk<OpenedFile<F>>>,
+    clients: Vec<Vec<Teller<'_>>>,
+    post: &Post,
+    work: T,
+) -> A
+    ensures { T.gives work result }
+{
+    thread::scope(
+        thread::scope_env(),
+        rt,
+        move |scope|
+            requires { IsSend F.row × IsSync R.row }
+            ensures { T.gives work result }
+        {
+            start_nodes(scope, rt, nodes, disks, clients, post);
+            let given = work.run();
+            post.close();
+            given
+        },
+    )
+}
+
+// Takes back what was lent. This use ties a reference that comes back to the one that was lent.
+fn take_back<T>(_lent: &mut T)
+    ensures { _lent.new ≡ _lent.old }
+{}
+
+// Talks while the nodes run.
+fn talk_beside<
+    F: Read + Write + Seek + OpenFile + Drop + Send,
+    R: AllocGlobal + Threads + Wait + Sync,
+    I: Source,
+    O: Sink,
+    A: Asked + Drop,
+>(
+    rt: &R,
+    nodes: Nodes,
+    disks: Vec<FileDisk<OpenedFile<F>>>,
+    post: &Post,
+    asked: A,
+    input: &mut I,
+    out: &mut O,
+) -> Result<(), Stop>
+    ensures { Talks nodes (I.reading input.old) (I.reading input.new) (O.printing out.old) (O.printing out.new) result }
+{
+    let clients = match tellers(rt.alloc(), nodes, post) {
+        Ok(clients) => clients,
+        Err(refusal) => return Err(Stop::Refused(refusal)),
+    };
+    let alloc = rt.alloc();
+    let work = Talking {
+        alloc,
+        nodes,
+        asked,
+        input,
+        out,
+    };
+    let (input, out, talked) = beside_nodes(rt, nodes, disks, clients, post, work);
+    take_back(input);
+    take_back(out);
+    talked
+}
+
+// Ends by a talk, and the refusal of the run if that has one.
+fn end_by_talk<R: Files + AllocGlobal, E: Write>(
+    rt: &R,
+    err: &mut E,
+    dir: &str,
+    nodes: Nodes,
+    talked: Result<(), Stop>,
+    refusal: Option<Refusal>,
+) -> u8
+    ensures ends { EndsOnTalk talked result }
+    ensures quiet { result ≡ 0 → Keeps (E.contents err.old) (E.contents err.new) }
+{
+    match talked {
+        Ok(()) => match refusal {
+            Some(refusal) => end_by_run_fault(rt, err, dir, nodes, &refusal),
+            None => 0,
+        },
+        Err(Stop::Refused(refusal)) => end_by_run_fault(rt, err, dir, nodes, &refusal),
+        Err(Stop::Unread(error)) => end_by_stream(err, "standard input", &error),
+        Err(Stop::Unprinted(error)) => end_by_unprinted(err, &error),
+    }
+}
+
+// Talks over folders that are open, and lets their locks go.
+fn shell_in<
+    F: Read + Write + Seek + OpenFile + Drop + Send,
+    R: Files + AllocGlobal + Threads + Wait + Sync,
+    I: Source,
+    O: Sink,
+    E: Write,
+>(
+    rt: &R,
+    dir: &str,
+    nodes: Nodes,
+    client: u32,
+    folders: Folders<F>,
+    input: &mut I,
+    out: &mut O,
+    err: &mut E,
+) -> u8
+    ensures ends { EndsOnShell nodes (I.reading input.old) (I.reading input.new) result (O.printing out.old) (O.printing out.new) }
+    ensures quiet { result ≡ 0 → Keeps (E.contents err.old) (E.contents err.new) }
+{
+    let Folders { locks, disks } = folders;
+    let block = match reserve(rt, dir) {
+        Ok(block) => block,
+        Err(refusal) => return end_by_requests(err, dir, &refusal),
+    };
+    let post = match Post::new(rt.alloc(), nodes) {
+        Ok(post) => post,
+        Err(refusal) => return end_by_refusal(err, &refusal),
+    };
+    let console = Console {
+        rt,
+        dir,
+        client,
+        block,
+        post: &post,
+    };
+    let talked = talk_beside(rt, nodes, disks, &post, console, input, out);
+    drop(locks);
+    end_by_talk(rt, err, dir, nodes, talked, post.into_refusal())
+}
+
+// Ends by a file of request numbers that none can be reserved in. A second line tells it.
+fn end_by_requests<E: Write>(err: &mut E, dir: &str, refusal: &Refusal) -> u8
+    ensures { result ≡ status_of refusal.now }
+{
+    let ending = end_by_refusal(err, refusal);
+    let _ = match refusal {
+        Refusal::Malformed(_) => {
+            writeln!(err, "{dir}/requests: expected the first number that is not reserved, and a line feed")
+        }
+        Refusal::TooLarge => writeln!(err, "{dir}/requests: all request numbers are reserved"),
+        Refusal::Device => writeln!(err, "{dir}/requests: it can't be read or written"),
+        _ => Ok(()),
+    };
+    ending
+}
+
+// The client that a word names: client 0 where there is no word.
+fn client_of(word: Option<&str>) -> Option<u32>
+    ensures some { IfSome result (λ c. IsClientBy (option_map (λ s. s.now) word.entry) c) }
+    ensures none { result ≡ None → (c : ℕ) → IsClientBy (option_map (λ s. s.now) word.entry) c → ⊥ }
+{
+    match word {
+        Some(word) => {
+            let client = number_in(word, 0, LAST_CLIENT)?;
+            Some(client as u32)
+        }
+        None => Some(0),
+    }
+}
+
+// Talks over the folders in the folder DIR.
+fn shell_over<
+    F: Read + Write + Seek + OpenFile + Drop + Send + Lockable,
+    R: Files<File = F> + AllocGlobal + Threads + Wait + Sync,
+    I: Source,
+    O: Sink,
+    E: Write,
+>(
+    rt: &R,
+    nodes: Nodes,
+    dir: &str,
+    client: u32,
+    input: &mut I,
+    out: &mut O,
+    err: &mut E,
+) -> u8
+    ensures ends { EndsOnShell nodes (I.reading input.old) (I.reading input.new) result (O.printing out.old) (O.printing out.new) }
+    ensures quiet { result ≡ 0 → Keeps (E.contents err.old) (E.contents err.new) }
+{
+    match open_folders(rt, nodes, dir) {
+        Ok(Opening::Folders(folders)) => {
+            shell_in(rt, dir, nodes, client, folders, input, out, err)
+        }
+        Ok(Opening::InUse(node)) => end_in_use(err, dir, node),
+        Err(refusal) => end_by_run_fault(rt, err, dir, nodes, &refusal),
+    }
+}
+
+/// Runs as many nodes as a word names, over the folders in the folder DIR, and answers the lines of the input as the client that
+/// a word names, or client 0. Words that are no such numbers, which the command line doesn't let through, end with 2.
+pub(crate) fn shell_by_words<
+    F: Read + Write + Seek + OpenFile + Drop + Send + Lockable,
+    R: Files<File = F> + AllocGlobal + Threads + Wait + Sync,
+    I: Source,
+    O: Sink,
+    E: Write,
+>(
+    rt: &R,
+    nodes: &str,
+    dir: &str,
+    client: Option<&str>,
+    input: &mut I,
+    out: &mut O,
+    err: &mut E,
+) -> u8
+    ensures ends { EndsOnShellWords nodes.now (option_map (λ s. s.now) client.entry) (I.reading input.old) (I.reading input.new) result (O.printing out.old) (O.printing out.new) }
+    ensures quiet { result ≡ 0 → Keeps (E.contents err.old) (E.contents err.new) }
+{
+    let Some(nodes) = nodes_of(nodes) else {
+        return end_without_numbers(err);
+    };
+    match client_of(client) {
+        Some(client) => shell_over(rt, nodes, dir, client, input, out, err),
+        None => end_without_numbers(err),
+    }
+}
+
+// Ends where words name no number of nodes or no client.
+fn end_without_numbers<E: Write>(err: &mut E) -> u8
+    ensures { result ≡ 2 }
+{
+    let _ = writeln!(err, "rr: shell: there is no such number of nodes or no such client");
+    2
+}

@@ -1,0 +1,4 @@
+pub mod Hearings
+pub mod Lines
+pub mod Talks
+pub mod Texts

@@ -1,0 +1,58 @@
+-- What a line of a shell asks for: reading it from left to right, as the code does.
+use Rattle.std.specs.Prelude.{ℕ, if◌then◌else◌, ◌||◌, is_some, List, [], codes, Option, None, Some, Result, Ok, Err}
+use Rattle.std.specs.Str.{bytes_eq}
+use Rattle.rr_text.specs.Reading.{cut_at, name_at, node_at, op_at}
+use Rattle.rr_shell.specs.declared.shell_line.ShellLine.{ShellLine}
+use Rattle.rr_shell.specs.declared.shell_line.ShellLine.TheVariants.{Submit, Look, At, Help, Quit}
+use Rattle.rr_shell.specs.declared.shell_line.LineFault.{LineFault}
+use Rattle.rr_shell.specs.declared.shell_line.LineFault.TheVariants.{NoCommand, BadName, BadValue, BadOwner, NoNode}
+
+-- the first word of a text and what stands behind it, by the cut at its first space
+abbrev pub parts_from : List ℕ → Option (List ℕ × List ℕ) → List ℕ × List ℕ
+parts_from text None = (text, [])
+parts_from text (Some parts) = parts
+
+-- the first word of a text, and what stands behind it; nothing stands behind a word alone
+abbrev pub parts_of : List ℕ → List ℕ × List ℕ
+parts_of text = parts_from text (cut_at 32 text)
+
+-- what is wrong behind the word of a command that wants a name first: the name, or else this
+abbrev pub named_fault : LineFault → List ℕ → LineFault
+named_fault fault rest = if is_some (name_at (parts_of rest).0) then fault else BadName
+
+-- why a line of this word, with this behind it, is no operation
+abbrev pub op_fault : List ℕ → List ℕ → LineFault
+op_fault word rest =
+    if bytes_eq word (codes "claim") || bytes_eq word (codes "update") then named_fault BadValue rest
+    else (if bytes_eq word (codes "transfer") then named_fault BadOwner rest
+    else (if bytes_eq word (codes "release") then BadName else NoCommand))
+
+-- what a line asks for that wants something, where that is there
+abbrev pub wanted : {A : Type 0} → LineFault → (A → ShellLine) → Option A → Result ShellLine LineFault
+wanted fault line None = Err fault
+wanted fault line (Some x) = Ok (line x)
+
+-- a look at the name that a text is
+abbrev pub look_at : List ℕ → Result ShellLine LineFault
+look_at rest = wanted BadName Look (name_at rest)
+
+-- a move to the node that a text is, of n nodes
+abbrev pub node_line_at : ℕ → List ℕ → Result ShellLine LineFault
+node_line_at n rest = wanted NoNode At (node_at n rest)
+
+-- a submit of the operation that a text is, of this first word and this behind it
+abbrev pub command_at : List ℕ → List ℕ → List ℕ → Result ShellLine LineFault
+command_at text word rest = wanted (op_fault word rest) Submit (op_at text)
+
+-- what a line of these parts asks for
+abbrev pub line_from : ℕ → List ℕ → List ℕ × List ℕ → Result ShellLine LineFault
+line_from n text parts =
+    if bytes_eq parts.0 (codes "look") then look_at parts.1
+    else (if bytes_eq parts.0 (codes "at") then node_line_at n parts.1
+    else (if bytes_eq text (codes "help") then Ok Help
+    else (if bytes_eq text (codes "quit") then Ok Quit
+    else command_at text parts.0 parts.1)))
+
+-- what a line asks for, of n nodes
+abbrev pub shell_line_at : ℕ → List ℕ → Result ShellLine LineFault
+shell_line_at n text = line_from n text (parts_of text)

@@ -1,0 +1,45 @@
+-- What is said to a line of a shell.
+use Rattle.std.specs.Prelude.{ℕ, List, [], ◌∷◌, ◌++◌, codes, decimal}
+use Rattle.rr_text.specs.Words.{spaced, value_words}
+use Rattle.rr_text.specs.ReportTexts.{reply_words}
+use Rattle.rr_script.specs.declared.answer.Answer.{Answer}
+use Rattle.rr_script.specs.declared.answer.Answer.TheVariants.{Acknowledged, Unacknowledged, Free, Bound, Unseen}
+use Rattle.rr_shell.specs.declared.shell_line.LineFault.{LineFault}
+use Rattle.rr_shell.specs.declared.shell_line.LineFault.TheVariants.{NoCommand, BadName, BadValue, BadOwner, NoNode, TooLong}
+
+-- a name that is bound: its owner, and its value unless that is empty
+abbrev pub bound_words : List ℕ → ℕ → List ℕ → List (List ℕ)
+bound_words name owner value = name ∷ codes "bound" ∷ decimal owner ∷ value_words value
+
+-- an answer as words: the reply to a submit, or the name of a look and what was seen
+abbrev pub answer_words : Answer → List (List ℕ)
+answer_words (Acknowledged p q reply) = reply_words reply
+answer_words (Unacknowledged p q) = codes "unacknowledged" ∷ []
+answer_words (Free p name) = name ∷ codes "free" ∷ []
+answer_words (Bound p name owner value) = bound_words name owner value
+answer_words (Unseen p name) = name ∷ codes "unseen" ∷ []
+
+-- the line of an answer
+abbrev pub answer_line : Answer → List ℕ
+answer_line a = spaced (answer_words a) ++ 10 ∷ []
+
+-- the line that node p is asked from now on
+abbrev pub move_line : ℕ → List ℕ
+move_line p = codes "at" ++ (32 ∷ decimal p) ++ 10 ∷ []
+
+-- the line that names the commands
+abbrev pub help_line : List ℕ
+help_line = codes "claim NAME [VALUE], update NAME [VALUE], release NAME, transfer NAME OWNER, look NAME, at NODE, help or quit" ++ 10 ∷ []
+
+-- what is wrong with a line, and what is expected, of n nodes
+abbrev pub fault_text : ℕ → LineFault → List ℕ
+fault_text n NoCommand = codes "no such command: claim, update, release, transfer, look, at, help or quit is expected"
+fault_text n BadName = codes "no name: 1 to 64 bytes of a to z, 0 to 9 and - are expected"
+fault_text n BadValue = codes "no value: 1 to 64 bytes from ! to ~ are expected, and no space"
+fault_text n BadOwner = codes "no owner: a number below 4294967296 is expected"
+fault_text n NoNode = codes "no such node: a number is expected that is below" ++ 32 ∷ decimal n
+fault_text n TooLong = codes "too long a line: at most 4096 bytes are expected"
+
+-- the line of a fault, of n nodes
+abbrev pub fault_line : ℕ → LineFault → List ℕ
+fault_line n fault = codes "error: " ++ fault_text n fault ++ 10 ∷ []

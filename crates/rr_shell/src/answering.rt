@@ -1,0 +1,47 @@
+//! Whom a shell asks.
+
+ghost use Rattle.std.specs.Prelude.{◌≡◌, true, IfOk};
+ghost use Rattle.rr_shell.specs.Talks.{is_reply_at, is_sight_at};
+
+use rr_script::Answer;
+use rr_types::{Name, NodeId, Op, Refusal};
+
+/// Nodes that a shell asks.
+pub trait Asked {
+    /// Submits an operation at a node under a request number of its own, and waits for the reply.
+    /// Errors: why the nodes can't be asked any more.
+    fn submit(&mut self, node: NodeId, op: &Op) -> Result<Answer, Refusal>
+        ensures { IfOk result (λ a. is_reply_at node a ≡ true) };
+
+    /// Looks at a name at a node.
+    /// Errors: why the nodes can't be asked any more.
+    fn look(&mut self, node: NodeId, name: &Name) -> Result<Answer, Refusal>
+        ensures { IfOk result (λ a. is_sight_at node name.now a ≡ true) };
+}
+
+/// Whether an answer is this node's to a submit.
+pub fn is_reply_at(node: NodeId, answer: &Answer) -> bool
+    ensures { result ≡ is_reply_at node answer.now }
+{
+    match answer {
+        Answer::Acknowledged { node: own, .. } => own.index() == node.index(),
+        Answer::Unacknowledged { node: own, .. } => own.index() == node.index(),
+        _ => false,
+    }
+}
+
+/// Whether an answer is this node's to a look at this name.
+pub fn is_sight_at(node: NodeId, name: &Name, answer: &Answer) -> bool
+    ensures { result ≡ is_sight_at node name.now answer.now }
+{
+    match answer {
+        Answer::Free { node: own, name: seen } => own.index() == node.index() && seen == name,
+        Answer::Bound {
+            node: own,
+            name: seen,
+            ..
+        } => own.index() == node.index() && seen == name,
+        Answer::Unseen { node: own, name: seen } => own.index() == node.index() && seen == name,
+        _ => false,
+    }
+}

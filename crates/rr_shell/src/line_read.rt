@@ -1,0 +1,94 @@
+//! Reading a line of a shell.
+
+ghost use Rattle.std.specs.Prelude.{◌≡◌};
+ghost use Rattle.rr_shell.specs.Lines.{parts_of, named_fault, op_fault, look_at, node_line_at, command_at, shell_line_at};
+
+use crate::shell_line::{LineFault, ShellLine};
+use rr_text::text_read::{cut, name, node, op};
+use rr_types::{Name, NodeId, Nodes, Op, Value, made_of};
+
+// The first word of a text, and what stands behind it. A word alone has nothing behind it.
+fn parts(text: &[u8]) -> (&[u8], &[u8])
+    ensures { parts_of text.now ≡ (result.0.now, result.1.now) }
+{
+    match cut(text, b' ') {
+        Some((word, rest)) => (word, rest),
+        None => (text, &[]),
+    }
+}
+
+// What is wrong behind the word of a command that wants a name first: the name, or else this.
+fn named_fault(fault: LineFault, rest: &[u8]) -> LineFault
+    ensures { result ≡ named_fault fault rest.now }
+{
+    let (word, _) = parts(rest);
+    if name(word).is_some() {
+        fault
+    } else {
+        LineFault::BadName
+    }
+}
+
+// Why a line of this word, with this behind it, is no operation.
+fn op_fault(word: &[u8], rest: &[u8]) -> LineFault
+    ensures { result ≡ op_fault word.now rest.now }
+{
+    if word == b"claim".as_slice() || word == b"update".as_slice() {
+        named_fault(LineFault::BadValue, rest)
+    } else if word == b"transfer".as_slice() {
+        named_fault(LineFault::BadOwner, rest)
+    } else if word == b"release".as_slice() {
+        LineFault::BadName
+    } else {
+        LineFault::NoCommand
+    }
+}
+
+fn look(rest: &[u8]) -> Result<ShellLine, LineFault>
+    ensures { result ≡ look_at rest.now }
+{
+    match name(rest) {
+        Some(name) => Ok(ShellLine::Look(name)),
+        None => Err(LineFault::BadName),
+    }
+}
+
+fn node_line(nodes: Nodes, rest: &[u8]) -> Result<ShellLine, LineFault>
+    ensures { result ≡ node_line_at nodes rest.now }
+{
+    match node(nodes, rest) {
+        Some(node) => Ok(ShellLine::At(node)),
+        None => Err(LineFault::NoNode),
+    }
+}
+
+fn command(text: &[u8], word: &[u8], rest: &[u8]) -> Result<ShellLine, LineFault>
+    ensures { result ≡ command_at text.now word.now rest.now }
+{
+    match op(text) {
+        Some(op) => Ok(ShellLine::Submit(op)),
+        None => Err(op_fault(word, rest)),
+    }
+}
+
+/// What a line asks for, of so many nodes. The line has no line feed.
+///
+/// # Errors
+/// Why it asks for nothing: any fault but `TooLong`.
+pub fn read_shell_line(nodes: Nodes, text: &[u8]) -> Result<ShellLine, LineFault>
+    ensures { result ≡ shell_line_at nodes text.now }
+{
+    made_of!(Name, NodeId, Op, Value);
+    let (word, rest) = parts(text);
+    if word == b"look".as_slice() {
+        look(rest)
+    } else if word == b"at".as_slice() {
+        node_line(nodes, rest)
+    } else if text == b"help".as_slice() {
+        Ok(ShellLine::Help)
+    } else if text == b"quit".as_slice() {
+        Ok(ShellLine::Quit)
+    } else {
+        command(text, word, rest)
+    }
+}

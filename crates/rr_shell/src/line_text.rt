@@ -1,0 +1,151 @@
+//! What is said to a line: an answer, a move, the help or a fault.
+
+ghost use Rattle.std.specs.Prelude.{◌≡◌, ◌++◌, OnOk, IfErr, decimal};
+ghost use Rattle.rr_text.specs.Words.{spaced};
+ghost use Rattle.rr_text.specs.ReportTexts.{reply_words};
+ghost use Rattle.rr_shell.specs.Texts.{bound_words, answer_words, answer_line, move_line, help_line, fault_text, fault_line};
+
+use crate::hearing::MAX_LINE;
+use crate::shell_line::LineFault;
+use rr_script::Answer;
+use rr_text::text_word::{push_byte, push_bytes, push_number, push_number_word, push_word};
+use rr_types::{Name, NodeId, Nodes, Refusal, Reply, Value};
+
+// The text of too long a line names the most bytes.
+const _: () = prove!(MAX_LINE == 4096);
+
+fn push_reply(out: &mut Vec<u8>, reply: Reply) -> Result<(), Refusal>
+    ensures ok { OnOk result (out.new.items ≡ out.old.items ++ spaced (reply_words reply)) }
+    ensures err { IfErr result (λ e. e ≡ Refusal.OutOfMemory) }
+{
+    match reply {
+        Reply::Claimed => push_bytes(out, b"claimed"),
+        Reply::Updated => push_bytes(out, b"updated"),
+        Reply::Released => push_bytes(out, b"released"),
+        Reply::Transferred => push_bytes(out, b"transferred"),
+        Reply::Taken(owner) => {
+            push_bytes(out, b"taken")?;
+            push_number_word(out, u64::from(owner))
+        }
+        Reply::Unknown => push_bytes(out, b"unknown"),
+        Reply::NotOwner => push_bytes(out, b"notowner"),
+        Reply::Full => push_bytes(out, b"full"),
+    }
+}
+
+// Who has a name, and its value. The empty value is no word.
+fn push_bound(out: &mut Vec<u8>, name: &Name, owner: u32, value: &Value) -> Result<(), Refusal>
+    ensures ok { OnOk result (out.new.items ≡ out.old.items ++ spaced (bound_words name.now owner value.now)) }
+    ensures err { IfErr result (λ e. e ≡ Refusal.OutOfMemory) }
+{
+    push_bytes(out, name.as_bytes())?;
+    push_word(out, b"bound")?;
+    push_number_word(out, u64::from(owner))?;
+    let value = value.as_bytes();
+    match value {
+        [] => Ok(()),
+        [_, ..] => push_word(out, value),
+    }
+}
+
+fn push_answer_words(out: &mut Vec<u8>, answer: &Answer) -> Result<(), Refusal>
+    ensures ok { OnOk result (out.new.items ≡ out.old.items ++ spaced (answer_words answer.now)) }
+    ensures err { IfErr result (λ e. e ≡ Refusal.OutOfMemory) }
+{
+    match answer {
+        Answer::Acknowledged { reply, .. } => push_reply(out, *reply),
+        Answer::Unacknowledged { .. } => push_bytes(out, b"unacknowledged"),
+        Answer::Free { name, .. } => {
+            push_bytes(out, name.as_bytes())?;
+            push_word(out, b"free")
+        }
+        Answer::Bound {
+            name, owner, value, ..
+        } => push_bound(out, name, *owner, value),
+        Answer::Unseen { name, .. } => {
+            push_bytes(out, name.as_bytes())?;
+            push_word(out, b"unseen")
+        }
+    }
+}
+
+/// Appends the line of an answer: of a submit the reply, of a look the name and what was seen. It names no node.
+///
+/// # Errors
+/// `OutOfMemory`. Then bytes of the line may stand at the end.
+pub fn push_answer(out: &mut Vec<u8>, answer: &Answer) -> Result<(), Refusal>
+    ensures ok { OnOk result (out.new.items ≡ out.old.items ++ answer_line answer.now) }
+    ensures err { IfErr result (λ e. e ≡ Refusal.OutOfMemory) }
+{
+    push_answer_words(out, answer)?;
+    push_byte(out, b'\n')
+}
+
+/// Appends the line that this node is asked from now on.
+///
+/// # Errors
+/// `OutOfMemory`. Then bytes of the line may stand at the end.
+pub fn push_move(out: &mut Vec<u8>, node: NodeId) -> Result<(), Refusal>
+    ensures ok { OnOk result (out.new.items ≡ out.old.items ++ move_line node) }
+    ensures err { IfErr result (λ e. e ≡ Refusal.OutOfMemory) }
+{
+    push_bytes(out, b"at")?;
+    push_number_word(out, u64::from(node.index()))?;
+    push_byte(out, b'\n')
+}
+
+/// Appends the line that names the commands.
+///
+/// # Errors
+/// `OutOfMemory`. Then bytes of the line may stand at the end.
+pub fn push_help(out: &mut Vec<u8>) -> Result<(), Refusal>
+    ensures ok { OnOk result (out.new.items ≡ out.old.items ++ help_line) }
+    ensures err { IfErr result (λ e. e ≡ Refusal.OutOfMemory) }
+{
+    push_bytes(
+        out,
+        b"claim NAME [VALUE], update NAME [VALUE], release NAME, transfer NAME OWNER, look NAME, at NODE, help or quit",
+    )?;
+    push_byte(out, b'\n')
+}
+
+fn push_fault_text(out: &mut Vec<u8>, nodes: Nodes, fault: LineFault) -> Result<(), Refusal>
+    ensures ok { OnOk result (out.new.items ≡ out.old.items ++ fault_text nodes fault) }
+    ensures err { IfErr result (λ e. e ≡ Refusal.OutOfMemory) }
+{
+    match fault {
+        LineFault::NoCommand => push_bytes(
+            out,
+            b"no such command: claim, update, release, transfer, look, at, help or quit is expected",
+        ),
+        LineFault::BadName => push_bytes(
+            out,
+            b"no name: 1 to 64 bytes of a to z, 0 to 9 and - are expected",
+        ),
+        LineFault::BadValue => push_bytes(
+            out,
+            b"no value: 1 to 64 bytes from ! to ~ are expected, and no space",
+        ),
+        LineFault::BadOwner => push_bytes(out, b"no owner: a number below 4294967296 is expected"),
+        LineFault::NoNode => {
+            push_bytes(out, b"no such node: a number is expected that is below")?;
+            push_number_word(out, u64::from(nodes.count()))
+        }
+        LineFault::TooLong => {
+            push_bytes(out, b"too long a line: at most 4096 bytes are expected")
+        }
+    }
+}
+
+/// Appends the line of a fault: what is wrong, and what is expected, of so many nodes.
+///
+/// # Errors
+/// `OutOfMemory`. Then bytes of the line may stand at the end.
+pub fn push_fault(out: &mut Vec<u8>, nodes: Nodes, fault: LineFault) -> Result<(), Refusal>
+    ensures ok { OnOk result (out.new.items ≡ out.old.items ++ fault_line nodes fault) }
+    ensures err { IfErr result (λ e. e ≡ Refusal.OutOfMemory) }
+{
+    push_bytes(out, b"error: ")?;
+    push_fault_text(out, nodes, fault)?;
+    push_byte(out, b'\n')
+}

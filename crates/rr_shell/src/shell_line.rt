@@ -1,0 +1,35 @@
+//! What a line of a shell asks for, or why it asks for nothing.
+
+use rr_types::{Name, NodeId, Op};
+
+/// What a line of a shell asks for.
+#[derive(Clone, Copy, Debug)]
+pub enum ShellLine {
+    /// This operation is submitted at the node that is asked.
+    Submit(Op),
+    /// The node that is asked looks at who has this name.
+    Look(Name),
+    /// From now on this node is asked.
+    At(NodeId),
+    /// The commands that there are.
+    Help,
+    /// The end of the shell.
+    Quit,
+}
+
+/// Why a line asks for nothing.
+#[derive(Clone, Copy, Debug, PartialEq, Eq)]
+pub enum LineFault {
+    /// Its first word is no command.
+    NoCommand,
+    /// No name stands where one is expected, or something stands behind it.
+    BadName,
+    /// What stands behind the name is no value.
+    BadValue,
+    /// No client's number stands behind the name.
+    BadOwner,
+    /// It names no node that there is.
+    NoNode,
+    /// It has more bytes than a line may have.
+    TooLong,
+}
