@@ -3,11 +3,11 @@ use Rattle.clap.specs.Words.{Text, kind_of}
 use Rattle.clap.specs.Kinds.{Kinds, IsAmong}
 use Rattle.clap.specs.declared.error.kind.ErrorKind.{ErrorKind}
 use Rattle.rr_words.specs.declared.tasks.Task.TheVariants as read
-use Rattle.rr_words.specs.Tasks.{Simulate, Viewing, Show, Draw, Audit, Run, Sweep, Picture, Migrate, CutWords, DrawWords, View, cut_words_in, draw_words_in, view_in, task_of, task_in}
+use Rattle.rr_words.specs.Tasks.{Simulate, Viewing, Show, Draw, Audit, Run, Shell, Sweep, Picture, Migrate, cut_words_in, draw_words_in, view_in, task_of, task_in}
 use Rattle.rr_cli.specs.Ends.{mistaken, by_help, by_version}
 use Rattle.rr_cli.proofs.EndLemmas.{kind_cases}
 use Rattle.rr_view.specs.Views as views
-use Rattle.rr_run.specs.Runs.{by_script, by_others, out_of_memory}
+use Rattle.rr_run.specs.Runs.{AsksForThreads, by_script, by_shell, by_others, out_of_memory}
 use Rattle.rr_run.proofs.program.execute.Goals as goal
 
 -- the task that four words make
@@ -40,102 +40,104 @@ returns-in-Err-clause-ends g c =
 abbrev text_of : Option (Bor (List ℕ)) → Option Text
 text_of word = option_map (λ s. s.now) word
 
--- what isn't a run with all its words
-without_nodes : (b c d : Option Text) (n x s : Text) (t : Option Text) → Run None b c d ≡ Run (Some n) (Some x) (Some s) t → ⊥
-without_nodes b c d n x s t is = absurd cc
+-- what isn't a run or a shell with all its words
+without_dir : (a c d : Option Text) → AsksForThreads (Run a None c d) → ⊥
+without_dir None c d asks = asks
+without_dir (Some n) c d asks = asks
 
-without_dir : (a c d : Option Text) (n x s : Text) (t : Option Text) → Run a None c d ≡ Run (Some n) (Some x) (Some s) t → ⊥
-without_dir a c d n x s t is = absurd cc
+without_script : (a b d : Option Text) → AsksForThreads (Run a b None d) → ⊥
+without_script None b d asks = asks
+without_script (Some n) None d asks = asks
+without_script (Some n) (Some x) d asks = asks
 
-without_script : (a b d : Option Text) (n x s : Text) (t : Option Text) → Run a b None d ≡ Run (Some n) (Some x) (Some s) t → ⊥
-without_script a b d n x s t is = absurd cc
+without_folder : (a c : Option Text) → AsksForThreads (Shell a None c) → ⊥
+without_folder None c asks = asks
+without_folder (Some n) c asks = asks
 
-is_simulate : (a : Option Text) (n x s : Text) (t : Option Text) → Simulate a ≡ Run (Some n) (Some x) (Some s) t → ⊥
-is_simulate a n x s t is = absurd cc
-
-is_view : (v : View) (n x s : Text) (t : Option Text) → Viewing v ≡ Run (Some n) (Some x) (Some s) t → ⊥
-is_view v n x s t is = absurd cc
-
-is_show : (a : Option Text) (n x s : Text) (t : Option Text) → Show a ≡ Run (Some n) (Some x) (Some s) t → ⊥
-is_show a n x s t is = absurd cc
-
-is_draw : (a : DrawWords) (n x s : Text) (t : Option Text) → Draw a ≡ Run (Some n) (Some x) (Some s) t → ⊥
-is_draw a n x s t is = absurd cc
-
-is_audit : (a : Option Text) (n x s : Text) (t : Option Text) → Audit a ≡ Run (Some n) (Some x) (Some s) t → ⊥
-is_audit a n x s t is = absurd cc
-
-is_sweep : (a b : Option Text) (n x s : Text) (t : Option Text) → Sweep a b ≡ Run (Some n) (Some x) (Some s) t → ⊥
-is_sweep a b n x s t is = absurd cc
-
-is_picture : (a : Option Text) (b : CutWords) (n x s : Text) (t : Option Text) → Picture a b ≡ Run (Some n) (Some x) (Some s) t → ⊥
-is_picture a b n x s t is = absurd cc
-
-is_migrate : (a b c : Option Text) (n x s : Text) (t : Option Text) → Migrate a b c ≡ Run (Some n) (Some x) (Some s) t → ⊥
-is_migrate a b c n x s t is = absurd cc
+-- the task that three words make
+shell_from : (a b c w x : Option (Bor (List ℕ))) → a ≡ w → b ≡ x → task_in (read.Shell a b c) ≡ task_in (read.Shell w x c)
+shell_from a b c w x p q = rw (p, q) refl
 
 pub returns-in-Ok-Run-None-default-default-default-clause-ends : goal.returns-in-Ok-Run-None-default-default-default-clause-ends
 returns-in-Ok-Run-None-default-default-default-clause-ends g c =
     let w = c.in-Ok-Run-None-default-default-default in
     let task : task_of (map g.S.AsStr.text c.args.words.now) ≡ Run None (text_of w.field-0-1) (text_of w.field-0-2) (text_of w.field-0-3) = sym w.ensures.task ∙ ap task_in w.field-0-is ∙ run_from _ _ _ _ _ _ _ w.field-0-0-is refl refl in
-    by_others (λ none asks. without_nodes (text_of w.field-0-1) (text_of w.field-0-2) (text_of w.field-0-3) asks.nodes asks.dir asks.script asks.tape (sym task ∙ asks.is)) c.execute-in-Ok-Run-None-default-default-default.ensures.ends
+    by_others (λ none asks. subst (λ t. AsksForThreads t) task asks) c.execute-in-Ok-Run-None-default-default-default.ensures.ends
 
 pub returns-in-Ok-Run-default-None-default-default-clause-ends : goal.returns-in-Ok-Run-default-None-default-default-clause-ends
 returns-in-Ok-Run-default-None-default-default-clause-ends g c =
     let w = c.in-Ok-Run-default-None-default-default in
     let task : task_of (map g.S.AsStr.text c.args.words.now) ≡ Run (text_of w.field-0-0) None (text_of w.field-0-2) (text_of w.field-0-3) = sym w.ensures.task ∙ ap task_in w.field-0-is ∙ run_from _ _ _ _ _ _ _ refl w.field-0-1-is refl in
-    by_others (λ none asks. without_dir (text_of w.field-0-0) (text_of w.field-0-2) (text_of w.field-0-3) asks.nodes asks.dir asks.script asks.tape (sym task ∙ asks.is)) c.execute-in-Ok-Run-default-None-default-default.ensures.ends
+    by_others (λ none asks. without_dir (text_of w.field-0-0) (text_of w.field-0-2) (text_of w.field-0-3) (subst (λ t. AsksForThreads t) task asks)) c.execute-in-Ok-Run-default-None-default-default.ensures.ends
 
 pub returns-in-Ok-Run-default-default-None-default-clause-ends : goal.returns-in-Ok-Run-default-default-None-default-clause-ends
 returns-in-Ok-Run-default-default-None-default-clause-ends g c =
     let w = c.in-Ok-Run-default-default-None-default in
     let task : task_of (map g.S.AsStr.text c.args.words.now) ≡ Run (text_of w.field-0-0) (text_of w.field-0-1) None (text_of w.field-0-3) = sym w.ensures.task ∙ ap task_in w.field-0-is ∙ run_from _ _ _ _ _ _ _ refl refl w.field-0-2-is in
-    by_others (λ none asks. without_script (text_of w.field-0-0) (text_of w.field-0-1) (text_of w.field-0-3) asks.nodes asks.dir asks.script asks.tape (sym task ∙ asks.is)) c.execute.ensures.ends
+    by_others (λ none asks. without_script (text_of w.field-0-0) (text_of w.field-0-1) (text_of w.field-0-3) (subst (λ t. AsksForThreads t) task asks)) c.execute.ensures.ends
+
+pub returns-in-Ok-Shell-Some-Some-default-clause-ends : goal.returns-in-Ok-Shell-Some-Some-default-clause-ends
+returns-in-Ok-Shell-Some-Some-default-clause-ends g c =
+    let w = c.in-Ok-Shell-Some-Some-default in
+    let task : task_of (map g.S.AsStr.text c.args.words.now) ≡ Shell (Some w.nodes.now) (Some w.dir.now) (text_of w.client) = sym w.ensures.task ∙ ap task_in w.field-0-is ∙ shell_from _ _ _ _ _ w.field-0-0-is w.field-0-1-is in
+    by_shell (record { nodes = w.nodes.now; dir = w.dir.now; client = text_of w.client; is = task }) w.ensures.faults c.shell_by_words.ensures.ends
+
+pub returns-in-Ok-Shell-None-default-default-clause-ends : goal.returns-in-Ok-Shell-None-default-default-clause-ends
+returns-in-Ok-Shell-None-default-default-clause-ends g c =
+    let w = c.in-Ok-Shell-None-default-default in
+    let task : task_of (map g.S.AsStr.text c.args.words.now) ≡ Shell None (text_of w.field-0-1) (text_of w.field-0-2) = sym w.ensures.task ∙ ap task_in w.field-0-is ∙ shell_from _ _ _ _ _ w.field-0-0-is refl in
+    by_others (λ none asks. subst (λ t. AsksForThreads t) task asks) c.execute-in-Ok-Shell-None-default-default.ensures.ends
+
+pub returns-in-Ok-Shell-default-None-default-clause-ends : goal.returns-in-Ok-Shell-default-None-default-clause-ends
+returns-in-Ok-Shell-default-None-default-clause-ends g c =
+    let w = c.in-Ok-Shell-default-None-default in
+    let task : task_of (map g.S.AsStr.text c.args.words.now) ≡ Shell (text_of w.field-0-0) None (text_of w.field-0-2) = sym w.ensures.task ∙ ap task_in w.field-0-is ∙ shell_from _ _ _ _ _ refl w.field-0-1-is in
+    by_others (λ none asks. without_folder (text_of w.field-0-0) (text_of w.field-0-2) (subst (λ t. AsksForThreads t) task asks)) c.execute-in-Ok-Shell-default-None-default.ensures.ends
 
 pub returns-in-Ok-Simulate-clause-ends : goal.returns-in-Ok-Simulate-clause-ends
 returns-in-Ok-Simulate-clause-ends g c =
     let w = c.in-Ok-Simulate in
     let task : task_of (map g.S.AsStr.text c.args.words.now) ≡ Simulate (text_of w.field-0-0) = sym w.ensures.task ∙ ap task_in w.field-0-is in
-    by_others (λ none asks. is_simulate (text_of w.field-0-0) asks.nodes asks.dir asks.script asks.tape (sym task ∙ asks.is)) c.execute-in-Ok-Simulate.ensures.ends
+    by_others (λ none asks. subst (λ t. AsksForThreads t) task asks) c.execute-in-Ok-Simulate.ensures.ends
 
 pub returns-in-Ok-View-clause-ends : goal.returns-in-Ok-View-clause-ends
 returns-in-Ok-View-clause-ends g c =
     let w = c.in-Ok-View in
     let task : task_of (map g.S.AsStr.text c.args.words.now) ≡ Viewing (view_in w.field-0-0) = sym w.ensures.task ∙ ap task_in w.field-0-is in
-    by_others (λ none asks. is_view (view_in w.field-0-0) asks.nodes asks.dir asks.script asks.tape (sym task ∙ asks.is)) c.execute-in-Ok-View.ensures.ends
+    by_others (λ none asks. subst (λ t. AsksForThreads t) task asks) c.execute-in-Ok-View.ensures.ends
 
 pub returns-in-Ok-Show-clause-ends : goal.returns-in-Ok-Show-clause-ends
 returns-in-Ok-Show-clause-ends g c =
     let w = c.in-Ok-Show in
     let task : task_of (map g.S.AsStr.text c.args.words.now) ≡ Show (text_of w.field-0-0) = sym w.ensures.task ∙ ap task_in w.field-0-is in
-    by_others (λ none asks. is_show (text_of w.field-0-0) asks.nodes asks.dir asks.script asks.tape (sym task ∙ asks.is)) c.execute-in-Ok-Show.ensures.ends
+    by_others (λ none asks. subst (λ t. AsksForThreads t) task asks) c.execute-in-Ok-Show.ensures.ends
 
 pub returns-in-Ok-Draw-clause-ends : goal.returns-in-Ok-Draw-clause-ends
 returns-in-Ok-Draw-clause-ends g c =
     let w = c.in-Ok-Draw in
     let task : task_of (map g.S.AsStr.text c.args.words.now) ≡ Draw (draw_words_in w.field-0-0) = sym w.ensures.task ∙ ap task_in w.field-0-is in
-    by_others (λ none asks. is_draw (draw_words_in w.field-0-0) asks.nodes asks.dir asks.script asks.tape (sym task ∙ asks.is)) c.execute-in-Ok-Draw.ensures.ends
+    by_others (λ none asks. subst (λ t. AsksForThreads t) task asks) c.execute-in-Ok-Draw.ensures.ends
 
 pub returns-in-Ok-Audit-clause-ends : goal.returns-in-Ok-Audit-clause-ends
 returns-in-Ok-Audit-clause-ends g c =
     let w = c.in-Ok-Audit in
     let task : task_of (map g.S.AsStr.text c.args.words.now) ≡ Audit (text_of w.field-0-0) = sym w.ensures.task ∙ ap task_in w.field-0-is in
-    by_others (λ none asks. is_audit (text_of w.field-0-0) asks.nodes asks.dir asks.script asks.tape (sym task ∙ asks.is)) c.execute-in-Ok-Audit.ensures.ends
+    by_others (λ none asks. subst (λ t. AsksForThreads t) task asks) c.execute-in-Ok-Audit.ensures.ends
 
 pub returns-in-Ok-Sweep-clause-ends : goal.returns-in-Ok-Sweep-clause-ends
 returns-in-Ok-Sweep-clause-ends g c =
     let w = c.in-Ok-Sweep in
     let task : task_of (map g.S.AsStr.text c.args.words.now) ≡ Sweep (text_of w.field-0-0) (text_of w.field-0-1) = sym w.ensures.task ∙ ap task_in w.field-0-is in
-    by_others (λ none asks. is_sweep (text_of w.field-0-0) (text_of w.field-0-1) asks.nodes asks.dir asks.script asks.tape (sym task ∙ asks.is)) c.execute-in-Ok-Sweep.ensures.ends
+    by_others (λ none asks. subst (λ t. AsksForThreads t) task asks) c.execute-in-Ok-Sweep.ensures.ends
 
 pub returns-in-Ok-Picture-clause-ends : goal.returns-in-Ok-Picture-clause-ends
 returns-in-Ok-Picture-clause-ends g c =
     let w = c.in-Ok-Picture in
     let task : task_of (map g.S.AsStr.text c.args.words.now) ≡ Picture (text_of w.field-0-0) (cut_words_in w.field-0-1) = sym w.ensures.task ∙ ap task_in w.field-0-is in
-    by_others (λ none asks. is_picture (text_of w.field-0-0) (cut_words_in w.field-0-1) asks.nodes asks.dir asks.script asks.tape (sym task ∙ asks.is)) c.execute-in-Ok-Picture.ensures.ends
+    by_others (λ none asks. subst (λ t. AsksForThreads t) task asks) c.execute-in-Ok-Picture.ensures.ends
 
 pub returns-in-Ok-Migrate-clause-ends : goal.returns-in-Ok-Migrate-clause-ends
 returns-in-Ok-Migrate-clause-ends g c =
     let w = c.in-Ok-Migrate in
     let task : task_of (map g.S.AsStr.text c.args.words.now) ≡ Migrate (text_of w.field-0-0) (text_of w.field-0-1) (text_of w.field-0-2) = sym w.ensures.task ∙ ap task_in w.field-0-is in
-    by_others (λ none asks. is_migrate (text_of w.field-0-0) (text_of w.field-0-1) (text_of w.field-0-2) asks.nodes asks.dir asks.script asks.tape (sym task ∙ asks.is)) c.execute-in-Ok-Migrate.ensures.ends
+    by_others (λ none asks. subst (λ t. AsksForThreads t) task asks) c.execute-in-Ok-Migrate.ensures.ends
