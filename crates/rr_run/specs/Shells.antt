@@ -3,7 +3,7 @@ use Rattle.std.specs.Prelude.{◌≡◌, ◌⊎◌, ◌-◌, ◌^◌, ℕ, Optio
 use Rattle.clap.specs.Words.{Text}
 use Rattle.rr_types.specs.declared.refusal.Refusal.{Refusal}
 use Rattle.rr_stream.specs.Streams.{Printing, Reading}
-use Rattle.rr_shell.specs.declared.talk.Stop.{Stop}
+use Rattle.rr_shell.specs.declared.talking.Stop.{Stop}
 use Rattle.rr_shell.specs.Talks.{HasTalked, BreaksOff}
 use Rattle.rr_cli.specs.Draws.{IsNumberIn}
 use Rattle.rr_cli.specs.Refusals.{status_of}

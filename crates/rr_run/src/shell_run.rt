@@ -302,7 +302,10 @@ fn end_by_requests<E: Write>(err: &mut E, dir: &str, refusal: &Refusal) -> u8
     let ending = end_by_refusal(err, refusal);
     let _ = match refusal {
         Refusal::Malformed(_) => {
-            writeln!(err, "{dir}/requests: expected the first number that is not reserved, and a line feed")
+            writeln!(
+                err,
+                "{dir}/requests: expected the first number that is not reserved, and a line feed"
+            )
         }
         Refusal::TooLarge => writeln!(err, "{dir}/requests: all request numbers are reserved"),
         Refusal::Device => writeln!(err, "{dir}/requests: it can't be read or written"),
@@ -332,15 +335,7 @@ fn shell_over<
     I: Source,
     O: Sink,
     E: Write,
->(
-    rt: &R,
-    nodes: Nodes,
-    dir: &str,
-    client: u32,
-    input: &mut I,
-    out: &mut O,
-    err: &mut E,
-) -> u8
+>(rt: &R, nodes: Nodes, dir: &str, client: u32, input: &mut I, out: &mut O, err: &mut E) -> u8
     ensures ends { EndsOnShell nodes (I.reading input.old) (I.reading input.new) result (O.printing out.old) (O.printing out.new) }
     ensures quiet { result ≡ 0 → Keeps (E.contents err.old) (E.contents err.new) }
 {
@@ -386,6 +381,9 @@ pub(crate) fn shell_by_words<
 fn end_without_numbers<E: Write>(err: &mut E) -> u8
     ensures { result ≡ 2 }
 {
-    let _ = writeln!(err, "rr: shell: there is no such number of nodes or no such client");
+    let _ = writeln!(
+        err,
+        "rr: shell: there is no such number of nodes or no such client"
+    );
     2
 }

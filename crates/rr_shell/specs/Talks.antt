@@ -1,6 +1,7 @@
 -- The talk of a shell with n nodes.
-use Rattle.std.specs.Prelude.{◌≡◌, ℕ, Bool, false, ◌&&◌, ◌==◌, List, [], Option, None, Some, Ok, Err, Unit}
+use Rattle.std.specs.Prelude.{◌≡◌, ℕ, Bool, true, false, ◌&&◌, ◌==◌, List, [], Option, None, Some, Ok, Err, Vec}
 use Rattle.std.specs.Str.{bytes_eq}
+use Rattle.std.specs.declared.alloc.Global.{Global}
 use Rattle.rr_types.specs.declared.command.Op.{Op}
 use Rattle.rr_script.specs.declared.answer.Answer.{Answer}
 use Rattle.rr_script.specs.declared.answer.Answer.TheVariants.{Acknowledged, Unacknowledged, Free, Bound, Unseen}
@@ -9,8 +10,9 @@ use Rattle.rr_shell.specs.declared.hearing.Heard.{Heard}
 use Rattle.rr_shell.specs.declared.hearing.Heard.TheVariants as heard
 use Rattle.rr_shell.specs.declared.shell_line.ShellLine.{ShellLine}
 use Rattle.rr_shell.specs.declared.shell_line.ShellLine.TheVariants.{Submit, Look, At, Help, Quit}
+use Rattle.rr_shell.specs.declared.shell_line.LineFault.{LineFault}
 use Rattle.rr_shell.specs.declared.shell_line.LineFault.TheVariants.{TooLong}
-use Rattle.rr_shell.specs.declared.talk.Said.{Said}
+use Rattle.rr_shell.specs.declared.talking.Said.{Said}
 use Rattle.rr_shell.specs.Hearings.{Hears}
 use Rattle.rr_shell.specs.Lines.{shell_line_at}
 use Rattle.rr_shell.specs.Texts.{answer_line, move_line, help_line, fault_line}
@@ -39,9 +41,9 @@ pub data Grants (p : ℕ) : ShellLine → ℕ → List ℕ → Type 0 where
 -- what is said to what was heard where node p is asked, and the node that is asked then: to a line what it asks for, or why it
 -- asks for nothing; nothing to an empty line; and that a line is too long
 pub data Exchange (n p : ℕ) : Heard → ℕ → List ℕ → Type 0 where
-  empty : (line : _) → line.items ≡ [] → Exchange n p (heard.Line line) p []
-  granted : (line : _) (asks : ShellLine) (q : ℕ) (said : List ℕ) → shell_line_at n line.items ≡ Ok asks → Grants p asks q said → Exchange n p (heard.Line line) q said
-  faulty : (line : _) (fault : _) → shell_line_at n line.items ≡ Err fault → Exchange n p (heard.Line line) p (fault_line n fault)
+  empty : (line : Vec ℕ Global) → line.items ≡ [] → Exchange n p (heard.Line line) p []
+  granted : (line : Vec ℕ Global) (asks : ShellLine) (q : ℕ) (said : List ℕ) → shell_line_at n line.items ≡ Ok asks → Grants p asks q said → Exchange n p (heard.Line line) q said
+  faulty : (line : Vec ℕ Global) (fault : LineFault) → shell_line_at n line.items ≡ Err fault → Exchange n p (heard.Line line) p (fault_line n fault)
   too_long : Exchange n p heard.TooLong p (fault_line n TooLong)
 
 -- what ends a talk: a line that asks for that, or the end of the input

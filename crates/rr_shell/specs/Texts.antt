@@ -31,13 +31,17 @@ move_line p = codes "at" ++ (32 ∷ decimal p) ++ 10 ∷ []
 abbrev pub help_line : List ℕ
 help_line = codes "claim NAME [VALUE], update NAME [VALUE], release NAME, transfer NAME OWNER, look NAME, at NODE, help or quit" ++ 10 ∷ []
 
+-- that there is no such node, of n nodes
+abbrev pub no_node_text : ℕ → List ℕ
+no_node_text n = codes "no such node: a number is expected that is below" ++ 32 ∷ decimal n
+
 -- what is wrong with a line, and what is expected, of n nodes
 abbrev pub fault_text : ℕ → LineFault → List ℕ
 fault_text n NoCommand = codes "no such command: claim, update, release, transfer, look, at, help or quit is expected"
 fault_text n BadName = codes "no name: 1 to 64 bytes of a to z, 0 to 9 and - are expected"
 fault_text n BadValue = codes "no value: 1 to 64 bytes from ! to ~ are expected, and no space"
 fault_text n BadOwner = codes "no owner: a number below 4294967296 is expected"
-fault_text n NoNode = codes "no such node: a number is expected that is below" ++ 32 ∷ decimal n
+fault_text n NoNode = no_node_text n
 fault_text n TooLong = codes "too long a line: at most 4096 bytes are expected"
 
 -- the line of a fault, of n nodes

@@ -35,13 +35,19 @@ pub fn is_sight_at(node: NodeId, name: &Name, answer: &Answer) -> bool
     ensures { result ≡ is_sight_at node name.now answer.now }
 {
     match answer {
-        Answer::Free { node: own, name: seen } => own.index() == node.index() && seen == name,
+        Answer::Free {
+            node: own,
+            name: seen,
+        } => own.index() == node.index() && seen == name,
         Answer::Bound {
             node: own,
             name: seen,
             ..
         } => own.index() == node.index() && seen == name,
-        Answer::Unseen { node: own, name: seen } => own.index() == node.index() && seen == name,
+        Answer::Unseen {
+            node: own,
+            name: seen,
+        } => own.index() == node.index() && seen == name,
         _ => false,
     }
 }

@@ -44,9 +44,11 @@ fn skip_line<I: Source>(input: &mut I) -> io::Result<()>
     ensures faults { (I.reading input.old).faults ≤ (I.reading input.new).faults }
 {
     'bytes: for _ in 0..u64::MAX {
-        match next_byte(input)? {
-            None | Some(b'\n') => return Ok(()),
-            Some(_) => {}
+        let Some(byte) = next_byte(input)? else {
+            return Ok(());
+        };
+        if byte == b'\n' {
+            return Ok(());
         }
     }
     Err(Error::other("a line without an end"))

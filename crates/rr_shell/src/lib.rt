@@ -6,11 +6,11 @@ mod hearing;
 mod line_read;
 mod line_text;
 mod shell_line;
-mod talk;
+mod talking;
 
 pub use answering::{Asked, is_reply_at, is_sight_at};
 pub use hearing::{Heard, MAX_LINE, hear};
 pub use line_read::read_shell_line;
 pub use line_text::{push_answer, push_fault, push_help, push_move};
 pub use shell_line::{LineFault, ShellLine};
-pub use talk::{Stop, talk};
+pub use talking::{Stop, talk};

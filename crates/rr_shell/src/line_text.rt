@@ -3,7 +3,7 @@
 ghost use Rattle.std.specs.Prelude.{◌≡◌, ◌++◌, OnOk, IfErr, decimal};
 ghost use Rattle.rr_text.specs.Words.{spaced};
 ghost use Rattle.rr_text.specs.ReportTexts.{reply_words};
-ghost use Rattle.rr_shell.specs.Texts.{bound_words, answer_words, answer_line, move_line, help_line, fault_text, fault_line};
+ghost use Rattle.rr_shell.specs.Texts.{bound_words, answer_words, answer_line, move_line, help_line, no_node_text, fault_text, fault_line};
 
 use crate::hearing::MAX_LINE;
 use crate::shell_line::LineFault;
@@ -60,7 +60,10 @@ fn push_answer_words(out: &mut Vec<u8>, answer: &Answer) -> Result<(), Refusal>
             push_word(out, b"free")
         }
         Answer::Bound {
-            name, owner, value, ..
+            name,
+            owner,
+            value,
+            ..
         } => push_bound(out, name, *owner, value),
         Answer::Unseen { name, .. } => {
             push_bytes(out, name.as_bytes())?;
@@ -109,6 +112,14 @@ pub fn push_help(out: &mut Vec<u8>) -> Result<(), Refusal>
     push_byte(out, b'\n')
 }
 
+fn push_no_node(out: &mut Vec<u8>, nodes: Nodes) -> Result<(), Refusal>
+    ensures ok { OnOk result (out.new.items ≡ out.old.items ++ no_node_text nodes) }
+    ensures err { IfErr result (λ e. e ≡ Refusal.OutOfMemory) }
+{
+    push_bytes(out, b"no such node: a number is expected that is below")?;
+    push_number_word(out, u64::from(nodes.count()))
+}
+
 fn push_fault_text(out: &mut Vec<u8>, nodes: Nodes, fault: LineFault) -> Result<(), Refusal>
     ensures ok { OnOk result (out.new.items ≡ out.old.items ++ fault_text nodes fault) }
     ensures err { IfErr result (λ e. e ≡ Refusal.OutOfMemory) }
@@ -127,10 +138,7 @@ fn push_fault_text(out: &mut Vec<u8>, nodes: Nodes, fault: LineFault) -> Result<
             b"no value: 1 to 64 bytes from ! to ~ are expected, and no space",
         ),
         LineFault::BadOwner => push_bytes(out, b"no owner: a number below 4294967296 is expected"),
-        LineFault::NoNode => {
-            push_bytes(out, b"no such node: a number is expected that is below")?;
-            push_number_word(out, u64::from(nodes.count()))
-        }
+        LineFault::NoNode => push_no_node(out, nodes),
         LineFault::TooLong => {
             push_bytes(out, b"too long a line: at most 4096 bytes are expected")
         }

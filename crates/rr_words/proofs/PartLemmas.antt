@@ -1,7 +1,7 @@
 -- Arguments and commands that are changed a part at a time, and what is read of them.
 use Rattle.std.proofs.Common.{◌≡◌, ◌∙◌, ap, ℕ, List, Option, Some, true, Bool}
 use Rattle.std.specs.Borrow.{Bor}
-use Rattle.clap.specs.Words.{App, app_of}
+use Rattle.clap.specs.Words.{App}
 use Rattle.clap.specs.Walk.{Rule, rule_of}
 use Rattle.clap.specs.Simple.{app_of_fields, on_top}
 use Rattle.clap.specs.declared.builder.arg.Arg.{Arg}

@@ -75,14 +75,13 @@ fn said_to_request<A: Asked>(
     ensures { IfOk result (IsSaidToRequest node line.now) }
 {
     made_of!(Answer, Name, Op, Reply, Value);
-    let said = match line {
-        ShellLine::Submit(op) => answered(alloc, node, &asked.submit(node, op)?)?,
-        ShellLine::Look(name) => answered(alloc, node, &asked.look(node, name)?)?,
-        ShellLine::At(next) => moved(alloc, *next)?,
-        ShellLine::Help => helped(alloc, node)?,
-        ShellLine::Quit => return Ok(None),
-    };
-    Ok(Some(said))
+    match line {
+        ShellLine::Submit(op) => Ok(Some(answered(alloc, node, &asked.submit(node, op)?)?)),
+        ShellLine::Look(name) => Ok(Some(answered(alloc, node, &asked.look(node, name)?)?)),
+        ShellLine::At(next) => Ok(Some(moved(alloc, *next)?)),
+        ShellLine::Help => Ok(Some(helped(alloc, node)?)),
+        ShellLine::Quit => Ok(None),
+    }
 }
 
 // What is said to what was heard, where this node is asked. None: the talk is over.
@@ -100,7 +99,7 @@ fn said_to<A: Asked>(
         Heard::TooLong => return Ok(Some(faulted(alloc, nodes, node, LineFault::TooLong)?)),
         Heard::End => return Ok(None),
     };
-    if line.is_empty() {
+    if let [] = line {
         let text = Vec::new(alloc);
         return Ok(Some(Said { node, text }));
     }

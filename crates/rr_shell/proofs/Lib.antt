@@ -1,0 +1,3 @@
+mod HearingLemmas
+mod TalkLemmas
+mod TextLemmas

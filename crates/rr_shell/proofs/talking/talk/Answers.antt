@@ -1,0 +1,10 @@
+use Rattle.std.proofs.Common.{ℕ, subst, sym}
+use Rattle.rr_shell.specs.Talks.{Talk, begun, said}
+use Rattle.rr_shell.proofs.talking.talk.Goals as goal
+
+pub turns-init : goal.turns-init
+turns-init g c =
+    subst (λ (p : ℕ). Talk c.args.nodes (g.I.Source.reading c.args.input.now) (g.O.Sink.printing c.args.out.now) p (g.I.Source.reading c.args.input.now) (g.O.Sink.printing c.args.out.now)) (sym c.first_node-node.ensures) begun
+
+pub turns-preserved : goal.turns-preserved
+turns-preserved g c = said c.turns.invariant (rw c.in-Some.is at c.in_ok-next.ensures.turn)
