@@ -8,11 +8,6 @@ use Rattle.rr_shell.specs.Talks.{HasTalked, BreaksOff}
 use Rattle.rr_cli.specs.Draws.{IsNumberIn}
 use Rattle.rr_cli.specs.Refusals.{status_of}
 
--- a talk with n nodes: over, or broken off
-abbrev pub Talks : ℕ → Reading → Reading → Printing → Printing → Result Unit Stop → Type 0
-Talks n from to old new (Ok done) = HasTalked n from to old new
-Talks n from to old new (Err stop) = BreaksOff n from old new
-
 -- the client that a word names; client 0 where there is no word
 abbrev pub IsClientBy : Option Text → ℕ → Type 0
 IsClientBy None c = c ≡ 0
@@ -23,7 +18,7 @@ abbrev pub IsRefusedBy : ℕ → Type 0
 IsRefusedBy status = (refusal : Refusal) × (status ≡ status_of refusal)
 
 -- the status behind a talk: 0 or that of a refusal where it is over, that of a refusal where it was broken off
-abbrev pub EndsOnTalk : Result Unit Stop → ℕ → Type 0
+abbrev pub EndsOnTalk : Result (Unit {0}) Stop → ℕ → Type 0
 EndsOnTalk (Ok done) status = (status ≡ 0) ⊎ IsRefusedBy status
 EndsOnTalk (Err stop) status = IsRefusedBy status
 

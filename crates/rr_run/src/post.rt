@@ -27,6 +27,7 @@ enum Slip {
 pub(crate) struct Post {
     slip: Mutex<Slip>,
     refusal: Mutex<Option<Refusal>>,
+    has_begun: AtomicBool,
     has_ended: AtomicBool,
     is_closed: AtomicBool,
     shell: Parker,
@@ -43,11 +44,37 @@ impl Post {
         Ok(Post {
             slip: Mutex::new(Slip::Nothing),
             refusal: Mutex::new(None),
+            has_begun: AtomicBool::new(false),
             has_ended: AtomicBool::new(false),
             is_closed: AtomicBool::new(false),
             shell: Parker::new(),
             clients,
         })
+    }
+
+    /// Waits until the nodes run, so that they can be asked.
+    ///
+    /// # Errors
+    /// The refusal by which the run has ended; `Down`, where it has ended without one.
+    pub(crate) fn wait_until_begun<R: Wait>(&self, rt: &R) -> Result<(), Refusal> {
+        for _ in 0..u64::MAX {
+            if self.has_begun.load(Ordering::SeqCst) {
+                return Ok(());
+            }
+            if self.has_ended.load(Ordering::SeqCst) {
+                break;
+            }
+            self.shell.park_timeout(rt, Duration::from_micros(REST));
+        }
+        Err(self.ending(rt))
+    }
+
+    // The refusal by which the run has ended.
+    fn ending<R: Wait>(&self, rt: &R) -> Refusal {
+        match *self.refusal.lock(rt) {
+            Some(refusal) => refusal,
+            None => Refusal::Down,
+        }
     }
 
     /// Asks a node's client, and waits for the answer.
@@ -67,10 +94,7 @@ impl Post {
             }
             self.shell.park_timeout(rt, Duration::from_micros(REST));
         }
-        match *self.refusal.lock(rt) {
-            Some(refusal) => Err(refusal),
-            None => Err(Refusal::Down),
-        }
+        Err(self.ending(rt))
     }
 
     fn take_answer<R: Wait>(&self, rt: &R) -> Option<Answer> {
@@ -99,6 +123,12 @@ impl Post {
 
     fn answer<R: Wait>(&self, rt: &R, answer: Answer) {
         *self.slip.lock(rt) = Slip::Answered(answer);
+        self.shell.unpark();
+    }
+
+    // The nodes run: all are open before the first client asks.
+    fn begin(&self) {
+        self.has_begun.store(true, Ordering::SeqCst);
         self.shell.unpark();
     }
 
@@ -136,6 +166,7 @@ impl Post {
         let Post {
             slip: _,
             refusal,
+            has_begun: _,
             has_ended: _,
             is_closed: _,
             shell: _,
@@ -158,6 +189,7 @@ impl<'x> Client for Teller<'x> {
     ) -> Result<(), Refusal> {
         made_of!(Answer, ScriptLine, Command, Op, Name, Reply, Value);
         let node = handle.node();
+        self.post.begin();
         for _ in 0..u64::MAX {
             if handle.is_over() || self.post.is_closed.load(Ordering::SeqCst) {
                 break;

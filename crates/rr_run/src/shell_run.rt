@@ -4,7 +4,8 @@ ghost use Rattle.std.specs.Prelude.{◌≡◌, ◌⊎◌, ℕ, length, IfOk, IfS
 ghost use Rattle.std.specs.Io.KnownBytes.{Keeps};
 ghost use Rattle.std.specs.Thread.{IsSend, IsSync};
 ghost use Rattle.rr_cli.specs.Refusals.{status_of};
-ghost use Rattle.rr_run.specs.Shells.{Talks, IsClientBy, EndsOnTalk, EndsOnShell, EndsOnShellWords};
+ghost use Rattle.rr_shell.specs.Talks.{Talks};
+ghost use Rattle.rr_run.specs.Shells.{IsClientBy, EndsOnTalk, EndsOnShell, EndsOnShellWords};
 
 use crate::folder::{Folders, Opening, open_folders};
 use crate::lock::Lockable;
@@ -56,6 +57,10 @@ impl<'x, R: Files + AllocGlobal + Wait> Console<'x, R> {
 }
 
 impl<'x, R: Files + AllocGlobal + Wait> Asked for Console<'x, R> {
+    fn wait_until_ready(&mut self) -> Result<(), Refusal> {
+        self.post.wait_until_begun(self.rt)
+    }
+
     fn submit(&mut self, node: NodeId, op: &Op) -> Result<Answer, Refusal> {
         made_of!(Answer, ScriptLine, Command, Op, Name, Reply, Value);
         let request = self.next_request()?;
@@ -206,6 +211,7 @@ fn talk_beside<
     rt: &R,
     nodes: Nodes,
     disks: Vec<FileDisk<OpenedFile<F>>>,
+    clients: Vec<Vec<Teller<'_>>>,
     post: &Post,
     asked: A,
     input: &mut I,
@@ -213,10 +219,6 @@ fn talk_beside<
 ) -> Result<(), Stop>
     ensures { Talks nodes (I.reading input.old) (I.reading input.new) (O.printing out.old) (O.printing out.new) result }
 {
-    let clients = match tellers(rt.alloc(), nodes, post) {
-        Ok(clients) => clients,
-        Err(refusal) => return Err(Stop::Refused(refusal)),
-    };
     let alloc = rt.alloc();
     let work = Talking {
         alloc,
@@ -283,6 +285,10 @@ fn shell_in<
         Ok(post) => post,
         Err(refusal) => return end_by_refusal(err, &refusal),
     };
+    let clients = match tellers(rt.alloc(), nodes, &post) {
+        Ok(clients) => clients,
+        Err(refusal) => return end_by_refusal(err, &refusal),
+    };
     let console = Console {
         rt,
         dir,
@@ -290,7 +296,7 @@ fn shell_in<
         block,
         post: &post,
     };
-    let talked = talk_beside(rt, nodes, disks, &post, console, input, out);
+    let talked = talk_beside(rt, nodes, disks, clients, &post, console, input, out);
     drop(locks);
     end_by_talk(rt, err, dir, nodes, talked, post.into_refusal())
 }

@@ -1,5 +1,5 @@
 -- The talk of a shell with n nodes.
-use Rattle.std.specs.Prelude.{◌≡◌, ℕ, Bool, true, false, ◌&&◌, ◌==◌, List, [], Option, None, Some, Ok, Err, Vec}
+use Rattle.std.specs.Prelude.{◌≡◌, ℕ, Bool, true, false, ◌&&◌, ◌==◌, List, [], Option, None, Some, Result, Ok, Err, Vec}
 use Rattle.std.specs.Str.{bytes_eq}
 use Rattle.std.specs.declared.alloc.Global.{Global}
 use Rattle.rr_types.specs.declared.command.Op.{Op}
@@ -13,6 +13,7 @@ use Rattle.rr_shell.specs.declared.shell_line.ShellLine.TheVariants.{Submit, Loo
 use Rattle.rr_shell.specs.declared.shell_line.LineFault.{LineFault}
 use Rattle.rr_shell.specs.declared.shell_line.LineFault.TheVariants.{TooLong}
 use Rattle.rr_shell.specs.declared.talking.Said.{Said}
+use Rattle.rr_shell.specs.declared.talking.Stop.{Stop}
 use Rattle.rr_shell.specs.Hearings.{Hears}
 use Rattle.rr_shell.specs.Lines.{shell_line_at}
 use Rattle.rr_shell.specs.Texts.{answer_line, move_line, help_line, fault_line}
@@ -92,3 +93,8 @@ pub record BreaksOff (n : ℕ) (from : Reading) (old new : Printing) : Type 0 wh
   pub printed : Printing
   pub talk : Talk n from old node heard printed
   pub front : IsFrontSaid printed new
+
+-- a talk: over, or broken off
+abbrev pub Talks : ℕ → Reading → Reading → Printing → Printing → Result (Unit {0}) Stop → Type 0
+Talks n from to old new (Ok done) = HasTalked n from to old new
+Talks n from to old new (Err stop) = BreaksOff n from old new

@@ -8,6 +8,10 @@ use rr_types::{Name, NodeId, Op, Refusal};
 
 /// Nodes that a shell asks.
 pub trait Asked {
+    /// Waits until they can be asked.
+    /// Errors: why they can't be.
+    fn wait_until_ready(&mut self) -> Result<(), Refusal>;
+
     /// Submits an operation at a node under a request number of its own, and waits for the reply.
     /// Errors: why the nodes can't be asked any more.
     fn submit(&mut self, node: NodeId, op: &Op) -> Result<Answer, Refusal>

@@ -1,7 +1,7 @@
 //! The talk of a shell: it hears a line, says what there is to say to it, and hears the next.
 
-ghost use Rattle.std.specs.Prelude.{◌≡◌, ◌<◌, IfOk, OnOk, OnErr};
-ghost use Rattle.rr_shell.specs.Talks.{IsSaidToRequest, IsSaidTo, IsTurn, IsFrontSaid, HasTalked, BreaksOff};
+ghost use Rattle.std.specs.Prelude.{◌≡◌, ◌<◌, IfOk, OnErr};
+ghost use Rattle.rr_shell.specs.Talks.{IsSaidToRequest, IsSaidTo, IsTurn, IsFrontSaid, Talks};
 ghost use Rattle.rr_shell.specs.Texts.{answer_line, move_line, help_line, fault_line};
 
 use crate::answering::Asked;
@@ -147,11 +147,11 @@ fn first_node(nodes: Nodes) -> NodeId
     }
 }
 
-/// Hears line after line, and says to each what there is to say before it hears the next, until a line asks for the end or
-/// the input is at its end. Node 0 is asked first.
+/// Waits until the nodes can be asked. Then it hears line after line, and says to each what there is to say before it hears the
+/// next, until a line asks for the end or the input is at its end. Node 0 is asked first.
 ///
 /// # Errors
-/// `Refused`: what `Asked` refuses with, or `OutOfMemory`; `Unread` and `Unprinted`: those of the streams. By then a front of
+/// `Refused`: what `asked` refuses with, or `OutOfMemory`; `Unread` and `Unprinted`: those of the streams. By then a front of
 /// one more line may have been said.
 pub fn talk<I: Source, O: Sink, A: Asked>(
     alloc: Global,
@@ -160,9 +160,11 @@ pub fn talk<I: Source, O: Sink, A: Asked>(
     input: &mut I,
     out: &mut O,
 ) -> Result<(), Stop>
-    ensures talked { OnOk result (HasTalked nodes (I.reading input.old) (I.reading input.new) (O.printing out.old) (O.printing out.new)) }
-    ensures broken_off { OnErr result (BreaksOff nodes (I.reading input.old) (O.printing out.old) (O.printing out.new)) }
+    ensures { Talks nodes (I.reading input.old) (I.reading input.new) (O.printing out.old) (O.printing out.new) result }
 {
+    if let Err(refusal) = asked.wait_until_ready() {
+        return Err(Stop::Refused(refusal));
+    }
     let mut node = first_node(nodes);
     'turns: for _ in 0..u64::MAX {
         match take_turn(alloc, nodes, node, asked, input, out)? {

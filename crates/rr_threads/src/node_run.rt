@@ -7,7 +7,7 @@ use crate::client::{Client, serve};
 use crate::desk::{Counter, Desk};
 use crate::flushing::{Flusher, flush_all};
 use crate::node_loop::{Runner, run_node};
-use crate::publishing::publish_all;
+use crate::publishing::{publish_all, publish_first};
 use crate::shared::Shared;
 use rr_core::Core;
 use rr_disk::Disk;
@@ -308,6 +308,9 @@ fn run_crew<
         seats: _seats,
     } = ends;
     let desk: Desk<W> = Desk::new(node, Locked::new(core), counters);
+    if let Err(refusal) = publish_first(rt, &desk, &mut publisher) {
+        shared.running.fail(rt, node, refusal);
+    }
     run_threads(
         rt,
         alloc,

@@ -26,6 +26,17 @@ fn follow_node<W: WindowName, R: Wait>(
     }
 }
 
+/// Publishes what a node has from its disk, so that no client looks at less.
+pub fn publish_first<W: WindowName, R: Wait>(
+    rt: &R,
+    desk: &Desk<W>,
+    publisher: &mut Publisher<W>,
+) -> Result<(), Refusal> {
+    follow(desk.locked.lock(rt).core(), publisher)?;
+    drop(publisher.publish(rt)?);
+    Ok(())
+}
+
 /// The clients that wait for the oldest request that was acknowledged get receipts, once its reply is published. Answers
 /// whether there was one.
 fn tell_next<W: WindowName, R: Wait>(

@@ -1,0 +1,201 @@
+#!/usr/bin/env python3
+"""`rr shell` is killed at random moments, over one folder again and again, while names are claimed and updated line by line.
+
+    hostile/shell_kills.py RR [--count 50] [--seed 1] [--nodes 3] [--seconds 600]
+
+RR is the program. Behind each kill it is started again over the same folder, and each answer that was read before has to hold: at
+once at the node that gave it, and at every node once that has acknowledged a command that came later. The command whose answer
+wasn't read counts or doesn't; its name is used no more. The file of request numbers never holds a part of a number, and grows
+by one block a start. The script ends with status 1 where something is otherwise; it ends by itself, and removes its folder."""
+import argparse
+import collections
+import os
+import random
+import select
+import shutil
+import subprocess
+import sys
+import tempfile
+import threading
+import time
+
+BLOCK = 1048576
+LIMIT = 20
+
+
+class Wrong(Exception):
+    """Something isn't as it has to be."""
+
+
+class Shell:
+    """A shell that runs, asked line by line."""
+
+    def __init__(self, rr, nodes, folder):
+        words = [rr, "shell", "--nodes", str(nodes), "--dir", folder, "--client", "7"]
+        self.child = subprocess.Popen(words, stdin=subprocess.PIPE, stdout=subprocess.PIPE, stderr=subprocess.PIPE, bufsize=0)
+        self.read = b""
+
+    def ask(self, line):
+        """The answer to a line; None where the shell has gone before it gave one."""
+        try:
+            self.child.stdin.write(line.encode() + b"\n")
+        except BrokenPipeError:
+            return None
+        while b"\n" not in self.read:
+            if not select.select([self.child.stdout], [], [], LIMIT)[0]:
+                raise Wrong(f"no answer to {line!r} in {LIMIT} seconds")
+            more = os.read(self.child.stdout.fileno(), 65536)
+            if not more:
+                return None
+            self.read += more
+        answer, _, self.read = self.read.partition(b"\n")
+        return answer.decode()
+
+    def end(self):
+        """Its status and standard error, once it has ended."""
+        try:
+            self.child.stdin.close()
+        except BrokenPipeError:
+            pass
+        try:
+            status = self.child.wait(LIMIT)
+        except subprocess.TimeoutExpired:
+            self.child.kill()
+            self.child.wait()
+            raise Wrong("it doesn't end") from None
+        said = self.child.stderr.read()
+        self.child.stdout.close()
+        self.child.stderr.close()
+        return status, said
+
+
+class Names:
+    """What has to hold of each name: its values, and the node that acknowledged it last."""
+
+    def __init__(self):
+        self.values, self.nodes, self.doubted = {}, {}, {}
+        self.made = 0
+
+    def draw(self, rng, node):
+        """A line that claims a new name, or updates one that has no command in doubt."""
+        if self.values and rng.random() < 0.5:
+            return "update", rng.choice(sorted(self.values)), f"v{rng.randrange(10**6)}"
+        self.made += 1
+        return "claim", f"name-{self.made}", f"v{rng.randrange(10**6)}"
+
+    def acknowledge(self, node, name, value):
+        self.values[name], self.nodes[name] = value, node
+
+    def doubt(self, name, value):
+        self.doubted[name] = {self.values.pop(name, None), value}
+
+
+def told(name, value):
+    """The answer to a look that sees this value; no client has the name where there is none."""
+    return f"{name} free" if value is None else f"{name} bound 7 {value}"
+
+
+def need(holds, what):
+    if not holds:
+        raise Wrong(what)
+
+
+def check(shell, names, counts, nodes):
+    """Whether all that was answered holds in a shell that was started again."""
+    for name, node in list(names.nodes.items()):
+        if name in names.values:
+            need(shell.ask(f"at {node}") == f"at {node}", "at")
+            answer = shell.ask(f"look {name}")
+            need(answer == told(name, names.values[name]), f"node {node}: {answer!r}, wanted {told(name, names.values[name])!r}")
+            counts["answers that held at their node"] += 1
+    for node in range(nodes):
+        shell.ask(f"at {node}")
+        names.made += 1
+        fresh = f"name-{names.made}"
+        need(shell.ask(f"claim {fresh} x") == "claimed", f"{fresh} isn't claimed at node {node}")
+        names.acknowledge(node, fresh, "x")
+        for name, value in names.values.items():
+            answer = shell.ask(f"look {name}")
+            need(answer == told(name, value), f"node {node}: {answer!r}, wanted {told(name, value)!r}")
+            counts["answers that held at every node"] += 1
+        for name, values in names.doubted.items():
+            answer = shell.ask(f"look {name}")
+            need(answer in {told(name, value) for value in values}, f"node {node}: {answer!r}, wanted one of {values}")
+
+
+def stored(folder):
+    """The number in the file of request numbers; 0 where there is none."""
+    try:
+        with open(f"{folder}/requests", "rb") as file:
+            data = file.read()
+    except FileNotFoundError:
+        return 0
+    need(data[-1:] == b"\n" and data[:-1].isdigit() and int(data) % BLOCK == 0, f"the file of numbers holds {data!r}")
+    return int(data)
+
+
+def play(shell, names, rng, counts, nodes):
+    """Asks until the shell is gone. Answers whether a command was in doubt then."""
+    node = 0
+    while True:
+        if rng.random() < 0.2:
+            node = rng.randrange(nodes)
+            if shell.ask(f"at {node}") is None:
+                return
+        verb, name, value = names.draw(rng, node)
+        answer = shell.ask(f"{verb} {name} {value}")
+        if answer is None or answer == "unacknowledged":
+            names.doubt(name, value)
+            counts["commands in doubt"] += 1
+            if answer is None:
+                return
+        else:
+            need(answer == {"claim": "claimed", "update": "updated"}[verb], f"{verb} {name}: {answer!r}")
+            names.acknowledge(node, name, value)
+            counts["answers"] += 1
+
+
+def kills(asked, folder, counts):
+    rng, names, before = random.Random(asked.seed), Names(), 0
+    begun = time.monotonic()
+    while counts["kills"] < asked.count and time.monotonic() - begun < asked.seconds:
+        shell = Shell(asked.rr, asked.nodes, folder)
+        timer = threading.Timer(rng.uniform(0, 0.12), shell.child.kill)
+        timer.start()
+        play(shell, names, rng, counts, asked.nodes)
+        timer.join()
+        status, said = shell.end()
+        need(status == -9 and not said, f"status {status}: {said!r}")
+        counts["kills"] += 1
+        number = stored(folder)
+        need(before <= number <= before + BLOCK, f"the file of numbers went from {before} to {number}")
+        shell = Shell(asked.rr, asked.nodes, folder)
+        check(shell, names, counts, asked.nodes)
+        status, said = shell.end()
+        need(status == 0 and not said, f"status {status}: {said!r}")
+        before = stored(folder)
+        need(before == number + BLOCK, f"the file of numbers went from {number} to {before}")
+    need(counts["kills"] >= asked.count, f"only {counts['kills']} kills in {asked.seconds} seconds")
+
+
+def main():
+    words = argparse.ArgumentParser(description=__doc__, formatter_class=argparse.RawDescriptionHelpFormatter)
+    words.add_argument("rr")
+    words.add_argument("--count", type=int, default=50)
+    words.add_argument("--seed", type=int, default=1)
+    words.add_argument("--nodes", type=int, default=3)
+    words.add_argument("--seconds", type=float, default=600)
+    asked = words.parse_args()
+    room = tempfile.mkdtemp(prefix="shell_kills", dir="/dev/shm" if os.path.isdir("/dev/shm") else None)
+    counts = collections.Counter()
+    try:
+        kills(asked, f"{room}/nodes", counts)
+    except Wrong as why:
+        print(f"hostile/shell_kills.py: seed {asked.seed}, behind {counts['kills']} kills: {why}")
+        sys.exit(1)
+    finally:
+        shutil.rmtree(room)
+        print(", ".join(f"{count} {what}" for what, count in sorted(counts.items())))
+
+
+main()
