@@ -83,6 +83,15 @@ TOUR = [
         ],
     ),
     (
+        "A registry to talk to",
+        "`rr shell` answers line by line, to a person or through a pipe. What it answered holds after a restart, and request numbers go on.",
+        [
+            "printf 'claim printer room-4\\nat 1\\nlook printer\\nupdate printer room-5\\nclaim A\\n' | rr shell --nodes 3 --dir talk --client 7",
+            "printf 'look printer\\ntransfer printer 9\\nrelease printer\\n' | rr shell --nodes 3 --dir talk --client 7; cat talk/requests",
+            "printf 104857 > talk/requests; echo 'look printer' | rr shell --nodes 3 --dir talk",
+        ],
+    ),
+    (
         "Nodes in threads, disks and tapes",
         "`rr run` runs nodes in threads. `rr show` reads the two files of a node's disk, `rr migrate` opens one of version 1, and `rr audit` reads a record of what nodes did.",
         [
