@@ -1,4 +1,4 @@
-//! The request numbers of a shell. They are unique over its restarts, whatever the clock does: the file `DIR/requests` holds the
+//! The request numbers of a shell. They are unique over its restarts, whatever the clock does. The file `DIR/requests` holds the
 //! first number that is not reserved, in decimal, and a line feed.
 
 ghost use Rattle.std.specs.Prelude.{◌≡◌, ◌+◌, ◌^◌, ◌<◌, ◌≤◌, ◌++◌, ◌∷◌, [], IfOk, IfErr, IfSome, decimal};
@@ -102,11 +102,11 @@ fn replace_file<R: Files>(
     fs::open(rt, dir)?.sync_all()
 }
 
-/// Reserves the next block of request numbers of a folder that is locked: none of them was ever given by an earlier block.
+/// Reserves the next block of request numbers of a folder that is locked. No earlier block has any of them.
 ///
 /// # Errors
-/// `Malformed`, where the file holds no number: it is left as it is; `TooLarge`, where numbers are out; `Device`, where a file
-/// can't be read or written: it is unknown then which of both numbers it holds; `OutOfMemory`.
+/// `OutOfMemory`. `Malformed`, where the file holds no number: it is left as it is. `TooLarge`, where numbers are out. `Device`,
+/// where a file can't be read or written; the file may hold either number then.
 pub(crate) fn reserve<R: Files + AllocGlobal>(rt: &R, dir: &str) -> Result<Block, Refusal>
     ensures { IfOk result (λ b. b.end ≡ b.next + 1048576) }
 {

@@ -196,8 +196,8 @@ fn beside_nodes<
 }
 
 // Takes back what was lent. This use ties a reference that comes back to the one that was lent.
-fn take_back<T>(_lent: &mut T)
-    ensures { _lent.new ≡ _lent.old }
+fn take_back<T>(lent: &mut T)
+    ensures { lent.new ≡ lent.old }
 {}
 
 // Talks while the nodes run.
@@ -354,8 +354,8 @@ fn shell_over<
     }
 }
 
-/// Runs as many nodes as a word names, over the folders in the folder DIR, and answers the lines of the input as the client that
-/// a word names, or client 0. Words that are no such numbers, which the command line doesn't let through, end with 2.
+/// Runs as many nodes as a word names, over the folders in the folder DIR, and answers the lines of the input. The client is that
+/// which a word names, or client 0. Words that are no such numbers, which the command line doesn't let through, end with 2.
 pub(crate) fn shell_by_words<
     F: Read + Write + Seek + OpenFile + Drop + Send + Lockable,
     R: Files<File = F> + AllocGlobal + Threads + Wait + Sync,

@@ -23,8 +23,8 @@ pub enum Heard {
     End,
 }
 
-// The next byte, unless the input is at its end. A byte at a time is read, so that what the shell doesn't hear is left for
-// whoever reads the input next, and no answer waits for a line behind the one that asks.
+// The next byte, unless the input is at its end. What the shell doesn't hear is thus left for whoever reads the input next. No
+// answer waits for a line behind the one that asks.
 fn next_byte<I: Source>(input: &mut I) -> io::Result<Option<u8>>
     ensures next { IfOk result (IsNextByte (I.reading input.old) (I.reading input.new)) }
     ensures faults { (I.reading input.old).faults ≤ (I.reading input.new).faults }

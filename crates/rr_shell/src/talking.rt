@@ -148,7 +148,7 @@ fn first_node(nodes: Nodes) -> NodeId
 }
 
 /// Waits until the nodes can be asked. Then it hears line after line, and says to each what there is to say before it hears the
-/// next, until a line asks for the end or the input is at its end. Node 0 is asked first.
+/// next. It ends with a line that asks for that, or with the input. Node 0 is asked first.
 ///
 /// # Errors
 /// `Refused`: what `asked` refuses with, or `OutOfMemory`; `Unread` and `Unprinted`: those of the streams. By then a front of
