@@ -16,4 +16,4 @@ said_to_line n p line asks (Some said) read is = granted line asks said.node sai
 
 -- a talk that is broken off before it begins
 pub not_begun : (n : ℕ) (from : Reading) (old : Printing) → BreaksOff n from old old
-not_begun n from old = record { node = 0; heard = from; printed = old; talk = begun; front = ([], [], [], refl, Appends-nil old.contents) }
+not_begun n from old = record { node = 0; heard = from; printed = old; talk = begun; front = ([], ([], [], refl, Appends-nil old.contents)) }

@@ -1,6 +1,10 @@
 use Rattle.std.proofs.Common.{ℕ, subst, sym}
 use Rattle.rr_shell.specs.Talks.{Talk, begun, said}
+use Rattle.rr_shell.proofs.TalkLemmas.{not_begun}
 use Rattle.rr_shell.proofs.talking.talk.Goals as goal
+
+pub returns-in-Err : goal.returns-in-Err
+returns-in-Err g c = not_begun c.args.nodes (g.I.Source.reading c.args.input.now) (g.O.Sink.printing c.args.out.now)
 
 pub turns-init : goal.turns-init
 turns-init g c =
