@@ -1,5 +1,5 @@
 -- How a shell ends behind a talk.
-use Rattle.std.proofs.Common.{◌≡◌, ◌⊎◌, ◌∙◌, ℕ, Result, Ok, Err, inl, inr}
+use Rattle.std.proofs.Common.{◌≡◌, ◌⊎◌, ℕ, Result, Ok, Err, inl, inr}
 use Rattle.rr_types.specs.declared.refusal.Refusal.TheVariants.{Device, OutOfMemory}
 use Rattle.rr_stream.specs.Streams.{Printing, Reading}
 use Rattle.rr_shell.specs.declared.talking.Stop.{Stop}

@@ -21,7 +21,6 @@ use rr_stream::{Sink, Source};
 use rr_threads::run_clients;
 use rr_types::{Command, Name, NodeId, Nodes, Op, Refusal, Reply, RequestNo, Value, made_of};
 use rr_words::LAST_CLIENT;
-use std::alloc::Global;
 use std::fs::OpenFile;
 use std::io::{Read, Seek, Write};
 use std::rt::Files;
@@ -87,43 +86,36 @@ impl<'x, R: Files + AllocGlobal + Wait> Asked for Console<'x, R> {
     }
 }
 
-// Work that is done beside a run. What it gives is known by this trait even where it is done in a scope of threads.
+// Work that is done beside a run. What a thread's scope leaves of a reference is known only of what comes back from it, by this trait.
 trait Work {
     type Output;
+
+    ghost can_run: { Self → Type 0 };
 
     ghost gives: { Self → Self.Output → Type 0 };
 
     fn run(self) -> Self::Output
+        requires { can_run self }
         ensures { gives self result };
 }
 
-// A talk that is to be held, and what it borrows.
+// A closure that is lent.
 #[derive(Drop)]
-struct Talking<'a, I, O, A> {
-    alloc: Global,
-    nodes: Nodes,
-    asked: A,
-    input: &'a mut I,
-    out: &'a mut O,
+struct Lent<'a, F> {
+    work: &'a mut F,
 }
 
-impl<'a, I: Source, O: Sink, A: Asked + Drop> Work for Talking<'a, I, O, A> {
-    type Output = (&'a mut I, &'a mut O, Result<(), Stop>);
+impl<'a, F: FnMut() -> A, A> Work for Lent<'a, F> {
+    type Output = (&'a mut F, A);
 
-    ghost gives = { λ t r. (r.0.ghost_name ≡ t.input.ghost_name) × (r.1.ghost_name ≡ t.out.ghost_name)
-        × Talks t.nodes (I.reading t.input.now) (I.reading r.0.now) (O.printing t.out.now) (O.printing r.1.now) r.2 };
+    ghost can_run = { λ l. F.pre l.work.now };
 
-    fn run(self) -> (&'a mut I, &'a mut O, Result<(), Stop>) {
-        let Talking {
-            alloc,
-            nodes,
-            asked,
-            input,
-            out,
-        } = self;
-        let mut asked = asked;
-        let talked = talk(alloc, nodes, &mut asked, input, out);
-        (input, out, talked)
+    ghost gives = { λ l r. (r.0.ghost_name ≡ l.work.ghost_name) × F.step l.work.now r.1 r.0.now };
+
+    fn run(self) -> (&'a mut F, A) {
+        let Lent { work } = self;
+        let given = work();
+        (work, given)
     }
 }
 
@@ -165,7 +157,7 @@ fn start_nodes<
 }
 
 // Does some work while the nodes run. Then they come to their end.
-fn beside_nodes<
+fn run_beside<
     F: Read + Write + Seek + OpenFile + Drop + Send,
     R: AllocGlobal + Threads + Wait + Sync,
     T: Work<Output = A> + Drop,
@@ -178,13 +170,14 @@ fn beside_nodes<
     post: &Post,
     work: T,
 ) -> A
+    requires { T.can_run work }
     ensures { T.gives work result }
 {
     thread::scope(
         thread::scope_env(),
         rt,
         move |scope|
-            requires { IsSend F.row × IsSync R.row }
+            requires { IsSend F.row × IsSync R.row × T.can_run work }
             ensures { T.gives work result }
         {
             start_nodes(scope, rt, nodes, disks, clients, post);
@@ -199,6 +192,28 @@ fn beside_nodes<
 fn take_back<T>(lent: &mut T)
     ensures { lent.new ≡ lent.old }
 {}
+
+// Calls a closure while the nodes run.
+fn call_beside<
+    F: Read + Write + Seek + OpenFile + Drop + Send,
+    R: AllocGlobal + Threads + Wait + Sync,
+    C: FnMut() -> A,
+    A,
+>(
+    rt: &R,
+    nodes: Nodes,
+    disks: Vec<FileDisk<OpenedFile<F>>>,
+    clients: Vec<Vec<Teller<'_>>>,
+    post: &Post,
+    work: &mut C,
+) -> A
+    requires { C.pre work.old }
+    ensures { C.step work.old result work.new }
+{
+    let (work, given) = run_beside(rt, nodes, disks, clients, post, Lent { work });
+    take_back(work);
+    given
+}
 
 // Talks while the nodes run.
 fn talk_beside<
@@ -220,17 +235,15 @@ fn talk_beside<
     ensures { Talks nodes (I.reading input.old) (I.reading input.new) (O.printing out.old) (O.printing out.new) result }
 {
     let alloc = rt.alloc();
-    let work = Talking {
-        alloc,
+    let mut asked = asked;
+    call_beside(
+        rt,
         nodes,
-        asked,
-        input,
-        out,
-    };
-    let (input, out, talked) = beside_nodes(rt, nodes, disks, clients, post, work);
-    take_back(input);
-    take_back(out);
-    talked
+        disks,
+        clients,
+        post,
+        &mut || talk(alloc, nodes, &mut asked, input, out),
+    )
 }
 
 // Ends by a talk, and the refusal of the run if that has one.

@@ -1,4 +1,4 @@
-use Rattle.std.proofs.Common.{◌≡◌, ℕ, List, Option, None, Some, option_map, Bor, ap, refl}
+use Rattle.std.proofs.Common.{ℕ, List, option_map, Bor, ap, refl}
 use Rattle.rr_types.specs.declared.refusal.Refusal.TheVariants.{Device}
 use Rattle.rr_run.specs.Runs.{refused}
 use Rattle.rr_run.proofs.script_run.run_over.Goals as goal
