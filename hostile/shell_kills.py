@@ -1,5 +1,6 @@
 #!/usr/bin/env python3
-"""`rr shell` is killed at random moments, over one folder again and again, while names are claimed and updated line by line.
+"""`rr shell` is killed at random moments, over one folder again and again, while names are claimed and updated line by line. A
+fresh folder follows before names run out, of which a cluster binds 4,096.
 
     hostile/shell_kills.py RR [--count 50] [--seed 1] [--nodes 3] [--seconds 600]
 
@@ -19,6 +20,7 @@ import tempfile
 import threading
 import time
 
+MOST_NAMES = 2000
 BLOCK = 1048576
 LIMIT = 20
 
@@ -159,6 +161,9 @@ def kills(asked, folder, counts):
     rng, names, before = random.Random(asked.seed), Names(), 0
     begun = time.monotonic()
     while counts["kills"] < asked.count and time.monotonic() - begun < asked.seconds:
+        if names.made > MOST_NAMES:
+            shutil.rmtree(folder)
+            names, before = Names(), 0
         shell = Shell(asked.rr, asked.nodes, folder)
         timer = threading.Timer(rng.uniform(0, 0.12), shell.child.kill)
         timer.start()
