@@ -104,8 +104,13 @@ def functions_in(text):
 
 
 def with_first_lines(text):
-    """The same, each with its first line."""
-    firsts = [at for at, line in enumerate(text.split("\n"), 1) if re.match(r" *(?:pub(?:\([a-z]+\))? )?fn \w+", line)]
+    """The same, each with its first line, which may be an attribute's."""
+    lines, firsts = text.split("\n"), []
+    for at, line in enumerate(lines, 1):
+        if re.match(r" *(?:pub(?:\([a-z]+\))? )?fn \w+", line):
+            while at > 1 and re.match(r" *#\[", lines[at - 2]):
+                at -= 1
+            firsts.append(at)
     return zip(firsts, functions_in(text))
 
 
