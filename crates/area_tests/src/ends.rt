@@ -9,7 +9,7 @@ use rr_types::{
 use std::alloc::Global;
 use std::process::Abort;
 
-/// So many facts are in a full group.
+/// The number of facts in a full group.
 const FACTS: usize = 64;
 
 /// An empty snapshot ends at gate 28. A fact `Enter` of a name and a value of 64 bytes has 156 bytes, so a full group
@@ -41,7 +41,7 @@ fn long_fact(rt: &impl Abort) -> Fact {
     entered(rt, &[b'a'; 64], &[b'x'; 64])
 }
 
-/// A group of so many facts of 156 bytes and of a last one.
+/// A group of `count` facts of 156 bytes each, and then of the fact `last`.
 fn group_of(rt: &impl Abort, alloc: Global, serial: u64, count: usize, last: Fact) -> Group {
     let mut facts = Vec::new(alloc);
     for _ in 0..count {
@@ -56,7 +56,7 @@ fn full_group(rt: &impl Abort, alloc: Global, serial: u64) -> Group {
     group_of(rt, alloc, serial, FACTS - 1, long_fact(rt))
 }
 
-/// The group that ends an area behind the full groups, but for so many bytes more in its last value.
+/// The group that, after the full groups, ends where the area does, but for `more` extra bytes in its last value.
 fn last_group(rt: &impl Abort, alloc: Global, more: usize) -> Group {
     let value = [b'x'; 64];
     let last = entered(rt, b"a", &value[..LAST_VALUE.saturating_add(more).min(64)]);

@@ -75,7 +75,7 @@ fn put_frame(area: &mut Vec<u8>, payload: &[u8]) -> Result<(), Refusal> {
     Ok(())
 }
 
-/// An area of at least so many bytes, as flushes leave it.
+/// An area of at least `size` bytes, as flushes leave it.
 pub fn filled(alloc: Global, size: u64) -> Result<Vec<u8>, Refusal> {
     let mut area = Vec::new(alloc);
     put_frame(&mut area, &snapshot(alloc)?)?;

@@ -1,8 +1,8 @@
-//! How long it takes to open what nodes wrote: `bench_opening WORD..` opens for each word, where it is a number, an
-//! area of groups of so many kilobytes that it makes in memory, and else the disk of the files `a0` and `a1` in the
-//! folder of that name, of node 0 of 1.
+//! How long it takes to open what nodes wrote. For each word that is a number, `bench_opening WORD..` makes an area of
+//! groups in memory, that many kilobytes large, and opens it. For any other word it opens the disk of the files `a0`
+//! and `a1` in the folder of that name, as node 0 of 1.
 //!
-//! Standard output has what was opened, standard error the microseconds of each opening.
+//! Standard output says what was opened, standard error how many microseconds each opening took.
 #![tactic(auto)]
 
 mod area;
@@ -42,7 +42,7 @@ fn opened(alloc: Global, area: &[u8]) -> Result<Found, Refusal> {
     }
 }
 
-/// Makes an area of so many kilobytes, and opens it.
+/// Makes an area of `kilobytes` kilobytes in memory, and opens it.
 fn open_memory(rt: &HostRuntime, kilobytes: u64) -> Result<()> {
     let area = filled(rt.alloc(), kilobytes.saturating_mul(1024))?;
     let start = Instant::now(rt)?;

@@ -21,7 +21,7 @@ struct Sums {
     weight: u64,
 }
 
-/// Encodes and decodes each of so many messages.
+/// Encodes and decodes `count` messages, one after another.
 fn go_through(alloc: Global, texts: &Texts, count: u64) -> Result<Sums, Refusal> {
     made_of!(Body, Command, Op);
     let nodes = Nodes::new(7)?;

@@ -5,7 +5,7 @@ use std::alloc::Global;
 use std::io;
 use std::io::ErrorKind;
 
-/// What a file was asked: to read or write so many bytes from an offset on, or to sync.
+/// What a file was asked to do: to read or write, at this offset, this many bytes, or to sync.
 #[derive(Clone, Copy, Debug, PartialEq, Eq)]
 pub enum Asked {
     Read(u64, u64),

@@ -29,7 +29,7 @@ const LAST_SWITCH: [u8; 29] = [
 /// Area 0 whose first frame is cut short behind its length.
 const CUT_FRAME: [u8; 5] = [0xA5, 0, 0, 0, 0x17];
 
-/// A node that has opened over an area, with so many facts and decided commands.
+/// A node that has opened over `area`. Asserts that the opening found `facts` facts and `decided` decided commands.
 fn opened(rt: &impl Abort, alloc: Global, area: &[u8], facts: u64, decided: u64) -> Node {
     let mut node = node_over(alloc, area).expect(rt, "memory");
     match open(alloc, &mut node).expect(rt, "an opening") {

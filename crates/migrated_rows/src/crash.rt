@@ -11,10 +11,11 @@ use std::alloc::{AllocError, Global};
 /// The bytes that loose places take: an open gate's, and a closed one's.
 const FILLS: [u8; 2] = [0xA5, 0];
 
-/// How many pairs of cuts are drawn before the first device call of an opening, and behind each: 10,000 where these are nine.
+/// How many pairs of cuts are drawn before the first device call of an opening, and after each call: 10,000 for nine
+/// calls.
 const DRAWN: u32 = 1_000;
 
-/// A crash behind so many device calls: how many bytes each area keeps at most, and what its loose places take.
+/// A crash after `calls` device calls: how many bytes each area keeps at most, and the byte that replaces loose ones.
 #[derive(Clone, Copy, Debug)]
 pub struct Crash {
     pub calls: u32,
@@ -34,7 +35,7 @@ impl Crash {
     }
 }
 
-/// Which pairs of cuts are tried behind a device call.
+/// Which pairs of cuts are tried after a device call.
 #[derive(Clone, Copy, Debug)]
 pub enum Cuts {
     /// Every pair, each cut from 0 to one past the end of its area.
@@ -44,7 +45,7 @@ pub enum Cuts {
 }
 
 impl Cuts {
-    /// The crashes that are tried on a disk behind so many device calls.
+    /// The crashes to try on a disk after `calls` device calls.
     pub fn crashes(
         self,
         alloc: Global,

@@ -4,7 +4,7 @@ ghost use Rattle.std.specs.Prelude.{◌<◌};
 
 use rr_types::{NodeId, Nodes};
 
-/// One of so many nodes.
+/// One of `nodes` nodes.
 #[derive(Clone, Copy, Debug)]
 pub struct Seat {
     pub nodes: Nodes,
@@ -13,7 +13,7 @@ pub struct Seat {
 }
 
 impl Seat {
-    /// The node of this number, of so many, where there is one.
+    /// Node `node` of `nodes` nodes, if there is such a node.
     fn new(node: u8, nodes: u8) -> Option<Seat> {
         let nodes = Nodes::new(nodes).ok()?;
         let node = NodeId::new(nodes, node)?;

@@ -198,7 +198,7 @@ fn faults_of_a_snapshot(rt: HostRuntime) {
     }
 }
 
-/// A group of one fact: instance 0 decides `7.1 claim`, of a name of so many letters b.
+/// A group of one fact: instance 0 decides `7.1 claim`, of a name of `count` letters b.
 fn of_long_name(rt: &impl Abort, alloc: Global, count: u8) -> Vec<u8> {
     let mut bytes = changed(rt, alloc, decided(), 28, count);
     bytes.truncate(29);

@@ -318,7 +318,7 @@ fn migrates(rt: &impl Abort, alloc: Global, second: &[u8], before: usize) {
     assert_migrated(rt, alloc, journal.into_disk());
 }
 
-/// The opening behind so many device calls, of which none is its last.
+/// The opening after `calls` more device calls, none of which is its last.
 fn after<D: Disk + Drop>(
     rt: &impl Abort,
     alloc: Global,

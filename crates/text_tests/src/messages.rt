@@ -119,7 +119,7 @@ fn is_same(body: &Body, other: &Body) -> bool {
     }
 }
 
-/// Asserts that among so many nodes these bytes are read as a message.
+/// Asserts that, among `nodes` nodes, these bytes are read as this message.
 fn assert_read(rt: &impl Abort, nodes: u8, message: &Message, bytes: &[u8]) {
     let nodes = Nodes::new(nodes).expect(rt, "nodes");
     let read = decode(nodes, bytes).expect(rt, "a message");
@@ -127,7 +127,7 @@ fn assert_read(rt: &impl Abort, nodes: u8, message: &Message, bytes: &[u8]) {
     assert!(rt; is_same(&read.body, &message.body));
 }
 
-/// Asserts that among so many nodes a message is spelled so, and that what is spelled so is read.
+/// Asserts that, among `nodes` nodes, a message is spelled as these bytes, and that these are read as it.
 fn assert_spelled(rt: &impl Abort, alloc: Global, nodes: u8, message: &Message, bytes: &[u8]) {
     let spelled = encode(alloc, message).expect(rt, "memory");
     assert_eq!(rt; spelled.as_slice(), bytes);
@@ -345,7 +345,7 @@ fn each_byte_and_each_cut(rt: HostRuntime) {
     }
 }
 
-/// Asserts that among so many nodes these bytes are read.
+/// Asserts that, among `nodes` nodes, these bytes are read as a message.
 fn assert_taken(rt: &impl Abort, nodes: u8, bytes: &[u8]) {
     let nodes = Nodes::new(nodes).expect(rt, "nodes");
     assert!(rt; decode(nodes, bytes).is_ok());
@@ -366,7 +366,7 @@ fn version_1_has_its_own_limits(rt: HostRuntime) {
     }
 }
 
-/// As this version spells it, a request to release the name of so many letters b.
+/// A request, as this version spells it, to release the name of `count` letters b.
 fn long_request(rt: &impl Abort, alloc: Global, version: u8, count: u8) -> Vec<u8> {
     let mut bytes = OLD_REQUEST.to_vec(alloc).expect(rt, "memory");
     put_at(&mut bytes, 0, version);

@@ -11,7 +11,7 @@ use std::thread::{Threads, join, map_vec, yield_now};
 /// More tries than any test needs.
 const TURNS: u32 = 10_000_000;
 
-/// So many messages each end puts.
+/// How many messages each end puts.
 const EACH: u32 = 2_000;
 
 #[test]
@@ -100,7 +100,7 @@ fn nothing_is_lost_and_each_end_keeps_its_order(rt: HostRuntime) {
     assert!(rt; taken);
 }
 
-/// So many ends fill an inbox.
+/// How many ends fill an inbox.
 const ENDS: usize = 7;
 
 /// Puts numbers from this one on until one comes back, and says how many went in.

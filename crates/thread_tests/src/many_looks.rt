@@ -10,16 +10,16 @@ use std::process::Abort;
 use std::sync::Wait;
 use std::thread::{Threads, join, map_vec, yield_now};
 
-/// So many times each seat looks at least.
+/// How many times each seat looks at least.
 const LOOKS: u32 = 1_000_000;
 
 /// More looks than any seat needs.
 const TURNS: u32 = 20_000_000;
 
-/// So many commands are published meanwhile.
+/// How many commands are published meanwhile.
 const COMMANDS: u32 = 1_000;
 
-/// The value after so many commands, whose two bytes tell their number.
+/// The value after `count` commands. Its two bytes tell `count`.
 fn value_after(count: u32) -> Result<Value, Refusal> {
     let high = b'A' + (count / 50 % 50) as u8;
     let low = b'A' + (count % 50) as u8;
@@ -34,7 +34,7 @@ fn count_of(value: &Value) -> Option<u32> {
     }
 }
 
-/// After how many commands the value was given that is seen, if client 7 has the name.
+/// After how many commands the value that is seen was given, if client 7 has the name.
 fn told(sight: &Sight) -> Option<u32> {
     match sight {
         Sight::Free => None,
@@ -60,7 +60,7 @@ fn went_back(before: Option<u32>, now: Option<u32>) -> bool {
     }
 }
 
-/// Looks at the name so often, and then until it has the last value. False where it ever went back.
+/// Looks at the name `LOOKS` times, and then until it has the last value. False where it ever went back.
 fn sees_the_last<W: WindowName>(seat: Seat<W>, name: &Name, last: Option<u32>) -> bool {
     let mut seat = seat;
     let mut before = None;

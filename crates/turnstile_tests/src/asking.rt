@@ -12,7 +12,7 @@ use std::sync::Wait;
 use std::sync::atomic::{AtomicBool, AtomicU64, Ordering};
 use std::thread::{Threads, yield_now};
 
-/// So many times a thread looks at most whether a number has come to be.
+/// How many times, at most, a thread looks whether a number has been reached.
 const LOOKS: u32 = 30_000_000;
 
 /// What the threads of a test share: the lines that are asked, and what is counted.
@@ -26,7 +26,7 @@ pub struct Shared {
     pub submitted: AtomicU64,
     /// The clients that were answered that a name is their own.
     pub right: AtomicU64,
-    /// A thread has waited for a number that didn't come to be.
+    /// A thread has waited in vain for a number to be reached.
     pub gave_up: AtomicBool,
 }
 
@@ -42,7 +42,7 @@ impl Shared {
         }
     }
 
-    /// Waits until a number is so large.
+    /// Waits until a number is at least `least`, or gives up.
     pub fn wait_for(&self, number: &AtomicU64, least: u64) {
         for _ in 0..LOOKS {
             if number.load(Ordering::SeqCst) >= least {
@@ -53,13 +53,13 @@ impl Shared {
         self.gave_up.store(true, Ordering::SeqCst);
     }
 
-    /// Whether nobody gave up, and so many clients were answered that a name is their own.
+    /// Whether nobody gave up, and `right` clients were answered that a name is their own.
     pub fn came_to(&self, right: u64) -> bool {
         !self.gave_up.load(Ordering::SeqCst) && self.right.load(Ordering::SeqCst) == right
     }
 }
 
-/// A client that asks the line at a place, so many times at most, until the answer says that the name is its own.
+/// A client that asks the line at `place`, at most `times` times, until the answer says that the name is its own.
 #[derive(Drop)]
 pub struct Asker<'s> {
     pub shared: &'s Shared,

@@ -13,7 +13,7 @@ use std::process::Abort;
 use std::sync::Wait;
 use std::thread::Threads;
 
-/// A file in memory whose writes fail after the first so many.
+/// A file in memory whose writes fail after the next `left`.
 #[derive(Drop)]
 struct WornFile {
     bytes: Vec<u8>,
@@ -68,7 +68,7 @@ impl AreaFile for WornFile {
     }
 }
 
-/// A disk whose writes fail after so many.
+/// A disk on which each file's writes fail after the first `left`.
 fn worn_disk(rt: &impl Abort, alloc: Global, left: u32) -> FileDisk<WornFile> {
     let first = WornFile {
         bytes: Vec::new(alloc),
@@ -81,7 +81,7 @@ fn worn_disk(rt: &impl Abort, alloc: Global, left: u32) -> FileDisk<WornFile> {
     FileDisk::over(first, second).expect(rt, "a disk")
 }
 
-/// A script on three nodes, whose disks stand so many writes each.
+/// Runs a script on three nodes. Each file of a node's disk takes the number of writes given for the node.
 fn ran<R: Threads + Wait + Abort + AllocGlobal + Sync>(
     rt: &R,
     writes: [u32; 3],

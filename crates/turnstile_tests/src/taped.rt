@@ -12,7 +12,7 @@ use std::process::Abort;
 use std::sync::Wait;
 use std::thread::Threads;
 
-/// A script in which a client of each node in turn claims a name and looks at it, so many in all, and its answers.
+/// A script and its answers: `count` times, a client of the next node in turn claims a name and then looks at it.
 fn claims(alloc: Global, nodes: u8, count: u8) -> Result<(String, String), AllocError>
     requires { 0 < nodes }
 {
