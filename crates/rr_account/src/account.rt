@@ -89,8 +89,8 @@ impl Account {
         }
     }
 
-    /// Whether the report has a line of the event of a line of the schedule, and what is said of the event, where so many
-    /// lines of the report stand before.
+    /// Whether the event on line `line` of the schedule has a line in the report, and what is said of the event. The
+    /// events before it have `told` lines there.
     pub(crate) fn happening(&self, line: u64, told: usize) -> (bool, Reason) {
         match self.outcome_of(line) {
             Outcome::Quiet => (false, Reason::Done),
@@ -102,7 +102,7 @@ impl Account {
         }
     }
 
-    /// The refusal of which the line of the report behind so many tells, where it tells of one.
+    /// The refusal that the report tells of on the line after its first `told` lines, if that line tells of one.
     pub(crate) fn refusal(&self, told: usize) -> Option<Refusal> {
         match self.report.lines().get(told) {
             Some(ReportLine::Refuse { refusal, .. }) => Some(*refusal),
@@ -110,7 +110,7 @@ impl Account {
         }
     }
 
-    /// The event of which the report has this line, from 1, and the event's line in the schedule.
+    /// The event that line `number` of the report, counted from 1, tells of, and the event's line in the schedule.
     pub fn behind_line(&self, number: u64) -> Option<(u64, &Event)> {
         let mut told = 0u64;
         let mut line = 2u64;

@@ -36,7 +36,8 @@ pub fn explanation(alloc: Global, account: &Account) -> Result<Vec<u8>, Refusal>
     Ok(text)
 }
 
-// Appends what there is of the event of a line, behind so many lines of the report, and says behind how many it ends.
+// Appends the event's line of the report, if it has one, and the note on the event, which is on line `line` of the
+// schedule. The text has `told` lines of the report before; gives how many it has then.
 fn push_happening(
     alloc: Global,
     text: &mut Vec<u8>,
@@ -57,7 +58,8 @@ fn push_happening(
     Ok(next)
 }
 
-// Appends the line of a report behind so many, where the event has one, and says behind how many it ends.
+// Appends the line after the first `told` lines of the report, if the event has a line. Gives how many lines of the
+// report the text has then.
 fn push_told(
     text: &mut Vec<u8>,
     lines: &[ReportLine],

@@ -14,7 +14,7 @@ pub enum Outcome {
 /// Why an event that wasn't refused came to nothing.
 #[derive(Clone, Copy)]
 pub enum Idle {
-    /// This message isn't on the wire, to which so many were sent.
+    /// No message with this number is on the wire; the second number is how many were sent.
     NoMessage(u32, u64),
     /// This message is for the node of this number.
     OtherAddressee(u32, u8),

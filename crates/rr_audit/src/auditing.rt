@@ -12,15 +12,15 @@ use std::alloc::Global;
 /// What an audit finds.
 #[derive(Clone, Copy, Debug)]
 pub enum Verdict {
-    /// All events, so many, are a tape run.
+    /// The events, of which there are this many, are a tape run.
     Yes(u64),
-    /// The event with this number, from 1, is the first that the world doesn't give next: its node, and what is given
-    /// in its place.
+    /// The event with this number, from 1, is the first that the world doesn't give next. Its node, and what is given
+    /// instead of it, follow.
     No(u64, NodeId, Given),
 }
 
 /// Audits a tape: whether its events are what nodes do that all begin up and without facts. Where one isn't, what
-/// the world gives in its place is told too.
+/// the world gives instead is told too.
 ///
 /// # Errors
 /// `OutOfMemory`.

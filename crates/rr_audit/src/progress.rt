@@ -21,7 +21,7 @@ pub struct Progress {
 }
 
 impl Progress {
-    /// Before the first event of so many nodes.
+    /// The progress before the first event of `nodes` nodes.
     pub fn new(alloc: Global, nodes: Nodes) -> Result<Progress, Refusal>
         ensures ok { IfOk result (λ progress. IsUnderWay nodes [] progress) }
         ensures err { IfErr result (λ e. e ≡ Refusal.OutOfMemory) }
@@ -46,7 +46,7 @@ impl Progress {
         Ok(())
     }
 
-    /// What is found of all events, of which there are so many.
+    /// The verdict on all events, of which there are `count`.
     pub fn verdict(self, count: u64) -> Verdict
         ensures { (n : ℕ) (events : List TapeEvent) → count ≡ length events → IsUnderWay n events self → IsVerdict n events result }
     {

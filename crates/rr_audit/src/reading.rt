@@ -14,7 +14,7 @@ use rr_text::text_parse::first_line;
 use rr_types::{Nodes, Refusal};
 use std::alloc::Global;
 
-// Audits the tape of so many nodes of whose lines behind the first the bytes are, and tells the sink how far it is.
+// Audits the tape of `nodes` nodes whose lines after the first are `bytes`, and tells the sink how far it is.
 fn audit_lines<O: Sink>(
     alloc: Global,
     nodes: Nodes,

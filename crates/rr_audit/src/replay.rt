@@ -61,7 +61,7 @@ fn all_nodes(alloc: Global, nodes: Nodes) -> Result<Vec<ReplayNode>, Refusal>
 }
 
 impl Replay {
-    /// So many nodes, all up and without facts, and nothing sent.
+    /// A replay of `nodes` nodes, all up and without facts, with nothing sent.
     ///
     /// # Errors
     /// `OutOfMemory`.

@@ -92,7 +92,7 @@ fn end_by_verdict<O: Sink, E: Write>(
     }
 }
 
-// The line of a yes to a tape of so many events.
+// The line that says yes to a tape of `count` events.
 fn yes_text(alloc: Global, count: u64) -> Result<String, AllocError>
     ensures { IfOk result (λ text. string_bytes text ≡ yes_text count) }
 {
@@ -135,7 +135,7 @@ fn no_text(
     Ok(text)
 }
 
-// The line of a text that stands behind so many others.
+// The line of a text that follows its first `count` lines.
 fn line_behind(text: &[u8], count: u64) -> &[u8] {
     let mut rest = text;
     for _ in 0..count {
@@ -150,7 +150,7 @@ fn line_behind(text: &[u8], count: u64) -> &[u8] {
     }
 }
 
-// Appends in words what is given at a node in the place of an event. A message or a reply is told as on a tape.
+// Appends in words what is given at a node instead of an event. A message or a reply is told as on a tape.
 fn push_given(text: &mut Vec<u8>, node: NodeId, given: &Given) -> io::Result<()> {
     let at = node.index();
     match given {

@@ -138,7 +138,8 @@ fn random_text<O: Sink>(alloc: Global, draw: Draw, out: &mut O) -> Result<Vec<u8
     }
 }
 
-// The text of a lively schedule with so many faults: alone, or with a line `report` and the report of its run.
+// The text of a lively schedule: alone, or with a line `report` and the report of its run. `faults` steps in a thousand
+// draw a fault.
 fn lively_text<O: Sink>(
     alloc: Global,
     draw: Draw,

@@ -117,8 +117,8 @@ fn seat_of(node: Option<&str>, nodes: Option<&str>) -> Option<Seat>
     }
 }
 
-/// Migrates the disk in the folder that a word names, of the node that another names, of as many nodes as a third names. Words
-/// that name no folder, or no node of so many, end with 2.
+/// Migrates the disk in the folder that the word `folder` names, that of node `node` of `nodes` nodes. Words that name
+/// no folder, or no such node, end with 2.
 pub(crate) fn migrate_by_words<R: Files + AllocGlobal, O: Sink, E: Write>(
     rt: &R,
     folder: Option<&str>,
@@ -139,7 +139,7 @@ pub(crate) fn migrate_by_words<R: Files + AllocGlobal, O: Sink, E: Write>(
     }
 }
 
-// Ends where the words name no folder, or no node of so many.
+// Ends with 2, because the words name no folder or no such node.
 fn end_without_seat<E: Write>(err: &mut E) -> u8
     ensures { result ≡ 2 }
 {

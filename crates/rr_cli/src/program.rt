@@ -59,8 +59,8 @@ fn simulate_input<I: Source, O: Sink, E: Write>(
 /// after each device call, and prints what it restarts with, as it goes.
 /// `rr draw [FILE] [--from FROM] [--to TO] [--node NODE] [--instance INSTANCE]` reads a schedule, and prints the picture
 /// of its run: of the lines FROM to TO, of one node or of all, and of the messages of one instance or of every event.
-/// `rr migrate DIR --node NODE --nodes NODES` opens the disk in the folder DIR, which is that of this node of so many, and
-/// prints what its areas hold then.
+/// `rr migrate DIR --node NODE --nodes NODES` opens the disk in the folder DIR, and prints what its areas hold then.
+/// The disk is that of node NODE of NODES nodes.
 /// What goes wrong is told on `err`, but for a reader of `out` that has gone. The statuses: 0 done, 2 wrong words, 3 no schedule or tape, 4 a damaged area, 5 a
 /// device, a file or a stream, 6 memory, 7 a tape with an event that isn't what its node does next.
 pub fn execute<R: Files + AllocGlobal, S: AsStr, I: Source, O: Sink, E: Write>(

@@ -184,7 +184,7 @@ fn write_failing<D: Disk>(disk: &mut D, area: Area, at: u64, bytes: &[u8], fill:
     }
 }
 
-// Writes so many bytes of the fill one at a time, up to the first write that fails.
+// Writes `count` bytes of the fill, repeated as needed, one at a time, up to the first write that fails.
 fn overwrite<D: Disk>(disk: &mut D, area: Area, at: u64, fill: &[u8], count: usize)
     requires { at + count < 2 ^ 64 }
     ensures exact { OneByOne D.write_gives area at (repeated fill.now 0 count) disk.old disk.new }

@@ -151,7 +151,7 @@ impl<F: AreaFile> HeldArea<F> {
     }
 }
 
-// Reads so many bytes of a file and writes them back, block by block.
+// Reads the first `len` bytes of a file and writes them back, block by block.
 fn write_back<F: AreaFile>(file: &mut F, len: u64) -> io::Result<()>
     ensures { WritesBack F.gives len (is_ok result) 0 file.old file.new }
 {

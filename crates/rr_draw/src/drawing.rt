@@ -53,7 +53,7 @@ enum Side {
 }
 
 impl Drawing {
-    /// A picture of so many nodes without events.
+    /// A picture of `nodes` nodes, without events.
     pub(crate) fn new(alloc: Global, nodes: Nodes) -> io::Result<Drawing> {
         Ok(Drawing {
             alloc,

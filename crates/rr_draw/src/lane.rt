@@ -33,7 +33,7 @@ pub(crate) struct Lane {
     pub(crate) label: [u64; 2],
 }
 
-/// The lines of so many nodes.
+/// The lines of `nodes` nodes.
 pub(crate) fn lanes_of(alloc: Global, nodes: Nodes) -> Result<Vec<Lane>, AllocError> {
     let mut lanes = Vec::new(alloc);
     for index in 0..nodes.count() {
@@ -49,7 +49,7 @@ pub(crate) fn lanes_of(alloc: Global, nodes: Nodes) -> Result<Vec<Lane>, AllocEr
     Ok(lanes)
 }
 
-/// How wide a picture of so many nodes is.
+/// How wide a picture of `nodes` nodes is.
 pub(crate) fn width_of(nodes: Nodes) -> u64 {
     BEFORE + u64::from(nodes.count() - 1) * APART + BEHIND
 }

@@ -142,7 +142,7 @@ fn draw_events<O: Sink>(
     Ok(elements)
 }
 
-/// The picture of the run of a schedule on so many nodes, of whose lines behind the first the bytes are.
+/// The picture of the run of a schedule on `nodes` nodes, whose lines after the first are `bytes`.
 fn picture_behind<O: Sink>(
     alloc: Global,
     nodes: Nodes,

@@ -22,7 +22,7 @@ impl Fault {
         Fault { left: bytes.len() }
     }
 
-    /// The refusal of so many bytes that have this fault.
+    /// The refusal of an input of `all` bytes that has this fault.
     pub fn refusal(self, all: usize) -> Refusal
         ensures { result ≡ Refusal.Malformed (all - self.left) }
     {
@@ -40,7 +40,7 @@ pub enum Stop {
 }
 
 impl Stop {
-    /// The refusal of so many bytes whose reading stopped so.
+    /// The refusal of an input of `all` bytes whose reading stopped for this reason.
     pub fn refusal(self, all: usize) -> Refusal
         ensures { result ≡ refusal_of all self }
     {

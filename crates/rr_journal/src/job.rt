@@ -96,8 +96,8 @@ impl<S: Drop> Job<S> {
 }
 
 impl Job<Body> {
-    // A flush of this group of a node, of so many nodes. Behind the last gate, at this place of the area, it will
-    // write this body: the bytes of the group and a closed gate.
+    // A flush of `group` at node `node` of `nodes` nodes. After the last gate, which is at `gate` in the area, it will
+    // write `body`: the bytes of the group and a closed gate.
     pub(crate) fn new(
         nodes: Nodes,
         node: NodeId,

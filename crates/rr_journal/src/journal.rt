@@ -196,7 +196,7 @@ impl<D: Disk> Journal<D> {
     }
 }
 
-/// Whether a frame with a payload of so many bytes ends below byte 4,294,967,296 of an area.
+/// Whether a frame with its gate at `gate` and a payload of `payload` bytes ends below byte 4,294,967,296 of an area.
 fn fits(gate: u64, payload: usize) -> bool
     ensures { result ≡ nat_lt (gate + 6 + payload) (2 ^ 32) }
 {
