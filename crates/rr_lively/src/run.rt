@@ -34,7 +34,7 @@ fn has_one_byte(fill: &Fill) -> bool
     }
 }
 
-/// Whether an event is at one of so many nodes, and suspects none beside them. What is read here is in its range.
+/// Whether an event is at one of `nodes` nodes, and suspects no node outside them. What is read here is in its range.
 fn is_event(nodes: Nodes, event: &Event) -> bool
     ensures { IsTrue result → IsEvent nodes event.now }
 {
@@ -88,7 +88,7 @@ fn may_stay(cluster: &Cluster, event: &Event) -> bool
 }
 
 impl Run {
-    /// So many nodes, all down, over empty disks.
+    /// A run of `nodes` nodes, all down, over empty disks.
     pub(crate) fn new(alloc: Global, nodes: Nodes) -> Result<Run, Refusal>
         ensures so_far { IfOk result (λ run. IsSoFar nodes run.line run.cluster run.schedule.items run.report.items) }
         ensures line { IfOk result (λ run. run.line ≡ 2) }

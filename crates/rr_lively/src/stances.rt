@@ -41,7 +41,7 @@ pub(crate) fn stance_of(cluster: &Cluster, node: NodeId) -> Stance {
     }
 }
 
-/// The node of a number, counted round the nodes.
+/// The node that `number` counts to, from node 0 around the ring of nodes.
 pub(crate) fn node_at(nodes: Nodes, number: u32) -> NodeId {
     let index = number % u32::from(nodes.count());
     match NodeId::new(nodes, index as u8) {
@@ -50,7 +50,7 @@ pub(crate) fn node_at(nodes: Nodes, number: u32) -> NodeId {
     }
 }
 
-/// The node so many behind another one, round the nodes.
+/// The node `count` places after `from`, around the ring of nodes.
 pub(crate) fn node_behind(nodes: Nodes, from: NodeId, count: u8) -> NodeId {
     node_at(nodes, u32::from(from.index()) + u32::from(count))
 }

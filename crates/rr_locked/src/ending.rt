@@ -29,7 +29,7 @@ impl Model for Ending {
 }
 
 impl Ending {
-    /// A run that begins, with so many clients.
+    /// A run that begins, with `clients` clients.
     pub fn new(clients: usize) -> Ending
         ensures { result ≡ record { clients = clients; failure = None } }
     {

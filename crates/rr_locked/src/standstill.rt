@@ -5,10 +5,10 @@ ghost use Rattle.rr_locked.specs.Ticks.{is_advance_due, standstill_after};
 
 use std::marker::Model;
 
-/// So many ticks in a row that find no more decided end with an advance.
+/// Ticks in a row without a new decision, after which the node advances.
 const TICKS: u32 = 3;
 
-/// How many ticks in a row have found no more decided than the tick before.
+/// How many ticks in a row have found nothing new decided since the tick before.
 #[derive(Debug, Drop)]
 pub struct Standstill {
     decided: usize,
@@ -37,9 +37,9 @@ impl Standstill {
         }
     }
 
-    /// One more tick, which finds so many commands decided. Answers whether the node advances now: at the third tick in a
-    /// row that finds no more, from which on they are counted anew. A round may have no majority in it and no coordinator that
-    /// is suspected. Nodes that are in different rounds so would wait for one another without end.
+    /// One more tick, which finds `decided` commands decided. Answers whether the node advances now: at the third tick
+    /// in a row without a new decision, after which the count starts again. A round may have no majority in it, and no
+    /// coordinator that is suspected. Nodes in different rounds would then wait for one another forever.
     pub fn count(&mut self, decided: usize) -> bool
         ensures due { result ≡ is_advance_due decided self.old }
         ensures count { self.new ≡ standstill_after decided self.old }

@@ -15,7 +15,7 @@ use std::alloc::Global;
 use std::marker::Model;
 use std::mem;
 
-/// A node of so many, over a disk in memory. At first it is down.
+/// One of `nodes` nodes, over a disk in memory. At first it is down.
 pub struct Node {
     nodes: Nodes,
     node: NodeId,

@@ -35,7 +35,7 @@ pub(crate) struct Post {
 }
 
 impl Post {
-    /// Nothing is asked yet of so many nodes.
+    /// A post for `nodes` nodes, of which nothing is asked yet.
     pub(crate) fn new(alloc: Global, nodes: Nodes) -> Result<Post, Refusal> {
         let mut clients = Vec::new(alloc);
         for _ in 0..nodes.count() {

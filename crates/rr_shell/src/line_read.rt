@@ -71,7 +71,7 @@ fn command(text: &[u8], word: &[u8], rest: &[u8]) -> Result<ShellLine, LineFault
     }
 }
 
-/// What a line asks for, of so many nodes. The line has no line feed.
+/// What a line asks for, where there are `nodes` nodes. `text` is the line without its line feed.
 ///
 /// # Errors
 /// Why it asks for nothing: any fault but `TooLong`.

@@ -145,7 +145,7 @@ fn push_fault_text(out: &mut Vec<u8>, nodes: Nodes, fault: LineFault) -> Result<
     }
 }
 
-/// Appends the line of a fault: what is wrong, and what is expected, of so many nodes.
+/// Appends the line of a fault: what is wrong, and what is expected, where there are `nodes` nodes.
 ///
 /// # Errors
 /// `OutOfMemory`. Then bytes of the line may stand at the end.

@@ -100,8 +100,7 @@ pub(crate) fn opened(alloc: Global, nodes: Nodes, events: &[Event]) -> Result<Cl
     Ok(cluster)
 }
 
-/// Draws so many events, the first of which stands behind those that are there, runs them, and tells the sink how far it
-/// is.
+/// Draws `steps` events, which follow those already in `events`, runs them, and tells the sink how far it is.
 fn draw_all<O: Sink>(
     alloc: Global,
     nodes: Nodes,

@@ -25,7 +25,7 @@ struct Texts {
     report: Vec<u8>,
 }
 
-/// Draws so many events behind the openings, makes each and tells it, and tells the sink how far it is.
+/// Draws `steps` events after the openings, makes each and tells it, and tells the sink how far it is.
 fn tell_drawn<O: Sink>(
     alloc: Global,
     nodes: Nodes,

@@ -41,8 +41,8 @@ fn tell_events<O: Sink>(
     Ok(())
 }
 
-/// The text of the report on a schedule on so many nodes, of whose lines behind the first the bytes are. The nodes have gone
-/// when the decided list is made, since both would take the most memory at a time.
+/// The text of the report on a schedule on `nodes` nodes, whose lines after the first are `bytes`. The nodes are freed
+/// before the decided list is made, since memory use would peak with both at once.
 fn report_behind<O: Sink>(
     alloc: Global,
     nodes: Nodes,

@@ -51,7 +51,7 @@ pub fn read_all<I: Source>(alloc: Global, input: &mut I) -> io::Result<Vec<u8>>
     }
 }
 
-// Room for so many bytes.
+// Room for `size` bytes.
 fn room_of(alloc: Global, size: usize) -> Result<Vec<u8>, AllocError>
     ensures { IfOk result (λ room. length room.items ≡ size) }
 {

@@ -37,7 +37,7 @@ pub struct Sweeping {
 }
 
 impl Sweeping {
-    /// A sweep of so many nodes before the first event, with the words of this seed.
+    /// A sweep of `nodes` nodes before the first event, with the words of this seed.
     ///
     /// # Errors
     /// `OutOfMemory`.

@@ -58,7 +58,7 @@ pub fn sweep(
     }
 }
 
-/// Sweeps events of so many nodes.
+/// Sweeps the events of a schedule on `nodes` nodes.
 fn sweep_events(
     alloc: Global,
     nodes: Nodes,

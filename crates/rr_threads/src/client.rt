@@ -15,7 +15,7 @@ use rr_window::{Receipt, Seat, Sight, WindowName};
 use std::marker::Model;
 use std::sync::Wait;
 
-/// So many times a client looks for its receipt before it gives up.
+/// How many times a client looks for its receipt before it gives up.
 const POLLS: u32 = 10_000_000;
 
 /// Someone who asks one node, in a thread of its own and with a seat of its own.

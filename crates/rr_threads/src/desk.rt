@@ -90,7 +90,7 @@ impl<W: WindowName> Desk<W> {
         }
     }
 
-    /// The counter of the client at this place, if there are so many.
+    /// The counter of the client at `place`, if there is one.
     pub fn counter(&self, place: usize) -> Option<&Counter<W>> {
         self.counters.get(place)
     }

@@ -15,7 +15,7 @@ use rr_types::{Body, Command, Estimate, Group, Message, NodeId, NodeSet, Op, Ref
 use rr_window::WindowName;
 use std::sync::{Mutex, Wait};
 
-/// So many messages are heard in a turn at most, and so many are sent.
+/// The most messages that are heard in a turn, and the most that are sent.
 const BATCH: usize = 64;
 
 /// What the loop of a node owns: its inbox, an end for each node's inbox, and its ends of the hand-overs.

@@ -105,7 +105,7 @@ fn open_ends<W: WindowName, C: Drop, R: Wait>(
     }
 }
 
-/// A counter for each of so many clients.
+/// A counter for each of `count` clients.
 fn counters_for<W: WindowName>(alloc: Global, count: usize) -> Result<Vec<Counter<W>>, Refusal> {
     let mut counters = Vec::new(alloc);
     for _ in 0..count {

@@ -4,7 +4,7 @@ use std::sync::Wait;
 use std::thread::Parker;
 use std::time::Duration;
 
-/// So many looks in a row follow at once, since what is waited for often comes soon.
+/// How many vain looks in a row are followed by another at once, since what is waited for often comes soon.
 const BUSY_LOOKS: u32 = 10;
 
 /// The first rest, in microseconds.
@@ -25,7 +25,7 @@ pub struct Rest {
 }
 
 impl Rest {
-    /// Rests of at most so many microseconds.
+    /// Rests of at most `longest` microseconds.
     pub fn new(longest: u64) -> Rest {
         Rest {
             looks: 0,

@@ -16,7 +16,7 @@ pub struct Running {
 }
 
 impl Running {
-    /// A run of so many nodes and clients.
+    /// A run of `nodes` nodes and `clients` clients.
     pub fn new(alloc: Global, nodes: u8, clients: usize) -> Result<Running, Refusal> {
         let mut bells = Vec::new(alloc);
         for _ in 0..nodes {

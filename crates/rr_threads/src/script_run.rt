@@ -54,7 +54,7 @@ impl<'x> Client for Reader<'x> {
     }
 }
 
-/// Room for the answers to so many lines.
+/// Room for the answers to `count` lines.
 fn slots(alloc: Global, count: usize) -> Result<Vec<Option<Answer>>, Refusal> {
     let mut slots = Vec::new(alloc);
     for _ in 0..count {

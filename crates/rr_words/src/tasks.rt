@@ -84,8 +84,8 @@ pub enum Task<'a> {
     /// `rr draw [FILE] [--from FROM] [--to TO] [--node NODE] [--instance INSTANCE]`: the picture of the schedule in this
     /// file, or else in standard input, of the cut that these words write.
     Picture(Option<&'a str>, CutWords<'a>),
-    /// `rr migrate DIR --node NODE --nodes NODES`: an opening of the disk in this folder, which is this node's of so many, and
-    /// what its areas hold then.
+    /// `rr migrate DIR --node NODE --nodes NODES`: an opening of the disk in this folder, and what its areas hold then.
+    /// The disk is that of node NODE of NODES nodes.
     Migrate(Option<&'a str>, Option<&'a str>, Option<&'a str>),
 }
 
