@@ -1,5 +1,5 @@
-//! What a disk of files asks of them, and what a power cut leaves behind a sync that failed. What is expected
-//! follows from the rules: a sync asks nothing of a file in which nothing was written, and behind an opening or a
+//! What a disk of files asks of them, and what a power cut leaves after a sync that failed. What is expected
+//! follows from the rules: a sync asks nothing of a file in which nothing was written. After an opening or a
 //! failure it writes both files back.
 
 use crate::recorded::Asked::{Read, Sync, Write};
@@ -29,7 +29,7 @@ fn a_sync_asks_what_is_needed(rt: HostRuntime) {
     disk.write_at(Area::First, 0, &[1, 2, 3])
         .expect(&rt, "a write");
     disk.write_at(Area::First, 1, &[4]).expect(&rt, "a write");
-    // The first sync writes both files back, of which the second has nothing.
+    // The first sync writes both files back, and the second has nothing.
     disk.sync().expect(&rt, "a sync");
     // Nothing was written.
     disk.sync().expect(&rt, "a sync");

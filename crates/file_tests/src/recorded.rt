@@ -28,7 +28,7 @@ pub struct Recorded {
 }
 
 impl Recorded {
-    /// An empty file, of which the next sync fails or doesn't.
+    /// An empty file, whose next sync fails if `fails`.
     pub fn new(alloc: Global, fails: bool) -> Recorded {
         Recorded {
             alloc,

@@ -5,7 +5,7 @@ use rr_types::{NodeId, Nodes, Refusal, Reply, RequestNo};
 use std::alloc::Global;
 use std::process::Abort;
 
-/// The lines, of which each but the last one is a refusal at the line of its number, from 2 on.
+/// The lines. Each but the last is a refusal at the line of its number, from 2 on.
 const TEXT: &[u8] = b"refuse 2 3 Damaged\n\
 refuse 3 9 ListFull\n\
 refuse 4 10 RoundsOut\n\

@@ -1,10 +1,10 @@
 //! Answers many questions one after another, so that a script needn't start a program for each. `bench/baseline_sim answer`
 //! does the same in plain Rust.
 //!
-//! A question is a line, and behind it the bytes that the line counts. `sim BYTES` and `audit BYTES` are those commands of
-//! `rr` with the bytes on standard input, `show BYTES BYTES` is `rr show` of a folder with these two areas. `script NODES
-//! BYTES` reads a script, `message BYTES` a message among seven nodes. An answer is the line `STATUS BYTES BYTES`, and
-//! behind it standard output and standard error.
+//! A question is a line, followed by the bytes that the line counts. `sim BYTES` and `audit BYTES` are those commands
+//! of `rr` with the bytes on standard input. `show BYTES BYTES` is `rr show` of a folder with these two areas.
+//! `script NODES BYTES` reads a script, `message BYTES` a message among seven nodes. An answer is the line
+//! `STATUS BYTES BYTES`, followed by standard output and standard error.
 #![tactic(auto)]
 
 mod answering;

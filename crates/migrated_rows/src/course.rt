@@ -6,7 +6,7 @@ use rr_recover::{Opening, Progress};
 use rr_types::Refusal;
 use std::alloc::Global;
 
-/// An opening that goes on, or the disk behind its last device call.
+/// An opening under way, or the disk after its last device call.
 #[derive(Drop)]
 pub enum Course {
     Opening(Opening<MemDisk>),

@@ -63,13 +63,13 @@ fn migrate(rt: &HostRuntime, row: &str) -> io::Result<()> {
     print_run(rt, line.as_str())
 }
 
-/// The bytes of the file whose name is that of the folder with an end.
+/// The bytes of the file whose path is `folder` and then `end`.
 pub fn read_file(rt: &HostRuntime, folder: &str, end: &str) -> io::Result<Vec<u8>> {
     let path = format!(in rt.alloc(); "{folder}{end}")?;
     fs::read(rt, path.as_str())
 }
 
-/// Copies a file whose name is that of the folder with an end into the file with another end.
+/// Copies the file whose path is `folder` and then `end` to the path that ends in `other` instead.
 fn copy_file(rt: &HostRuntime, folder: &str, end: &str, other: &str) -> io::Result<()> {
     let bytes = read_file(rt, folder, end)?;
     let path = format!(in rt.alloc(); "{folder}{other}")?;
@@ -83,7 +83,7 @@ fn make(rt: &HostRuntime, folder: &str) -> io::Result<()> {
     copy_file(rt, folder, ".a1", "/a1")
 }
 
-/// Whether the files whose names are that of the folder with these ends have the same bytes.
+/// Whether the files whose paths are `folder` and then one of these ends have the same bytes.
 fn is_same(rt: &HostRuntime, folder: &str, end: &str, other: &str) -> io::Result<bool> {
     let first = read_file(rt, folder, end)?;
     let second = read_file(rt, folder, other)?;

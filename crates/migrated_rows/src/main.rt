@@ -4,12 +4,12 @@
 //! The files of a folder lie where the program runs, as `one_command.a0` and `one_command.a1`. As they are to be left, they
 //! are `one_command.a0.after` and `one_command.a1.after`. All of them were made outside this program.
 //!
-//! Behind the word `folders` each row is made a folder. What `rr show` and then `rr migrate` print of it is printed, and
-//! whether its files are left as they are to be.
+//! After the word `folders`, a folder is made of each row. What `rr show` and then `rr migrate` print of it is printed,
+//! and whether its files are left as they are to be.
 //!
-//! Behind `every-cut` and `drawn-cuts` the node of a row opens its disk in memory, and crashes before the first device call
-//! and behind each. It has to know the same by the next opening as by one without a crash. Every pair of cuts is tried, or
-//! drawn ones.
+//! After `every-cut` and `drawn-cuts`, the node of a row opens its disk in memory, and crashes before the first device
+//! call and after each. By the next opening it has to know the same as by one without a crash. Every pair of cuts is
+//! tried, or drawn ones.
 #![tactic(auto)]
 
 mod course;

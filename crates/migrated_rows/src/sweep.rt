@@ -1,4 +1,4 @@
-//! A node that crashes behind each device call of its opening, and opens its disk again.
+//! A node that crashes after each device call of its opening, and opens its disk again.
 
 use crate::course::Course;
 use crate::crash::{Crash, Cuts};
@@ -16,8 +16,8 @@ use std::io::Write;
 /// The most device calls of an opening.
 const CALLS: u32 = 9;
 
-/// The crashes of a node in an opening: what it has to know behind each of them, and how many device calls were made. Then
-/// how many crashes were tried, and those behind which it knew otherwise.
+/// The crashes of a node in an opening: what it has to know after each of them, and how many device calls were made.
+/// Then how many crashes were tried, and those after which it knew something else.
 #[derive(Drop)]
 struct Sweep {
     seat: Seat,
@@ -46,7 +46,7 @@ impl Sweep {
         Known::by_opening(alloc, self.seat, left)
     }
 
-    /// Whether the node knows behind this crash what it has to.
+    /// Whether the node knows what it has to after this crash.
     fn is_kept(&self, alloc: Global, disk: &MemDisk, crash: Crash) -> bool {
         match self.known_behind(alloc, disk, crash) {
             Ok(known) => known.is_same(&self.wanted),
@@ -97,7 +97,7 @@ impl Sweep {
         Ok(())
     }
 
-    /// Prints each crash behind which the node didn't know what it has to.
+    /// Prints each crash after which the node didn't know what it has to.
     fn print_missed(&self, rt: &HostRuntime, folder: &str) -> io::Result<()> {
         for crash in &self.missed {
             println!(rt;

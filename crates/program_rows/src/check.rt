@@ -10,7 +10,7 @@ fn wants_parts(row: &str) -> bool {
     row.lines().any(|line| matches!(parts_of(line).0, "has" | "lacks" | "begins" | "ends"))
 }
 
-/// Whether a row says how the error begins, and no more of it.
+/// Whether a row says only how the error begins.
 fn wants_beginning(row: &str) -> bool {
     !line_of(row, "err-begins").is_empty()
 }

@@ -1,6 +1,6 @@
-//! Runs the program `rr` by rows, and says of each row what came otherwise; then it ends with 1.
+//! Runs the program `rr` by rows, and says of each row what came otherwise. If anything did, it ends with 1.
 //!
-//! Its words name files of rows. Behind the word `cli`, `view` or `run` the rows of a file are run by the call of that
+//! Its words name files of rows. After the word `cli`, `view` or `run`, the rows of a file are run by the call of that
 //! library. RULES.md says what the lines of a row mean.
 #![tactic(auto)]
 

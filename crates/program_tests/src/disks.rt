@@ -38,7 +38,7 @@ fn snapshot() -> &'static [u8] {
     &SNAPSHOT
 }
 
-/// A disk in memory, of which one area is that one.
+/// A disk in memory, with the bytes of `area()` in the area `place`.
 fn disk(rt: &impl Abort, alloc: Global, place: Area) -> FailingDisk<MemDisk> {
     let mut disk = FailingDisk::new(MemDisk::new(alloc));
     disk.write_at(place, 0, area()).expect(rt, "a write");
@@ -87,7 +87,7 @@ fn assert_device<R: Files + AllocGlobal + Abort>(rt: &R, folder: &str) {
     assert!(rt; out.into_inner().is_empty());
 }
 
-/// Makes a folder of two areas, of which the first may not be read.
+/// Makes a folder of two areas, the first of which may not be read.
 fn make_unreadable<R: Files + AllocGlobal + Abort>(rt: &R, folder: &str) {
     let _ = fs::remove_dir_all(rt, folder);
     fs::create_dir(rt, folder).expect(rt, "a folder");

@@ -127,7 +127,7 @@ fn fill<R: Threads + Wait + Abort + AllocGlobal + Sync>(
     map_vec(rt, ends, &|(port, from)| put_until_full(rt, port, from)).expect(rt, "memory")
 }
 
-/// Takes what waits, and says whether it is so much of each end, in the end's order, and no more.
+/// Takes what waits, and says whether it is as many of each end as `counts` has, in the end's order, and nothing more.
 fn takes_each<R: Wait>(rt: &R, outlet: &mut Outlet<u32>, counts: &[u32]) -> bool {
     let mut taken = [0u32; ENDS];
     for _ in 0..ROOM {

@@ -1,4 +1,4 @@
-//! The areas of a node behind a schedule.
+//! The areas of a node after a schedule.
 
 use rr_disk::{Area, Disk};
 use rr_sim::{Schedule, nodes_after};

@@ -1,4 +1,4 @@
-//! A node all of whose instances are decided: it refuses a new request, and acknowledges a decided one.
+//! A node with all its instances decided: it refuses a new request, and acknowledges a decided one.
 
 use rr_disk::{Area, Disk, MemDisk};
 use rr_frame::{Snapshot, encode_group, encode_snapshot, put_u8, put_u32};
@@ -35,7 +35,7 @@ fn put_frame(area: &mut Vec<u8>, payload: &[u8]) -> Result<(), Refusal> {
     Ok(())
 }
 
-/// The facts that decide the instances from this one on, as many as a group has, with request I + 1 in instance I.
+/// A full group of facts that decide the instances from `first` on, with request I + 1 in instance I.
 fn decisions(alloc: Global, first: u32) -> Result<Group, Refusal> {
     let mut facts = Vec::with_capacity(alloc, GROUP)?;
     for number in first..first.saturating_add(GROUP as u32) {

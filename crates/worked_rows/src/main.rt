@@ -1,9 +1,10 @@
-//! Says of each text that it is given by name whether it is printed as it was read, or what it is refused with:
-//! of tapes, whose names end in `.tape`, and of schedules. Behind the word `run` it prints the report of each
-//! schedule, behind the word `areas` the bytes that the areas of node 0 hold at its end, and behind the word
-//! `sweep` how many crashes in the switch with which it ends kept what it was of, and behind the word `restarts` the
-//! sweep of its device calls. Behind the word `audit` it prints what an audit of each tape finds. At the word `full-list` it
-//! says what a node answers all of whose instances are decided.
+//! Says of each text that it is given by name whether it is printed as it was read, or what it is refused with. The
+//! texts are tapes, whose names end in `.tape`, and schedules.
+//!
+//! After the word `run` it prints the report of each schedule. After `areas` it prints the bytes that the areas of node
+//! 0 hold at its end. After `sweep` it prints how many crashes in the switch that ends the schedule kept the snapshot's
+//! facts. After `restarts` it prints the sweep of the schedule's device calls, and after `audit` what an audit of each
+//! tape finds. At the word `full-list` it says what a node answers when all its instances are decided.
 #![tactic(auto)]
 
 mod areas;
