@@ -85,8 +85,8 @@ fn push_side(text: &mut Vec<u8>, name: &str, side: Option<&[u8]>) -> Result<(), 
     Ok(())
 }
 
-/// Appends in words where the report of an account differs from the text of this name, with the event of which the
-/// line tells.
+/// Appends in words where the report of an account differs from the text of this name, with the event that the line
+/// tells of.
 ///
 /// # Errors
 /// `OutOfMemory`.

@@ -145,7 +145,7 @@ struct RefuseRow {
     name: &'static str,
 }
 
-// An event of which the report has no line, as JSON.
+// An event that has no line in the report, as JSON.
 #[derive(Drop, Serialize)]
 struct AloneRow {
     kind: &'static str,

@@ -73,7 +73,7 @@ fn tail_of(alloc: Global, event: &Event, reason: Reason) -> Result<Vec<u8>, Refu
     Ok(tail)
 }
 
-/// What an event did, or why it was refused or came to nothing. Of one that was done, the line of the report tells it.
+/// What an event did, or why it was refused or came to nothing. `None` where its line of the report says it.
 pub(crate) fn reason_text(
     alloc: Global,
     event: &Event,

@@ -1,4 +1,4 @@
-//! How often what happened in a run.
+//! Statistics of a run: what happened, and how often.
 
 ghost use Rattle.std.specs.Prelude.{◌≡◌, ◌≤◌, ℕ, ◌<◌, length, map, IfOk, IfErr};
 ghost use Rattle.std.specs.List.{AllByRecursion};
@@ -13,7 +13,7 @@ use rr_types::{Body, Instance, Refusal, Round};
 use serde::Serialize;
 use std::alloc::{AllocError, Global};
 
-/// The events of a kind: how many there are, of how many the report has a line that is no refusal, how many were
+/// The events of a kind: how many there are, how many have a line in the report that is no refusal, how many were
 /// refused, and how many came to nothing.
 #[derive(Clone, Copy, Serialize)]
 pub struct EventCount {
@@ -212,7 +212,7 @@ fn message_count(lines: &[ReportLine], heard: &[u64], kind: MessageKind) -> Mess
     count
 }
 
-// How often each message was heard, by its number. A hearing that was refused or came to nothing is none.
+// How often each message was heard, by its number. A hearing that was refused or came to nothing doesn't count.
 fn times_heard(alloc: Global, account: &Account) -> Result<Vec<u64>, AllocError> {
     let mut heard = vec![in alloc; 0u64; account.lines().len()]?;
     let mut line = 2u64;

@@ -14,11 +14,11 @@ use rr_text::{Event, Schedule};
 use rr_types::Refusal;
 use std::alloc::Global;
 
-/// The account of the run of the schedule whose text the bytes are. Who watches `out` is told how far it is; `out` takes
-/// nothing.
+/// The account of the run of the schedule whose text the bytes are. Those who watch `out` are told how far it is; `out`
+/// takes nothing.
 ///
 /// # Errors
-/// `BadNodes` and `BadEvent` for bytes that are no schedule, as of `Schedule::parse`; `OutOfMemory`.
+/// `BadNodes` and `BadEvent` for bytes that are no schedule, as from `Schedule::parse`; `OutOfMemory`.
 pub fn account_on<O: Sink>(alloc: Global, bytes: &[u8], out: &mut O) -> Result<Account, Refusal>
     ensures ok { IfOk result (λ account. IsAccountOn bytes.now account) }
     ensures fault { IfErr result (λ e. IsFault IsEvent event_line bytes.now e) }
@@ -33,8 +33,8 @@ pub fn account_on<O: Sink>(alloc: Global, bytes: &[u8], out: &mut O) -> Result<A
     }
 }
 
-/// The account of the run of a schedule. It is run twice: to see what comes of each event, and for its report. Who
-/// watches `out` is told how far it is: half of the way, once the second run begins. `out` takes nothing.
+/// The account of the run of a schedule. It is run twice: to see what comes of each event, and for its report. Those
+/// who watch `out` are told how far it is: half-way when the second run begins. `out` takes nothing.
 ///
 /// # Errors
 /// `OutOfMemory`.
@@ -51,7 +51,7 @@ pub fn watch<O: Sink>(alloc: Global, schedule: Schedule, out: &mut O) -> Result<
     Ok(Account::new(schedule, outcomes?, report?))
 }
 
-// What comes of each event of a schedule, in turn, which is told as half of the work.
+// What comes of each event of a schedule, in turn. Its progress is told as half of the work.
 fn outcomes_of<O: Sink>(
     alloc: Global,
     schedule: &Schedule,
@@ -90,7 +90,7 @@ fn stance_at(cluster: &Cluster, event: &Event) -> Option<Stance> {
     }
 }
 
-// What has come of an event of which the report has no line, by what its node waited for before it.
+// What has come of an event that has no line in the report, by what its node waited for before it.
 fn untold_outcome(cluster: &Cluster, event: &Event, before: Option<Stance>) -> Outcome {
     match event {
         Event::Hear { node, message } => match cluster.wire().get(*message as usize) {

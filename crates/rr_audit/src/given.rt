@@ -1,8 +1,8 @@
-//! What the world gives in the place of an event.
+//! What the world gives instead of an event.
 
 use rr_types::{Message, NodeId, Refusal, Reply, RequestNo};
 
-/// What the world gives in the place of an event of a tape that isn't next.
+/// What the world gives instead of an event of a tape that isn't next.
 #[derive(Clone, Copy, Debug)]
 pub enum Given {
     /// There is no such node.

@@ -1,5 +1,6 @@
-//! The auditor of tapes: whether what a tape records is what nodes of the world do, event by event. `audit` says yes or no of a
-//! tape, `examine` also what the world gives in the place of an event, and `audit_on` does the same while the text is read.
+//! The auditor of tapes: whether what a tape records is what nodes of the world do, event by event. `audit` says yes or
+//! no of a tape, and `examine` also what the world gives instead of an event. `audit_on` does the same while the text
+//! is read.
 #![tactic(auto)]
 
 mod auditing;

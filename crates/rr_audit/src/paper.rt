@@ -1,4 +1,4 @@
-//! A disk of which nothing is kept and nothing is asked: on a tape, a group is synced where it is marked.
+//! A disk that keeps nothing and is asked nothing: on a tape, a group is synced where it is marked.
 
 ghost use Rattle.std.specs.Prelude.{◌≡◌, ◌+◌, ◌^◌, ◌≤◌, [], false, length, MatchResult};
 ghost use Rattle.rr_disk.specs.Crash.{restarted};

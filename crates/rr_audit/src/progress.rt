@@ -1,4 +1,4 @@
-//! An audit as it goes on, event by event.
+//! An audit under way, event by event.
 
 ghost use Rattle.std.specs.Prelude.{◌≡◌, ◌+◌, ◌∷◌, ◌++◌, [], ℕ, List, length, OnOk, IfOk, IfErr};
 ghost use Rattle.rr_tape.specs.declared.tape_event.TapeEvent.{TapeEvent};
@@ -16,7 +16,7 @@ use std::alloc::Global;
 #[derive(Drop)]
 pub struct Progress {
     replay: Replay,
-    /// The first event that isn't next, by its number from 1: its node, and what is given in its place.
+    /// The first event that isn't next, by its number from 1: its node, and what is given instead.
     stopped: Option<(u64, NodeId, Given)>,
 }
 

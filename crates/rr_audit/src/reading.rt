@@ -45,11 +45,11 @@ fn audit_lines<O: Sink>(
     }
 }
 
-/// Audits the tape whose text the bytes are, as `examine` does. Only one event at a time is kept. Who watches
-/// `out` is told how far it is; `out` takes nothing.
+/// Audits the tape whose text the bytes are, as `examine` does. Only one event at a time is kept. Those who watch
+/// `out` are told how far it is; `out` takes nothing.
 ///
 /// # Errors
-/// `BadNodes` and `BadEvent` for bytes that are no tape, as of `Tape::parse`, also behind an event that isn't next;
+/// `BadNodes` and `BadEvent` for bytes that are no tape, as from `Tape::parse`, also after an event that isn't next;
 /// `OutOfMemory`.
 pub fn audit_on<O: Sink>(alloc: Global, bytes: &[u8], out: &mut O) -> Result<Verdict, Refusal>
     ensures ok { IfOk result (λ verdict. IsVerdictOn bytes.now verdict) }

@@ -88,8 +88,7 @@ impl Replay {
         Ok(())
     }
 
-    /// An event of a tape: `None` where the world gives it next, and then it has happened; else what is given in its
-    /// place.
+    /// An event of a tape: `None` where the world gives it next, and then it has happened; else what is given instead.
     ///
     /// # Errors
     /// `OutOfMemory`.

@@ -191,8 +191,8 @@ impl ReplayNode {
         }
     }
 
-    /// What the node answers to an event of a tape, over this wire: `None` where the world gives it next, and then it
-    /// has happened here; else what is given in its place.
+    /// What the node answers to an event of a tape, over this wire. `None`: the world gives it next, and it has
+    /// happened here. Else it is what is given instead.
     ///
     /// # Errors
     /// `OutOfMemory`.

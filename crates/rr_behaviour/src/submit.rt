@@ -46,8 +46,8 @@ fn submitted(step: &mut Step<'_>, command: Command, is_held: bool) -> Result<(),
     step.owe_others(Body::Request(command), None)
 }
 
-/// What a client's command changes. `is_held`: whether the decided prefix has its request number. Where it is refused
-/// for what it is, this comes before want of memory.
+/// What a client's command changes. `is_held`: whether the decided prefix has its request number. A refusal of the
+/// command for what it is comes before `OutOfMemory`.
 #[tactic(auto, using(crate::proofs::InputSteps::submit_is_step, crate::proofs::InputSteps::submit_large, crate::proofs::InputSteps::submit_err))]
 pub fn submit_step(
     state: &State,

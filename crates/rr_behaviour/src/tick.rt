@@ -62,7 +62,7 @@ fn advanced(step: &mut Step<'_>) -> Result<(), Refusal>
     }
 }
 
-/// What an advance changes. In the last round it is refused for that, also where memory is wanting.
+/// What an advance changes. In the last round it is refused for that, even where memory runs out.
 #[tactic(auto, using(crate::proofs::InputSteps::advance_is_step, crate::proofs::InputSteps::advance_large, crate::proofs::InputSteps::advance_err))]
 pub fn advance_step(state: &State, alloc: Global) -> Result<Changes, Refusal>
     ensures ok { IfOk result (λ c. IsStep Advance state.now c) }

@@ -188,7 +188,7 @@ fn push_given(text: &mut Vec<u8>, node: NodeId, given: &Given) -> io::Result<()>
     }
 }
 
-// Appends what a node gives next, which is a line of a tape as of a report.
+// Appends what a node gives next, spelled as the same line on a tape and in a report.
 fn push_next(text: &mut Vec<u8>, at: u8, next: &ReportLine) -> io::Result<()> {
     write!(text, "node {at} gives \"")?;
     match push_report_words(text, next) {

@@ -104,7 +104,7 @@ fn migrate_folder<R: Files + AllocGlobal, O: Sink, E: Write>(
     }
 }
 
-// The node that a word names, of as many as another names.
+// The node that the word `node` names, of as many nodes as the word `nodes` names.
 fn seat_of(node: Option<&str>, nodes: Option<&str>) -> Option<Seat>
     ensures some { IfSome result (λ s. AreSeat (option_map (λ s. s.now) node.entry) (option_map (λ s. s.now) nodes.entry) s.node s.nodes) }
     ensures none { result ≡ None → (p n : ℕ) → AreSeat (option_map (λ s. s.now) node.entry) (option_map (λ s. s.now) nodes.entry) p n → ⊥ }

@@ -49,20 +49,22 @@ fn simulate_input<I: Source, O: Sink, E: Write>(
     }
 }
 
-/// Runs the program `rr` by these words, of which the first is its name, and gives its exit status.
+/// Runs the program `rr` by these words, the first of which is its name, and gives its exit status.
 ///
 /// `rr sim [FILE]` reads a schedule from FILE, or else from `input`, and prints its report on `out`. `rr show DIR`
-/// prints what the areas hold of the disk in the folder DIR. `rr random --seed SEED --steps STEPS --nodes NODES` prints
-/// a random schedule, a line `report` and the report of its run, or with `--schedule-only` the schedule alone; with
-/// `--lively` a schedule in which something happens, and `--faults` of a thousand steps have a fault. `rr audit [FILE]` reads a tape as `rr sim` does a
-/// schedule, and prints whether its events are what nodes do. `rr sweep [FILE] --seed SEED` reads a schedule, crashes a node
-/// after each device call, and prints what it restarts with, as it goes.
+/// prints what the areas of the disk in the folder DIR hold. `rr random --seed SEED --steps STEPS --nodes NODES` prints
+/// a random schedule, a line `report` and the report of its run. With `--schedule-only` it prints the schedule alone.
+/// With `--lively` it is a schedule in which something happens, and `--faults` of a thousand steps have a fault.
+/// `rr audit [FILE]` reads a tape as `rr sim` does a schedule, and prints whether its events are what nodes do.
+/// `rr sweep [FILE] --seed SEED` reads a schedule, crashes a node after each device call, and prints what it restarts
+/// with, as it goes.
 /// `rr draw [FILE] [--from FROM] [--to TO] [--node NODE] [--instance INSTANCE]` reads a schedule, and prints the picture
 /// of its run: of the lines FROM to TO, of one node or of all, and of the messages of one instance or of every event.
 /// `rr migrate DIR --node NODE --nodes NODES` opens the disk in the folder DIR, and prints what its areas hold then.
 /// The disk is that of node NODE of NODES nodes.
-/// What goes wrong is told on `err`, but for a reader of `out` that has gone. The statuses: 0 done, 2 wrong words, 3 no schedule or tape, 4 a damaged area, 5 a
-/// device, a file or a stream, 6 memory, 7 a tape with an event that isn't what its node does next.
+/// What goes wrong is told on `err`, but for a reader of `out` that has gone. The statuses: 0 done, 2 wrong words, 3 no
+/// schedule or tape, 4 a damaged area, 5 a device, a file or a stream, 6 memory, 7 a tape with an event that isn't what
+/// its node does next.
 pub fn execute<R: Files + AllocGlobal, S: AsStr, I: Source, O: Sink, E: Write>(
     rt: &R,
     words: &[S],
@@ -109,8 +111,8 @@ pub fn execute<R: Files + AllocGlobal, S: AsStr, I: Source, O: Sink, E: Write>(
     }
 }
 
-/// Runs the program as `execute` does by words that may be wanting: then it ends with 6 for want of memory, else with
-/// 2, as for a word that is no text.
+/// Runs the program as `execute` does, where its words could be had. Otherwise it ends with 6 if memory ran out, else
+/// with 2, as for a word that is no text.
 pub fn run<R: Files + AllocGlobal, I: Source, O: Sink, E: Write>(
     rt: &R,
     words: io::Result<Vec<String>>,

@@ -1,4 +1,4 @@
-//! Ends by a text that is printed, and by a file or a stream that fails.
+//! How the program ends by a text that it prints, and where a file or a stream fails.
 
 ghost use Rattle.std.specs.Prelude.{◌≡◌, ◌≢◌};
 ghost use Rattle.std.specs.Io.KnownBytes.{Keeps};
@@ -22,7 +22,8 @@ pub fn end_by_text<O: Sink, E: Write>(out: &mut O, err: &mut E, text: &[u8]) -> 
     }
 }
 
-/// Ends by standard output that fails: with 6 for want of memory, else with 5. Where its reader has gone, nothing is told.
+/// Ends because standard output failed: with 6 if memory ran out, else with 5. Where its reader has gone, nothing is
+/// told.
 pub fn end_by_unprinted<E: Write>(err: &mut E, error: &io::Error) -> u8
     ensures memory { error_kind error.now ≡ ErrorKind.OutOfMemory → result ≡ 6 }
     ensures device { error_kind error.now ≢ ErrorKind.OutOfMemory → result ≡ 5 }
@@ -35,7 +36,7 @@ pub fn end_by_unprinted<E: Write>(err: &mut E, error: &io::Error) -> u8
     end_by_stream(err, "standard output", error)
 }
 
-/// Ends by a file or stream of this name that can't be read or written: with 6 for want of memory, else with 5.
+/// Ends because a file or stream of this name can't be read or written: with 6 if memory ran out, else with 5.
 pub fn end_by_stream<E: Write>(err: &mut E, name: &str, error: &io::Error) -> u8
     ensures memory { error_kind error.now ≡ ErrorKind.OutOfMemory → result ≡ 6 }
     ensures device { error_kind error.now ≢ ErrorKind.OutOfMemory → result ≡ 5 }
@@ -48,7 +49,7 @@ pub fn end_by_stream<E: Write>(err: &mut E, name: &str, error: &io::Error) -> u8
     5
 }
 
-/// Ends the program where its words can't be had: 6 for want of memory, else 2, as for a word that is no text.
+/// Ends the program where its words can't be had: with 6 if memory ran out, else with 2, as for a word that is no text.
 pub fn end_without_words<E: Write>(err: &mut E, error: &io::Error) -> u8
     ensures memory { error_kind error.now ≡ ErrorKind.OutOfMemory → result ≡ 6 }
     ensures words { error_kind error.now ≢ ErrorKind.OutOfMemory → result ≡ 2 }
@@ -60,7 +61,7 @@ pub fn end_without_words<E: Write>(err: &mut E, error: &io::Error) -> u8
     2
 }
 
-// Ends where a view of a run is asked for of a program without views.
+// Ends because a program without views is asked for a view of a run.
 pub(crate) fn end_without_views<E: Write>(err: &mut E) -> u8
     ensures { result ≡ 2 }
 {

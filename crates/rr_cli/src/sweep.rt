@@ -25,7 +25,7 @@ use std::{fs, io};
 
 /// Why a sweep is broken off.
 pub(crate) enum Stop {
-    /// Memory was wanting.
+    /// Memory ran out.
     Refused(Refusal),
     /// Standard output failed.
     Unprinted(io::Error),

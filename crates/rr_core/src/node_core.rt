@@ -86,8 +86,8 @@ impl Core {
         self.state.absorb(self.alloc, changes)
     }
 
-    /// A client asks for a command. It is `ListFull` where the command is new and all instances are decided
-    /// here, also where memory is wanting, and `TooLarge` where a fact would have no number.
+    /// A client asks for a command. It is `ListFull`, even where memory runs out, if the command is new and all
+    /// instances are decided here. It is `TooLarge` where a fact would have no number.
     #[tactic(auto, using(crate::proofs::TakenLemmas::held))]
     pub fn submit(&mut self, command: Command) -> Result<(), Refusal>
         ensures ok { OnOk result (self.new ≡ node_step (Submit command) self.old) }
@@ -144,7 +144,7 @@ impl Core {
     }
 
     /// The lowest open instance that has a round enters the next one. It is `RoundsOut` where that is the last
-    /// round already, also where memory is wanting, and `TooLarge` where a fact would have no number.
+    /// round already, even where memory runs out, and `TooLarge` where a fact would have no number.
     pub fn advance(&mut self) -> Result<(), Refusal>
         ensures ok { OnOk result (self.new ≡ node_step Advance self.old) }
         ensures allowed { OnOk result (refusal_of Advance self.old ≡ None) }
@@ -314,8 +314,8 @@ impl Core {
         self.state.instances.command_at(place.number() as usize)
     }
 
-    /// The command at a place of the decided prefix, for a caller that goes over it by a count, of which not every number
-    /// is an instance. It takes no memory.
+    /// The command at a place of the decided prefix, for a caller that counts through it: `place` need not be the
+    /// number of an instance. It takes no memory.
     pub fn decided_at(&self, place: usize) -> Option<Command>
         ensures { result ≡ slice_get (decided_prefix self.now) place }
     {

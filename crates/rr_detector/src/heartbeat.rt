@@ -88,7 +88,7 @@ impl Heartbeat {
         tick_each(&mut self.watches[..count]);
     }
 
-    /// A beat of a node comes; that of one that isn't there changes nothing.
+    /// A beat of a node comes. One from a node that isn't there changes nothing.
     pub fn heard(&mut self, node: NodeId)
         ensures { self.new ≡ heard_beat node self.old }
     {

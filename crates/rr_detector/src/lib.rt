@@ -1,8 +1,8 @@
 //! The failure detectors of a node. The heartbeat detector has time-outs that grow (Aguilera, Chen and Toueg 2000): a node is
 //! suspected once more ticks than its time-out have come since its last beat, and a beat of a suspected node raises its
-//! time-out by one. The reduction makes a detector complete (Chandra and Toueg 1996): at a receipt of what a node suspects
-//! these are suspected too, and the node, which spoke, is not. `Heartbeat` is told by `tick` and `heard`, and asked by
-//! `suspects`. `Suspects`, the reduction, is told by `receive`, and asked by `output`.
+//! time-out by one. The reduction makes a detector complete (Chandra and Toueg 1996). When a node tells whom it
+//! suspects, these are suspected too, and the node itself, which spoke, is not. `Heartbeat` is told by `tick` and
+//! `heard`, and asked by `suspects`. `Suspects`, the reduction, is told by `receive`, and asked by `output`.
 #![tactic(auto)]
 
 ghost use Rattle.std.specs.Prelude.{ℕ, List};

@@ -39,7 +39,7 @@ pub fn behind(cells: &[Cell], at: u64) -> &[Cell]
     }
 }
 
-/// The first cells, as many as are asked for or as there are.
+/// The first `count` cells, or all if there are fewer.
 pub fn front(cells: &[Cell], count: u64) -> &[Cell]
     ensures { result.now ≡ take count cells.now }
 {
@@ -87,9 +87,9 @@ pub fn loosen_from(cells: &mut Vec<Cell>, at: usize)
     loosen(&mut cells[at..]);
 }
 
-/// Gives the loose ones of the cells the bytes of the fill in turn, repeated, from the byte with this number on;
-/// with an empty fill they keep their own. None is loose afterwards. Answers how many were. What is loose lies
-/// from `low` on and below `high`.
+/// Gives the loose cells the bytes of the fill in turn, repeated, from the byte with number `skip` on. With an
+/// empty fill they keep their own. None is loose afterwards. Answers how many were. What is loose lies from
+/// `low` on and below `high`.
 pub fn fill_within(cells: &mut Vec<Cell>, low: usize, high: usize, fill: &[u8], skip: u64) -> u64
     requires order { low ≤ high }
     requires there { high ≤ vec_len cells.old }
@@ -116,7 +116,7 @@ pub fn write_over(cells: &mut Vec<Cell>, at: usize, bytes: &[u8])
     }
 }
 
-// Puts a cell in the place of another, or at the end, where there is room for it.
+// Replaces the cell at a place, or adds one at the end, where there is room for it.
 fn put(cells: &mut Vec<Cell>, at: usize, cell: Cell)
     requires starts { at ≤ vec_len cells.old }
     requires room { at < vec_capacity cells.old }

@@ -52,8 +52,8 @@ pub trait Disk {
     /// Writes over what is there and past the end. The range is loose until the next sync.
     ///
     /// # Errors
-    /// `Device`, as of a write that starts past the end, which changes nothing. After any other failed write the range
-    /// may hold any bytes, and the area may have grown as far as its end.
+    /// `Device`. A write that starts past the end fails too, and changes nothing. After any other failed write the
+    /// range may hold any bytes, and the area may have grown as far as its end.
     fn write_at(&mut self, area: Area, at: u64, bytes: &[u8]) -> Result<(), Refusal>
         ensures ok { tells self.old → OnOk result ((at ≤ length (extent_of (areas self.old) area).cells)
             × (areas self.new ≡ replaced (areas self.old) area (written at bytes.now (extent_of (areas self.old) area)))) }

@@ -78,7 +78,7 @@ impl FailingDisk<MemDisk> {
     /// A copy of it, with what is loose and its counts, at which no failure is due.
     ///
     /// # Errors
-    /// Where memory is wanting.
+    /// Where memory runs out.
     pub fn copied(&self, alloc: Global) -> Result<FailingDisk<MemDisk>, AllocError>
         ensures { IfOk result (λ copy. copy ≡ record self.now { due = None }) }
     {

@@ -80,12 +80,12 @@ impl<F: AreaFile + Drop> FileDisk<F> {
 }
 
 impl<F: Read + Write + Seek + OpenFile + Drop> FileDisk<OpenedFile<F>> {
-    /// The disk of the files `a0` and `a1` of a folder. Where `make` is true the folder, those above it and the
-    /// files are made that are missing, and the folders synced in which something was made. Nothing is truncated.
+    /// The disk of the files `a0` and `a1` of a folder. Where `make` is true, the folder, those above it and the
+    /// files are made if missing, and folders in which something was made are synced. Nothing is truncated.
     ///
     /// # Errors
-    /// `OutOfMemory`; `Device` where the folder or a file can't be opened to read and write, or not be made, as
-    /// where a folder stands in the place of a file.
+    /// `OutOfMemory`; `Device` where the folder or a file can't be opened to read and write, or can't be made, as
+    /// where a file is a folder.
     pub fn open<R: Files<File = F> + AllocGlobal>(
         rt: &R,
         dir: &str,
@@ -104,7 +104,7 @@ impl<F: Read + Write + Seek + OpenFile + Drop> FileDisk<OpenedFile<F>> {
         Ok(disk)
     }
 
-    /// The same, of files that are there and are opened for reading alone. A write to it fails, and so does a
+    /// The same, for files that exist and are opened only for reading. A write to it fails, and so does a
     /// first sync, unless the areas are empty.
     ///
     /// # Errors

@@ -12,8 +12,8 @@ use rr_types::Refusal;
 use std::alloc::{AllocError, Global};
 use std::marker::Model;
 
-/// A disk in memory, which tells its bytes. No call of it fails but a write that starts past the end or finds
-/// no memory to grow; then what there is of its range is loose and nothing else has changed. A call costs no
+/// A disk in memory, which tells its bytes. No call fails but a write that starts past the end or finds no
+/// memory to grow. Then what there is of its range is loose, and nothing else has changed. A call costs no
 /// more than the bytes that it reads, writes or settles.
 #[derive(Debug, Drop)]
 pub struct MemDisk {
@@ -47,7 +47,7 @@ impl MemDisk {
     /// A copy of it, with what is loose and its counts.
     ///
     /// # Errors
-    /// Where memory is wanting.
+    /// Where memory runs out.
     pub fn copied(&self, alloc: Global) -> Result<MemDisk, AllocError>
         ensures { IfOk result (λ copy. copy ≡ self.now) }
     {
@@ -62,7 +62,7 @@ impl MemDisk {
     /// A disk with these bytes in its areas, nothing of them loose.
     ///
     /// # Errors
-    /// Where memory is wanting.
+    /// Where memory runs out.
     pub fn with_areas(alloc: Global, first: &[u8], second: &[u8]) -> Result<MemDisk, AllocError>
         ensures { IfOk result (λ d. d ≡ record { areas = restarted (record { of_first = first.now; of_second = second.now }); calls = 0; faults = 0 }) }
     {

@@ -62,7 +62,7 @@ impl Strip {
     /// An area with these bytes, nothing loose and all of it safe.
     ///
     /// # Errors
-    /// Where memory is wanting.
+    /// Where memory runs out.
     pub fn with_bytes(alloc: Global, bytes: &[u8]) -> Result<Strip, AllocError>
         ensures { IfOk result (λ s. s ≡ at_rest bytes.now) }
     {
@@ -133,8 +133,8 @@ impl Strip {
         self.safe = self.cells.len();
     }
 
-    /// Cuts it to a length, brought into the range from the safe to the present one, and gives the loose cells
-    /// that are left the bytes of the fill in turn, from the byte with this number on; with an empty fill they
+    /// Cuts it to a length, brought into the range from the safe to the present one. The loose cells that are
+    /// left get the bytes of the fill in turn, from the byte with number `skip` on. With an empty fill they
     /// keep their own. Answers how many these are.
     pub fn crash(&mut self, cut: u64, fill: &[u8], skip: u64) -> u64
         ensures image { self.new ≡ at_rest (left_of fill.now skip (take (clamped cut self.old) self.old.cells)) }
@@ -153,7 +153,7 @@ impl Strip {
     }
 }
 
-// A range that holds two others, of which the first may be empty.
+// A range that holds two others, the first of which may be empty.
 fn hull(low: usize, high: usize, from: usize, to: usize) -> (usize, usize)
     requires first { low ≤ high }
     requires second { from ≤ to }
