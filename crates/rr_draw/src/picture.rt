@@ -20,7 +20,7 @@ use rr_types::{Message, Nodes, Refusal};
 use std::alloc::Global;
 use std::io;
 
-/// A text that is written fails where memory is wanting, and for nothing else.
+/// Writing a text fails only where memory runs out.
 fn written<T: Drop>(text: io::Result<T>) -> Result<T, Refusal>
     ensures err { IfErr result (λ e. e ≡ Refusal.OutOfMemory) }
 {
@@ -178,11 +178,11 @@ fn picture_behind<O: Sink>(
     Ok(picture)
 }
 
-/// The picture of the run of the schedule whose text the bytes are, of what a cut shows of it. Who watches `out` is told
-/// how far it is; `out` takes nothing.
+/// The picture of the run of the schedule whose text the bytes are, as far as a cut shows it. Those who watch `out` are
+/// told how far it is; `out` takes nothing.
 ///
 /// # Errors
-/// `BadNodes` and `BadEvent` for bytes that are no schedule, as of `Schedule::parse`; `OutOfMemory`.
+/// `BadNodes` and `BadEvent` for bytes that are no schedule, as from `Schedule::parse`; `OutOfMemory`.
 pub fn picture_of<O: Sink>(
     alloc: Global,
     bytes: &[u8],

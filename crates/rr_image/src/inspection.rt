@@ -115,7 +115,7 @@ fn report(version: Version, nodes: Nodes, node: NodeId, content: Content) -> Are
     }
 }
 
-// What an active area of these bytes tells, beside what is told of the other.
+// What an active area with these bytes tells, and with it what is told of the other area.
 #[tactic(auto, unfolding(crate::specs::Image::content_behind))]
 fn active(
     alloc: Global,
@@ -225,7 +225,7 @@ fn both(
 /// What the areas of a disk tell, by one read of each: see `inspect_bytes`. Nothing is written.
 ///
 /// # Errors
-/// `OutOfMemory`, `Device`; `Damaged` as of `inspect_bytes`.
+/// `OutOfMemory`, `Device`; `Damaged` as from `inspect_bytes`.
 pub fn inspect<D: Disk>(
     alloc: Global,
     disk: &mut D,

@@ -12,7 +12,7 @@ use rr_types::Refusal;
 /// Writes to the journal's disk.
 ///
 /// # Errors
-/// `Failed` of a journal that has failed, and nothing has changed then; `Device`, of which the journal takes note.
+/// `Failed` if the journal has failed already, and nothing has changed then; `Device`, and the journal notes it.
 pub fn write<D: Disk>(
     journal: &mut Journal<D>,
     area: Area,
@@ -46,7 +46,7 @@ pub fn write<D: Disk>(
     }
 }
 
-/// Syncs the journal's disk. Errors as of `write`; of the disk nothing has changed then.
+/// Syncs the journal's disk. The errors are those of `write`; nothing on the disk has changed then.
 pub fn sync<D: Disk>(journal: &mut Journal<D>) -> Result<(), Refusal>
     ensures done { OnOk result ((journal.old.failed ≡ false) × (journal.new ≡ record journal.old { disk = journal.new.disk })
         × D.sync_gives journal.old.disk result journal.new.disk) }

@@ -33,7 +33,7 @@ pub struct BodySafe;
 pub struct GateSet;
 
 /// A flush in one of its states: `Body`, `BodyOut`, `BodySafe` or `GateSet`. A step spends it, whatever it
-/// answers; `abandon` spends it when its node has crashed or failed. It can't be let go otherwise.
+/// answers; `abandon` spends it when its node has crashed or failed. It can't be dropped otherwise.
 #[derive(Debug)]
 pub struct Job<S> {
     nodes: Nodes,
@@ -81,7 +81,7 @@ impl<S: Drop> Job<S> {
         }
     }
 
-    /// Spends the job, of which nothing more will be done.
+    /// Spends the job. Nothing more of it will be done.
     pub fn abandon(self) {
         let Job {
             nodes: _,
@@ -123,7 +123,7 @@ impl Job<Body> {
     /// Writes the body behind the last gate, which it doesn't touch.
     ///
     /// # Errors
-    /// `Failed` of a journal that has failed, and nothing has changed then; `Device`, of which it takes note.
+    /// `Failed` if the journal has failed already, and nothing has changed then; `Device`, and the journal notes it.
     pub fn step<D: Disk>(self, journal: &mut Journal<D>) -> Result<Job<BodyOut>, Refusal>
         ensures done { IfOk result (λ job. (job ≡ self) × (journal.old.failed ≡ false) × (journal.new ≡ record journal.old { disk = journal.new.disk })
             × D.write_gives journal.old.disk self.area (self.gate + 1) self.body (Ok tt) journal.new.disk) }
@@ -151,7 +151,7 @@ impl Job<Body> {
 }
 
 impl Job<BodyOut> {
-    /// Syncs, which makes the body safe. Errors as of the first step.
+    /// Syncs, which makes the body safe. The errors are those of the first step.
     pub fn step<D: Disk>(self, journal: &mut Journal<D>) -> Result<Job<BodySafe>, Refusal>
         ensures done { IfOk result (λ job. (job ≡ self) × (journal.old.failed ≡ false) × (journal.new ≡ record journal.old { disk = journal.new.disk })
             × D.sync_gives journal.old.disk (Ok tt) journal.new.disk) }
@@ -179,7 +179,7 @@ impl Job<BodyOut> {
 }
 
 impl Job<BodySafe> {
-    /// Opens the gate. Errors as of the first step.
+    /// Opens the gate. The errors are those of the first step.
     pub fn step<D: Disk>(self, journal: &mut Journal<D>) -> Result<Job<GateSet>, Refusal>
         ensures done { IfOk result (λ job. (job ≡ self) × (journal.old.failed ≡ false) × (journal.new ≡ record journal.old { disk = journal.new.disk })
             × D.write_gives journal.old.disk self.area self.gate (165 ∷ []) (Ok tt) journal.new.disk) }
@@ -208,7 +208,7 @@ impl Job<BodySafe> {
 
 impl Job<GateSet> {
     /// Syncs, which makes the open gate safe, and the group with it. The journal takes note of the end: the body's
-    /// last byte is the last gate now. Errors as of the first step.
+    /// last byte is the last gate now. The errors are those of the first step.
     pub fn step<D: Disk>(self, journal: &mut Journal<D>) -> Result<Synced, Refusal>
         ensures done { IfOk result (λ synced. (synced ≡ record { node = self.node; group = self.group }) × (journal.old.failed ≡ false)
             × (journal.new ≡ record journal.old { disk = journal.new.disk; gate = self.gate + length self.body; next = self.group.serial + length self.group.facts; busy = false })

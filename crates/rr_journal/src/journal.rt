@@ -33,8 +33,8 @@ pub struct Journal<D: Disk> {
 }
 
 impl<D: Disk> Journal<D> {
-    // Of an opening that has ended: the active area, its last gate, the number of the next fact, and whether the
-    // other area has to be closed before it is written anew.
+    // The journal after an opening, by what it has found: the active area, its last gate, the number of the next
+    // fact, and whether the other area has to be closed before it is written anew.
     pub(crate) fn new(
         disk: D,
         nodes: Nodes,
@@ -143,7 +143,7 @@ impl<D: Disk> Journal<D> {
         self.busy = true;
     }
 
-    // Takes note of the end of a switch: the other area has this epoch, and the journal goes on there, behind
+    // Takes note of the end of a switch: the other area has this epoch, and the journal continues there, after
     // the gate at this place. The area that it leaves looks formatted.
     pub(crate) fn note_switch(&mut self, area: Area, epoch: u64, place: u64)
         ensures { self.new ≡ record self.old { area = area; epoch = epoch; gate = place; busy = false; closes_other = true } }
@@ -157,7 +157,7 @@ impl<D: Disk> Journal<D> {
 
     /// Begins to flush a group: the job will append its frame behind the last gate. A refused group is handed
     /// back, and the journal is unchanged.
-    /// Errors, of which the first that applies is answered: `Failed` after a device failure; `Busy` while a job runs;
+    /// Errors, and the first that applies is answered: `Failed` after a device failure; `Busy` while a job runs;
     /// `TooLarge` where the frame would pass byte 4,294,967,295 of the area, or `OutOfMemory`.
     pub fn begin(&mut self, alloc: Global, group: Group) -> Result<Job<Body>, (Refusal, Group)>
         ensures ok { IfOk result (λ job. (self.old.failed ≡ false) × (self.old.busy ≡ false)

@@ -9,8 +9,8 @@
 //!
 //! After a failed device call, take the disk (`into_disk`) and open it again.
 //!
-//! Behind a closed gate bytes mean nothing. So what a crash may leave holds the facts from before a flush until the
-//! gate is written, and those with the group's from the last sync on; between these, one or the other. A snapshot
+//! Bytes behind a closed gate mean nothing. So until the gate is written, what a crash may leave holds the facts from
+//! before the flush. From the last sync on it holds these and the group's; in between, one or the other. A snapshot
 //! has the promise of the same facts, so each crash in a switch leaves what was there before it.
 #![tactic(auto)]
 

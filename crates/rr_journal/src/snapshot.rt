@@ -113,7 +113,7 @@ fn snapshot_frame(
     frame_of(alloc, &snapshot)
 }
 
-// What stands behind the gate of a snapshot's frame. Errors: as of `snapshot_frame`.
+// What stands behind the gate of a snapshot's frame. The errors are those of `snapshot_frame`.
 #[tactic(auto, using(crate::proofs::SnapshotLaws::many_entries))]
 pub(crate) fn frame_of(alloc: Global, snapshot: &Snapshot) -> Result<Vec<u8>, Refusal>
     ensures ok { IfOk result (λ body. (body.items ≡ frame_bytes (snapshot_bytes snapshot.now)) × (6 + length (snapshot_bytes snapshot.now) < 2 ^ 32)) }

@@ -19,7 +19,7 @@ use std::marker::Model;
 
 /// A switch to a snapshot in the area that isn't active, of six device calls, or of four where that area begins
 /// with a closed gate. A step spends it, whatever it answers; `abandon` spends it when its node has crashed or
-/// failed. It can't be let go otherwise.
+/// failed. It can't be dropped otherwise.
 #[derive(Debug)]
 pub struct SwitchJob {
     nodes: Nodes,
@@ -116,7 +116,7 @@ impl SwitchJob {
         }
     }
 
-    /// Spends the switch, of which nothing more will be done.
+    /// Spends the switch. Nothing more of it will be done.
     pub fn abandon(self) {
         let SwitchJob {
             nodes: _,
@@ -129,11 +129,11 @@ impl SwitchJob {
         } = self;
     }
 
-    /// Makes the next device call. With the last one the other area is active, and the journal goes on there
-    /// behind the snapshot.
+    /// Makes the next device call. With the last one the other area is active, and the journal continues there
+    /// after the snapshot.
     ///
     /// # Errors
-    /// `Failed` of a journal that has failed, and nothing has changed then; `Device`, of which it takes note.
+    /// `Failed` if the journal has failed already, and nothing has changed then; `Device`, and the journal notes it.
     pub fn step<D: Disk>(self, journal: &mut Journal<D>) -> Result<Switching, Refusal>
         ensures done { IfOk result (λ s. (journal.old.failed ≡ false) × GoesOn self journal.old s journal.new
             × Gave D.write_gives D.sync_gives (due_call self) journal.old.disk (Ok tt) journal.new.disk) }

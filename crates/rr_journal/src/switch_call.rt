@@ -16,7 +16,7 @@ use rr_types::Refusal;
 /// Makes the device call that is due in a switch.
 ///
 /// # Errors
-/// `Failed` of a journal that has failed, and nothing has changed then; `Device`, of which it takes note.
+/// `Failed` if the journal has failed already, and nothing has changed then; `Device`, and the journal notes it.
 pub fn make<D: Disk>(journal: &mut Journal<D>, job: &SwitchJob) -> Result<(), Refusal>
     ensures done { OnOk result ((journal.old.failed ≡ false) × (journal.new ≡ record journal.old { disk = journal.new.disk })
         × Gave D.write_gives D.sync_gives (due_call job.now) journal.old.disk (Ok tt) journal.new.disk) }

@@ -5,8 +5,8 @@ ghost use Rattle.std.specs.Prelude.{◌≡◌, ◌+◌, ◌<◌, ◌^◌, length
 use rr_types::{Group, NodeId};
 use std::marker::Model;
 
-/// A group of a node that a flush has made safe. It comes of the last step of a job, and of `Synced::on_trust` where
-/// the disk tells no bytes. It can be let go, as when its node has crashed before it was told; then it never marks.
+/// A group of a node that a flush has made safe. It comes from the last step of a job, or from `Synced::on_trust` where
+/// the disk tells no bytes. It can be dropped, as when its node has crashed before it was told; then it never marks.
 #[derive(Debug, Drop)]
 pub struct Synced {
     node: NodeId,

@@ -1,5 +1,5 @@
-//! Two doors for a host that has no disk to show, as one that goes over the tape of a node that ran elsewhere. They are
-//! shut for each disk that tells its bytes.
+//! Two doors for a host that has no disk to show, such as one that follows the tape of a node that ran elsewhere. They
+//! are shut for every disk that tells its bytes.
 
 ghost use Rattle.std.specs.Prelude.{◌≡◌};
 
@@ -9,7 +9,7 @@ use rr_disk::Disk;
 use rr_types::{Group, NodeId, Nodes, Promise};
 
 impl Opened {
-    /// The end of an opening of which nothing but the caller's word is known, over a disk that tells no bytes.
+    /// The end of an opening that is known only by the caller's word, over a disk that tells no bytes.
     pub fn on_trust<D: Disk>(
         disk: &D,
         nodes: Nodes,

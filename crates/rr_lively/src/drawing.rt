@@ -208,8 +208,8 @@ impl Drawing {
         Ok(Event::Submit { node, command })
     }
 
-    /// Nobody has anything to do: a node is restarted, or a client asks for a new command, or a node enters the next
-    /// round whose round is behind another's, or all nodes tick in turn.
+    /// Nobody has anything to do: a node is restarted, or a client asks for a new command, or a node whose round is
+    /// behind another's enters the next round, or all nodes tick in turn.
     fn stir(&mut self, cluster: &Cluster, from: NodeId, word: u32) -> Result<Event, Refusal>
         ensures { IfErr result (λ e. e ≡ Refusal.OutOfMemory) }
     {

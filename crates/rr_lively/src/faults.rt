@@ -66,8 +66,8 @@ fn fill_of(alloc: Global, detail: u32) -> Result<Fill, Refusal>
 }
 
 impl Drawing {
-    /// An event with a fault, at the first node for it, counted from this one on; none where there is none, or where a
-    /// message is lost.
+    /// An event with a fault, at the first node for it, counted from this one on. `None` where there is no such event,
+    /// or where a message is lost.
     pub(crate) fn fault(
         &mut self,
         alloc: Global,

@@ -132,13 +132,13 @@ fn drawn_run<O: Sink>(
     Ok(run)
 }
 
-/// The text of a lively schedule, a line `report`, and the text of the report of its run. Behind the openings of the
-/// nodes each of the steps draws an event among those that do something at that moment; `faults` in a thousand draw a
-/// crash within a device call, a failing call, a suspicion or the like. The same words give the same text. Who watches
-/// `out` is told how far it is; `out` takes nothing.
+/// The text of a lively schedule, a line `report`, and the text of the report of its run. After the openings of the
+/// nodes, each step draws an event among those that do something at that moment. `faults` steps in a thousand draw a
+/// crash within a device call, a failing call, a suspicion or the like. The same words give the same text. Those who
+/// watch `out` are told how far it is; `out` takes nothing.
 ///
 /// # Errors
-/// `OutOfMemory`, also where memory is wanting for an event of the run.
+/// `OutOfMemory`, also where memory runs out for an event of the run.
 pub fn lively_run<O: Sink>(
     alloc: Global,
     nodes: Nodes,
@@ -161,7 +161,7 @@ pub fn lively_run<O: Sink>(
 /// The text of that schedule alone.
 ///
 /// # Errors
-/// `OutOfMemory`, also where memory is wanting for an event of the run.
+/// `OutOfMemory`, also where memory runs out for an event of the run.
 pub fn lively_schedule<O: Sink>(
     alloc: Global,
     nodes: Nodes,

@@ -26,11 +26,11 @@ pub enum Unflushed {
     Failed(Refusal),
 }
 
-/// The four device calls of a flush, the turnstile before each. Then each image that a crash may leave holds the facts
-/// from before with the group's, and where a call failed, these or the facts from before alone.
+/// The four device calls of a flush, with the turnstile before each. Then each image that a crash may leave holds the
+/// facts from before and the group's. Where a call failed, it holds these or only the facts from before.
 ///
 /// # Errors
-/// `Failed` of a journal that has failed, and nothing has changed then; `Device`, of which the journal takes note.
+/// `Failed` if the journal has failed already, and nothing has changed then; `Device`, and the journal notes it.
 pub fn flush<D: Disk, T: Turnstile>(
     turnstile: &T,
     node: NodeId,
@@ -59,9 +59,9 @@ pub fn flush<D: Disk, T: Turnstile>(
     set.step(journal)
 }
 
-/// Flushes a group. A journal whose disk, and each image that a crash may leave, holds facts which the group goes on from
-/// stands so again afterwards, with the group's facts; where a device call failed, each image holds these or the facts from
-/// before. A flush that doesn't begin changes nothing, and hands the group back.
+/// Flushes a group. Let the journal's disk, and each image that a crash may leave, hold the facts that the group
+/// follows. Afterwards they hold these and the group's facts. Where a device call failed, each image holds either these
+/// or only the facts from before. A flush that doesn't begin changes nothing, and hands the group back.
 pub fn carry<D: Disk, T: Turnstile>(
     turnstile: &T,
     node: NodeId,

@@ -37,8 +37,8 @@ impl Turns {
     }
 
     /// One more turn, an idle or a busy one. Answers whether the node ticks now: after a thousand idle turns, or ten
-    /// thousand busy ones, from which on they are counted anew. Busy turns count, since a busy coordinator that sends no beats
-    /// comes to be suspected. They count less, since they are shorter.
+    /// thousand busy ones. Then the count starts again. Busy turns count, since a busy coordinator that sends no beats
+    /// ends up suspected. They count less, since they are shorter.
     pub fn count(&mut self, is_idle: bool) -> bool
         ensures due { result ≡ is_tick_due is_idle self.old }
         ensures count { self.new ≡ count_after is_idle self.old }

@@ -173,7 +173,7 @@ fn fall(alloc: Global, doing: &mut Doing)
     put_in(doing, Doing::Faulted(disk));
 }
 
-/// The opening of a node that is down, has failed or opens already goes on by an event that it takes.
+/// By an event that it takes, a node that is down or has failed begins an opening, and one that opens continues it.
 #[inline(never)]
 fn open_up(
     alloc: Global,

@@ -8,9 +8,9 @@ ghost use Rattle.rr_node.specs.Runs.{StartsInStep, StepsInStep, FailsInStep, Cra
 ghost use Rattle.rr_node.specs.Seats.{Seat};
 ghost use Rattle.rr_node.specs.Worlds.{EachHoldsSome, InStep};
 
-/// Laws of a node with its disk, of at most 7 nodes: it begins in step with a world in which nothing has happened,
-/// and each event, each failing device call and each crash is a run of the world's steps behind which it is in step
-/// again, whether memory was there or wanting: what the node sends and tells is what the steps send and tell.
+/// Laws of a node with its disk, of at most 7 nodes. It begins in step with a world in which nothing has happened.
+/// Each event, each failing device call and each crash is a run of the world's steps. After it the node is in step
+/// again, whether or not memory ran out. What the node sends and tells is what the steps send and tell.
 /// At each moment all that a crash may leave of its disk holds the facts that the world keeps of it.
 #[tactic(none)]
 pub fn laws_of_seats()

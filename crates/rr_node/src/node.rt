@@ -176,7 +176,7 @@ impl Node {
         })
     }
 
-    /// The node's disk, of which whatever ran over it is given up.
+    /// The node's disk. Whatever ran over it is given up.
     pub fn into_disk(mut self, alloc: Global) -> FailingDisk<MemDisk>
         ensures areas { result.below.areas ≡ self.areas }
         ensures calls { result.calls ≡ self.calls }

@@ -58,7 +58,7 @@ impl Flush {
     }
 }
 
-/// A node that is up. It can't be let go: its job is spent or given up.
+/// A node that is up. It can't be dropped: its job is spent or given up.
 pub struct Serving {
     core: Core,
     slots: Journal<NodeDisk>,

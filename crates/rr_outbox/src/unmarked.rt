@@ -67,7 +67,7 @@ impl Unmarked {
         Ok(())
     }
 
-    /// The last staged facts go again, as many as these. It needs no memory.
+    /// Removes as many of the last staged facts as `facts` has. It needs no memory.
     pub fn take_back(&mut self, facts: &[Fact])
         requires { length facts.now ≤ length self.old.staged }
         ensures { self.new ≡ record self.old { staged = take (length self.old.staged - length facts.now) self.old.staged } }
