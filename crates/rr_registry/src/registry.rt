@@ -12,9 +12,9 @@ use rr_types::{Command, Name, Refusal, Reply, RequestNo};
 use std::alloc::Global;
 use std::marker::Model;
 
-/// The names that are bound, and the reply to each request. It is the registry of a list of commands, of
+/// The names that are bound, and the reply to each request. It is the registry of a list of commands, in
 /// which each request counts once, where it first comes. It keeps a place in memory for each bound name and each
-/// reply, and no other: the place of a released name goes.
+/// reply, and no other: the place of a released name is given up.
 #[derive(Drop)]
 pub struct Registry {
     tables: Tables,

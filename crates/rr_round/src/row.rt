@@ -145,7 +145,8 @@ impl Row {
         self.standing.decision()
     }
 
-    /// The row after a fact with this number, by which the instance stands so. A tally that the fact drops isn't copied.
+    /// The row after the fact with this number, which leaves the instance at `standing`. A tally that the fact drops
+    /// isn't copied.
     ///
     /// # Errors
     /// `OutOfMemory`.

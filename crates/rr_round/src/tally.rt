@@ -47,7 +47,7 @@ impl Model for Tally {
     ghost view = { λ t. record { estimates = t.estimates.items; acks = t.acks; nacks = t.nacks } };
 }
 
-/// Where a vote goes in its place by senders; `None` where its sender has one.
+/// Where a vote belongs in the order of senders; `None` where its sender has one already.
 #[tactic(auto, using(crate::proofs::TallyLemmas::vote_there, crate::proofs::TallyLemmas::vote_before, crate::proofs::TallyLemmas::vote_behind, crate::proofs::TallyLemmas::vote_last))]
 fn vote_place(votes: &[Vote], vote: Vote) -> Option<usize>
     ensures { MatchOption result (with_vote vote votes.now ≡ votes.now) (λ k. (k ≤ length votes.now) × (with_vote vote votes.now ≡ insert votes.now k vote)) }
@@ -65,7 +65,7 @@ fn vote_place(votes: &[Vote], vote: Vote) -> Option<usize>
     Some(votes.len())
 }
 
-/// Keeps a vote in its place by senders; the first of a sender is kept.
+/// Keeps a vote, in the order of senders; of each sender the first is kept.
 fn put_vote(votes: &mut Vec<Vote>, vote: Vote) -> Result<(), Refusal>
     ensures ok { OnOk result (votes.new.items ≡ with_vote vote votes.old.items) }
     ensures kept { OnErr result (votes.new.items ≡ votes.old.items) }

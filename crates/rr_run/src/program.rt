@@ -19,8 +19,8 @@ use std::rt::Files;
 use std::sync::Wait;
 use std::thread::Threads;
 
-/// Runs the program `rr` by these words, of which the first is its name, and gives its exit status. It is
-/// `rr_view::execute` with two commands more.
+/// Runs the program `rr` by these words, the first of which is its name, and gives its exit status. It is
+/// `rr_view::execute` with two more commands.
 ///
 /// `rr run --nodes NODES --dir DIR --script SCRIPT [--tape TAPE]` reads a script from the file SCRIPT, runs that many
 /// nodes in threads, node P over the disk in the folder DIR/P, and prints the answers to the script. Folders and files
@@ -67,8 +67,8 @@ pub fn execute<
     }
 }
 
-/// Runs the program as `execute` does by words that may be wanting: then it ends with 6 for want of memory, else with
-/// 2, as for a word that is no text.
+/// Runs the program as `execute` does, where its words could be had. Otherwise it ends with 6 if memory ran out, else
+/// with 2, as for a word that is no text.
 pub fn run<
     F: Read + Write + Seek + OpenFile + Drop + Send + Lockable,
     R: Files<File = F> + AllocGlobal + Threads + Wait + Sync,

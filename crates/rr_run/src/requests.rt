@@ -87,7 +87,7 @@ fn first_free<R: Files + AllocGlobal>(rt: &R, path: &str) -> Result<u64, Refusal
     }
 }
 
-// Puts a text in the place of a file of a folder. A crash leaves the file as it was or with the text, and never a part of it.
+// Replaces a file of a folder with a text. A crash leaves the file as it was or with the text, never with part of it.
 fn replace_file<R: Files>(
     rt: &R,
     dir: &str,

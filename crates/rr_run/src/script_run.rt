@@ -147,7 +147,7 @@ fn end_by_tape<R: Files + AllocGlobal, O: Sink, E: Write>(
     }
 }
 
-// Runs a script over folders that are open, and prints the answers. The locks are let go behind the run.
+// Runs a script over open folders, and prints the answers. The locks are released after the run.
 fn run_in<
     F: Read + Write + Seek + OpenFile + Drop + Send,
     R: Files + AllocGlobal + Threads + Wait + Sync,

@@ -17,14 +17,14 @@ pub const MAX_LINE: usize = 4096;
 pub enum Heard {
     /// A line, without its line feed, which the last one may lack.
     Line(Vec<u8>),
-    /// A line of more bytes than a line may have. All of it is read, and it is let go.
+    /// A line of more bytes than a line may have. All of it is read and thrown away.
     TooLong,
     /// The end of the input.
     End,
 }
 
-// The next byte, unless the input is at its end. What the shell doesn't hear is left for the next reader of the input. No
-// answer waits for a line behind the one that asks.
+// The next byte, unless the input is at its end. What the shell doesn't hear is left for the next reader of the input.
+// No answer waits for a line after the one that asks.
 fn next_byte<I: Source>(input: &mut I) -> io::Result<Option<u8>>
     ensures next { IfOk result (IsNextByte (I.reading input.old) (I.reading input.new)) }
     ensures faults { (I.reading input.old).faults ≤ (I.reading input.new).faults }
@@ -38,7 +38,7 @@ fn next_byte<I: Source>(input: &mut I) -> io::Result<Option<u8>>
     }
 }
 
-// Reads to the end of a line of which more than enough is read.
+// Reads on to the end of a line that is known to be too long.
 fn skip_line<I: Source>(input: &mut I) -> io::Result<()>
     ensures skipped { OnOk result (IsSkipped (I.reading input.old) (I.reading input.new)) }
     ensures faults { (I.reading input.old).faults ≤ (I.reading input.new).faults }

@@ -18,7 +18,7 @@ use std::io;
 /// Why a talk is broken off.
 #[derive(Debug)]
 pub enum Stop {
-    /// Memory was wanting, or the nodes can't be asked any more.
+    /// Memory ran out, or the nodes can't be asked any more.
     Refused(Refusal),
     /// The input failed.
     Unread(io::Error),

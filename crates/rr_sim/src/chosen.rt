@@ -1,7 +1,7 @@
-//! The decided list of a wire: the commands chosen for instance 0, 1 and on.
+//! The decided list of a wire: the commands chosen for instance 0, 1 and so on.
 //!
-//! The wire is gone over twice, for who acknowledged what and then for the proposals, and a message costs a few
-//! look-ups in a tree. An instance costs one more.
+//! Two passes go over the wire, one for who acknowledged what and one for the proposals. A message costs a few look-ups
+//! in a tree, and an instance one more.
 
 ghost use Rattle.std.specs.Prelude.{◌≡◌, ℕ, IfSome, IsSome, IfOk, IfErr};
 ghost use Rattle.std.specs.Ordering.{nat_cmp};

@@ -450,7 +450,7 @@ impl Cluster {
         Ok(())
     }
 
-    /// What the event of a line does where memory is there; `OutOfMemory` where it is wanting, as the answer tells. A
+    /// What the event of a line does where memory suffices; `OutOfMemory` where the answer tells that memory ran out. A
     /// failing device call answers the same in both cases.
     #[tactic(auto, using(crate::proofs::WantLaws::failing_in_memory))]
     pub fn step_in_memory(&mut self, alloc: Global, line: u64, event: &Event) -> Result<(), Refusal>
@@ -475,7 +475,7 @@ impl Cluster {
         self.lines.len()
     }
 
-    /// Whether the line of this number refuses an event for want of memory or by the device.
+    /// Whether the line of this number refuses an event because memory ran out or the device failed.
     fn tells_of_want(&self, number: usize) -> bool
         ensures { IsTrue result ↔ TellsOfWant self.now.lines number }
     {

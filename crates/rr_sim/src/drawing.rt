@@ -20,12 +20,12 @@ pub const MAX_STEPS: u32 = 999_930;
 /// The device calls of an opening that formats its disk.
 const CALLS_OF_AN_OPENING: usize = 9;
 
-/// A random schedule: each node opens, and then come `steps` events, each drawn from two words of the generator of
-/// this seed and from the wire as the run has it by then. The same words give the same schedule, unless memory is
-/// wanting for a write that fails. Who watches `out` is told how far it is; `out` takes nothing.
+/// A random schedule: each node opens, and then come `steps` events. Each is drawn from two words of the generator of
+/// this seed, and from the wire as the run has it by then. The same words give the same schedule, unless memory runs
+/// out in a write, which then fails. Those who watch `out` are told how far it is; `out` takes nothing.
 ///
 /// # Errors
-/// `OutOfMemory`, also where memory is wanting for any other event of the run.
+/// `OutOfMemory`, also where memory runs out for any other event of the run.
 #[tactic(auto, using(crate::proofs::DrawingLemmas::openings_count))]
 pub fn random<O: Sink>(
     alloc: Global,
@@ -83,7 +83,7 @@ fn push_opening(events: &mut Vec<Event>, node: NodeId) -> Result<(), Refusal>
     Ok(())
 }
 
-/// The nodes behind the events by which they open their disks.
+/// The nodes after the events by which they open their disks.
 #[tactic(auto, using(crate::proofs::DrawingLemmas::openings_count))]
 pub(crate) fn opened(alloc: Global, nodes: Nodes, events: &[Event]) -> Result<Cluster, Refusal>
     requires { events.now ≡ openings nodes }

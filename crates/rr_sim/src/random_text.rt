@@ -75,7 +75,7 @@ fn told_openings(alloc: Global, nodes: Nodes, cluster: &mut Cluster) -> Result<T
 /// `random`, and it is run once, as it is drawn. Who watches `out` is told how far the run is; `out` takes nothing.
 ///
 /// # Errors
-/// `OutOfMemory`, also where memory is wanting for an event of the run.
+/// `OutOfMemory`, also where memory runs out for an event of the run.
 pub fn random_run<O: Sink>(
     alloc: Global,
     nodes: Nodes,

@@ -16,11 +16,11 @@ use std::alloc::Global;
 
 /// Runs a schedule on `nodes` nodes that are all down at first, over empty disks, and reports what comes of it.
 /// In the decided list, a command that was acknowledged before another was first submitted stands before it.
-/// A report in which no line refuses for want of memory or by the device is the only such one of its schedule.
+/// A report in which no line refuses with `OutOfMemory` or `Device` is the only such report of its schedule.
 ///
 /// # Errors
 /// `BadNodes` outside 1 to 7; `BadEvent` of the line of the first event whose node isn't there; `OutOfMemory` where the
-/// wire or the report can't grow. On as many nodes as the schedule has it is `OutOfMemory` alone.
+/// wire or the report can't grow. On as many nodes as the schedule has, only `OutOfMemory` is possible.
 #[tactic(auto, using(crate::proofs::ScheduleLaws::no_fault))]
 pub fn simulate(alloc: Global, nodes: u8, schedule: &Schedule) -> Result<Report, Refusal>
     ensures bad_nodes { IsErrOf result Refusal.BadNodes ↔ ((nodes < 1) ⊎ (7 < nodes)) }
@@ -43,8 +43,8 @@ pub fn simulate(alloc: Global, nodes: u8, schedule: &Schedule) -> Result<Report,
     }
 }
 
-/// Runs a schedule as `simulate` does, and gives the nodes behind its last event, with their disks.
-/// Errors as of `simulate`.
+/// Runs a schedule as `simulate` does, and gives the nodes after its last event, with their disks.
+/// The errors are those of `simulate`.
 #[tactic(auto, using(crate::proofs::ScheduleLaws::no_fault))]
 pub fn nodes_after(alloc: Global, nodes: u8, schedule: &Schedule) -> Result<Vec<Node>, Refusal>
     ensures bad_nodes { IsErrOf result Refusal.BadNodes ↔ ((nodes < 1) ⊎ (7 < nodes)) }

@@ -68,7 +68,7 @@ fn report_behind<O: Sink>(
 /// time is kept as a value. Who watches `out` is told how far the run is; `out` takes nothing.
 ///
 /// # Errors
-/// `BadNodes` and `BadEvent` for bytes that are no schedule, as of `Schedule::parse`; `OutOfMemory`.
+/// `BadNodes` and `BadEvent` for bytes that are no schedule, as from `Schedule::parse`; `OutOfMemory`.
 pub fn report_on<O: Sink>(alloc: Global, bytes: &[u8], out: &mut O) -> Result<Vec<u8>, Refusal>
     ensures ok { IfOk result (λ text. IsReportOn bytes.now text.items) }
     ensures fault { IfErr result (λ e. IsFault IsEvent event_line bytes.now e) }

@@ -67,7 +67,7 @@ fn wait_all(waiting: &mut Waiting, requests: &[RequestNo]) -> Result<(), Refusal
     }
 }
 
-/// Requests that came last wait no more. It needs no memory.
+/// The requests that came last no longer wait. It needs no memory.
 fn unwait_all(waiting: &mut Waiting, requests: &[RequestNo])
     ensures { (qs : List RequestNo) → waiting.old ≡ qs ++ requests.now → waiting.new ≡ qs }
 {

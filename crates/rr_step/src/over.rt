@@ -1,4 +1,4 @@
-//! The rows of a state with the rows that a step has changed, of which the newest stands first.
+//! The rows of a state, with those that a step has changed, the newest first.
 
 ghost use Rattle.std.specs.Prelude.{◌≡◌, ◌≤◌, ◌<◌, ◌&&◌, ◌==◌, nat_lt, IsTrue, List, None, Some, find, option_map, MatchOption, IfSome, IfErr, OnOk, OnErr};
 ghost use Rattle.std.specs.List.{list_any};

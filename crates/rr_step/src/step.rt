@@ -27,9 +27,8 @@ use rr_types::{
 use std::alloc::Global;
 use std::marker::Model;
 
-/// What a step has changed: rows, of which the newest stands first; staged facts; the request numbers that
-/// decisions took out of the pool, and commands pooled; the suspects and the watches; requests that wait; messages
-/// owed.
+/// What a step has changed: rows, the newest first; staged facts; the request numbers that decisions took out of
+/// the pool, and commands pooled; the suspects and the watches; requests that wait; messages owed.
 #[derive(Debug, Drop)]
 pub struct Changes {
     pub rows: Vec<Row>,

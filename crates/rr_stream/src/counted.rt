@@ -18,7 +18,7 @@ pub struct Counted<S> {
 }
 
 impl<S> Counted<S> {
-    /// The stream, of which nothing has failed yet.
+    /// The stream, with no failed calls yet.
     pub fn new(stream: S) -> Counted<S>
         ensures stream { result.stream ≡ stream }
         ensures faults { result.faults ≡ 0 }

@@ -40,7 +40,7 @@ pub trait Sink {
         ensures faults { (printing self.old).faults ≤ (printing self.new).faults }
         ensures retried { IfErr result (λ e. error_kind e ≢ ErrorKind.Interrupted) };
 
-    /// Tells people how far the work is that prints here, where they can see it: so much of all is done. The stream itself
+    /// Tells people, where they can see it, how far the work that prints here is: `done` of `all`. The stream itself
     /// takes nothing.
     fn tell_progress(&mut self, done: u64, all: u64)
         ensures { printing self.new ≡ printing self.old };

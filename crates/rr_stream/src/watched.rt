@@ -6,8 +6,8 @@ use crate::stream::Sink;
 use std::io;
 use std::io::Write;
 
-/// A sink, and a stream that people watch, as a terminal is: a progress line stands there while a work goes on, and goes
-/// before anything is printed. Where the line can't be written, nobody sees it.
+/// A sink, and a stream that people watch, such as a terminal. A progress line stands there during a long work, and is
+/// removed before anything is printed. Where the line can't be written, nobody sees it.
 #[derive(Drop)]
 pub struct Watched<S, W> {
     sink: S,
@@ -41,7 +41,7 @@ impl<S, W: Write> Watched<S, W> {
         self.percent = None;
     }
 
-    // Puts a progress line in the place of the last, where it says something else.
+    // Replaces the progress line, where the new one says something else.
     fn show(&mut self, percent: u64)
         ensures { self.new.sink ≡ self.old.sink }
     {

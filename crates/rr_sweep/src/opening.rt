@@ -19,7 +19,7 @@ const CALLS_OF_AN_OPENING: usize = 9;
 /// How an opening ended: the number of the next fact, the length of the decided prefix, and its registry.
 type Ended = (u64, u64, BoundNames);
 
-/// The line by which a report tells that a node, which a crash has left, has opened its disk.
+/// Opens the disk of a node as a crash has left it, and gives the line by which a report tells of that.
 ///
 /// # Errors
 /// `OutOfMemory`, also where a write finds no memory.

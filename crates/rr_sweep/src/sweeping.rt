@@ -29,7 +29,7 @@ pub struct SweepLine {
     pub restart: ReportLine,
 }
 
-/// A sweep that goes on: the nodes behind the events so far, and the words of the crashes to come.
+/// A sweep under way: the nodes after the events so far, and the words of the crashes to come.
 #[derive(Drop)]
 pub struct Sweeping {
     cluster: Cluster,
@@ -54,7 +54,7 @@ impl Sweeping {
     /// Makes the event of a line, and gives the lines of the sweep that it has: five if it is a device call, else none.
     ///
     /// # Errors
-    /// `OutOfMemory`, also where memory is wanting for the event or for an opening.
+    /// `OutOfMemory`, also where memory runs out for the event or for an opening.
     pub fn step(
         &mut self,
         alloc: Global,

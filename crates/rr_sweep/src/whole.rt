@@ -31,7 +31,7 @@ pub fn swept_too_far(events: &[Event]) -> Option<Refusal>
 ///
 /// # Errors
 /// `BadNodes` outside 1 to 7; `BadEvent` of the line of the first event whose node isn't there, else of line 999,991
-/// where there are more than 999,989 events; `OutOfMemory`, also where memory is wanting for an event or an opening.
+/// where there are more than 999,989 events; `OutOfMemory`, also where memory runs out for an event or an opening.
 pub fn sweep(
     alloc: Global,
     nodes: u8,

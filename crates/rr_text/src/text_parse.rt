@@ -1,7 +1,7 @@
 //! Reading schedules.
 //!
-//! An event is large, and each call that hands it on copies it: the short way of most lines is inlined, and what few lines
-//! need stands apart, so that the others don't clear room for it.
+//! An event is large, and each call that passes it on copies it. So the short way that most lines take is inlined. What
+//! few lines need stands apart, so that the others don't clear room for it.
 
 ghost use Rattle.std.specs.Prelude.{◌≡◌, ℕ, ◌⊎◌, ◌+◌, ◌<◌, ◌≤◌, ◌++◌, ◌∷◌, [], None, Some, MatchOption, MatchResult, IfOk, IfErr, length};
 ghost use Rattle.std.specs.List.{flat_map, AllByRecursion};

@@ -20,7 +20,8 @@ const POLLS: u32 = 10_000_000;
 
 /// Someone who asks one node, in a thread of its own and with a seat of its own.
 pub trait Client {
-    /// Asks what it has to ask, by this handle. The run goes on until each client has come back from here. An error ends it.
+    /// Asks what it has to ask, by this handle. The run lasts until each client has returned from here. An error ends
+    /// it.
     fn run<W: WindowName, T: Turnstile, R: Wait>(
         &mut self,
         handle: &mut Handle<'_, '_, W, T, R>,
@@ -200,7 +201,7 @@ impl<'d, 'x, W: WindowName, T: Turnstile, R: Wait> Handle<'d, 'x, W, T, R> {
         }
     }
 
-    /// Asks what a line asks, of this node whichever the line names.
+    /// Asks this node what a line asks, no matter which node the line names.
     pub fn ask(&mut self, line: &ScriptLine) -> Answer
         ensures answer { IsAnswerTo line.now self.old self.new result }
         ensures later { IsPrefix self.old.known self.new.known }

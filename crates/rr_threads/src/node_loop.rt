@@ -81,8 +81,8 @@ fn mark<R: Wait>(
     Ok(before < locked.core().decided_count())
 }
 
-/// What comes back of the flusher is marked, and the publisher is rung where more is decided. Answers whether something
-/// came. A group that wasn't flushed ends the run: the refusal is that of its flush.
+/// What comes back from the flusher is marked, and the publisher is rung where more is decided. Answers whether
+/// something came. A group that wasn't flushed ends the run: the refusal is that of its flush.
 fn mark_next<W: WindowName, R: Wait>(
     rt: &R,
     desk: &Desk<W>,

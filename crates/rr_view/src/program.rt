@@ -12,7 +12,7 @@ use std::convert::AsStr;
 use std::io::Write;
 use std::rt::Files;
 
-/// Runs the program `rr` by these words, of which the first is its name, and gives its exit status. It is
+/// Runs the program `rr` by these words, the first of which is its name, and gives its exit status. It is
 /// `rr_cli::execute` with the views of runs.
 ///
 /// `rr sim --explain [FILE]` prints the report of the schedule in FILE, or else in `input`, with each event and what came

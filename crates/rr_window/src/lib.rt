@@ -4,8 +4,8 @@
 //! `open` makes a window and `split` its ends. The publisher calls `append` and then `publish`, and hands out receipts. A reader
 //! takes a seat (`Seats::take`), and calls `look`, and `learn` of receipts.
 //!
-//! Contracts see a window's list as its commands. Nothing stores them: readers are served a registry, beside the
-//! length of the beginning of the list of which it is the registry.
+//! Contracts see a window's list as its commands. Nothing stores them: readers are served the registry of a beginning
+//! of the list, and that beginning's length.
 //! At the end the publisher is closed (`close`).
 #![tactic(auto)]
 

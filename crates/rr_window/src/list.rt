@@ -67,7 +67,7 @@ impl WindowName for Brand {
     ghost book = { record { number = 0; log_name = 0; cells_name = 0 } };
 }
 
-/// An empty list, of which no window has been opened yet. Contracts see which list it is.
+/// An empty list, on which no window has been opened yet. Contracts see which list it is.
 #[derive(Drop)]
 pub struct NewList {
     word: Word<Command, u64, Counted>,

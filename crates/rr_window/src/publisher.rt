@@ -24,7 +24,7 @@ use std::sync::Wait;
 /// The most readers of a window at a time.
 pub const SEATS: usize = 64;
 
-/// A window whose two ends haven't gone apart yet. It can't be let go: split it.
+/// A window whose two ends haven't been split yet. It can't be dropped: split it.
 pub struct Window<W: WindowName> {
     publisher: Publisher<W>,
     seats: Seats<W>,
@@ -38,8 +38,8 @@ impl<W: WindowName> Model for Window<W> {
     ghost view = { λ w. w.publisher };
 }
 
-/// Who appends commands and publishes them. It can't be let go: close it. Contracts see what is published, and what
-/// was appended since.
+/// Appends commands and publishes them. It can't be dropped: close it. Contracts see what is published, and what was
+/// appended since.
 pub struct Publisher<W: WindowName> {
     writer: Writer<Served, Addition, (), WindowRule<W>>,
     // The writer's own queue can't be reserved, so what is appended waits in this one.
