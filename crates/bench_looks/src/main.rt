@@ -1,7 +1,7 @@
-//! Measures looks beside writers: `bench_looks NODES WRITERS READERS LOOKS [DIR]` runs that many nodes, over the folders in DIR or
-//! over disks in memory. At each of the first WRITERS nodes a client claims a name and updates it until all have looked, and
-//! READERS clients of node 0 look LOOKS times each. How many looks were made goes to standard output; what they saw, how many
-//! commands were acknowledged meanwhile, and the microseconds go to standard error.
+//! Measures looks while others write: `bench_looks NODES WRITERS READERS LOOKS [DIR]` runs that many nodes, over the
+//! folders in DIR or over disks in memory. At each of the first WRITERS nodes a client claims a name and updates it
+//! until all have looked. READERS clients of node 0 look LOOKS times each. How many looks were made goes to standard
+//! output; what they saw, how many commands were acknowledged meanwhile, and the microseconds go to standard error.
 #![tactic(auto)]
 
 mod clients;

@@ -24,7 +24,7 @@ fn command(number: u64) -> Result<Command, Refusal> {
     })
 }
 
-/// The fact with this number, of which there are four for each instance.
+/// The fact with this number; each instance has four.
 fn fact(number: u64) -> Result<Fact, Refusal> {
     let at = (number / 4 % 4_294_967_296) as u32;
     let instance = Instance::new(at).ok_or(Refusal::ListFull)?;

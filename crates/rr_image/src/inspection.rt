@@ -148,9 +148,9 @@ fn active(
     }
 }
 
-/// What the bytes of both areas tell, each read as the node does that its own snapshot names: of area 0 and of
-/// area 1, None where an area isn't formatted. All frames of the active area are read, which is the formatted
-/// one of the greatest epoch; of the other its snapshot alone.
+/// What the bytes of both areas tell, of area 0 and of area 1; `None` where an area isn't formatted. Each is read
+/// as the node that its own snapshot names reads it. All frames of the active area are read, which is the
+/// formatted one of the greatest epoch; of the other only its snapshot is read.
 ///
 /// # Errors
 /// `OutOfMemory`; `Damaged` at the open gate that stands before bytes that are no lawful frame there, or at the

@@ -4,9 +4,9 @@ ghost use Rattle.std.specs.Prelude.{◌≡◌};
 
 use rr_types::{NodeId, Nodes, Promise};
 
-/// The end of an opening: which node's it was, of how many, the promise of the facts that the disk held, and the
-/// number of the next one. It comes of the last step of an opening, and of `Opened::on_trust` where the disk tells no
-/// bytes.
+/// The end of an opening: its node, of how many nodes, the promise of the facts that the disk held, and the
+/// number of the next one. It comes from the last step of an opening, or from `Opened::on_trust` where the disk tells
+/// no bytes.
 #[derive(Debug, Drop)]
 pub struct Opened {
     pub(crate) nodes: Nodes,

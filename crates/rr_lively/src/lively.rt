@@ -20,7 +20,7 @@ pub const DEFAULT_FAULTS: u32 = 10;
 /// The device calls of an opening that formats its disk.
 const CALLS_OF_AN_OPENING: u32 = 9;
 
-/// How often a step may draw: of each of seven nodes three events that would change nothing, and one that does.
+/// How often a step may draw: for each of seven nodes three events that would change nothing, and then one that does.
 const DRAWS: u32 = 22;
 
 /// Each node opens its disk.

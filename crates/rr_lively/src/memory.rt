@@ -13,8 +13,8 @@ use std::collections::{BTreeMap, BTreeSet};
 pub(crate) struct Memory {
     /// The messages for it but Decisions that it hasn't heard and that aren't lost.
     unheard: Vec<u32>,
-    /// By their instances, the Decisions for it of what it hasn't decided: those to be heard, and those that it has
-    /// heard since it is up.
+    /// By instance, the Decisions for it of what it hasn't decided: those to be heard, and those that it has heard
+    /// since it came up.
     decisions: BTreeMap<u32, u32>,
     heard: BTreeMap<u32, u32>,
     /// The instances that its marked facts decide.

@@ -73,7 +73,7 @@ fn is_event(nodes: Nodes, event: &Event) -> bool
     }
 }
 
-/// Whether an event of which nothing was told has left everything as it was.
+/// Whether an event that the report tells nothing of has left everything as it was.
 fn may_stay(cluster: &Cluster, event: &Event) -> bool
     ensures { IsTrue result → MayStay cluster.now event.now }
 {
@@ -109,7 +109,8 @@ impl Run {
         &self.cluster
     }
 
-    /// An event happens. It stands in the schedule unless it is none, or changes nothing; says whether it does.
+    /// Makes an event happen, and adds it to the schedule unless it is no event of these nodes, or changes nothing.
+    /// Answers whether it was added.
     ///
     /// # Errors
     /// `OutOfMemory`.

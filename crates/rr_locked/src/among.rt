@@ -1,4 +1,4 @@
-//! Which events are of which nodes. All else that the grammar of tapes asks of an event is kept by its types.
+//! Whether an event is of these nodes. All else that the grammar of tapes asks of an event is kept by its types.
 
 ghost use Rattle.std.specs.Prelude.{◌≡◌, ◌↔◌, ◌<◌, ◌^◌, IsTrue};
 ghost use Rattle.rr_tape.specs.Taped.{IsInstance, IsRound, IsEstimate, IsBody, IsMessage, IsRequest, IsReply, IsTapeEvent};

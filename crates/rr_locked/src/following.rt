@@ -1,4 +1,4 @@
-//! What a publisher takes on of what is marked.
+//! What a publisher takes over from what is marked.
 
 ghost use Rattle.std.specs.Prelude.{◌≡◌, OnOk, OnErr, IfErr};
 ghost use mathlib.Core.List.{IsPrefix};

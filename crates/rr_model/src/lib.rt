@@ -103,7 +103,7 @@ pub fn laws_of_nodes_in_the_world()
 {}
 
 /// The definitions mean what they say: a run in which a node decides, acknowledges and restarts, one that
-/// loses a staged fact in a crash and goes on, and for each kind of fact one that isn't lawful.
+/// loses a staged fact in a crash and continues, and for each kind of fact one that isn't lawful.
 pub fn examples()
     ensures a_node_decides_and_acknowledges { IsRun 1 decides_and_acknowledges }
     ensures what_it_tells { (end_of decides_and_acknowledges).trace ≡ told_by_it }
@@ -128,7 +128,7 @@ pub fn examples_of_two_rounds()
 {}
 
 /// Runs of three nodes, in one round. A coordinator decides by the acknowledgements of the others alone. A crash
-/// between staging and sending loses the fact or keeps it, before anybody heard of it, and the run goes on.
+/// between staging and sending loses the fact or keeps it, before anybody heard of it, and the run continues.
 pub fn examples_of_three_nodes()
     ensures a_node_decides_by_the_others { IsRun 3 decides_by_the_others }
     ensures it_adopts_nothing { (end_of decides_by_the_others).kept 1 ≡ kept_by_it }

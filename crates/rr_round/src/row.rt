@@ -172,7 +172,7 @@ impl Row {
         })
     }
 
-    /// A fact with this number is about the instance, which then stands so. It needs no memory.
+    /// Takes on a fact with this number, which leaves the instance at `standing`. It needs no memory.
     pub fn advance(&mut self, number: u128, fact: &Fact, standing: Standing)
         ensures { self.new ≡ row_after number fact.now standing self.old }
     {

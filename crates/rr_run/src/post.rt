@@ -11,7 +11,7 @@ use std::sync::{Mutex, Wait};
 use std::thread::Parker;
 use std::time::Duration;
 
-/// The longest rest of who is rung for all that comes, in microseconds.
+/// The longest rest of a thread that is rung for all that comes, in microseconds.
 const REST: u64 = 50_000;
 
 /// What lies there.

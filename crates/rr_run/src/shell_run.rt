@@ -86,7 +86,8 @@ impl<'x, R: Files + AllocGlobal + Wait> Asked for Console<'x, R> {
     }
 }
 
-// Work that is done beside a run. What a thread's scope leaves of a reference is known only of what comes back from it, by this trait.
+// Work that is done during a run. After a thread's scope, a reference is known only by what comes back from the scope,
+// by this trait.
 trait Work {
     type Output;
 

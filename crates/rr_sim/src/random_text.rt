@@ -72,7 +72,8 @@ fn told_openings(alloc: Global, nodes: Nodes, cluster: &mut Cluster) -> Result<T
 }
 
 /// The text of a random schedule, a line `report`, and the text of the report of its run. The schedule is that of
-/// `random`, and it is run once, as it is drawn. Who watches `out` is told how far the run is; `out` takes nothing.
+/// `random`, and it is run once, as it is drawn. Those who watch `out` are told how far the run is; `out` takes
+/// nothing.
 ///
 /// # Errors
 /// `OutOfMemory`, also where memory runs out for an event of the run.

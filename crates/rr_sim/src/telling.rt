@@ -65,7 +65,7 @@ fn report_behind<O: Sink>(
 }
 
 /// The text of the report on the schedule whose text the bytes are. Of the schedule and the report only one line at a
-/// time is kept as a value. Who watches `out` is told how far the run is; `out` takes nothing.
+/// time is kept as a value. Those who watch `out` are told how far the run is; `out` takes nothing.
 ///
 /// # Errors
 /// `BadNodes` and `BadEvent` for bytes that are no schedule, as from `Schedule::parse`; `OutOfMemory`.

@@ -25,8 +25,8 @@ pub fn row_over<'a>(base: &'a State, changed: &'a [Row], instance: Instance) -> 
     }
 }
 
-/// The newest changed row comes first. It takes the place of the one before it where that is of its instance. Most
-/// steps change one row, so that they get room for one.
+/// The newest changed row comes first. It replaces the one before it where that is of the same instance. Most steps
+/// change one row, so they get room for one.
 #[tactic(auto, using(crate::proofs::OverLemmas::replaced_rows, crate::proofs::OverLemmas::replaced_keep))]
 pub fn put_newest(changed: &mut Vec<Row>, row: Row) -> Result<(), Refusal>
     ensures rows { OnOk result ((rows : List model.Row) → put_rows changed.new.items rows ≡ put_row row (put_rows changed.old.items rows)) }

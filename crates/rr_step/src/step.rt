@@ -1,4 +1,4 @@
-//! A step of a node: what the node was before, borrowed, and beside it what the step has changed.
+//! A step of a node: the node as it was before, borrowed, and what the step has changed.
 
 ghost use Rattle.std.specs.Prelude.{◌≡◌, ◌++◌, ◌∷◌, [], ◌^◌, ◌<◌, ◌&&◌, nat_lt, None, Some, IsTrue, option_map, MatchOption, IfOk, IfErr, IfSome, OnOk};
 ghost use Rattle.std.specs.List.{list_any};

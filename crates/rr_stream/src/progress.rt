@@ -1,4 +1,4 @@
-//! How far a long work is, told at times.
+//! How far a long work is, told from time to time.
 
 ghost use Rattle.std.specs.Prelude.{◌≡◌};
 

@@ -1,4 +1,4 @@
-//! A sink beside which people see how far a long work is.
+//! A sink with a stream on which people see how far a long work is.
 
 ghost use Rattle.std.specs.Prelude.{◌≡◌};
 

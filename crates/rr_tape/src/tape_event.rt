@@ -53,7 +53,7 @@ pub enum TapeEvent {
     },
 }
 
-/// The event of a tape that an event of a schedule is. What a tape records otherwise or not at all is none.
+/// The event of a tape that an event of a schedule is; `None` where a tape records it otherwise or not at all.
 pub fn recorded(event: &Event) -> Option<TapeEvent>
     ensures { result ≡ recorded event.now }
 {

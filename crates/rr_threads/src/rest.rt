@@ -10,7 +10,7 @@ const BUSY_LOOKS: u32 = 10;
 /// The first rest, in microseconds.
 const FIRST: u64 = 500;
 
-/// The longest rests, in microseconds: of who has a clock to keep, and of who is rung for all that comes.
+/// The longest rests, in microseconds: of a thread that has a clock to keep, and of one rung for all that comes.
 pub const SHORT: u64 = 1_000;
 
 pub const LONG: u64 = 50_000;

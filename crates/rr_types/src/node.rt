@@ -130,7 +130,7 @@ impl NodeSet {
         NodeSet { bits: 0 }
     }
 
-    /// The set in which node p is bit p; a greater bit than the last node's is none.
+    /// The set in which node p is bit p; `None` where a bit above the last node's is set.
     pub fn from_bits(nodes: Nodes, bits: u8) -> Option<NodeSet>
         ensures valid { IsSome result ↔ (bits < 2 ^ nodes) }
         ensures value { IfSome result (λ s. s ≡ bits) }

@@ -171,7 +171,8 @@ fn has_proposal(standing: &Option<Standing>) -> bool
     }
 }
 
-/// Whether an estimate goes on from this standing: it repeats estimate and stamp, or was never adopted where there is none.
+/// Whether an estimate continues this standing: it repeats estimate and stamp or, where there is no standing, was never
+/// adopted.
 fn carries_on(standing: &Option<Standing>, estimate: &Estimate) -> bool
     ensures { result ≡ carries_on standing.now estimate.now }
 {

@@ -31,7 +31,7 @@ impl Model for Served {
 }
 
 impl Served {
-    /// The registry of no command beside this beginning.
+    /// The registry of no commands, with this beginning.
     pub fn new(alloc: Global, beginning: Beginning) -> Served
         ensures { result ≡ record { kept = kept_of []; beginning = beginning } }
     {

@@ -45,7 +45,7 @@ pub enum Form {
     Json,
 }
 
-/// What is shown of the run of a schedule. A file that is none means standard input.
+/// What is shown of the run of a schedule. Where the file is `None`, standard input is meant.
 #[derive(Clone, Copy, Debug, PartialEq, Eq)]
 pub enum View<'a> {
     /// `rr sim --json [FILE]`: its report, an object a line.
