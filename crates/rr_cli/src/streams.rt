@@ -1,4 +1,4 @@
-//! How the program ends by a text that it prints, and where a file or a stream fails.
+//! How the program ends after printing a text, and how it ends where a file or a stream fails.
 
 ghost use Rattle.std.specs.Prelude.{◌≡◌, ◌≢◌};
 ghost use Rattle.std.specs.Io.KnownBytes.{Keeps};

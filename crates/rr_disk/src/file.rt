@@ -85,7 +85,7 @@ impl<F: Read + Write + Seek + OpenFile + Drop> FileDisk<OpenedFile<F>> {
     ///
     /// # Errors
     /// `OutOfMemory`; `Device` where the folder or a file can't be opened to read and write, or can't be made, as
-    /// where a file is a folder.
+    /// where a folder has the file's name.
     pub fn open<R: Files<File = F> + AllocGlobal>(
         rt: &R,
         dir: &str,
