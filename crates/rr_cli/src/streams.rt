@@ -69,7 +69,7 @@ pub(crate) fn end_without_views<E: Write>(err: &mut E) -> u8
     2
 }
 
-// Ends where a run is asked for of a program without threads.
+// Ends because a program without threads is asked for a run.
 pub(crate) fn end_without_threads<E: Write>(err: &mut E) -> u8
     ensures { result ≡ 2 }
 {
@@ -77,7 +77,7 @@ pub(crate) fn end_without_threads<E: Write>(err: &mut E) -> u8
     2
 }
 
-// Ends where a shell is asked for of a program without threads.
+// Ends because a program without threads is asked for a shell.
 pub(crate) fn end_without_shell<E: Write>(err: &mut E) -> u8
     ensures { result ≡ 2 }
 {
