@@ -1,8 +1,8 @@
 //! The command line of `rr` that `clap` reads words by.
 
 ghost use Rattle.std.specs.Prelude.{◌≡◌, IfOk, codes};
-ghost use Rattle.clap.specs.Words.{app_of, new_app};
-ghost use Rattle.rr_words.specs.Lines.{IsArg, IsLine, rr_line, schedule_lines, rr_settings, with_version, named_rule, sim_line, stats_line, check_line, show_line, migrate_line, word_rule, number_rule, option_rule, optional_number_rule, flag_rule, numbers_line, random_line, audit_line, run_line, shell_line, sweep_line, draw_line};
+ghost use Rattle.clap.specs.Words.{App, app_of, new_app};
+ghost use Rattle.rr_words.specs.Lines.{IsArg, IsLine, and_also, rr_line, schedule_lines, rr_settings, with_version, named_rule, sim_line, stats_line, check_line, show_line, migrate_line, word_rule, number_rule, option_rule, optional_number_rule, flag_rule, numbers_line, random_line, audit_line, run_line, shell_line, sweep_line, draw_line};
 
 use crate::helps;
 use clap::builder::ValueParser;
@@ -25,25 +25,37 @@ pub const LAST_CLIENT: u64 = 4_294_967_295;
 pub(crate) fn command_line<'a>(alloc: Global) -> Result<Command<'a>, AllocError>
     ensures { IfOk result (λ c. app_of c ≡ rr_line) }
 {
-    schedule_lines(alloc)?
-        .subcommand(run_line(alloc)?)?
-        .subcommand(shell_line(alloc)?)?
-        .subcommand(audit_line(alloc)?)?
-        .subcommand(show_line(alloc)?)?
-        .subcommand(migrate_line(alloc)?)
+    let line = with_line(schedule_lines(alloc)?, run_line(alloc))?;
+    let line = with_line(line, shell_line(alloc))?;
+    let line = with_line(line, audit_line(alloc))?;
+    let line = with_line(line, show_line(alloc))?;
+    with_line(line, migrate_line(alloc))
 }
 
 // The command line with the subcommands on schedules.
 fn schedule_lines<'a>(alloc: Global) -> Result<Command<'a>, AllocError>
     ensures { IfOk result (λ c. app_of c ≡ schedule_lines) }
 {
-    top_line(alloc)
-        .subcommand(sim_line(alloc)?)?
-        .subcommand(stats_line(alloc)?)?
-        .subcommand(check_line(alloc)?)?
-        .subcommand(random_line(alloc)?)?
-        .subcommand(sweep_line(alloc)?)?
-        .subcommand(draw_line(alloc)?)
+    let line = with_line(top_line(alloc), sim_line(alloc))?;
+    let line = with_line(line, stats_line(alloc))?;
+    let line = with_line(line, check_line(alloc))?;
+    let line = with_line(line, random_line(alloc))?;
+    let line = with_line(line, sweep_line(alloc))?;
+    with_line(line, draw_line(alloc))
+}
+
+// The command line with one more subcommand. Where it ends early, this function drops the line. A caller has nothing to
+// drop then: the check of one with many such ends takes minutes.
+fn with_line<'a>(
+    line: Command<'a>,
+    more: Result<Command<'a>, AllocError>,
+) -> Result<Command<'a>, AllocError>
+    ensures { (whole part : App) → app_of line.entry ≡ whole → IfOk more.entry (IsLine part) → IfOk result (λ c. app_of c ≡ and_also whole part) }
+{
+    match more {
+        Ok(more) => line.subcommand(more),
+        Err(error) => Err(error),
+    }
 }
 
 // The command line without its subcommands.
