@@ -29,9 +29,10 @@ use Rattle.rr_journal.specs.Flushes as gate
 use Rattle.rr_journal.specs.declared.journal.Journal.{Journal}
 use Rattle.rr_journal.specs.Calls.{Call, Write, Sync, frame_bytes, append_calls, after_call, after_starved, after_failing}
 use Rattle.rr_journal.specs.OtherAreas.{other_area, closes_in, IsOtherKnown}
+use Rattle.rr_journal.specs.Stages.{Gave}
 use Rattle.rr_journal.proofs.PromisedLaws.{none_taken, facts_stand}
 use Rattle.rr_node.proofs.FrontLaws.{Reaches, KeepsFronts, sync_keeps, write_keeps, appends_on, knows_on}
-use Rattle.rr_node.proofs.DiskLaws.{passed_on, synced_by, starved_by, starved_grows, starved_falls, write_fails}
+use Rattle.rr_node.proofs.DiskLaws.{passed_on, synced_by, starved_by, starved_grows, starved_falls, gave_failing, gave_not}
 use Rattle.rr_node.specs.declared.doing.Doing.TheVariants as does
 use Rattle.rr_node.specs.declared.serving.Serving.{Serving}
 use Rattle.rr_node.specs.declared.serving.Flush.{Flush}
@@ -40,7 +41,7 @@ use Rattle.rr_node.specs.declared.event.NodeEvent.TheVariants as at
 use Rattle.rr_node.specs.declared.event.Outcome.TheVariants.{Quiet, Opened}
 use Rattle.rr_node.specs.Seats as seats
 use Rattle.rr_node.specs.Seats.{Seat, Answer, Journaled, Fails, goes_on, refuse, told, starve_input, take_up, payload_of, journal_behind}
-use Rattle.rr_node.specs.Views.{NodeDisk, areas_in, IsBeside, journaled_of, flush_of, seat_of, IsJobOf, IsFlushOf, MaySnap, IsServing, IsOpened, CarriesOn, CarriesFailing, Serves, quiet}
+use Rattle.rr_node.specs.Views.{NodeDisk, areas_in, IsBeside, journaled_of, flush_of, seat_of, IsJobOf, IsFlushOf, MaySnap, IsServing, IsOpened, CarriesOn, CarriesFailing, Serves, armed, quiet}
 
 -- where the same group runs, a flush stays of it
 flush_stays : (s t : NodeState) (j : Journal NodeDisk) (f : Flush) → StaysMarked s t → IsFlushOf s j f → IsFlushOf t j f
@@ -421,18 +422,22 @@ pub sync_refused : (s : NodeState) (j k : Journal NodeDisk) (f : Flush) (e : Ref
 sync_refused s j k f e (inl failed) n p h = absurd (false≢true (sym h.sound ∙ failed.1))
 sync_refused s j k f e (inr gave) n p h = absurd (false≢true (passed_on j.disk.due _ _ h.calm gave.3).0.0)
 
--- the write that is due in a flush fails
-pub write_failing : (n p : ℕ) (fill : List ℕ) (s : NodeState) (j armed k : Journal NodeDisk) (f : Flush) (e : Refusal) (area : Area) (from : ℕ) (bytes : List ℕ) (calls : List Call) → flush_of f ≡ seats.Writing (Write area from bytes ∷ calls)
-    → armed ≡ record j { disk = record j.disk { due = Some fill } } → IsRefused (λ old r new. FailingWrite MemoryWrite old area from bytes r new) armed k e
+-- the device call that is due in a flush fails
+pub call_failing : (n p : ℕ) (fill : List ℕ) (s : NodeState) (j late k : Journal NodeDisk) (f : Flush) (e : Refusal) (call : Call) (calls : List Call) → flush_of f ≡ seats.Writing (call ∷ calls)
+    → late ≡ armed fill j → IsRefused (Gave (FailingWrite MemoryWrite) (FailingSync MemorySync) call) late k e
     → CarriesFailing n p fill (does.Serving (record { core = s; slots = j; flush = f })) (Err because.Device) (does.Faulted k.disk)
-write_failing n p fill s j armed k f e area from bytes calls is arms refused h = by (subst (λ (x : Journal NodeDisk). IsRefused (λ old r new. FailingWrite MemoryWrite old area from bytes r new) x k e) arms refused)
+call_failing n p fill s j late k f e call calls is arms refused h = by (subst (λ (x : Journal NodeDisk). IsRefused (Gave (FailingWrite MemoryWrite) (FailingSync MemorySync) call) x k e) arms refused)
   where
-    ends : (x : seats.Flush) → flush_of f ≡ x → (left : (k.disk.below.areas ≡ after_failing fill (Write area from bytes) j.disk.below.areas) ⊎ (k.disk.below.areas ≡ seats.after_failing_starved fill (Write area from bytes) j.disk.below.areas)) → k.disk.calls ≡ counted j.disk.calls → x ≡ seats.Writing (Write area from bytes ∷ calls)
+    ends : (x : seats.Flush) → flush_of f ≡ x → (left : (k.disk.below.areas ≡ after_failing fill call j.disk.below.areas) ⊎ (k.disk.below.areas ≡ seats.after_failing_starved fill call j.disk.below.areas)) → k.disk.calls ≡ counted j.disk.calls → x ≡ seats.Writing (call ∷ calls)
         → Fails fill (seat_of n p (does.Serving (record { core = s; slots = j; flush = f }))) (Err because.Device) (seat_of n p (does.Faulted k.disk))
     ends x g (inl left) count e = inl (rw (left, count) (sym (ap (λ (y : seats.Flush). seats.fail_flush (after_failing fill) y (seat_of n p (does.Serving (record { core = s; slots = j; flush = f })))) (g ∙ e))))
     ends x g (inr left) count e = inr (rw (left, count) (sym (ap (λ (y : seats.Flush). seats.fail_flush (seats.after_failing_starved fill) y (seat_of n p (does.Serving (record { core = s; slots = j; flush = f })))) (g ∙ e))))
 
-    by : IsRefused (λ old r new. FailingWrite MemoryWrite old area from bytes r new) (record j { disk = record j.disk { due = Some fill } }) k e
+    by : IsRefused (Gave (FailingWrite MemoryWrite) (FailingSync MemorySync) call) (armed fill j) k e
         → Fails fill (seat_of n p (does.Serving (record { core = s; slots = j; flush = f }))) (Err because.Device) (seat_of n p (does.Faulted k.disk)) × (k.disk.due ≡ None)
     by (inl failed) = absurd (false≢true (sym h.sound ∙ failed.1))
-    by (inr gave) = let left = write_fails fill area from bytes j.disk k.disk (Err because.Device) gave.3 in (ends (flush_of f) refl left.1 left.2 is, left.0)
+    by (inr gave) = let left = gave_failing fill call j.disk k.disk gave.3 in (ends (flush_of f) refl left.1 left.2 is, left.0)
+
+-- over a journal that is armed no device call is done
+pub none_done : {A : Type 0} (fill : List ℕ) (call : Call) (j late k : Journal NodeDisk) → late ≡ armed fill j → Gave (FailingWrite MemoryWrite) (FailingSync MemorySync) call late.disk (Ok tt) k.disk → A
+none_done fill call j late k arms gave = absurd (gave_not fill call j.disk k.disk (subst (λ (x : Journal NodeDisk). Gave (FailingWrite MemoryWrite) (FailingSync MemorySync) call x.disk (Ok tt) k.disk) arms gave))

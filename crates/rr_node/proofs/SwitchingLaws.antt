@@ -28,7 +28,7 @@ use Rattle.rr_node.specs.declared.event.NodeEvent.TheVariants as at
 use Rattle.rr_node.specs.declared.event.Outcome.TheVariants.{Quiet}
 use Rattle.rr_node.specs.Seats as seats
 use Rattle.rr_node.specs.Seats.{Seat, Answer, Fails, snapshot_of, may_snap, journal_switched}
-use Rattle.rr_node.specs.Views.{NodeDisk, journaled_of, seat_of, IsServing, CarriesOn, CarriesFailing}
+use Rattle.rr_node.specs.Views.{NodeDisk, journaled_of, seat_of, IsServing, CarriesOn, CarriesFailing, armed}
 use Rattle.rr_node.proofs.DiskLaws.{passed_on, starved_by, starved_grows, starved_falls, gave_by, gave_failing}
 use Rattle.rr_node.proofs.FrontLaws.{Reaches, sync_keeps, beside_keeps, opened_closes, other_other, appends_on}
 use Rattle.rr_node.proofs.ServingLaws.{frame_long}
@@ -217,9 +217,9 @@ switch_refused s j k job e (inr gave) n p h = by (due_call job) refl gave.3
     by Sync is made = absurd (false≢true (passed_on j.disk.due _ _ h.calm made).0.0)
 
 -- the device call of a switch that is due fails
-pub switch_failing : (n p : ℕ) (fill : List ℕ) (s : NodeState) (j armed k : Journal NodeDisk) (job : Switch) (e : Refusal) → armed ≡ record j { disk = record j.disk { due = Some fill } } → IsRefusedBy job armed k e
+pub switch_failing : (n p : ℕ) (fill : List ℕ) (s : NodeState) (j late k : Journal NodeDisk) (job : Switch) (e : Refusal) → late ≡ armed fill j → IsRefusedBy job late k e
     → CarriesFailing n p fill (does.Serving (record { core = s; slots = j; flush = flush.Switching job })) (Err because.Device) (does.Faulted k.disk)
-switch_failing n p fill s j armed k job e arms refused h = by (subst (λ (x : Journal NodeDisk). IsRefusedBy job x k e) arms refused)
+switch_failing n p fill s j late k job e arms refused h = by (subst (λ (x : Journal NodeDisk). IsRefusedBy job x k e) arms refused)
   where
     old : Seat
     old = seat_of n p (does.Serving (record { core = s; slots = j; flush = flush.Switching job }))
@@ -231,7 +231,7 @@ switch_failing n p fill s j armed k job e arms refused h = by (subst (λ (x : Jo
     ends (inl left) count = inl (rw (left, count) (sym (here (after_failing fill))))
     ends (inr left) count = inr (rw (left, count) (sym (here (seats.after_failing_starved fill))))
 
-    by : IsRefusedBy job (record j { disk = record j.disk { due = Some fill } }) k e → Fails fill old (Err because.Device) (seat_of n p (does.Faulted k.disk)) × (k.disk.due ≡ None)
+    by : IsRefusedBy job (armed fill j) k e → Fails fill old (Err because.Device) (seat_of n p (does.Faulted k.disk)) × (k.disk.due ≡ None)
     by (inl failed) = absurd (false≢true (sym h.sound ∙ failed.1))
     by (inr gave) = let left = gave_failing fill (due_call job) j.disk k.disk gave.3 in (ends left.1 left.2, left.0)
 

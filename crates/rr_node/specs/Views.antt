@@ -1,7 +1,7 @@
 -- How the code's node stands for a seat, and what keeps its parts together.
 use Rattle.std.specs.Prelude.{◌≡◌, ◌⊎◌, ℕ, ◌+◌, ◌<◌, true, false, length, List, [], ◌∷◌, Option, None, Some, Result, Ok, Err}
 use Rattle.rr_types.specs.declared.refusal.Refusal.{Refusal}
-use Rattle.rr_types.specs.declared.refusal.Refusal.TheVariants.{OutOfMemory}
+use Rattle.rr_types.specs.declared.refusal.Refusal.TheVariants.{OutOfMemory, Device}
 use Rattle.rr_model.specs.NodeState.{NodeState}
 use Rattle.rr_model.specs.NodeStep.{running_group, started}
 use Rattle.rr_disk.specs.Areas.{Areas}
@@ -186,6 +186,21 @@ pub record IsOpened (n p : ℕ) (j : Journal NodeDisk) : Type 0 where
 -- from one steady doing a failing device call leads, with this answer, to another as the definitions say
 abbrev pub CarriesFailing : ℕ → ℕ → List ℕ → code.Doing → Result Outcome Refusal → code.Doing → Type 0
 CarriesFailing n p fill old answer new = IsSteady n p old → Fails fill (seat_of n p old) answer (seat_of n p new) × IsSteady n p new
+
+-- a device call of a job is due
+abbrev pub IsDue : code_2.Flush → Type 0
+IsDue flush.Resting = ⊥
+IsDue (flush.Flushed synced) = ⊥
+IsDue f = Unit {0}
+
+-- the journal whose next device call fails with this fill
+abbrev pub armed : List ℕ → Journal NodeDisk → Journal NodeDisk
+armed fill j = record j { disk = record j.disk { due = Some fill } }
+
+-- over a journal that is armed, the device call that is due fails, and the node of this core with it
+abbrev pub FailsOn : Journal NodeDisk → code_2.Flush → Journal NodeDisk → Type 0
+FailsOn j f k = (s : NodeState) (calm : Journal NodeDisk) (n p : ℕ) (fill : List ℕ) → IsDue f → j ≡ armed fill calm
+    → CarriesFailing n p fill (does.Serving (record { core = s; slots = calm; flush = f })) (Err Device) (does.Faulted k.disk)
 
 -- an opening of node p of n ended with this core, just started, and these areas: the node serves, or memory was wanting and it is down
 abbrev pub Serves : ℕ → ℕ → NodeState → Journal NodeDisk → Result Outcome Refusal → code.Doing → Type 0

@@ -6,7 +6,7 @@ ghost use Rattle.rr_model.specs.NodeState.{NodeState};
 ghost use Rattle.rr_model.specs.NodeStep.{running_group, group_put_back};
 ghost use Rattle.rr_node.specs.declared.event.Outcome.TheVariants.{Quiet};
 ghost use Rattle.rr_node.specs.Stances.{stance_by, synced_by, gives_nothing};
-ghost use Rattle.rr_node.specs.Views.{IsServing, IsFlushOf, CarriesOn, CarriesFailing, StepsOn, flush_of, quiet};
+ghost use Rattle.rr_node.specs.Views.{IsServing, IsFlushOf, CarriesOn, CarriesFailing, FailsOn, IsDue, StepsOn, flush_of, quiet};
 
 use crate::doing::{Doing, NodeDisk};
 use crate::event::{NodeEvent, Outcome, Stance};
@@ -292,18 +292,15 @@ impl Serving {
         match flush {
             Flush::Resting => up(core, slots, Flush::Resting, Ok(Outcome::Quiet)),
             Flush::Flushed(synced) => up(core, slots, Flush::Flushed(synced), Ok(Outcome::Quiet)),
-            Flush::Body(job) => fail_body(slots, job, fill),
-            Flush::BodyOut(job) => fail_body_sync(slots, job, fill),
-            Flush::BodySafe(job) => fail_gate(slots, job, fill),
-            Flush::GateSet(job) => fail_gate_sync(slots, job, fill),
-            Flush::Switching(job) => fail_switch(slots, job, fill),
+            due => fail_due(slots, due, fill),
         }
     }
 }
 
 /// The next device call of a job, and the job after it.
 fn step_on(slots: &mut Journal<NodeDisk>, flush: Flush) -> Result<Flush, Refusal>
-    ensures { (core : NodeState) → StepsOn core slots.old flush result slots.new }
+    ensures steps { (core : NodeState) → StepsOn core slots.old flush result slots.new }
+    ensures fails { FailsOn slots.old flush slots.new }
 {
     match flush {
         Flush::Resting => Ok(Flush::Resting),
@@ -330,7 +327,8 @@ fn step_on(slots: &mut Journal<NodeDisk>, flush: Flush) -> Result<Flush, Refusal
 
 /// The next device call of a switch, and the switch after it, or no job.
 fn switch_on(slots: &mut Journal<NodeDisk>, job: SwitchJob) -> Result<Flush, Refusal>
-    ensures { (core : NodeState) → StepsOn core slots.old (Flush.Switching job) result slots.new }
+    ensures steps { (core : NodeState) → StepsOn core slots.old (Flush.Switching job) result slots.new }
+    ensures fails { FailsOn slots.old (Flush.Switching job) slots.new }
 {
     match job.step(slots) {
         Ok(Switching::More(job)) => Ok(Flush::Switching(job)),
@@ -358,95 +356,20 @@ fn fallen(slots: Journal<NodeDisk>, refusal: Refusal) -> (Doing, Result<Outcome,
     (Doing::Faulted(slots.into_disk()), Err(refusal))
 }
 
-/// The write of the body fails.
-fn fail_body(
+/// The device call that is due fails with this fill.
+fn fail_due(
     mut slots: Journal<NodeDisk>,
-    job: Job<Body>,
+    flush: Flush,
     fill: Vec<u8>,
 ) -> (Doing, Result<Outcome, Refusal>)
-    ensures { (core : NodeState) (n p : ℕ) → CarriesFailing n p fill.items (Doing.Serving (record { core = core; slots = slots; flush = Flush.Body job })) result.1 result.0 }
+    requires { IsDue flush }
+    ensures { (core : NodeState) (n p : ℕ) → CarriesFailing n p fill.items (Doing.Serving (record { core = core; slots = slots; flush = flush })) result.1 result.0 }
 {
     slots.fail_next(fill);
-    match job.step(&mut slots) {
-        Ok(left) => {
-            left.abandon();
-            fallen(slots, Refusal::Device)
-        }
-        Err(_) => fallen(slots, Refusal::Device),
+    if let Ok(left) = step_on(&mut slots, flush) {
+        left.abandon();
     }
-}
-
-/// The sync of the body fails.
-fn fail_body_sync(
-    mut slots: Journal<NodeDisk>,
-    job: Job<BodyOut>,
-    fill: Vec<u8>,
-) -> (Doing, Result<Outcome, Refusal>)
-    ensures { (core : NodeState) (n p : ℕ) → CarriesFailing n p fill.items (Doing.Serving (record { core = core; slots = slots; flush = Flush.BodyOut job })) result.1 result.0 }
-{
-    slots.fail_next(fill);
-    match job.step(&mut slots) {
-        Ok(left) => {
-            left.abandon();
-            fallen(slots, Refusal::Device)
-        }
-        Err(_) => fallen(slots, Refusal::Device),
-    }
-}
-
-/// The opening of the gate fails.
-fn fail_gate(
-    mut slots: Journal<NodeDisk>,
-    job: Job<BodySafe>,
-    fill: Vec<u8>,
-) -> (Doing, Result<Outcome, Refusal>)
-    ensures { (core : NodeState) (n p : ℕ) → CarriesFailing n p fill.items (Doing.Serving (record { core = core; slots = slots; flush = Flush.BodySafe job })) result.1 result.0 }
-{
-    slots.fail_next(fill);
-    match job.step(&mut slots) {
-        Ok(left) => {
-            left.abandon();
-            fallen(slots, Refusal::Device)
-        }
-        Err(_) => fallen(slots, Refusal::Device),
-    }
-}
-
-/// The sync of the open gate fails.
-fn fail_gate_sync(
-    mut slots: Journal<NodeDisk>,
-    job: Job<GateSet>,
-    fill: Vec<u8>,
-) -> (Doing, Result<Outcome, Refusal>)
-    ensures { (core : NodeState) (n p : ℕ) → CarriesFailing n p fill.items (Doing.Serving (record { core = core; slots = slots; flush = Flush.GateSet job })) result.1 result.0 }
-{
-    slots.fail_next(fill);
-    match job.step(&mut slots) {
-        Ok(left) => {
-            drop(left.into_group());
-            fallen(slots, Refusal::Device)
-        }
-        Err(_) => fallen(slots, Refusal::Device),
-    }
-}
-
-/// The device call of a switch that is due fails.
-fn fail_switch(
-    mut slots: Journal<NodeDisk>,
-    job: SwitchJob,
-    fill: Vec<u8>,
-) -> (Doing, Result<Outcome, Refusal>)
-    ensures { (core : NodeState) (n p : ℕ) → CarriesFailing n p fill.items (Doing.Serving (record { core = core; slots = slots; flush = Flush.Switching job })) result.1 result.0 }
-{
-    slots.fail_next(fill);
-    match job.step(&mut slots) {
-        Ok(Switching::More(left)) => {
-            left.abandon();
-            fallen(slots, Refusal::Device)
-        }
-        Ok(Switching::Done) => fallen(slots, Refusal::Device),
-        Err(_) => fallen(slots, Refusal::Device),
-    }
+    fallen(slots, Refusal::Device)
 }
 
 /// The group that the core has just given goes back to it.
