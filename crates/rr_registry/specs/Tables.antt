@@ -91,3 +91,7 @@ pub record HasFreeOnlyFor (t : Tables) (cs : List Command) : Type 0 where
 -- no place is free: a registry keeps the places of its bound names and kept replies alone
 abbrev pub HasNoFree : Tables → Type 0
 HasNoFree t = HasFreeOnlyFor t []
+
+-- what holds of the tables between calls: the count is right, and no place is free
+abbrev pub IsSound : Tables → Type 0
+IsSound t = IsCounted t.names × HasNoFree t

@@ -25,11 +25,11 @@ impl Model for Registry {
 
     ghost Value = { Kept };
 
-    ghost use Rattle.rr_registry.specs.Tables.{kept_in, IsCounted, HasNoFree};
+    ghost use Rattle.rr_registry.specs.Tables.{kept_in, IsSound};
 
     ghost view = { λ r. kept_in r.tables };
 
-    ghost invariant = { λ r. IsCounted r.tables.names × HasNoFree r.tables };
+    ghost invariant = { λ r. IsSound r.tables };
 }
 
 impl Registry {

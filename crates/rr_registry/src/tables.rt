@@ -8,7 +8,7 @@ ghost use Rattle.rr_types.specs.Registry.{holding_of};
 ghost use Rattle.std.specs.BTreeMap.{insert_entry};
 ghost use Rattle.rr_types.specs.declared.command.RequestNo.{RequestNo};
 ghost use Rattle.rr_registry.specs.Kept.{request_cmp, kept_reply, applied, applied_all};
-ghost use Rattle.rr_registry.specs.Tables.{bindings_in, kept_in, has_reply_place, has_places, IsCounted, HasFreeOnlyFor, HasNoFree};
+ghost use Rattle.rr_registry.specs.Tables.{bindings_in, kept_in, has_reply_place, has_places, IsCounted, HasFreeOnlyFor, HasNoFree, IsSound};
 
 use crate::entries::Entries;
 use crate::holding::Holding;
@@ -28,8 +28,7 @@ pub(crate) struct Tables {
 impl Tables {
     pub(crate) fn new(alloc: Global) -> Tables
         ensures kept { kept_in result ≡ record { bindings = []; replies = [] } }
-        ensures counted { IsCounted result.names }
-        ensures free { HasNoFree result }
+        ensures sound { IsSound result }
     {
         Tables {
             names: Names::new(alloc),
@@ -61,12 +60,10 @@ impl Tables {
     /// Applies commands in their order, or, where memory is refused, none of them. One alone needs no places made
     /// before.
     pub(crate) fn apply_all(&mut self, commands: &[Command]) -> Result<(), Refusal>
-        requires counted { IsCounted self.old.names }
-        requires free { HasNoFree self.old }
+        requires sound { IsSound self.old }
         ensures kept { OnOk result (kept_in self.new ≡ applied_all (kept_in self.old) commands.now) }
         ensures err { OnErr result (kept_in self.new ≡ kept_in self.old) }
-        ensures counted { IsCounted self.new.names }
-        ensures free { HasNoFree self.new }
+        ensures sound { IsSound self.new }
         ensures refused { IfErr result (λ e. e ≡ Refusal.OutOfMemory) }
     {
         match commands {
@@ -78,12 +75,10 @@ impl Tables {
 
     /// Applies one command. The request's place is found once, and filled only when the names are done.
     fn apply_one(&mut self, command: &Command) -> Result<(), Refusal>
-        requires counted { IsCounted self.old.names }
-        requires free { HasNoFree self.old }
+        requires sound { IsSound self.old }
         ensures kept { OnOk result (kept_in self.new ≡ applied (kept_in self.old) command.now) }
         ensures err { OnErr result (kept_in self.new ≡ kept_in self.old) }
-        ensures counted { IsCounted self.new.names }
-        ensures free { HasNoFree self.new }
+        ensures sound { IsSound self.new }
         ensures refused { IfErr result (λ e. e ≡ Refusal.OutOfMemory) }
     {
         match self.replies.entry(command.request)? {
@@ -100,12 +95,10 @@ impl Tables {
 
     /// Applies commands that first get their places, all of them. Whatever comes, no place is left free.
     fn apply_several(&mut self, commands: &[Command]) -> Result<(), Refusal>
-        requires counted { IsCounted self.old.names }
-        requires free { HasNoFree self.old }
+        requires sound { IsSound self.old }
         ensures kept { OnOk result (kept_in self.new ≡ applied_all (kept_in self.old) commands.now) }
         ensures err { OnErr result (kept_in self.new ≡ kept_in self.old) }
-        ensures counted { IsCounted self.new.names }
-        ensures free { HasNoFree self.new }
+        ensures sound { IsSound self.new }
         ensures refused { IfErr result (λ e. e ≡ Refusal.OutOfMemory) }
     {
         match self.make_all_places(commands) {
