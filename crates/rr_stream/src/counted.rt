@@ -1,6 +1,6 @@
 //! Streams of the standard library as streams whose failed calls are counted.
 
-ghost use Rattle.std.specs.Prelude.{◌≡◌, true};
+ghost use Rattle.std.specs.Prelude.{◌≡◌, ◌≢◌, true, OnOk, OnErr, IfErr};
 ghost use Rattle.std.specs.IoError.{error_kind};
 ghost use Rattle.rr_disk.specs.Counts.{counted};
 
@@ -46,13 +46,32 @@ impl<S> Counted<S> {
     {
         self.faults = self.faults.saturating_add(1);
     }
-}
 
-// That a call was interrupted each time that it was made.
-fn interrupted() -> Error
-    ensures { error_kind result ≡ ErrorKind.Other }
-{
-    Error::other("interrupted each time")
+    // A call failed. Where it was interrupted it is to be made again; else that is a fault, and the call ends by its error.
+    fn end_unless_interrupted(&mut self, error: Error) -> io::Result<()>
+        ensures again { OnOk result (self.new ≡ self.old) }
+        ensures faults { OnErr result (self.new.faults ≡ counted self.old.faults) }
+        ensures error { IfErr result (λ e. (e ≡ error) × (error_kind e ≢ ErrorKind.Interrupted)) }
+        ensures stream { self.new.stream ≡ self.old.stream }
+        ensures flushed { self.new.flushed ≡ self.old.flushed }
+    {
+        if error.kind() == ErrorKind::Interrupted {
+            return Ok(());
+        }
+        self.note_fault();
+        Err(error)
+    }
+
+    // A call was interrupted each time that it was made. That is a fault, and this is its error.
+    fn end_by_interruptions(&mut self) -> Error
+        ensures faults { self.new.faults ≡ counted self.old.faults }
+        ensures error { error_kind result ≡ ErrorKind.Other }
+        ensures stream { self.new.stream ≡ self.old.stream }
+        ensures flushed { self.new.flushed ≡ self.old.flushed }
+    {
+        self.note_fault();
+        Error::other("interrupted each time")
+    }
 }
 
 impl<W: Write> Sink for Counted<W> {
@@ -69,16 +88,10 @@ impl<W: Write> Sink for Counted<W> {
                     self.flushed = self.flushed && taken == 0;
                     return Ok(taken);
                 }
-                Err(error) => {
-                    if error.kind() != ErrorKind::Interrupted {
-                        self.note_fault();
-                        return Err(error);
-                    }
-                }
+                Err(error) => self.end_unless_interrupted(error)?,
             }
         }
-        self.note_fault();
-        Err(interrupted())
+        Err(self.end_by_interruptions())
     }
 
     fn flush(&mut self) -> io::Result<()> {
@@ -88,16 +101,10 @@ impl<W: Write> Sink for Counted<W> {
                     self.flushed = true;
                     return Ok(());
                 }
-                Err(error) => {
-                    if error.kind() != ErrorKind::Interrupted {
-                        self.note_fault();
-                        return Err(error);
-                    }
-                }
+                Err(error) => self.end_unless_interrupted(error)?,
             }
         }
-        self.note_fault();
-        Err(interrupted())
+        Err(self.end_by_interruptions())
     }
 
     // Nobody watches it.
@@ -111,15 +118,9 @@ impl<R: Read> Source for Counted<R> {
         'turns: for _ in 0..u64::MAX {
             match self.stream.read(room) {
                 Ok(read) => return Ok(read),
-                Err(error) => {
-                    if error.kind() != ErrorKind::Interrupted {
-                        self.note_fault();
-                        return Err(error);
-                    }
-                }
+                Err(error) => self.end_unless_interrupted(error)?,
             }
         }
-        self.note_fault();
-        Err(interrupted())
+        Err(self.end_by_interruptions())
     }
 }
