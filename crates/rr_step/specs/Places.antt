@@ -1,4 +1,4 @@
-use Rattle.std.specs.Prelude.{ℕ, Bool, false, not, ◌&&◌, ◌==◌, List, filter, find, Option, option_map}
+use Rattle.std.specs.Prelude.{ℕ, Bool, true, false, not, ◌&&◌, ◌==◌, List, filter, find, Option, option_map}
 use Rattle.std.specs.Option.{option_map_or}
 use Rattle.std.specs.List.{list_any, range_with_len}
 use Rattle.rr_types.specs.declared.command.RequestNo.{RequestNo}
@@ -8,6 +8,8 @@ use Rattle.rr_types.specs.declared.message.Body.{Body}
 use Rattle.rr_types.specs.Commands.{is_same_command}
 use Rattle.rr_types.specs.Standings.{estimate_of}
 use Rattle.rr_model.specs.NodeState.{Row, Owed, row_of}
+use Rattle.rr_step.specs.declared.owing.Reach.{Reach}
+use Rattle.rr_step.specs.declared.owing.Reach.TheVariants.{Everyone, Others}
 
 -- a body that one node owes another
 abbrev pub message_to : ℕ → ℕ → Body → Option ℕ → Owed
@@ -16,6 +18,16 @@ message_to from to body backing = record { message = record { from = from; to = 
 -- the nodes below n but one, ascending
 unfoldable pub nodes_beside : ℕ → ℕ → List ℕ
 nodes_beside node n = filter (λ q. not (q == node)) (range_with_len 0 n)
+
+-- whether a body of one node that goes so far goes to another
+abbrev pub is_reached : Reach → ℕ → ℕ → Bool
+is_reached Everyone from to = true
+is_reached Others from to = not (to == from)
+
+-- the nodes below n to which a body of a node goes, ascending
+abbrev pub reached : Reach → ℕ → ℕ → List ℕ
+reached Everyone from n = range_with_len 0 n
+reached Others from n = nodes_beside from n
 
 -- whether a command is the estimate of instance i
 unfoldable pub is_estimate_of : List Row → ℕ → Command → Bool

@@ -1,14 +1,34 @@
 //! Messages owed to many nodes, and the pool's commands by their request numbers.
 
 ghost use Rattle.std.specs.Prelude.{◌≡◌, ◌++◌, [], ◌∷◌, None, not, filter, All, IsTrue, IfErr, OnOk};
-ghost use Rattle.std.specs.List.{range_with_len};
 ghost use Rattle.rr_types.specs.Registry.{is_same_request, has_request};
 ghost use Rattle.rr_model.specs.NodeParts.{messages_to};
 ghost use Rattle.rr_outbox.specs.Marks.{is_free, IsOwn};
-ghost use Rattle.rr_step.specs.Places.{message_to, nodes_beside};
+ghost use Rattle.rr_step.specs.Places.{message_to, reached, is_reached};
 
 use rr_outbox::Owed;
 use rr_types::{Body, Command, Message, NodeId, Nodes, Refusal, RequestNo};
+
+/// How far a body goes that a node owes.
+#[derive(Clone, Copy)]
+pub enum Reach {
+    /// To every node, itself included.
+    Everyone,
+    /// To each other node.
+    Others,
+}
+
+impl Reach {
+    /// Whether a body of one node goes to another.
+    fn covers(self, from: NodeId, to: NodeId) -> bool
+        ensures { result ≡ is_reached self from to }
+    {
+        match self {
+            Reach::Everyone => true,
+            Reach::Others => to != from,
+        }
+    }
+}
 
 /// Owes a body to one node.
 #[tactic(auto, using(crate::proofs::OweLemmas::own_last))]
@@ -31,52 +51,28 @@ pub fn push_to(
     Ok(())
 }
 
-/// Owes a body to every node, ascending.
-#[tactic(auto, using(crate::proofs::OweLemmas::everyone_more))]
-pub fn push_to_everyone(
+/// Owes a body to the nodes that it reaches, ascending.
+#[tactic(auto, using(crate::proofs::OweLemmas::reached_none, crate::proofs::OweLemmas::reached_not, crate::proofs::OweLemmas::reached_more))]
+pub fn push_to_reached(
     owed: &mut Vec<Owed>,
     nodes: Nodes,
     from: NodeId,
+    reach: Reach,
     body: &Body,
     backing: Option<u128>,
 ) -> Result<(), Refusal>
     requires before { All (IsOwn from) owed.old.items }
     requires free { backing ≡ None → IsTrue (is_free body.now) }
-    ensures ok { OnOk result (owed.new.items ≡ owed.old.items ++ messages_to from body.now backing (range_with_len 0 nodes)) }
-    ensures own { All (IsOwn from) owed.new.items }
-    ensures err { IfErr result (λ e. e ≡ Refusal.OutOfMemory) }
-{
-    for index in 0..nodes.count() {
-        match NodeId::new(nodes, index) {
-            Some(to) => push_to(owed, from, to, body, backing)?,
-            None => unreachable!(),
-        }
-    }
-    Ok(())
-}
-
-/// Owes a body to every node but the sender, ascending.
-#[tactic(auto, using(crate::proofs::OweLemmas::beside_none, crate::proofs::OweLemmas::beside_itself, crate::proofs::OweLemmas::beside_another))]
-pub fn push_to_others(
-    owed: &mut Vec<Owed>,
-    nodes: Nodes,
-    from: NodeId,
-    body: &Body,
-    backing: Option<u128>,
-) -> Result<(), Refusal>
-    requires before { All (IsOwn from) owed.old.items }
-    requires free { backing ≡ None → IsTrue (is_free body.now) }
-    ensures ok { OnOk result (owed.new.items ≡ owed.old.items ++ messages_to from body.now backing (nodes_beside from nodes)) }
+    ensures ok { OnOk result (owed.new.items ≡ owed.old.items ++ messages_to from body.now backing (reached reach from nodes)) }
     ensures own { All (IsOwn from) owed.new.items }
     ensures err { IfErr result (λ e. e ≡ Refusal.OutOfMemory) }
 {
     for index in 0..nodes.count() {
         match NodeId::new(nodes, index) {
             Some(to) => {
-                if to == from {
-                    continue;
+                if reach.covers(from, to) {
+                    push_to(owed, from, to, body, backing)?;
                 }
-                push_to(owed, from, to, body, backing)?;
             }
             None => unreachable!(),
         }

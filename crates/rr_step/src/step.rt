@@ -10,10 +10,11 @@ ghost use Rattle.rr_model.specs.NodeDetector.{all_ticked, heard_beat, late_nodes
 ghost use Rattle.rr_model.specs.NodeParts.{owe, pool_add, stage, rows_after, pool_after};
 ghost use Rattle.rr_model.specs.NodeStep.{wait_for, is_waiting, lowest_in_round};
 ghost use Rattle.rr_outbox.specs.Marks.{is_free};
-ghost use Rattle.rr_step.specs.Places.{first_free};
+ghost use Rattle.rr_step.specs.Places.{first_free, reached};
 ghost use Rattle.rr_step.specs.Steps.{stepped, combined, KeepsDecision, KeepsStanding, IsFitting, IsDecidedFact};
 
 use crate::known::is_among;
+use crate::owing::Reach;
 use crate::state::State;
 use crate::{estimates, over, owing, staging};
 use rr_detector::{Heartbeat, Suspects};
@@ -62,14 +63,7 @@ impl Model for Changes {
 #[derive(Drop)]
 pub struct Step<'a> {
     base: &'a State,
-    rows: Vec<Row>,
-    staged: Vec<Fact>,
-    taken: Vec<RequestNo>,
-    pooled: Vec<Command>,
-    suspects: Suspects,
-    heartbeat: Heartbeat,
-    waiting: Vec<RequestNo>,
-    owed: Vec<Owed>,
+    changes: Changes,
 }
 
 impl<'a> Model for Step<'a> {
@@ -77,30 +71,9 @@ impl<'a> Model for Step<'a> {
 
     ghost Value = { Stepped };
 
-    ghost view = { λ s. record {
-      base = s.base.now;
-      state = combined s.base.now (record {
-        rows = s.rows.items;
-        staged = s.staged.items;
-        taken = s.taken.items;
-        pooled = s.pooled.items;
-        suspects = s.suspects;
-        watches = s.heartbeat;
-        waiting = s.waiting.items;
-        owed = s.owed.items;
-      });
-    } };
+    ghost view = { λ s. record { base = s.base.now; state = combined s.base.now s.changes } };
 
-    ghost invariant = { λ s. IsFitting s.base.now (record {
-      rows = s.rows.items;
-      staged = s.staged.items;
-      taken = s.taken.items;
-      pooled = s.pooled.items;
-      suspects = s.suspects;
-      watches = s.heartbeat;
-      waiting = s.waiting.items;
-      owed = s.owed.items;
-    }) };
+    ghost invariant = { λ s. IsFitting s.base.now s.changes };
 }
 
 impl<'a> Step<'a> {
@@ -109,8 +82,7 @@ impl<'a> Step<'a> {
     pub fn new(alloc: Global, base: &'a State) -> Step<'a>
         ensures { result ≡ record { base = base.now; state = base.now } }
     {
-        Step {
-            base,
+        let changes = Changes {
             rows: Vec::new(alloc),
             staged: Vec::new(alloc),
             taken: Vec::new(alloc),
@@ -119,7 +91,8 @@ impl<'a> Step<'a> {
             heartbeat: base.heartbeat,
             waiting: Vec::new(alloc),
             owed: Vec::new(alloc),
-        }
+        };
+        Step { base, changes }
     }
 
     /// What the step has changed.
@@ -127,27 +100,8 @@ impl<'a> Step<'a> {
         ensures value { combined self.entry.base result ≡ self.entry.state }
         ensures fits { IsFitting self.entry.base result }
     {
-        let Step {
-            base: _,
-            rows,
-            staged,
-            taken,
-            pooled,
-            suspects,
-            heartbeat,
-            waiting,
-            owed,
-        } = self;
-        Changes {
-            rows,
-            staged,
-            taken,
-            pooled,
-            suspects,
-            heartbeat,
-            waiting,
-            owed,
-        }
+        let Step { base: _, changes } = self;
+        changes
     }
 
     /// How many nodes there are.
@@ -170,7 +124,7 @@ impl<'a> Step<'a> {
     pub fn suspects(&self) -> NodeSet
         ensures { result ≡ self.now.state.suspects }
     {
-        self.suspects.output()
+        self.changes.suspects.output()
     }
 
     /// The nodes that the heartbeat detector suspects; a node disregards itself.
@@ -179,7 +133,7 @@ impl<'a> Step<'a> {
         ensures { result ≡ late_nodes self.now.state.node self.now.state.watches }
     {
         let base = self.base;
-        self.heartbeat.suspects().without(base.node)
+        self.changes.heartbeat.suspects().without(base.node)
     }
 
     /// The number of the next fact.
@@ -189,7 +143,7 @@ impl<'a> Step<'a> {
         ensures room { result < 2 ^ 67 }
     {
         let base = self.base;
-        base.next_number() + self.staged.len() as u128
+        base.next_number() + self.changes.staged.len() as u128
     }
 
     /// The row of an instance.
@@ -197,7 +151,7 @@ impl<'a> Step<'a> {
     pub fn row(&self, instance: Instance) -> Option<&Row>
         ensures { MatchOption result (row_of self.now.state.rows instance ≡ None) (λ r. row_of self.now.state.rows instance ≡ Some r.now) }
     {
-        over::row_over(self.base, &self.rows, instance)
+        over::row_over(self.base, &self.changes.rows, instance)
     }
 
     /// Where an instance stands by all facts.
@@ -225,7 +179,7 @@ impl<'a> Step<'a> {
     pub fn first_undecided(&self) -> u32
         ensures { result ≡ first_undecided self.now.state }
     {
-        over::undecided_over(self.base, &self.rows, 0)
+        over::undecided_over(self.base, &self.changes.rows, 0)
     }
 
     /// The open instances, ascending. It takes no memory.
@@ -233,7 +187,7 @@ impl<'a> Step<'a> {
     pub fn open_instances(&self) -> Window
         ensures { result ≡ open_instances self.now.state }
     {
-        over::open_over(self.base, &self.rows)
+        over::open_over(self.base, &self.changes.rows)
     }
 
     /// Whether an instance is open.
@@ -241,7 +195,7 @@ impl<'a> Step<'a> {
     pub fn is_open(&self, instance: Instance) -> bool
         ensures { result ≡ is_open self.now.state instance }
     {
-        over::is_lowest_over(self.base, &self.rows, WINDOW, instance)
+        over::is_lowest_over(self.base, &self.changes.rows, WINDOW, instance)
     }
 
     /// The lowest open instance that has a round. It takes no memory.
@@ -250,21 +204,21 @@ impl<'a> Step<'a> {
         ensures value { result ≡ lowest_in_round self.now.state }
         ensures round { IfSome result (λ i. 0 < round_of (standing_at self.now.state i)) }
     {
-        over::lowest_in_round_over(self.base, &self.rows, WINDOW)
+        over::lowest_in_round_over(self.base, &self.changes.rows, WINDOW)
     }
 
     /// Whether some instance has decided a command with this request number.
     pub fn is_decided_request(&self, request: RequestNo) -> bool
         ensures { result ≡ is_decided_request self.now.state request }
     {
-        over::is_decided_request_over(self.base, &self.rows, request)
+        over::is_decided_request_over(self.base, &self.changes.rows, request)
     }
 
     /// Whether a later instance than `first` has decided.
     pub fn has_decided_above(&self, first: Instance) -> bool
         ensures { result ≡ list_any (λ r. nat_lt first r.instance && is_decided r) self.now.state.rows }
     {
-        over::has_decided_above_over(self.base, &self.rows, first)
+        over::has_decided_above_over(self.base, &self.changes.rows, first)
     }
 
     /// Whether a request waits for its acknowledgement.
@@ -273,7 +227,7 @@ impl<'a> Step<'a> {
         ensures { result ≡ is_waiting self.now.state request }
     {
         let base = self.base;
-        base.is_waiting(request) || is_among(&self.waiting, request)
+        base.is_waiting(request) || is_among(&self.changes.waiting, request)
     }
 
     /// Whether the pool has a command with this request number.
@@ -282,8 +236,9 @@ impl<'a> Step<'a> {
         ensures { result ≡ has_request self.now.state.pool request }
     {
         let base = self.base;
-        let has_come = base.has_pooled(request) || owing::has_request(&self.pooled, request);
-        has_come && !is_among(&self.taken, request)
+        let has_come = base.has_pooled(request)
+            || owing::has_request(&self.changes.pooled, request);
+        has_come && !is_among(&self.changes.taken, request)
     }
 
     /// The first pool command that is no estimate of one of these instances but one.
@@ -292,10 +247,16 @@ impl<'a> Step<'a> {
         ensures { result ≡ first_free self.now.state.rows instances.now instance self.now.state.pool }
     {
         let base = self.base;
-        let taken = self.taken.as_slice();
+        let taken = self.changes.taken.as_slice();
         match estimates::first_free_in(self, instances, instance, taken, base.pool.iter()) {
             Some(command) => Some(command),
-            None => estimates::first_free_of(self, instances, instance, taken, &self.pooled),
+            None => estimates::first_free_of(
+                self,
+                instances,
+                instance,
+                taken,
+                &self.changes.pooled,
+            ),
         }
     }
 
@@ -306,7 +267,7 @@ impl<'a> Step<'a> {
         ensures err { IfErr result (λ e. e ≡ Refusal.OutOfMemory) }
     {
         if !self.is_waiting(request) {
-            self.waiting.push(request)?;
+            self.changes.waiting.push(request)?;
         }
         Ok(())
     }
@@ -320,36 +281,44 @@ impl<'a> Step<'a> {
     {
         let base = self.base;
         let from = base.node;
-        let owed = &mut self.owed;
+        let owed = &mut self.changes.owed;
         owing::push_to(owed, from, to, &body, backing)
     }
 
-    /// The node owes a message to every node, itself included, ascending; where no fact backs it, it is free.
+    // The node owes a message to the nodes that it reaches, ascending; where no fact backs it, it is free.
     #[tactic(auto, using(std::proofs::Common::append_assoc), unfolding(rr_model::specs::NodeParts::owe))]
+    fn owe_reached(
+        &mut self,
+        reach: Reach,
+        body: &Body,
+        backing: Option<u128>,
+    ) -> Result<(), Refusal>
+        requires { backing ≡ None → IsTrue (is_free body.now) }
+        ensures ok { OnOk result (self.new ≡ stepped (λ s. owe body.now backing (reached reach s.node s.nodes) s) self.old) }
+        ensures err { IfErr result (λ e. e ≡ Refusal.OutOfMemory) }
+    {
+        let base = self.base;
+        let owed = &mut self.changes.owed;
+        owing::push_to_reached(owed, base.nodes, base.node, reach, body, backing)
+    }
+
+    /// The node owes a message to every node, itself included, ascending; where no fact backs it, it is free.
     pub fn owe_everyone(&mut self, body: Body, backing: Option<u128>) -> Result<(), Refusal>
         requires { backing ≡ None → IsTrue (is_free body) }
         ensures ok { OnOk result (self.new ≡ stepped (λ s. owe body backing (everyone s) s) self.old) }
         ensures err { IfErr result (λ e. e ≡ Refusal.OutOfMemory) }
     {
-        let base = self.base;
-        let from = base.node;
-        let nodes = base.nodes;
-        let owed = &mut self.owed;
-        owing::push_to_everyone(owed, nodes, from, &body, backing)
+        self.owe_reached(Reach::Everyone, &body, backing)
     }
 
     /// The node owes a message to each other node, ascending; where no fact backs it, it is free.
-    #[tactic(auto, using(std::proofs::Common::append_assoc), unfolding(rr_model::specs::NodeParts::owe, crate::specs::Places::nodes_beside))]
+    #[tactic(auto, unfolding(crate::specs::Places::nodes_beside))]
     pub fn owe_others(&mut self, body: Body, backing: Option<u128>) -> Result<(), Refusal>
         requires { backing ≡ None → IsTrue (is_free body) }
         ensures ok { OnOk result (self.new ≡ stepped (λ s. owe body backing (others s) s) self.old) }
         ensures err { IfErr result (λ e. e ≡ Refusal.OutOfMemory) }
     {
-        let base = self.base;
-        let from = base.node;
-        let nodes = base.nodes;
-        let owed = &mut self.owed;
-        owing::push_to_others(owed, nodes, from, &body, backing)
+        self.owe_reached(Reach::Others, &body, backing)
     }
 
     /// Adds a command to the pool, unless its request number is there or decided.
@@ -362,7 +331,7 @@ impl<'a> Step<'a> {
         if self.has_pooled(command.request) || self.is_decided_request(command.request) {
             return Ok(());
         }
-        self.pooled.push(command)?;
+        self.changes.pooled.push(command)?;
         Ok(())
     }
 
@@ -373,7 +342,7 @@ impl<'a> Step<'a> {
         ensures ok { OnOk result (self.new ≡ stepped (λ s. record s { rows = put_row row s.rows }) self.old) }
         ensures err { IfErr result (λ e. e ≡ Refusal.OutOfMemory) }
     {
-        over::put_newest(&mut self.rows, row)
+        over::put_newest(&mut self.changes.rows, row)
     }
 
     /// The row of a fact's instance is changed by it, where the instance then stands so.
@@ -388,7 +357,7 @@ impl<'a> Step<'a> {
         match standing {
             None => Ok(()),
             Some(standing) => {
-                let alloc = *self.rows.allocator();
+                let alloc = *self.changes.rows.allocator();
                 let row = staging::row_changed(alloc, self, number, fact, standing)?;
                 self.put_row(row)
             }
@@ -404,7 +373,7 @@ impl<'a> Step<'a> {
     {
         match fact {
             Fact::Decide(_, command) => {
-                self.taken.push(command.request)?;
+                self.changes.taken.push(command.request)?;
                 Ok(())
             }
             Fact::Enter(..) | Fact::Propose(..) | Fact::Adopt(..) => Ok(()),
@@ -418,7 +387,7 @@ impl<'a> Step<'a> {
         ensures err { IfErr result (λ e. e ≡ Refusal.OutOfMemory) }
     {
         made_of!(Command, Op);
-        self.staged.push(*fact)?;
+        self.changes.staged.push(*fact)?;
         Ok(())
     }
 
@@ -441,27 +410,27 @@ impl<'a> Step<'a> {
     pub fn suspect(&mut self, suspects: NodeSet)
         ensures { self.new ≡ stepped (λ s. record s { suspects = suspects }) self.old }
     {
-        self.suspects = Suspects::new(suspects);
+        self.changes.suspects = Suspects::new(suspects);
     }
 
     /// A node has told its suspects: these too, but not the node, which spoke.
     pub fn reduce(&mut self, node: NodeId, set: NodeSet)
         ensures { self.new ≡ stepped (λ s. record s { suspects = reduced s.suspects node set }) self.old }
     {
-        self.suspects.receive(node, set);
+        self.changes.suspects.receive(node, set);
     }
 
     /// A tick for the heartbeat detector.
     pub fn tick_watches(&mut self)
         ensures { self.new ≡ stepped (λ s. record s { watches = all_ticked s.watches }) self.old }
     {
-        self.heartbeat.tick();
+        self.changes.heartbeat.tick();
     }
 
     /// A beat of a node; one that isn't there changes nothing.
     pub fn beat(&mut self, node: NodeId)
         ensures { self.new ≡ stepped (λ s. record s { watches = heard_beat node s.watches }) self.old }
     {
-        self.heartbeat.heard(node);
+        self.changes.heartbeat.heard(node);
     }
 }

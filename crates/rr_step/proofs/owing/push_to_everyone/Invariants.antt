@@ -1,9 +1,0 @@
-use Rattle.std.proofs.Common.{◌≡◌, ◌++◌}
-use Rattle.std.specs.List.{range_with_len}
-use Rattle.std.specs.Prelude.{All}
-use Rattle.rr_model.specs.NodeParts.{messages_to}
-use Rattle.rr_outbox.specs.Marks.{IsOwn}
-use Rattle.rr_step.proofs.owing.push_to_everyone.Given as goal
-
-abbrev pub invariant-loop-index : goal.invariant-loop-index
-invariant-loop-index l = (l.owed.items ≡ l.initial.owed.items ++ messages_to l.from l.body l.backing (range_with_len 0 l.index)) × All (IsOwn l.from) l.owed.items
