@@ -2,12 +2,4 @@
 #![tactic(auto)]
 
 #[cfg(test)]
-mod heartbeat;
-#[cfg(test)]
-mod list;
-#[cfg(test)]
-mod registry;
-#[cfg(test)]
-mod suspects;
-#[cfg(test)]
-mod tally;
+mod tests;

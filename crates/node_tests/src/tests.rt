@@ -1,0 +1,5 @@
+mod heartbeat;
+mod list;
+mod registry;
+mod suspects;
+mod tally;
