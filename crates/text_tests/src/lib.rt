@@ -2,10 +2,4 @@
 #![tactic(auto)]
 
 #[cfg(test)]
-mod messages;
-#[cfg(test)]
-mod schedules;
-#[cfg(test)]
-mod scripts;
-#[cfg(test)]
-mod tapes;
+mod tests;

@@ -1,9 +1,11 @@
 mod rows;
 
+use super::event_texts::{
+    assert_a_million_at_most, assert_each_byte, assert_each_cut, is_reprinted,
+};
 use rows::TAPES as ROWS;
 use rr_tape::{Tape, TapeEvent};
 use rr_types::{Body, Name, Op, Refusal, Reply, RequestNo, Value};
-use std::alloc::Global;
 use std::process::Abort;
 
 /// Texts of tapes: each event, each message and each reply in each of its forms, and the ends of their ranges.
@@ -89,38 +91,17 @@ const FAULTY_LINES: [&str; 48] = [
     "ack 0 7.1.1 claimed",
 ];
 
-/// Whether bytes are refused, or printed as they were read.
-fn is_refused_or_printed(rt: &impl Abort, alloc: Global, bytes: &[u8]) -> bool {
-    match Tape::parse(alloc, bytes) {
-        Ok(tape) => tape.text(alloc).expect(rt, "memory").as_slice() == bytes,
-        Err(refusal) => matches!(refusal, Refusal::BadNodes | Refusal::BadEvent(_)),
-    }
-}
-
-/// The text with another byte at one place.
-fn with_byte(rt: &impl Abort, alloc: Global, text: &[u8], at: usize, byte: u8) -> Vec<u8> {
-    let mut bytes = text.to_vec(alloc).expect(rt, "memory");
-    if let Some(place) = bytes.get_mut(at) {
-        *place = byte;
-    }
-    bytes
-}
-
 #[test]
 fn tapes_are_printed_as_they_were_read(rt: HostRuntime) {
     for text in TAPES {
-        let tape = Tape::parse(rt.alloc(), text.as_bytes()).expect(&rt, "a text");
-        let printed = tape.text(rt.alloc()).expect(&rt, "memory");
-        assert!(rt; printed.as_slice() == text.as_bytes(), "{text}");
+        assert!(rt; is_reprinted::<Tape>(&rt, rt.alloc(), text), "{text}");
     }
 }
 
 #[test]
 fn rows_are_printed_as_they_were_read(rt: HostRuntime) {
     for (name, text) in &ROWS {
-        let tape = Tape::parse(rt.alloc(), text.as_bytes()).expect(&rt, "a text");
-        let printed = tape.text(rt.alloc()).expect(&rt, "memory");
-        assert!(rt; printed.as_slice() == text.as_bytes(), "{name}");
+        assert!(rt; is_reprinted::<Tape>(&rt, rt.alloc(), text), "{name}");
     }
 }
 
@@ -149,44 +130,20 @@ fn faulty_lines_are_told(rt: HostRuntime) {
 #[test]
 fn no_other_byte_is_taken_for_it(rt: HostRuntime) {
     for text in TAPES {
-        let text = text.as_bytes();
-        for at in 0..text.len() {
-            for byte in 0..=255u8 {
-                let bytes = with_byte(&rt, rt.alloc(), text, at, byte);
-                assert!(rt;
-                    is_refused_or_printed(&rt, rt.alloc(), &bytes),
-                    "{byte} at {at}"
-                );
-            }
-        }
+        assert_each_byte::<Tape>(&rt, rt.alloc(), text.as_bytes());
     }
 }
 
 #[test]
 fn a_text_that_is_cut_is_refused_or_printed(rt: HostRuntime) {
     for text in TAPES {
-        let text = text.as_bytes();
-        for end in 0..text.len() {
-            assert!(rt;
-                is_refused_or_printed(&rt, rt.alloc(), &text[..end]),
-                "cut at {end}"
-            );
-        }
+        assert_each_cut::<Tape>(&rt, rt.alloc(), text.as_bytes());
     }
 }
 
 #[test]
 fn the_millionth_event_is_the_last(rt: HostRuntime) {
-    let mut text = b"nodes 1\n".to_vec(rt.alloc()).expect(&rt, "memory");
-    for _ in 0..1_000_000 {
-        text.extend_from_slice(b"tick 0\n").expect(&rt, "memory");
-    }
-    let tape = Tape::parse(rt.alloc(), &text).expect(&rt, "a text");
-    assert_eq!(rt; tape.events().len(), 1_000_000);
-    assert!(rt; tape.text(rt.alloc()).expect(&rt, "memory").as_slice() == text.as_slice());
-    text.extend_from_slice(b"tick 0\n").expect(&rt, "memory");
-    let refused = Tape::parse(rt.alloc(), &text).err();
-    assert_eq!(rt; refused, Some(Refusal::BadEvent(1_000_002)));
+    assert_a_million_at_most::<Tape>(&rt, rt.alloc());
 }
 
 #[test]

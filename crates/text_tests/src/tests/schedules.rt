@@ -1,3 +1,6 @@
+use super::event_texts::{
+    assert_a_million_at_most, assert_each_byte, assert_each_cut, is_reprinted,
+};
 use rr_text::{Binding, BoundNames, Event, Report, ReportLine, Schedule};
 use rr_types::{
     Body, Command, Estimate, Instance, Message, Name, NodeId, NodeSet, Nodes, Op, Refusal, Reply,
@@ -93,12 +96,7 @@ fn each_event() -> &'static [u8] {
 #[test]
 fn schedules_are_printed_as_they_were_read(rt: HostRuntime) {
     for text in schedules() {
-        let schedule = Schedule::parse(rt.alloc(), text.as_bytes()).expect(&rt, "a text");
-        assert_eq!(rt;
-            schedule.text(rt.alloc()).expect(&rt, "memory").as_slice(),
-            text.as_bytes(),
-            "{text}"
-        );
+        assert!(rt; is_reprinted::<Schedule>(&rt, rt.alloc(), text), "{text}");
     }
 }
 
@@ -113,46 +111,14 @@ fn faults_are_told(rt: HostRuntime) {
     }
 }
 
-/// Whether bytes are refused, or printed as they were read.
-fn is_refused_or_printed(rt: &impl Abort, alloc: Global, bytes: &[u8]) -> bool {
-    match Schedule::parse(alloc, bytes) {
-        Ok(schedule) => schedule.text(alloc).expect(rt, "memory").as_slice() == bytes,
-        Err(refusal) => matches!(refusal, Refusal::BadNodes | Refusal::BadEvent(_)),
-    }
-}
-
-/// The text with another byte at one place.
-fn with_byte(rt: &impl Abort, alloc: Global, text: &[u8], at: usize, byte: u8) -> Vec<u8> {
-    let mut bytes = text.to_vec(alloc).expect(rt, "memory");
-    if let Some(place) = bytes.get_mut(at) {
-        *place = byte;
-    }
-    bytes
-}
-
 #[test]
 fn no_other_byte_is_taken_for_it(rt: HostRuntime) {
-    let text = each_event();
-    for at in 0..text.len() {
-        for byte in 0..=255u8 {
-            let bytes = with_byte(&rt, rt.alloc(), text, at, byte);
-            assert!(rt;
-                is_refused_or_printed(&rt, rt.alloc(), &bytes),
-                "{byte} at {at}"
-            );
-        }
-    }
+    assert_each_byte::<Schedule>(&rt, rt.alloc(), each_event());
 }
 
 #[test]
 fn a_text_that_is_cut_is_refused_or_printed(rt: HostRuntime) {
-    let text = each_event();
-    for end in 0..text.len() {
-        assert!(rt;
-            is_refused_or_printed(&rt, rt.alloc(), text.split_at(end).0),
-            "cut at {end}"
-        );
-    }
+    assert_each_cut::<Schedule>(&rt, rt.alloc(), each_event());
 }
 
 #[test]
@@ -194,16 +160,7 @@ fn what_is_read_is_what_is_written(rt: HostRuntime) {
 
 #[test]
 fn the_millionth_event_is_the_last(rt: HostRuntime) {
-    let mut text = b"nodes 1\n".to_vec(rt.alloc()).expect(&rt, "memory");
-    for _ in 0..1_000_000 {
-        text.extend_from_slice(b"tick 0\n").expect(&rt, "memory");
-    }
-    let schedule = Schedule::parse(rt.alloc(), &text).expect(&rt, "a text");
-    assert_eq!(rt; schedule.events().len(), 1_000_000);
-    assert!(rt; schedule.text(rt.alloc()).expect(&rt, "memory").as_slice() == text.as_slice());
-    text.extend_from_slice(b"tick 0\n").expect(&rt, "memory");
-    let refused = Schedule::parse(rt.alloc(), &text).err();
-    assert_eq!(rt; refused, Some(Refusal::BadEvent(1_000_002)));
+    assert_a_million_at_most::<Schedule>(&rt, rt.alloc());
 }
 
 #[test]

@@ -1,0 +1,5 @@
+mod event_texts;
+mod messages;
+mod schedules;
+mod scripts;
+mod tapes;
