@@ -2,20 +2,4 @@
 #![tactic(auto)]
 
 #[cfg(test)]
-mod flush;
-#[cfg(test)]
-mod frame_sweeps;
-#[cfg(test)]
-mod frames;
-#[cfg(test)]
-mod inspection;
-#[cfg(test)]
-mod journal;
-#[cfg(test)]
-mod journal_sweeps;
-#[cfg(test)]
-mod memory_disk;
-#[cfg(test)]
-mod switch;
-#[cfg(test)]
-mod trust;
+mod tests;

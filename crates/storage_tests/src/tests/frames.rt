@@ -1,6 +1,7 @@
 //! Spelled examples, faults and their offsets.
 
-use crate::frame_sweeps::{Form, rewritten};
+use super::frame_sweeps::{Form, rewritten};
+use super::samples::changed;
 use rr_frame::{
     Reader, Snapshot, Version, decode_fact, decode_group, decode_snapshot, encode_fact,
     encode_snapshot, put_command, read_command,
@@ -45,23 +46,27 @@ fn proposed() -> &'static [u8] {
     &PROPOSED
 }
 
-/// A copy of bytes, with another byte at a place.
-fn changed(rt: &impl Abort, alloc: Global, bytes: &[u8], place: usize, byte: u8) -> Vec<u8> {
-    let mut bytes = bytes.to_vec(alloc).expect(rt, "memory");
-    if let Some(at) = bytes.get_mut(place) {
-        *at = byte;
+/// Whether bytes are refused at this offset.
+fn is_refused(alloc: Global, form: Form, bytes: &[u8], offset: u64) -> bool {
+    matches!(rewritten(alloc, form, bytes), Err(Refusal::Malformed(found)) if found == offset)
+}
+
+/// Asserts of each of these places, with another byte and an offset, that the example with that byte there is refused at that
+/// offset.
+fn assert_faults(
+    rt: &impl Abort,
+    alloc: Global,
+    form: Form,
+    example: &[u8],
+    faults: &[(usize, u8, u64)],
+) {
+    for (place, value, offset) in faults {
+        let bytes = changed(rt, alloc, example, *place, *value);
+        assert!(rt;
+            is_refused(alloc, form, &bytes, *offset),
+            "{value} at {place}"
+        );
     }
-    bytes
-}
-
-/// Whether bytes are refused as a group of a version at this offset.
-fn is_no_group(alloc: Global, version: Version, bytes: &[u8], offset: u64) -> bool {
-    matches!(decode_group(alloc, version, bytes), Err(Refusal::Malformed(found)) if found == offset)
-}
-
-/// Whether bytes are refused as a snapshot at this offset.
-fn is_no_snapshot(alloc: Global, bytes: &[u8], offset: u64) -> bool {
-    matches!(decode_snapshot(alloc, bytes), Err(Refusal::Malformed(found)) if found == offset)
 }
 
 #[test]
@@ -118,6 +123,7 @@ fn a_fact_is_read_as_it_was_written(rt: HostRuntime) {
 #[test]
 fn faults_of_a_group(rt: HostRuntime) {
     let alloc = rt.alloc();
+    let form = Form::Group(Version::Two);
     let faults = [
         (9, 0, 8),
         (9, 65, 8),
@@ -129,18 +135,25 @@ fn faults_of_a_group(rt: HostRuntime) {
         (30, 65, 30),
         (30, 2, 31),
     ];
-    for (place, value, offset) in faults {
-        let bytes = changed(&rt, alloc, decided(), place, value);
-        assert!(rt;
-            is_no_group(alloc, Version::Two, &bytes, offset),
-            "{value} at {place}"
-        );
-    }
+    assert_faults(&rt, alloc, form, decided(), &faults);
     let longer = [decided(), [0].as_slice()]
         .concat(alloc)
         .expect(&rt, "memory");
-    assert!(rt; is_no_group(alloc, Version::Two, &longer, 32));
-    assert!(rt; is_no_group(alloc, Version::Two, &[], 0));
+    assert!(rt; is_refused(alloc, form, &longer, 32));
+    assert!(rt; is_refused(alloc, form, &[], 0));
+}
+
+/// The snapshot that is read of bytes of a version. Asserts that it is written as the snapshot with a proposal.
+fn read_proposed(rt: &impl Abort, alloc: Global, version: Version, bytes: &[u8]) -> Snapshot {
+    let (found, read) = decode_snapshot(alloc, bytes).expect(rt, "memory");
+    assert_eq!(rt; found, version);
+    assert_eq!(rt;
+        encode_snapshot(alloc, &read)
+            .expect(rt, "memory")
+            .as_slice(),
+        proposed()
+    );
+    read
 }
 
 #[test]
@@ -162,16 +175,9 @@ fn snapshots(rt: HostRuntime) {
             .as_slice(),
         empty()
     );
-    let (version, read) = decode_snapshot(alloc, proposed()).expect(&rt, "memory");
-    assert_eq!(rt; version, Version::Two);
+    let read = read_proposed(&rt, alloc, Version::Two, proposed());
     assert_eq!(rt; (read.epoch(), read.next()), (2, 2));
     assert_eq!(rt; read.promise().entries().len(), 1);
-    assert_eq!(rt;
-        encode_snapshot(alloc, &read)
-            .expect(&rt, "memory")
-            .as_slice(),
-        proposed()
-    );
 }
 
 #[test]
@@ -189,13 +195,7 @@ fn faults_of_a_snapshot(rt: HostRuntime) {
         (35, 2, 32),
         (53, 2, 53),
     ];
-    for (place, value, offset) in faults {
-        let bytes = changed(&rt, rt.alloc(), proposed(), place, value);
-        assert!(rt;
-            is_no_snapshot(rt.alloc(), &bytes, offset),
-            "{value} at {place}"
-        );
-    }
+    assert_faults(&rt, rt.alloc(), Form::Snapshot, proposed(), &faults);
 }
 
 /// A group of one fact: instance 0 decides `7.1 claim`, of a name of `count` letters b.
@@ -216,7 +216,7 @@ fn names_are_as_long_as_the_version_has_them(rt: HostRuntime) {
         let bytes = of_long_name(&rt, alloc, longest);
         assert!(rt; decode_group(alloc, version, &bytes).is_ok());
         let longer = of_long_name(&rt, alloc, longest + 1);
-        assert!(rt; is_no_group(alloc, version, &longer, 28));
+        assert!(rt; is_refused(alloc, Form::Group(version), &longer, 28));
     }
 }
 
@@ -251,7 +251,7 @@ fn groups_of_version_1(rt: HostRuntime) {
     let alloc = rt.alloc();
     assert!(rt; decode_group(alloc, Version::One, decided()).is_ok());
     let far = changed(&rt, alloc, decided(), 12, 1);
-    assert!(rt; is_no_group(alloc, Version::One, &far, 11));
+    assert!(rt; is_refused(alloc, Form::Group(Version::One), &far, 11));
     assert!(rt; decode_group(alloc, Version::Two, &far).is_ok());
 }
 
@@ -259,14 +259,7 @@ fn groups_of_version_1(rt: HostRuntime) {
 fn a_snapshot_of_version_1(rt: HostRuntime) {
     let alloc = rt.alloc();
     let old = changed(&rt, alloc, proposed(), 0, 1);
-    let (version, read) = decode_snapshot(alloc, &old).expect(&rt, "memory");
-    assert_eq!(rt; version, Version::One);
-    assert_eq!(rt;
-        encode_snapshot(alloc, &read)
-            .expect(&rt, "memory")
-            .as_slice(),
-        proposed()
-    );
+    drop(read_proposed(&rt, alloc, Version::One, &old));
 }
 
 #[test]
@@ -274,13 +267,7 @@ fn faults_of_a_snapshot_of_version_1(rt: HostRuntime) {
     // Instance 65,536, a transfer, a name of 33 bytes, a proposal that is a transfer.
     let faults = [(24, 1, 23), (48, 4, 48), (49, 33, 49), (66, 4, 66)];
     let old = changed(&rt, rt.alloc(), proposed(), 0, 1);
-    for (place, value, offset) in faults {
-        let bytes = changed(&rt, rt.alloc(), &old, place, value);
-        assert!(rt;
-            is_no_snapshot(rt.alloc(), &bytes, offset),
-            "{value} at {place}"
-        );
-    }
+    assert_faults(&rt, rt.alloc(), Form::Snapshot, &old, &faults);
     let far = changed(&rt, rt.alloc(), proposed(), 24, 1);
     assert!(rt; decode_snapshot(rt.alloc(), &far).is_ok());
 }

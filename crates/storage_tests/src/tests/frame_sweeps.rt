@@ -1,5 +1,6 @@
 //! Spelled examples of each kind, with each byte at each of its values, and cut at each place.
 
+use super::samples::put_at;
 use rr_frame::{
     Snapshot, Version, decode_fact, decode_group, decode_snapshot, encode_fact, encode_group,
     encode_snapshot,
@@ -154,13 +155,6 @@ fn field_of(fields: &[usize], place: usize) -> usize {
         }
     }
     found
-}
-
-/// Puts a byte at a place of these, where there is one.
-fn put_at(bytes: &mut [u8], place: usize, byte: u8) {
-    if let Some(at) = bytes.get_mut(place) {
-        *at = byte;
-    }
 }
 
 /// The example is exact, also with each byte at each value; cut, it is refused at the cut field.

@@ -1,6 +1,6 @@
 //! What is taken on trust over a disk that tells no bytes.
 
-use crate::flush::first_fact;
+use super::flush::first_fact;
 use rr_disk::FileDisk;
 use rr_journal::{Opened, Synced};
 use rr_types::{NodeId, Nodes, Promise};

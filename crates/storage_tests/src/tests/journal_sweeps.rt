@@ -2,7 +2,8 @@
 //!
 //! One run decided one command; the other then switched to a snapshot, which stands in area 1.
 
-use crate::journal::{area, changed, cut, more, opened, put_at};
+use super::journal::{more, opened};
+use super::samples::{area, changed, cut, put_at, snapshot};
 use rr_disk::{Area, Disk, MemDisk};
 use rr_frame::{Reader, Version, decode_group, decode_snapshot, encode_group, encode_snapshot};
 use rr_image::Image;
@@ -12,18 +13,6 @@ use rr_types::{
 };
 use std::alloc::Global;
 use std::process::Abort;
-
-/// Area 1 behind a switch: the snapshot of node 0 of 1 with epoch 2 behind four facts, by which
-/// instance 0 has decided `7.1 claim a x`, and a closed gate.
-static SNAPSHOT: [u8; 51] = [
-    0xA5, 0, 0, 0, 0x2D, 2, 0, 1, 0, 0, 0, 0, 0, 0, 0, 2, 0, 0, 0, 0, 0, 0, 0, 4, 0, 0, 0, 1, 0, 0,
-    0, 0, 1, 0, 0, 0, 7, 0, 0, 0, 0, 0, 0, 0, 1, 1, 1, 0x61, 1, 0x78, 0,
-];
-
-/// The bytes of that area.
-fn snapshot() -> &'static [u8] {
-    &SNAPSHOT
-}
 
 /// The payload of the frame whose gate stands at a place.
 fn payload_at(bytes: &[u8], gate: usize) -> Option<&[u8]> {

@@ -1,5 +1,5 @@
 use Rattle.std.proofs.Common.{◌<◌}
-use Rattle.storage_tests.proofs.journal.after.Given as goal
+use Rattle.storage_tests.proofs.tests.journal.after.Given as goal
 
 abbrev pub invariant-loop : goal.invariant-loop
 invariant-loop g l = l.opening.node < l.opening.nodes

@@ -2,6 +2,7 @@
 
 ghost use Rattle.std.specs.Prelude.{◌<◌};
 
+use super::samples::{area, behind, changed, cut, put_at, snapshot};
 use rr_disk::{Area, Disk, FailingDisk, MemDisk};
 use rr_frame::{Version, decode_group};
 use rr_image::{Image, read_image};
@@ -12,53 +13,6 @@ use rr_types::{
 };
 use std::alloc::Global;
 use std::process::Abort;
-
-/// Area 0 of node 0 of 1 behind four facts: it entered round 1 of instance 0 with `7.1 claim a x`, proposed
-/// it, adopted it and decided. The gates stand at 0, 28, 73, 114, 155 and 192.
-static AREA: [u8; 193] = [
-    0xA5, 0, 0, 0, 0x17, 2, 0, 1, 0, 0, 0, 0, 0, 0, 0, 1, 0, 0, 0, 0, 0, 0, 0, 0, 0, 0, 0, 0, 0xA5,
-    0, 0, 0, 0x28, 0, 0, 0, 0, 0, 0, 0, 0, 0, 1, 1, 0, 0, 0, 0, 0, 0, 0, 1, 0, 0, 0, 0, 0, 0, 0, 7,
-    0, 0, 0, 0, 0, 0, 0, 1, 1, 1, 0x61, 1, 0x78, 0xA5, 0, 0, 0, 0x24, 0, 0, 0, 0, 0, 0, 0, 1, 0, 1,
-    2, 0, 0, 0, 0, 0, 0, 0, 1, 0, 0, 0, 7, 0, 0, 0, 0, 0, 0, 0, 1, 1, 1, 0x61, 1, 0x78, 0xA5, 0, 0,
-    0, 0x24, 0, 0, 0, 0, 0, 0, 0, 2, 0, 1, 3, 0, 0, 0, 0, 0, 0, 0, 1, 0, 0, 0, 7, 0, 0, 0, 0, 0, 0,
-    0, 1, 1, 1, 0x61, 1, 0x78, 0xA5, 0, 0, 0, 0x20, 0, 0, 0, 0, 0, 0, 0, 3, 0, 1, 4, 0, 0, 0, 0, 0,
-    0, 0, 7, 0, 0, 0, 0, 0, 0, 0, 1, 1, 1, 0x61, 1, 0x78, 0,
-];
-
-/// The bytes of that area. (A test that names the table itself is proved over each of its bytes.)
-pub fn area() -> &'static [u8] {
-    &AREA
-}
-
-/// The front of bytes up to a place, or all of them.
-pub fn cut(bytes: &[u8], place: usize) -> &[u8] {
-    match bytes.split_at_checked(place) {
-        Some((front, _)) => front,
-        None => bytes,
-    }
-}
-
-/// The bytes from a place on, if there are any.
-fn behind(bytes: &[u8], place: usize) -> &[u8] {
-    match bytes.split_at_checked(place) {
-        Some((_, back)) => back,
-        None => &[],
-    }
-}
-
-/// A copy of bytes, with another byte at a place.
-pub fn changed(rt: &impl Abort, alloc: Global, bytes: &[u8], place: usize, byte: u8) -> Vec<u8> {
-    let mut bytes = bytes.to_vec(alloc).expect(rt, "memory");
-    put_at(&mut bytes, place, byte);
-    bytes
-}
-
-/// Puts a byte at a place of these, where there is one.
-pub fn put_at(bytes: &mut [u8], place: usize, byte: u8) {
-    if let Some(at) = bytes.get_mut(place) {
-        *at = byte;
-    }
-}
 
 /// What two areas mean to node 0 of 1.
 pub fn opened(alloc: Global, first: &[u8], second: &[u8]) -> Result<Image, Refusal> {
@@ -278,12 +232,6 @@ fn a_refused_opening_is_repeated(rt: HostRuntime) {
     assert_eq!(rt; *last, 0);
 }
 
-/// A snapshot of version 2 with epoch 2 and the four facts of `AREA`.
-static MIGRATED: [u8; 51] = [
-    0xA5, 0, 0, 0, 0x2D, 2, 0, 1, 0, 0, 0, 0, 0, 0, 0, 2, 0, 0, 0, 0, 0, 0, 0, 4, 0, 0, 0, 1, 0, 0,
-    0, 0, 1, 0, 0, 0, 7, 0, 0, 0, 0, 0, 0, 0, 1, 1, 1, 0x61, 1, 0x78, 0,
-];
-
 /// The disk of node 0 of 1 with `AREA` in version 1, and these bytes beside it.
 fn old_disk(rt: &impl Abort, alloc: Global, second: &[u8]) -> MemDisk {
     let first = changed(rt, alloc, area(), 5, 1);
@@ -301,7 +249,7 @@ fn assert_migrated(rt: &impl Abort, alloc: Global, disk: MemDisk) {
     let second = disk
         .read(alloc, Area::Second, 0, u64::MAX)
         .expect(rt, "a read");
-    assert_eq!(rt; cut(&second, 51), MIGRATED.as_slice());
+    assert_eq!(rt; cut(&second, 51), snapshot());
 }
 
 /// An opening of such a disk ends with its last device call, and the disk is opened again by three.

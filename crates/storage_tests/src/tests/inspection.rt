@@ -1,5 +1,6 @@
 //! What the areas of small disks tell, with values worked out by hand.
 
+use super::samples::{area, behind, changed, cut, snapshot};
 use rr_disk::{Area, Disk, FailingDisk, MemDisk};
 use rr_frame::Version;
 use rr_image::{AreaReport, inspect, inspect_bytes};
@@ -7,39 +8,10 @@ use rr_types::{NodeId, Nodes, Refusal};
 use std::alloc::Global;
 use std::process::Abort;
 
-/// Area 0 of node 0 of 1 behind four facts, by which instance 0 has decided. The gates stand at 0, 28, 73, 114,
-/// 155 and 192.
-const AREA: [u8; 193] = [
-    0xA5, 0, 0, 0, 0x17, 2, 0, 1, 0, 0, 0, 0, 0, 0, 0, 1, 0, 0, 0, 0, 0, 0, 0, 0, 0, 0, 0, 0, 0xA5,
-    0, 0, 0, 0x28, 0, 0, 0, 0, 0, 0, 0, 0, 0, 1, 1, 0, 0, 0, 0, 0, 0, 0, 1, 0, 0, 0, 0, 0, 0, 0, 7,
-    0, 0, 0, 0, 0, 0, 0, 1, 1, 1, 0x61, 1, 0x78, 0xA5, 0, 0, 0, 0x24, 0, 0, 0, 0, 0, 0, 0, 1, 0, 1,
-    2, 0, 0, 0, 0, 0, 0, 0, 1, 0, 0, 0, 7, 0, 0, 0, 0, 0, 0, 0, 1, 1, 1, 0x61, 1, 0x78, 0xA5, 0, 0,
-    0, 0x24, 0, 0, 0, 0, 0, 0, 0, 2, 0, 1, 3, 0, 0, 0, 0, 0, 0, 0, 1, 0, 0, 0, 7, 0, 0, 0, 0, 0, 0,
-    0, 1, 1, 1, 0x61, 1, 0x78, 0xA5, 0, 0, 0, 0x20, 0, 0, 0, 0, 0, 0, 0, 3, 0, 1, 4, 0, 0, 0, 0, 0,
-    0, 0, 7, 0, 0, 0, 0, 0, 0, 0, 1, 1, 1, 0x61, 1, 0x78, 0,
-];
-
-/// Area 1 behind the switch that followed: a snapshot of epoch 2 and four facts.
-const SNAPSHOT: [u8; 51] = [
-    0xA5, 0, 0, 0, 0x2D, 2, 0, 1, 0, 0, 0, 0, 0, 0, 0, 2, 0, 0, 0, 0, 0, 0, 0, 4, 0, 0, 0, 1, 0, 0,
-    0, 0, 1, 0, 0, 0, 7, 0, 0, 0, 0, 0, 0, 0, 1, 1, 1, 0x61, 1, 0x78, 0,
-];
-
 /// Area 1 with a snapshot of epoch 2 and two facts, by which instance 0 is in round 1.
 const OPEN_INSTANCE: [u8; 77] = [
     0xA5, 0, 0, 0, 0x47, 2, 0, 1, 0, 0, 0, 0, 0, 0, 0, 2, 0, 0, 0, 0, 0, 0, 0, 2, 0, 0, 0, 1, 0, 0,
     0, 0, 2, 0, 0, 0, 1, 0, 0, 0, 0, 0, 0, 0, 7, 0, 0, 0, 0, 0, 0, 0, 1, 1, 1, 0x61, 1, 0x78, 1, 0,
-    0, 0, 7, 0, 0, 0, 0, 0, 0, 0, 1, 1, 1, 0x61, 1, 0x78, 0,
-];
-
-/// Area 0 behind a second switch: a snapshot of epoch 3 and four facts, over the bytes of `AREA`.
-const SECOND_SNAPSHOT: [u8; 193] = [
-    0xA5, 0, 0, 0, 0x2D, 2, 0, 1, 0, 0, 0, 0, 0, 0, 0, 3, 0, 0, 0, 0, 0, 0, 0, 4, 0, 0, 0, 1, 0, 0,
-    0, 0, 1, 0, 0, 0, 7, 0, 0, 0, 0, 0, 0, 0, 1, 1, 1, 0x61, 1, 0x78, 0, 1, 0, 0, 0, 0, 0, 0, 0, 7,
-    0, 0, 0, 0, 0, 0, 0, 1, 1, 1, 0x61, 1, 0x78, 0xA5, 0, 0, 0, 0x24, 0, 0, 0, 0, 0, 0, 0, 1, 0, 1,
-    2, 0, 0, 0, 0, 0, 0, 0, 1, 0, 0, 0, 7, 0, 0, 0, 0, 0, 0, 0, 1, 1, 1, 0x61, 1, 0x78, 0xA5, 0, 0,
-    0, 0x24, 0, 0, 0, 0, 0, 0, 0, 2, 0, 1, 3, 0, 0, 0, 0, 0, 0, 0, 1, 0, 0, 0, 7, 0, 0, 0, 0, 0, 0,
-    0, 1, 1, 1, 0x61, 1, 0x78, 0xA5, 0, 0, 0, 0x20, 0, 0, 0, 0, 0, 0, 0, 3, 0, 1, 4, 0, 0, 0, 0, 0,
     0, 0, 7, 0, 0, 0, 0, 0, 0, 0, 1, 1, 1, 0x61, 1, 0x78, 0,
 ];
 
@@ -64,13 +36,12 @@ fn told(
     })
 }
 
-/// The bytes of an area with another byte in one place.
-fn changed(rt: &impl Abort, alloc: Global, area: &[u8], at: usize, byte: u8) -> Vec<u8> {
-    let mut bytes = area.to_vec(alloc).expect(rt, "memory");
-    if let Some(place) = bytes.get_mut(at) {
-        *place = byte;
-    }
-    bytes
+/// Area 0 behind a second switch: a snapshot of epoch 3 and four facts, over the bytes of `AREA`.
+fn second_snapshot(rt: &impl Abort, alloc: Global) -> Vec<u8> {
+    let third = changed(rt, alloc, snapshot(), 15, 3);
+    [third.as_slice(), behind(area(), third.len())]
+        .concat(alloc)
+        .expect(rt, "memory")
 }
 
 /// Whether an inspection says that an area is broken at an offset.
@@ -101,7 +72,7 @@ fn none(rt: &impl Abort) -> Option<AreaReport> {
 }
 
 /// What the snapshot behind these facts tells.
-fn snapshot(rt: &impl Abort) -> Option<AreaReport> {
+fn of_snapshot(rt: &impl Abort) -> Option<AreaReport> {
     told(rt, 2, 0, 1, 4, 1)
 }
 
@@ -110,20 +81,32 @@ fn tells_of_both_areas(rt: HostRuntime) {
     let alloc = rt.alloc();
     assert_told(&rt, alloc, &[], &[], (None, None));
     assert_told(&rt, alloc, &[0xA5], &[0, 0xA5], (None, None));
-    assert_told(&rt, alloc, &AREA, &[], (four(&rt), None));
-    assert_told(&rt, alloc, &[0, 7], &AREA, (None, four(&rt)));
-    assert_told(&rt, alloc, &AREA, &SNAPSHOT, (none(&rt), snapshot(&rt)));
-    assert_told(&rt, alloc, &SNAPSHOT, &AREA, (snapshot(&rt), none(&rt)));
+    assert_told(&rt, alloc, area(), &[], (four(&rt), None));
+    assert_told(&rt, alloc, &[0, 7], area(), (None, four(&rt)));
+    assert_told(
+        &rt,
+        alloc,
+        area(),
+        snapshot(),
+        (none(&rt), of_snapshot(&rt)),
+    );
+    assert_told(
+        &rt,
+        alloc,
+        snapshot(),
+        area(),
+        (of_snapshot(&rt), none(&rt)),
+    );
     let third = told(&rt, 3, 0, 1, 4, 1);
     assert_told(
         &rt,
         alloc,
-        &SECOND_SNAPSHOT,
-        &SNAPSHOT,
-        (third, snapshot(&rt)),
+        &second_snapshot(&rt, alloc),
+        snapshot(),
+        (third, of_snapshot(&rt)),
     );
     let open = told(&rt, 2, 0, 1, 2, 0);
-    assert_told(&rt, alloc, &AREA, &OPEN_INSTANCE, (none(&rt), open));
+    assert_told(&rt, alloc, area(), &OPEN_INSTANCE, (none(&rt), open));
 }
 
 /// The same of an area of version 1.
@@ -140,14 +123,14 @@ fn in_version_1(told: Option<AreaReport>) -> Option<AreaReport> {
 #[test]
 fn reads_version_1_within_its_limits(rt: HostRuntime) {
     let alloc = rt.alloc();
-    let old = changed(&rt, rt.alloc(), &AREA, 5, 1);
+    let old = changed(&rt, rt.alloc(), area(), 5, 1);
     let told = in_version_1(four(&rt));
     assert_told(&rt, alloc, &old, &[], (told, None));
     let told = in_version_1(none(&rt));
-    assert_told(&rt, alloc, &old, &SNAPSHOT, (told, snapshot(&rt)));
-    assert!(rt; is_damaged(&rt, &changed(&rt, rt.alloc(), &AREA, 5, 3), &[], 0, 0));
+    assert_told(&rt, alloc, &old, snapshot(), (told, of_snapshot(&rt)));
+    assert!(rt; is_damaged(&rt, &changed(&rt, rt.alloc(), area(), 5, 3), &[], 0, 0));
     // The first fact enters instance 65,536, which version 2 has, and the second proposes in instance 0.
-    let far = changed(&rt, rt.alloc(), &AREA, 45, 1);
+    let far = changed(&rt, rt.alloc(), area(), 45, 1);
     assert!(rt; is_damaged(&rt, &far, &[], 0, 73));
     let far = changed(&rt, rt.alloc(), &far, 5, 1);
     assert!(rt; is_damaged(&rt, &far, &[], 0, 28));
@@ -156,15 +139,14 @@ fn reads_version_1_within_its_limits(rt: HostRuntime) {
 #[test]
 fn measures_each_area_by_itself(rt: HostRuntime) {
     let alloc = rt.alloc();
-    let mut other = changed(&rt, rt.alloc(), &AREA, 7, 3);
+    let mut other = changed(&rt, rt.alloc(), area(), 7, 3);
     if let Some(node) = other.get_mut(6) {
         *node = 1;
     }
     let fact = told(&rt, 1, 1, 3, 0, 0);
-    let snapshot = told(&rt, 2, 0, 1, 4, 1);
     assert_eq!(rt;
-        inspect_bytes(alloc, &other, &SNAPSHOT).expect(&rt, "memory"),
-        (fact, snapshot)
+        inspect_bytes(alloc, &other, snapshot()).expect(&rt, "memory"),
+        (fact, of_snapshot(&rt))
     );
     let alone = told(&rt, 1, 1, 3, 1, 0);
     let cut = changed(&rt, rt.alloc(), &other, 73, 0);
@@ -177,31 +159,41 @@ fn measures_each_area_by_itself(rt: HostRuntime) {
 #[test]
 fn says_where_an_area_is_broken(rt: HostRuntime) {
     let alloc = rt.alloc();
-    assert!(rt; is_damaged(&rt, &AREA[..155], &[], 0, 114));
+    assert!(rt; is_damaged(&rt, cut(area(), 155), &[], 0, 114));
     for length in 156..193 {
-        assert!(rt; is_damaged(&rt, &AREA[..length], &[], 0, 155));
-        assert!(rt; is_damaged(&rt, &[], &AREA[..length], 1, 155));
+        assert!(rt; is_damaged(&rt, cut(area(), length), &[], 0, 155));
+        assert!(rt; is_damaged(&rt, &[], cut(area(), length), 1, 155));
     }
     for (at, byte) in [(159, 33), (167, 4), (170, 5)] {
-        let bytes = changed(&rt, rt.alloc(), &AREA, at, byte);
+        let bytes = changed(&rt, rt.alloc(), area(), at, byte);
         assert!(rt; is_damaged(&rt, &bytes, &[], 0, 155), "byte {at}");
     }
-    assert!(rt; is_damaged(&rt, &changed(&rt, rt.alloc(), &AREA, 6, 2), &[], 0, 0));
-    assert!(rt; is_damaged(&rt, &changed(&rt, rt.alloc(), &AREA, 6, 2), &SNAPSHOT, 0, 0));
-    assert!(rt; is_damaged(&rt, &AREA, &SNAPSHOT[..50], 1, 0));
-    assert!(rt; is_damaged(&rt, &AREA, &AREA, 1, 0), "one epoch");
+    assert!(rt; is_damaged(&rt, &changed(&rt, rt.alloc(), area(), 6, 2), &[], 0, 0));
+    assert!(rt;
+        is_damaged(
+            &rt,
+            &changed(&rt, rt.alloc(), area(), 6, 2),
+            snapshot(),
+            0,
+            0
+        )
+    );
+    assert!(rt; is_damaged(&rt, area(), cut(snapshot(), 50), 1, 0));
+    assert!(rt; is_damaged(&rt, area(), area(), 1, 0), "one epoch");
     let three = told(&rt, 1, 0, 1, 3, 0);
     assert_eq!(rt;
-        inspect_bytes(alloc, &changed(&rt, rt.alloc(), &AREA, 155, 0), &[]).expect(&rt, "memory"),
+        inspect_bytes(alloc, &changed(&rt, rt.alloc(), area(), 155, 0), &[]).expect(&rt, "memory"),
         (three, None)
     );
     let none = told(&rt, 1, 0, 1, 0, 0);
     assert_eq!(rt;
-        inspect_bytes(alloc, &changed(&rt, rt.alloc(), &AREA, 28, 0xA4), &[]).expect(&rt, "memory"),
+        inspect_bytes(alloc, &changed(&rt, rt.alloc(), area(), 28, 0xA4), &[]).expect(
+            &rt, "memory"
+        ),
         (none, None)
     );
     assert_eq!(rt;
-        inspect_bytes(alloc, &changed(&rt, rt.alloc(), &AREA, 0, 0), &[]).expect(&rt, "memory"),
+        inspect_bytes(alloc, &changed(&rt, rt.alloc(), area(), 0, 0), &[]).expect(&rt, "memory"),
         (None, None)
     );
 }
@@ -210,18 +202,18 @@ fn says_where_an_area_is_broken(rt: HostRuntime) {
 fn passes_over_later_frames_of_the_other_area(rt: HostRuntime) {
     let alloc = rt.alloc();
     for length in 29..193 {
-        let wanted = (none(&rt), snapshot(&rt));
-        assert_told(&rt, alloc, &AREA[..length], &SNAPSHOT, wanted);
+        let wanted = (none(&rt), of_snapshot(&rt));
+        assert_told(&rt, alloc, cut(area(), length), snapshot(), wanted);
     }
-    assert!(rt; is_damaged(&rt, &AREA[..28], &SNAPSHOT, 0, 0));
+    assert!(rt; is_damaged(&rt, cut(area(), 28), snapshot(), 0, 0));
 }
 
 #[test]
 fn only_reads_a_disk(rt: HostRuntime) {
     let alloc = rt.alloc();
     let mut disk = FailingDisk::new(MemDisk::new(alloc));
-    disk.write_at(Area::First, 0, &AREA).expect(&rt, "a write");
-    disk.write_at(Area::Second, 0, &SNAPSHOT)
+    disk.write_at(Area::First, 0, area()).expect(&rt, "a write");
+    disk.write_at(Area::Second, 0, snapshot())
         .expect(&rt, "a write");
     let seen = (told(&rt, 1, 0, 1, 0, 0), told(&rt, 2, 0, 1, 4, 1));
     assert_eq!(rt; inspect(alloc, &mut disk).expect(&rt, "memory"), seen);

@@ -1,0 +1,10 @@
+mod flush;
+mod frame_sweeps;
+mod frames;
+mod inspection;
+mod journal;
+mod journal_sweeps;
+mod memory_disk;
+mod samples;
+mod switch;
+mod trust;
