@@ -2,12 +2,4 @@
 #![tactic(auto)]
 
 #[cfg(test)]
-mod hand_overs;
-#[cfg(test)]
-mod inboxes;
-#[cfg(test)]
-mod many_looks;
-#[cfg(test)]
-mod seats;
-#[cfg(test)]
-mod windows;
+mod tests;

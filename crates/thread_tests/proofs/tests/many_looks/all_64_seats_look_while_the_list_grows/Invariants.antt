@@ -1,4 +1,4 @@
-use Rattle.thread_tests.proofs.many_looks.all_64_seats_look_while_the_list_grows.Given as goal
+use Rattle.thread_tests.proofs.tests.many_looks.all_64_seats_look_while_the_list_grows.Given as goal
 
 -- the list that was just made
 abbrev pub ghosts-all_seats_look : goal.ghosts-all_seats_look

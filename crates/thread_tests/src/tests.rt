@@ -1,0 +1,5 @@
+mod hand_overs;
+mod inboxes;
+mod many_looks;
+mod seats;
+mod windows;
