@@ -3,12 +3,4 @@
 #![tactic(auto)]
 
 #[cfg(test)]
-mod disks;
-#[cfg(test)]
-mod folders;
-#[cfg(test)]
-mod lively;
-#[cfg(test)]
-mod refusals;
-#[cfg(test)]
-mod streams;
+mod tests;

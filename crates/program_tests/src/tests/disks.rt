@@ -11,44 +11,38 @@ use std::os::unix::fs::PermissionsExt;
 use std::process::Abort;
 use std::rt::Files;
 
-/// Area 0 of a node alone that decided one command, behind four facts.
-static AREA: [u8; 193] = [
-    0xA5, 0, 0, 0, 0x17, 2, 0, 1, 0, 0, 0, 0, 0, 0, 0, 1, 0, 0, 0, 0, 0, 0, 0, 0, 0, 0, 0, 0, 0xA5,
-    0, 0, 0, 0x28, 0, 0, 0, 0, 0, 0, 0, 0, 0, 1, 1, 0, 0, 0, 0, 0, 0, 0, 1, 0, 0, 0, 0, 0, 0, 0, 7,
-    0, 0, 0, 0, 0, 0, 0, 1, 1, 1, 0x61, 1, 0x78, 0xA5, 0, 0, 0, 0x24, 0, 0, 0, 0, 0, 0, 0, 1, 0, 1,
-    2, 0, 0, 0, 0, 0, 0, 0, 1, 0, 0, 0, 7, 0, 0, 0, 0, 0, 0, 0, 1, 1, 1, 0x61, 1, 0x78, 0xA5, 0, 0,
-    0, 0x24, 0, 0, 0, 0, 0, 0, 0, 2, 0, 1, 3, 0, 0, 0, 0, 0, 0, 0, 1, 0, 0, 0, 7, 0, 0, 0, 0, 0, 0,
-    0, 1, 1, 1, 0x61, 1, 0x78, 0xA5, 0, 0, 0, 0x20, 0, 0, 0, 0, 0, 0, 0, 3, 0, 1, 4, 0, 0, 0, 0, 0,
-    0, 0, 7, 0, 0, 0, 0, 0, 0, 0, 1, 1, 1, 0x61, 1, 0x78, 0,
+/// An area of a node alone before its first fact.
+static FORMATTED: [u8; 29] = [
+    0xA5, 0, 0, 0, 0x17, 2, 0, 1, 0, 0, 0, 0, 0, 0, 0, 1, 0, 0, 0, 0, 0, 0, 0, 0, 0, 0, 0, 0, 0,
 ];
 
-/// Area 1 behind the switch that followed.
+/// The other area behind a switch: a snapshot with epoch 2 behind four facts, by which the node decided one command.
 static SNAPSHOT: [u8; 51] = [
     0xA5, 0, 0, 0, 0x2D, 2, 0, 1, 0, 0, 0, 0, 0, 0, 0, 2, 0, 0, 0, 0, 0, 0, 0, 4, 0, 0, 0, 1, 0, 0,
     0, 0, 1, 0, 0, 0, 7, 0, 0, 0, 0, 0, 0, 0, 1, 1, 1, 0x61, 1, 0x78, 0,
 ];
 
-/// The bytes of area 0. (A test that names a table itself is proved over each of its bytes.)
-fn area() -> &'static [u8] {
-    &AREA
+/// The bytes of the area before its first fact. (A test that names a table itself is proved over each of its bytes.)
+fn formatted() -> &'static [u8] {
+    &FORMATTED
 }
 
-/// The bytes of area 1 behind the switch.
+/// The bytes of the area behind the switch.
 fn snapshot() -> &'static [u8] {
     &SNAPSHOT
 }
 
-/// A disk in memory, with the bytes of `area()` in the area `place`.
+/// A disk in memory, with the bytes of `snapshot()` in the area `place`.
 fn disk(rt: &impl Abort, alloc: Global, place: Area) -> FailingDisk<MemDisk> {
     let mut disk = FailingDisk::new(MemDisk::new(alloc));
-    disk.write_at(place, 0, area()).expect(rt, "a write");
+    disk.write_at(place, 0, snapshot()).expect(rt, "a write");
     disk
 }
 
 #[test]
 fn tells_disks_of_any_kind(rt: HostRuntime) {
     let mut disk = disk(&rt, rt.alloc(), Area::Second);
-    let text = "area 0 unformatted\narea 1 epoch 1 node 0 of 1 facts 4 decided 1\n";
+    let text = "area 0 unformatted\narea 1 epoch 2 node 0 of 1 facts 4 decided 1\n";
     let shown = show_disk(rt.alloc(), &mut disk).expect(&rt, "a text");
     assert!(rt; shown.as_slice() == text.as_bytes());
     disk.fail_next(Vec::new(rt.alloc()));
@@ -68,7 +62,7 @@ fn migrated(
 
 #[test]
 fn migrates_disks_of_any_kind(rt: HostRuntime) {
-    let text = "area 0 epoch 1 node 0 of 1 facts 4 decided 1\narea 1 unformatted\n";
+    let text = "area 0 epoch 2 node 0 of 1 facts 4 decided 1\narea 1 unformatted\n";
     let told = migrated(&rt, rt.alloc(), disk(&rt, rt.alloc(), Area::First));
     assert!(rt; told.expect(&rt, "a text").as_slice() == text.as_bytes());
     let mut failing = FailingDisk::new(MemDisk::new(rt.alloc()));
@@ -91,7 +85,7 @@ fn assert_device<R: Files + AllocGlobal + Abort>(rt: &R, folder: &str) {
 fn make_unreadable<R: Files + AllocGlobal + Abort>(rt: &R, folder: &str) {
     let _ = fs::remove_dir_all(rt, folder);
     fs::create_dir(rt, folder).expect(rt, "a folder");
-    fs::write(rt, "rr_cli_not_readable/a0", area()).expect(rt, "a file");
+    fs::write(rt, "rr_cli_not_readable/a0", formatted()).expect(rt, "a file");
     fs::write(rt, "rr_cli_not_readable/a1", snapshot()).expect(rt, "a file");
     fs::set_permissions(rt, "rr_cli_not_readable/a0", Permissions::from_mode(0)).expect(
         rt,

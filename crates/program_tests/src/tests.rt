@@ -1,0 +1,5 @@
+mod disks;
+mod folders;
+mod lively;
+mod refusals;
+mod streams;
