@@ -2,6 +2,4 @@
 #![tactic(auto)]
 
 #[cfg(test)]
-mod ends;
-#[cfg(test)]
-mod nowhere;
+mod tests;

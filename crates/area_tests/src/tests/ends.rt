@@ -1,6 +1,6 @@
 //! An area that is filled to its last byte.
 
-use crate::nowhere::Nowhere;
+use super::nowhere::Nowhere;
 use rr_journal::Journal;
 use rr_types::{
     Command, Estimate, Fact, Group, Instance, Name, NodeId, Nodes, Op, Refusal, RequestNo, Round,
