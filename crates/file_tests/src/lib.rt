@@ -2,8 +2,4 @@
 #![tactic(auto)]
 
 #[cfg(test)]
-mod asked;
-#[cfg(test)]
-mod file_disk;
-#[cfg(test)]
-mod recorded;
+mod tests;

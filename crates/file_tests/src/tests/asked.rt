@@ -2,8 +2,8 @@
 //! follows from the rules: a sync asks nothing of a file in which nothing was written. After an opening or a
 //! failure it writes both files back.
 
-use crate::recorded::Asked::{Read, Sync, Write};
-use crate::recorded::{Asked, Recorded};
+use super::recorded::Asked::{Read, Sync, Write};
+use super::recorded::{Asked, Recorded};
 use rr_disk::{Area, Disk, FileDisk};
 use rr_types::Refusal;
 use std::alloc::Global;

@@ -1,0 +1,3 @@
+mod asked;
+mod file_disk;
+mod recorded;
