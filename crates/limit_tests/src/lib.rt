@@ -3,8 +3,4 @@
 #![tactic(auto)]
 
 #[cfg(test)]
-mod limits;
-#[cfg(test)]
-mod started;
-#[cfg(test)]
-mod told;
+mod tests;

@@ -1,6 +1,6 @@
 //! A node at each limit.
 
-use crate::started::{claim, node_over, open, put_decided, put_head};
+use super::started::{claim, node_over, open, put_decided, put_head};
 use rr_node::{Node, NodeEvent, Outcome};
 use rr_types::{Message, Op, Refusal, Reply, made_of};
 use std::alloc::Global;
