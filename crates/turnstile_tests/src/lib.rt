@@ -3,10 +3,4 @@
 #![tactic(auto)]
 
 #[cfg(test)]
-mod asking;
-#[cfg(test)]
-mod failing;
-#[cfg(test)]
-mod nodes;
-#[cfg(test)]
-mod taped;
+mod tests;

@@ -1,6 +1,6 @@
 //! Runs of nodes, some of which are held up at a turnstile.
 
-use crate::asking::{Asker, Shared, askers, claim, claims, node_of, numbered, runs};
+use super::asking::{Asker, Shared, askers, claim, claims, node_of, numbered, runs};
 use rr_locked::{Open, Place, Turnstile};
 use rr_script::ScriptLine;
 use rr_types::{Name, NodeId, Refusal};

@@ -2,7 +2,7 @@
 
 ghost use Rattle.std.specs.Prelude.{◌<◌};
 
-use crate::asking::{disks_for, numbered};
+use super::asking::{disks_for, numbered};
 use rr_audit::{Verdict, examine};
 use rr_locked::Open;
 use rr_script::Script;

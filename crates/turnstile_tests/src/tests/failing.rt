@@ -1,6 +1,6 @@
 //! Runs in which the disk of a node fails while the others go on.
 
-use crate::asking::{Shared, askers, claims, numbered};
+use super::asking::{Shared, askers, claims, numbered};
 use rr_disk::{AreaFile, FileDisk};
 use rr_locked::{Open, Place, Turnstile};
 use rr_script::{Answers, Script};

@@ -1,0 +1,4 @@
+mod asking;
+mod failing;
+mod nodes;
+mod taped;
