@@ -9,8 +9,8 @@ ghost use Rattle.rr_draw.specs.Pictures.{element, title_of, Adds, ShowsAll, IsPi
 use crate::cut::Cut;
 use crate::drawing::{Art, Drawing};
 use crate::escape::push_escaped;
-use rr_sim::{Cluster, decided_list};
-use rr_stream::{Sink, tell_step};
+use rr_sim::{Cluster, decided_list, tell_read};
+use rr_stream::Sink;
 use rr_text::Event;
 use rr_text::text_parse::{first_line, next_event};
 use rr_text::text_report::push_decided_list;
@@ -120,8 +120,7 @@ fn draw_events<O: Sink>(
     let mut line = 2u64;
     let mut rest = bytes;
     while let Some((event, behind)) = next_event(alloc, nodes, rest, line)? {
-        let read = bytes.len().saturating_sub(rest.len());
-        tell_step(line, read as u64, bytes.len() as u64, out);
+        tell_read(line, rest, bytes, out);
         cluster.step(alloc, line, &event)?;
         let mut told = Vec::new(alloc);
         cluster.tell(&mut told)?;
@@ -150,12 +149,11 @@ fn picture_behind<O: Sink>(
     cut: &Cut,
     out: &mut O,
 ) -> Result<Vec<u8>, Refusal>
-    requires some { 1 ≤ nodes }
-    requires few { nodes ≤ 7 }
     ensures ok { IfOk result (λ text. IsPictureOf cut.now (nodes_line nodes ++ bytes.now) text.items) }
     ensures err { IfErr result (λ e. IsStop (IsEvent nodes) event_line bytes.now e) }
     ensures unprinted { O.printing out.new ≡ O.printing out.old }
 {
+    let _count = nodes.count();
     let mut cluster = Cluster::new(alloc, nodes)?;
     let mut drawing = written(Drawing::new(alloc, nodes))?;
     let mut report = Vec::new(alloc);
@@ -196,7 +194,6 @@ pub fn picture_of<O: Sink>(
     match first_line(bytes) {
         Err(refusal) => Err(refusal),
         Ok((nodes, rest)) => {
-            let _count = nodes.count();
             let picture = picture_behind(alloc, nodes, rest, cut, out);
             out.tell_progress(1, 1);
             picture

@@ -15,5 +15,5 @@ pub use drawing::{MAX_STEPS, random};
 pub use random_text::random_run;
 pub use rr_node::Stance;
 pub use rr_text::{Binding, BoundNames, Event, Fill, MAX_EVENTS, Report, ReportLine, Schedule};
-pub use simulator::{first_fault, node_of, nodes_after, simulate};
-pub use telling::report_on;
+pub use simulator::{accepted, node_of, nodes_after, simulate};
+pub use telling::{report_on, tell_read};

@@ -1,6 +1,6 @@
 //! The simulator: a schedule in, the report of its run out.
 
-ghost use Rattle.std.specs.Prelude.{◌≡◌, ◌↔◌, ◌<◌, ◌≤◌, ◌⊎◌, ℕ, length, Some, OnOk, IfOk, IfErr, IsErrOf};
+ghost use Rattle.std.specs.Prelude.{◌≡◌, ◌↔◌, ◌<◌, ◌≤◌, ◌⊎◌, ℕ, length, None, Some, OnOk, IsOk, IfOk, IfErr, IsErrOf};
 ghost use Rattle.rr_sim.specs.Clusters as cluster;
 ghost use Rattle.std.specs.List.{AllByRecursion};
 ghost use Rattle.rr_sim.specs.Clusters.{first_fault, Leads, LeadsSpelt, IsOnlyOneIfClean, new_cluster};
@@ -21,7 +21,6 @@ use std::alloc::Global;
 /// # Errors
 /// `BadNodes` outside 1 to 7; `BadEvent` of the line of the first event whose node isn't there; `OutOfMemory` where the
 /// wire or the report can't grow. On as many nodes as the schedule has, only `OutOfMemory` is possible.
-#[tactic(auto, using(crate::proofs::ScheduleLaws::no_fault))]
 pub fn simulate(alloc: Global, nodes: u8, schedule: &Schedule) -> Result<Report, Refusal>
     ensures bad_nodes { IsErrOf result Refusal.BadNodes ↔ ((nodes < 1) ⊎ (7 < nodes)) }
     ensures bad_event { (line : ℕ) → IsErrOf result (Refusal.BadEvent line)
@@ -33,19 +32,12 @@ pub fn simulate(alloc: Global, nodes: u8, schedule: &Schedule) -> Result<Report,
     ensures own { nodes ≡ schedule.now.nodes → IfErr result (λ e. e ≡ Refusal.OutOfMemory) }
     ensures else_memory { IfErr result (λ e. (e ≡ Refusal.OutOfMemory) ⊎ (e ≡ Refusal.BadNodes) ⊎ ((line : ℕ) × (e ≡ Refusal.BadEvent line))) }
 {
-    let events = schedule.events();
-    match Nodes::new(nodes) {
-        Err(refusal) => Err(refusal),
-        Ok(count) => match first_fault(count, events) {
-            Some(line) => Err(Refusal::BadEvent(line)),
-            None => run(alloc, count, events),
-        },
-    }
+    let count = accepted(nodes, schedule)?;
+    run(alloc, count, schedule.events())
 }
 
 /// Runs a schedule as `simulate` does, and gives the nodes after its last event, with their disks.
 /// The errors are those of `simulate`.
-#[tactic(auto, using(crate::proofs::ScheduleLaws::no_fault))]
 pub fn nodes_after(alloc: Global, nodes: u8, schedule: &Schedule) -> Result<Vec<Node>, Refusal>
     ensures bad_nodes { IsErrOf result Refusal.BadNodes ↔ ((nodes < 1) ⊎ (7 < nodes)) }
     ensures bad_event { (line : ℕ) → IsErrOf result (Refusal.BadEvent line)
@@ -54,18 +46,35 @@ pub fn nodes_after(alloc: Global, nodes: u8, schedule: &Schedule) -> Result<Vec<
     ensures own { nodes ≡ schedule.now.nodes → IfErr result (λ e. e ≡ Refusal.OutOfMemory) }
     ensures else_memory { IfErr result (λ e. (e ≡ Refusal.OutOfMemory) ⊎ (e ≡ Refusal.BadNodes) ⊎ ((line : ℕ) × (e ≡ Refusal.BadEvent line))) }
 {
+    let count = accepted(nodes, schedule)?;
+    Ok(cluster_after(alloc, count, schedule.events())?.into_nodes())
+}
+
+/// The nodes of a run of the schedule: `nodes` is 1 to 7, and each event is at one of them.
+///
+/// # Errors
+/// `BadNodes` outside 1 to 7; else `BadEvent` of the line of the first event whose node isn't there. On as many nodes as the
+/// schedule has there is no error.
+#[tactic(auto, using(crate::proofs::ScheduleLaws::no_fault))]
+pub fn accepted(nodes: u8, schedule: &Schedule) -> Result<Nodes, Refusal>
+    ensures valid { IsOk result ↔ ((1 ≤ nodes) × (nodes ≤ 7) × (first_fault nodes 2 schedule.now.events ≡ None)) }
+    ensures value { IfOk result (λ count. count ≡ nodes) }
+    ensures bad_nodes { IsErrOf result Refusal.BadNodes ↔ ((nodes < 1) ⊎ (7 < nodes)) }
+    ensures bad_event { (line : ℕ) → IsErrOf result (Refusal.BadEvent line)
+        ↔ ((1 ≤ nodes) × (nodes ≤ 7) × (first_fault nodes 2 schedule.now.events ≡ Some line)) }
+    ensures own { nodes ≡ schedule.now.nodes → IsOk result }
+    ensures refused { IfErr result (λ e. (e ≡ Refusal.BadNodes) ⊎ ((line : ℕ) × (e ≡ Refusal.BadEvent line))) }
+{
     let events = schedule.events();
-    match Nodes::new(nodes) {
-        Err(refusal) => Err(refusal),
-        Ok(count) => match first_fault(count, events) {
-            Some(line) => Err(Refusal::BadEvent(line)),
-            None => Ok(cluster_after(alloc, count, events)?.into_nodes()),
-        },
+    let count = Nodes::new(nodes)?;
+    match first_fault(count, events) {
+        Some(line) => Err(Refusal::BadEvent(line)),
+        None => Ok(count),
     }
 }
 
 /// The line of the first event whose node isn't there.
-pub fn first_fault(nodes: Nodes, events: &[Event]) -> Option<u64>
+fn first_fault(nodes: Nodes, events: &[Event]) -> Option<u64>
     requires { length events.now ≤ 1000000 }
     ensures { result ≡ first_fault nodes 2 events.now }
 {

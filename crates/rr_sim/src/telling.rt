@@ -14,6 +14,15 @@ use rr_text::text_report::push_decided_list;
 use rr_types::{Nodes, Refusal};
 use std::alloc::Global;
 
+/// Tells the sink how far a run is that reads its events from the bytes: it is at this line, with the rest to read. The sink
+/// takes nothing.
+pub fn tell_read<O: Sink>(line: u64, rest: &[u8], bytes: &[u8], out: &mut O)
+    ensures { O.printing out.new ≡ O.printing out.old }
+{
+    let read = bytes.len().saturating_sub(rest.len());
+    tell_step(line, read as u64, bytes.len() as u64, out);
+}
+
 /// Makes the events of the lines, appends what the report has of them to the text, and tells the sink how far it is.
 fn tell_events<O: Sink>(
     alloc: Global,
@@ -31,8 +40,7 @@ fn tell_events<O: Sink>(
     let mut line = 2u64;
     let mut rest = bytes;
     while let Some((event, behind)) = next_event(alloc, nodes, rest, line)? {
-        let read = bytes.len().saturating_sub(rest.len());
-        tell_step(line, read as u64, bytes.len() as u64, out);
+        tell_read(line, rest, bytes, out);
         cluster.step(alloc, line, &event)?;
         cluster.tell(text)?;
         rest = behind;
@@ -49,12 +57,11 @@ fn report_behind<O: Sink>(
     bytes: &[u8],
     out: &mut O,
 ) -> Result<Vec<u8>, Refusal>
-    requires some { 1 ≤ nodes }
-    requires few { nodes ≤ 7 }
     ensures ok { IfOk result (λ text. IsReportOn (nodes_line nodes ++ bytes.now) text.items) }
     ensures err { IfErr result (λ e. IsStop (IsEvent nodes) event_line bytes.now e) }
     ensures unprinted { O.printing out.new ≡ O.printing out.old }
 {
+    let _count = nodes.count();
     let mut cluster = Cluster::new(alloc, nodes)?;
     let mut text = Vec::new(alloc);
     tell_events(alloc, nodes, bytes, &mut cluster, &mut text, out)?;
@@ -77,7 +84,6 @@ pub fn report_on<O: Sink>(alloc: Global, bytes: &[u8], out: &mut O) -> Result<Ve
     match first_line(bytes) {
         Err(refusal) => Err(refusal),
         Ok((nodes, rest)) => {
-            let _count = nodes.count();
             let report = report_behind(alloc, nodes, rest, out);
             out.tell_progress(1, 1);
             report

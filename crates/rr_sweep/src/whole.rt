@@ -7,7 +7,7 @@ ghost use Rattle.rr_sim.specs.Clusters.{first_fault};
 ghost use Rattle.rr_sweep.specs.Sweeps.{IsSweep};
 
 use crate::sweeping::{SweepLine, Sweeping};
-use rr_sim::{Event, Schedule, first_fault};
+use rr_sim::{Event, Schedule, accepted};
 use rr_types::{Nodes, Refusal};
 use std::alloc::Global;
 
@@ -45,16 +45,11 @@ pub fn sweep(
     ensures lines { IfOk result (λ lines. IsSweep nodes schedule.now.events seed lines.items) }
     ensures else_memory { IfErr result (λ e. (e ≡ Refusal.OutOfMemory) ⊎ (e ≡ Refusal.BadNodes) ⊎ ((line : ℕ) × (e ≡ Refusal.BadEvent line))) }
 {
+    let count = accepted(nodes, schedule)?;
     let events = schedule.events();
-    match Nodes::new(nodes) {
-        Err(refusal) => Err(refusal),
-        Ok(count) => match first_fault(count, events) {
-            Some(line) => Err(Refusal::BadEvent(line)),
-            None => match swept_too_far(events) {
-                Some(refusal) => Err(refusal),
-                None => sweep_events(alloc, count, events, seed),
-            },
-        },
+    match swept_too_far(events) {
+        Some(refusal) => Err(refusal),
+        None => sweep_events(alloc, count, events, seed),
     }
 }
 

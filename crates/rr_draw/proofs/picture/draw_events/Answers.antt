@@ -15,7 +15,7 @@ loop-elements-preserved-in_ok-draw_event g c =
       shown = shown_more c.args.nodes c.args.bytes.now c.args.cut.now c.args.cluster.now c.args.report.now.items c.loop-elements.line _ c.loop-elements.rest.now c.in-Some.behind.now c.loop-elements.cluster c.step.new.self c.tell.new.self
           c.loop-elements.report.items c.push_bytes.new.out.items c.tell.new.text.items c.loop-elements.elements.items c.draw_event.new.elements.items c.in-Some.event
           c.loop-elements.invariant.shown (search rules) c.in_ok-step.ensures.ok c.in_ok-step.ensures.spelt c.in_ok-tell.ensures.kept (search rules) (search rules) refl (search rules);
-      unprinted = c.tell_step.ensures ∙ c.loop-elements.invariant.unprinted;
+      unprinted = c.tell_read.ensures ∙ c.loop-elements.invariant.unprinted;
     }
 
 pub loop-elements-preserved-in_ok-draw_event-2 : goal.loop-elements-preserved-in_ok-draw_event-2
@@ -24,7 +24,7 @@ loop-elements-preserved-in_ok-draw_event-2 g c =
       shown = shown_more c.args.nodes c.args.bytes.now c.args.cut.now c.args.cluster.now c.args.report.now.items c.loop-elements.line _ c.loop-elements.rest.now c.in-Some.behind.now c.loop-elements.cluster c.step.new.self c.tell.new.self
           c.loop-elements.report.items c.push_bytes.new.out.items c.tell.new.text.items c.loop-elements.elements.items c.draw_event.new.elements.items c.in-Some.event
           c.loop-elements.invariant.shown (search rules) c.in_ok-step.ensures.ok c.in_ok-step.ensures.spelt c.in_ok-tell.ensures.kept (search rules) (search rules) refl (search rules);
-      unprinted = c.tell_step.ensures ∙ c.loop-elements.invariant.unprinted;
+      unprinted = c.tell_read.ensures ∙ c.loop-elements.invariant.unprinted;
     }
 
 pub loop-elements-preserved : goal.loop-elements-preserved
@@ -33,7 +33,7 @@ loop-elements-preserved g c =
       shown = shown_more c.args.nodes c.args.bytes.now c.args.cut.now c.args.cluster.now c.args.report.now.items c.loop-elements.line _ c.loop-elements.rest.now c.in-Some.behind.now c.loop-elements.cluster c.step.new.self c.tell.new.self
           c.loop-elements.report.items c.push_bytes.new.out.items c.tell.new.text.items c.loop-elements.elements.items c.draw_event.new.elements.items c.in-Some.event
           c.loop-elements.invariant.shown (search rules) c.in_ok-step.ensures.ok c.in_ok-step.ensures.spelt c.in_ok-tell.ensures.kept (search rules) (search rules) refl (search rules);
-      unprinted = c.tell_step.ensures ∙ c.loop-elements.invariant.unprinted;
+      unprinted = c.tell_read.ensures ∙ c.loop-elements.invariant.unprinted;
     }
 
 pub returns-clause-ok : goal.returns-clause-ok

@@ -1,4 +1,5 @@
 use Rattle.std.proofs.Common.{sym, subst, List}
+use Rattle.std.proofs.lemmas.Result.{err_from_is_err_and}
 use Rattle.std.specs.List.{AllByRecursion}
 use Rattle.rr_text.specs.declared.event.Event.{Event}
 use Rattle.rr_text.specs.Scheduled.{IsEvent}
@@ -10,13 +11,23 @@ use Rattle.rr_sim.proofs.simulator.simulate.Goals as goal
 pub run-requires-clause-ranges : goal.run-requires-clause-ranges
 run-requires-clause-ranges c =
     let schedule = c.args.schedule.now in
-    (schedule.nodes, subst (λ (es : List Event). AllByRecursion (IsEvent schedule.nodes) es) (sym c.events-events.ensures.value) c.events-events.ensures.valid.each)
+    (schedule.nodes, subst (λ (es : List Event). AllByRecursion (IsEvent schedule.nodes) es) (sym c.events.ensures.value) c.events.ensures.valid.each)
 
-pub returns-in-None-clause-one_list : goal.returns-in-None-clause-one_list
-returns-in-None-clause-one_list c = run_agrees c.in-Ok.count c.events-events.result.now c.args.schedule.now.events c.run.result c.events-events.ensures.value c.run.ensures.world
+pub returns-clause-one_list : goal.returns-clause-one_list
+returns-clause-one_list c = run_agrees c.in_ok-count.count c.events.result.now c.args.schedule.now.events c.run.result c.events.ensures.value c.run.ensures.world
 
-pub returns-in-None-clause-real_time : goal.returns-in-None-clause-real_time
-returns-in-None-clause-real_time c = run_keeps_real_time c.in-Ok.count c.args.nodes c.events-events.result.now c.args.schedule.now.events c.run.result c.in-Ok.ensures.value c.events-events.ensures.value c.run.ensures.world
+pub returns-clause-real_time : goal.returns-clause-real_time
+returns-clause-real_time c = run_keeps_real_time c.in_ok-count.count c.args.nodes c.events.result.now c.args.schedule.now.events c.run.result c.in_ok-count.ensures.value c.events.ensures.value c.run.ensures.world
 
-pub returns-in-None-clause-clean : goal.returns-in-None-clause-clean
-returns-in-None-clause-clean c = is_only_one c.in-Ok.count c.args.nodes c.events-events.result.now c.args.schedule.now.events c.run.result c.in-Ok.ensures.value c.events-events.ensures.value c.run.ensures.world
+pub returns-clause-clean : goal.returns-clause-clean
+returns-clause-clean c = is_only_one c.in_ok-count.count c.args.nodes c.events.result.now c.args.schedule.now.events c.run.result c.in_ok-count.ensures.value c.events.ensures.value c.run.ensures.world
+
+pub returns-in_err-count-clause-bad_event : goal.returns-in_err-count-clause-bad_event
+returns-in_err-count-clause-bad_event c =
+    let p = err_from_is_err_and c.from_residual.result c.from_residual.ensures.1 in
+    rw (p.1, p.2) (λ line.
+    let exact = c.in_err-count.ensures.bad_event line in
+    (λ is. exact.0 (let same = is in cc), λ there. let same = exact.1 there in cc))
+
+pub returns-in_err-count-clause-own : goal.returns-in_err-count-clause-own
+returns-in_err-count-clause-own c = λ same. let ok = c.in_err-count.ensures.own same in absurd cc

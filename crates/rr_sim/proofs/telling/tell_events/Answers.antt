@@ -14,7 +14,7 @@ loop-event-preserved-in_ok-tell g c =
     record {
       told = told_more c.args.nodes c.args.bytes.now c.args.cluster.now c.args.text.now.items c.loop-event.line _ c.loop-event.rest.now c.in-Some.behind.now c.loop-event.cluster c.step.new.self c.tell.new.self c.loop-event.text.items c.tell.new.text.items c.in-Some.event
           c.loop-event.invariant.told (search rules) c.in_ok-step.ensures.ok c.in_ok-step.ensures.spelt c.in_ok-tell.ensures.kept c.in_ok-tell.ensures.told refl;
-      unprinted = c.tell_step.ensures ∙ c.loop-event.invariant.unprinted;
+      unprinted = c.tell_read.ensures ∙ c.loop-event.invariant.unprinted;
     }
 
 pub loop-event-preserved-in_ok-tell-2 : goal.loop-event-preserved-in_ok-tell-2
@@ -22,7 +22,7 @@ loop-event-preserved-in_ok-tell-2 g c =
     record {
       told = told_more c.args.nodes c.args.bytes.now c.args.cluster.now c.args.text.now.items c.loop-event.line _ c.loop-event.rest.now c.in-Some.behind.now c.loop-event.cluster c.step.new.self c.tell.new.self c.loop-event.text.items c.tell.new.text.items c.in-Some.event
           c.loop-event.invariant.told (search rules) c.in_ok-step.ensures.ok c.in_ok-step.ensures.spelt c.in_ok-tell.ensures.kept c.in_ok-tell.ensures.told refl;
-      unprinted = c.tell_step.ensures ∙ c.loop-event.invariant.unprinted;
+      unprinted = c.tell_read.ensures ∙ c.loop-event.invariant.unprinted;
     }
 
 pub loop-event-preserved : goal.loop-event-preserved
@@ -30,7 +30,7 @@ loop-event-preserved g c =
     record {
       told = told_more c.args.nodes c.args.bytes.now c.args.cluster.now c.args.text.now.items c.loop-event.line _ c.loop-event.rest.now c.in-Some.behind.now c.loop-event.cluster c.step.new.self c.tell.new.self c.loop-event.text.items c.tell.new.text.items c.in-Some.event
           c.loop-event.invariant.told (search rules) c.in_ok-step.ensures.ok c.in_ok-step.ensures.spelt c.in_ok-tell.ensures.kept c.in_ok-tell.ensures.told refl;
-      unprinted = c.tell_step.ensures ∙ c.loop-event.invariant.unprinted;
+      unprinted = c.tell_read.ensures ∙ c.loop-event.invariant.unprinted;
     }
 
 pub returns-clause-ok : goal.returns-clause-ok
