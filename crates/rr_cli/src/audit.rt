@@ -9,7 +9,7 @@ ghost use Rattle.rr_audit.specs.AuditTexts.{IsVerdictOn};
 ghost use Rattle.rr_cli.specs.Tapes.{yes_text};
 ghost use Rattle.rr_cli.specs.Ends.{EndsOnTape, EndsOnInput, EndsOnFile};
 
-use crate::refusals::{end_by_refusal, end_by_tape_fault};
+use crate::refusals::{TextKind, end_by_fault, end_by_refusal};
 use crate::streams::{end_by_stream, end_by_text};
 use rr_audit::{Given, Verdict, audit_on};
 use rr_stream::{Counted, Sink, Source, read_all};
@@ -68,7 +68,7 @@ fn audit_bytes<O: Sink, E: Write>(
 {
     match audit_on(alloc, bytes, out) {
         Ok(verdict) => end_by_verdict(alloc, bytes, verdict, out, err),
-        Err(refusal) => end_by_tape_fault(err, name, bytes, &refusal),
+        Err(refusal) => end_by_fault(err, TextKind::Tape, name, bytes, &refusal),
     }
 }
 

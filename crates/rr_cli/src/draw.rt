@@ -8,7 +8,7 @@ ghost use Rattle.rr_cli.specs.Ends.{EndsOnDraw, EndsOnWords};
 
 use crate::refusals::end_by_refusal;
 use crate::streams::end_by_text;
-use rr_lively::{DEFAULT_FAULTS, lively_run, lively_schedule};
+use rr_lively::{DEFAULT_FAULTS, Recipe, lively_run, lively_schedule};
 use rr_sim::{MAX_STEPS, random, random_run};
 use rr_stream::Sink;
 use rr_types::{Nodes, Refusal};
@@ -151,10 +151,16 @@ fn lively_text<O: Sink>(
     ensures err { IfErr result (λ e. e ≡ Refusal.OutOfMemory) }
     ensures unprinted { O.printing out.new ≡ O.printing out.old }
 {
+    let recipe = Recipe {
+        nodes: draw.nodes,
+        seed: draw.seed,
+        steps: draw.steps,
+        faults,
+    };
     if draw.alone {
-        lively_schedule(alloc, draw.nodes, draw.seed, draw.steps, faults, out)
+        lively_schedule(alloc, recipe, out)
     } else {
-        lively_run(alloc, draw.nodes, draw.seed, draw.steps, faults, out)
+        lively_run(alloc, recipe, out)
     }
 }
 

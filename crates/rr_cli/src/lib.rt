@@ -19,7 +19,7 @@ pub use draw::{nodes_of, number_in};
 pub use folder_faults::print_folder_fault;
 pub use migrate::migrate_disk;
 pub use program::{execute, run};
-pub use refusals::{end_by_refusal, end_by_schedule_fault, print_refusal, status};
+pub use refusals::{TextKind, end_by_fault, end_by_refusal, print_refusal, status};
 pub use rr_audit::audit_on;
 pub use rr_sim::{random_run, report_on};
 pub use rr_words::{CutWords, DrawWords, Form, Task, View, read_words};

@@ -8,7 +8,7 @@ ghost use Rattle.rr_cli.specs.Ends.{EndsOnPicture, EndsOnCut, EndsOnInput, EndsO
 ghost use Rattle.rr_words.specs.Tasks.{cut_words_in};
 
 use crate::draw::number_in;
-use crate::refusals::end_by_schedule_fault;
+use crate::refusals::{TextKind, end_by_fault};
 use crate::streams::{end_by_stream, end_by_text};
 use rr_draw::{Cut, picture_of};
 use rr_stream::{Counted, Sink, Source, read_all};
@@ -145,7 +145,7 @@ fn print_picture<O: Sink, E: Write>(
 {
     match picture_of(alloc, bytes, cut, out) {
         Ok(text) => end_by_text(out, err, text.as_slice()),
-        Err(refusal) => end_by_schedule_fault(err, name, bytes, &refusal),
+        Err(refusal) => end_by_fault(err, TextKind::Schedule, name, bytes, &refusal),
     }
 }
 

@@ -11,7 +11,7 @@ use crate::audit::{audit_file, audit_input};
 use crate::draw::draw_by_words;
 use crate::migrate::migrate_by_words;
 use crate::picture::{picture_file, picture_input};
-use crate::refusals::end_by_schedule_fault;
+use crate::refusals::{TextKind, end_by_fault};
 use crate::show::{end_without_folder, show_folder};
 use crate::streams::{
     end_by_stream, end_by_text, end_without_shell, end_without_threads, end_without_views,
@@ -45,7 +45,7 @@ fn simulate_input<I: Source, O: Sink, E: Write>(
     };
     match report_on(alloc, bytes.as_slice(), out) {
         Ok(text) => end_by_text(out, err, text.as_slice()),
-        Err(refusal) => end_by_schedule_fault(err, name, bytes.as_slice(), &refusal),
+        Err(refusal) => end_by_fault(err, TextKind::Schedule, name, bytes.as_slice(), &refusal),
     }
 }
 

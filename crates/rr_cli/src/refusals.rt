@@ -50,23 +50,17 @@ pub fn end_by_refusal<E: Write>(err: &mut E, refusal: &Refusal) -> u8
     status(refusal)
 }
 
-/// Ends by the refusal of a schedule of this name. A second line tells people where it is at fault and why.
-pub fn end_by_schedule_fault<E: Write>(
-    err: &mut E,
-    name: &str,
-    bytes: &[u8],
-    refusal: &Refusal,
-) -> u8
-    ensures { result ≡ status_of refusal.now }
-{
-    let ending = end_by_refusal(err, refusal);
-    let _ = print_schedule_fault(err, name, bytes, refusal);
-    ending
+/// What a text was read as.
+#[derive(Clone, Copy, Debug)]
+pub enum TextKind {
+    Schedule,
+    Tape,
 }
 
-// The same of a tape.
-pub(crate) fn end_by_tape_fault<E: Write>(
+/// Ends by the refusal of a text of this kind and name. A second line tells people where it is at fault and why.
+pub fn end_by_fault<E: Write>(
     err: &mut E,
+    kind: TextKind,
     name: &str,
     bytes: &[u8],
     refusal: &Refusal,
@@ -74,6 +68,9 @@ pub(crate) fn end_by_tape_fault<E: Write>(
     ensures { result ≡ status_of refusal.now }
 {
     let ending = end_by_refusal(err, refusal);
-    let _ = print_tape_fault(err, name, bytes, refusal);
+    let _ = match kind {
+        TextKind::Schedule => print_schedule_fault(err, name, bytes, refusal),
+        TextKind::Tape => print_tape_fault(err, name, bytes, refusal),
+    };
     ending
 }

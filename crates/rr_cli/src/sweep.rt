@@ -12,7 +12,7 @@ ghost use Rattle.rr_cli.specs.Refusals.{status_of};
 ghost use Rattle.rr_cli.specs.Sweeping.{IsPrintedBy, StopsSweep, StopsAtEvent, StopsPrinting};
 
 use crate::draw::number_in;
-use crate::refusals::{end_by_refusal, end_by_schedule_fault};
+use crate::refusals::{TextKind, end_by_fault, end_by_refusal};
 use crate::streams::{end_by_stream, end_by_text, end_by_unprinted};
 use rr_stream::{Counted, Sink, Source, print_all, read_all};
 use rr_sweep::{MAX_SWEPT_EVENTS, SweepLine, Sweeping, push_sweep_lines, swept_too_far};
@@ -104,7 +104,7 @@ fn sweep_bytes<O: Sink, E: Write>(
             Some(refusal) => end_too_far(err, name, &refusal),
             None => sweep_schedule(alloc, &schedule, seed, out, err),
         },
-        Err(refusal) => end_by_schedule_fault(err, name, bytes, &refusal),
+        Err(refusal) => end_by_fault(err, TextKind::Schedule, name, bytes, &refusal),
     }
 }
 

@@ -11,4 +11,4 @@ mod memory;
 mod run;
 mod stances;
 
-pub use lively::{DEFAULT_FAULTS, lively_run, lively_schedule};
+pub use lively::{DEFAULT_FAULTS, Recipe, lively_run, lively_schedule};

@@ -17,6 +17,16 @@ use std::alloc::Global;
 /// How many steps in a thousand have a fault where nothing else is asked for.
 pub const DEFAULT_FAULTS: u32 = 10;
 
+/// What a lively schedule is drawn by: how many nodes it has, the seed of its words, how many steps are drawn, and how many
+/// in a thousand of them have a fault.
+#[derive(Clone, Copy, Debug)]
+pub struct Recipe {
+    pub nodes: Nodes,
+    pub seed: u64,
+    pub steps: u32,
+    pub faults: u32,
+}
+
 /// The device calls of an opening that formats its disk.
 const CALLS_OF_AN_OPENING: u32 = 9;
 
@@ -106,20 +116,19 @@ fn go_on(
 }
 
 /// A lively schedule as it is drawn, with its run. The sink is told how far it is.
-fn drawn_run<O: Sink>(
-    alloc: Global,
-    nodes: Nodes,
-    seed: u64,
-    steps: u32,
-    faults: u32,
-    out: &mut O,
-) -> Result<Run, Refusal>
-    requires { steps ≤ 999930 }
-    ensures so_far { IfOk result (λ run. IsSoFar nodes run.line run.cluster run.schedule.items run.report.items) }
-    ensures line { IfOk result (λ run. run.line ≤ 2 + 10 * nodes + steps) }
+fn drawn_run<O: Sink>(alloc: Global, recipe: Recipe, out: &mut O) -> Result<Run, Refusal>
+    requires { recipe.steps ≤ 999930 }
+    ensures so_far { IfOk result (λ run. IsSoFar recipe.nodes run.line run.cluster run.schedule.items run.report.items) }
+    ensures line { IfOk result (λ run. run.line ≤ 2 + 10 * recipe.nodes + recipe.steps) }
     ensures err { IfErr result (λ e. e ≡ Refusal.OutOfMemory) }
     ensures unprinted { O.printing out.new ≡ O.printing out.old }
 {
+    let Recipe {
+        nodes,
+        seed,
+        steps,
+        faults,
+    } = recipe;
     let mut run = Run::new(alloc, nodes)?;
     open_all(alloc, nodes, &mut run)?;
     let mut drawing = Drawing::new(alloc, nodes)?;
@@ -134,48 +143,11 @@ fn drawn_run<O: Sink>(
 
 /// The text of a lively schedule, a line `report`, and the text of the report of its run. After the openings of the
 /// nodes, each step draws an event among those that do something at that moment. `faults` steps in a thousand draw a
-/// crash within a device call, a failing call, a suspicion or the like. The same words give the same text. Those who
+/// crash within a device call, a failing call, a suspicion or the like. The same recipe gives the same text. Those who
 /// watch `out` are told how far it is; `out` takes nothing.
 ///
 /// # Errors
 /// `OutOfMemory`, also where memory runs out for an event of the run.
-pub fn lively_run<O: Sink>(
-    alloc: Global,
-    nodes: Nodes,
-    seed: u64,
-    steps: u32,
-    faults: u32,
-    out: &mut O,
-) -> Result<Vec<u8>, Refusal>
-    requires { steps ≤ 999930 }
-    ensures ok { IfOk result (λ text. IsLively nodes steps text.items) }
-    ensures err { IfErr result (λ e. e ≡ Refusal.OutOfMemory) }
-    ensures unprinted { O.printing out.new ≡ O.printing out.old }
-{
-    let run = drawn_run(alloc, nodes, seed, steps, faults, out);
-    out.tell_progress(1, 1);
-    let text = run?.into_text(alloc, nodes)?;
-    Ok(text)
-}
-
-/// The text of that schedule alone.
-///
-/// # Errors
-/// `OutOfMemory`, also where memory runs out for an event of the run.
-pub fn lively_schedule<O: Sink>(
-    alloc: Global,
-    nodes: Nodes,
-    seed: u64,
-    steps: u32,
-    faults: u32,
-    out: &mut O,
-) -> Result<Vec<u8>, Refusal>
-    requires { steps ≤ 999930 }
-    ensures ok { IfOk result (λ text. IsLivelySchedule nodes steps text.items) }
-    ensures err { IfErr result (λ e. e ≡ Refusal.OutOfMemory) }
-    ensures unprinted { O.printing out.new ≡ O.printing out.old }
-{
-    let run = drawn_run(alloc, nodes, seed, steps, faults, out);
-    out.tell_progress(1, 1);
-    Ok(run?.into_schedule(nodes))
-}
+pub fn lively_run<O: Sink>(alloc: Global, recipe: Recipe, out: &mut O) -> Result<Vec<u8>, Refusal>
+    requires { recipe.steps ≤ 999930 }
+    ensures ok { IfOk result (λ text. IsLively recipe.nodes recipe.steps text.items) }

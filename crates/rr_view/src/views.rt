@@ -10,7 +10,7 @@ use rr_account::{
     Account, Difference, account_on, difference_of, explanation, json_explanation, json_report,
     json_statistics, push_difference, statistics_of, statistics_table,
 };
-use rr_cli::{Form, View, end_by_refusal, end_by_schedule_fault, end_by_text};
+use rr_cli::{Form, TextKind, View, end_by_fault, end_by_refusal, end_by_text};
 use rr_stream::{Sink, Source};
 use rr_types::Refusal;
 use std::alloc::Global;
@@ -67,7 +67,7 @@ fn show_bytes<O: Sink, E: Write>(
 {
     let account = match account_on(alloc, bytes, out) {
         Ok(account) => account,
-        Err(refusal) => return end_by_schedule_fault(err, name, bytes, &refusal),
+        Err(refusal) => return end_by_fault(err, TextKind::Schedule, name, bytes, &refusal),
     };
     match shown_text(alloc, how, &account) {
         Ok(text) => end_by_text(out, err, text.as_slice()),
@@ -130,7 +130,7 @@ fn compare_bytes<O: Sink, E: Write>(
 {
     let account = match account_on(alloc, bytes, out) {
         Ok(account) => account,
-        Err(refusal) => return end_by_schedule_fault(err, names.0, bytes, &refusal),
+        Err(refusal) => return end_by_fault(err, TextKind::Schedule, names.0, bytes, &refusal),
     };
     let report = match account.report().text(alloc) {
         Ok(report) => report,

@@ -1,6 +1,6 @@
 //! Lively schedules, told with the reports of their runs.
 
-use rr_lively::{DEFAULT_FAULTS, lively_run};
+use rr_lively::{DEFAULT_FAULTS, Recipe, lively_run};
 use rr_sim::report_on;
 use rr_stream::Counted;
 use rr_types::Nodes;
@@ -11,7 +11,13 @@ use std::process::Abort;
 fn drawn(rt: &impl Abort, alloc: Global, seed: u64, faults: u32) -> String {
     let nodes = Nodes::new(3).expect(rt, "nodes");
     let unwatched = &mut Counted::new(Vec::new(alloc));
-    let text = lively_run(alloc, nodes, seed, 1_000, faults, unwatched).expect(rt, "a schedule");
+    let recipe = Recipe {
+        nodes,
+        seed,
+        steps: 1_000,
+        faults,
+    };
+    let text = lively_run(alloc, recipe, unwatched).expect(rt, "a schedule");
     String::from_utf8(text).expect(rt, "a text")
 }
 

@@ -9,4 +9,4 @@ returns-in-Ok-clause-ends g c =
     pictured c.in-Ok.text.items c.in-Ok.ensures.ok (rw c.picture_of.ensures.unprinted at ends)
 
 pub returns-in-Err-clause-ends : goal.returns-in-Err-clause-ends
-returns-in-Err-clause-ends g c = unpictured c.in-Err.refusal c.in-Err.ensures.fault c.end_by_schedule_fault.ensures c.picture_of.ensures.unprinted
+returns-in-Err-clause-ends g c = unpictured c.in-Err.refusal c.in-Err.ensures.fault c.end_by_fault.ensures c.picture_of.ensures.unprinted

@@ -27,4 +27,4 @@ pub returns-clause-ends : goal.returns-clause-ends
 returns-clause-ends g c =
     let fault : IsFault IsEvent event_line c.in-Ok.bytes.items c.in-Err-report_on.refusal =
     subst (λ bytes. IsFault IsEvent event_line bytes c.in-Err-report_on.refusal) c.as_slice.ensures.value c.in-Err-report_on.ensures.fault in
-    read c.in-Ok.bytes.items c.in-Ok.ensures.all (refused c.in-Err-report_on.refusal fault c.end_by_schedule_fault.ensures c.report_on.ensures.unprinted)
+    read c.in-Ok.bytes.items c.in-Ok.ensures.all (refused c.in-Err-report_on.refusal fault c.end_by_fault.ensures c.report_on.ensures.unprinted)

@@ -13,4 +13,4 @@ pub returns-in-Ok-clause-ends : goal.returns-in-Ok-clause-ends
 returns-in-Ok-clause-ends g c = c.sweep_schedule.ensures.ends c.args.bytes.now c.in-Ok.ensures.found.0 c.in-Ok.ensures.found.1
 
 pub returns-clause-ends : goal.returns-clause-ends
-returns-clause-ends g c = faulty c.in-Err.refusal c.in-Err.ensures.fault c.end_by_schedule_fault.ensures refl
+returns-clause-ends g c = faulty c.in-Err.refusal c.in-Err.ensures.fault c.end_by_fault.ensures refl

@@ -8,7 +8,7 @@ use Rattle.rr_view.specs.Views.{same, other, refused}
 use Rattle.rr_view.proofs.views.compare_bytes.Goals as goal
 
 pub returns-in-Err-clause-ends : goal.returns-in-Err-clause-ends
-returns-in-Err-clause-ends g c = refused c.in-Err.refusal c.in-Err.ensures.fault c.end_by_schedule_fault.ensures c.account_on.ensures.unprinted
+returns-in-Err-clause-ends g c = refused c.in-Err.refusal c.in-Err.ensures.fault c.end_by_fault.ensures c.account_on.ensures.unprinted
 
 pub returns-in-Err-text-clause-ends : goal.returns-in-Err-text-clause-ends
 returns-in-Err-text-clause-ends g c =
