@@ -20,6 +20,8 @@ pub fn conclude(step: &mut Step<'_>, instance: Instance, command: Command) -> Re
     let number = step.next_number();
     let command = &command;
     step.stage(Fact::Decide(instance, *command))?;
+    // Whoever decides tells everyone, so a decision spreads although its coordinator crashes: the reliable broadcast
+    // of Chandra and Toueg (1996).
     step.owe_others(Body::Decision(instance, *command), Some(number))?;
     Ok(())
 }

@@ -41,14 +41,19 @@ fn due_of_coordinator(
     ensures moves { IfSome result (MovesBelowLast round) }
 {
     match proposal {
+        // Of a majority's estimates, that of the greatest stamp. If an earlier round could have decided, it is that
+        // round's command (Chandra and Toueg 1996, phase 2).
         None => match tally.pick(step.nodes()) {
             Some(command) => Some(Due::Offer(instance, round, command)),
             None => None,
         },
         Some(command) => {
+            // A majority has adopted the proposal on its disks. Each later coordinator hears one of these nodes (phase
+            // 4).
             if tally.is_acknowledged(step.nodes()) {
                 return Some(Due::Conclude(instance, command));
             }
+            // A majority has answered, and somebody refused. Waiting for more answers could last for ever.
             if tally.is_answered(step.nodes()) && round.number() < rr_types::MAX_ROUND {
                 Some(Due::MoveOn(instance))
             } else {
@@ -150,6 +155,8 @@ pub fn settle(step: &mut Step<'_>) -> Result<(), Refusal>
     ensures ok { OnOk result (step.new ≡ stepped settle step.old) }
     ensures err { IfErr result (λ e. e ≡ Refusal.OutOfMemory) }
 {
+    // A turn uses up one of an instance's steps, at most two a round. All instances together have 2^53, so the turns
+    // suffice.
     for turn in 0..TURNS {
         match find_due(step) {
             Some(due) => match carry_out(step, due) {

@@ -30,6 +30,8 @@ fn entering_estimate(
 {
     if let Some(standing) = step.standing(instance) {
         if let Standing::Open(at) = standing {
+            // Estimate and stamp outlive the round. They carry what a majority may have adopted into the rounds that
+            // follow (Chandra and Toueg 1996).
             return Some(Estimate::at(round, at.stamp(), at.estimate()));
         }
     }
@@ -54,6 +56,8 @@ fn leave_round(step: &mut Step<'_>, instance: Instance) -> Result<(), Refusal>
             Standing::Open(at) => {
                 let round = at.round();
                 let to = coordinator(round, step.nodes());
+                // A node that has adopted has acknowledged, and doesn't take that back. In a round it gives one of the
+                // two answers (Chandra and Toueg 1996, phase 3).
                 if at.stamp() < round.number() && to != step.node() {
                     step.owe(Body::Nack(instance, round), None, to)
                 } else {
@@ -72,6 +76,8 @@ fn enter_with(step: &mut Step<'_>, instance: Instance, estimate: Estimate) -> Re
 {
     let number = step.next_number();
     let to = coordinator(estimate.round(), step.nodes());
+    // The round is logged before the estimate leaves: a node that forgot it could answer in an earlier round after a
+    // restart (Aguilera, Chen and Toueg 2000).
     step.stage(Fact::Enter(instance, estimate))?;
     step.owe(Body::Estimate(instance, estimate), Some(number), to)
 }

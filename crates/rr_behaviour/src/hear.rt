@@ -49,6 +49,8 @@ fn acknowledge(
         Some(backing) => backing.adopted,
         None => 0,
     };
+    // It leaves once the adoption is on disk. Otherwise a crash could make the node forget what the coordinator has
+    // counted (Aguilera, Chen and Toueg 2000).
     step.owe(Body::Ack(instance, round), Some(adopted), to)
 }
 
@@ -67,6 +69,9 @@ fn take_proposal(
     if step.round(instance) != round.number() {
         return Ok(());
     }
+    // The estimate gets the round as its stamp when it is adopted, so a smaller stamp means: not adopted yet. A second
+    // copy of the proposal is only acknowledged again, since the first acknowledgement may be lost (Chandra and Toueg
+    // 1996, phase 3).
     if step.stamp(instance) < round.number() {
         step.stage(Fact::Adopt(instance, round, command))?;
     }

@@ -196,6 +196,7 @@ impl Job<BodySafe> {
             × EachHoldsEither (Holds self.nodes self.node) (D.areas journal.new.disk) facts self.group.facts
             × OnOk result (IsAt gate_set (Holds self.nodes self.node) self start facts (D.areas journal.new.disk)) }
     {
+        // The body is safe by now. Until this byte is written, an opening takes the body for free room.
         match write(journal, self.area, self.gate, &[OPEN_GATE]) {
             Ok(()) => Ok(self.next(GateSet)),
             Err(e) => {

@@ -34,6 +34,8 @@ impl Stage {
     pub fn first(closes: bool) -> Stage
         ensures { result ≡ first_stage closes }
     {
+        // An opening trusts the frame behind an open gate. So the gate is closed, and that made safe, before the frame
+        // is overwritten.
         if closes {
             Stage::Closing
         } else {

@@ -180,6 +180,7 @@ impl Row {
         self.standing = standing;
         self.backing = backing;
         match fact {
+            // The answers to a round don't count in the next one, and a decided instance needs none.
             Fact::Enter(..) | Fact::Decide(..) => self.tally.clear(),
             Fact::Propose(..) | Fact::Adopt(..) => {}
         }

@@ -131,6 +131,8 @@ impl State {
             waiting,
             owed,
         } = changes;
+        // What takes memory comes first, and is undone if a later part is refused. What follows the rows can't be
+        // refused.
         arrive(&mut self.pool, &mut self.waiting, &pooled, &waiting)?;
         match self.owed.owe_all(&owed) {
             Ok(()) => (),
