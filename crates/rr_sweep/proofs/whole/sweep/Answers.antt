@@ -14,6 +14,7 @@ returns-in_err-count-clause-bad_event c =
     let p = err_from_is_err_and c.from_residual.result c.from_residual.ensures.1 in
     let none = c.in_err-count.ensures.valid.1 in
     rw (p.1, p.2) (λ line.
-    let exact = c.in_err-count.ensures.bad_event line in
-    (λ is. let there = exact.0 (let same = is in cc) in (there.0, there.1, inl there.2),
-    λ there. elim there.2 [ inl h ↦ (let same = exact.1 (there.0, there.1, h) in cc) | inr h ↦ absurd (false≢true (none (there.0, there.1, h.0))) ]))
+    let exact = c.in_err-count.ensures.bad_event line in (
+      λ is. let there = exact.0 (let same = is in cc) in (there.0, there.1, inl there.2),
+      λ there. elim there.2 [ inl h ↦ (let same = exact.1 (there.0, there.1, h) in cc) | inr h ↦ absurd (false≢true (none (there.0, there.1, h.0))) ],
+    ))
