@@ -20,8 +20,9 @@ pub fn conclude(step: &mut Step<'_>, instance: Instance, command: Command) -> Re
     let number = step.next_number();
     let command = &command;
     step.stage(Fact::Decide(instance, *command))?;
-    // Whoever decides tells everyone, so a decision spreads although its coordinator crashes: the reliable broadcast
-    // of Chandra and Toueg (1996).
+    // Who decides tells every other node, as in the broadcast of Chandra and Toueg (1996). So a decision can spread
+    // although its coordinator crashes. Decisions may be lost and aren't restated: `answer` gives one to a node that
+    // asks, or sends an estimate.
     step.owe_others(Body::Decision(instance, *command), Some(number))?;
     Ok(())
 }

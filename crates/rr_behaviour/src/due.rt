@@ -48,8 +48,8 @@ fn due_of_coordinator(
             None => None,
         },
         Some(command) => {
-            // A majority has adopted the proposal on its disks. Each later coordinator hears one of these nodes (phase
-            // 4).
+            // A majority has adopted the proposal on their disks, so each later coordinator that proposes has heard
+            // one of these nodes. The rule is phase 4 of Chandra and Toueg (1996).
             if tally.is_acknowledged(step.nodes()) {
                 return Some(Due::Conclude(instance, command));
             }
@@ -155,8 +155,8 @@ pub fn settle(step: &mut Step<'_>) -> Result<(), Refusal>
     ensures ok { OnOk result (step.new ≡ stepped settle step.old) }
     ensures err { IfErr result (λ e. e ≡ Refusal.OutOfMemory) }
 {
-    // A turn uses up one of an instance's steps, at most two a round. All instances together have 2^53, so the turns
-    // suffice.
+    // A turn uses up one of an instance's steps, at most two a round. All instances together have at most 2^53, so the
+    // turns suffice.
     for turn in 0..TURNS {
         match find_due(step) {
             Some(due) => match carry_out(step, due) {

@@ -56,8 +56,9 @@ fn leave_round(step: &mut Step<'_>, instance: Instance) -> Result<(), Refusal>
             Standing::Open(at) => {
                 let round = at.round();
                 let to = coordinator(round, step.nodes());
-                // A node that has adopted has acknowledged, and doesn't take that back. In a round it gives one of the
-                // two answers (Chandra and Toueg 1996, phase 3).
+                // A node that has adopted owes its Ack, and sends no Nack after it. The other order may happen, unlike
+                // in Chandra and Toueg (1996): a Nack waits for no fact, and a crash may lose the entering of the next
+                // round.
                 if at.stamp() < round.number() && to != step.node() {
                     step.owe(Body::Nack(instance, round), None, to)
                 } else {
@@ -76,8 +77,8 @@ fn enter_with(step: &mut Step<'_>, instance: Instance, estimate: Estimate) -> Re
 {
     let number = step.next_number();
     let to = coordinator(estimate.round(), step.nodes());
-    // The round is logged before the estimate leaves: a node that forgot it could answer in an earlier round after a
-    // restart (Aguilera, Chen and Toueg 2000).
+    // The estimate leaves once its round is on disk. After a crash a node that forgot it could acknowledge an earlier
+    // round, although a later coordinator has counted its estimate (Aguilera, Chen and Toueg 2000).
     step.stage(Fact::Enter(instance, estimate))?;
     step.owe(Body::Estimate(instance, estimate), Some(number), to)
 }

@@ -69,9 +69,9 @@ fn take_proposal(
     if step.round(instance) != round.number() {
         return Ok(());
     }
-    // The estimate gets the round as its stamp when it is adopted, so a smaller stamp means: not adopted yet. A second
-    // copy of the proposal is only acknowledged again, since the first acknowledgement may be lost (Chandra and Toueg
-    // 1996, phase 3).
+    // Adoption stamps the estimate with its round, so a smaller stamp means: not adopted yet (Chandra and Toueg 1996,
+    // phase 3). A further copy is only acknowledged again. The first acknowledgement may be lost, or a coordinator
+    // that crashed has forgotten it (Aguilera, Chen and Toueg 2000).
     if step.stamp(instance) < round.number() {
         step.stage(Fact::Adopt(instance, round, command))?;
     }

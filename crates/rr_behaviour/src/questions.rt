@@ -28,7 +28,8 @@ pub fn ask_if_behind(step: &mut Step<'_>) -> Result<(), Refusal>
     match Instance::new(step.first_undecided()) {
         None => Ok(()),
         Some(first) => {
-            // A node that has decided restates nothing. So one that missed the decision has to ask for it.
+            // A node restates nothing of an instance that it has decided, and answers only an estimate or a question.
+            // So one that missed the decision asks for it.
             if step.round(first) > 0 || step.has_decided_above(first) {
                 step.owe_others(Body::Ask(first), None)
             } else {

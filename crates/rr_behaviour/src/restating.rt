@@ -96,8 +96,9 @@ pub fn restate_all(step: &mut Step<'_>, instances: &[Instance]) -> Result<(), Re
     ensures ok { OnOk result (step.new ≡ stepped (restate_all instances.now) step.old) }
     ensures err { IfErr result (λ e. e ≡ Refusal.OutOfMemory) }
 {
-    // Messages get lost, and a crash loses those that were owed. So they are sent again for as long as the instance is
-    // open: the retransmission of Aguilera, Chen and Toueg (2000).
+    // Messages get lost, and a crash loses those that were owed. So an estimate, an Ack or a proposal is owed again at
+    // each tick and after an opening, while its instance is open (after the retransmission of Aguilera, Chen and Toueg
+    // 2000).
     for instance in instances {
         restate(step, *instance)?;
     }

@@ -151,3 +151,30 @@ fn drawn_run<O: Sink>(alloc: Global, recipe: Recipe, out: &mut O) -> Result<Run,
 pub fn lively_run<O: Sink>(alloc: Global, recipe: Recipe, out: &mut O) -> Result<Vec<u8>, Refusal>
     requires { recipe.steps ≤ 999930 }
     ensures ok { IfOk result (λ text. IsLively recipe.nodes recipe.steps text.items) }
+    ensures err { IfErr result (λ e. e ≡ Refusal.OutOfMemory) }
+    ensures unprinted { O.printing out.new ≡ O.printing out.old }
+{
+    let run = drawn_run(alloc, recipe, out);
+    out.tell_progress(1, 1);
+    let text = run?.into_text(alloc, recipe.nodes)?;
+    Ok(text)
+}
+
+/// The text of that schedule alone.
+///
+/// # Errors
+/// `OutOfMemory`, also where memory runs out for an event of the run.
+pub fn lively_schedule<O: Sink>(
+    alloc: Global,
+    recipe: Recipe,
+    out: &mut O,
+) -> Result<Vec<u8>, Refusal>
+    requires { recipe.steps ≤ 999930 }
+    ensures ok { IfOk result (λ text. IsLivelySchedule recipe.nodes recipe.steps text.items) }
+    ensures err { IfErr result (λ e. e ≡ Refusal.OutOfMemory) }
+    ensures unprinted { O.printing out.new ≡ O.printing out.old }
+{
+    let run = drawn_run(alloc, recipe, out);
+    out.tell_progress(1, 1);
+    Ok(run?.into_schedule(recipe.nodes))
+}

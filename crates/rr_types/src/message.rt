@@ -18,7 +18,7 @@ pub enum Body {
     Decision(Instance, Command),
     /// A client asked the sender for this command.
     Request(Command),
-    /// Phase 3: the sender suspects the coordinator of this round and has left it.
+    /// Phase 3: the sender has left this round, and had adopted nothing in it. Free: no fact backs it.
     Nack(Instance, Round),
     /// The sender is up.
     Beat,
