@@ -19,7 +19,7 @@ PAGE = TOP / "docs" / "TOUR.md"
 HEAD = """# A tour
 
 What a new user does, with what `rr` prints. `docs/tour.py` runs these commands and makes this page, and the gate compares it with what they
-print then. A line `status N` is the exit status where it isn't 0. [FORMATS.md](FORMATS.md) has the texts and the bytes.
+print then. A line `status N` is the exit status, if it isn't 0. [FORMATS.md](FORMATS.md) has the texts and the bytes.
 """
 
 TOUR = [
@@ -34,8 +34,8 @@ TOUR = [
         ],
     ),
     (
-        "A run, and what is behind it",
-        "A schedule is run, and the report tells what came of it. `--explain` has a note on each event: why it was refused or came to nothing, too.",
+        "A run, and its explanation",
+        "`rr sim` runs a schedule and reports what happened. `--explain` adds a note on each event, also on one that was refused or did nothing.",
         [
             "rr sim examples/failed_write.schedule",
             "rr sim --explain examples/failed_write.schedule | sed -n '/line 27/,/line 31/p'",
@@ -45,8 +45,8 @@ TOUR = [
         ],
     ),
     (
-        "Counts, and comparing",
-        "`rr stats` counts what happens in a run. `rr check` compares its report with a text, and prints nothing where they are the same.",
+        "Counts, and a comparison",
+        "`rr stats` counts what happens in a run. `rr check` compares its report with a text, and prints nothing if they are the same.",
         [
             "rr stats examples/tie_of_two_commands.schedule",
             "rr stats --json lost.schedule",
@@ -56,7 +56,7 @@ TOUR = [
     ),
     (
         "Faults that explain",
-        "A first line for programs, and a second for people: where, what stands there, and what is expected.",
+        "A fault has a first line for programs, and a second for people: where it is, what stands there, and what is expected.",
         [
             "printf 'nodes 3\\nsubmit 0 7 1 klaim a x\\n' | rr sim",
             "printf 'nodes 3\\nsubmit 3 7 1 claim a x\\n' > far.schedule; rr sim --explain far.schedule",
@@ -66,7 +66,7 @@ TOUR = [
     ),
     (
         "Schedules that are drawn",
-        "Of a random schedule most events come to nothing. In a lively one something happens, and much is decided.",
+        "Most events of a random schedule do nothing. Those of a lively one do something, and much is decided.",
         [
             "rr random --seed 1 --steps 3 --nodes 1",
             "rr random --schedule-only --seed 1 --steps 2000 --nodes 3 | rr sim | grep '^decided'",
@@ -84,7 +84,7 @@ TOUR = [
     ),
     (
         "A registry to talk to",
-        "`rr shell` answers line by line, to a person or through a pipe. What it answered holds after a restart, and request numbers go on.",
+        "`rr shell` answers line by line, to a person or through a pipe. What it answered holds after a restart, and request numbers continue.",
         [
             "printf 'claim printer room-4\\nlook printer\\nupdate printer room-5\\nat 1\\nclaim printer\\nclaim A\\n' | rr shell --nodes 3 --dir talk --client 7",
             "printf 'look printer\\ntransfer printer 9\\nrelease printer\\n' | rr shell --nodes 3 --dir talk --client 7; cat talk/requests",
