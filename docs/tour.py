@@ -66,7 +66,7 @@ TOUR = [
     ),
     (
         "Schedules that are drawn",
-        "Most events of a random schedule do nothing. Those of a lively one do something, and much is decided.",
+        "Most events of a random schedule do nothing. Most of a lively one do something, and much is decided.",
         [
             "rr random --seed 1 --steps 3 --nodes 1",
             "rr random --schedule-only --seed 1 --steps 2000 --nodes 3 | rr sim | grep '^decided'",
