@@ -183,10 +183,14 @@ fn count_clients<D: Disk, C>(parts: &[(Part<D>, Vec<C>)]) -> usize {
 /// place.
 ///
 /// # Errors
-/// `BadNodes`, unless there are a disk and a place for clients for each node. Of several others the lowest node's: `OutOfMemory`; `Device`, where a device call failed; `Damaged`, of a disk that holds no
-/// facts; `TooLarge`, where a node's journal or its facts are at their end; `SeatsTaken`, of a node with more than 64 clients;
-/// what a client's `hear` gives; with a recorder, which wants fresh disks, `BadEvent` of the event for which the tape has no
-/// place.
+/// `BadNodes`, unless there are a disk and a place for clients for each node. Of several others the lowest node's:
+/// - `OutOfMemory`;
+/// - `Device`, where a device call failed;
+/// - `Damaged`, of a disk that holds no facts;
+/// - `TooLarge`, where a node's journal or its facts are at their end;
+/// - `SeatsTaken`, of a node with more than 64 clients;
+/// - what a client's `run` gives;
+/// - `BadEvent` of the event for which the tape has no place, with a recorder, which wants fresh disks.
 pub fn run_clients<
     D: Disk + Drop + Send,
     T: Turnstile + Sync,
