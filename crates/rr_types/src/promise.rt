@@ -1,6 +1,6 @@
 //! Promises: where each instance stands by the facts of a node.
 
-ghost use Rattle.std.specs.Prelude.{◌≡◌, ◌≤◌, ◌<◌, ◌↔◌, IsSome, IfSome, length, List};
+ghost use Rattle.std.specs.Prelude.{◌≡◌, ◌≤◌, ◌<◌, ◌↔◌, None, Some, IsSome, IfSome, MatchOption, length, List};
 ghost use Rattle.rr_types.specs.Promises.{IsAscending};
 
 use crate::command::Command;
@@ -77,11 +77,28 @@ impl OpenStanding {
         self.estimate
     }
 
+    /// The same without a copy: a command is large.
+    pub fn estimate_ref(&self) -> &Command
+        ensures { result.now ≡ self.now.estimate }
+    {
+        &self.estimate
+    }
+
     /// The command that this node proposed in the round.
     pub fn proposal(&self) -> Option<Command>
         ensures { result ≡ self.now.proposal }
     {
         self.proposal
+    }
+
+    /// The same without a copy.
+    pub fn proposal_ref(&self) -> Option<&Command>
+        ensures { MatchOption result (self.now.proposal ≡ None) (λ c. self.now.proposal ≡ Some c.now) }
+    {
+        match &self.proposal {
+            Some(command) => Some(command),
+            None => None,
+        }
     }
 }
 
