@@ -165,11 +165,11 @@ impl ReplayNode {
         match self.core.next_message() {
             None => Some(Given::NothingToSend),
             Some(cleared) => {
-                let next = cleared.message();
-                if is_same_message(&next, message) {
+                let next = cleared.as_message();
+                if is_same_message(next, message) {
                     None
                 } else {
-                    Some(Given::Sends(number, next))
+                    Some(Given::Sends(number, *next))
                 }
             }
         }

@@ -12,7 +12,9 @@ use crate::entering::enter;
 use crate::proposing::propose;
 use rr_round::Tally;
 use rr_step::Step;
-use rr_types::{Command, Instance, Refusal, Round, Standing, coordinator};
+use rr_types::{
+    Command, Instance, Op, OpenStanding, Refusal, Round, Standing, coordinator, made_of,
+};
 
 /// The most turns until nothing is due.
 const TURNS: u64 = 1 << 54;
@@ -34,13 +36,14 @@ fn due_of_coordinator(
     step: &Step<'_>,
     instance: Instance,
     tally: &Tally,
-    round: Round,
-    proposal: Option<Command>,
+    open: &OpenStanding,
 ) -> Option<Due>
-    ensures value { option_map meaning_of result ≡ due_of_coordinator step.now.state instance tally.now round proposal }
-    ensures moves { IfSome result (MovesBelowLast round) }
+    ensures value { option_map meaning_of result ≡ due_of_coordinator step.now.state instance tally.now open.now.round open.now.proposal }
+    ensures moves { IfSome result (MovesBelowLast open.now.round) }
 {
-    match proposal {
+    made_of!(Op);
+    let round = open.round();
+    match open.proposal_ref() {
         // Of a majority's estimates, that of the greatest stamp. If an earlier round could have decided, it is that
         // round's command (Chandra and Toueg 1996, phase 2).
         None => match tally.pick(step.nodes()) {
@@ -51,7 +54,7 @@ fn due_of_coordinator(
             // A majority has adopted the proposal on their disks, so each later coordinator that proposes has heard
             // one of these nodes. The rule is phase 4 of Chandra and Toueg (1996).
             if tally.is_acknowledged(step.nodes()) {
-                return Some(Due::Conclude(instance, command));
+                return Some(Due::Conclude(instance, *command));
             }
             // A majority has answered, and somebody refused. Waiting for more answers could last for ever.
             if tally.is_answered(step.nodes()) && round.number() < rr_types::MAX_ROUND {
@@ -75,16 +78,21 @@ fn due_of_participant(step: &Step<'_>, instance: Instance, round: Round) -> Opti
     }
 }
 
-fn due_of_row(step: &Step<'_>, instance: Instance, tally: &Tally, standing: Standing) -> Option<Due>
-    ensures value { option_map meaning_of result ≡ due_of_row step.now.state instance tally.now standing }
-    ensures moves { IfSome result (MovesBelowLast (round_of (Some standing))) }
+fn due_of_row(
+    step: &Step<'_>,
+    instance: Instance,
+    tally: &Tally,
+    standing: &Standing,
+) -> Option<Due>
+    ensures value { option_map meaning_of result ≡ due_of_row step.now.state instance tally.now standing.now }
+    ensures moves { IfSome result (MovesBelowLast (round_of (Some standing.now))) }
 {
     match standing {
         Standing::Decided(_) => None,
         Standing::Open(open) => {
             let round = open.round();
             if coordinator(round, step.nodes()).index() == step.node().index() {
-                due_of_coordinator(step, instance, tally, round, open.proposal())
+                due_of_coordinator(step, instance, tally, open)
             } else {
                 due_of_participant(step, instance, round)
             }
@@ -104,7 +112,7 @@ fn first_due(step: &Step<'_>, instances: &[Instance]) -> Option<Due>
     for instance in instances {
         match step.row(*instance) {
             Some(row) => {
-                if let Some(due) = due_of_row(step, *instance, &row.tally, row.standing) {
+                if let Some(due) = due_of_row(step, *instance, &row.tally, &row.standing) {
                     return Some(due);
                 }
             }

@@ -1,6 +1,6 @@
 //! Values in order of arrival, found by their request numbers.
 
-ghost use Rattle.std.specs.Prelude.{◌≡◌, ◌∷◌, ◌++◌, [], List, length, false, not, filter, IfErr, OnOk, OnErr};
+ghost use Rattle.std.specs.Prelude.{◌≡◌, ◌∷◌, ◌++◌, [], List, length, false, not, filter, IfErr, OnOk, OnErr, MatchOption};
 ghost use Rattle.std.specs.List.{list_any};
 ghost use Rattle.std.specs.Iterator.{at_most};
 ghost use Rattle.std.specs.Map.Iter.{TakesFirst};
@@ -150,6 +150,16 @@ impl<'a, V: Requested> Values<'a, V> {
         ensures { result ≡ seconds rest.entry }
     {
         Values { rest }
+    }
+
+    /// The next value, lent: a command is large.
+    pub fn next_ref(&mut self) -> Option<&'a V>
+        ensures { MatchOption result ((self.old ≡ []) × (self.new ≡ [])) (λ v. self.old ≡ v.now ∷ self.new) }
+    {
+        match self.rest.next() {
+            Some((_, value)) => Some(value),
+            None => None,
+        }
     }
 }
 

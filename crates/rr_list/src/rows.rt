@@ -61,12 +61,12 @@ fn make_request_place(map: &mut BTreeMap<RequestNo, Option<()>>, row: &Row) -> R
     ensures stay { (q : RequestNo) → IsTrue (has_place request_cmp map.old.entries q) → IsTrue (has_place request_cmp map.new.entries q) }
     ensures err { IfErr result (λ e. e ≡ Refusal.OutOfMemory) }
 {
-    match row.decided_command() {
-        Some(command) => {
+    match &row.standing {
+        Standing::Decided(command) => {
             make_place(map, command.request)?;
             Ok(())
         }
-        None => Ok(()),
+        Standing::Open(_) => Ok(()),
     }
 }
 

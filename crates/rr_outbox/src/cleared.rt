@@ -1,49 +1,47 @@
 //! Messages that may leave. Only a cleared message can be handed out, and only a draft that a mark of its sender
 //! covers, or a free message, can be cleared.
 
-ghost use Rattle.std.specs.Prelude.{◌≡◌, ◌↔◌, IsTrue, IsOk, IfOk, IfErr};
+ghost use Rattle.std.specs.Prelude.{◌≡◌, ◌↔◌, IsTrue, IsSome, IfSome};
 ghost use Rattle.rr_outbox.specs.Marks.{is_free, clears};
 
 use crate::mark::Mark;
-use rr_types::{Body, Message};
+use rr_types::{Body, Command, Message, Op, made_of};
 use std::marker::Model;
 
 /// A message that waits for the fact with this number.
-#[derive(Clone, Copy, Debug)]
-pub struct Draft {
-    message: Message,
+#[derive(Debug, Drop)]
+pub struct Draft<'a> {
+    message: &'a Message,
     number: u128,
 }
 
-impl Model for Draft {
+impl<'a> Model for Draft<'a> {
     ghost use Rattle.rr_outbox.specs.Marks.{Drafted};
 
     ghost Value = { Drafted };
 
-    ghost view = { λ d. record { message = d.message; number = d.number } };
-
-    ghost inverse = { λ d. record { message = d.message; number = d.number } };
+    ghost view = { λ d. record { message = d.message.now; number = d.number } };
 }
 
-impl Draft {
+impl<'a> Draft<'a> {
     /// A message that the fact with this number backs.
-    pub fn new(message: Message, number: u128) -> Draft
-        ensures { result ≡ record { message = message; number = number } }
+    pub fn new(message: &'a Message, number: u128) -> Draft<'a>
+        ensures { result ≡ record { message = message.now; number = number } }
     {
         Draft { message, number }
     }
 
-    /// The message may leave where the mark is of its sender and covers the fact; else the draft is handed back.
-    pub fn clear(self, mark: &Mark) -> Result<Cleared, Draft>
-        ensures valid { IsOk result ↔ IsTrue (clears mark.now self) }
-        ensures ok { IfOk result (λ m. m ≡ self.message) }
-        ensures err { IfErr result (λ back. back ≡ self) }
+    /// The message may leave where the mark is of its sender and covers the fact.
+    pub fn clear(&self, mark: &Mark) -> Option<Cleared>
+        ensures valid { IsSome result ↔ IsTrue (clears mark.now self.now) }
+        ensures ok { IfSome result (λ m. m ≡ self.now.message) }
     {
-        let Draft { message, number } = self;
-        if message.from.index() == mark.node().index() && number < u128::from(mark.end()) {
-            Ok(Cleared { message })
+        made_of!(Body, Command, Op);
+        let message = self.message;
+        if message.from.index() == mark.node().index() && self.number < u128::from(mark.end()) {
+            Some(Cleared { message: *message })
         } else {
-            Err(Draft { message, number })
+            None
         }
     }
 }
@@ -65,16 +63,16 @@ impl Model for Cleared {
 }
 
 impl Cleared {
-    /// A Request, Nack, Beat, Suspects or Ask may leave at once; another message is handed back.
-    pub fn free(message: Message) -> Result<Cleared, Message>
-        ensures valid { IsOk result ↔ IsTrue (is_free message.body) }
-        ensures ok { IfOk result (λ m. m ≡ message) }
-        ensures err { IfErr result (λ back. back ≡ message) }
+    /// A Request, Nack, Beat, Suspects or Ask may leave at once, and no other message.
+    pub fn free(message: &Message) -> Option<Cleared>
+        ensures valid { IsSome result ↔ IsTrue (is_free message.now.body) }
+        ensures ok { IfSome result (λ m. m ≡ message.now) }
     {
+        made_of!(Body, Command, Op);
         if is_free(&message.body) {
-            Ok(Cleared { message })
+            Some(Cleared { message: *message })
         } else {
-            Err(message)
+            None
         }
     }
 
@@ -83,6 +81,13 @@ impl Cleared {
         ensures { result ≡ self.now }
     {
         self.message
+    }
+
+    /// The same without a copy: a message is large.
+    pub fn as_message(&self) -> &Message
+        ensures { result.now ≡ self.now }
+    {
+        &self.message
     }
 }
 

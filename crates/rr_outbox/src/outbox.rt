@@ -30,7 +30,8 @@ impl Model for Outbox {
     ghost invariant = { λ b. All (IsOwn b.node) b.owed.items };
 }
 
-/// The oldest that may leave is taken.
+/// The oldest that may leave is taken. It is copied once, since a message is large.
+#[inline(never)]
 #[tactic(auto, using(crate::proofs::OutboxLemmas::find_more, crate::proofs::OutboxLemmas::find_here, crate::proofs::OutboxLemmas::without_more, crate::proofs::OutboxLemmas::without_here, crate::proofs::OutboxLemmas::find_end, crate::proofs::OutboxLemmas::own_at, crate::proofs::OutboxLemmas::own_without, crate::proofs::OutboxLemmas::backed_at))]
 fn take_leaving(owed: &mut VecDeque<Owed>, mark: &Mark) -> Option<Cleared>
     requires { All (IsOwn mark.now.node) owed.old.items }
@@ -41,12 +42,10 @@ fn take_leaving(owed: &mut VecDeque<Owed>, mark: &Mark) -> Option<Cleared>
     ensures backed { IfSome result (IsFreeOrBacked mark.now owed.old.items) }
 {
     for at in 0..owed.len() {
-        // (a message is large, so only the one that leaves is copied)
         if is_leaving(&owed[at], mark) {
-            return match owed.remove(at) {
-                Some(first) => Some(cleared(first, mark)),
-                None => None,
-            };
+            let first = cleared(&owed[at], mark);
+            owed.remove(at);
+            return Some(first);
         }
     }
     None
@@ -63,21 +62,18 @@ fn is_leaving(owed: &Owed, mark: &Mark) -> bool
 }
 
 /// The message of one that may leave: a free one at once, another one by its draft.
-fn cleared(owed: Owed, mark: &Mark) -> Cleared
-    requires own { IsOwn mark.now.node owed }
-    requires leaving { may_leave mark.now.end owed ≡ true }
-    ensures { result ≡ owed.message }
+fn cleared(owed: &Owed, mark: &Mark) -> Cleared
+    requires own { IsOwn mark.now.node owed.now }
+    requires leaving { may_leave mark.now.end owed.now ≡ true }
+    ensures { result ≡ owed.now.message }
 {
-    let Owed { message, backing } = owed;
-    match backing {
-        Some(number) => match Draft::new(message, number).clear(mark) {
-            Ok(cleared) => cleared,
-            Err(_) => unreachable!(),
-        },
-        None => match Cleared::free(message) {
-            Ok(cleared) => cleared,
-            Err(_) => unreachable!(),
-        },
+    let cleared = match owed.backing {
+        Some(number) => Draft::new(&owed.message, number).clear(mark),
+        None => Cleared::free(&owed.message),
+    };
+    match cleared {
+        Some(cleared) => cleared,
+        None => unreachable!(),
     }
 }
 
@@ -150,6 +146,9 @@ impl Outbox {
             (λ m. (option_map (λ o. o.message) (find (may_leave mark.now.end) self.old.owed) ≡ Some m) × (self.new ≡ record self.old { owed = without_first (may_leave mark.now.end) self.old.owed })) }
         ensures backed { IfSome result (IsFreeOrBacked mark.now self.old.owed) }
     {
+        if self.owed.is_empty() {
+            return None;
+        }
         take_leaving(&mut self.owed, mark)
     }
 }

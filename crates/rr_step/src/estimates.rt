@@ -17,7 +17,7 @@ pub fn is_estimate_of(step: &Step<'_>, instance: Instance, command: &Command) ->
         None => false,
         Some(row) => match &row.standing {
             Standing::Decided(_) => false,
-            Standing::Open(at) => at.estimate().is_same(command),
+            Standing::Open(at) => at.estimate_ref().is_same(command),
         },
     }
 }
@@ -84,8 +84,7 @@ pub fn first_free_in(
     ensures { result ≡ find (is_free step.now.state.rows instances.now instance taken.now) pool.entry }
 {
     let mut left = pool;
-    while let Some(command) = left.next() {
-        let command = &command;
+    while let Some(command) = left.next_ref() {
         if is_free(step, instances, instance, taken, command) {
             return Some(*command);
         }

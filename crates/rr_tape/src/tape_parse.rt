@@ -13,7 +13,7 @@ use crate::tape_event::{TapeEvent, recorded};
 use rr_text::MAX_EVENTS;
 use rr_text::keyword::Keyword;
 use rr_text::text_parse::{fields, first_line};
-use rr_text::text_read::{cut, keyword, node, small_number};
+use rr_text::text_read::{cut, cut_line, keyword, node, small_number};
 use rr_types::{Body, Command, Message, Nodes, Op, Refusal, Reply, made_of};
 use std::alloc::Global;
 
@@ -106,7 +106,7 @@ pub fn next_tape_event(
     if line >= MAX_EVENTS as u64 + 2 {
         return Err(Refusal::BadEvent(line));
     }
-    let Some((text, rest)) = cut(bytes, b'\n') else {
+    let Some((text, rest)) = cut_line(bytes) else {
         return Err(Refusal::BadEvent(line));
     };
     match tape_event(alloc, nodes, text)? {

@@ -4,6 +4,7 @@ pub mod FillLoop
 pub mod FirstLine
 pub mod Keywords
 pub mod LineReading
+pub mod LineSearch
 pub mod NumberLemmas
 pub mod OpReading
 pub mod RefusalTails

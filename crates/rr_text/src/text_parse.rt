@@ -13,7 +13,9 @@ ghost use Rattle.rr_text.specs.Reading.{node_alone_at, pairs_at, fill_at, first_
 use crate::event::{Event, Fill};
 use crate::keyword::Keyword;
 use crate::schedule::{MAX_EVENTS, Schedule};
-use crate::text_read::{cut, hex_byte, is_number, keyword, node, set, small_number, submitted};
+use crate::text_read::{
+    cut, cut_line, hex_byte, is_number, keyword, node, set, small_number, submitted,
+};
 use rr_types::{NodeId, Nodes, Refusal};
 use std::alloc::Global;
 
@@ -272,7 +274,7 @@ pub fn first_line(bytes: &[u8]) -> Result<(Nodes, &[u8]), Refusal>
     ensures ok { IfOk result (λ x. bytes.now ≡ nodes_line x.0 ++ x.1.now) }
     ensures err { IfErr result (λ e. IsFirstFault bytes.now e) }
 {
-    let Some((line, rest)) = cut(bytes, b'\n') else {
+    let Some((line, rest)) = cut_line(bytes) else {
         return Err(Refusal::BadEvent(1));
     };
     let Some(word) = count_of_nodes(line) else {
@@ -312,7 +314,7 @@ pub fn next_event(
     if line >= MAX_EVENTS as u64 + 2 {
         return Err(Refusal::BadEvent(line));
     }
-    let Some((text, rest)) = cut(bytes, b'\n') else {
+    let Some((text, rest)) = cut_line(bytes) else {
         return Err(Refusal::BadEvent(line));
     };
     let Some((keyword, words)) = first_keyword(text) else {

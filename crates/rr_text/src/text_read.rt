@@ -7,6 +7,7 @@ ghost use Rattle.rr_text.specs.Numbers.{is_digit, is_number};
 ghost use Rattle.rr_text.specs.Reading.{find_by, keyword_text, cut_at, number_at, small_at, node_at, name_at, filled_value_at, members_at, set_at, hex_value, hex_byte, pairs_at, fill_at, submitted_at, first_node_at, cuts_at, fields_at, event_at, target_at, keyword_at, verb_at, name_and_value, named_at, transferred_at, op_at};
 
 use crate::keyword::{Keyword, Verb};
+use memchr::memchr;
 use rr_types::{Command, Name, NodeId, NodeSet, Nodes, Op, Refusal, RequestNo, Value};
 
 fn place_of(text: &[u8], at: u8) -> Option<usize>
@@ -21,6 +22,24 @@ pub fn cut(text: &[u8], at: u8) -> Option<(&[u8], &[u8])>
 {
     match place_of(text, at) {
         Some(i) => Some((&text[..i], &text[i + 1..])),
+        None => None,
+    }
+}
+
+/// Where the first line feed stands.
+#[tactic(auto, using(crate::proofs::LineSearch::first_is_position))]
+fn line_feed(text: &[u8]) -> Option<usize>
+    ensures { result ≡ position (λ b. b == 10) text.now }
+{
+    memchr(b'\n', text)
+}
+
+/// What stands before the first line feed, and behind it. Lines are long enough for a search of many bytes at a time.
+pub fn cut_line(text: &[u8]) -> Option<(&[u8], &[u8])>
+    ensures { MatchOption result (cut_at 10 text.now ≡ None) (λ x. cut_at 10 text.now ≡ Some (x.0.now, x.1.now)) }
+{
+    match line_feed(text) {
+        Some(end) => Some((&text[..end], &text[end + 1..])),
         None => None,
     }
 }
