@@ -1,1 +1,2 @@
 pub mod MessageFormat
+pub mod MessageLogs

@@ -63,7 +63,7 @@ fn put_body(out: &mut Vec<u8>, body: &Body) -> Result<(), AllocError>
 }
 
 #[tactic(auto, unfolding(crate::specs::MessageFormat::message_bytes_in))]
-fn put_message(out: &mut Vec<u8>, message: &Message) -> Result<(), AllocError>
+pub(crate) fn put_message(out: &mut Vec<u8>, message: &Message) -> Result<(), AllocError>
     ensures ok { OnOk result (out.new.items ≡ out.old.items ++ message_bytes message.now) }
     ensures lawful { OnOk result (IsLawfulMessage 7 message.now) }
 {

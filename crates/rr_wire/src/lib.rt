@@ -6,6 +6,8 @@
 
 mod decoding;
 mod encoding;
+mod log;
 
 pub use decoding::decode;
 pub use encoding::encode;
+pub use log::MessageLog;
