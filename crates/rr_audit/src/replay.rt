@@ -9,7 +9,8 @@ ghost use Rattle.rr_audit.specs.Following.{Steps};
 use crate::given::Given;
 use crate::replay_node::ReplayNode;
 use rr_tape::TapeEvent;
-use rr_types::{Body, Command, Message, NodeId, Nodes, Op, Refusal, made_of};
+use rr_types::{NodeId, Nodes, Refusal};
+use rr_wire::MessageLog;
 use std::alloc::Global;
 use std::marker::Model;
 
@@ -17,7 +18,7 @@ use std::marker::Model;
 #[derive(Drop)]
 pub struct Replay {
     nodes: Vec<ReplayNode>,
-    wire: Vec<Message>,
+    wire: MessageLog,
 }
 
 impl Model for Replay {
@@ -25,7 +26,7 @@ impl Model for Replay {
 
     ghost Value = { audit.Replay };
 
-    ghost view = { λ r. record { nodes = r.nodes.items; wire = r.wire.items } };
+    ghost view = { λ r. record { nodes = r.nodes.items; wire = r.wire } };
 }
 
 /// The node at which an event happens.
@@ -71,7 +72,7 @@ impl Replay {
     {
         Ok(Replay {
             nodes: all_nodes(alloc, nodes)?,
-            wire: Vec::new(alloc),
+            wire: MessageLog::new(alloc),
         })
     }
 
@@ -80,9 +81,8 @@ impl Replay {
         ensures ok { OnOk result (self.new ≡ record self.old { wire = self.old.wire ++ sent_by event.now }) }
         ensures err { IfErr result (λ e. e ≡ Refusal.OutOfMemory) }
     {
-        made_of!(Body, Command, Message, Op);
         match event {
-            TapeEvent::Send { message, .. } => self.wire.push(*message)?,
+            TapeEvent::Send { message, .. } => self.wire.push(message)?,
             _ => (),
         }
         Ok(())

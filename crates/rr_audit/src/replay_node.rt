@@ -12,6 +12,7 @@ use crate::same::is_same_message;
 use rr_core::Core;
 use rr_tape::TapeEvent;
 use rr_types::{Command, Group, Message, NodeId, NodeSet, Nodes, Refusal, Reply, RequestNo};
+use rr_wire::MessageLog;
 use std::alloc::Global;
 use std::marker::Model;
 
@@ -111,7 +112,7 @@ impl ReplayNode {
     // Hears the message of this number, where it is there and for this node.
     fn hear_from(
         &mut self,
-        wire: &[Message],
+        wire: &MessageLog,
         node: NodeId,
         number: u32,
     ) -> Result<Option<Given>, Refusal>
@@ -123,7 +124,7 @@ impl ReplayNode {
         if message.to.index() != node.index() {
             return Ok(Some(Given::OtherNode(message.to)));
         }
-        self.hear(message)
+        self.hear(&message)
     }
 
     // Begins to flush the oldest staged facts.
@@ -196,7 +197,7 @@ impl ReplayNode {
     ///
     /// # Errors
     /// `OutOfMemory`.
-    pub fn follow(&mut self, wire: &[Message], event: &TapeEvent) -> Result<Option<Given>, Refusal>
+    pub fn follow(&mut self, wire: &MessageLog, event: &TapeEvent) -> Result<Option<Given>, Refusal>
         ensures { FollowsAt wire.now event.now self.old self.new result }
     {
         match event {
