@@ -1,4 +1,5 @@
 pub mod Folders
+pub mod Listings
 pub mod Requests
 pub mod Runs
 pub mod Shells

@@ -1,11 +1,19 @@
 //! Where a shell leaves what it asks, and the nodes' clients the answers.
 
+ghost use Rattle.std.specs.Prelude.{◌≡◌, map, IfOk, IfErr, IfSome};
+ghost use Rattle.rr_types.specs.Registry.{registry_of};
+ghost use Rattle.rr_window.specs.Sights.{entries_of};
+ghost use Rattle.rr_run.specs.Listings.{bytes_of, binding_of};
+
 use rr_locked::Turnstile;
 use rr_script::{Answer, ScriptLine};
+use rr_shell::Listing;
+use rr_text::{Binding, BoundNames};
 use rr_threads::{Client, Handle};
 use rr_types::{Command, Name, NodeId, Nodes, Op, Refusal, Reply, Value, made_of};
-use rr_window::WindowName;
+use rr_window::{Entry, WindowName};
 use std::alloc::Global;
+use std::mem;
 use std::sync::atomic::{AtomicBool, Ordering};
 use std::sync::{Mutex, Wait};
 use std::thread::Parker;
@@ -14,12 +22,37 @@ use std::time::Duration;
 /// The longest rest of a thread that is rung for all that comes, in microseconds.
 const REST: u64 = 50_000;
 
+/// What a shell asks a node.
+#[derive(Clone, Copy, Debug)]
+pub(crate) enum Question {
+    /// What a line of a script asks.
+    Line(ScriptLine),
+    /// Which bound names begin so, or all.
+    Names { node: NodeId, prefix: Option<Name> },
+}
+
+impl Question {
+    fn node(&self) -> NodeId {
+        match self {
+            Question::Line(line) => line.node(),
+            Question::Names { node, .. } => *node,
+        }
+    }
+}
+
+/// What a node tells.
+#[derive(Debug, Drop)]
+pub(crate) enum Told {
+    Answer(Answer),
+    Listing(Listing),
+}
+
 /// What lies there.
 #[derive(Drop)]
 enum Slip {
     Nothing,
-    Asked(ScriptLine),
-    Answered(Answer),
+    Asked(Question),
+    Answered(Told),
 }
 
 /// What a shell and the clients of the nodes share: one question or its answer, how the run has ended, and their bells.
@@ -81,13 +114,13 @@ impl Post {
     ///
     /// # Errors
     /// The refusal by which the run has ended; `Down`, where it has ended without one.
-    pub(crate) fn ask<R: Wait>(&self, rt: &R, line: &ScriptLine) -> Result<Answer, Refusal> {
-        *self.slip.lock(rt) = Slip::Asked(*line);
-        self.ring(line.node());
+    pub(crate) fn ask<R: Wait>(&self, rt: &R, question: &Question) -> Result<Told, Refusal> {
+        *self.slip.lock(rt) = Slip::Asked(*question);
+        self.ring(question.node());
         for _ in 0..u64::MAX {
             let has_ended = self.has_ended.load(Ordering::SeqCst);
-            if let Some(answer) = self.take_answer(rt) {
-                return Ok(answer);
+            if let Some(told) = self.take_answer(rt) {
+                return Ok(told);
             }
             if has_ended {
                 break;
@@ -97,32 +130,33 @@ impl Post {
         Err(self.ending(rt))
     }
 
-    fn take_answer<R: Wait>(&self, rt: &R) -> Option<Answer> {
+    fn take_answer<R: Wait>(&self, rt: &R) -> Option<Told> {
         let mut slip = self.slip.lock(rt);
-        let answer = match &*slip {
-            Slip::Answered(answer) => *answer,
-            _ => return None,
-        };
-        *slip = Slip::Nothing;
-        Some(answer)
+        match mem::replace(&mut *slip, Slip::Nothing) {
+            Slip::Answered(told) => Some(told),
+            other => {
+                *slip = other;
+                None
+            }
+        }
     }
 
     // What is asked of this node.
-    fn take_question<R: Wait>(&self, rt: &R, node: NodeId) -> Option<ScriptLine> {
+    fn take_question<R: Wait>(&self, rt: &R, node: NodeId) -> Option<Question> {
         let mut slip = self.slip.lock(rt);
-        let line = match &*slip {
-            Slip::Asked(line) => *line,
+        let question = match &*slip {
+            Slip::Asked(question) => *question,
             _ => return None,
         };
-        if line.node().index() != node.index() {
+        if question.node().index() != node.index() {
             return None;
         }
         *slip = Slip::Nothing;
-        Some(line)
+        Some(question)
     }
 
-    fn answer<R: Wait>(&self, rt: &R, answer: Answer) {
-        *self.slip.lock(rt) = Slip::Answered(answer);
+    fn answer<R: Wait>(&self, rt: &R, told: Told) {
+        *self.slip.lock(rt) = Slip::Answered(told);
         self.shell.unpark();
     }
 
@@ -179,7 +213,86 @@ impl Post {
 /// The client of a node that asks it what a shell asks.
 #[derive(Drop)]
 pub(crate) struct Teller<'x> {
-    pub(crate) post: &'x Post,
+    alloc: Global,
+    post: &'x Post,
+}
+
+// What names begin with: with anything, where no prefix is asked for.
+fn bytes_of(prefix: &Option<Name>) -> &[u8]
+    ensures { result.now ≡ bytes_of prefix.now }
+{
+    match prefix {
+        Some(prefix) => prefix.as_bytes(),
+        None => &[],
+    }
+}
+
+fn binding_of(entry: &Entry) -> Binding
+    ensures { result ≡ binding_of entry.now }
+{
+    made_of!(Name, Value);
+    Binding {
+        name: entry.name,
+        owner: entry.owner,
+        value: entry.value,
+    }
+}
+
+// Entries as bound names.
+fn bound_names(alloc: Global, entries: &[Entry]) -> Result<BoundNames, Refusal>
+    ensures ok { IfOk result (λ names. names ≡ map binding_of entries.now) }
+    ensures err { IfErr result (λ e. e ≡ Refusal.OutOfMemory) }
+{
+    let mut names = Vec::new(alloc);
+    for entry in entries {
+        names.push(binding_of(entry))?;
+    }
+    Ok(BoundNames::new(names))
+}
+
+// The bound names of a node that begin so, or all. It is refused for lack of memory alone.
+fn names_at<W: WindowName, T: Turnstile, R: Wait>(
+    alloc: Global,
+    handle: &mut Handle<'_, '_, W, T, R>,
+    prefix: &Option<Name>,
+) -> Result<Listing, Refusal>
+    ensures node { IfOk result (λ l. l.node ≡ handle.old.node) }
+    ensures names { IfOk result (λ l. IfSome l.names (λ names. names ≡ map binding_of (entries_of (bytes_of prefix.now) (registry_of handle.new.known)))) }
+    ensures err { IfErr result (λ e. e ≡ Refusal.OutOfMemory) }
+{
+    let node = handle.node();
+    match handle.list(alloc, bytes_of(prefix)) {
+        Ok(entries) => {
+            let names = bound_names(alloc, entries.as_slice())?;
+            Ok(Listing {
+                node,
+                names: Some(names),
+            })
+        }
+        Err(Refusal::OutOfMemory) => Err(Refusal::OutOfMemory),
+        Err(_) => Ok(Listing { node, names: None }),
+    }
+}
+
+// What a node tells. None: the run has failed, and its refusal is the answer.
+fn answer_to<W: WindowName, T: Turnstile, R: Wait>(
+    alloc: Global,
+    handle: &mut Handle<'_, '_, W, T, R>,
+    question: &Question,
+) -> Result<Option<Told>, Refusal> {
+    made_of!(Answer, ScriptLine, Command, Op, Name, Reply, Value);
+    match question {
+        Question::Line(line) => {
+            let answer = handle.ask(line);
+            if handle.is_over() && matches!(answer, Answer::Unacknowledged { .. }) {
+                return Ok(None);
+            }
+            Ok(Some(Told::Answer(answer)))
+        }
+        Question::Names { node: _, prefix } => {
+            Ok(Some(Told::Listing(names_at(alloc, handle, prefix)?)))
+        }
+    }
 }
 
 impl<'x> Client for Teller<'x> {
@@ -187,23 +300,21 @@ impl<'x> Client for Teller<'x> {
         &mut self,
         handle: &mut Handle<'_, '_, W, T, R>,
     ) -> Result<(), Refusal> {
-        made_of!(Answer, ScriptLine, Command, Op, Name, Reply, Value);
+        made_of!(Question, ScriptLine, Command, Op, Name, Value);
         let node = handle.node();
         self.post.begin();
         for _ in 0..u64::MAX {
             if handle.is_over() || self.post.is_closed.load(Ordering::SeqCst) {
                 break;
             }
-            let Some(line) = self.post.take_question(handle.rt(), node) else {
+            let Some(question) = self.post.take_question(handle.rt(), node) else {
                 self.post.wait(handle.rt(), node);
                 continue;
             };
-            let answer = handle.ask(&line);
-            // A run that has failed answers by its refusal.
-            if handle.is_over() && matches!(answer, Answer::Unacknowledged { .. }) {
-                break;
+            match answer_to(self.alloc, handle, &question)? {
+                Some(told) => self.post.answer(handle.rt(), told),
+                None => break,
             }
-            self.post.answer(handle.rt(), answer);
         }
         Ok(())
     }
@@ -220,7 +331,7 @@ pub(crate) fn tellers<'x>(
 ) -> Result<Vec<Vec<Teller<'x>>>, Refusal> {
     let mut tellers = Vec::new(alloc);
     for _ in 0..nodes.count() {
-        tellers.push(vec![in alloc; Teller { post }]?)?;
+        tellers.push(vec![in alloc; Teller { alloc, post }]?)?;
     }
     Ok(tellers)
 }

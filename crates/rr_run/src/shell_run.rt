@@ -9,14 +9,14 @@ ghost use Rattle.rr_run.specs.Shells.{IsClientBy, EndsOnTalk, EndsOnShell, EndsO
 
 use crate::folder::{Folders, Opening, open_folders};
 use crate::lock::Lockable;
-use crate::post::{Post, Teller, tellers};
+use crate::post::{Post, Question, Teller, Told, tellers};
 use crate::requests::{Block, reserve};
 use crate::script_run::{end_by_run_fault, end_in_use};
 use rr_cli::{end_by_refusal, end_by_stream, end_by_unprinted, nodes_of, number_in};
 use rr_disk::{FileDisk, OpenedFile};
 use rr_locked::Open;
 use rr_script::{Answer, ScriptLine};
-use rr_shell::{Asked, Stop, is_reply_at, is_sight_at, talk};
+use rr_shell::{Asked, Listing, Stop, is_listing_at, is_reply_at, is_sight_at, talk};
 use rr_stream::{Sink, Source};
 use rr_threads::run_clients;
 use rr_types::{Command, Name, NodeId, Nodes, Op, Refusal, Reply, RequestNo, Value, made_of};
@@ -64,25 +64,35 @@ impl<'x, R: Files + AllocGlobal + Wait> Asked for Console<'x, R> {
         made_of!(Answer, ScriptLine, Command, Op, Name, Reply, Value);
         let request = self.next_request()?;
         let command = Command { request, op: *op };
-        let answer = self
-            .post
-            .ask(self.rt, &ScriptLine::Submit { node, command })?;
-        if is_reply_at(node, &answer) {
-            Ok(answer)
-        } else {
-            Ok(Answer::Unacknowledged { node, request })
+        let line = ScriptLine::Submit { node, command };
+        let told = self.post.ask(self.rt, &Question::Line(line))?;
+        match &told {
+            Told::Answer(answer) if is_reply_at(node, answer) => Ok(*answer),
+            _ => Ok(Answer::Unacknowledged { node, request }),
         }
     }
 
     fn look(&mut self, node: NodeId, name: &Name) -> Result<Answer, Refusal> {
         made_of!(Answer, ScriptLine, Command, Op, Name, Reply, Value);
         let name = *name;
-        let answer = self.post.ask(self.rt, &ScriptLine::Look { node, name })?;
-        if is_sight_at(node, &name, &answer) {
-            Ok(answer)
-        } else {
-            Ok(Answer::Unseen { node, name })
+        let line = ScriptLine::Look { node, name };
+        let told = self.post.ask(self.rt, &Question::Line(line))?;
+        match &told {
+            Told::Answer(answer) if is_sight_at(node, &name, answer) => Ok(*answer),
+            _ => Ok(Answer::Unseen { node, name }),
         }
+    }
+
+    fn list(&mut self, node: NodeId, prefix: &Option<Name>) -> Result<Listing, Refusal> {
+        made_of!(Name);
+        let prefix = *prefix;
+        let told = self.post.ask(self.rt, &Question::Names { node, prefix })?;
+        if let Told::Listing(listing) = told {
+            if is_listing_at(node, &prefix, &listing) {
+                return Ok(listing);
+            }
+        }
+        Ok(Listing { node, names: None })
     }
 }
 

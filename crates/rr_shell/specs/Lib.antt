@@ -1,4 +1,5 @@
 pub mod Hearings
 pub mod Lines
+pub mod Listings
 pub mod Talks
 pub mod Texts

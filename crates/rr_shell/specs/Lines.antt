@@ -3,7 +3,7 @@ use Rattle.std.specs.Prelude.{ℕ, if◌then◌else◌, ◌||◌, is_some, List,
 use Rattle.std.specs.Str.{bytes_eq}
 use Rattle.rr_text.specs.Reading.{cut_at, name_at, node_at, op_at}
 use Rattle.rr_shell.specs.declared.shell_line.ShellLine.{ShellLine}
-use Rattle.rr_shell.specs.declared.shell_line.ShellLine.TheVariants.{Submit, Look, At, Help, Quit}
+use Rattle.rr_shell.specs.declared.shell_line.ShellLine.TheVariants.{Submit, Look, Names, At, Help, Quit}
 use Rattle.rr_shell.specs.declared.shell_line.LineFault.{LineFault}
 use Rattle.rr_shell.specs.declared.shell_line.LineFault.TheVariants.{NoCommand, BadName, BadValue, BadOwner, NoNode}
 
@@ -36,6 +36,10 @@ wanted fault line (Some x) = Ok (line x)
 abbrev pub look_at : List ℕ → Result ShellLine LineFault
 look_at rest = wanted BadName Look (name_at rest)
 
+-- a list of the names that begin with the prefix that a text is; a prefix of a name is a name
+abbrev pub list_at : List ℕ → Result ShellLine LineFault
+list_at rest = wanted BadName (λ prefix. Names (Some prefix)) (name_at rest)
+
 -- a move to the node that a text is, of n nodes
 abbrev pub node_line_at : ℕ → List ℕ → Result ShellLine LineFault
 node_line_at n rest = wanted NoNode At (node_at n rest)
@@ -48,10 +52,12 @@ command_at text word rest = wanted (op_fault word rest) Submit (op_at text)
 abbrev pub line_from : ℕ → List ℕ → List ℕ × List ℕ → Result ShellLine LineFault
 line_from n text parts =
     if bytes_eq parts.0 (codes "look") then look_at parts.1
+    else (if bytes_eq text (codes "list") then Ok (Names None)
+    else (if bytes_eq parts.0 (codes "list") then list_at parts.1
     else (if bytes_eq parts.0 (codes "at") then node_line_at n parts.1
     else (if bytes_eq text (codes "help") then Ok Help
     else (if bytes_eq text (codes "quit") then Ok Quit
-    else command_at text parts.0 parts.1)))
+    else command_at text parts.0 parts.1)))))
 
 -- what a line asks for, of n nodes
 abbrev pub shell_line_at : ℕ → List ℕ → Result ShellLine LineFault

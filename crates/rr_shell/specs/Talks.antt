@@ -8,15 +8,17 @@ use Rattle.rr_script.specs.declared.answer.Answer.TheVariants.{Acknowledged, Una
 use Rattle.rr_stream.specs.Streams.{Printing, Reading, IsPrinted, IsFrontPrinted}
 use Rattle.rr_shell.specs.declared.hearing.Heard.{Heard}
 use Rattle.rr_shell.specs.declared.hearing.Heard.TheVariants as heard
+use Rattle.rr_shell.specs.declared.listing.Listing.{Listing}
 use Rattle.rr_shell.specs.declared.shell_line.ShellLine.{ShellLine}
-use Rattle.rr_shell.specs.declared.shell_line.ShellLine.TheVariants.{Submit, Look, At, Help, Quit}
+use Rattle.rr_shell.specs.declared.shell_line.ShellLine.TheVariants.{Submit, Look, Names, At, Help, Quit}
 use Rattle.rr_shell.specs.declared.shell_line.LineFault.{LineFault}
 use Rattle.rr_shell.specs.declared.shell_line.LineFault.TheVariants.{TooLong}
 use Rattle.rr_shell.specs.declared.talking.Said.{Said}
 use Rattle.rr_shell.specs.declared.talking.Stop.{Stop}
 use Rattle.rr_shell.specs.Hearings.{Hears}
 use Rattle.rr_shell.specs.Lines.{shell_line_at}
-use Rattle.rr_shell.specs.Texts.{answer_line, move_line, help_line, fault_line}
+use Rattle.rr_shell.specs.Listings.{is_listing_at}
+use Rattle.rr_shell.specs.Texts.{answer_line, list_lines, move_line, help_line, fault_line}
 
 -- whether an answer is node p's to a submit
 abbrev pub is_reply_at : ℕ → Answer → Bool
@@ -32,10 +34,11 @@ is_sight_at p name (Unseen q seen) = (q == p) && bytes_eq seen name
 is_sight_at p name _ = false
 
 -- what is said to a line that asks for something at node p, and the node that is asked then: the answer of node p to what it
--- asks, the node that it moves to, or the commands
+-- asks, the names that it lists, the node that it moves to, or the commands
 pub data Grants (p : ℕ) : ShellLine → ℕ → List ℕ → Type 0 where
   submitted : (op : Op) (a : Answer) → is_reply_at p a ≡ true → Grants p (Submit op) p (answer_line a)
   looked : (name : List ℕ) (a : Answer) → is_sight_at p name a ≡ true → Grants p (Look name) p (answer_line a)
+  listed : (prefix : Option (List ℕ)) (l : Listing) → is_listing_at p prefix l ≡ true → Grants p (Names prefix) p (list_lines l.names)
   moved : (q : ℕ) → Grants p (At q) q (move_line q)
   helped : Grants p Help p help_line
 

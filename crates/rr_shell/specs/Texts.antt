@@ -1,7 +1,9 @@
 -- What is said to a line of a shell.
-use Rattle.std.specs.Prelude.{ℕ, List, [], ◌∷◌, ◌++◌, codes, decimal}
+use Rattle.std.specs.Prelude.{ℕ, List, [], ◌∷◌, ◌++◌, length, Option, None, Some, codes, decimal}
+use Rattle.std.specs.List.{flat_map}
 use Rattle.rr_text.specs.Words.{spaced, value_words}
 use Rattle.rr_text.specs.ReportTexts.{reply_words}
+use Rattle.rr_text.specs.declared.report.Binding.{Binding}
 use Rattle.rr_script.specs.declared.answer.Answer.{Answer}
 use Rattle.rr_script.specs.declared.answer.Answer.TheVariants.{Acknowledged, Unacknowledged, Free, Bound, Unseen}
 use Rattle.rr_shell.specs.declared.shell_line.LineFault.{LineFault}
@@ -23,13 +25,22 @@ answer_words (Unseen p name) = name ∷ codes "unseen" ∷ []
 abbrev pub answer_line : Answer → List ℕ
 answer_line a = spaced (answer_words a) ++ 10 ∷ []
 
+-- the line of a bound name, which is that of the answer to a look at it
+abbrev pub bound_line : Binding → List ℕ
+bound_line b = spaced (bound_words b.name b.owner b.value) ++ 10 ∷ []
+
+-- the lines of the bound names that were seen, behind one that says how many they are; or the line that none was seen
+abbrev pub list_lines : Option (List Binding) → List ℕ
+list_lines None = codes "list unseen" ++ 10 ∷ []
+list_lines (Some names) = codes "list" ++ (32 ∷ decimal (length names)) ++ 10 ∷ [] ++ flat_map bound_line names
+
 -- the line that node p is asked from now on
 abbrev pub move_line : ℕ → List ℕ
 move_line p = codes "at" ++ (32 ∷ decimal p) ++ 10 ∷ []
 
 -- the line that names the commands
 abbrev pub help_line : List ℕ
-help_line = codes "claim NAME [VALUE], update NAME [VALUE], release NAME, transfer NAME OWNER, look NAME, at NODE, help or quit" ++ 10 ∷ []
+help_line = codes "claim NAME [VALUE], update NAME [VALUE], release NAME, transfer NAME OWNER, look NAME, list [PREFIX], at NODE, help or quit" ++ 10 ∷ []
 
 -- that there is no such node, of n nodes
 abbrev pub no_node_text : ℕ → List ℕ
@@ -37,7 +48,7 @@ no_node_text n = codes "no such node: a number is expected that is below" ++ 32 
 
 -- what is wrong with a line, and what is expected, of n nodes
 abbrev pub fault_text : ℕ → LineFault → List ℕ
-fault_text n NoCommand = codes "no such command: claim, update, release, transfer, look, at, help or quit is expected"
+fault_text n NoCommand = codes "no such command: claim, update, release, transfer, look, list, at, help or quit is expected"
 fault_text n BadName = codes "no name: 1 to 64 bytes of a to z, 0 to 9 and - are expected"
 fault_text n BadValue = codes "no value: 1 to 64 bytes from ! to ~ are expected, and no space"
 fault_text n BadOwner = codes "no owner: a number below 4294967296 is expected"

@@ -1,8 +1,10 @@
 //! Whom a shell asks.
 
 ghost use Rattle.std.specs.Prelude.{◌≡◌, true, IfOk};
+ghost use Rattle.rr_shell.specs.Listings.{is_listing_at};
 ghost use Rattle.rr_shell.specs.Talks.{is_reply_at, is_sight_at};
 
+use crate::listing::Listing;
 use rr_script::Answer;
 use rr_types::{Name, NodeId, Op, Refusal};
 
@@ -27,6 +29,13 @@ pub trait Asked {
     /// Why the nodes can't be asked any more.
     fn look(&mut self, node: NodeId, name: &Name) -> Result<Answer, Refusal>
         ensures { IfOk result (λ a. is_sight_at node name.now a ≡ true) };
+
+    /// Lists the bound names at a node that begin so, or all.
+    ///
+    /// # Errors
+    /// Why the nodes can't be asked any more.
+    fn list(&mut self, node: NodeId, prefix: &Option<Name>) -> Result<Listing, Refusal>
+        ensures { IfOk result (λ l. is_listing_at node prefix.now l ≡ true) };
 }
 
 /// Whether an answer is this node's to a submit.

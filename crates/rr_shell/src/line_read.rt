@@ -1,7 +1,7 @@
 //! Reading a line of a shell.
 
 ghost use Rattle.std.specs.Prelude.{◌≡◌};
-ghost use Rattle.rr_shell.specs.Lines.{parts_of, named_fault, op_fault, look_at, node_line_at, command_at, shell_line_at};
+ghost use Rattle.rr_shell.specs.Lines.{parts_of, named_fault, op_fault, look_at, list_at, node_line_at, command_at, shell_line_at};
 
 use crate::shell_line::{LineFault, ShellLine};
 use rr_text::text_read::{cut, name, node, op};
@@ -53,6 +53,15 @@ fn look(rest: &[u8]) -> Result<ShellLine, LineFault>
     }
 }
 
+fn list(rest: &[u8]) -> Result<ShellLine, LineFault>
+    ensures { result ≡ list_at rest.now }
+{
+    match name(rest) {
+        Some(prefix) => Ok(ShellLine::Names(Some(prefix))),
+        None => Err(LineFault::BadName),
+    }
+}
+
 fn node_line(nodes: Nodes, rest: &[u8]) -> Result<ShellLine, LineFault>
     ensures { result ≡ node_line_at nodes rest.now }
 {
@@ -82,6 +91,10 @@ pub fn read_shell_line(nodes: Nodes, text: &[u8]) -> Result<ShellLine, LineFault
     let (word, rest) = parts(text);
     if word == b"look".as_slice() {
         look(rest)
+    } else if text == b"list".as_slice() {
+        Ok(ShellLine::Names(None))
+    } else if word == b"list".as_slice() {
+        list(rest)
     } else if word == b"at".as_slice() {
         node_line(nodes, rest)
     } else if text == b"help".as_slice() {

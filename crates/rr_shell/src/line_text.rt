@@ -1,13 +1,16 @@
 //! What is said to a line: an answer, a move, the help or a fault.
 
 ghost use Rattle.std.specs.Prelude.{◌≡◌, ◌++◌, OnOk, IfErr, decimal};
+ghost use Rattle.std.specs.List.{flat_map};
 ghost use Rattle.rr_text.specs.Words.{spaced};
 ghost use Rattle.rr_text.specs.ReportTexts.{reply_words};
-ghost use Rattle.rr_shell.specs.Texts.{bound_words, answer_words, answer_line, move_line, help_line, no_node_text, fault_text, fault_line};
+ghost use Rattle.rr_shell.specs.Texts.{bound_words, answer_words, answer_line, bound_line, list_lines, move_line, help_line, no_node_text, fault_text, fault_line};
 
 use crate::hearing::MAX_LINE;
+use crate::listing::Listing;
 use crate::shell_line::LineFault;
 use rr_script::Answer;
+use rr_text::Binding;
 use rr_text::text_word::{push_byte, push_bytes, push_number, push_number_word, push_word};
 use rr_types::{Name, NodeId, Nodes, Refusal, Reply, Value};
 
@@ -84,6 +87,42 @@ pub fn push_answer(out: &mut Vec<u8>, answer: &Answer) -> Result<(), Refusal>
     push_byte(out, b'\n')
 }
 
+fn push_bound_lines(out: &mut Vec<u8>, names: &[Binding]) -> Result<(), Refusal>
+    ensures ok { OnOk result (out.new.items ≡ out.old.items ++ flat_map bound_line names.now) }
+    ensures err { IfErr result (λ e. e ≡ Refusal.OutOfMemory) }
+{
+    for binding in names {
+        push_bound(out, &binding.name, binding.owner, &binding.value)?;
+        push_byte(out, b'\n')?;
+    }
+    Ok(())
+}
+
+// How many bound names there are, and a line for each.
+fn push_bound_names(out: &mut Vec<u8>, names: &[Binding]) -> Result<(), Refusal>
+    ensures ok { OnOk result (out.new.items ≡ out.old.items ++ list_lines (Some names.now)) }
+    ensures err { IfErr result (λ e. e ≡ Refusal.OutOfMemory) }
+{
+    push_bytes(out, b"list")?;
+    push_number_word(out, names.len() as u64)?;
+    push_byte(out, b'\n')?;
+    push_bound_lines(out, names)
+}
+
+/// Appends the lines of the bound names that were seen, behind one that says how many they are; or the line that none was seen.
+///
+/// # Errors
+/// `OutOfMemory`. Then bytes of the lines may stand at the end.
+pub fn push_listing(out: &mut Vec<u8>, listing: &Listing) -> Result<(), Refusal>
+    ensures ok { OnOk result (out.new.items ≡ out.old.items ++ list_lines listing.now.names) }
+    ensures err { IfErr result (λ e. e ≡ Refusal.OutOfMemory) }
+{
+    match &listing.names {
+        None => push_bytes(out, b"list unseen\n"),
+        Some(names) => push_bound_names(out, names.as_slice()),
+    }
+}
+
 /// Appends the line that this node is asked from now on.
 ///
 /// # Errors
@@ -107,7 +146,7 @@ pub fn push_help(out: &mut Vec<u8>) -> Result<(), Refusal>
 {
     push_bytes(
         out,
-        b"claim NAME [VALUE], update NAME [VALUE], release NAME, transfer NAME OWNER, look NAME, at NODE, help or quit",
+        b"claim NAME [VALUE], update NAME [VALUE], release NAME, transfer NAME OWNER, look NAME, list [PREFIX], at NODE, help or quit",
     )?;
     push_byte(out, b'\n')
 }
@@ -127,7 +166,7 @@ fn push_fault_text(out: &mut Vec<u8>, nodes: Nodes, fault: LineFault) -> Result<
     match fault {
         LineFault::NoCommand => push_bytes(
             out,
-            b"no such command: claim, update, release, transfer, look, at, help or quit is expected",
+            b"no such command: claim, update, release, transfer, look, list, at, help or quit is expected",
         ),
         LineFault::BadName => push_bytes(
             out,

@@ -9,6 +9,8 @@ pub enum ShellLine {
     Submit(Op),
     /// The node that is asked looks at who has this name.
     Look(Name),
+    /// The node that is asked lists the bound names that begin so, or all.
+    Names(Option<Name>),
     /// From now on this node is asked.
     At(NodeId),
     /// The commands that there are.

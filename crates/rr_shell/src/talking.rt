@@ -2,12 +2,13 @@
 
 ghost use Rattle.std.specs.Prelude.{◌≡◌, ◌<◌, IfOk, OnErr};
 ghost use Rattle.rr_shell.specs.Talks.{IsSaidToRequest, IsSaidTo, IsTurn, IsFrontSaid, Talks};
-ghost use Rattle.rr_shell.specs.Texts.{answer_line, move_line, help_line, fault_line};
+ghost use Rattle.rr_shell.specs.Texts.{answer_line, list_lines, move_line, help_line, fault_line};
 
 use crate::answering::Asked;
 use crate::hearing::{Heard, hear};
 use crate::line_read::read_shell_line;
-use crate::line_text::{push_answer, push_fault, push_help, push_move};
+use crate::line_text::{push_answer, push_fault, push_help, push_listing, push_move};
+use crate::listing::Listing;
 use crate::shell_line::{LineFault, ShellLine};
 use rr_script::Answer;
 use rr_stream::{Sink, Source, print_all};
@@ -38,6 +39,14 @@ fn answered(alloc: Global, node: NodeId, answer: &Answer) -> Result<Said, Refusa
 {
     let mut text = Vec::new(alloc);
     push_answer(&mut text, answer)?;
+    Ok(Said { node, text })
+}
+
+fn listed(alloc: Global, node: NodeId, listing: &Listing) -> Result<Said, Refusal>
+    ensures { IfOk result (λ s. (s.node ≡ node) × (s.text.items ≡ list_lines listing.now.names)) }
+{
+    let mut text = Vec::new(alloc);
+    push_listing(&mut text, listing)?;
     Ok(Said { node, text })
 }
 
@@ -78,6 +87,7 @@ fn said_to_request<A: Asked>(
     match line {
         ShellLine::Submit(op) => Ok(Some(answered(alloc, node, &asked.submit(node, op)?)?)),
         ShellLine::Look(name) => Ok(Some(answered(alloc, node, &asked.look(node, name)?)?)),
+        ShellLine::Names(prefix) => Ok(Some(listed(alloc, node, &asked.list(node, prefix)?)?)),
         ShellLine::At(next) => Ok(Some(moved(alloc, *next)?)),
         ShellLine::Help => Ok(Some(helped(alloc, node)?)),
         ShellLine::Quit => Ok(None),

@@ -1,7 +1,10 @@
 //! Clients of a node, and what they ask it with.
 
-ghost use Rattle.std.specs.Prelude.{◌≡◌, IfSome};
+ghost use Rattle.std.specs.Prelude.{◌≡◌, ◌⊎◌, IfSome, IfOk, OnErr, IfErr};
 ghost use mathlib.Core.List.{IsPrefix};
+ghost use Rattle.rr_types.specs.declared.refusal.Refusal.TheVariants.{NoGuard, OutOfMemory};
+ghost use Rattle.rr_types.specs.Registry.{registry_of};
+ghost use Rattle.rr_window.specs.Sights.{entries_of};
 ghost use Rattle.rr_threads.specs.Asking.{IsAnswered, IsSeen, IsAnswerTo};
 
 use crate::desk::{Counter, Desk};
@@ -11,7 +14,8 @@ use crate::shared::Shared;
 use rr_locked::{Place, Turnstile, submit_on};
 use rr_script::{Answer, ScriptLine};
 use rr_types::{Command, Name, NodeId, Op, Refusal, Reply, RequestNo, Value, made_of};
-use rr_window::{Receipt, Seat, Sight, WindowName};
+use rr_window::{Entry, Receipt, Seat, Sight, WindowName};
+use std::alloc::Global;
 use std::marker::Model;
 use std::sync::Wait;
 
@@ -199,6 +203,20 @@ impl<'d, 'x, W: WindowName, T: Turnstile, R: Wait> Handle<'d, 'x, W, T, R> {
                 },
             },
         }
+    }
+
+    /// Lists the entries whose names begin with these bytes, in byte order, without waiting.
+    ///
+    /// # Errors
+    /// `OutOfMemory`. `NoGuard`, where the window gave no guard. Then the client knows what it knew.
+    pub fn list(&mut self, alloc: Global, prefix: &[u8]) -> Result<Vec<Entry>, Refusal>
+        ensures entries { IfOk result (λ entries. entries.items ≡ entries_of prefix.now (registry_of self.new.known)) }
+        ensures later { IsPrefix self.old.known self.new.known }
+        ensures kept { OnErr result (self.new ≡ self.old) }
+        ensures same { self.new.node ≡ self.old.node }
+        ensures err { IfErr result (λ e. (e ≡ OutOfMemory) ⊎ (e ≡ NoGuard)) }
+    {
+        self.seat.list(alloc, prefix)
     }
 
     /// Asks this node what a line asks, no matter which node the line names.

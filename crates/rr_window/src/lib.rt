@@ -2,7 +2,7 @@
 //! of what is published, without waiting for anybody.
 //!
 //! `open` makes a window and `split` its ends. The publisher calls `append` and then `publish`, and hands out receipts. A reader
-//! takes a seat (`Seats::take`), and calls `look`, and `learn` of receipts.
+//! takes a seat (`Seats::take`), and calls `look` and `list`, and `learn` of receipts.
 //!
 //! Contracts see a window's list as its commands. Nothing stores them: readers are served the registry of a beginning
 //! of the list, and that beginning's length.
@@ -10,6 +10,7 @@
 #![tactic(auto)]
 
 mod addition;
+mod entry;
 mod list;
 mod publisher;
 mod receipt;
@@ -17,6 +18,7 @@ mod seat;
 mod served;
 mod sight;
 
+pub use entry::Entry;
 pub use list::{NewList, WindowName};
 pub use publisher::{Publisher, SEATS, Window, open};
 pub use receipt::{Receipt, Told};

@@ -2,12 +2,13 @@
 
 ghost use Rattle.std.specs.Prelude.{◌≡◌, ◌⊎◌, [], IfOk, OnOk, OnErr, IfErr};
 ghost use mathlib.Core.List.{IsPrefix};
-ghost use Rattle.rr_types.specs.declared.refusal.Refusal.TheVariants.{NoGuard, SeatsTaken};
+ghost use Rattle.rr_types.specs.declared.refusal.Refusal.TheVariants.{NoGuard, OutOfMemory, SeatsTaken};
 ghost use Rattle.rr_types.specs.Registry.{registry_of, holding_of};
 ghost use Rattle.rr_window.specs.Lists.{beginning};
 ghost use Rattle.rr_window.specs.Windows.{IsServed};
-ghost use Rattle.rr_window.specs.Sights.{sight_of};
+ghost use Rattle.rr_window.specs.Sights.{sight_of, entries_of};
 
+use crate::entry::Entry;
 use crate::list::{Beginning, WindowName};
 use crate::receipt::Receipt;
 use crate::served::{Served, WindowRule};
@@ -15,6 +16,7 @@ use crate::sight::Sight;
 use core::mem::replace_with;
 use left_right::reader::{Factory, Reader};
 use rr_types::{Name, Refusal};
+use std::alloc::Global;
 use std::marker::Model;
 
 /// The places of a window's readers, at most 64 at a time. Threads may share it.
@@ -106,12 +108,11 @@ fn look_at<W: WindowName>(
     (reading.leave(), seen)
 }
 
-// Looks at a name in what is served, where that is no shorter than what is known.
-fn look_in(served: &Served, name: &Name, known: &Beginning) -> Result<(Sight, Beginning), Refusal>
+// The beginning that is served, where that is no shorter than what is known.
+fn seen_in<'a>(served: &'a Served, known: &Beginning) -> Result<&'a Beginning, Refusal>
     requires { IsServed known.now.book served.now }
-    ensures own { IfOk result (λ r. r.1.book ≡ known.now.book) }
-    ensures entry { IfOk result (λ r. r.0 ≡ sight_of (holding_of (registry_of r.1.list) name.now)) }
-    ensures later { IfOk result (λ r. IsPrefix known.now.list r.1.list) }
+    ensures seen { IfOk result (λ seen. seen.now ≡ served.now.beginning) }
+    ensures later { IfOk result (λ seen. IsPrefix known.now.list seen.now.list) }
     ensures err { IfErr result (λ e. e ≡ NoGuard) }
 {
     let seen = served.beginning();
@@ -120,11 +121,65 @@ fn look_in(served: &Served, name: &Name, known: &Beginning) -> Result<(Sight, Be
         return Err(Refusal::NoGuard);
     }
     known.begins(seen);
+    Ok(seen)
+}
+
+// Looks at a name in what is served, where that is no shorter than what is known.
+fn look_in(served: &Served, name: &Name, known: &Beginning) -> Result<(Sight, Beginning), Refusal>
+    requires { IsServed known.now.book served.now }
+    ensures own { IfOk result (λ r. r.1.book ≡ known.now.book) }
+    ensures entry { IfOk result (λ r. r.0 ≡ sight_of (holding_of (registry_of r.1.list) name.now)) }
+    ensures later { IfOk result (λ r. IsPrefix known.now.list r.1.list) }
+    ensures err { IfErr result (λ e. e ≡ NoGuard) }
+{
+    let seen = seen_in(served, known)?;
     let sight = match served.entry(name) {
         None => Sight::Free,
         Some(holding) => Sight::Bound(holding.owner(), holding.value()),
     };
     Ok((sight, seen.again()))
+}
+
+// Lists entries of what is served now.
+fn list_at<W: WindowName>(
+    reader: Reader<Served, (), WindowRule<W>>,
+    alloc: Global,
+    prefix: &[u8],
+    known: &Beginning,
+) -> (
+    Reader<Served, (), WindowRule<W>>,
+    Result<(Vec<Entry>, Beginning), Refusal>,
+)
+    requires { known.now.book ≡ W.book }
+    ensures own { IfOk result.1 (λ r. r.1.book ≡ W.book) }
+    ensures entries { IfOk result.1 (λ r. r.0.items ≡ entries_of prefix.now (registry_of r.1.list)) }
+    ensures later { IfOk result.1 (λ r. IsPrefix known.now.list r.1.list) }
+    ensures err { IfErr result.1 (λ e. (e ≡ OutOfMemory) ⊎ (e ≡ NoGuard)) }
+{
+    let reading = match reader.enter_as::<WindowRule<W>>() {
+        Ok(reading) => reading,
+        Err(reader) => return (reader, Err(Refusal::NoGuard)),
+    };
+    let seen = list_in(alloc, reading.get(), prefix, known);
+    (reading.leave(), seen)
+}
+
+// Lists entries of what is served, where that is no shorter than what is known.
+fn list_in(
+    alloc: Global,
+    served: &Served,
+    prefix: &[u8],
+    known: &Beginning,
+) -> Result<(Vec<Entry>, Beginning), Refusal>
+    requires { IsServed known.now.book served.now }
+    ensures own { IfOk result (λ r. r.1.book ≡ known.now.book) }
+    ensures entries { IfOk result (λ r. r.0.items ≡ entries_of prefix.now (registry_of r.1.list)) }
+    ensures later { IfOk result (λ r. IsPrefix known.now.list r.1.list) }
+    ensures err { IfErr result (λ e. (e ≡ OutOfMemory) ⊎ (e ≡ NoGuard)) }
+{
+    let seen = seen_in(served, known)?;
+    let entries = served.entries_with(alloc, prefix)?;
+    Ok((entries, seen.again()))
 }
 
 impl<W: WindowName> Seat<W> {
@@ -144,6 +199,26 @@ impl<W: WindowName> Seat<W> {
         let (sight, seen) = looked?;
         self.known = seen;
         Ok(sight)
+    }
+
+    /// The entries whose names begin with these bytes, in byte order. They are those of a beginning of the published list that
+    /// begins with all that this seat has seen and learned. That beginning is then what it has seen. It waits for nobody.
+    ///
+    /// # Errors
+    /// `OutOfMemory`. `NoGuard`, where the window gave no guard, as after its end. Then the seat knows what it knew.
+    pub fn list(&mut self, alloc: Global, prefix: &[u8]) -> Result<Vec<Entry>, Refusal>
+        ensures entries { IfOk result (λ entries. entries.items ≡ entries_of prefix.now (registry_of self.new)) }
+        ensures later { OnOk result (IsPrefix self.old self.new) }
+        ensures kept { OnErr result (self.new ≡ self.old) }
+        ensures err { IfErr result (λ e. (e ≡ OutOfMemory) ⊎ (e ≡ NoGuard)) }
+    {
+        let known = self.known.again();
+        let listed = replace_with(&mut self.reader, (prefix, known), |reader, with| {
+            list_at(reader, alloc, with.0, &with.1)
+        });
+        let (entries, seen) = listed?;
+        self.known = seen;
+        Ok(entries)
     }
 
     /// From now on this seat sees no less than the receipt's list. It waits for nobody and takes no memory.

@@ -1,17 +1,20 @@
 //! What a window serves: the registry of a beginning of its list.
 
-ghost use Rattle.std.specs.Prelude.{◌≡◌, List, []};
+ghost use Rattle.std.specs.Prelude.{◌≡◌, List, [], IfOk, IfErr};
 ghost use Rattle.rr_types.specs.Registry.{holding_of, registry_of, reply_of};
 ghost use Rattle.rr_types.specs.declared.command.Command.{Command};
+ghost use Rattle.rr_types.specs.declared.refusal.Refusal.TheVariants.{OutOfMemory};
 ghost use Rattle.rr_registry.specs.Kept.{kept_of};
+ghost use Rattle.rr_window.specs.Sights.{entries_of};
 ghost use Rattle.rr_window.specs.Windows.{with_addition};
 
 use crate::addition::Addition;
+use crate::entry::{Entry, entries_with};
 use crate::list::{Beginning, WindowName};
 use crossbeam_utils::rule::{Outcome, Protocol};
 use left_right::Absorb;
 use rr_registry::{Holding, Registry};
-use rr_types::{Name, Reply, RequestNo};
+use rr_types::{Name, Refusal, Reply, RequestNo};
 use std::alloc::{AllocError, Global};
 use std::marker::{Model, PhantomData};
 
@@ -53,6 +56,17 @@ impl Served {
         ensures { (list : List Command) → self.now.kept ≡ kept_of list → result ≡ holding_of (registry_of list) name.now }
     {
         self.registry.entry(name)
+    }
+
+    /// The entries whose names begin with these bytes, in byte order.
+    ///
+    /// # Errors
+    /// `OutOfMemory`.
+    pub fn entries_with(&self, alloc: Global, prefix: &[u8]) -> Result<Vec<Entry>, Refusal>
+        ensures ok { (list : List Command) → self.now.kept ≡ kept_of list → IfOk result (λ v. v.items ≡ entries_of prefix.now (registry_of list)) }
+        ensures err { IfErr result (λ e. e ≡ OutOfMemory) }
+    {
+        entries_with(alloc, prefix, self.registry.entries())
     }
 
     /// The reply to a request. It takes no memory.
