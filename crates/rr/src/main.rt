@@ -2,6 +2,7 @@
 #![tactic(auto)]
 
 use rr_run::run;
+use rr_shell::Prompted;
 use rr_stream::{Counted, Watched};
 use std::io::IsTerminal;
 use std::process::ExitCode;
@@ -18,10 +19,19 @@ fn main(rt: HostRuntime) -> ExitCode {
     } else {
         None
     };
+    // A shell's prompt is for people who type, and see the answers.
+    let typing = if rt.stdin().is_terminal()
+        && rt.stdout().is_terminal()
+        && rt.stderr().is_terminal()
+    {
+        Some(rt.stderr())
+    } else {
+        None
+    };
     ExitCode::from(run(
         &rt,
         words_of(&rt),
-        &mut Counted::new(rt.stdin()),
+        &mut Prompted::new(Counted::new(rt.stdin()), typing),
         &mut Watched::new(Counted::new(rt.stdout()), people),
         &mut rt.stderr(),
     ))

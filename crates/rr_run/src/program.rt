@@ -10,7 +10,8 @@ use crate::lock::Lockable;
 use crate::script_run::run_by_words;
 use crate::shell_run::shell_by_words;
 use rr_cli::{Task, end_by_words, end_without_words, read_words};
-use rr_stream::{Sink, Source};
+use rr_shell::Prompting;
+use rr_stream::Sink;
 use std::convert::AsStr;
 use std::fs::OpenFile;
 use std::io;
@@ -29,13 +30,13 @@ use std::thread::Threads;
 /// the folders, ascending, then areas that are formatted, then the run, then the file TAPE.
 ///
 /// `rr shell --nodes NODES --dir DIR [--client CLIENT]` runs nodes over folders in the same way, and reads commands from `input`.
-/// Each line is answered on `out` before the next is read. What goes wrong is told on `err`: the words, then the folders,
-/// ascending, then the file DIR/requests, then the run or a stream.
+/// Each line is answered on `out` before the next is read. Where somebody types, `input` shows a prompt before each. What goes
+/// wrong is told on `err`: the words, then the folders, ascending, then the file DIR/requests, then the run or a stream.
 pub fn execute<
     F: Read + Write + Seek + OpenFile + Drop + Send + Lockable,
     R: Files<File = F> + AllocGlobal + Threads + Wait + Sync,
     S: AsStr,
-    I: Source,
+    I: Prompting,
     O: Sink,
     E: Write,
 >(rt: &R, words: &[S], input: &mut I, out: &mut O, err: &mut E) -> u8
@@ -72,7 +73,7 @@ pub fn execute<
 pub fn run<
     F: Read + Write + Seek + OpenFile + Drop + Send + Lockable,
     R: Files<File = F> + AllocGlobal + Threads + Wait + Sync,
-    I: Source,
+    I: Prompting,
     O: Sink,
     E: Write,
 >(rt: &R, words: io::Result<Vec<String>>, input: &mut I, out: &mut O, err: &mut E) -> u8

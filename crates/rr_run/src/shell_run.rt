@@ -16,8 +16,8 @@ use rr_cli::{end_by_refusal, end_by_stream, end_by_unprinted, nodes_of, number_i
 use rr_disk::{FileDisk, OpenedFile};
 use rr_locked::Open;
 use rr_script::{Answer, ScriptLine};
-use rr_shell::{Asked, Listing, Stop, is_listing_at, is_reply_at, is_sight_at, talk};
-use rr_stream::{Sink, Source};
+use rr_shell::{Asked, Listing, Prompting, Stop, is_listing_at, is_reply_at, is_sight_at, talk};
+use rr_stream::Sink;
 use rr_threads::run_clients;
 use rr_types::{Command, Name, NodeId, Nodes, Op, Refusal, Reply, RequestNo, Value, made_of};
 use rr_words::LAST_CLIENT;
@@ -230,7 +230,7 @@ fn call_beside<
 fn talk_beside<
     F: Read + Write + Seek + OpenFile + Drop + Send,
     R: AllocGlobal + Threads + Wait + Sync,
-    I: Source,
+    I: Prompting,
     O: Sink,
     A: Asked + Drop,
 >(
@@ -284,7 +284,7 @@ fn end_by_talk<R: Files + AllocGlobal, E: Write>(
 fn shell_in<
     F: Read + Write + Seek + OpenFile + Drop + Send,
     R: Files + AllocGlobal + Threads + Wait + Sync,
-    I: Source,
+    I: Prompting,
     O: Sink,
     E: Write,
 >(
@@ -362,7 +362,7 @@ fn client_of(word: Option<&str>) -> Option<u32>
 fn shell_over<
     F: Read + Write + Seek + OpenFile + Drop + Send + Lockable,
     R: Files<File = F> + AllocGlobal + Threads + Wait + Sync,
-    I: Source,
+    I: Prompting,
     O: Sink,
     E: Write,
 >(rt: &R, nodes: Nodes, dir: &str, client: u32, input: &mut I, out: &mut O, err: &mut E) -> u8
@@ -383,7 +383,7 @@ fn shell_over<
 pub(crate) fn shell_by_words<
     F: Read + Write + Seek + OpenFile + Drop + Send + Lockable,
     R: Files<File = F> + AllocGlobal + Threads + Wait + Sync,
-    I: Source,
+    I: Prompting,
     O: Sink,
     E: Write,
 >(

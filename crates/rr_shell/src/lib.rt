@@ -6,6 +6,7 @@ mod hearing;
 mod line_read;
 mod line_text;
 mod listing;
+mod prompting;
 mod shell_line;
 mod talking;
 
@@ -14,5 +15,6 @@ pub use hearing::{Heard, MAX_LINE, hear};
 pub use line_read::read_shell_line;
 pub use line_text::{push_answer, push_fault, push_help, push_listing, push_move};
 pub use listing::{Listing, is_listing_at};
+pub use prompting::{Prompted, Prompting};
 pub use shell_line::{LineFault, ShellLine};
 pub use talking::{Stop, talk};

@@ -9,9 +9,10 @@ use crate::hearing::{Heard, hear};
 use crate::line_read::read_shell_line;
 use crate::line_text::{push_answer, push_fault, push_help, push_listing, push_move};
 use crate::listing::Listing;
+use crate::prompting::Prompting;
 use crate::shell_line::{LineFault, ShellLine};
 use rr_script::Answer;
-use rr_stream::{Sink, Source, print_all};
+use rr_stream::{Sink, print_all};
 use rr_types::{Name, NodeId, Nodes, Op, Refusal, Reply, Value, made_of};
 use std::alloc::Global;
 use std::io;
@@ -120,7 +121,7 @@ fn said_to<A: Asked>(
 }
 
 // Hears a line and says what there is to say to it, where this node is asked. The node that is asked then; none: the talk is over.
-fn take_turn<I: Source, O: Sink, A: Asked>(
+fn take_turn<I: Prompting, O: Sink, A: Asked>(
     alloc: Global,
     nodes: Nodes,
     node: NodeId,
@@ -131,6 +132,7 @@ fn take_turn<I: Source, O: Sink, A: Asked>(
     ensures turn { IfOk result (IsTurn nodes node (I.reading input.old) (I.reading input.new) (O.printing out.old) (O.printing out.new)) }
     ensures front { OnErr result (IsFrontSaid (O.printing out.old) (O.printing out.new)) }
 {
+    input.prompt();
     let heard = match hear(alloc, input) {
         Ok(heard) => heard,
         Err(error) => return Err(Stop::Unread(error)),
@@ -157,13 +159,13 @@ fn first_node(nodes: Nodes) -> NodeId
     }
 }
 
-/// Waits until the nodes can be asked. Then it hears line after line, and says to each what there is to say before it hears the
-/// next. It ends with a line that asks for that, or with the input. Node 0 is asked first.
+/// Waits until the nodes can be asked. Then it hears line after line, each behind a prompt where somebody types, and says to each
+/// what there is to say before it hears the next. It ends with a line that asks for that, or with the input. Node 0 is asked first.
 ///
 /// # Errors
 /// `Refused`: what `asked` refuses with, or `OutOfMemory`; `Unread` and `Unprinted`: those of the streams. By then a front of
 /// one more line may have been said.
-pub fn talk<I: Source, O: Sink, A: Asked>(
+pub fn talk<I: Prompting, O: Sink, A: Asked>(
     alloc: Global,
     nodes: Nodes,
     asked: &mut A,
