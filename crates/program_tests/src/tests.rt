@@ -1,5 +1,6 @@
 mod disks;
 mod folders;
 mod lively;
+mod prompts;
 mod refusals;
 mod streams;
