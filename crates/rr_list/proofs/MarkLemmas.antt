@@ -13,11 +13,11 @@ use Rattle.rr_types.specs.declared.promise.Standing.{Standing}
 use Rattle.rr_types.specs.declared.promise.Standing.TheVariants.{Decided, Open}
 use Rattle.rr_types.specs.declared.promise.Entry.{Entry}
 use Rattle.rr_types.specs.Facts.{instance_of, after_fact, decision_of}
-use Rattle.rr_types.specs.Standings.{standing_from, IsInRound}
+use Rattle.rr_types.specs.Standings.{standing_from}
 use Rattle.rr_types.specs.Promises.{AscendsFrom, standing_in, set_entry, take_on, take_on_all}
 use Rattle.rr_model.specs.NodeState.{decided_from}
 use Rattle.rr_model.proofs.Promised.{standing_in-set_entry, standing_in-take_on_all}
-use Rattle.rr_list.specs.Listed.{KeepsPromised, AllInRound}
+use Rattle.rr_list.specs.Listed.{KeepsPromised}
 use Rattle.rr_list.specs.Marked.{entries_in, AreEntered, decision_after, decided_by}
 use Rattle.rr_list.proofs.TableLemmas.{eq_nat_cmp}
 
@@ -96,7 +96,7 @@ some_from (Some s) i (f ∷ fs) h = at (instance_of f == i) refl (some_from (aft
     at true e x y = x
     at false e x y = y
 
-none_is : {A : Type 0} (o : Option A) → o ≡ None → is_some o ≡ true → ⊥
+pub none_is : {A : Type 0} (o : Option A) → o ≡ None → is_some o ≡ true → ⊥
 none_is None h t = cc
 none_is (Some x) h t = cc
 
@@ -161,7 +161,7 @@ above_all : (k : ℕ) (es : List Entry) → AscendsFrom k es → above k es ≡ 
 above_all k [] h = refl
 above_all k (e ∷ es) h = let l = h.0 in let o : nat_lt e.instance k ≡ false = le-ltb _ _ (omega arith) in rw o
 
-none_below : (low : ℕ) (es : List Entry) (i : ℕ) → AscendsFrom low es → i < low → standing_in es i ≡ None
+pub none_below : (low : ℕ) (es : List Entry) (i : ℕ) → AscendsFrom low es → i < low → standing_in es i ≡ None
 none_below low [] i h l = refl
 none_below low (e ∷ es) i h l = let k = h.0 in let o : (e.instance == i) ≡ false = ne_eqb _ _ (λ x. omega (arith, x)) in rw o (none_below (e.instance + 1) es i h.1 (omega arith))
 
@@ -212,7 +212,7 @@ run_more es k v h e = subst (λ d. FollowsBy es k d) e (run_follows 0 k es h)
 pub run_all : (es : List Entry) → AscendsFrom 0 es → run_from es 0 ≡ decided_from 0 es
 run_all es h = ap (decided_from 0) (above_all 0 es h)
 
-some_or : {A Z : Type 0} (o : Option A) → (o ≡ None → Z) → ((x : A) → o ≡ Some x → Z) → Z
+pub some_or : {A Z : Type 0} (o : Option A) → (o ≡ None → Z) → ((x : A) → o ≡ Some x → Z) → Z
 some_or None f g = f refl
 some_or (Some x) f g = g x refl
 
@@ -313,17 +313,8 @@ pub found_all : (after : List Entry) (found : List Command) (k : ℕ) → Ascend
 found_all after found k h e = ap (λ c. found ++ c) (run_end after k h (sym e)) ∙ append-nil found
 
 -- the facts from place k on
-facts_at : (fs : List Fact) (k : ℕ) (f : Fact) → k < length fs → f ≡ get_or fs k f → drop k fs ≡ f ∷ drop (k + 1) fs
+pub facts_at : (fs : List Fact) (k : ℕ) (f : Fact) → k < length fs → f ≡ get_or fs k f → drop k fs ≡ f ∷ drop (k + 1) fs
 facts_at fs k f l g = drop_more fs k f l ∙ ap (λ (x : Fact). x ∷ drop (k + 1) fs) (sym g)
-
-pub take_on_more : (es : List Entry) (fs : List Fact) (k : ℕ) (f : Fact) → k < length fs → f ≡ get_or fs k f → take_on_all es (drop k fs) ≡ take_on_all (take_on es f) (drop (k + 1) fs)
-take_on_more es fs k f l g = ap (λ (r : List Fact). take_on_all es r) (facts_at fs k f l g)
-
-pub in_round_here : (es : List Entry) (fs : List Fact) (k : ℕ) (f : Fact) → k < length fs → f ≡ get_or fs k f → AllInRound es (drop k fs) → IsInRound (standing_in es (instance_of f)) f
-in_round_here es fs k f l g h = let P : List Fact → Type 0 = λ r. AllInRound es r in (subst P (facts_at fs k f l g) h).0
-
-pub in_round_more : (es : List Entry) (fs : List Fact) (k : ℕ) (f : Fact) → k < length fs → f ≡ get_or fs k f → AllInRound es (drop k fs) → AllInRound (take_on es f) (drop (k + 1) fs)
-in_round_more es fs k f l g h = let P : List Fact → Type 0 = λ r. AllInRound es r in (subst P (facts_at fs k f l g) h).1
 
 pub take_on_end : (es : List Entry) (fs : List Fact) (k : ℕ) → length fs ≤ k → take_on_all es (drop k fs) ≡ es
 take_on_end es fs k l = ap (λ (r : List Fact). take_on_all es r) (drop_all k fs l)

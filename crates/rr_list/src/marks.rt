@@ -2,22 +2,27 @@
 
 ghost use Rattle.std.specs.Prelude.{◌≡◌, ◌<◌, ◌≤◌, ◌++◌, ℕ, [], Some, None, length, slice_get, false, is_some, IsTrue, IfSome, IfOk, IfErr, OnOk, MatchOption};
 ghost use Rattle.std.specs.List.{All};
+ghost use Rattle.rr_types.specs.declared.promise.Standing.TheVariants as stands;
 ghost use Rattle.rr_types.specs.Facts.{instance_of, decision_of, after_fact};
 ghost use Rattle.rr_types.specs.Promises.{standing_in, set_entry, take_on, take_on_all, IsAscending};
 ghost use Rattle.rr_model.specs.NodeState.{decided_from};
 ghost use Rattle.rr_types.specs.Standings.{IsInRound};
 ghost use Rattle.rr_list.specs.Listed.{KeepsPromised, AllInRound};
-ghost use Rattle.rr_list.specs.Marked.{marked_in, has_mark_place, AreMarks, IsBegun, IsCounted, HaveMarkPlaces, set_all, decision_after, decided_by};
+ghost use Rattle.rr_list.specs.Marked.{marked_in, decided_entries, has_mark_place, AreMarks, IsNext, IsBegun, IsCounted, HaveMarkPlaces, facts_from, set_all, decision_after, decided_by};
 
-use rr_places::Numbered;
+use rr_places::{insert, make_place, put, value_of};
 use rr_round::Row;
 use rr_types::{Command, Entry, Fact, INSTANCES, Instance, Op, Refusal, Standing, made_of};
 use std::alloc::Global;
+use std::collections::BTreeMap;
 
-/// Where each instance stands by the marked facts, and how many commands the decided prefix has.
+/// Where each instance stands by the marked facts, and how many commands the decided prefix has. An entry takes twice the room
+/// of a command. So the prefix stands in a vector of its commands, as far as there was memory to move them, and only
+/// other instances have places for an entry, in a tree.
 #[derive(Drop)]
 pub(crate) struct Marks {
-    entries: Numbered<Entry>,
+    commands: Vec<Command>,
+    entries: BTreeMap<u32, Option<Entry>>,
     prefix: u32,
 }
 
@@ -29,18 +34,31 @@ impl Marks {
         ensures counted { IsCounted result }
     {
         Marks {
-            entries: Numbered::new(alloc),
+            commands: Vec::new(alloc),
+            entries: BTreeMap::new(alloc),
             prefix: 0,
         }
     }
 
-    /// The entry of the instance with this number, if something of it is marked.
+    /// The command of the instance with this number, if it is in the vector.
+    fn moved(&self, number: u32) -> Option<Command>
+        ensures { MatchOption result (length self.now.commands.items ≤ number) (λ v. standing_in (marked_in self.now) number ≡ Some (stands.Decided v)) }
+    {
+        made_of!(Op);
+        match self.commands.get(number as usize) {
+            Some(command) => Some(*command),
+            None => None,
+        }
+    }
+
+    /// The entry of an instance that isn't in the vector, if something of it is marked.
     fn entry(&self, number: u32) -> Option<&Entry>
-        requires { AreMarks self.now }
+        requires marks { AreMarks self.now }
+        requires behind { length self.now.commands.items ≤ number }
         ensures { MatchOption result (standing_in (marked_in self.now) number ≡ None) (λ e. standing_in (marked_in self.now) number ≡ Some e.now.standing) }
     {
         made_of!(Command, Op, Standing);
-        match self.entries.get(number) {
+        match value_of(&self.entries, &number) {
             Some(entry) => Some(entry),
             None => None,
         }
@@ -51,9 +69,13 @@ impl Marks {
         requires { AreMarks self.now }
         ensures { result ≡ standing_in (marked_in self.now) number }
     {
-        match self.entry(number) {
-            Some(entry) => Some(entry.standing),
-            None => None,
+        made_of!(Command, Op, Standing);
+        match self.moved(number) {
+            Some(command) => Some(Standing::Decided(command)),
+            None => match self.entry(number) {
+                Some(entry) => Some(entry.standing),
+                None => None,
+            },
         }
     }
 
@@ -67,7 +89,10 @@ impl Marks {
         ensures err { IfErr result (λ e. e ≡ Refusal.OutOfMemory) }
     {
         made_of!(Command, Op, Standing);
-        self.entries.make_place(instance.number())?;
+        let number = instance.number();
+        if number as usize >= self.commands.len() {
+            make_place(&mut self.entries, number)?;
+        }
         Ok(())
     }
 
@@ -86,9 +111,10 @@ impl Marks {
         Ok(())
     }
 
-    /// Sets where an instance stands that has a place. It needs no memory.
-    pub(crate) fn set(&mut self, entry: &Entry)
+    /// Sets where an instance of the tree stands that has a place. It needs no memory.
+    fn set(&mut self, entry: &Entry)
         requires marks { AreMarks self.old }
+        requires behind { length self.old.commands.items ≤ entry.now.instance }
         requires place { IsTrue (has_mark_place self.old entry.now.instance) }
         ensures value { marked_in self.new ≡ set_entry entry.now.instance entry.now.standing (marked_in self.old) }
         ensures marks { AreMarks self.new }
@@ -97,12 +123,13 @@ impl Marks {
     {
         made_of!(Command, Op, Standing);
         let number = entry.instance.number();
-        self.entries.put(number, *entry);
+        put(&mut self.entries, number, Some(*entry));
     }
 
-    /// Sets where an instance stands, and makes a place for it where it has none.
+    /// Sets where an instance of the tree stands, and makes a place for it where it has none.
     fn insert(&mut self, entry: &Entry) -> Result<(), Refusal>
-        requires { AreMarks self.old }
+        requires marks { AreMarks self.old }
+        requires behind { length self.old.commands.items ≤ entry.now.instance }
         ensures value { OnOk result (marked_in self.new ≡ set_entry entry.now.instance entry.now.standing (marked_in self.old)) }
         ensures marks { AreMarks self.new }
         ensures prefix { self.new.prefix ≡ self.old.prefix }
@@ -111,13 +138,14 @@ impl Marks {
         ensures err { IfErr result (λ e. e ≡ Refusal.OutOfMemory) }
     {
         made_of!(Command, Op, Standing);
-        self.entries.insert(entry.instance.number(), *entry)?;
+        insert(&mut self.entries, entry.instance.number(), *entry)?;
         Ok(())
     }
 
-    /// Takes a fact on.
+    /// Takes a fact about an instance behind the prefix on.
     fn take_on(&mut self, fact: &Fact)
         requires marks { AreMarks self.old }
+        requires behind { self.old.prefix ≤ instance_of fact.now }
         requires round { IsInRound (standing_in (marked_in self.old) (instance_of fact.now)) fact.now }
         requires place { has_mark_place self.old (instance_of fact.now) ≡ false → after_fact (standing_in (marked_in self.old) (instance_of fact.now)) fact.now ≡ None }
         ensures value { marked_in self.new ≡ take_on (marked_in self.old) fact.now }
@@ -131,19 +159,21 @@ impl Marks {
         }
     }
 
-    /// Takes facts on, oldest first.
-    #[tactic(auto, using(crate::proofs::MarkLemmas::take_on_more, crate::proofs::MarkLemmas::in_round_here, crate::proofs::MarkLemmas::in_round_more, crate::proofs::MarkLemmas::take_on_end))]
+    /// Takes those of the facts on that are about instances behind the prefix, oldest first.
+    #[tactic(auto, using(crate::proofs::MarkLemmas::take_on_end))]
     fn take_on_all(&mut self, facts: &[Fact])
         requires marks { AreMarks self.old }
-        requires rounds { AllInRound (marked_in self.old) facts.now }
-        requires places { HaveMarkPlaces self.old facts.now }
-        ensures value { marked_in self.new ≡ take_on_all (marked_in self.old) facts.now }
+        requires rounds { AllInRound (marked_in self.old) (facts_from self.old.prefix facts.now) }
+        requires places { HaveMarkPlaces self.old (facts_from self.old.prefix facts.now) }
+        ensures value { marked_in self.new ≡ take_on_all (marked_in self.old) (facts_from self.old.prefix facts.now) }
         ensures marks { AreMarks self.new }
         ensures prefix { self.new.prefix ≡ self.old.prefix }
         ensures places { (i : ℕ) → has_mark_place self.new i ≡ has_mark_place self.old i }
     {
         for fact in facts {
-            self.take_on(fact);
+            if fact.instance().number() >= self.prefix {
+                self.take_on(fact);
+            }
         }
     }
 
@@ -153,15 +183,19 @@ impl Marks {
         ensures value { result ≡ decision_of (standing_in (marked_in self.now) number) }
         ensures range { IfSome result (λ _. number < 1048576) }
     {
-        match self.entry(number) {
-            Some(entry) => entry.standing.decision(),
-            None => None,
+        match self.moved(number) {
+            Some(command) => Some(command),
+            None => match self.entry(number) {
+                Some(entry) => entry.standing.decision(),
+                None => None,
+            },
         }
     }
 
-    /// Whether the instance with this number has decided.
+    /// Whether an instance behind the prefix has decided.
     fn has_decided(&self, number: u32) -> bool
-        requires { AreMarks self.now }
+        requires marks { AreMarks self.now }
+        requires behind { self.now.prefix ≤ number }
         ensures value { result ≡ is_some (decision_of (standing_in (marked_in self.now) number)) }
         ensures range { IsTrue result → number < 1048576 }
     {
@@ -176,7 +210,7 @@ impl Marks {
         requires marks { AreMarks self.now }
         requires begun { IsBegun self.now }
         ensures value { result ≡ length (decided_from 0 (marked_in self.now)) }
-        ensures range { result ≤ 1048576 }
+        ensures range { (self.now.prefix ≤ result) × (result ≤ 1048576) }
     {
         for place in self.prefix..INSTANCES {
             if !self.has_decided(place) {
@@ -186,17 +220,58 @@ impl Marks {
         INSTANCES
     }
 
+    /// The command of the first instance in the tree, if that is the next of the prefix.
+    fn next_command(&self) -> Option<Command>
+        requires { AreMarks self.now }
+        ensures { IfSome result (λ v. IsNext self.now v) }
+    {
+        match self.entries.first_key_value() {
+            Some((number, Some(entry))) => {
+                if *number as usize != self.commands.len() || *number >= self.prefix {
+                    return None;
+                }
+                entry.standing.decision()
+            }
+            Some((_, None)) => None,
+            None => None,
+        }
+    }
+
+    /// Moves commands of the prefix that are next in turn from the tree to the vector, as far as there is memory.
+    fn close_up(&mut self)
+        requires { AreMarks self.old }
+        ensures value { marked_in self.new ≡ marked_in self.old }
+        ensures marks { AreMarks self.new }
+        ensures prefix { self.new.prefix ≡ self.old.prefix }
+        ensures places { (i : ℕ) → has_mark_place self.new i ≡ has_mark_place self.old i }
+    {
+        made_of!(Command, Op, Standing);
+        while let Some(command) = self.next_command() {
+            if self.commands.try_reserve(1).is_err() {
+                return;
+            }
+            match self.entries.pop_first() {
+                Some(_) => self.commands.push_reserved(command),
+                None => return,
+            }
+        }
+    }
+
     /// Counts the decided prefix on from the present count. It needs no memory.
     pub(crate) fn count_on(&mut self)
         requires marks { AreMarks self.old }
         requires begun { IsBegun self.old }
-        ensures entries { self.new.entries ≡ self.old.entries }
+        ensures value { marked_in self.new ≡ marked_in self.old }
+        ensures marks { AreMarks self.new }
         ensures counted { IsCounted self.new }
+        ensures places { (i : ℕ) → has_mark_place self.new i ≡ has_mark_place self.old i }
     {
         self.prefix = self.prefix_end();
+        self.close_up();
     }
 
-    /// Marks facts, each of whose instances has a place. It needs no memory.
+    /// Marks facts, each of whose instances has a place. It needs no memory. What an instance of the prefix has decided stays, so
+    /// facts about it change nothing in the end, and are left out.
     pub(crate) fn mark(&mut self, facts: &[Fact])
         requires marks { AreMarks self.old }
         requires counted { IsCounted self.old }
@@ -238,7 +313,8 @@ impl Marks {
     /// Marks entries, one after another.
     #[tactic(auto, using(crate::proofs::ListedLemmas::set_all_more, crate::proofs::ListedLemmas::set_all_end))]
     fn set_all(&mut self, entries: &[Entry]) -> Result<(), Refusal>
-        requires { AreMarks self.old }
+        requires marks { AreMarks self.old }
+        requires empty { self.old.prefix ≡ 0 }
         ensures value { OnOk result (marked_in self.new ≡ set_all (marked_in self.old) entries.now) }
         ensures marks { AreMarks self.new }
         ensures prefix { self.new.prefix ≡ self.old.prefix }
@@ -315,6 +391,24 @@ impl Marks {
         }
     }
 
+    /// The entries of the commands in the vector.
+    fn moved_entries(&self, alloc: Global) -> Result<Vec<Entry>, Refusal>
+        requires { AreMarks self.now }
+        ensures ok { IfOk result (λ entries. entries.items ≡ decided_entries 0 self.now.commands.items) }
+        ensures err { IfErr result (λ e. e ≡ Refusal.OutOfMemory) }
+    {
+        made_of!(Command, Op, Standing);
+        let mut entries = Vec::new(alloc);
+        for place in 0..self.commands.len() {
+            let standing = Standing::Decided(self.commands[place]);
+            match Instance::new(place as u32) {
+                Some(instance) => entries.push(Entry { instance, standing })?,
+                None => unreachable!(),
+            }
+        }
+        Ok(entries)
+    }
+
     /// The promise of the marked facts.
     pub(crate) fn promise(&self, alloc: Global) -> Result<Vec<Entry>, Refusal>
         requires { AreMarks self.now }
@@ -323,7 +417,13 @@ impl Marks {
         ensures err { IfErr result (λ e. e ≡ Refusal.OutOfMemory) }
     {
         made_of!(Command, Op, Standing);
-        let promise = self.entries.values(alloc)?;
+        let mut promise = self.moved_entries(alloc)?;
+        let mut rest = self.entries.iter();
+        while let Some((_, place)) = rest.next() {
+            if let Some(entry) = place {
+                promise.push(*entry)?;
+            }
+        }
         Ok(promise)
     }
 }

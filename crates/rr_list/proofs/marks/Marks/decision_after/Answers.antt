@@ -1,5 +1,6 @@
 use Rattle.std.proofs.Common.{sym, ◌∙◌, ap}
 use Rattle.rr_list.specs.Marked.{marked_in}
+use Rattle.rr_list.proofs.PrefixLemmas.{ascending}
 use Rattle.rr_list.proofs.MarkLemmas.{decided_after, decided_in, prefix_open}
 use Rattle.rr_list.proofs.marks.Marks.decision_after.Goals.{then-number-self+in_default, else-number-self}
 use Rattle.rr_list.proofs.marks.Marks.decision_after.Goals as goal
@@ -11,5 +12,5 @@ returns-clause-value c =
       | then-number-self+in_default w ↦ c.decided_by.ensures.value ∙ sym (decided_after es c.args.facts.now c.args.number (sym w.in_default.ensures.value))
       | else-number-self w ↦
           c.decided_by.ensures.value
-          ∙ sym (decided_after es c.args.facts.now c.args.number (ap (decided_in es) w.if-number-self.false ∙ prefix_open es c.args.self.now.prefix c.requires.marks.ascend c.requires.counted.count))
+          ∙ sym (decided_after es c.args.facts.now c.args.number (ap (decided_in es) w.if-number-self.false ∙ prefix_open es c.args.self.now.prefix (ascending c.args.self.now c.requires.marks) c.requires.counted.count))
     ]

@@ -1,19 +1,10 @@
-use Rattle.std.proofs.Common.{ap, ◌∙◌, arith}
-use Rattle.rr_places.specs.Places.{filled}
-use Rattle.rr_list.specs.Marked.{entries_in}
-use Rattle.rr_list.proofs.MarkLemmas.{set_entry_at, entered_at, ascend_set, instances_set}
+use Rattle.std.proofs.Common.{refl}
+use Rattle.rr_list.proofs.PrefixLemmas.{tree_value, tree_marks}
 use Rattle.rr_list.proofs.marks.Marks.insert.Goals as goal
 
 pub returns-clause-value : goal.returns-clause-value
-returns-clause-value c = ap (λ es. entries_in es) c.in_ok-insert.ensures.filled ∙ set_entry_at c.args.entry.now _ (filled c.args.self.now.entries) c.requires.entered c.number.ensures.value
+returns-clause-value c = tree_value c.args.self.now (record c.args.self.now { entries = c.insert.new.map }) _ c.args.entry.now c.requires.marks c.number.ensures.value c.requires.behind refl c.in_ok-insert.ensures.filled
 
 pub returns-clause-marks : goal.returns-clause-marks
 returns-clause-marks c =
-    let value = ap (λ es. entries_in es) c.in_ok-insert.ensures.filled ∙ set_entry_at c.args.entry.now _ (filled c.args.self.now.entries) c.requires.entered c.number.ensures.value in
-    let e = c.number.ensures.value in
-    let r = c.number.ensures.range in
-    record {
-      entered = rw c.in_ok-insert.ensures.filled (entered_at c.args.entry.now _ (filled c.args.self.now.entries) c.requires.entered c.number.ensures.value);
-      ascend = rw value (ascend_set 0 c.args.entry.now.instance c.args.entry.now.standing (entries_in (filled c.args.self.now.entries)) c.requires.ascend (omega arith));
-      instances = rw value (instances_set c.args.entry.now.instance c.args.entry.now.standing (entries_in (filled c.args.self.now.entries)) (omega (arith, e, r)) c.requires.instances);
-    }
+    tree_marks c.args.self.now (record c.args.self.now { entries = c.insert.new.map }) _ c.args.entry.now c.requires.marks c.number.ensures.value c.number.ensures.range c.requires.behind refl refl c.in_ok-insert.ensures.filled

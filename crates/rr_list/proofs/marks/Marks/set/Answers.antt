@@ -1,19 +1,16 @@
-use Rattle.std.proofs.Common.{ap, ◌∙◌, arith}
-use Rattle.rr_places.specs.Places.{filled}
-use Rattle.rr_list.specs.Marked.{entries_in}
-use Rattle.rr_list.proofs.MarkLemmas.{set_entry_at, entered_at, ascend_set, instances_set}
+use Rattle.std.proofs.Common.{refl, ap, ◌||◌, length, nat_lt}
+use Rattle.rr_list.proofs.PrefixLemmas.{tree_value, tree_marks, place_high}
 use Rattle.rr_list.proofs.marks.Marks.set.Goals as goal
 
+pub put-requires-clause-place : goal.put-requires-clause-place
+put-requires-clause-place c = place_high c.args.self.now _ c.args.entry.now.instance c.number-number.ensures.value c.requires.behind c.requires.place
+
 pub returns-clause-value : goal.returns-clause-value
-returns-clause-value c = ap (λ es. entries_in es) c.put.ensures.filled ∙ set_entry_at c.args.entry.now _ (filled c.args.self.now.entries) c.requires.marks.entered c.number-number.ensures.value
+returns-clause-value c = tree_value c.args.self.now (record c.args.self.now { entries = c.put.new.map }) _ c.args.entry.now c.requires.marks c.number-number.ensures.value c.requires.behind refl c.put.ensures.filled
 
 pub returns-clause-marks : goal.returns-clause-marks
 returns-clause-marks c =
-    let value = ap (λ es. entries_in es) c.put.ensures.filled ∙ set_entry_at c.args.entry.now _ (filled c.args.self.now.entries) c.requires.marks.entered c.number-number.ensures.value in
-    let e = c.number-number.ensures.value in
-    let r = c.number-number.ensures.range in
-    record {
-      entered = rw c.put.ensures.filled (entered_at c.args.entry.now _ (filled c.args.self.now.entries) c.requires.marks.entered c.number-number.ensures.value);
-      ascend = rw value (ascend_set 0 c.args.entry.now.instance c.args.entry.now.standing (entries_in (filled c.args.self.now.entries)) c.requires.marks.ascend (omega arith));
-      instances = rw value (instances_set c.args.entry.now.instance c.args.entry.now.standing (entries_in (filled c.args.self.now.entries)) (omega (arith, e, r)) c.requires.marks.instances);
-    }
+    tree_marks c.args.self.now (record c.args.self.now { entries = c.put.new.map }) _ c.args.entry.now c.requires.marks c.number-number.ensures.value c.number-number.ensures.range c.requires.behind refl refl c.put.ensures.filled
+
+pub returns-clause-places : goal.returns-clause-places
+returns-clause-places c = λ i. ap (λ b. nat_lt i (length c.args.self.now.commands.items) || b) (c.put.ensures.places i)
