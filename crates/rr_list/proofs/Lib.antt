@@ -4,5 +4,6 @@ pub mod TableLemmas
 pub mod NotedLemmas
 pub mod MarkLemmas
 pub mod PrefixLemmas
+pub mod RestoreLemmas
 pub mod OpenLemmas
 pub mod ListedLemmas

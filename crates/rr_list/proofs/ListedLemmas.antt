@@ -1,59 +1,18 @@
 -- The table of instances: a promise restored, and the places of its marks.
-use Rattle.std.proofs.Common.{◌≡◌, ℕ, ◌+◌, ◌<◌, ◌≤◌, Bool, true, false, ◌==◌, nat_lt, ◌||◌, List, [], ◌∷◌, ◌++◌, map, length, drop, get_or, IsTrue, refl, ap, sym, ◌∙◌, arith, subst, eqb-true, append_assoc, append-nil}
+use Rattle.std.proofs.Common.{◌≡◌, ℕ, Bool, true, false, ◌==◌, ◌||◌, List, [], ◌∷◌, map, length, IsTrue, refl, ap, sym, ◌∙◌, arith, subst, eqb-true}
 use Rattle.std.specs.List.{list_any, All}
-use Rattle.std.proofs.lemmas.Bool.{ne_eqb, le-ltb}
-use Rattle.std.proofs.lemmas.List.{drop_all, drop_more}
 use Rattle.std.proofs.lemmas.List.Elements.{All-head, All-tail}
 use Rattle.std.proofs.lemmas.Option.{none-some}
 use Rattle.rr_types.specs.declared.promise.Entry.{Entry}
 use Rattle.rr_types.specs.declared.fact.Fact.{Fact}
-use Rattle.rr_types.specs.Promises.{AscendsFrom, set_entry, take_on_all}
+use Rattle.rr_types.specs.Promises.{take_on_all}
 use Rattle.rr_model.specs.NodeState.{Row, row_of, decided_from}
 use Rattle.rr_list.specs.declared.marks.Marks.{Marks}
 use Rattle.rr_list.specs.Listed.{Listed, put_rows, KeepsDecisions, HaveRows}
 use Rattle.rr_list.specs.Rowed.{AscendFrom, AreInstances}
-use Rattle.rr_list.specs.Marked.{has_mark_place, marked_in, AreMarks, IsCounted, HaveMarkPlaces, set_all}
+use Rattle.rr_list.specs.Marked.{has_mark_place, marked_in, AreMarks, IsCounted, HaveMarkPlaces}
 use Rattle.rr_list.specs.Opened.{open_in, ArePlaced, IsListed}
 use Rattle.rr_list.proofs.NotedLemmas.{row_stays}
-
-pub set_all_more : (es xs : List Entry) (k : ℕ) (x : Entry) → k < length xs → x ≡ get_or xs k x → set_all es (drop k xs) ≡ set_all (set_entry x.instance x.standing es) (drop (k + 1) xs)
-set_all_more es xs k x l g = ap (set_all es) (drop_more xs k x l ∙ ap (λ (y : Entry). y ∷ drop (k + 1) xs) (sym g))
-
-pub set_all_end : (es xs : List Entry) (k : ℕ) → length xs ≤ k → set_all es (drop k xs) ≡ es
-set_all_end es xs k l = ap (set_all es) (drop_all k xs l)
-
-abbrev pub AreUnder : ℕ → List Entry → Type 0
-AreUnder low [] = Unit {0}
-AreUnder low (e ∷ es) = (e.instance < low) × AreUnder low es
-
-set_behind : (x : Entry) (es : List Entry) → AreUnder x.instance es → set_entry x.instance x.standing es ≡ es ++ x ∷ []
-set_behind x [] h = refl
-set_behind x (e ∷ es) h =
-    let k = h.0 in
-    let a : nat_lt x.instance e.instance ≡ false = le-ltb _ _ (omega arith) in
-    let b : (x.instance == e.instance) ≡ false = ne_eqb _ _ (λ y. omega (arith, y)) in
-    rw (a, b) (ap (λ z. e ∷ z) (set_behind x es h.1))
-
-under_push : (low : ℕ) (es : List Entry) (x : Entry) → AreUnder low es → x.instance < low → AreUnder low (es ++ x ∷ [])
-under_push low [] x h l = (l, tt)
-under_push low (e ∷ es) x h l = (h.0, under_push low es x h.1 l)
-
-under_more : (low high : ℕ) (es : List Entry) → low ≤ high → AreUnder low es → AreUnder high es
-under_more low high [] l h = tt
-under_more low high (e ∷ es) l h = let k = h.0 in (omega arith, under_more low high es l h.1)
-
-set_promise : (low : ℕ) (es xs : List Entry) → AscendsFrom low xs → AreUnder low es → set_all es xs ≡ es ++ xs
-set_promise low es [] h b = sym (append-nil es)
-set_promise low es (x ∷ xs) h b =
-    let l = h.0 in
-    let below : AreUnder x.instance es = under_more low x.instance es (omega arith) b in
-    ap (λ z. set_all z xs) (set_behind x es below)
-    ∙ set_promise (x.instance + 1) (es ++ x ∷ []) xs h.1 (under_push (x.instance + 1) es x (under_more x.instance (x.instance + 1) es (omega arith) below) (omega arith))
-    ∙ append_assoc es (x ∷ []) xs
-
--- the entries of a promise set among none
-pub promise_set : (xs : List Entry) → AscendsFrom 0 xs → set_all [] xs ≡ xs
-promise_set xs h = set_promise 0 [] xs h tt
 
 by_bool : {Z : Type 0} (b : Bool) → (b ≡ true → Z) → (b ≡ false → Z) → Z
 by_bool true f g = f refl

@@ -7,7 +7,7 @@ use Rattle.rr_types.specs.declared.fact.Fact.TheVariants.{Enter, Propose, Adopt,
 use Rattle.rr_types.specs.Facts.{instance_of, decision_of}
 use Rattle.rr_types.specs.declared.promise.Entry.{Entry}
 use Rattle.rr_types.specs.declared.promise.Standing.TheVariants.{Decided}
-use Rattle.rr_types.specs.Promises.{AscendsFrom, standing_in, set_entry, take_on_all}
+use Rattle.rr_types.specs.Promises.{AscendsFrom, standing_in, take_on_all}
 use Rattle.rr_model.specs.NodeState.{decided_from}
 use Rattle.rr_places.specs.Places.{filled, has_place}
 use Rattle.rr_list.specs.declared.marks.Marks.{Marks}
@@ -70,11 +70,6 @@ decided_by d i (f ∷ fs) = decided_by (if instance_of f == i then decision_afte
 abbrev pub facts_from : ℕ → List Fact → List Fact
 facts_from i [] = []
 facts_from i (f ∷ fs) = if nat_lt (instance_of f) i then facts_from i fs else f ∷ facts_from i fs
-
--- entries set one after another
-abbrev pub set_all : List Entry → List Entry → List Entry
-set_all es [] = es
-set_all es (x ∷ xs) = set_all (set_entry x.instance x.standing es) xs
 
 -- each instance that facts promise something of has a place
 abbrev pub HaveMarkPlaces : Marks → List Fact → Type 0

@@ -8,7 +8,7 @@ ghost use Rattle.rr_types.specs.Promises.{standing_in, set_entry, take_on, take_
 ghost use Rattle.rr_model.specs.NodeState.{decided_from};
 ghost use Rattle.rr_types.specs.Standings.{IsInRound};
 ghost use Rattle.rr_list.specs.Listed.{KeepsPromised, AllInRound};
-ghost use Rattle.rr_list.specs.Marked.{marked_in, decided_entries, has_mark_place, AreMarks, IsNext, IsBegun, IsCounted, HaveMarkPlaces, facts_from, set_all, decision_after, decided_by};
+ghost use Rattle.rr_list.specs.Marked.{marked_in, decided_entries, has_mark_place, AreMarks, IsNext, IsBegun, IsCounted, HaveMarkPlaces, facts_from, decision_after, decided_by};
 
 use rr_places::{insert, make_place, put, value_of};
 use rr_round::Row;
@@ -258,7 +258,7 @@ impl Marks {
     }
 
     /// Counts the decided prefix on from the present count. It needs no memory.
-    pub(crate) fn count_on(&mut self)
+    fn count_on(&mut self)
         requires marks { AreMarks self.old }
         requires begun { IsBegun self.old }
         ensures value { marked_in self.new ≡ marked_in self.old }
@@ -293,7 +293,8 @@ impl Marks {
     /// Marks the entries of a promise where nothing is marked. Where memory is refused, some are marked.
     pub(crate) fn restore(&mut self, promise: &[Entry]) -> Result<(), Refusal>
         requires marks { AreMarks self.old }
-        requires empty { (marked_in self.old ≡ []) × (self.old.prefix ≡ 0) }
+        requires counted { IsCounted self.old }
+        requires empty { marked_in self.old ≡ [] }
         requires ascending { IsAscending promise.now }
         ensures value { OnOk result (marked_in self.new ≡ promise.now) }
         ensures marks { AreMarks self.new }
@@ -301,29 +302,10 @@ impl Marks {
         ensures made { OnOk result (All (λ e. IsTrue (has_mark_place self.new e.instance)) promise.now) }
         ensures err { IfErr result (λ e. e ≡ Refusal.OutOfMemory) }
     {
-        match self.set_all(promise) {
-            Ok(()) => {
-                self.count_on();
-                Ok(())
-            }
-            Err(refusal) => Err(refusal),
-        }
-    }
-
-    /// Marks entries, one after another.
-    #[tactic(auto, using(crate::proofs::ListedLemmas::set_all_more, crate::proofs::ListedLemmas::set_all_end))]
-    fn set_all(&mut self, entries: &[Entry]) -> Result<(), Refusal>
-        requires marks { AreMarks self.old }
-        requires empty { self.old.prefix ≡ 0 }
-        ensures value { OnOk result (marked_in self.new ≡ set_all (marked_in self.old) entries.now) }
-        ensures marks { AreMarks self.new }
-        ensures prefix { self.new.prefix ≡ self.old.prefix }
-        ensures made { OnOk result (All (λ e. IsTrue (has_mark_place self.new e.instance)) entries.now) }
-        ensures stay { (i : ℕ) → IsTrue (has_mark_place self.old i) → IsTrue (has_mark_place self.new i) }
-        ensures err { IfErr result (λ e. e ≡ Refusal.OutOfMemory) }
-    {
-        for entry in entries {
+        for entry in promise {
+            // A command moves before the next entry comes, so that the tree stays small.
             self.insert(entry)?;
+            self.count_on();
         }
         Ok(())
     }
