@@ -307,13 +307,6 @@ request_place places rows i (Some q) h e =
     let d = request_some (decision_at rows i) q e in
     subst (λ (r : RequestNo). IsTrue (has_place request_cmp places r)) d.2 (h i d.0 d.1)
 
-pub request_made : (places : List (RequestNo × Option (Unit {0}))) (row : Row) (o : Option RequestNo) → IsTrue (has_request_place places row) → o ≡ option_map (λ (v : Command). v.request) (decided_command row) → IfSome o (λ q. IsTrue (has_place request_cmp places q))
-request_made places row o h e = at (decided_command row) refl
-  where
-    at : (d : Option Command) → decided_command row ≡ d → IfSome o (λ q. IsTrue (has_place request_cmp places q))
-    at None k = rw (e, k) tt
-    at (Some v) k = rw (e, k) (rw k at h)
-
 -- a row that was put has its own decision
 pub decision_put : (row : Row) (rows : List Row) → decision_at (put_row row rows) row.instance ≡ decided_command row
 decision_put row rows = decision_some (put_row row rows) row.instance row (row_of-put_row row rows row.instance ∙ rw (eq-eqb row.instance row.instance refl))

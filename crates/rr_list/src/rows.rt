@@ -202,6 +202,30 @@ fn note_request(
     }
 }
 
+/// Takes the request that an instance has decided into the table, and gives the table's end. Where memory is refused the
+/// table is as it was.
+fn insert_request(
+    requests: &mut BTreeMap<RequestNo, Option<()>>,
+    end: u32,
+    instance: Instance,
+    request: Option<RequestNo>,
+) -> Result<u32, Refusal>
+    ensures noted { IfOk result (λ higher. (rows : List model.Row) → option_map (λ v. v.request) (decision_at rows instance) ≡ request → IsNoted rows (instance ∷ []) (filled requests.old.entries) (filled requests.new.entries) end higher) }
+    ensures kept { OnErr result (requests.new.entries ≡ requests.old.entries) }
+    ensures err { IfErr result (λ e. e ≡ Refusal.OutOfMemory) }
+{
+    match request {
+        None => Ok(end),
+        Some(request) => {
+            let number = instance.number();
+            match requests.insert(request, Some(())) {
+                Ok(_) => Ok(if end <= number { number + 1 } else { end }),
+                Err(_) => Err(Refusal::OutOfMemory),
+            }
+        }
+    }
+}
+
 /// Takes what an instance has decided into the table: its request, which has a place, and the table's end, which
 /// it gives. It needs no memory.
 fn note_decision(
@@ -291,17 +315,11 @@ impl Rows {
     {
         let instance = row.instance;
         let request = decided_request(&row);
-        make_request_place(&mut self.requests, &row)?;
-        match self.rows.insert(instance.number(), row) {
-            Ok(()) => {
-                self.end = note_request(&mut self.requests, self.end, instance, request);
-                Ok(())
-            }
-            Err(_) => {
-                drop_request_place(&mut self.requests, request);
-                Err(Refusal::OutOfMemory)
-            }
-        }
+        // With its place made, the row can't be refused once the request is in.
+        self.rows.make_place(instance.number())?;
+        self.end = insert_request(&mut self.requests, self.end, instance, request)?;
+        self.rows.put(instance.number(), row);
+        Ok(())
     }
 
     /// Puts the rows of a promise's entries, one after another; after an error, some of them. No decision may change.
