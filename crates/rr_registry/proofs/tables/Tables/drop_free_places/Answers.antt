@@ -1,0 +1,10 @@
+use Rattle.std.proofs.Common.{◌∙◌}
+use Rattle.rr_registry.proofs.FreeLemmas.{free_next}
+use Rattle.rr_registry.proofs.tables.Tables.drop_free_places.Goals as goal
+
+pub loop-command-preserved : goal.loop-command-preserved
+loop-command-preserved c = record {
+  kept = c.drop_places.ensures.kept ∙ c.loop-command.invariant.kept;
+  count = c.drop_places.ensures.count ∙ c.loop-command.invariant.count;
+  free = free_next c.loop-command.self c.drop_places.new.self c.args.commands.now c.loop-command.command-index c.command-item.result c.loop-command-test.true c.command-item.is c.loop-command.invariant.free c.drop_places.ensures.free;
+}
