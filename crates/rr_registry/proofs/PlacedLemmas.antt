@@ -1,5 +1,5 @@
 -- A value written in the place that its key has.
-use Rattle.std.proofs.Common.{◌≡◌, ◌+◌, length, Bool, List, [], ◌∷◌, Option, None, Ordering, is_some, true, false, refl, ap, ◌∙◌}
+use Rattle.std.proofs.Common.{◌≡◌, ◌+◌, ◌≤◌, length, Bool, List, [], ◌∷◌, Option, None, Some, Ordering, is_some, true, false, refl, ap, ◌∙◌, arith}
 use Rattle.std.specs.declared.cmp.Ordering.TheVariants.{Less, Equal, Greater}
 use Rattle.std.specs.Cmp.{IsTotalOrder}
 use Rattle.std.specs.List.{AllByRecursion}
@@ -8,7 +8,7 @@ use Rattle.std.specs.BTreeMap.{insert_entry, is_at}
 use Rattle.std.specs.Map.{lookup, keys_of, set_value}
 use Rattle.std.proofs.lemmas.Map.Keys.{sorted_head, sorted_tail}
 use Rattle.std.proofs.lemmas.Map.Lookups.{CmpEqualImpliesEq}
-use Rattle.rr_places.specs.Places.{filled, put_entry, held}
+use Rattle.rr_places.specs.Places.{filled, filled_cons, put_entry, held}
 use Rattle.rr_places.proofs.PlaceLemmas.{filled-put, count-put}
 
 module _ {K V : Type 0} (R : K → K → Ordering) where
@@ -57,3 +57,22 @@ module _ {K V : Type 0} where
   pub places_set : (t u : K → Bool) (es : List (K × V)) (w : V) → is_some (lookup t (set_value u es w)) ≡ is_some (lookup t es)
   places_set t u [] w = refl
   places_set t u (e ∷ es) w = places_first t u e es w (places_set t u es w) (u e.0) refl (t e.0) refl
+
+module _ {K V : Type 0} where
+  filled_cons_few : (k : K) (v : Option V) (es : List (K × V)) → length (filled_cons k v es) ≤ length es + 1
+  filled_cons_few k None es = omega arith
+  filled_cons_few k (Some v) es = omega arith
+
+  filled_few : (es : List (K × Option V)) → length (filled es) ≤ length es
+  filled_few [] = omega arith
+  filled_few (e ∷ es) = let first = filled_cons_few e.0 e.1 (filled es) in let more = filled_few es in omega arith
+
+  bound_first : (t : K → Bool) (k : K) (o : Option V) (es : List (K × Option V)) → (length es ≡ length (filled es) → is_some (lookup t es) ≡ is_some (lookup t (filled es))) → length es + 1 ≡ length (filled_cons k o (filled es)) → (b : Bool) → t k ≡ b → is_some (lookup t ((k, o) ∷ es)) ≡ is_some (lookup t (filled_cons k o (filled es)))
+  bound_first t k None es more same b h = let few = filled_few es in absurd (omega arith)
+  bound_first t k (Some v) es more same true h = rw h
+  bound_first t k (Some v) es more same false h = rw h (more (omega arith))
+
+  -- where there are as many values as places, each place has one
+  pub all_bound : (t : K → Bool) (es : List (K × Option V)) → length es ≡ length (filled es) → is_some (lookup t es) ≡ is_some (lookup t (filled es))
+  all_bound t [] same = refl
+  all_bound t (e ∷ es) same = bound_first t e.0 e.1 es (all_bound t es) (omega arith) (t e.0) refl

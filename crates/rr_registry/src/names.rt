@@ -155,13 +155,18 @@ impl Names {
         }
     }
 
-    /// Takes away the place of an operation's name if it is free. Only a claim or a release can leave it so.
+    /// Takes away the place of an operation's name if it is free. Only a claim or a release can leave it so. Where
+    /// each place has a bound name, none is looked for.
     pub(crate) fn drop_free_place(&mut self, op: &Op)
+        requires { IsCounted self.old }
         ensures bindings { bindings_in self.new ≡ bindings_in self.old }
         ensures bound { self.new.bound ≡ self.old.bound }
         ensures gone { (n : List ℕ) → may_free op.now n ≡ true → has_name_place self.new n ≡ is_some (holding_of (bindings_in self.old) n) }
         ensures only { (n : List ℕ) → may_free op.now n ≡ false → has_name_place self.new n ≡ has_name_place self.old n }
     {
+        if self.places.len() == self.bound {
+            return;
+        }
         match op {
             Op::Claim(name, _) => drop_free_place(&mut self.places, name),
             Op::Update(_, _) => (),

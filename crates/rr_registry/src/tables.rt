@@ -180,6 +180,7 @@ impl Tables {
 
     /// Takes away the places of a command that are free.
     fn drop_places(&mut self, command: &Command)
+        requires { IsCounted self.old.names }
         ensures kept { kept_in self.new ≡ kept_in self.old }
         ensures count { self.new.names.bound ≡ self.old.names.bound }
         ensures free { (cs : List Command) → HasFreeOnlyFor self.old (command.now ∷ cs) → HasFreeOnlyFor self.new cs }
@@ -191,6 +192,7 @@ impl Tables {
     /// The same for each of these commands: no free place is left.
     #[tactic(auto, using(crate::proofs::FreeLemmas::free_next, crate::proofs::FreeLemmas::free_end))]
     fn drop_free_places(&mut self, commands: &[Command])
+        requires counted { IsCounted self.old.names }
         requires free { HasFreeOnlyFor self.old commands.now }
         ensures kept { kept_in self.new ≡ kept_in self.old }
         ensures count { self.new.names.bound ≡ self.old.names.bound }
@@ -203,6 +205,7 @@ impl Tables {
 
     /// Takes away the free places of these commands' names. No reply has one.
     fn drop_free_names(&mut self, commands: &[Command])
+        requires counted { IsCounted self.old.names }
         requires names { HasFreeNamesOnlyFor self.old commands.now }
         requires replies { HasFreeRepliesOnlyFor self.old [] }
         ensures kept { kept_in self.new ≡ kept_in self.old }
