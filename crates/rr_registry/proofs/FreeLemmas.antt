@@ -20,9 +20,10 @@ use Rattle.rr_types.specs.declared.command.Reply.TheVariants.{Claimed, Full}
 use Rattle.rr_types.specs.Registry.{Holding, Bindings, holding_of, bind, claim, by_owner, apply_op, is_same_request}
 use Rattle.rr_registry.specs.declared.tables.Tables.{Tables}
 use Rattle.rr_registry.specs.Kept.{Kept, request_cmp, kept_reply}
-use Rattle.rr_registry.specs.Tables.{bindings_in, kept_in, has_name_place, has_reply_place, name_of, HasFreeOnlyFor}
+use Rattle.rr_registry.specs.Tables.{bindings_in, kept_in, has_name_place, has_reply_place, may_free, HasFreeNamesOnlyFor, HasFreeRepliesOnlyFor, HasFreeOnlyFor}
+use Rattle.rr_places.specs.Places.{filled}
 use Rattle.rr_registry.proofs.TableLemmas.{lookup-name}
-use Rattle.rr_registry.proofs.KeptLemmas.{lookup-insert_entry, reply_kept, one_request}
+use Rattle.rr_registry.proofs.KeptLemmas.{lookup-insert_entry, reply_kept, same_back, one_request}
 
 pub first : (a b : Bool) → a ≡ true → (a || b) ≡ true
 first a b h = rw h
@@ -86,11 +87,11 @@ changed m client None change n more h f = first _ more h
 changed m client (Some x) change n more h f = picked (x.owner == client) (change x) (m, _) n more (f x) (first _ more h)
 
 -- an operation frees no name but its own
-op_stays : (m : Bindings) (client : ℕ) (op : Op) (n : List ℕ) → is_some (holding_of m n) ≡ true → (is_some (holding_of (apply_op m client op).0 n) || bytes_eq (name_of op) n) ≡ true
+op_stays : (m : Bindings) (client : ℕ) (op : Op) (n : List ℕ) → is_some (holding_of m n) ≡ true → (is_some (holding_of (apply_op m client op).0 n) || may_free op n) ≡ true
 op_stays m client (Claim name value) n h = claimed m client name value (holding_of m name) n (bytes_eq name n) h
-op_stays m client (Update name value) n h = changed m client (holding_of m name) _ n (bytes_eq name n) h (λ x. first _ (bytes_eq name n) (bind_stays m name (record { owner = client; value = value }) n h))
+op_stays m client (Update name value) n h = changed m client (holding_of m name) _ n false h (λ x. first _ false (bind_stays m name (record { owner = client; value = value }) n h))
 op_stays m client (Release name) n h = changed m client (holding_of m name) _ n (bytes_eq name n) h (λ x. remove_stays name n m h)
-op_stays m client (Transfer name owner) n h = changed m client (holding_of m name) _ n (bytes_eq name n) h (λ x. first _ (bytes_eq name n) (bind_stays m name (record { owner = owner; value = x.value }) n h))
+op_stays m client (Transfer name owner) n h = changed m client (holding_of m name) _ n false h (λ x. first _ false (bind_stays m name (record { owner = owner; value = x.value }) n h))
 
 -- whether a name is bound, whether a request has a reply, and whether some command is about it
 abbrev is_bound : Tables → List ℕ → Bool
@@ -100,7 +101,7 @@ abbrev has_reply : Tables → RequestNo → Bool
 has_reply t q = is_some (kept_reply (kept_in t) q)
 
 abbrev are_about : List ℕ → List Command → Bool
-are_about n cs = list_any (λ (c : Command). bytes_eq (name_of c.op) n) cs
+are_about n cs = list_any (λ (c : Command). may_free c.op n) cs
 
 abbrev are_for : RequestNo → List Command → Bool
 are_for q cs = list_any (λ (c : Command). is_same_request c.request q) cs
@@ -108,7 +109,7 @@ are_for q cs = list_any (λ (c : Command). is_same_request c.request q) cs
 -- a command more
 pub free_more : (t : Tables) (c : Command) (cs : List Command) → HasFreeOnlyFor t cs → HasFreeOnlyFor t (c ∷ cs)
 free_more t c cs h = record {
-  names = λ n p. behind (is_bound t n) (bytes_eq (name_of c.op) n) (are_about n cs) (h.names n p);
+  names = λ n p. behind (is_bound t n) (may_free c.op n) (are_about n cs) (h.names n p);
   replies = λ q p. behind (has_reply t q) (is_same_request c.request q) (are_for q cs) (h.replies q p);
 }
 
@@ -120,7 +121,7 @@ free_all t (c ∷ cs) h = free_more t c cs (free_all t cs h)
 -- one of the commands is named twice
 pub free_known : (t : Tables) (cs : List Command) (i : ℕ) (c : Command) → i < length cs → c ≡ get_or cs i c → HasFreeOnlyFor t (c ∷ cs) → HasFreeOnlyFor t cs
 free_known t cs i c l g h = record {
-  names = λ n p. within (is_bound t n) (bytes_eq (name_of c.op) n) (are_about n cs) (λ e. list_any_at (λ (x : Command). bytes_eq (name_of x.op) n) cs i c l (ap (λ (x : Command). bytes_eq (name_of x.op) n) (sym g) ∙ e)) (h.names n p);
+  names = λ n p. within (is_bound t n) (may_free c.op n) (are_about n cs) (λ e. list_any_at (λ (x : Command). may_free x.op n) cs i c l (ap (λ (x : Command). may_free x.op n) (sym g) ∙ e)) (h.names n p);
   replies = λ q p. within (has_reply t q) (is_same_request c.request q) (are_for q cs) (λ e. list_any_at (λ (x : Command). is_same_request x.request q) cs i c l (ap (λ (x : Command). is_same_request x.request q) (sym g) ∙ e)) (h.replies q p);
 }
 
@@ -129,9 +130,9 @@ made true p q a d others h there = second a (true || d) refl
 made false p q a d others h there = h (sym (others refl) ∙ there)
 
 -- places made for a command
-pub free_made : (t u : Tables) (c : Command) (cs : List Command) → kept_in u ≡ kept_in t → ((n : List ℕ) → bytes_eq (name_of c.op) n ≡ false → has_name_place u.names n ≡ has_name_place t.names n) → ((q : RequestNo) → is_same_request c.request q ≡ false → has_reply_place u q ≡ has_reply_place t q) → HasFreeOnlyFor t cs → HasFreeOnlyFor u (c ∷ cs)
+pub free_made : (t u : Tables) (c : Command) (cs : List Command) → kept_in u ≡ kept_in t → ((n : List ℕ) → may_free c.op n ≡ false → has_name_place u.names n ≡ has_name_place t.names n) → ((q : RequestNo) → is_same_request c.request q ≡ false → has_reply_place u q ≡ has_reply_place t q) → HasFreeOnlyFor t cs → HasFreeOnlyFor u (c ∷ cs)
 free_made t u c cs same names replies h = record {
-  names = λ n p. made (bytes_eq (name_of c.op) n) (has_name_place t.names n) (has_name_place u.names n) (is_bound u n) (are_about n cs) (names n)
+  names = λ n p. made (may_free c.op n) (has_name_place t.names n) (has_name_place u.names n) (is_bound u n) (are_about n cs) (names n)
       (λ old. ap (λ (k : Kept). is_some (holding_of k.bindings n) || are_about n cs) same ∙ h.names n old) p;
   replies = λ q p. made (is_same_request c.request q) (has_reply_place t q) (has_reply_place u q) (has_reply u q) (are_for q cs) (replies q)
       (λ old. ap (λ (k : Kept). is_some (kept_reply k q) || are_for q cs) same ∙ h.replies q old) p;
@@ -141,18 +142,12 @@ after : (old a b d : Bool) → (old ≡ true → (a || b) ≡ true) → (old || 
 after true a b d f h = begun a b d (f refl)
 after false a b d f h = second a (b || d) (second b d h)
 
--- a command applied
-pub free_done : (t u : Tables) (c : Command) (reply : Reply) (cs : List Command) → bindings_in u.names ≡ (apply_op (bindings_in t.names) c.request.client c.op).0 → (kept_in u).replies ≡ insert_entry request_cmp (kept_in t).replies c.request reply → ((n : List ℕ) → has_name_place u.names n ≡ has_name_place t.names n) → ((q : RequestNo) → has_reply_place u q ≡ has_reply_place t q) → HasFreeOnlyFor t cs → HasFreeOnlyFor u (c ∷ cs)
-free_done t u c reply cs bindings kept names replies h = record {
-  names = λ n p. after (is_bound t n) (is_bound u n) (bytes_eq (name_of c.op) n) (are_about n cs)
-      (λ old. ap (λ (m : Bindings). is_some (holding_of m n) || bytes_eq (name_of c.op) n) bindings ∙ op_stays (bindings_in t.names) c.request.client c.op n old)
-      (h.names n (sym (names n) ∙ p));
-  replies = λ q p. after (has_reply t q) (has_reply u q) (is_same_request c.request q) (are_for q cs)
-      (λ old. first (has_reply u q) (is_same_request c.request q) (ap (λ rs. is_some (lookup (is_same_request q) rs)) kept
-      ∙ ap is_some (reply_kept (kept_in t) c.request (bindings_in t.names, reply) q)
-      ∙ held_by (is_same_request q c.request) reply (kept_reply (kept_in t) q) old))
-      (h.replies q (sym (replies q) ∙ p));
-}
+-- a command applied: its name may be free
+pub free_names_done : (t u : Tables) (c : Command) (cs : List Command) → bindings_in u.names ≡ (apply_op (bindings_in t.names) c.request.client c.op).0 → ((n : List ℕ) → has_name_place u.names n ≡ has_name_place t.names n) → HasFreeNamesOnlyFor t cs → HasFreeNamesOnlyFor u (c ∷ cs)
+free_names_done t u c cs bindings names h n p =
+    after (is_bound t n) (is_bound u n) (may_free c.op n) (are_about n cs)
+    (λ old. ap (λ (m : Bindings). is_some (holding_of m n) || may_free c.op n) bindings ∙ op_stays (bindings_in t.names) c.request.client c.op n old)
+    (h n (sym (names n) ∙ p))
 
 skipped : (a d : Bool) → (a || (false || d)) ≡ true → (a || d) ≡ true
 skipped true d h = refl
@@ -162,13 +157,35 @@ dropped : (b p q a d : Bool) → (b ≡ true → q ≡ a) → (b ≡ false → q
 dropped true p q a d own others h there = first a d (sym (own refl) ∙ there)
 dropped false p q a d own others h there = skipped a d (h (sym (others refl) ∙ there))
 
+replied : {A : Type 0} (same : Bool) (x : A) (o : Option A) (d : Bool) → (is_some o || (same || d)) ≡ true → (is_some (cond same (Some x) o) || d) ≡ true
+replied true x o d h = refl
+replied false x o d h = skipped (is_some o) d h
+
+-- and its request has a reply
+pub free_replies_done : (t u : Tables) (c : Command) (reply : Reply) (cs : List Command) → (kept_in u).replies ≡ insert_entry request_cmp (kept_in t).replies c.request reply → ((q : RequestNo) → has_reply_place u q ≡ has_reply_place t q) → HasFreeRepliesOnlyFor t (c ∷ cs) → HasFreeRepliesOnlyFor u cs
+free_replies_done t u c reply cs kept replies h q p =
+    ap (λ rs. is_some (lookup (is_same_request q) rs) || are_for q cs) kept
+    ∙ ap (λ o. is_some o || are_for q cs) (reply_kept (kept_in t) c.request (bindings_in t.names, reply) q ∙ ap (λ same. cond same (Some reply) (kept_reply (kept_in t) q)) (same_back q c.request))
+    ∙ replied (is_same_request c.request q) reply (kept_reply (kept_in t) q) (are_for q cs) (h q (sym (replies q) ∙ p))
+
+known : (a b d : Bool) → (b ≡ true → a ≡ true) → (a || (b || d)) ≡ true → (a || d) ≡ true
+known true b d f h = refl
+known false true d f h = first false d (f refl)
+known false false d f h = h
+
+-- a command that changes nothing, as its request had a reply
+pub free_replies_known : (t u : Tables) (c : Command) (cs : List Command) → u.replies.entries ≡ t.replies.entries → is_some (kept_reply (kept_in t) c.request) ≡ true → HasFreeRepliesOnlyFor t (c ∷ cs) → HasFreeRepliesOnlyFor u cs
+free_replies_known t u c cs same there h q p =
+    ap (λ es. is_some (lookup (is_same_request q) (filled es)) || are_for q cs) same
+    ∙ known (has_reply t q) (is_same_request c.request q) (are_for q cs) (λ e. subst (λ (x : RequestNo). has_reply t x ≡ true) (one_request c.request q e) there)
+    (h q (ap (λ es. is_some (lookup (is_at (request_cmp q)) es)) (sym same) ∙ p))
+
 -- the free places of a command dropped
-pub free_dropped : (t u : Tables) (c : Command) (cs : List Command) → kept_in u ≡ kept_in t → has_name_place u.names (name_of c.op) ≡ is_some (holding_of (bindings_in t.names) (name_of c.op)) → ((n : List ℕ) → bytes_eq (name_of c.op) n ≡ false → has_name_place u.names n ≡ has_name_place t.names n) → has_reply_place u c.request ≡ is_some (kept_reply (kept_in t) c.request) → ((q : RequestNo) → is_same_request c.request q ≡ false → has_reply_place u q ≡ has_reply_place t q) → HasFreeOnlyFor t (c ∷ cs) → HasFreeOnlyFor u cs
+pub free_dropped : (t u : Tables) (c : Command) (cs : List Command) → kept_in u ≡ kept_in t → ((n : List ℕ) → may_free c.op n ≡ true → has_name_place u.names n ≡ is_some (holding_of (bindings_in t.names) n)) → ((n : List ℕ) → may_free c.op n ≡ false → has_name_place u.names n ≡ has_name_place t.names n) → has_reply_place u c.request ≡ is_some (kept_reply (kept_in t) c.request) → ((q : RequestNo) → is_same_request c.request q ≡ false → has_reply_place u q ≡ has_reply_place t q) → HasFreeOnlyFor t (c ∷ cs) → HasFreeOnlyFor u cs
 free_dropped t u c cs same name names request replies h = record {
   names = λ n p. ap (λ (k : Kept). is_some (holding_of k.bindings n) || are_about n cs) same
-      ∙ dropped (bytes_eq (name_of c.op) n) (has_name_place t.names n) (has_name_place u.names n) (is_bound t n) (are_about n cs)
-      (λ e. subst (λ (x : List ℕ). has_name_place u.names x ≡ is_some (holding_of (bindings_in t.names) x)) ((bytes_eq-Decides (name_of c.op) n).0 e) name)
-      (names n) (h.names n) p;
+      ∙ dropped (may_free c.op n) (has_name_place t.names n) (has_name_place u.names n) (is_bound t n) (are_about n cs)
+      (name n) (names n) (h.names n) p;
   replies = λ q p. ap (λ (k : Kept). is_some (kept_reply k q) || are_for q cs) same
       ∙ dropped (is_same_request c.request q) (has_reply_place t q) (has_reply_place u q) (has_reply t q) (are_for q cs)
       (λ e. subst (λ (x : RequestNo). has_reply_place u x ≡ is_some (kept_reply (kept_in t) x)) (one_request c.request q e) request)
@@ -182,3 +199,14 @@ free_next t u cs i c l g h f = f (drop (i + 1) cs) (subst (HasFreeOnlyFor t) (dr
 -- none is left
 pub free_end : (t : Tables) (cs : List Command) (i : ℕ) → length cs ≤ i → HasFreeOnlyFor t (drop i cs) → HasFreeOnlyFor t []
 free_end t cs i l h = subst (HasFreeOnlyFor t) (drop_all i cs l) h
+
+-- the same for replies alone
+pub free_replies_next : (t u : Tables) (cs : List Command) (i : ℕ) (c : Command) → i < length cs → c ≡ get_or cs i c → HasFreeRepliesOnlyFor t (drop i cs) → ((ds : List Command) → HasFreeRepliesOnlyFor t (c ∷ ds) → HasFreeRepliesOnlyFor u ds) → HasFreeRepliesOnlyFor u (drop (i + 1) cs)
+free_replies_next t u cs i c l g h f = f (drop (i + 1) cs) (subst (HasFreeRepliesOnlyFor t) (drop_more cs i c l ∙ ap (λ (x : Command). x ∷ drop (i + 1) cs) (sym g)) h)
+
+pub free_replies_end : (t : Tables) (cs : List Command) (i : ℕ) → length cs ≤ i → HasFreeRepliesOnlyFor t (drop i cs) → HasFreeRepliesOnlyFor t []
+free_replies_end t cs i l h = subst (HasFreeRepliesOnlyFor t) (drop_all i cs l) h
+
+-- one of the commands whose names may be free is named twice
+pub free_names_known : (t : Tables) (cs : List Command) (i : ℕ) (c : Command) → i < length cs → c ≡ get_or cs i c → HasFreeNamesOnlyFor t (c ∷ cs) → HasFreeNamesOnlyFor t cs
+free_names_known t cs i c l g h n p = within (is_bound t n) (may_free c.op n) (are_about n cs) (λ e. list_any_at (λ (x : Command). may_free x.op n) cs i c l (ap (λ (x : Command). may_free x.op n) (sym g) ∙ e)) (h n p)

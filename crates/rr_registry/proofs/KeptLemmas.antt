@@ -48,7 +48,7 @@ reply_kept k r step q =
 eq_back : (x y : ℕ) → (x == y) ≡ (y == x)
 eq_back x y = grind (arith, nat_tests)
 
-same_back : (p q : RequestNo) → is_same_request p q ≡ is_same_request q p
+pub same_back : (p q : RequestNo) → is_same_request p q ≡ is_same_request q p
 same_back p q = rw (eq_back p.client q.client, eq_back p.seq q.seq)
 
 eq_itself : (x : ℕ) → (x == x) ≡ true

@@ -3,3 +3,5 @@ pub mod KeptLemmas
 pub mod FreeLemmas
 pub mod NameLemmas
 pub mod AloneLemmas
+pub mod PlacedLemmas
+pub mod PerformLemmas

@@ -1,19 +1,25 @@
 -- How many names are bound, and which of them have places, as operations have their effects.
-use Rattle.std.proofs.Common.{◌≡◌, ℕ, ◌+◌, Bool, true, false, ◌||◌, List, [], ◌∷◌, length, None, Ordering, is_some, IsTrue, refl, ap, sym, ◌∙◌, arith, subst}
+use Rattle.std.proofs.Common.{◌≡◌, ℕ, ◌+◌, Bool, true, false, ◌||◌, List, [], ◌∷◌, length, Option, None, Some, Ordering, is_some, IsTrue, refl, ap, sym, ◌∙◌, arith, subst}
 use Rattle.std.specs.declared.cmp.Ordering.TheVariants.{Less, Equal, Greater}
 use Rattle.std.specs.Ordering.{nat_cmp}
 use Rattle.std.specs.Cmp.Lexicographic.{slice_cmp}
 use Rattle.std.specs.Str.{bytes_eq}
 use Rattle.std.specs.BTreeMap.{insert_entry, is_at}
-use Rattle.std.specs.Map.{lookup, remove_entry}
+use Rattle.std.specs.List.Sorted.{IsStrictlySortedBy}
+use Rattle.std.specs.Map.{lookup, remove_entry, keys_of, set_value}
 use Rattle.std.proofs.lemmas.Cmp.{nat_list_cmp_total}
 use Rattle.std.proofs.lemmas.Map.Lookups.{exact_bytes}
 use Rattle.std.proofs.lemmas.Map.Text.{is_eq-slice_cmp}
 use Rattle.std.proofs.lemmas.Slice.Eq.{bytes_eq-Decides}
-use Rattle.rr_types.specs.Registry.{Holding, Bindings, holding_of}
+use Rattle.rr_types.specs.declared.command.Op.{Op}
+use Rattle.rr_types.specs.declared.command.Op.TheVariants.{Claim, Update, Release, Transfer}
+use Rattle.rr_types.specs.declared.command.Reply.TheVariants.{Unknown}
+use Rattle.rr_types.specs.Registry.{Holding, Bindings, holding_of, apply_op}
 use Rattle.rr_registry.specs.declared.names.Names.{Names}
-use Rattle.rr_places.proofs.PlaceLemmas.{place_of_value}
-use Rattle.rr_registry.specs.Tables.{bindings_in, has_name_place}
+use Rattle.rr_places.specs.Places.{filled, has_place, put_entry, held}
+use Rattle.rr_places.proofs.PlaceLemmas.{joined, place_of_value, lookup-filled}
+use Rattle.rr_registry.specs.Tables.{bindings_in, has_name_place, has_op_place, name_of}
+use Rattle.rr_registry.proofs.PlacedLemmas.{filled-set, count-set}
 use Rattle.rr_registry.proofs.TableLemmas.{lookup-name}
 use Rattle.rr_registry.proofs.KeptLemmas.{lookup-insert_entry}
 use Rattle.rr_registry.proofs.FreeLemmas.{alone, bind_stays, remove_stays}
@@ -67,3 +73,32 @@ freed_at m k p q gone others free n there false h =
 -- a name freed, and its place gone with it
 pub freed_alone : (m : Bindings) (k : List ℕ) (p q : List ℕ → Bool) → q k ≡ false → ((n : List ℕ) → is_at (slice_cmp nat_cmp k) n ≡ false → q n ≡ p n) → ((n : List ℕ) → p n ≡ true → is_some (holding_of m n) ≡ true) → (n : List ℕ) → q n ≡ true → is_some (holding_of (remove_entry (bytes_eq k) m) n) ≡ true
 freed_alone m k p q gone others free n there = freed_at m k p q gone others free n there (bytes_eq k n) refl
+
+-- who has a name, by its place
+pub holding_in : (es : List (List ℕ × Option Holding)) (k : List ℕ) (o : Option (Option Holding)) → IsStrictlySortedBy (slice_cmp nat_cmp) (keys_of es) → lookup (is_at (slice_cmp nat_cmp k)) es ≡ o → holding_of (filled es) k ≡ joined o
+holding_in es k o sorted there = sym (lookup-name k (filled es)) ∙ lookup-filled (slice_cmp nat_cmp) nat_list_cmp_total k es sorted ∙ ap joined there
+
+-- a name without a place is unknown
+pub unknown : (t : Names) (client : ℕ) (op : Op) → IsStrictlySortedBy (slice_cmp nat_cmp) (keys_of t.places.entries) → IsTrue (has_op_place t op) → lookup (is_at (slice_cmp nat_cmp (name_of op))) t.places.entries ≡ None → (bindings_in t, Unknown) ≡ apply_op (bindings_in t) client op
+unknown t client (Claim name value) sorted place none = let gone = ap is_some none in cc
+unknown t client (Update name value) sorted place none = let free : holding_of (bindings_in t) name ≡ None = holding_in t.places.entries name None sorted none in rw free
+unknown t client (Release name) sorted place none = let free : holding_of (bindings_in t) name ≡ None = holding_in t.places.entries name None sorted none in rw free
+unknown t client (Transfer name owner) sorted place none = let free : holding_of (bindings_in t) name ≡ None = holding_in t.places.entries name None sorted none in rw free
+
+-- the bound names once a place is written
+pub written : (es : List (List ℕ × Option Holding)) (k : List ℕ) (o w : Option Holding) → IsStrictlySortedBy (slice_cmp nat_cmp) (keys_of es) → lookup (is_at (slice_cmp nat_cmp k)) es ≡ Some o → filled (set_value (is_at (slice_cmp nat_cmp k)) es w) ≡ put_entry (slice_cmp nat_cmp) (filled es) k w
+written es k o w sorted there = filled-set (slice_cmp nat_cmp) nat_list_cmp_total exact_bytes k w es sorted (ap is_some there)
+
+-- and how many there are
+pub written_count : (es : List (List ℕ × Option Holding)) (k : List ℕ) (o w : Option Holding) → IsStrictlySortedBy (slice_cmp nat_cmp) (keys_of es) → lookup (is_at (slice_cmp nat_cmp k)) es ≡ Some o → length (filled (set_value (is_at (slice_cmp nat_cmp k)) es w)) + held o ≡ length (filled es) + held w
+written_count es k o w sorted there =
+    ap (λ p. length (filled (set_value (is_at (slice_cmp nat_cmp k)) es w)) + held p) (sym (lookup-filled (slice_cmp nat_cmp) nat_list_cmp_total k es sorted ∙ ap joined there))
+    ∙ count-set (slice_cmp nat_cmp) nat_list_cmp_total k w es sorted (ap is_some there)
+
+pub held_some : (o : Option Holding) → IsTrue (is_some o) → held o ≡ 1
+held_some None h = cc
+held_some (Some x) h = refl
+
+-- a name whose free place is gone, by each of its spellings
+pub gone_at : (m : Bindings) (es : List (List ℕ × Option Holding)) (k n : List ℕ) → bytes_eq k n ≡ true → has_place (slice_cmp nat_cmp) es k ≡ is_some (lookup (is_at (slice_cmp nat_cmp k)) m) → has_place (slice_cmp nat_cmp) es n ≡ is_some (holding_of m n)
+gone_at m es k n same gone = subst (λ (x : List ℕ). has_place (slice_cmp nat_cmp) es x ≡ is_some (holding_of m x)) ((bytes_eq-Decides k n).0 same) (gone ∙ ap is_some (lookup-name k m))

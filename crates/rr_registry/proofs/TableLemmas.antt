@@ -77,3 +77,13 @@ places_stay t u replies names c h = both (has_reply_place t c.request) (has_op_p
 
 pub places_from : (t : Tables) (c : Command) → IsTrue (has_reply_place t c.request) → IsTrue (has_op_place t.names c.op) → IsTrue (has_places t c)
 places_from t c h k = rw (h, k)
+
+op_places_alike : (t u : Names) → ((n : List ℕ) → has_name_place u n ≡ has_name_place t n) → (op : Op) → has_op_place u op ≡ has_op_place t op
+op_places_alike t u names (Claim name value) = names name
+op_places_alike t u names (Update name value) = refl
+op_places_alike t u names (Release name) = refl
+op_places_alike t u names (Transfer name owner) = refl
+
+-- a command has its places where requests and names have the same
+pub places_alike : (t u : Tables) → ((q : RequestNo) → has_reply_place u q ≡ has_reply_place t q) → ((n : List ℕ) → has_name_place u.names n ≡ has_name_place t.names n) → (c : Command) → has_places u c ≡ has_places t c
+places_alike t u replies names c = ap (λ b. b && has_op_place u.names c.op) (replies c.request) ∙ ap (λ b. has_reply_place t c.request && b) (op_places_alike t.names u.names names c.op)

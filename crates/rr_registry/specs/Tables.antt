@@ -1,4 +1,4 @@
-use Rattle.std.specs.Prelude.{◌≡◌, ⊤, ℕ, ◌<◌, Bool, true, false, ◌&&◌, ◌||◌, List, [], length, None, is_some, IsTrue}
+use Rattle.std.specs.Prelude.{◌≡◌, ⊤, ℕ, ◌<◌, Bool, true, false, ◌&&◌, ◌||◌, List, [], length, Option, None, is_some, IsTrue}
 use Rattle.std.specs.List.{list_any}
 use Rattle.std.specs.Ordering.{nat_cmp}
 use Rattle.std.specs.Cmp.Lexicographic.{slice_cmp}
@@ -8,7 +8,7 @@ use Rattle.rr_types.specs.declared.command.RequestNo.{RequestNo}
 use Rattle.rr_types.specs.declared.command.Op.{Op}
 use Rattle.rr_types.specs.declared.command.Op.TheVariants.{Claim, Update, Release, Transfer}
 use Rattle.rr_types.specs.declared.command.Command.{Command}
-use Rattle.rr_types.specs.Registry.{Bindings, holding_of, bind, is_same_request}
+use Rattle.rr_types.specs.Registry.{Holding, Bindings, holding_of, bind, is_same_request}
 use Rattle.rr_registry.specs.declared.names.Names.{Names}
 use Rattle.rr_registry.specs.declared.names.Effect.{Effect}
 use Rattle.rr_registry.specs.declared.names.Effect.TheVariants.{Nothing, Bind, Replace, Free}
@@ -72,21 +72,36 @@ effected m name (Bind h) = bind m name h.owner h.value
 effected m name (Replace h) = bind m name h.owner h.value
 effected m name Free = unbind m name
 
--- whether an operation can have this effect: a claim binds a free name while there is room, the others are about a bound name
-abbrev pub CanHave : Names → Op → Effect → Type 0
-CanHave t op Nothing = ⊤
-CanHave t op (Bind h) = IsTrue (is_claim op) × (holding_of (bindings_in t) (name_of op) ≡ None) × (t.bound < 4096)
-CanHave t op (Replace h) = IsTrue (is_some (holding_of (bindings_in t) (name_of op)))
-CanHave t op Free = IsTrue (is_some (holding_of (bindings_in t) (name_of op)))
+-- whether an operation can have this effect, by who has its name and how many names are bound: a claim binds a free name while there is room, the others are about a bound name
+abbrev pub CanHave : ℕ → Option Holding → Op → Effect → Type 0
+CanHave bound held op Nothing = ⊤
+CanHave bound held op (Bind h) = IsTrue (is_claim op) × (held ≡ None) × (bound < 4096)
+CanHave bound held op (Replace h) = IsTrue (is_some held)
+CanHave bound held op Free = IsTrue (is_some held)
+
+-- whether an operation can leave this name's place free
+abbrev pub may_free : Op → List ℕ → Bool
+may_free (Claim name value) n = bytes_eq name n
+may_free (Update name value) n = false
+may_free (Release name) n = bytes_eq name n
+may_free (Transfer name owner) n = false
 
 -- each name with a place is bound
 abbrev pub HasNoFreeName : Names → Type 0
 HasNoFreeName t = (n : List ℕ) → IsTrue (has_name_place t n) → IsTrue (is_some (holding_of (bindings_in t) n))
 
--- the free places are of these commands: each other name with a place is bound, and each other request with one has a reply
+-- the free places of names are of these commands: each other name with a place is bound
+abbrev pub HasFreeNamesOnlyFor : Tables → List Command → Type 0
+HasFreeNamesOnlyFor t cs = (n : List ℕ) → IsTrue (has_name_place t.names n) → IsTrue (is_some (holding_of (bindings_in t.names) n) || list_any (λ c. may_free c.op n) cs)
+
+-- the free places of requests are of these commands: each other request with one has a reply
+abbrev pub HasFreeRepliesOnlyFor : Tables → List Command → Type 0
+HasFreeRepliesOnlyFor t cs = (q : RequestNo) → IsTrue (has_reply_place t q) → IsTrue (is_some (kept_reply (kept_in t) q) || list_any (λ c. is_same_request c.request q) cs)
+
+-- the free places are of these commands
 pub record HasFreeOnlyFor (t : Tables) (cs : List Command) : Type 0 where
-  pub names : (n : List ℕ) → IsTrue (has_name_place t.names n) → IsTrue (is_some (holding_of (bindings_in t.names) n) || list_any (λ c. bytes_eq (name_of c.op) n) cs)
-  pub replies : (q : RequestNo) → IsTrue (has_reply_place t q) → IsTrue (is_some (kept_reply (kept_in t) q) || list_any (λ c. is_same_request c.request q) cs)
+  pub names : HasFreeNamesOnlyFor t cs
+  pub replies : HasFreeRepliesOnlyFor t cs
 
 -- no place is free: a registry keeps the places of its bound names and kept replies alone
 abbrev pub HasNoFree : Tables → Type 0

@@ -1,10 +1,9 @@
 //! The bound names, and what an operation does to its name.
 
-ghost use Rattle.std.specs.Prelude.{◌≡◌, ℕ, List, [], ◌+◌, length, false, is_some, IsTrue, IsSome, OnOk, OnErr};
-ghost use Rattle.std.specs.Str.{bytes_eq};
-ghost use Rattle.rr_types.specs.Registry.{holding_of, apply_op, bind};
+ghost use Rattle.std.specs.Prelude.{◌≡◌, ℕ, List, [], ◌+◌, length, true, false, is_some, IsTrue, IsSome, OnOk, OnErr};
+ghost use Rattle.rr_types.specs.Registry.{Bindings, holding_of, apply_op, bind};
 ghost use Rattle.rr_places.specs.Places.{held};
-ghost use Rattle.rr_registry.specs.Tables.{bindings_in, effected, unbind, has_name_place, has_op_place, name_of, CanHave, IsCounted, HasNoFreeName};
+ghost use Rattle.rr_registry.specs.Tables.{bindings_in, effected, has_name_place, has_op_place, name_of, may_free, CanHave, IsCounted, HasNoFreeName};
 
 use crate::entries::Entries;
 use crate::holding::Holding;
@@ -74,111 +73,49 @@ impl Names {
         put(&mut self.places, *name, Some(holding));
     }
 
-    /// Frees a name that has a place, whether it is bound or not. The place stays.
-    fn unbind(&mut self, name: &Name)
-        requires { IsTrue (has_name_place self.old name.now) }
-        ensures bindings { bindings_in self.new ≡ unbind (bindings_in self.old) name.now }
-        ensures count { length (bindings_in self.new) + held (holding_of (bindings_in self.old) name.now) ≡ length (bindings_in self.old) }
-        ensures places { (n : List ℕ) → has_name_place self.new n ≡ has_name_place self.old n }
-        ensures bound { self.new.bound ≡ self.old.bound }
-    {
-        put(&mut self.places, *name, None);
-    }
-
-    fn claim(&self, client: u32, name: &Name, value: &Value) -> (Effect, Reply)
-        requires { IsCounted self.now }
-        ensures step { (effected (bindings_in self.now) name.now result.0, result.1) ≡ apply_op (bindings_in self.now) client (Op.Claim name.now value.now) }
-        ensures can { CanHave self.now (Op.Claim name.now value.now) result.0 }
-    {
-        if let Some(holding) = self.holding(name) {
-            return (Effect::Nothing, Reply::Taken(holding.owner()));
-        }
-        if self.bound >= MAX_BOUND {
-            return (Effect::Nothing, Reply::Full);
-        }
-        (Effect::Bind(Holding::new(client, *value)), Reply::Claimed)
-    }
-
-    fn update(&self, client: u32, name: &Name, value: &Value) -> (Effect, Reply)
-        ensures step { (effected (bindings_in self.now) name.now result.0, result.1) ≡ apply_op (bindings_in self.now) client (Op.Update name.now value.now) }
-        ensures can { CanHave self.now (Op.Update name.now value.now) result.0 }
-    {
-        match self.holding(name) {
-            None => (Effect::Nothing, Reply::Unknown),
-            Some(present) if present.owner() == client => {
-                let given = Holding::new(client, *value);
-                (Effect::Replace(given), Reply::Updated)
-            }
-            Some(_) => (Effect::Nothing, Reply::NotOwner),
-        }
-    }
-
-    fn release(&self, client: u32, name: &Name) -> (Effect, Reply)
-        ensures step { (effected (bindings_in self.now) name.now result.0, result.1) ≡ apply_op (bindings_in self.now) client (Op.Release name.now) }
-        ensures can { CanHave self.now (Op.Release name.now) result.0 }
-    {
-        match self.holding(name) {
-            None => (Effect::Nothing, Reply::Unknown),
-            Some(holding) if holding.owner() == client => (Effect::Free, Reply::Released),
-            Some(_) => (Effect::Nothing, Reply::NotOwner),
-        }
-    }
-
-    fn transfer(&self, client: u32, name: &Name, owner: u32) -> (Effect, Reply)
-        ensures step { (effected (bindings_in self.now) name.now result.0, result.1) ≡ apply_op (bindings_in self.now) client (Op.Transfer name.now owner) }
-        ensures can { CanHave self.now (Op.Transfer name.now owner) result.0 }
-    {
-        match self.holding(name) {
-            None => (Effect::Nothing, Reply::Unknown),
-            Some(holding) if holding.owner() == client => {
-                let given = Holding::new(owner, holding.value());
-                (Effect::Replace(given), Reply::Transferred)
-            }
-            Some(_) => (Effect::Nothing, Reply::NotOwner),
-        }
-    }
-
     /// What an operation does to its name for a client, and the reply to it.
     pub(crate) fn outcome(&self, client: u32, op: &Op) -> (Effect, Reply)
         requires { IsCounted self.now }
         ensures step { (effected (bindings_in self.now) (name_of op.now) result.0, result.1) ≡ apply_op (bindings_in self.now) client op.now }
-        ensures can { CanHave self.now op.now result.0 }
+        ensures can { CanHave self.now.bound (holding_of (bindings_in self.now) (name_of op.now)) op.now result.0 }
     {
-        match op {
-            Op::Claim(name, value) => self.claim(client, name, value),
-            Op::Update(name, value) => self.update(client, name, value),
-            Op::Release(name) => self.release(client, name),
-            Op::Transfer(name, owner) => self.transfer(client, name, *owner),
-        }
+        outcome_at(self.bound, &self.holding(name_of(op)), client, op)
     }
 
-    /// Has an operation's effect on its name. It takes no memory, as the operation has its place. The place stays.
-    pub(crate) fn change(&mut self, op: &Op, effect: Effect)
+    /// Applies an operation for a client, and gives the reply. It takes no memory, as a claim has its place. The
+    /// place stays.
+    pub(crate) fn perform(&mut self, client: u32, op: &Op) -> Reply
         requires place { IsTrue (has_op_place self.old op.now) }
-        requires can { CanHave self.old op.now effect }
         requires counted { IsCounted self.old }
-        ensures bindings { bindings_in self.new ≡ effected (bindings_in self.old) (name_of op.now) effect }
+        ensures step { (bindings_in self.new, result) ≡ apply_op (bindings_in self.old) client op.now }
         ensures counted { IsCounted self.new }
         ensures places { (n : List ℕ) → has_name_place self.new n ≡ has_name_place self.old n }
     {
-        let name = name_of(op);
-        match effect {
-            Effect::Nothing => (),
-            Effect::Bind(holding) => {
-                self.bind(name, holding);
-                self.bound += 1;
-            }
-            Effect::Replace(holding) => self.bind(name, holding),
-            Effect::Free => {
-                self.unbind(name);
-                self.bound -= 1;
+        match self.places.get_mut(name_of(op)) {
+            None => Reply::Unknown,
+            Some(place) => {
+                let (effect, reply) = outcome_at(self.bound, place, client, op);
+                match effect {
+                    Effect::Nothing => (),
+                    Effect::Bind(holding) => {
+                        *place = Some(holding);
+                        self.bound += 1;
+                    }
+                    Effect::Replace(holding) => *place = Some(holding),
+                    Effect::Free => {
+                        *place = None;
+                        self.bound -= 1;
+                    }
+                }
+                reply
             }
         }
     }
 
-    /// The same where no place is free, and none is left so. Where memory is refused the names are as they were.
+    /// Has an operation's effect on its name. No place is free, and none is left so. Where memory is refused the names
+    /// are as they were.
     pub(crate) fn try_change(&mut self, op: &Op, effect: Effect) -> Result<(), AllocError>
-        requires can { CanHave self.old op.now effect }
+        requires can { CanHave self.old.bound (holding_of (bindings_in self.old) (name_of op.now)) op.now effect }
         requires counted { IsCounted self.old }
         requires free { HasNoFreeName self.old }
         ensures bindings { OnOk result (bindings_in self.new ≡ effected (bindings_in self.old) (name_of op.now) effect) }
@@ -208,7 +145,7 @@ impl Names {
         ensures bound { self.new.bound ≡ self.old.bound }
         ensures made { OnOk result (IsTrue (has_op_place self.new op.now)) }
         ensures stay { (n : List ℕ) → IsTrue (has_name_place self.old n) → IsTrue (has_name_place self.new n) }
-        ensures only { (n : List ℕ) → bytes_eq (name_of op.now) n ≡ false → has_name_place self.new n ≡ has_name_place self.old n }
+        ensures only { (n : List ℕ) → may_free op.now n ≡ false → has_name_place self.new n ≡ has_name_place self.old n }
     {
         match op {
             Op::Claim(name, _) => make_place(&mut self.places, *name),
@@ -218,14 +155,24 @@ impl Names {
         }
     }
 
-    /// Takes away the place of an operation's name if it is free.
+    /// Takes away the place of an operation's name if it is free. Only a claim or a release can leave it so. Where
+    /// each place has a bound name, none is looked for.
     pub(crate) fn drop_free_place(&mut self, op: &Op)
+        requires { IsCounted self.old }
         ensures bindings { bindings_in self.new ≡ bindings_in self.old }
         ensures bound { self.new.bound ≡ self.old.bound }
-        ensures gone { has_name_place self.new (name_of op.now) ≡ is_some (holding_of (bindings_in self.old) (name_of op.now)) }
-        ensures only { (n : List ℕ) → bytes_eq (name_of op.now) n ≡ false → has_name_place self.new n ≡ has_name_place self.old n }
+        ensures gone { (n : List ℕ) → may_free op.now n ≡ true → has_name_place self.new n ≡ is_some (holding_of (bindings_in self.old) n) }
+        ensures only { (n : List ℕ) → may_free op.now n ≡ false → has_name_place self.new n ≡ has_name_place self.old n }
     {
-        drop_free_place(&mut self.places, name_of(op));
+        if self.places.len() == self.bound {
+            return;
+        }
+        match op {
+            Op::Claim(name, _) => drop_free_place(&mut self.places, name),
+            Op::Update(_, _) => (),
+            Op::Release(name) => drop_free_place(&mut self.places, name),
+            Op::Transfer(_, _) => (),
+        }
     }
 }
 
@@ -236,5 +183,71 @@ fn name_of(op: &Op) -> &Name
     match op {
         Op::Claim(name, _) | Op::Update(name, _) | Op::Release(name) | Op::Transfer(name, _) =>
             name,
+    }
+}
+
+// A claim of a name that has this holding while so many names are bound.
+fn claim(bound: usize, held: &Option<Holding>, client: u32, value: &Value) -> (Effect, Reply)
+    ensures step { (m : Bindings) (name : List ℕ) → bound ≡ length m → held.now ≡ holding_of m name → (effected m name result.0, result.1) ≡ apply_op m client (Op.Claim name value.now) }
+    ensures can { (name : List ℕ) → CanHave bound held.now (Op.Claim name value.now) result.0 }
+{
+    if let Some(holding) = held {
+        return (Effect::Nothing, Reply::Taken(holding.owner()));
+    }
+    if bound >= MAX_BOUND {
+        return (Effect::Nothing, Reply::Full);
+    }
+    (Effect::Bind(Holding::new(client, *value)), Reply::Claimed)
+}
+
+fn update(held: &Option<Holding>, client: u32, value: &Value) -> (Effect, Reply)
+    ensures step { (m : Bindings) (name : List ℕ) → held.now ≡ holding_of m name → (effected m name result.0, result.1) ≡ apply_op m client (Op.Update name value.now) }
+    ensures can { (bound : ℕ) (name : List ℕ) → CanHave bound held.now (Op.Update name value.now) result.0 }
+{
+    match held {
+        None => (Effect::Nothing, Reply::Unknown),
+        Some(present) if present.owner() == client => {
+            let given = Holding::new(client, *value);
+            (Effect::Replace(given), Reply::Updated)
+        }
+        Some(_) => (Effect::Nothing, Reply::NotOwner),
+    }
+}
+
+fn release(held: &Option<Holding>, client: u32) -> (Effect, Reply)
+    ensures step { (m : Bindings) (name : List ℕ) → held.now ≡ holding_of m name → (effected m name result.0, result.1) ≡ apply_op m client (Op.Release name) }
+    ensures can { (bound : ℕ) (name : List ℕ) → CanHave bound held.now (Op.Release name) result.0 }
+{
+    match held {
+        None => (Effect::Nothing, Reply::Unknown),
+        Some(holding) if holding.owner() == client => (Effect::Free, Reply::Released),
+        Some(_) => (Effect::Nothing, Reply::NotOwner),
+    }
+}
+
+fn transfer(held: &Option<Holding>, client: u32, owner: u32) -> (Effect, Reply)
+    ensures step { (m : Bindings) (name : List ℕ) → held.now ≡ holding_of m name → (effected m name result.0, result.1) ≡ apply_op m client (Op.Transfer name owner) }
+    ensures can { (bound : ℕ) (name : List ℕ) → CanHave bound held.now (Op.Transfer name owner) result.0 }
+{
+    match held {
+        None => (Effect::Nothing, Reply::Unknown),
+        Some(holding) if holding.owner() == client => {
+            let given = Holding::new(owner, holding.value());
+            (Effect::Replace(given), Reply::Transferred)
+        }
+        Some(_) => (Effect::Nothing, Reply::NotOwner),
+    }
+}
+
+// What an operation does for a client to its name, which has this holding while so many names are bound, and the reply.
+fn outcome_at(bound: usize, held: &Option<Holding>, client: u32, op: &Op) -> (Effect, Reply)
+    ensures step { (m : Bindings) → bound ≡ length m → held.now ≡ holding_of m (name_of op.now) → (effected m (name_of op.now) result.0, result.1) ≡ apply_op m client op.now }
+    ensures can { CanHave bound held.now op.now result.0 }
+{
+    match op {
+        Op::Claim(_, value) => claim(bound, held, client, value),
+        Op::Update(_, value) => update(held, client, value),
+        Op::Release(_) => release(held, client),
+        Op::Transfer(_, owner) => transfer(held, client, *owner),
     }
 }

@@ -5,15 +5,13 @@ ghost use Rattle.std.specs.Prelude.{◌≡◌, List, [], ◌∷◌, IsTrue, OnOk
 ghost use Rattle.std.specs.List.{All};
 ghost use Rattle.rr_types.specs.declared.command.Command.{Command};
 ghost use Rattle.rr_types.specs.Registry.{holding_of};
-ghost use Rattle.std.specs.BTreeMap.{insert_entry};
-ghost use Rattle.rr_types.specs.declared.command.RequestNo.{RequestNo};
-ghost use Rattle.rr_registry.specs.Kept.{request_cmp, kept_reply, applied, applied_all};
-ghost use Rattle.rr_registry.specs.Tables.{bindings_in, kept_in, has_reply_place, has_places, IsCounted, HasFreeOnlyFor, HasNoFree, IsSound};
+ghost use Rattle.rr_registry.specs.Kept.{kept_reply, applied, applied_all};
+ghost use Rattle.rr_registry.specs.Tables.{bindings_in, kept_in, has_places, IsCounted, HasFreeNamesOnlyFor, HasFreeRepliesOnlyFor, HasFreeOnlyFor, HasNoFree, IsSound};
 
 use crate::entries::Entries;
 use crate::holding::Holding;
 use crate::names::Names;
-use rr_places::{drop_free_place, make_place, put, value_at};
+use rr_places::{drop_free_place, make_place, value_at};
 use rr_types::{Command, Name, Refusal, Reply, RequestNo};
 use std::alloc::Global;
 use std::collections::BTreeMap;
@@ -104,7 +102,7 @@ impl Tables {
         match self.make_all_places(commands) {
             Ok(()) => {
                 self.perform_all(commands);
-                self.drop_free_places(commands);
+                self.drop_free_names(commands);
                 Ok(())
             }
             Err(refusal) => {
@@ -114,16 +112,6 @@ impl Tables {
         }
     }
 
-    /// Keeps the reply to a request that has a place for it.
-    fn keep(&mut self, request: RequestNo, reply: Reply)
-        requires { IsTrue (has_reply_place self.old request) }
-        ensures replies { (kept_in self.new).replies ≡ insert_entry request_cmp (kept_in self.old).replies request reply }
-        ensures places { (q : RequestNo) → has_reply_place self.new q ≡ has_reply_place self.old q }
-        ensures names { self.new.names ≡ self.old.names }
-    {
-        put(&mut self.replies, request, Some(reply));
-    }
-
     /// Applies a command that has its places, unless a reply to its request is kept.
     fn perform(&mut self, command: &Command)
         requires places { IsTrue (has_places self.old command.now) }
@@ -131,24 +119,29 @@ impl Tables {
         ensures kept { kept_in self.new ≡ applied (kept_in self.old) command.now }
         ensures counted { IsCounted self.new.names }
         ensures places { (c : Command) → has_places self.new c ≡ has_places self.old c }
-        ensures free { (cs : List Command) → HasFreeOnlyFor self.old cs → HasFreeOnlyFor self.new (command.now ∷ cs) }
+        ensures names { (cs : List Command) → HasFreeNamesOnlyFor self.old cs → HasFreeNamesOnlyFor self.new (command.now ∷ cs) }
+        ensures replies { (cs : List Command) → HasFreeRepliesOnlyFor self.old (command.now ∷ cs) → HasFreeRepliesOnlyFor self.new cs }
     {
-        if self.reply(command.request).is_none() {
-            let (effect, reply) = self.names.outcome(command.request.client, &command.op);
-            self.names.change(&command.op, effect);
-            self.keep(command.request, reply);
+        match self.replies.get_mut(&command.request) {
+            Some(place) => {
+                if place.is_none() {
+                    *place = Some(self.names.perform(command.request.client, &command.op));
+                }
+            }
+            None => unreachable!(),
         }
     }
 
     /// Applies commands that have their places, in their order.
-    #[tactic(auto, using(crate::proofs::FreeLemmas::free_known))]
+    #[tactic(auto, using(crate::proofs::FreeLemmas::free_names_known, crate::proofs::FreeLemmas::free_replies_next, crate::proofs::FreeLemmas::free_replies_end))]
     fn perform_all(&mut self, commands: &[Command])
         requires places { All (λ c. IsTrue (has_places self.old c)) commands.now }
         requires counted { IsCounted self.old.names }
         requires free { HasFreeOnlyFor self.old commands.now }
         ensures kept { kept_in self.new ≡ applied_all (kept_in self.old) commands.now }
         ensures counted { IsCounted self.new.names }
-        ensures free { HasFreeOnlyFor self.new commands.now }
+        ensures names { HasFreeNamesOnlyFor self.new commands.now }
+        ensures replies { HasFreeRepliesOnlyFor self.new [] }
     {
         for command in commands {
             self.perform(command);
@@ -187,6 +180,7 @@ impl Tables {
 
     /// Takes away the places of a command that are free.
     fn drop_places(&mut self, command: &Command)
+        requires { IsCounted self.old.names }
         ensures kept { kept_in self.new ≡ kept_in self.old }
         ensures count { self.new.names.bound ≡ self.old.names.bound }
         ensures free { (cs : List Command) → HasFreeOnlyFor self.old (command.now ∷ cs) → HasFreeOnlyFor self.new cs }
@@ -198,6 +192,7 @@ impl Tables {
     /// The same for each of these commands: no free place is left.
     #[tactic(auto, using(crate::proofs::FreeLemmas::free_next, crate::proofs::FreeLemmas::free_end))]
     fn drop_free_places(&mut self, commands: &[Command])
+        requires counted { IsCounted self.old.names }
         requires free { HasFreeOnlyFor self.old commands.now }
         ensures kept { kept_in self.new ≡ kept_in self.old }
         ensures count { self.new.names.bound ≡ self.old.names.bound }
@@ -205,6 +200,20 @@ impl Tables {
     {
         for command in commands {
             self.drop_places(command);
+        }
+    }
+
+    /// Takes away the free places of these commands' names. No reply has one.
+    fn drop_free_names(&mut self, commands: &[Command])
+        requires counted { IsCounted self.old.names }
+        requires names { HasFreeNamesOnlyFor self.old commands.now }
+        requires replies { HasFreeRepliesOnlyFor self.old [] }
+        ensures kept { kept_in self.new ≡ kept_in self.old }
+        ensures count { self.new.names.bound ≡ self.old.names.bound }
+        ensures free { HasNoFree self.new }
+    {
+        for command in commands {
+            self.names.drop_free_place(&command.op);
         }
     }
 }

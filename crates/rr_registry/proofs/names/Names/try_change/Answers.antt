@@ -20,14 +20,14 @@ pub bind-requires : goal.bind-requires
 bind-requires c =
     let before = c.args.self.now in
     let op = c.args.op.now in
-    subst (λ name. IsTrue (has_name_place before name)) (sym c.name_of-name.ensures) (place_of_bound before (name_of op) (subst (CanHave before op) c.in-Replace.is c.requires.can))
+    subst (λ name. IsTrue (has_name_place before name)) (sym c.name_of-name.ensures) (place_of_bound before (name_of op) (subst (CanHave before.bound (holding_of (bindings_in before) (name_of op)) op) c.in-Replace.is c.requires.can))
 
 pub returns-in_ok-insert-in-Bind-clause-counted : goal.returns-in_ok-insert-in-Bind-clause-counted
 returns-in_ok-insert-in-Bind-clause-counted c =
     let before = c.args.self.now in
     let m = bindings_in before in
     let name = c.name_of-name.result.now in
-    let can = subst (CanHave before c.args.op.now) c.in-Bind.is c.requires.can in
+    let can = subst (CanHave before.bound (holding_of m (name_of c.args.op.now)) c.args.op.now) c.in-Bind.is c.requires.can in
     let none : lookup (is_at (slice_cmp nat_cmp name)) m ≡ None = lookup-name name m ∙ ap (holding_of m) c.name_of-name.ensures ∙ can.1 in
     ap (λ n. n + 1) c.requires.counted
     ∙ sym (ap length c.in_ok-insert-in-Bind.ensures.filled ∙ length_inserted (slice_cmp nat_cmp) name c.in-Bind.holding m none)
@@ -62,7 +62,7 @@ returns-in-Free-clause-counted c =
     let op = c.args.op.now in
     let bindings = ap length (returns-in-Free-clause-bindings c) in
     let here : length (effected m (name_of op) c.args.effect) ≡ length (unbind m (name_of op)) = ap (λ e. length (effected m (name_of op) e)) c.in-Free.is in
-    let less = length_removed (bytes_eq (name_of op)) m (subst (CanHave before op) c.in-Free.is c.requires.can) in
+    let less = length_removed (bytes_eq (name_of op)) m (subst (CanHave before.bound (holding_of (bindings_in before) (name_of op)) op) c.in-Free.is c.requires.can) in
     let counted = c.requires.counted in
     omega arith
 

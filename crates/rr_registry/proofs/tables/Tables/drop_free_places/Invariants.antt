@@ -1,5 +1,5 @@
 use Rattle.std.proofs.Common.{◌≡◌, drop}
-use Rattle.rr_registry.specs.Tables.{kept_in, HasFreeOnlyFor}
+use Rattle.rr_registry.specs.Tables.{kept_in, IsCounted, HasFreeOnlyFor}
 use Rattle.rr_registry.proofs.tables.Tables.drop_free_places.Given as goal
 
 -- the free places are those of the commands that are left
@@ -8,5 +8,6 @@ invariant-loop-command l =
     record {
       kept : kept_in l.self ≡ kept_in l.fn.self;
       count : l.self.names.bound ≡ l.fn.self.names.bound;
+      counted : IsCounted l.self.names;
       free : HasFreeOnlyFor l.self (drop l.command-index l.commands);
     }

@@ -17,3 +17,8 @@ loop-command-preserved c =
           (rw (← c.command-item.is) place);
       free = free_known c.make_places.new.self commands c.loop-command.command-index c.command-item.result c.loop-command-test.true c.command-item.is (c.make_places.ensures.free commands c.loop-command.invariant.free);
     }
+
+pub returns-in_err-make_places-clause-free : goal.returns-in_err-make_places-clause-free
+returns-in_err-make_places-clause-free c =
+    let commands = c.args.commands.now in
+    free_known c.make_places.new.self commands c.loop-command.command-index c.command-item.result c.loop-command-test.true c.command-item.is (c.make_places.ensures.free commands c.loop-command.invariant.free)

@@ -1,7 +1,7 @@
 use Rattle.std.proofs.Common.{◌≡◌, drop}
 use Rattle.rr_types.specs.declared.command.Command.{Command}
 use Rattle.rr_registry.specs.Kept.{applied_all}
-use Rattle.rr_registry.specs.Tables.{kept_in, has_places, IsCounted, HasFreeOnlyFor}
+use Rattle.rr_registry.specs.Tables.{kept_in, has_places, IsCounted, HasFreeNamesOnlyFor, HasFreeRepliesOnlyFor}
 use Rattle.rr_registry.proofs.tables.Tables.perform_all.Given as goal
 
 -- what is left leads to what all the commands lead to
@@ -11,5 +11,6 @@ invariant-loop-command l =
       kept : applied_all (kept_in l.self) (drop l.command-index l.commands) ≡ applied_all (kept_in l.fn.self) l.commands;
       counted : IsCounted l.self.names;
       places : (c : Command) → has_places l.self c ≡ has_places l.fn.self c;
-      free : HasFreeOnlyFor l.self l.commands;
+      names : HasFreeNamesOnlyFor l.self l.commands;
+      replies : HasFreeRepliesOnlyFor l.self (drop l.command-index l.commands);
     }
