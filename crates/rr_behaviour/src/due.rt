@@ -32,18 +32,19 @@ pub enum Due {
     MoveOn(Instance),
 }
 
+#[tactic(auto, using(rr_round::proofs::TallyLemmas::joined_empty))]
 fn due_of_coordinator(
     step: &Step<'_>,
     instance: Instance,
     tally: &Tally,
-    open: &OpenStanding,
+    at: &OpenStanding,
 ) -> Option<Due>
-    ensures value { option_map meaning_of result ≡ due_of_coordinator step.now.state instance tally.now open.now.round open.now.proposal }
-    ensures moves { IfSome result (MovesBelowLast open.now.round) }
+    ensures value { option_map meaning_of result ≡ due_of_coordinator step.now.state instance tally.now at.now.round at.now.proposal }
+    ensures moves { IfSome result (MovesBelowLast at.now.round) }
 {
     made_of!(Op);
-    let round = open.round();
-    match open.proposal_ref() {
+    let round = at.round();
+    match at.proposal_ref() {
         // Of a majority's estimates, that of the greatest stamp. If an earlier round could have decided, it is that
         // round's command (Chandra and Toueg 1996, phase 2).
         None => match tally.pick(step.nodes()) {
@@ -55,6 +56,10 @@ fn due_of_coordinator(
             // one of these nodes. The rule is phase 4 of Chandra and Toueg (1996).
             if tally.is_acknowledged(step.nodes()) {
                 return Some(Due::Conclude(instance, *command));
+            }
+            // Where nobody refused, the answers are the acknowledgements.
+            if tally.nacks.bits() == 0 {
+                return None;
             }
             // A majority has answered, and somebody refused. Waiting for more answers could last for ever.
             if tally.is_answered(step.nodes()) && round.number() < rr_types::MAX_ROUND {
@@ -89,10 +94,10 @@ fn due_of_row(
 {
     match standing {
         Standing::Decided(_) => None,
-        Standing::Open(open) => {
-            let round = open.round();
+        Standing::Open(at) => {
+            let round = at.round();
             if coordinator(round, step.nodes()).index() == step.node().index() {
-                due_of_coordinator(step, instance, tally, open)
+                due_of_coordinator(step, instance, tally, at)
             } else {
                 due_of_participant(step, instance, round)
             }

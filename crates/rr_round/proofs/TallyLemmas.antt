@@ -1,12 +1,15 @@
 use Rattle.std.proofs.Common.{◌≡◌, ◌+◌, ◌<◌, ◌≤◌, ℕ, Some, if◌then◌else◌, arith, Bool, true, false, ltb, eqb, cond, List, [], ◌∷◌, ◌++◌, length, get_or, take, drop, ap, sym, ◌∙◌, refl, append_assoc}
 use Rattle.std.specs.List.{insert}
 use Rattle.std.proofs.lemmas.List.{drop_all, drop_more, take-append-drop, take_more}
-use Rattle.std.proofs.lemmas.Bool.{lt-ltb, le-ltb, ne_eqb, eq-eqb}
-use Rattle.std.specs.Prelude.{filter}
+use Rattle.std.proofs.lemmas.Bool.{lt-ltb, le-ltb, lt-leb, ne_eqb, eq-eqb}
+use Rattle.std.specs.Prelude.{filter, zero, suc, ◌^◌}
 use Rattle.std.specs.List.{range_with_len}
 use Rattle.std.proofs.lemmas.List.{at_drop_more, map-id, length-append}
 use Rattle.std.proofs.lemmas.List.Elements.{filter-append}
 use Rattle.std.proofs.lemmas.List.FromFn.{map-range_with_len_more}
+use Rattle.std.proofs.Math.Nat.{zero-div}
+use Rattle.rr_types.specs.Nodes.{has_member, joined, joined_below}
+use Rattle.rr_round.specs.Majorities.{has_majority}
 use Rattle.rr_model.specs.NodeDue.{better, best_vote}
 use Rattle.rr_model.specs.NodeState.{Vote}
 use Rattle.rr_model.specs.NodeStep.{with_vote}
@@ -65,3 +68,26 @@ count_more p n = rw (range_more n, filter-append p (range_with_len 0 n) (n ∷ [
     last : (b : Bool) → length (filter p (range_with_len 0 n)) + length (cond b (n ∷ []) []) ≡ length (filter p (range_with_len 0 n)) + (if b then 1 else 0)
     last true = refl
     last false = refl
+
+-- the empty set has no node
+pub empty_has : (q : ℕ) → has_member 0 q ≡ false
+empty_has q = rw (zero-div (2 ^ q)) refl
+
+-- of numbers none passes a test that all fail
+none_pass : (p : ℕ → Bool) → ((q : ℕ) → p q ≡ false) → (qs : List ℕ) → length (filter p qs) ≡ 0
+none_pass p fails [] = refl
+none_pass p fails (q ∷ qs) = rw (fails q) (none_pass p fails qs)
+
+-- and so no majority
+pub empty_lacks : (n set : ℕ) → set ≡ 0 → has_majority n set ≡ false
+empty_lacks n set e = rw (e, none_pass (λ q. has_member 0 q) empty_has (range_with_len 0 n)) (lt-leb _ _ (omega arith))
+
+-- nothing is joined of the empty set
+joined_none : (q a : ℕ) → joined_below q a 0 ≡ a
+joined_none zero a = refl
+joined_none (suc q) a = rw (empty_has q) (joined_none q a)
+
+-- a set with the empty one is itself
+pub joined_empty : (a b : ℕ) → b ≡ 0 → joined a b ≡ a
+unfolding joined
+joined_empty a b e = rw e (joined_none 7 a)

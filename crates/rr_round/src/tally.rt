@@ -217,8 +217,12 @@ fn has(set: NodeSet, index: u8) -> bool
 }
 
 /// Whether a set has a majority of the nodes.
+#[tactic(auto, using(crate::proofs::TallyLemmas::empty_lacks))]
 fn is_majority(nodes: Nodes, set: NodeSet) -> bool
     ensures { result ≡ has_majority nodes set }
 {
+    if set.bits() == 0 {
+        return false;
+    }
     majority(nodes) <= count_members(nodes, set)
 }
