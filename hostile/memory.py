@@ -3,6 +3,7 @@
 A run ends with `rr: 1 OutOfMemory` and status 6, and standard output has got a front of the whole or nothing. Or it
 prints the report of the run in which memory was wanting for just one event. The plain Rust program says what that is.
 Where all later requests are refused too, the run ends without memory, or with the report where just the events that it refuses found none.
+Of a request that the run can do without, nothing shows: the run is then the whole one.
 """
 import html
 import os
@@ -156,16 +157,20 @@ def refuse_each(rig, options, tally, what, words, whole, starved, text=None, tol
             # What grows asks for room to spare, and where that is refused once more for what it needs.
             tally.counts["requests made again, refused with the next"] += 1
             ending = refuse(rig, options, words, number, "2")
+        # What a table asks for only to keep less room may be refused without a trace.
+        is_spared = whole.status == 0 and ending == whole
+        tally.counts["requests refused without a trace"] += is_spared
         line = starved.get(told(ending.out)) if ending.status == 0 else None
         if line is not None:
             reached.add(line)
             tally.counts["reports of a starved event"] += 1
         holds = ending.err == b"" if line is not None else is_no_memory(ending, whole) or is_bare_verdict(rig, tally, ending, whole)
-        tally.check(holds, lambda: f"{what}, request {number}: {tell(ending)}")
+        tally.check(holds or is_spared, lambda: f"{what}, request {number}: {tell(ending)}")
         last = refuse(rig, options, words, number, ALL)
         holds = is_report_of_starved(rig, text, last._replace(out=told(last.out)), of_report) if last.status == 0 else is_no_memory(last, whole) or is_bare_verdict(rig, tally, last, whole)
-        tally.counts["reports without memory from an event on"] += last.status == 0
-        tally.check(holds, lambda: f"{what}, request {number} and all behind it: {tell(last)}")
+        is_spared = is_spared and last == whole
+        tally.counts["reports without memory from an event on"] += last.status == 0 and not is_spared
+        tally.check(holds or is_spared, lambda: f"{what}, request {number} and all behind it: {tell(last)}")
     return reached
 
 
