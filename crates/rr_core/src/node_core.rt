@@ -300,6 +300,13 @@ impl Core {
         self.state.mark.end()
     }
 
+    /// The nodes that it suspects to be down.
+    pub fn suspects(&self) -> NodeSet
+        ensures { result ≡ self.now.suspects }
+    {
+        self.state.suspects.output()
+    }
+
     /// How many commands the decided prefix has.
     pub fn decided_count(&self) -> usize
         ensures { result ≡ length (decided_prefix self.now) }
