@@ -13,19 +13,30 @@ use crate::rest::{LONG, Rest};
 use crate::shared::Shared;
 use rr_locked::{Place, Turnstile, submit_on};
 use rr_script::{Answer, ScriptLine};
-use rr_types::{Command, Name, NodeId, Op, Refusal, Reply, RequestNo, Value, made_of};
+use rr_types::{Command, Name, NodeId, NodeSet, Op, Refusal, Reply, RequestNo, Value, made_of};
 use rr_window::{Entry, Receipt, Seat, Sight, WindowName};
 use std::alloc::Global;
 use std::marker::Model;
 use std::sync::Wait;
 
-/// How many times a client looks for its receipt before it gives up.
+/// How many times a client looks for its receipt before it gives up: for some days.
 const POLLS: u32 = 10_000_000;
+
+/// What a node that is up knows.
+#[derive(Clone, Copy, Debug)]
+pub struct Standing {
+    /// How many facts its disk has that it knows to be there.
+    pub facts: u64,
+    /// How many commands of the list it knows to be decided, from the first on.
+    pub decided: u64,
+    /// The nodes that it suspects to be down.
+    pub suspects: NodeSet,
+}
 
 /// Someone who asks one node, in a thread of its own and with a seat of its own.
 pub trait Client {
     /// Asks what it has to ask, by this handle. The run lasts until each client has returned from here. An error ends
-    /// it.
+    /// it, but `Down` where the node is being stopped: then this is called again once the node is started.
     fn run<W: WindowName, T: Turnstile, R: Wait>(
         &mut self,
         handle: &mut Handle<'_, '_, W, T, R>,
@@ -101,15 +112,17 @@ fn is_taken<W: WindowName, T: Turnstile, R: Wait>(
     }
 }
 
-/// The receipt that comes to a counter, unless the run ends before or the client gives up.
+/// The receipt that comes to a counter, unless the node goes down before or the client gives up, after so many looks.
 fn receipt_at<W: WindowName, T, R: Wait>(
     rt: &R,
     shared: &Shared<'_, T>,
+    desk: &Desk<W>,
     counter: &Counter<W>,
+    looks: u32,
 ) -> Option<Receipt<W>> {
     let mut rest = Rest::new(LONG);
-    for _ in 0..POLLS {
-        if counter.is_told(rt) || shared.running.is_over() {
+    for _ in 0..looks {
+        if counter.is_told(rt) || desk.is_ending(shared) {
             break;
         }
         rest.wait(rt, &counter.bell);
@@ -124,6 +137,7 @@ fn receipt_for<W: WindowName, T: Turnstile, R: Wait>(
     shared: &Shared<'_, T>,
     desk: &Desk<W>,
     counter: &Counter<W>,
+    looks: u32,
     command: &Command,
 ) -> Option<Receipt<W>>
     ensures { IfSome result (λ receipt. receipt.request ≡ command.now.request) }
@@ -132,7 +146,7 @@ fn receipt_for<W: WindowName, T: Turnstile, R: Wait>(
     if !is_taken(rt, shared, desk, command) {
         return None;
     }
-    let receipt = receipt_at(rt, shared, counter)?;
+    let receipt = receipt_at(rt, shared, desk, counter, looks)?;
     if receipt.request().is_same(command.request) {
         Some(receipt)
     } else {
@@ -153,22 +167,68 @@ impl<'d, 'x, W: WindowName, T: Turnstile, R: Wait> Handle<'d, 'x, W, T, R> {
         self.node
     }
 
-    /// Whether the run is over. Then no submit is acknowledged any more.
+    /// Whether the node goes down, since it is stopped or the run is over. Then no submit is acknowledged any more.
     pub fn is_over(&self) -> bool {
-        self.shared.running.is_over()
+        self.desk.is_ending(self.shared)
     }
 
-    /// Submits a command, and waits for its reply. What is looked at from then on has it. A run ends whose tape may lack the
-    /// submit.
-    #[tactic(auto, using(crate::proofs::Replies::later_reply))]
+    /// What the node knows.
+    pub fn standing(&self) -> Standing {
+        let locked = self.desk.locked.lock(self.rt);
+        let core = locked.core();
+        Standing {
+            facts: core.facts(),
+            decided: core.decided_count() as u64,
+            suspects: core.suspects(),
+        }
+    }
+
+    /// Has the node write a snapshot of its facts to the other area of its disk, and waits for so many looks, as `submit_within`
+    /// does. Answers whether it is written. A snapshot that is refused ends the run.
+    pub fn snapshot(&self, looks: u32) -> bool {
+        let number = self.desk.snapshots.ask();
+        self.desk.flusher.unpark();
+        let mut rest = Rest::new(LONG);
+        for _ in 0..looks {
+            if self.desk.snapshots.is_written(number) {
+                return true;
+            }
+            if self.is_over() {
+                break;
+            }
+            rest.wait(self.rt, &self.counter.bell);
+        }
+        false
+    }
+
+    /// Submits a command, and waits for its reply, some days at most. What is looked at from then on has it. A run ends whose tape
+    /// may lack the submit.
     pub fn submit(&mut self, command: &Command) -> Answer
+        ensures answer { IsAnswered command.now.request self.new result }
+        ensures later { IsPrefix self.old.known self.new.known }
+        ensures same { self.new.node ≡ self.old.node }
+    {
+        self.submit_within(POLLS, command)
+    }
+
+    /// Submits a command as `submit` does, and gives up after so many looks for its reply: 100 take four seconds. A command that
+    /// isn't acknowledged by then may come to be decided, and so may its reply come to a later submit of it.
+    #[tactic(auto, using(crate::proofs::Replies::later_reply))]
+    pub fn submit_within(&mut self, looks: u32, command: &Command) -> Answer
         ensures answer { IsAnswered command.now.request self.new result }
         ensures later { IsPrefix self.old.known self.new.known }
         ensures same { self.new.node ≡ self.old.node }
     {
         let node = self.node;
         let request = command.request;
-        match receipt_for(self.rt, self.shared, self.desk, self.counter, command) {
+        match receipt_for(
+            self.rt,
+            self.shared,
+            self.desk,
+            self.counter,
+            looks,
+            command,
+        ) {
             None => Answer::Unacknowledged { node, request },
             Some(receipt) => {
                 self.seat.learn(&receipt);
@@ -225,15 +285,24 @@ impl<'d, 'x, W: WindowName, T: Turnstile, R: Wait> Handle<'d, 'x, W, T, R> {
         ensures later { IsPrefix self.old.known self.new.known }
         ensures same { self.new.node ≡ self.old.node }
     {
+        self.ask_within(POLLS, line)
+    }
+
+    /// Asks as `ask` does, and gives a submit up after so many looks for its reply, as `submit_within` does.
+    pub fn ask_within(&mut self, looks: u32, line: &ScriptLine) -> Answer
+        ensures answer { IsAnswerTo line.now self.old self.new result }
+        ensures later { IsPrefix self.old.known self.new.known }
+        ensures same { self.new.node ≡ self.old.node }
+    {
         made_of!(Answer, ScriptLine, Command, Op, Name, Reply, Value);
         match line {
-            ScriptLine::Submit { node: _, command } => self.submit(command),
+            ScriptLine::Submit { node: _, command } => self.submit_within(looks, command),
             ScriptLine::Look { node: _, name } => self.look(name),
         }
     }
 }
 
-/// Serves the client at this place of its node.
+/// Serves the client at this place of its node. Gives the client back where the node goes down before it is done.
 pub fn serve<'d, 'x, W: WindowName, T: Turnstile, R: Wait, C: Client + Drop>(
     rt: &'d R,
     shared: &'d Shared<'x, T>,
@@ -241,20 +310,27 @@ pub fn serve<'d, 'x, W: WindowName, T: Turnstile, R: Wait, C: Client + Drop>(
     place: usize,
     seat: Seat<W>,
     client: C,
-) {
+) -> Option<C> {
     let mut client = client;
-    if let Some(counter) = desk.counter(place) {
-        let mut handle = Handle {
-            rt,
-            shared,
-            desk,
-            counter,
-            node: desk.node,
-            seat,
-        };
-        if let Err(refusal) = client.run(&mut handle) {
-            shared.running.fail(rt, desk.node, refusal);
+    let told = match desk.counter(place) {
+        Some(counter) => {
+            let mut handle = Handle {
+                rt,
+                shared,
+                desk,
+                counter,
+                node: desk.node,
+                seat,
+            };
+            client.run(&mut handle)
         }
+        None => Ok(()),
+    };
+    match told {
+        Err(Refusal::Down) if desk.is_ending(shared) => return Some(client),
+        Err(refusal) => shared.running.fail(rt, desk.node, refusal),
+        Ok(()) => {}
     }
     shared.running.leave(rt);
+    None
 }

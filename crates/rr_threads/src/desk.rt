@@ -3,10 +3,12 @@
 ghost use Rattle.std.specs.Prelude.{◌≡◌, Some};
 ghost use Rattle.rr_types.specs.Registry.{reply_of};
 
+use crate::shared::Shared;
 use rr_locked::Locked;
 use rr_types::{NodeId, Reply, RequestNo};
 use rr_window::{Publisher, Receipt, WindowName};
 use std::mem;
+use std::sync::atomic::{AtomicU64, Ordering};
 use std::sync::{Mutex, Wait};
 use std::thread::Parker;
 
@@ -68,26 +70,77 @@ impl<W: WindowName> Counter<W> {
     }
 }
 
-/// Which node it is, the node under its lock, a bell for its flusher and its publisher, and a counter for each client.
+/// Snapshots of a node: how many were asked for, and how many of these are written.
+#[derive(Drop)]
+pub struct Snapshots {
+    asked: AtomicU64,
+    written: AtomicU64,
+}
+
+impl Snapshots {
+    fn new() -> Snapshots {
+        Snapshots {
+            asked: AtomicU64::new(0),
+            written: AtomicU64::new(0),
+        }
+    }
+
+    /// Asks for one more, and gives its number.
+    pub fn ask(&self) -> u64 {
+        self.asked.fetch_add(1, Ordering::SeqCst).saturating_add(1)
+    }
+
+    /// The number of the last that was asked for, unless that is written.
+    pub fn next(&self) -> Option<u64> {
+        let asked = self.asked.load(Ordering::SeqCst);
+        if asked == self.written.load(Ordering::SeqCst) {
+            None
+        } else {
+            Some(asked)
+        }
+    }
+
+    /// Those up to this number are written.
+    pub fn note(&self, number: u64) {
+        self.written.store(number, Ordering::SeqCst);
+    }
+
+    /// Whether that of this number is written.
+    pub fn is_written(&self, number: u64) -> bool {
+        self.written.load(Ordering::SeqCst) >= number
+    }
+}
+
+/// Which node it is, at which move of its switch it came up, the node under its lock, a bell for its flusher and its publisher,
+/// its snapshots, and a counter for each client.
 #[derive(Drop)]
 pub struct Desk<W: WindowName> {
     pub node: NodeId,
+    pub moves: u64,
     pub locked: Mutex<Locked>,
     pub flusher: Parker,
     pub publisher: Parker,
+    pub snapshots: Snapshots,
     counters: Vec<Counter<W>>,
 }
 
 impl<W: WindowName> Desk<W> {
-    /// A node that is up, with a counter for each of its clients.
-    pub fn new(node: NodeId, locked: Locked, counters: Vec<Counter<W>>) -> Desk<W> {
+    /// A node that has come up at this move of its switch, with a counter for each of its clients.
+    pub fn new(node: NodeId, moves: u64, locked: Locked, counters: Vec<Counter<W>>) -> Desk<W> {
         Desk {
             node,
+            moves,
             locked: Mutex::new(locked),
             flusher: Parker::new(),
             publisher: Parker::new(),
+            snapshots: Snapshots::new(),
             counters,
         }
+    }
+
+    /// Whether the node goes down, since it is stopped or the run is over.
+    pub fn is_ending<T>(&self, shared: &Shared<'_, T>) -> bool {
+        shared.is_ending(self.node, self.moves)
     }
 
     /// The counter of the client at `place`, if there is one.

@@ -3,6 +3,7 @@
 use crate::desk::Desk;
 use crate::rest::{LONG, Rest};
 use crate::shared::Shared;
+use crate::snapshotting::write_next;
 use rr_disk::Disk;
 use rr_inbox::{Giver, Taker, TrySendError};
 use rr_journal::{Journal, Synced};
@@ -21,7 +22,7 @@ pub struct Flusher<D: Disk> {
     pub backs: Giver<Result<Synced, Unflushed>>,
 }
 
-/// Gives back what became of a group, once there is room. Where nobody takes it, the run is over.
+/// Gives back what became of a group, once there is room. Where nobody takes it, the node goes down.
 fn give_back<B: Drop, R: Wait>(rt: &R, backs: &mut Giver<B>, back: B) {
     let mut waiting = back;
     for _ in rt.forever() {
@@ -51,24 +52,37 @@ fn flush_next<D: Disk, T: Turnstile, R: Wait>(
     }
 }
 
-/// Flushes the groups that come, until the run is over.
+/// Flushes the groups that come, and writes snapshots where none comes, until the node goes down. Gives its disk back.
 pub fn flush_all<W: WindowName, D: Disk + Drop, T: Turnstile, R: Wait>(
     rt: &R,
     alloc: Global,
     shared: &Shared<'_, T>,
     desk: &Desk<W>,
     flusher: Flusher<D>,
-) {
+) -> D {
     let mut flusher = flusher;
     let mut rest = Rest::new(LONG);
     for _ in rt.forever() {
         if flush_next(rt, alloc, shared.turnstile, desk.node, &mut flusher) {
             rest.end();
             shared.running.ring(desk.node);
-        } else if shared.running.is_over() {
+            continue;
+        }
+        if desk.is_ending(shared) {
             break;
-        } else {
-            rest.wait(rt, &desk.flusher);
+        }
+        match write_next(rt, alloc, shared.turnstile, desk, &mut flusher.journal) {
+            Ok(true) => rest.end(),
+            Ok(false) => {
+                rest.wait(rt, &desk.flusher);
+            }
+            Err(refusal) => shared.running.fail(rt, desk.node, refusal),
         }
     }
+    let Flusher {
+        journal,
+        groups: _,
+        backs: _,
+    } = flusher;
+    journal.into_disk()
 }

@@ -18,11 +18,17 @@ use std::sync::{Mutex, Wait};
 /// The most messages that are heard in a turn, and the most that are sent.
 const BATCH: usize = 64;
 
-/// What the loop of a node owns: its inbox, an end for each node's inbox, and its ends of the hand-overs.
+/// A node's inbox, and its end of each node's inbox.
 #[derive(Drop)]
-pub struct Runner {
+pub struct Mail {
     pub inbox: Outlet<Sent>,
     pub ports: Vec<Port<Sent>>,
+}
+
+/// What the loop of a node owns: its mail, and its ends of the hand-overs.
+#[derive(Drop)]
+pub struct Runner {
+    pub mail: Mail,
     pub groups: Giver<Group>,
     pub backs: Taker<Result<Synced, Unflushed>>,
 }
@@ -280,13 +286,13 @@ fn look<W: WindowName, R: Wait>(
     runner: &mut Runner,
 ) -> Result<bool, Refusal> {
     let node = &desk.locked;
-    let has_heard = hear_all(rt, node, recorder, &mut runner.inbox)?;
+    let has_heard = hear_all(rt, node, recorder, &mut runner.mail.inbox)?;
     let has_marked = mark_next(rt, desk, recorder, &mut runner.backs)?;
     let has_staged = flush_next(rt, node, recorder, &mut runner.groups)?;
     if has_staged {
         desk.flusher.unpark();
     }
-    let has_sent = send_all(rt, running, node, recorder, &mut runner.ports)?;
+    let has_sent = send_all(rt, running, node, recorder, &mut runner.mail.ports)?;
     Ok(has_heard || has_marked || has_staged || has_sent)
 }
 
@@ -307,13 +313,13 @@ fn turn<W: WindowName, T, R: Wait>(
     count_turn(rt, &desk.locked, shared.recorder, clockwork, rest.is_long())
 }
 
-/// Runs a node, until the run is over.
+/// Runs a node, until it goes down. Gives its mail back.
 pub fn run_node<W: WindowName, T, R: Wait>(
     rt: &R,
     shared: &Shared<'_, T>,
     desk: &Desk<W>,
     runner: Runner,
-) {
+) -> Mail {
     let mut runner = runner;
     let mut clockwork = Clockwork {
         turns: Turns::new(),
@@ -321,7 +327,7 @@ pub fn run_node<W: WindowName, T, R: Wait>(
     };
     let mut rest = Rest::new(SHORT);
     for _ in rt.forever() {
-        if shared.running.is_over() {
+        if desk.is_ending(shared) {
             break;
         }
         if let Err(refusal) = turn(rt, shared, desk, &mut runner, &mut clockwork, &mut rest) {
@@ -329,4 +335,10 @@ pub fn run_node<W: WindowName, T, R: Wait>(
         }
     }
     desk.ring_all();
+    let Runner {
+        mail,
+        groups: _,
+        backs: _,
+    } = runner;
+    mail
 }

@@ -6,21 +6,21 @@ ghost use Rattle.std.specs.Thread.{IsSend};
 use crate::client::{Client, serve};
 use crate::desk::{Counter, Desk};
 use crate::flushing::{Flusher, flush_all};
-use crate::node_loop::{Runner, run_node};
+use crate::node_loop::{Mail, Runner, run_node};
 use crate::publishing::{publish_all, publish_first};
 use crate::shared::Shared;
 use rr_core::Core;
 use rr_disk::Disk;
-use rr_inbox::{Giver, Outlet, Port, Taker, hand_over};
+use rr_inbox::{Giver, Taker, hand_over};
 use rr_journal::{Journal, Synced};
-use rr_locked::{Locked, Sent, Turnstile, Unflushed};
+use rr_locked::{Locked, Turnstile, Unflushed};
 use rr_types::{Group, NodeId, Refusal};
 use rr_window::{NewList, Publisher, Seat, Seats, WindowName, open};
 use std::alloc::Global;
 use std::marker::Brand;
 use std::sync::Wait;
 use std::thread;
-use std::thread::{Scope, Threads};
+use std::thread::{JoinHandle, Scope, Threads};
 
 /// A node that is up, before its threads start.
 #[derive(Drop)]
@@ -28,8 +28,7 @@ pub struct Part<D: Disk> {
     pub node: NodeId,
     pub core: Core,
     pub journal: Journal<D>,
-    pub inbox: Outlet<Sent>,
-    pub ports: Vec<Port<Sent>>,
+    pub mail: Mail,
 }
 
 impl<D: Disk> Part<D> {
@@ -39,6 +38,15 @@ impl<D: Disk> Part<D> {
     {
         self.node
     }
+}
+
+/// What is left of a node that has gone down, and its clients that aren't done. Its disk or its mail is missing where a thread
+/// couldn't be made, and then the run is over.
+#[derive(Drop)]
+pub struct Remains<D, C> {
+    pub disk: Option<D>,
+    pub mail: Option<Mail>,
+    pub clients: Vec<C>,
 }
 
 /// The hand-overs between the loop of a node and its flusher: of groups, and of what became of them.
@@ -129,8 +137,7 @@ fn share_out<D: Disk>(part: Part<D>, hand_overs: HandOvers) -> Crew<D> {
         node,
         core,
         journal,
-        inbox,
-        ports,
+        mail,
     } = part;
     let HandOvers { groups, backs } = hand_overs;
     let (group_giver, group_taker) = groups;
@@ -144,15 +151,14 @@ fn share_out<D: Disk>(part: Part<D>, hand_overs: HandOvers) -> Crew<D> {
             backs: back_giver,
         },
         runner: Runner {
-            inbox,
-            ports,
+            mail,
             groups: group_giver,
             backs: back_taker,
         },
     }
 }
 
-/// Starts a flusher's thread.
+/// Starts a flusher's thread, if it can be made.
 fn start_flusher<
     's,
     'x: 's,
@@ -168,13 +174,14 @@ fn start_flusher<
     shared: &'s Shared<'x, T>,
     desk: &'s Desk<W>,
     flusher: Flusher<D>,
-) -> bool {
-    scope
-        .spawn(move || flush_all(rt, alloc, shared, desk, flusher))
-        .is_ok()
+) -> Option<JoinHandle<D>> {
+    match scope.spawn(move || flush_all(rt, alloc, shared, desk, flusher)) {
+        Ok(thread) => Some(thread),
+        Err(_) => None,
+    }
 }
 
-/// Starts the thread of a node's loop.
+/// Starts the thread of a node's loop, if it can be made.
 fn start_loop<
     's,
     'x: 's,
@@ -188,13 +195,14 @@ fn start_loop<
     shared: &'s Shared<'x, T>,
     desk: &'s Desk<W>,
     runner: Runner,
-) -> bool {
-    scope
-        .spawn(move || run_node(rt, shared, desk, runner))
-        .is_ok()
+) -> Option<JoinHandle<Mail>> {
+    match scope.spawn(move || run_node(rt, shared, desk, runner)) {
+        Ok(thread) => Some(thread),
+        Err(_) => None,
+    }
 }
 
-/// Starts a client's thread.
+/// Starts a client's thread, if it can be made.
 fn start_client<
     's,
     'x: 's,
@@ -211,13 +219,14 @@ fn start_client<
     place: usize,
     seat: Seat<W>,
     client: C,
-) -> bool {
-    scope
-        .spawn(move || serve(rt, shared, desk, place, seat, client))
-        .is_ok()
+) -> Option<JoinHandle<Option<C>>> {
+    match scope.spawn(move || serve(rt, shared, desk, place, seat, client)) {
+        Ok(thread) => Some(thread),
+        Err(_) => None,
+    }
 }
 
-/// Starts the threads of all clients. Answers whether each could be made.
+/// Starts the threads of all clients. It is `OutOfMemory`, also where one couldn't be made.
 fn start_clients<
     's,
     'x: 's,
@@ -229,22 +238,79 @@ fn start_clients<
 >(
     scope: &Scope<'s, E>,
     rt: &'s R,
+    alloc: Global,
     shared: &'s Shared<'x, T>,
     desk: &'s Desk<W>,
     seated: Vec<(Seat<W>, C)>,
-) -> bool {
+) -> Result<Vec<JoinHandle<Option<C>>>, Refusal> {
+    let mut threads = Vec::new(alloc);
     let mut place = 0usize;
-    let mut are_all = true;
     for (seat, client) in seated {
-        if !start_client(scope, rt, shared, desk, place, seat, client) {
-            are_all = false;
+        match start_client(scope, rt, shared, desk, place, seat, client) {
+            Some(thread) => threads.push(thread)?,
+            None => return Err(Refusal::OutOfMemory),
         }
         place = place.saturating_add(1);
     }
-    are_all
+    Ok(threads)
 }
 
-/// The threads of a node that is up. The publisher's loop runs in the thread that calls.
+/// What a thread gives at its end, if there is one.
+fn join<T: Drop, R: Threads>(rt: &R, thread: Option<JoinHandle<T>>) -> Option<T> {
+    match thread {
+        Some(thread) => Some(thread.join(rt)),
+        None => None,
+    }
+}
+
+/// The clients that aren't done when their threads end. It is `OutOfMemory`.
+fn join_clients<C: Drop, R: Threads>(
+    rt: &R,
+    alloc: Global,
+    threads: Vec<JoinHandle<Option<C>>>,
+) -> Result<Vec<C>, Refusal> {
+    let mut clients = Vec::new(alloc);
+    for thread in threads {
+        if let Some(client) = thread.join(rt) {
+            clients.push(client)?;
+        }
+    }
+    Ok(clients)
+}
+
+/// The threads of a node that is up, beside the publisher's.
+struct Threading<D, C> {
+    flusher: Option<JoinHandle<D>>,
+    runner: Option<JoinHandle<Mail>>,
+    clients: Result<Vec<JoinHandle<Option<C>>>, Refusal>,
+}
+
+impl<D: Drop, C: Drop> Threading<D, C> {
+    /// Whether each thread could be made.
+    fn is_whole(&self) -> bool {
+        self.flusher.is_some() && self.runner.is_some() && self.clients.is_ok()
+    }
+
+    /// Waits until they end.
+    fn join<R: Threads>(self, rt: &R, alloc: Global) -> Result<Remains<D, C>, Refusal> {
+        let Threading {
+            flusher,
+            runner,
+            clients,
+        } = self;
+        let disk = join(rt, flusher);
+        let mail = join(rt, runner);
+        let clients = join_clients(rt, alloc, clients?)?;
+        Ok(Remains {
+            disk,
+            mail,
+            clients,
+        })
+    }
+}
+
+/// Runs the threads of a node that is up, until it goes down. The publisher's loop runs in the thread that calls. It is
+/// `OutOfMemory`.
 fn run_threads<
     's,
     'x,
@@ -262,26 +328,29 @@ fn run_threads<
     runner: Runner,
     publisher: &mut Publisher<W>,
     seated: Vec<(Seat<W>, C)>,
-) {
+) -> Result<Remains<D, C>, Refusal> {
     thread::scope(
         thread::scope_env(),
         rt,
         |scope|
             requires { IsSend D.row × IsSend C.row }
         {
-            let is_flushing = start_flusher(scope, rt, alloc, shared, desk, flusher);
-            let is_looping = start_loop(scope, rt, shared, desk, runner);
-            let are_serving = start_clients(scope, rt, shared, desk, seated);
-            if !is_flushing || !is_looping || !are_serving {
+            let threading = Threading {
+                flusher: start_flusher(scope, rt, alloc, shared, desk, flusher),
+                runner: start_loop(scope, rt, shared, desk, runner),
+                clients: start_clients(scope, rt, alloc, shared, desk, seated),
+            };
+            if !threading.is_whole() {
                 shared.running.fail(rt, desk.node, Refusal::OutOfMemory);
             }
             publish_all(rt, alloc, shared, desk, publisher);
             desk.ring_all();
+            threading.join(rt, alloc)
         },
-    );
+    )
 }
 
-/// Runs the threads of a node at the ends of its window, and closes that.
+/// Runs the threads of a node at the ends of its window, and closes that. It is `OutOfMemory`.
 fn run_crew<
     W: WindowName + Send + Sync,
     D: Disk + Drop + Send,
@@ -292,10 +361,11 @@ fn run_crew<
     rt: &R,
     alloc: Global,
     shared: &Shared<'_, T>,
+    moves: u64,
     crew: Crew<D>,
     ends: Ends<W, C>,
     counters: Vec<Counter<W>>,
-) {
+) -> Result<Remains<D, C>, Refusal> {
     let Crew {
         node,
         core,
@@ -307,11 +377,12 @@ fn run_crew<
         seated,
         seats: _seats,
     } = ends;
-    let desk: Desk<W> = Desk::new(node, Locked::new(core), counters);
-    if let Err(refusal) = publish_first(rt, &desk, &mut publisher) {
-        shared.running.fail(rt, node, refusal);
+    let desk: Desk<W> = Desk::new(node, moves, Locked::new(core), counters);
+    match publish_first(rt, &desk, &mut publisher) {
+        Ok(()) => shared.note(node, true),
+        Err(refusal) => shared.running.fail(rt, node, refusal),
     }
-    run_threads(
+    let remains = run_threads(
         rt,
         alloc,
         shared,
@@ -322,9 +393,10 @@ fn run_crew<
         seated,
     );
     publisher.close(rt);
+    remains
 }
 
-/// Opens the window of a node, and runs its threads.
+/// Opens the window of a node that came up at this move of its switch, and runs its threads. It is `OutOfMemory` or `SeatsTaken`.
 fn run_window<
     W: WindowName + Send + Sync,
     D: Disk + Drop + Send,
@@ -335,10 +407,11 @@ fn run_window<
     rt: &R,
     alloc: Global,
     shared: &Shared<'_, T>,
+    moves: u64,
     part: Part<D>,
     clients: Vec<C>,
     list: NewList,
-) -> Result<(), Refusal>
+) -> Result<Remains<D, C>, Refusal>
     requires { list ≡ W.book }
 {
     let hand_overs = open_hand_overs(alloc)?;
@@ -346,23 +419,25 @@ fn run_window<
     match open_ends::<W, C, R>(rt, alloc, list, clients) {
         Ok(ends) => {
             let crew = share_out(part, hand_overs);
-            run_crew(rt, alloc, shared, crew, ends, counters);
-            Ok(())
+            run_crew(rt, alloc, shared, moves, crew, ends, counters)
         }
         Err(refusal) => Err(refusal),
     }
 }
 
-/// Runs one of the nodes of a run for these clients, until the run is over.
+/// Runs a node that came up at this move of its switch for these clients, until it goes down. It is `OutOfMemory` or `SeatsTaken`.
 pub fn run_part<
     D: Disk + Drop + Send,
     T: Turnstile + Sync,
     R: Threads + Wait + Sync,
     C: Client + Drop + Send,
->(rt: &R, alloc: Global, shared: &Shared<'_, T>, part: Part<D>, clients: Vec<C>) {
-    let node = part.node();
-    let ran = run_window::<Brand, D, T, R, C>(rt, alloc, shared, part, clients, NewList::new());
-    if let Err(refusal) = ran {
-        shared.running.fail(rt, node, refusal);
-    }
+>(
+    rt: &R,
+    alloc: Global,
+    shared: &Shared<'_, T>,
+    moves: u64,
+    part: Part<D>,
+    clients: Vec<C>,
+) -> Result<Remains<D, C>, Refusal> {
+    run_window::<Brand, D, T, R, C>(rt, alloc, shared, moves, part, clients, NewList::new())
 }

@@ -77,7 +77,7 @@ fn publish_next<W: WindowName, R: Wait>(
     Ok(has_more || has_told)
 }
 
-/// Publishes what is marked, until the run is over.
+/// Publishes what is marked, until the node goes down.
 pub fn publish_all<W: WindowName, T, R: Wait>(
     rt: &R,
     alloc: Global,
@@ -88,7 +88,7 @@ pub fn publish_all<W: WindowName, T, R: Wait>(
     let mut acknowledged = VecDeque::new(alloc);
     let mut rest = Rest::new(LONG);
     for _ in rt.forever() {
-        if shared.running.is_over() {
+        if desk.is_ending(shared) {
             break;
         }
         match publish_next(rt, desk, shared.recorder, publisher, &mut acknowledged) {

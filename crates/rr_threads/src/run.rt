@@ -4,14 +4,16 @@ ghost use Rattle.std.specs.Prelude.{◌≡◌, ◌<◌, length, IfOk};
 ghost use Rattle.std.specs.Thread.{IsSend};
 
 use crate::client::Client;
-use crate::node_run::{Part, run_part};
+use crate::lives::{open_part, run_lives};
+use crate::node_loop::Mail;
+use crate::node_run::Part;
 use crate::recorder::Recorder;
 use crate::running::Running;
 use crate::shared::Shared;
+use crate::switches::Switches;
 use rr_disk::Disk;
 use rr_inbox::{Outlet, Port};
 use rr_locked::{Sent, Turnstile};
-use rr_recover::recover;
 use rr_types::{NodeId, Nodes, Refusal};
 use std::alloc::Global;
 use std::collections::VecDeque;
@@ -54,30 +56,6 @@ fn open_rows(
     Ok(rows)
 }
 
-/// Opens a node of this disk.
-fn open_part<D: Disk + Drop>(
-    alloc: Global,
-    nodes: Nodes,
-    node: NodeId,
-    disk: D,
-    inbox: Outlet<Sent>,
-    ports: Vec<Port<Sent>>,
-) -> Result<Part<D>, Refusal>
-    requires exists { node < nodes }
-    requires alike { (one other : D) → D.tells one → D.tells other }
-{
-    match recover(alloc, nodes, node, disk) {
-        Ok((core, journal)) => Ok(Part {
-            node,
-            core,
-            journal,
-            inbox,
-            ports,
-        }),
-        Err((refusal, _)) => Err(refusal),
-    }
-}
-
 /// Opens the nodes of these disks, the lowest first, each with its clients.
 fn open_parts<D: Disk + Drop, C: Drop>(
     alloc: Global,
@@ -99,7 +77,7 @@ fn open_parts<D: Disk + Drop, C: Drop>(
         ) else {
             break;
         };
-        let part = open_part(alloc, nodes, node, disk, inbox, ports)?;
+        let part = open_part(alloc, nodes, node, disk, Mail { inbox, ports })?;
         parts.push((part, clients))?;
         index = index.saturating_add(1);
     }
@@ -122,10 +100,15 @@ fn start_node<
     shared: &'s Shared<'x, T>,
     part: Part<D>,
     clients: Vec<C>,
-) -> bool {
-    scope
-        .spawn(move || run_part(rt, alloc, shared, part, clients))
-        .is_ok()
+) -> bool
+    requires alike { (one other : D) → D.tells one → D.tells other }
+{
+    let started = scope.spawn(
+        move ||
+            requires { (one other : D) → D.tells one → D.tells other }
+        { run_lives(rt, alloc, shared, part, clients) },
+    );
+    started.is_ok()
 }
 
 /// Starts a thread for each node. Where one can't be made, the run is over.
@@ -143,7 +126,9 @@ fn start_all<
     alloc: Global,
     shared: &'s Shared<'x, T>,
     parts: Vec<(Part<D>, Vec<C>)>,
-) {
+)
+    requires alike { (one other : D) → D.tells one → D.tells other }
+{
     for (part, clients) in parts {
         let node = part.node();
         if !start_node(scope, rt, alloc, shared, part, clients) {
@@ -160,12 +145,14 @@ fn run_scope<
     T: Turnstile + Sync,
     R: Threads + Wait + Sync,
     C: Client + Drop + Send,
->(rt: &'s R, alloc: Global, shared: &'s Shared<'x, T>, parts: Vec<(Part<D>, Vec<C>)>) {
+>(rt: &'s R, alloc: Global, shared: &'s Shared<'x, T>, parts: Vec<(Part<D>, Vec<C>)>)
+    requires alike { (one other : D) → D.tells one → D.tells other }
+{
     thread::scope(
         thread::scope_env(),
         rt,
         |scope|
-            requires { IsSend D.row × IsSend C.row }
+            requires { IsSend D.row × IsSend C.row × ((one other : D) → D.tells one → D.tells other) }
         { start_all(scope, rt, alloc, shared, parts) },
     );
 }
@@ -177,6 +164,51 @@ fn count_clients<D: Disk, C>(parts: &[(Part<D>, Vec<C>)]) -> usize {
         count = count.saturating_add(clients.len());
     }
     count
+}
+
+/// Runs these nodes over these disks as `run_clients` does, with a recorder or with switches or with neither.
+fn run_all<
+    D: Disk + Drop + Send,
+    T: Turnstile + Sync,
+    R: Threads + Wait + Sync,
+    C: Client + Drop + Send,
+>(
+    rt: &R,
+    alloc: Global,
+    nodes: Nodes,
+    disks: Vec<D>,
+    clients: Vec<Vec<C>>,
+    turnstile: &T,
+    recorder: Option<&Recorder>,
+    switches: Option<&Switches>,
+) -> Result<(), Refusal>
+    requires alike { (one other : D) → D.tells one → D.tells other }
+    ensures counts { IfOk result (λ _. (length disks.items ≡ nodes) × (length clients.items ≡ nodes)) }
+{
+    let count = usize::from(nodes.count());
+    if disks.len() != count || clients.len() != count {
+        return Err(Refusal::BadNodes);
+    }
+    let parts = open_parts(alloc, nodes, disks, clients)?;
+    let shared = Shared {
+        nodes,
+        running: Running::new(alloc, nodes.count(), count_clients(&parts))?,
+        recorder,
+        switches,
+        turnstile,
+    };
+    run_scope(rt, alloc, &shared, parts);
+    let Shared {
+        nodes: _,
+        running,
+        recorder: _,
+        switches: _,
+        turnstile: _,
+    } = shared;
+    match running.into_refusal() {
+        Some(refusal) => Err(refusal),
+        None => Ok(()),
+    }
 }
 
 /// Runs nodes in threads over these disks, the first of them node 0's, until each client is done. A node's clients stand at its
@@ -208,24 +240,39 @@ pub fn run_clients<
     requires alike { (one other : D) → D.tells one → D.tells other }
     ensures counts { IfOk result (λ _. (length disks.items ≡ nodes) × (length clients.items ≡ nodes)) }
 {
-    let count = usize::from(nodes.count());
-    if disks.len() != count || clients.len() != count {
-        return Err(Refusal::BadNodes);
-    }
-    let parts = open_parts(alloc, nodes, disks, clients)?;
-    let shared = Shared {
-        running: Running::new(alloc, nodes.count(), count_clients(&parts))?,
-        recorder,
+    run_all(rt, alloc, nodes, disks, clients, turnstile, recorder, None)
+}
+
+/// Runs nodes as `run_clients` does, while a host stops and starts them by their switches. A node that is started opens its
+/// disk as at the beginning. The run lasts until each client is done, also those of nodes that are down.
+///
+/// # Errors
+/// As of `run_clients`, also where a node is started again.
+pub fn run_switched<
+    D: Disk + Drop + Send,
+    T: Turnstile + Sync,
+    R: Threads + Wait + Sync,
+    C: Client + Drop + Send,
+>(
+    rt: &R,
+    alloc: Global,
+    nodes: Nodes,
+    disks: Vec<D>,
+    clients: Vec<Vec<C>>,
+    turnstile: &T,
+    switches: &Switches,
+) -> Result<(), Refusal>
+    requires alike { (one other : D) → D.tells one → D.tells other }
+    ensures counts { IfOk result (λ _. (length disks.items ≡ nodes) × (length clients.items ≡ nodes)) }
+{
+    run_all(
+        rt,
+        alloc,
+        nodes,
+        disks,
+        clients,
         turnstile,
-    };
-    run_scope(rt, alloc, &shared, parts);
-    let Shared {
-        running,
-        recorder: _,
-        turnstile: _,
-    } = shared;
-    match running.into_refusal() {
-        Some(refusal) => Err(refusal),
-        None => Ok(()),
-    }
+        None,
+        Some(switches),
+    )
 }

@@ -2,10 +2,48 @@
 
 use crate::recorder::Recorder;
 use crate::running::Running;
+use crate::switches::Switches;
+use rr_types::{NodeId, Nodes};
+use std::sync::Wait;
 
-/// How a run ends, who records it, and what its flushers and clients pass.
+/// Which nodes run, how the run ends, who records it, who stops nodes, and what its flushers and clients pass.
 pub struct Shared<'x, T> {
+    pub nodes: Nodes,
     pub running: Running,
     pub recorder: Option<&'x Recorder>,
+    pub switches: Option<&'x Switches>,
     pub turnstile: &'x T,
+}
+
+impl<'x, T> Shared<'x, T> {
+    /// Whether a node that came up at this move of its switch goes down.
+    pub fn is_ending(&self, node: NodeId, moves: u64) -> bool {
+        let is_moved = match self.switches {
+            Some(switches) => switches.moves(node) != moves,
+            None => false,
+        };
+        is_moved || self.running.is_over()
+    }
+
+    /// A node has come up or gone down.
+    pub fn note(&self, node: NodeId, is_up: bool) {
+        if let Some(switches) = self.switches {
+            switches.note(node, is_up);
+        }
+    }
+
+    /// Waits until a node that is down is to come up, and answers at which move of its switch. None: it isn't any more.
+    pub fn next_life<R: Wait>(&self, rt: &R, node: NodeId) -> Option<u64> {
+        let switches = self.switches?;
+        for _ in rt.forever() {
+            if self.running.is_over() || switches.is_closed() {
+                break;
+            }
+            match switches.moves_if_on(node) {
+                Some(moves) => return Some(moves),
+                None => switches.rest(rt, node),
+            }
+        }
+        None
+    }
 }

@@ -1,4 +1,5 @@
 mod asking;
 mod failing;
 mod nodes;
+mod switched;
 mod taped;

@@ -1,0 +1,120 @@
+//! The lives of a node: from each start to the stop behind it.
+
+ghost use Rattle.std.specs.Prelude.{◌≡◌, ◌<◌};
+
+use crate::client::Client;
+use crate::node_loop::Mail;
+use crate::node_run::{Part, Remains, run_part};
+use crate::shared::Shared;
+use rr_disk::Disk;
+use rr_locked::Turnstile;
+use rr_recover::recover;
+use rr_types::{NodeId, Nodes, Refusal};
+use std::alloc::Global;
+use std::sync::Wait;
+use std::thread::Threads;
+
+/// Opens a node of this disk. The errors are those of `recover`.
+pub fn open_part<D: Disk + Drop>(
+    alloc: Global,
+    nodes: Nodes,
+    node: NodeId,
+    disk: D,
+    mail: Mail,
+) -> Result<Part<D>, Refusal>
+    requires exists { node < nodes }
+    requires alike { (one other : D) → D.tells one → D.tells other }
+{
+    match recover(alloc, nodes, node, disk) {
+        Ok((core, journal)) => Ok(Part {
+            node,
+            core,
+            journal,
+            mail,
+        }),
+        Err((refusal, _)) => Err(refusal),
+    }
+}
+
+/// Opens a node again of what is left of it. None: the run is over. The errors are those of `recover`.
+fn open_again<D: Disk + Drop>(
+    alloc: Global,
+    nodes: Nodes,
+    node: NodeId,
+    disk: Option<D>,
+    mail: Option<Mail>,
+) -> Result<Option<Part<D>>, Refusal>
+    requires alike { (one other : D) → D.tells one → D.tells other }
+{
+    let (Some(node), Some(disk), Some(mail)) = (NodeId::new(nodes, node.index()), disk, mail) else {
+        return Ok(None);
+    };
+    let part = open_part(alloc, nodes, node, disk, mail)?;
+    Ok(Some(part))
+}
+
+/// Runs a node through its lives: until the run is over, or it is down and isn't started any more. Then its clients are done. The
+/// errors are those of `recover`, `OutOfMemory` and `SeatsTaken`.
+fn live<
+    D: Disk + Drop + Send,
+    T: Turnstile + Sync,
+    R: Threads + Wait + Sync,
+    C: Client + Drop + Send,
+>(
+    rt: &R,
+    alloc: Global,
+    shared: &Shared<'_, T>,
+    part: Part<D>,
+    clients: Vec<C>,
+) -> Result<(), Refusal>
+    requires alike { (one other : D) → D.tells one → D.tells other }
+{
+    let node = part.node;
+    let mut part = part;
+    let mut clients = clients;
+    let mut moves = 0;
+    for _ in rt.forever() {
+        let Remains {
+            disk,
+            mail,
+            clients: left,
+        } = run_part(rt, alloc, shared, moves, part, clients)?;
+        shared.note(node, false);
+        match shared.next_life(rt, node) {
+            Some(next) => moves = next,
+            None => {
+                leave(rt, shared, left.len());
+                return Ok(());
+            }
+        }
+        match open_again(alloc, shared.nodes, node, disk, mail)? {
+            Some(next) => part = next,
+            None => return Ok(()),
+        }
+        clients = left;
+    }
+    Ok(())
+}
+
+/// So many clients are done.
+fn leave<T, R: Wait>(rt: &R, shared: &Shared<'_, T>, count: usize) {
+    for _ in 0..count {
+        shared.running.leave(rt);
+    }
+}
+
+/// Runs one of the nodes of a run for these clients through its lives. Where it fails, the run is over.
+pub fn run_lives<
+    D: Disk + Drop + Send,
+    T: Turnstile + Sync,
+    R: Threads + Wait + Sync,
+    C: Client + Drop + Send,
+>(rt: &R, alloc: Global, shared: &Shared<'_, T>, part: Part<D>, clients: Vec<C>)
+    requires alike { (one other : D) → D.tells one → D.tells other }
+{
+    let node = part.node;
+    if let Err(refusal) = live(rt, alloc, shared, part, clients) {
+        shared.running.fail(rt, node, refusal);
+        shared.note(node, false);
+    }
+}

@@ -1,0 +1,100 @@
+//! Snapshots that a flusher writes.
+
+ghost use Rattle.std.specs.Prelude.{◌≡◌, IfSome};
+ghost use Rattle.rr_frame.specs.Snapshots.{IsSnapshot};
+
+use crate::desk::Desk;
+use rr_core::Core;
+use rr_disk::Disk;
+use rr_frame::Snapshot;
+use rr_journal::{Journal, SwitchJob, Switching};
+use rr_locked::{Place, Turnstile};
+use rr_types::{NodeId, Nodes, Promise, Refusal};
+use rr_window::WindowName;
+use std::alloc::Global;
+use std::sync::Wait;
+
+/// The most device calls of a switch.
+const CALLS: u8 = 6;
+
+/// The promise, where a snapshot can have it.
+fn lawful(nodes: Nodes, node: NodeId, epoch: u64, next: u64, promise: Promise) -> Option<Promise>
+    ensures { IfSome result (λ p. IsSnapshot (record { node = node; nodes = nodes; epoch = epoch; next = next; entries = p })) }
+{
+    match Snapshot::new(nodes, node, epoch, next, promise) {
+        Ok(snapshot) => Some(snapshot.into_promise()),
+        Err(_) => None,
+    }
+}
+
+/// Begins a switch to a snapshot of what the node has marked. None: the journal has more on its disk than that. It is `Failed`
+/// where no snapshot can have the node's promise, and else as of `Journal::begin_snapshot`.
+fn begin<D: Disk>(
+    alloc: Global,
+    core: &Core,
+    journal: &mut Journal<D>,
+) -> Result<Option<SwitchJob>, Refusal> {
+    let (nodes, node) = journal.owner();
+    let next = journal.facts();
+    if core.node().index() != node.index() || core.facts() != next {
+        return Ok(None);
+    }
+    let Some(epoch) = journal.epoch().checked_add(1) else {
+        return Err(Refusal::TooLarge);
+    };
+    let promise = core.marked_promise(alloc)?;
+    match lawful(nodes, node, epoch, next, promise) {
+        None => Err(Refusal::Failed),
+        Some(promise) => match journal.begin_snapshot(alloc, promise) {
+            Ok(job) => Ok(Some(job)),
+            Err(refusal) => Err(refusal),
+        },
+    }
+}
+
+/// Makes the device calls of a switch, with the turnstile before each.
+fn make_all<D: Disk, T: Turnstile>(
+    turnstile: &T,
+    node: NodeId,
+    journal: &mut Journal<D>,
+    job: SwitchJob,
+) -> Result<(), Refusal> {
+    let mut job = job;
+    for _ in 0..CALLS {
+        turnstile.pass(node, Place::BeforeDevice);
+        match job.step(journal) {
+            Err(refusal) => return Err(refusal),
+            Ok(Switching::Done) => return Ok(()),
+            Ok(Switching::More(next)) => job = next,
+        }
+    }
+    job.abandon();
+    Err(Refusal::Failed)
+}
+
+/// Writes a snapshot, where one is asked for and the node has marked all that its journal has. Answers whether it did.
+pub fn write_next<W: WindowName, D: Disk, T: Turnstile, R: Wait>(
+    rt: &R,
+    alloc: Global,
+    turnstile: &T,
+    desk: &Desk<W>,
+    journal: &mut Journal<D>,
+) -> Result<bool, Refusal> {
+    let Some(number) = desk.snapshots.next() else {
+        return Ok(false);
+    };
+    let begun = {
+        let locked = desk.locked.lock(rt);
+        begin(alloc, locked.core(), journal)
+    };
+    match begun {
+        Err(refusal) => Err(refusal),
+        Ok(None) => Ok(false),
+        Ok(Some(job)) => {
+            make_all(turnstile, desk.node, journal, job)?;
+            desk.snapshots.note(number);
+            desk.ring_all();
+            Ok(true)
+        }
+    }
+}

@@ -1,0 +1,162 @@
+//! Switches by which the nodes of a run are stopped and started again.
+
+use crate::rest::LONG;
+use rr_types::{NodeId, Nodes, Refusal};
+use std::alloc::Global;
+use std::sync::Wait;
+use std::sync::atomic::{AtomicBool, AtomicU64, Ordering};
+use std::thread::Parker;
+use std::time::Duration;
+
+/// How often the switch of a node was moved, and whether the node is up. The switch is on where that number is even.
+#[derive(Drop)]
+struct Switch {
+    moves: AtomicU64,
+    is_up: AtomicBool,
+    bell: Parker,
+}
+
+impl Switch {
+    /// A switch that is on.
+    fn new() -> Switch {
+        Switch {
+            moves: AtomicU64::new(0),
+            is_up: AtomicBool::new(false),
+            bell: Parker::new(),
+        }
+    }
+
+    /// Moves it, unless it stands so. Of two that move it at once one does.
+    fn turn(&self, is_on: bool) {
+        let moves = self.moves.load(Ordering::SeqCst);
+        if is_even(moves) != is_on {
+            let next = moves.saturating_add(1);
+            let _moved = self
+                .moves
+                .compare_exchange(moves, next, Ordering::SeqCst, Ordering::SeqCst);
+        }
+        self.bell.unpark();
+    }
+}
+
+fn is_even(moves: u64) -> bool {
+    moves % 2 == 0
+}
+
+/// Switches by which a host stops nodes of a run and starts them again, while the others go on. They are on at first.
+///
+/// A stopped node goes down as by a crash of its threads: of what it knew there is left what its disk has. It
+/// recovers from that disk when it is started.
+#[derive(Drop)]
+pub struct Switches {
+    switches: Vec<Switch>,
+    is_closed: AtomicBool,
+    host: Parker,
+}
+
+impl Switches {
+    /// Switches for these nodes.
+    ///
+    /// # Errors
+    /// `OutOfMemory`.
+    pub fn new(alloc: Global, nodes: Nodes) -> Result<Switches, Refusal> {
+        let mut switches = Vec::new(alloc);
+        for _ in 0..nodes.count() {
+            switches.push(Switch::new())?;
+        }
+        Ok(Switches {
+            switches,
+            is_closed: AtomicBool::new(false),
+            host: Parker::new(),
+        })
+    }
+
+    fn switch(&self, node: NodeId) -> Option<&Switch> {
+        self.switches.get(usize::from(node.index()))
+    }
+
+    /// The node is to go down. It has, once it isn't up.
+    pub fn stop(&self, node: NodeId) {
+        if let Some(switch) = self.switch(node) {
+            switch.turn(false);
+        }
+    }
+
+    /// The node is to come up. It has, once it is up.
+    pub fn start(&self, node: NodeId) {
+        if let Some(switch) = self.switch(node) {
+            switch.turn(true);
+        }
+    }
+
+    /// Whether the node is up or to come up: it hasn't been stopped since it was last started.
+    pub fn is_on(&self, node: NodeId) -> bool {
+        self.moves_if_on(node).is_some()
+    }
+
+    /// Whether the node is up: what its disk had is published, and its threads haven't ended.
+    pub fn is_up(&self, node: NodeId) -> bool {
+        match self.switch(node) {
+            Some(switch) => switch.is_up.load(Ordering::SeqCst),
+            None => false,
+        }
+    }
+
+    /// Whether all nodes are up.
+    pub fn are_all_up(&self) -> bool {
+        for switch in &self.switches {
+            if !switch.is_up.load(Ordering::SeqCst) {
+                return false;
+            }
+        }
+        true
+    }
+
+    /// The host waits until a node has come up or gone down, or a while.
+    pub fn wait<R: Wait>(&self, rt: &R) {
+        self.host.park_timeout(rt, Duration::from_micros(LONG));
+    }
+
+    /// No node is started any more. The clients of those that are down are done. Who waits goes on.
+    pub fn close(&self) {
+        self.is_closed.store(true, Ordering::SeqCst);
+        for switch in &self.switches {
+            switch.bell.unpark();
+        }
+        self.host.unpark();
+    }
+
+    /// How often the node's switch was moved.
+    pub(crate) fn moves(&self, node: NodeId) -> u64 {
+        match self.switch(node) {
+            Some(switch) => switch.moves.load(Ordering::SeqCst),
+            None => 0,
+        }
+    }
+
+    /// The node has come up or gone down.
+    pub(crate) fn note(&self, node: NodeId, is_up: bool) {
+        if let Some(switch) = self.switch(node) {
+            switch.is_up.store(is_up, Ordering::SeqCst);
+        }
+        self.host.unpark();
+    }
+
+    /// How often the node's switch was moved, where it is on.
+    pub(crate) fn moves_if_on(&self, node: NodeId) -> Option<u64> {
+        let moves = self.moves(node);
+        if is_even(moves) { Some(moves) } else { None }
+    }
+
+    /// Waits until the node's switch is moved, or a while.
+    pub(crate) fn rest<R: Wait>(&self, rt: &R, node: NodeId) {
+        if let Some(switch) = self.switch(node) {
+            switch.bell.park_timeout(rt, Duration::from_micros(LONG));
+        }
+    }
+
+    /// Whether no node is started any more.
+    pub(crate) fn is_closed(&self) -> bool {
+        self.is_closed.load(Ordering::SeqCst)
+    }
+}
