@@ -171,4 +171,4 @@ pub data EndsBy (faults : Kinds) (task : Task) (from to : Reading) (status : ℕ
   by_migration : (folder of_node of_nodes : Option Text) → faults ≡ [] → task ≡ Migrate folder of_node of_nodes → EndsOnSeat folder of_node of_nodes status old new → EndsBy faults task from to status old new
   without_views : (view : View) → faults ≡ [] → task ≡ Viewing view → status ≡ 2 → new ≡ old → EndsBy faults task from to status old new
   without_threads : (nodes dir script tape : Option Text) → faults ≡ [] → task ≡ Run nodes dir script tape → status ≡ 2 → new ≡ old → EndsBy faults task from to status old new
-  without_shell : (nodes dir client : Option Text) → faults ≡ [] → task ≡ Shell nodes dir client → status ≡ 2 → new ≡ old → EndsBy faults task from to status old new
+  without_shell : (nodes dir client : Option Text) (json : Bool) → faults ≡ [] → task ≡ Shell nodes dir client json → status ≡ 2 → new ≡ old → EndsBy faults task from to status old new

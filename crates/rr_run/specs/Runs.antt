@@ -1,5 +1,5 @@
 -- How a run in threads ends: the program's exit status, and what standard output has taken.
-use Rattle.std.specs.Prelude.{◌≡◌, ℕ, List, [], Option, Some, IsSome}
+use Rattle.std.specs.Prelude.{◌≡◌, ℕ, Bool, List, [], Option, Some, IsSome}
 use Rattle.clap.specs.Kinds.{Kinds}
 use Rattle.clap.specs.Words.{Text}
 use Rattle.rr_types.specs.declared.refusal.Refusal.{Refusal}
@@ -49,17 +49,18 @@ pub record AsksForShell (task : Task) : Type 0 where
   pub nodes : Text
   pub dir : Text
   pub client : Option Text
-  pub is : task ≡ Shell (Some nodes) (Some dir) client
+  pub json : Bool
+  pub is : task ≡ Shell (Some nodes) (Some dir) client json
 
 -- whether words ask for nodes in threads, and say all that has to be said of them
 abbrev pub AsksForThreads : Task → Type 0
 AsksForThreads (Run (Some nodes) (Some dir) (Some script) tape) = Unit {0}
-AsksForThreads (Shell (Some nodes) (Some dir) client) = Unit {0}
+AsksForThreads (Shell (Some nodes) (Some dir) client json) = Unit {0}
 AsksForThreads task = ⊥
 
 -- the program with threads, by words: a run, or a shell, or what the program without threads does, or no memory even to read them
 pub data EndsWithThreads (faults : Kinds) (task : Task) (from to : Reading) (status : ℕ) (old new : Printing) : Type 0 where
   by_script : (asks : AsksForRun task) → faults ≡ [] → EndsOnRun asks.nodes asks.tape status old new → EndsWithThreads faults task from to status old new
-  by_shell : (asks : AsksForShell task) → faults ≡ [] → EndsOnShellWords asks.nodes asks.client from to status old new → EndsWithThreads faults task from to status old new
+  by_shell : (asks : AsksForShell task) → faults ≡ [] → EndsOnShellWords asks.nodes asks.client asks.json from to status old new → EndsWithThreads faults task from to status old new
   by_others : (faults ≡ [] → AsksForThreads task → ⊥) → EndsWithViews faults task from to status old new → EndsWithThreads faults task from to status old new
   out_of_memory : status ≡ 6 → new ≡ old → EndsWithThreads faults task from to status old new

@@ -1,10 +1,10 @@
 -- How a shell ends: what it heard and said, and the program's exit status.
-use Rattle.std.specs.Prelude.{◌≡◌, ◌⊎◌, ◌-◌, ◌^◌, ℕ, Option, None, Some, Result, Ok, Err}
+use Rattle.std.specs.Prelude.{◌≡◌, ◌⊎◌, ◌-◌, ◌^◌, ℕ, Bool, Option, None, Some, Result, Ok, Err}
 use Rattle.clap.specs.Words.{Text}
 use Rattle.rr_types.specs.declared.refusal.Refusal.{Refusal}
 use Rattle.rr_stream.specs.Streams.{Printing, Reading}
-use Rattle.rr_shell.specs.declared.talking.Stop.{Stop}
-use Rattle.rr_shell.specs.Talks.{HasTalked, BreaksOff}
+use Rattle.rr_talk.specs.declared.talking.Stop.{Stop}
+use Rattle.rr_talk.specs.Talks.{HasTalked, BreaksOff}
 use Rattle.rr_cli.specs.Draws.{IsNumberIn}
 use Rattle.rr_cli.specs.Refusals.{status_of}
 
@@ -22,15 +22,15 @@ abbrev pub EndsOnTalk : Result (Unit {0}) Stop → ℕ → Type 0
 EndsOnTalk (Ok done) status = (status ≡ 0) ⊎ IsRefusedBy status
 EndsOnTalk (Err stop) status = IsRefusedBy status
 
--- a shell over folders, with n nodes: a talk that is over; or one that is over or broken off, and the run, memory or a stream has
+-- a shell over folders, with n nodes, that answers with JSON or not: a talk that is over; or one that is over or broken off, and the run, memory or a stream has
 -- failed; or it doesn't begin, as the folders or the request numbers are refused, and nothing is read or printed
-pub data EndsOnShell (n : ℕ) (from to : Reading) (status : ℕ) (old new : Printing) : Type 0 where
-  talked : HasTalked n from to old new → status ≡ 0 → EndsOnShell n from to status old new
-  failed : HasTalked n from to old new → IsRefusedBy status → EndsOnShell n from to status old new
-  broken_off : BreaksOff n from old new → IsRefusedBy status → EndsOnShell n from to status old new
-  refused : IsRefusedBy status → to ≡ from → new ≡ old → EndsOnShell n from to status old new
+pub data EndsOnShell (json : Bool) (n : ℕ) (from to : Reading) (status : ℕ) (old new : Printing) : Type 0 where
+  talked : HasTalked json n from to old new → status ≡ 0 → EndsOnShell json n from to status old new
+  failed : HasTalked json n from to old new → IsRefusedBy status → EndsOnShell json n from to status old new
+  broken_off : BreaksOff json n from old new → IsRefusedBy status → EndsOnShell json n from to status old new
+  refused : IsRefusedBy status → to ≡ from → new ≡ old → EndsOnShell json n from to status old new
 
 -- a shell by words: of the number of nodes that a word names, for the client that a word names; or there are no such numbers
-pub data EndsOnShellWords (of_nodes : Text) (of_client : Option Text) (from to : Reading) (status : ℕ) (old new : Printing) : Type 0 where
-  numbered : (n c : ℕ) → IsNumberIn 1 7 of_nodes n → IsClientBy of_client c → EndsOnShell n from to status old new → EndsOnShellWords of_nodes of_client from to status old new
-  unnumbered : ((n c : ℕ) → IsNumberIn 1 7 of_nodes n → IsClientBy of_client c → ⊥) → status ≡ 2 → to ≡ from → new ≡ old → EndsOnShellWords of_nodes of_client from to status old new
+pub data EndsOnShellWords (of_nodes : Text) (of_client : Option Text) (json : Bool) (from to : Reading) (status : ℕ) (old new : Printing) : Type 0 where
+  numbered : (n c : ℕ) → IsNumberIn 1 7 of_nodes n → IsClientBy of_client c → EndsOnShell json n from to status old new → EndsOnShellWords of_nodes of_client json from to status old new
+  unnumbered : ((n c : ℕ) → IsNumberIn 1 7 of_nodes n → IsClientBy of_client c → ⊥) → status ≡ 2 → to ≡ from → new ≡ old → EndsOnShellWords of_nodes of_client json from to status old new

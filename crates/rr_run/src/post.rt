@@ -7,9 +7,9 @@ ghost use Rattle.rr_run.specs.Listings.{bytes_of, binding_of};
 
 use rr_locked::Turnstile;
 use rr_script::{Answer, ScriptLine};
-use rr_shell::Listing;
+use rr_shell::{Known, Listing};
 use rr_text::{Binding, BoundNames};
-use rr_threads::{Client, Handle};
+use rr_threads::{Client, Handle, Standing, Switches};
 use rr_types::{Command, Name, NodeId, Nodes, Op, Refusal, Reply, Value, made_of};
 use rr_window::{Entry, WindowName};
 use std::alloc::Global;
@@ -22,6 +22,9 @@ use std::time::Duration;
 /// The longest rest of a thread that is rung for all that comes, in microseconds.
 const REST: u64 = 50_000;
 
+/// How many times a node's client looks for the reply to a submit before it gives up: some five seconds.
+const LOOKS: u32 = 120;
+
 /// What a shell asks a node.
 #[derive(Clone, Copy, Debug)]
 pub(crate) enum Question {
@@ -29,6 +32,10 @@ pub(crate) enum Question {
     Line(ScriptLine),
     /// Which bound names begin so, or all.
     Names { node: NodeId, prefix: Option<Name> },
+    /// What the node knows.
+    Standing { node: NodeId },
+    /// A snapshot of its facts.
+    Snapshot { node: NodeId },
 }
 
 impl Question {
@@ -36,6 +43,8 @@ impl Question {
         match self {
             Question::Line(line) => line.node(),
             Question::Names { node, .. } => *node,
+            Question::Standing { node } => *node,
+            Question::Snapshot { node } => *node,
         }
     }
 }
@@ -45,6 +54,9 @@ impl Question {
 pub(crate) enum Told {
     Answer(Answer),
     Listing(Listing),
+    Known(Known),
+    /// Whether a snapshot is written.
+    Written(bool),
 }
 
 /// What lies there.
@@ -55,12 +67,13 @@ enum Slip {
     Answered(Told),
 }
 
-/// What a shell and the clients of the nodes share: one question or its answer, how the run has ended, and their bells.
+/// What a shell and the clients of the nodes share: one question or its answer, how the run has ended, their bells, and the
+/// switches of the nodes.
 #[derive(Drop)]
 pub(crate) struct Post {
+    pub(crate) switches: Switches,
     slip: Mutex<Slip>,
     refusal: Mutex<Option<Refusal>>,
-    has_begun: AtomicBool,
     has_ended: AtomicBool,
     is_closed: AtomicBool,
     shell: Parker,
@@ -75,9 +88,9 @@ impl Post {
             clients.push(Parker::new())?;
         }
         Ok(Post {
+            switches: Switches::new(alloc, nodes)?,
             slip: Mutex::new(Slip::Nothing),
             refusal: Mutex::new(None),
-            has_begun: AtomicBool::new(false),
             has_ended: AtomicBool::new(false),
             is_closed: AtomicBool::new(false),
             shell: Parker::new(),
@@ -85,19 +98,19 @@ impl Post {
         })
     }
 
-    /// Waits until the nodes run, so that they can be asked.
+    /// Waits until all nodes are up, so that they can be asked.
     ///
     /// # Errors
     /// The refusal by which the run has ended; `Down`, where it has ended without one.
     pub(crate) fn wait_until_begun<R: Wait>(&self, rt: &R) -> Result<(), Refusal> {
         for _ in 0..u64::MAX {
-            if self.has_begun.load(Ordering::SeqCst) {
+            if self.switches.are_all_up() {
                 return Ok(());
             }
             if self.has_ended.load(Ordering::SeqCst) {
                 break;
             }
-            self.shell.park_timeout(rt, Duration::from_micros(REST));
+            self.switches.wait(rt);
         }
         Err(self.ending(rt))
     }
@@ -126,6 +139,29 @@ impl Post {
                 break;
             }
             self.shell.park_timeout(rt, Duration::from_micros(REST));
+        }
+        Err(self.ending(rt))
+    }
+
+    /// Stops a node or starts it, and waits until it is down or up.
+    ///
+    /// # Errors
+    /// The refusal by which the run has ended; `Down`, where it has ended without one.
+    pub(crate) fn switch<R: Wait>(&self, rt: &R, node: NodeId, is_on: bool) -> Result<(), Refusal> {
+        if is_on {
+            self.switches.start(node);
+        } else {
+            self.switches.stop(node);
+            self.ring(node);
+        }
+        for _ in 0..u64::MAX {
+            if self.switches.is_up(node) == is_on {
+                return Ok(());
+            }
+            if self.has_ended.load(Ordering::SeqCst) {
+                break;
+            }
+            self.switches.wait(rt);
         }
         Err(self.ending(rt))
     }
@@ -160,12 +196,6 @@ impl Post {
         self.shell.unpark();
     }
 
-    // The nodes run: all are open before the first client asks.
-    fn begin(&self) {
-        self.has_begun.store(true, Ordering::SeqCst);
-        self.shell.unpark();
-    }
-
     // Rings for a node's client.
     fn ring(&self, node: NodeId) {
         if let Some(bell) = self.clients.get(usize::from(node.index())) {
@@ -180,9 +210,10 @@ impl Post {
         }
     }
 
-    /// Nothing is asked any more.
+    /// Nothing is asked any more, and no node is started.
     pub(crate) fn close(&self) {
         self.is_closed.store(true, Ordering::SeqCst);
+        self.switches.close();
         for bell in &self.clients {
             bell.unpark();
         }
@@ -192,15 +223,16 @@ impl Post {
     pub(crate) fn end<R: Wait>(&self, rt: &R, refusal: Option<Refusal>) {
         *self.refusal.lock(rt) = refusal;
         self.has_ended.store(true, Ordering::SeqCst);
+        self.switches.close();
         self.shell.unpark();
     }
 
     /// The refusal by which the run has ended, if one has.
     pub(crate) fn into_refusal(self) -> Option<Refusal> {
         let Post {
+            switches: _,
             slip: _,
             refusal,
-            has_begun: _,
             has_ended: _,
             is_closed: _,
             shell: _,
@@ -274,7 +306,15 @@ fn names_at<W: WindowName, T: Turnstile, R: Wait>(
     }
 }
 
-// What a node tells. None: the run has failed, and its refusal is the answer.
+fn known_of(standing: &Standing) -> Known {
+    Known {
+        facts: standing.facts,
+        decided: standing.decided,
+        suspects: standing.suspects,
+    }
+}
+
+// What a node tells. None: the node goes down, or the run has failed, and its refusal is the answer.
 fn answer_to<W: WindowName, T: Turnstile, R: Wait>(
     alloc: Global,
     handle: &mut Handle<'_, '_, W, T, R>,
@@ -283,7 +323,7 @@ fn answer_to<W: WindowName, T: Turnstile, R: Wait>(
     made_of!(Answer, ScriptLine, Command, Op, Name, Reply, Value);
     match question {
         Question::Line(line) => {
-            let answer = handle.ask(line);
+            let answer = handle.ask_within(LOOKS, line);
             if handle.is_over() && matches!(answer, Answer::Unacknowledged { .. }) {
                 return Ok(None);
             }
@@ -291,6 +331,14 @@ fn answer_to<W: WindowName, T: Turnstile, R: Wait>(
         }
         Question::Names { node: _, prefix } => {
             Ok(Some(Told::Listing(names_at(alloc, handle, prefix)?)))
+        }
+        Question::Standing { node: _ } => Ok(Some(Told::Known(known_of(&handle.standing())))),
+        Question::Snapshot { node: _ } => {
+            let is_written = handle.snapshot(LOOKS);
+            if handle.is_over() && !is_written {
+                return Ok(None);
+            }
+            Ok(Some(Told::Written(is_written)))
         }
     }
 }
@@ -302,10 +350,12 @@ impl<'x> Client for Teller<'x> {
     ) -> Result<(), Refusal> {
         made_of!(Question, ScriptLine, Command, Op, Name, Value);
         let node = handle.node();
-        self.post.begin();
         for _ in 0..u64::MAX {
-            if handle.is_over() || self.post.is_closed.load(Ordering::SeqCst) {
+            if self.post.is_closed.load(Ordering::SeqCst) {
                 break;
+            }
+            if handle.is_over() {
+                return Err(Refusal::Down);
             }
             let Some(question) = self.post.take_question(handle.rt(), node) else {
                 self.post.wait(handle.rt(), node);
@@ -313,7 +363,7 @@ impl<'x> Client for Teller<'x> {
             };
             match answer_to(self.alloc, handle, &question)? {
                 Some(told) => self.post.answer(handle.rt(), told),
-                None => break,
+                None => return Err(Refusal::Down),
             }
         }
         Ok(())

@@ -10,8 +10,8 @@ use crate::lock::Lockable;
 use crate::script_run::run_by_words;
 use crate::shell_run::shell_by_words;
 use rr_cli::{Task, end_by_words, end_without_words, read_words};
-use rr_shell::Prompting;
 use rr_stream::Sink;
+use rr_talk::Prompting;
 use std::convert::AsStr;
 use std::fs::OpenFile;
 use std::io;
@@ -29,8 +29,8 @@ use std::thread::Threads;
 /// file before the answers are printed. What goes wrong is told on `err`: the words, then the file, then its text, then
 /// the folders, ascending, then areas that are formatted, then the run, then the file TAPE.
 ///
-/// `rr shell --nodes NODES --dir DIR [--client CLIENT]` runs nodes over folders in the same way, and reads commands from `input`.
-/// Each line is answered on `out` before the next is read. Where somebody types, `input` shows a prompt before each. What goes
+/// `rr shell --nodes NODES --dir DIR [--client CLIENT] [--json]` runs nodes over folders in the same way, and reads commands from
+/// `input`. Each line is answered on `out` before the next is read, in words or with JSON. Where somebody types, `input` shows a prompt before each. What goes
 /// wrong is told on `err`: the words, then the folders, ascending, then the file DIR/requests, then the run or a stream.
 pub fn execute<
     F: Read + Write + Seek + OpenFile + Drop + Send + Lockable,
@@ -51,11 +51,11 @@ pub fn execute<
         Ok(Task::Run(None, _, _, _)) => rr_view::execute(rt, words, input, out, err),
         Ok(Task::Run(_, None, _, _)) => rr_view::execute(rt, words, input, out, err),
         Ok(Task::Run(_, _, None, _)) => rr_view::execute(rt, words, input, out, err),
-        Ok(Task::Shell(Some(nodes), Some(dir), client)) => {
-            shell_by_words(rt, nodes, dir, client, input, out, err)
+        Ok(Task::Shell(Some(nodes), Some(dir), client, json)) => {
+            shell_by_words(rt, nodes, dir, client, json, input, out, err)
         }
-        Ok(Task::Shell(None, _, _)) => rr_view::execute(rt, words, input, out, err),
-        Ok(Task::Shell(_, None, _)) => rr_view::execute(rt, words, input, out, err),
+        Ok(Task::Shell(None, _, _, _)) => rr_view::execute(rt, words, input, out, err),
+        Ok(Task::Shell(_, None, _, _)) => rr_view::execute(rt, words, input, out, err),
         Ok(Task::View(_)) => rr_view::execute(rt, words, input, out, err),
         Ok(Task::Simulate(_)) => rr_view::execute(rt, words, input, out, err),
         Ok(Task::Show(_)) => rr_view::execute(rt, words, input, out, err),

@@ -4,7 +4,7 @@ ghost use Rattle.std.specs.Prelude.{◌≡◌, ◌⊎◌, ℕ, length, IfOk, IfS
 ghost use Rattle.std.specs.Io.KnownBytes.{Keeps};
 ghost use Rattle.std.specs.Thread.{IsSend, IsSync};
 ghost use Rattle.rr_cli.specs.Refusals.{status_of};
-ghost use Rattle.rr_shell.specs.Talks.{Talks};
+ghost use Rattle.rr_talk.specs.Talks.{Talks};
 ghost use Rattle.rr_run.specs.Shells.{IsClientBy, EndsOnTalk, EndsOnShell, EndsOnShellWords};
 
 use crate::folder::{Folders, Opening, open_folders};
@@ -16,9 +16,10 @@ use rr_cli::{end_by_refusal, end_by_stream, end_by_unprinted, nodes_of, number_i
 use rr_disk::{FileDisk, OpenedFile};
 use rr_locked::Open;
 use rr_script::{Answer, ScriptLine};
-use rr_shell::{Asked, Listing, Prompting, Stop, is_listing_at, is_reply_at, is_sight_at, talk};
+use rr_shell::{Listing, Standing, is_listing_at};
 use rr_stream::Sink;
-use rr_threads::run_clients;
+use rr_talk::{Asked, Prompting, Stop, is_reply_at, is_sight_at, talk};
+use rr_threads::run_switched;
 use rr_types::{Command, Name, NodeId, Nodes, Op, Refusal, Reply, RequestNo, Value, made_of};
 use rr_words::LAST_CLIENT;
 use std::fs::OpenFile;
@@ -94,6 +95,40 @@ impl<'x, R: Files + AllocGlobal + Wait> Asked for Console<'x, R> {
         }
         Ok(Listing { node, names: None })
     }
+
+    fn is_on(&self, node: NodeId) -> bool {
+        self.post.switches.is_on(node)
+    }
+
+    fn stop(&mut self, node: NodeId) -> Result<(), Refusal> {
+        self.post.switch(self.rt, node, false)
+    }
+
+    fn start(&mut self, node: NodeId) -> Result<(), Refusal> {
+        self.post.switch(self.rt, node, true)
+    }
+
+    fn snapshot(&mut self, node: NodeId) -> Result<bool, Refusal> {
+        if !self.post.switches.is_on(node) {
+            return Ok(false);
+        }
+        let told = self.post.ask(self.rt, &Question::Snapshot { node })?;
+        Ok(matches!(told, Told::Written(true)))
+    }
+
+    fn standing(&mut self, node: NodeId) -> Result<Standing, Refusal> {
+        if !self.post.switches.is_on(node) {
+            return Ok(Standing { node, known: None });
+        }
+        let told = self.post.ask(self.rt, &Question::Standing { node })?;
+        match &told {
+            Told::Known(known) => Ok(Standing {
+                node,
+                known: Some(*known),
+            }),
+            _ => Ok(Standing { node, known: None }),
+        }
+    }
 }
 
 // Work that is done during a run. After a thread's scope, a reference is known only by what comes back from the scope,
@@ -141,7 +176,8 @@ fn run_nodes<
     clients: Vec<Vec<Teller<'_>>>,
     post: &Post,
 ) {
-    match run_clients(rt, rt.alloc(), nodes, disks, clients, &Open, None) {
+    let switches = &post.switches;
+    match run_switched(rt, rt.alloc(), nodes, disks, clients, &Open, switches) {
         Ok(()) => post.end(rt, None),
         Err(refusal) => post.end(rt, Some(refusal)),
     }
@@ -239,11 +275,12 @@ fn talk_beside<
     disks: Vec<FileDisk<OpenedFile<F>>>,
     clients: Vec<Vec<Teller<'_>>>,
     post: &Post,
+    json: bool,
     asked: A,
     input: &mut I,
     out: &mut O,
 ) -> Result<(), Stop>
-    ensures { Talks nodes (I.reading input.old) (I.reading input.new) (O.printing out.old) (O.printing out.new) result }
+    ensures { Talks json nodes (I.reading input.old) (I.reading input.new) (O.printing out.old) (O.printing out.new) result }
 {
     let alloc = rt.alloc();
     let mut asked = asked;
@@ -253,7 +290,7 @@ fn talk_beside<
         disks,
         clients,
         post,
-        &mut || talk(alloc, nodes, &mut asked, input, out),
+        &mut || talk(alloc, nodes, json, &mut asked, input, out),
     )
 }
 
@@ -292,12 +329,13 @@ fn shell_in<
     dir: &str,
     nodes: Nodes,
     client: u32,
+    json: bool,
     folders: Folders<F>,
     input: &mut I,
     out: &mut O,
     err: &mut E,
 ) -> u8
-    ensures ends { EndsOnShell nodes (I.reading input.old) (I.reading input.new) result (O.printing out.old) (O.printing out.new) }
+    ensures ends { EndsOnShell json nodes (I.reading input.old) (I.reading input.new) result (O.printing out.old) (O.printing out.new) }
     ensures quiet { result ≡ 0 → Keeps (E.contents err.old) (E.contents err.new) }
 {
     let Folders { locks, disks } = folders;
@@ -320,7 +358,7 @@ fn shell_in<
         block,
         post: &post,
     };
-    let talked = talk_beside(rt, nodes, disks, clients, &post, console, input, out);
+    let talked = talk_beside(rt, nodes, disks, clients, &post, json, console, input, out);
     drop(locks);
     end_by_talk(rt, err, dir, nodes, talked, post.into_refusal())
 }
@@ -365,13 +403,22 @@ fn shell_over<
     I: Prompting,
     O: Sink,
     E: Write,
->(rt: &R, nodes: Nodes, dir: &str, client: u32, input: &mut I, out: &mut O, err: &mut E) -> u8
-    ensures ends { EndsOnShell nodes (I.reading input.old) (I.reading input.new) result (O.printing out.old) (O.printing out.new) }
+>(
+    rt: &R,
+    nodes: Nodes,
+    dir: &str,
+    client: u32,
+    json: bool,
+    input: &mut I,
+    out: &mut O,
+    err: &mut E,
+) -> u8
+    ensures ends { EndsOnShell json nodes (I.reading input.old) (I.reading input.new) result (O.printing out.old) (O.printing out.new) }
     ensures quiet { result ≡ 0 → Keeps (E.contents err.old) (E.contents err.new) }
 {
     match open_folders(rt, nodes, dir) {
         Ok(Opening::Folders(folders)) => {
-            shell_in(rt, dir, nodes, client, folders, input, out, err)
+            shell_in(rt, dir, nodes, client, json, folders, input, out, err)
         }
         Ok(Opening::InUse(node)) => end_in_use(err, dir, node),
         Err(refusal) => end_by_run_fault(rt, err, dir, nodes, &refusal),
@@ -391,18 +438,19 @@ pub(crate) fn shell_by_words<
     nodes: &str,
     dir: &str,
     client: Option<&str>,
+    json: bool,
     input: &mut I,
     out: &mut O,
     err: &mut E,
 ) -> u8
-    ensures ends { EndsOnShellWords nodes.now (option_map (λ s. s.now) client.entry) (I.reading input.old) (I.reading input.new) result (O.printing out.old) (O.printing out.new) }
+    ensures ends { EndsOnShellWords nodes.now (option_map (λ s. s.now) client.entry) json (I.reading input.old) (I.reading input.new) result (O.printing out.old) (O.printing out.new) }
     ensures quiet { result ≡ 0 → Keeps (E.contents err.old) (E.contents err.new) }
 {
     let Some(nodes) = nodes_of(nodes) else {
         return end_without_numbers(err);
     };
     match client_of(client) {
-        Some(client) => shell_over(rt, nodes, dir, client, input, out, err),
+        Some(client) => shell_over(rt, nodes, dir, client, json, input, out, err),
         None => end_without_numbers(err),
     }
 }

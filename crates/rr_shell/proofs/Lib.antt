@@ -1,3 +1,1 @@
-mod HearingLemmas
-mod TalkLemmas
 mod TextLemmas

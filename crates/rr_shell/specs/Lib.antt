@@ -1,5 +1,5 @@
-pub mod Hearings
+pub mod Forms
 pub mod Lines
 pub mod Listings
-pub mod Talks
+pub mod Objects
 pub mod Texts

@@ -3,7 +3,7 @@ use Rattle.std.specs.Prelude.{ℕ, if◌then◌else◌, ◌||◌, is_some, List,
 use Rattle.std.specs.Str.{bytes_eq}
 use Rattle.rr_text.specs.Reading.{cut_at, name_at, node_at, op_at}
 use Rattle.rr_shell.specs.declared.shell_line.ShellLine.{ShellLine}
-use Rattle.rr_shell.specs.declared.shell_line.ShellLine.TheVariants.{Submit, Look, Names, At, Help, Quit}
+use Rattle.rr_shell.specs.declared.shell_line.ShellLine.TheVariants.{Submit, Look, Names, At, Stop, Start, Snapshot, Status, Help, Quit}
 use Rattle.rr_shell.specs.declared.shell_line.LineFault.{LineFault}
 use Rattle.rr_shell.specs.declared.shell_line.LineFault.TheVariants.{NoCommand, BadName, BadValue, BadOwner, NoNode}
 
@@ -41,12 +41,35 @@ abbrev pub list_at : List ℕ → Result ShellLine LineFault
 list_at rest = wanted BadName (λ prefix. Names (Some prefix)) (name_at rest)
 
 -- a move to the node that a text is, of n nodes
-abbrev pub node_line_at : ℕ → List ℕ → Result ShellLine LineFault
-node_line_at n rest = wanted NoNode At (node_at n rest)
+abbrev pub move_at : ℕ → List ℕ → Result ShellLine LineFault
+move_at n rest = wanted NoNode At (node_at n rest)
+
+-- a stop of the node that a text is, of n nodes
+abbrev pub stop_at : ℕ → List ℕ → Result ShellLine LineFault
+stop_at n rest = wanted NoNode Stop (node_at n rest)
+
+-- a start of the node that a text is, of n nodes
+abbrev pub start_at : ℕ → List ℕ → Result ShellLine LineFault
+start_at n rest = wanted NoNode Start (node_at n rest)
 
 -- a submit of the operation that a text is, of this first word and this behind it
 abbrev pub command_at : List ℕ → List ℕ → List ℕ → Result ShellLine LineFault
 command_at text word rest = wanted (op_fault word rest) Submit (op_at text)
+
+-- a snapshot of the node that a text is, of n nodes
+abbrev pub snapshot_at : ℕ → List ℕ → Result ShellLine LineFault
+snapshot_at n rest = wanted NoNode Snapshot (node_at n rest)
+
+-- what a line of these parts asks for that neither looks, nor lists, nor moves
+unfoldable pub control_from : ℕ → List ℕ → List ℕ × List ℕ → Result ShellLine LineFault
+control_from n text parts =
+    if bytes_eq parts.0 (codes "stop") then stop_at n parts.1
+    else (if bytes_eq parts.0 (codes "start") then start_at n parts.1
+    else (if bytes_eq parts.0 (codes "snapshot") then snapshot_at n parts.1
+    else (if bytes_eq text (codes "status") then Ok Status
+    else (if bytes_eq text (codes "help") then Ok Help
+    else (if bytes_eq text (codes "quit") then Ok Quit
+    else command_at text parts.0 parts.1)))))
 
 -- what a line of these parts asks for
 abbrev pub line_from : ℕ → List ℕ → List ℕ × List ℕ → Result ShellLine LineFault
@@ -54,10 +77,8 @@ line_from n text parts =
     if bytes_eq parts.0 (codes "look") then look_at parts.1
     else (if bytes_eq text (codes "list") then Ok (Names None)
     else (if bytes_eq parts.0 (codes "list") then list_at parts.1
-    else (if bytes_eq parts.0 (codes "at") then node_line_at n parts.1
-    else (if bytes_eq text (codes "help") then Ok Help
-    else (if bytes_eq text (codes "quit") then Ok Quit
-    else command_at text parts.0 parts.1)))))
+    else (if bytes_eq parts.0 (codes "at") then move_at n parts.1
+    else control_from n text parts)))
 
 -- what a line asks for, of n nodes
 abbrev pub shell_line_at : ℕ → List ℕ → Result ShellLine LineFault

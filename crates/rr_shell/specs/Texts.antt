@@ -1,11 +1,13 @@
 -- What is said to a line of a shell.
 use Rattle.std.specs.Prelude.{ℕ, List, [], ◌∷◌, ◌++◌, length, Option, None, Some, codes, decimal}
 use Rattle.std.specs.List.{flat_map}
-use Rattle.rr_text.specs.Words.{spaced, value_words}
+use Rattle.rr_text.specs.Words.{spaced, value_words, set_text}
 use Rattle.rr_text.specs.ReportTexts.{reply_words}
 use Rattle.rr_text.specs.declared.report.Binding.{Binding}
 use Rattle.rr_script.specs.declared.answer.Answer.{Answer}
 use Rattle.rr_script.specs.declared.answer.Answer.TheVariants.{Acknowledged, Unacknowledged, Free, Bound, Unseen}
+use Rattle.rr_shell.specs.declared.standing.Standing.{Standing}
+use Rattle.rr_shell.specs.declared.standing.Known.{Known}
 use Rattle.rr_shell.specs.declared.shell_line.LineFault.{LineFault}
 use Rattle.rr_shell.specs.declared.shell_line.LineFault.TheVariants.{NoCommand, BadName, BadValue, BadOwner, NoNode, TooLong}
 
@@ -38,9 +40,54 @@ list_lines (Some names) = codes "list" ++ (32 ∷ decimal (length names)) ++ 10 
 abbrev pub move_line : ℕ → List ℕ
 move_line p = codes "at" ++ (32 ∷ decimal p) ++ 10 ∷ []
 
--- the line that names the commands
+-- the line that node p is down from now on
+abbrev pub stop_line : ℕ → List ℕ
+stop_line p = codes "stopped" ++ (32 ∷ decimal p) ++ 10 ∷ []
+
+-- the line that node p is up from now on
+abbrev pub start_line : ℕ → List ℕ
+start_line p = codes "started" ++ (32 ∷ decimal p) ++ 10 ∷ []
+
+-- the line that node p has written a snapshot
+abbrev pub snapshot_line : ℕ → List ℕ
+snapshot_line p = codes "snapshot" ++ (32 ∷ decimal p) ++ 10 ∷ []
+
+-- the words that name node p
+unfoldable pub node_text : ℕ → List ℕ
+node_text p = codes "node" ++ 32 ∷ decimal p
+
+-- that node p hasn't
+abbrev pub no_snapshot_text : ℕ → List ℕ
+no_snapshot_text p = node_text p ++ codes " wrote no snapshot: down or busy"
+
+-- the line of that
+abbrev pub no_snapshot_line : ℕ → List ℕ
+no_snapshot_line p = codes "error: " ++ no_snapshot_text p ++ 10 ∷ []
+
+-- that node p, which is asked, is down
+abbrev pub down_text : ℕ → List ℕ
+down_text p = node_text p ++ codes " is down: start it, or ask another"
+
+-- the line of that
+abbrev pub down_line : ℕ → List ℕ
+down_line p = codes "error: " ++ down_text p ++ 10 ∷ []
+
+-- that a node is down; or that it is up, and what it knows
+abbrev pub known_words : Option Known → List (List ℕ)
+known_words None = codes "down" ∷ []
+known_words (Some k) = codes "up" ∷ codes "facts" ∷ decimal k.facts ∷ codes "decided" ∷ decimal k.decided ∷ codes "suspects" ∷ set_text k.suspects ∷ []
+
+-- the line of what a node tells of itself
+abbrev pub standing_line : Standing → List ℕ
+standing_line s = spaced (codes "node" ∷ decimal s.node ∷ known_words s.known) ++ 10 ∷ []
+
+-- the commands
+abbrev pub help_text : List ℕ
+help_text = codes "claim NAME [VALUE], update NAME [VALUE], release NAME, transfer NAME OWNER, look NAME, list [PREFIX], at NODE, stop NODE, start NODE, snapshot NODE, status, help or quit"
+
+-- the line that names them
 abbrev pub help_line : List ℕ
-help_line = codes "claim NAME [VALUE], update NAME [VALUE], release NAME, transfer NAME OWNER, look NAME, list [PREFIX], at NODE, help or quit" ++ 10 ∷ []
+help_line = help_text ++ 10 ∷ []
 
 -- that there is no such node, of n nodes
 abbrev pub no_node_text : ℕ → List ℕ
@@ -48,7 +95,7 @@ no_node_text n = codes "no such node: a number is expected that is below" ++ 32 
 
 -- what is wrong with a line, and what is expected, of n nodes
 abbrev pub fault_text : ℕ → LineFault → List ℕ
-fault_text n NoCommand = codes "no such command: claim, update, release, transfer, look, list, at, help or quit is expected"
+fault_text n NoCommand = codes "no such command: claim, update, release, transfer, look, list, at, stop, start, snapshot, status, help or quit is expected"
 fault_text n BadName = codes "no name: 1 to 64 bytes of a to z, 0 to 9 and - are expected"
 fault_text n BadValue = codes "no value: 1 to 64 bytes from ! to ~ are expected, and no space"
 fault_text n BadOwner = codes "no owner: a number below 4294967296 is expected"

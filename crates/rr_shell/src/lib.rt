@@ -1,20 +1,19 @@
-//! A shell over nodes that run: what its lines ask for, what is said to them, and the talk of both. It has no threads.
+//! The lines of a shell: what they ask for, and what is said to them, in words or with JSON. `rr_talk` has the talk of both.
 #![tactic(auto)]
 
-mod answering;
-mod hearing;
 mod line_read;
 mod line_text;
 mod listing;
-mod prompting;
+mod object_text;
+mod said_text;
 mod shell_line;
-mod talking;
+mod standing;
 
-pub use answering::{Asked, is_reply_at, is_sight_at};
-pub use hearing::{Heard, MAX_LINE, hear};
 pub use line_read::read_shell_line;
-pub use line_text::{push_answer, push_fault, push_help, push_listing, push_move};
 pub use listing::{Listing, is_listing_at};
-pub use prompting::{Prompted, Prompting};
-pub use shell_line::{LineFault, ShellLine};
-pub use talking::{Stop, talk};
+pub use said_text::{
+    say_answer, say_down, say_fault, say_help, say_listing, say_move, say_no_snapshot,
+    say_snapshot, say_standing, say_start, say_stop,
+};
+pub use shell_line::{LineFault, MAX_LINE, ShellLine};
+pub use standing::{Known, Standing};

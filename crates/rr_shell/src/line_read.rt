@@ -1,7 +1,7 @@
 //! Reading a line of a shell.
 
 ghost use Rattle.std.specs.Prelude.{◌≡◌};
-ghost use Rattle.rr_shell.specs.Lines.{parts_of, named_fault, op_fault, look_at, list_at, node_line_at, command_at, shell_line_at};
+ghost use Rattle.rr_shell.specs.Lines.{parts_of, named_fault, op_fault, look_at, list_at, move_at, stop_at, start_at, snapshot_at, command_at, control_from, shell_line_at};
 
 use crate::shell_line::{LineFault, ShellLine};
 use rr_text::text_read::{cut, name, node, op};
@@ -62,11 +62,29 @@ fn list(rest: &[u8]) -> Result<ShellLine, LineFault>
     }
 }
 
-fn node_line(nodes: Nodes, rest: &[u8]) -> Result<ShellLine, LineFault>
-    ensures { result ≡ node_line_at nodes rest.now }
+fn move_to(nodes: Nodes, rest: &[u8]) -> Result<ShellLine, LineFault>
+    ensures { result ≡ move_at nodes rest.now }
 {
     match node(nodes, rest) {
         Some(node) => Ok(ShellLine::At(node)),
+        None => Err(LineFault::NoNode),
+    }
+}
+
+fn stop(nodes: Nodes, rest: &[u8]) -> Result<ShellLine, LineFault>
+    ensures { result ≡ stop_at nodes rest.now }
+{
+    match node(nodes, rest) {
+        Some(node) => Ok(ShellLine::Stop(node)),
+        None => Err(LineFault::NoNode),
+    }
+}
+
+fn start(nodes: Nodes, rest: &[u8]) -> Result<ShellLine, LineFault>
+    ensures { result ≡ start_at nodes rest.now }
+{
+    match node(nodes, rest) {
+        Some(node) => Ok(ShellLine::Start(node)),
         None => Err(LineFault::NoNode),
     }
 }
@@ -77,6 +95,37 @@ fn command(text: &[u8], word: &[u8], rest: &[u8]) -> Result<ShellLine, LineFault
     match op(text) {
         Some(op) => Ok(ShellLine::Submit(op)),
         None => Err(op_fault(word, rest)),
+    }
+}
+
+fn snapshot(nodes: Nodes, rest: &[u8]) -> Result<ShellLine, LineFault>
+    ensures { result ≡ snapshot_at nodes rest.now }
+{
+    match node(nodes, rest) {
+        Some(node) => Ok(ShellLine::Snapshot(node)),
+        None => Err(LineFault::NoNode),
+    }
+}
+
+// What a line asks for that neither looks, nor lists, nor moves.
+#[tactic(auto, unfolding(crate::specs::Lines::control_from))]
+fn control(nodes: Nodes, text: &[u8], word: &[u8], rest: &[u8]) -> Result<ShellLine, LineFault>
+    ensures { result ≡ control_from nodes text.now (word.now, rest.now) }
+{
+    if word == b"stop".as_slice() {
+        stop(nodes, rest)
+    } else if word == b"start".as_slice() {
+        start(nodes, rest)
+    } else if word == b"snapshot".as_slice() {
+        snapshot(nodes, rest)
+    } else if text == b"status".as_slice() {
+        Ok(ShellLine::Status)
+    } else if text == b"help".as_slice() {
+        Ok(ShellLine::Help)
+    } else if text == b"quit".as_slice() {
+        Ok(ShellLine::Quit)
+    } else {
+        command(text, word, rest)
     }
 }
 
@@ -96,12 +145,8 @@ pub fn read_shell_line(nodes: Nodes, text: &[u8]) -> Result<ShellLine, LineFault
     } else if word == b"list".as_slice() {
         list(rest)
     } else if word == b"at".as_slice() {
-        node_line(nodes, rest)
-    } else if text == b"help".as_slice() {
-        Ok(ShellLine::Help)
-    } else if text == b"quit".as_slice() {
-        Ok(ShellLine::Quit)
+        move_to(nodes, rest)
     } else {
-        command(text, word, rest)
+        control(nodes, text, word, rest)
     }
 }

@@ -1,17 +1,19 @@
 //! What is said to a line: an answer, a move, the help or a fault.
 
-ghost use Rattle.std.specs.Prelude.{◌≡◌, ◌++◌, OnOk, IfErr, decimal};
+ghost use Rattle.std.specs.Prelude.{◌≡◌, ◌∷◌, ◌++◌, OnOk, IfErr, decimal};
 ghost use Rattle.std.specs.List.{flat_map};
 ghost use Rattle.rr_text.specs.Words.{spaced};
 ghost use Rattle.rr_text.specs.ReportTexts.{reply_words};
-ghost use Rattle.rr_shell.specs.Texts.{bound_words, answer_words, answer_line, bound_line, list_lines, move_line, help_line, no_node_text, fault_text, fault_line};
+ghost use Rattle.rr_shell.specs.Texts.{bound_words, answer_words, answer_line, bound_line, list_lines, move_line, stop_line, start_line, snapshot_line, node_text, no_snapshot_text, no_snapshot_line, down_text, down_line, known_words, standing_line, help_text, help_line, no_node_text, fault_text, fault_line};
 
-use crate::hearing::MAX_LINE;
 use crate::listing::Listing;
-use crate::shell_line::LineFault;
+use crate::shell_line::{LineFault, MAX_LINE};
+use crate::standing::{Known, Standing};
 use rr_script::Answer;
 use rr_text::Binding;
-use rr_text::text_word::{push_byte, push_bytes, push_number, push_number_word, push_word};
+use rr_text::text_word::{
+    push_byte, push_bytes, push_number, push_number_word, push_set, push_word,
+};
 use rr_types::{Name, NodeId, Nodes, Refusal, Reply, Value};
 
 // The text of too long a line names the most bytes.
@@ -136,6 +138,140 @@ pub fn push_move(out: &mut Vec<u8>, node: NodeId) -> Result<(), Refusal>
     push_byte(out, b'\n')
 }
 
+/// Appends the line that this node is down from now on.
+///
+/// # Errors
+/// `OutOfMemory`. Then bytes of the line may stand at the end.
+pub fn push_stop(out: &mut Vec<u8>, node: NodeId) -> Result<(), Refusal>
+    ensures ok { OnOk result (out.new.items ≡ out.old.items ++ stop_line node) }
+    ensures err { IfErr result (λ e. e ≡ Refusal.OutOfMemory) }
+{
+    push_bytes(out, b"stopped")?;
+    push_number_word(out, u64::from(node.index()))?;
+    push_byte(out, b'\n')
+}
+
+/// Appends the line that this node is up from now on.
+///
+/// # Errors
+/// `OutOfMemory`. Then bytes of the line may stand at the end.
+pub fn push_start(out: &mut Vec<u8>, node: NodeId) -> Result<(), Refusal>
+    ensures ok { OnOk result (out.new.items ≡ out.old.items ++ start_line node) }
+    ensures err { IfErr result (λ e. e ≡ Refusal.OutOfMemory) }
+{
+    push_bytes(out, b"started")?;
+    push_number_word(out, u64::from(node.index()))?;
+    push_byte(out, b'\n')
+}
+
+/// Appends the line that this node has written a snapshot.
+///
+/// # Errors
+/// `OutOfMemory`. Then bytes of the line may stand at the end.
+pub fn push_snapshot(out: &mut Vec<u8>, node: NodeId) -> Result<(), Refusal>
+    ensures ok { OnOk result (out.new.items ≡ out.old.items ++ snapshot_line node) }
+    ensures err { IfErr result (λ e. e ≡ Refusal.OutOfMemory) }
+{
+    push_bytes(out, b"snapshot")?;
+    push_number_word(out, u64::from(node.index()))?;
+    push_byte(out, b'\n')
+}
+
+#[tactic(auto, unfolding(crate::specs::Texts::node_text))]
+fn push_node(out: &mut Vec<u8>, node: NodeId) -> Result<(), Refusal>
+    ensures ok { OnOk result (out.new.items ≡ out.old.items ++ node_text node) }
+    ensures err { IfErr result (λ e. e ≡ Refusal.OutOfMemory) }
+{
+    push_bytes(out, b"node")?;
+    push_number_word(out, u64::from(node.index()))
+}
+
+/// Appends that this node has written no snapshot.
+pub(crate) fn push_no_snapshot_text(out: &mut Vec<u8>, node: NodeId) -> Result<(), Refusal>
+    ensures ok { OnOk result (out.new.items ≡ out.old.items ++ no_snapshot_text node) }
+    ensures err { IfErr result (λ e. e ≡ Refusal.OutOfMemory) }
+{
+    push_node(out, node)?;
+    push_bytes(out, b" wrote no snapshot: down or busy")
+}
+
+/// Appends the line that this node has written no snapshot.
+///
+/// # Errors
+/// `OutOfMemory`. Then bytes of the line may stand at the end.
+pub fn push_no_snapshot(out: &mut Vec<u8>, node: NodeId) -> Result<(), Refusal>
+    ensures ok { OnOk result (out.new.items ≡ out.old.items ++ no_snapshot_line node) }
+    ensures err { IfErr result (λ e. e ≡ Refusal.OutOfMemory) }
+{
+    push_bytes(out, b"error: ")?;
+    push_no_snapshot_text(out, node)?;
+    push_byte(out, b'\n')
+}
+
+/// Appends that this node, which is asked, is down.
+pub(crate) fn push_down_text(out: &mut Vec<u8>, node: NodeId) -> Result<(), Refusal>
+    ensures ok { OnOk result (out.new.items ≡ out.old.items ++ down_text node) }
+    ensures err { IfErr result (λ e. e ≡ Refusal.OutOfMemory) }
+{
+    push_node(out, node)?;
+    push_bytes(out, b" is down: start it, or ask another")
+}
+
+/// Appends the line that this node, which is asked, is down.
+///
+/// # Errors
+/// `OutOfMemory`. Then bytes of the line may stand at the end.
+pub fn push_down(out: &mut Vec<u8>, node: NodeId) -> Result<(), Refusal>
+    ensures ok { OnOk result (out.new.items ≡ out.old.items ++ down_line node) }
+    ensures err { IfErr result (λ e. e ≡ Refusal.OutOfMemory) }
+{
+    push_bytes(out, b"error: ")?;
+    push_down_text(out, node)?;
+    push_byte(out, b'\n')
+}
+
+// A space, that a node is up, and what it knows.
+fn push_known(out: &mut Vec<u8>, known: &Known) -> Result<(), Refusal>
+    ensures ok { OnOk result (out.new.items ≡ out.old.items ++ 32 ∷ spaced (known_words (Some known.now))) }
+    ensures err { IfErr result (λ e. e ≡ Refusal.OutOfMemory) }
+{
+    push_word(out, b"up")?;
+    push_word(out, b"facts")?;
+    push_number_word(out, known.facts)?;
+    push_word(out, b"decided")?;
+    push_number_word(out, known.decided)?;
+    push_word(out, b"suspects")?;
+    push_set(out, known.suspects)
+}
+
+/// Appends the line of what a node tells of itself.
+///
+/// # Errors
+/// `OutOfMemory`. Then bytes of the line may stand at the end.
+pub fn push_standing(out: &mut Vec<u8>, standing: &Standing) -> Result<(), Refusal>
+    ensures ok { OnOk result (out.new.items ≡ out.old.items ++ standing_line standing.now) }
+    ensures err { IfErr result (λ e. e ≡ Refusal.OutOfMemory) }
+{
+    push_bytes(out, b"node")?;
+    push_number_word(out, u64::from(standing.node.index()))?;
+    match &standing.known {
+        None => push_word(out, b"down")?,
+        Some(known) => push_known(out, known)?,
+    }
+    push_byte(out, b'\n')
+}
+
+/// Appends the commands.
+pub(crate) fn push_help_text(out: &mut Vec<u8>) -> Result<(), Refusal>
+    ensures ok { OnOk result (out.new.items ≡ out.old.items ++ help_text) }
+    ensures err { IfErr result (λ e. e ≡ Refusal.OutOfMemory) }
+{
+    push_bytes(
+        out,
+        b"claim NAME [VALUE], update NAME [VALUE], release NAME, transfer NAME OWNER, look NAME, list [PREFIX], at NODE, stop NODE, start NODE, snapshot NODE, status, help or quit",
+    )
+}
+
 /// Appends the line that names the commands.
 ///
 /// # Errors
@@ -144,10 +280,7 @@ pub fn push_help(out: &mut Vec<u8>) -> Result<(), Refusal>
     ensures ok { OnOk result (out.new.items ≡ out.old.items ++ help_line) }
     ensures err { IfErr result (λ e. e ≡ Refusal.OutOfMemory) }
 {
-    push_bytes(
-        out,
-        b"claim NAME [VALUE], update NAME [VALUE], release NAME, transfer NAME OWNER, look NAME, list [PREFIX], at NODE, help or quit",
-    )?;
+    push_help_text(out)?;
     push_byte(out, b'\n')
 }
 
@@ -159,14 +292,19 @@ fn push_no_node(out: &mut Vec<u8>, nodes: Nodes) -> Result<(), Refusal>
     push_number_word(out, u64::from(nodes.count()))
 }
 
-fn push_fault_text(out: &mut Vec<u8>, nodes: Nodes, fault: LineFault) -> Result<(), Refusal>
+/// Appends what is wrong with a line, and what is expected.
+pub(crate) fn push_fault_text(
+    out: &mut Vec<u8>,
+    nodes: Nodes,
+    fault: LineFault,
+) -> Result<(), Refusal>
     ensures ok { OnOk result (out.new.items ≡ out.old.items ++ fault_text nodes fault) }
     ensures err { IfErr result (λ e. e ≡ Refusal.OutOfMemory) }
 {
     match fault {
         LineFault::NoCommand => push_bytes(
             out,
-            b"no such command: claim, update, release, transfer, look, list, at, help or quit is expected",
+            b"no such command: claim, update, release, transfer, look, list, at, stop, start, snapshot, status, help or quit is expected",
         ),
         LineFault::BadName => push_bytes(
             out,

@@ -2,6 +2,9 @@
 
 use rr_types::{Name, NodeId, Op};
 
+/// The most bytes of a line, without its line feed.
+pub const MAX_LINE: usize = 4096;
+
 /// What a line of a shell asks for.
 #[derive(Clone, Copy, Debug)]
 pub enum ShellLine {
@@ -13,6 +16,14 @@ pub enum ShellLine {
     Names(Option<Name>),
     /// From now on this node is asked.
     At(NodeId),
+    /// This node goes down, as by a crash.
+    Stop(NodeId),
+    /// This node comes up from its disk.
+    Start(NodeId),
+    /// This node writes a snapshot of its facts.
+    Snapshot(NodeId),
+    /// What each node knows.
+    Status,
     /// The commands that there are.
     Help,
     /// The end of the shell.

@@ -1,5 +1,5 @@
 -- Words that ask for no view.
-use Rattle.std.proofs.Common.{◌≡◌, List, [], Option, subst}
+use Rattle.std.proofs.Common.{◌≡◌, Bool, List, [], Option, subst}
 use Rattle.clap.specs.Words.{Text}
 use Rattle.clap.specs.Kinds.{Kinds, IsAmong}
 use Rattle.clap.specs.declared.error.kind.ErrorKind.{ErrorKind}
@@ -24,8 +24,8 @@ no_audit file view is = absurd cc
 pub no_run : (nodes dir script tape : Option Text) (view : View) → Run nodes dir script tape ≡ Viewing view → ⊥
 no_run nodes dir script tape view is = absurd cc
 
-pub no_shell : (nodes dir client : Option Text) (view : View) → Shell nodes dir client ≡ Viewing view → ⊥
-no_shell nodes dir client view is = absurd cc
+pub no_shell : (nodes dir client : Option Text) (json : Bool) (view : View) → Shell nodes dir client json ≡ Viewing view → ⊥
+no_shell nodes dir client json view is = absurd cc
 
 pub no_sweep : (file seed : Option Text) (view : View) → Sweep file seed ≡ Viewing view → ⊥
 no_sweep file seed view is = absurd cc

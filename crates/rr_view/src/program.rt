@@ -37,7 +37,7 @@ pub fn execute<R: Files + AllocGlobal, S: AsStr, I: Source, O: Sink, E: Write>(
         Ok(Task::Draw(_)) => rr_cli::execute(rt, words, input, out, err),
         Ok(Task::Audit(_)) => rr_cli::execute(rt, words, input, out, err),
         Ok(Task::Run(_, _, _, _)) => rr_cli::execute(rt, words, input, out, err),
-        Ok(Task::Shell(_, _, _)) => rr_cli::execute(rt, words, input, out, err),
+        Ok(Task::Shell(_, _, _, _)) => rr_cli::execute(rt, words, input, out, err),
         Ok(Task::Sweep(_, _)) => rr_cli::execute(rt, words, input, out, err),
         Ok(Task::Picture(_, _)) => rr_cli::execute(rt, words, input, out, err),
         Ok(Task::Migrate(_, _, _)) => rr_cli::execute(rt, words, input, out, err),

@@ -86,10 +86,13 @@ run_line =
     (with_arg (with_arg (with_arg (new_app (codes "run")) (number_rule (codes "NODES") (codes "nodes") 1 7)) (option_rule (codes "DIR") (codes "dir") true)) (option_rule (codes "SCRIPT") (codes "script") true))
     (option_rule (codes "TAPE") (codes "tape") false)
 
--- the subcommand shell, with a number of nodes, the folder of their folders, and the number of a client, which may be left out
+-- the subcommand shell, with a number of nodes, the folder of their folders, the number of a client, which may be left out, and
+-- the option for JSON
 unfoldable pub shell_line : App
 shell_line =
-    with_arg (with_arg (with_arg (new_app (codes "shell")) (number_rule (codes "NODES") (codes "nodes") 1 7)) (option_rule (codes "DIR") (codes "dir") true)) (optional_number_rule (codes "CLIENT") (codes "client") 0 4294967295)
+    with_arg
+    (with_arg (with_arg (with_arg (new_app (codes "shell")) (number_rule (codes "NODES") (codes "nodes") 1 7)) (option_rule (codes "DIR") (codes "dir") true)) (optional_number_rule (codes "CLIENT") (codes "client") 0 4294967295))
+    (flag_rule (codes "JSON") (codes "json"))
 
 -- the subcommand sweep, with a FILE that may be left out, and a seed
 unfoldable pub sweep_line : App

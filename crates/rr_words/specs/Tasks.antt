@@ -51,8 +51,8 @@ pub data View : Type 0 where
 -- what a command asks for: the report of the schedule in this file or else in standard input; or a view of its run; or the
 -- areas of the disk in this folder; or a random schedule by these words; or the audit of the tape in this file or else in standard input; or a run of this number of
 -- nodes in threads, over the folders in this folder, by the script in this file, with its tape in this file or none; or a run
--- of this number of nodes over the folders in this folder, whom standard input asks as this client or as client 0; or a
--- sweep of the schedule in this file or else in standard input, with this seed, which only wrong words leave out; or the
+-- of this number of nodes over the folders in this folder, whom standard input asks as this client or as client 0, answered with
+-- JSON or not; or a sweep of the schedule in this file or else in standard input, with this seed, which only wrong words leave out; or the
 -- picture of the schedule in this file or else in standard input, of the cut that these words write; or an opening of the
 -- disk in this folder as that of this node of so many, all of which only wrong words leave out, and its areas then
 pub data Task : Type 0 where
@@ -62,7 +62,7 @@ pub data Task : Type 0 where
   Draw : DrawWords → Task
   Audit : Option Text → Task
   Run : Option Text → Option Text → Option Text → Option Text → Task
-  Shell : Option Text → Option Text → Option Text → Task
+  Shell : Option Text → Option Text → Option Text → Bool → Task
   Sweep : Option Text → Option Text → Task
   Picture : Option Text → CutWords → Task
   Migrate : Option Text → Option Text → Option Text → Task
@@ -116,7 +116,7 @@ abbrev pub run_task : List Row → Task
 run_task rows = Run (first_of (codes "NODES") rows) (first_of (codes "DIR") rows) (first_of (codes "SCRIPT") rows) (first_of (codes "TAPE") rows)
 
 abbrev pub shell_task : List Row → Task
-shell_task rows = Shell (first_of (codes "NODES") rows) (first_of (codes "DIR") rows) (first_of (codes "CLIENT") rows)
+shell_task rows = Shell (first_of (codes "NODES") rows) (first_of (codes "DIR") rows) (first_of (codes "CLIENT") rows) (is_set (codes "JSON") rows)
 
 abbrev pub sweep_task : List Row → Task
 sweep_task rows = Sweep (file_of (first_of (codes "FILE") rows)) (first_of (codes "SEED") rows)
@@ -171,7 +171,7 @@ task_in (read.Show folder) = Show (option_map (λ s. s.now) folder)
 task_in (read.Draw words) = Draw (draw_words_in words)
 task_in (read.Audit file) = Audit (option_map (λ s. s.now) file)
 task_in (read.Run nodes dir script tape) = Run (option_map (λ s. s.now) nodes) (option_map (λ s. s.now) dir) (option_map (λ s. s.now) script) (option_map (λ s. s.now) tape)
-task_in (read.Shell nodes dir client) = Shell (option_map (λ s. s.now) nodes) (option_map (λ s. s.now) dir) (option_map (λ s. s.now) client)
+task_in (read.Shell nodes dir client json) = Shell (option_map (λ s. s.now) nodes) (option_map (λ s. s.now) dir) (option_map (λ s. s.now) client) json
 task_in (read.Sweep file seed) = Sweep (option_map (λ s. s.now) file) (option_map (λ s. s.now) seed)
 task_in (read.Picture file words) = Picture (option_map (λ s. s.now) file) (cut_words_in words)
 task_in (read.Migrate folder node nodes) = Migrate (option_map (λ s. s.now) folder) (option_map (λ s. s.now) node) (option_map (λ s. s.now) nodes)

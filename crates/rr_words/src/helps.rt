@@ -130,12 +130,14 @@ Examples:
 pub(crate) fn shell<'a>() -> &'a str {
     "\
 Each line of standard input is a command, which is answered before the next is read: `claim NAME [VALUE]`,
-`update NAME [VALUE]`, `release NAME`, `transfer NAME OWNER`, `look NAME`, `list [PREFIX]`, `at NODE`, `help` or `quit`.
-One space divides words. Node 0 is asked first, and from `at NODE` on that node. The answers are `claimed`, `updated`,
-`released`, `transferred`, `taken OWNER`, `unknown`, `notowner`, `full` or `unacknowledged`; to a look `NAME free`,
-`NAME bound OWNER VALUE` or `NAME unseen`; to a list `list COUNT` and a line as a look's for each bound name that begins
-with PREFIX; else `error: ` and what is expected. Each node runs in threads over the folder DIR/P, as in `rr run`. The
-file DIR/requests keeps request numbers unique from one start to the next.
+`update NAME [VALUE]`, `release NAME`, `transfer NAME OWNER`, `look NAME`, `list [PREFIX]`, `at NODE`, `stop NODE`,
+`start NODE`, `snapshot NODE`, `status`, `help` or `quit`. One space divides words. Node 0 is asked first, and from
+`at NODE` on that node. The answers are `claimed`, `updated`, `released`, `transferred`, `taken OWNER`, `unknown`,
+`notowner`, `full` or `unacknowledged`; to a look `NAME free`, `NAME bound OWNER VALUE` or `NAME unseen`; to a list
+`list COUNT` and a line as a look's for each bound name that begins with PREFIX; to a status a line for each node; else
+`error: ` and what is expected. With --json each of these lines is an object of JSON. A node that is stopped goes down
+as by a crash, and opens its folder when it is started. Each node runs in threads over the folder DIR/P, as in `rr run`.
+The file DIR/requests keeps request numbers unique from one start to the next.
 
 Examples:
   rr shell --nodes 3 --dir /tmp/nodes

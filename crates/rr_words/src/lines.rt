@@ -313,6 +313,12 @@ fn shell_line<'a>(alloc: Global) -> Result<Command<'a>, AllocError>
         "The client that asks [default: 0]",
         0,
         LAST_CLIENT,
+    ))?
+    .arg(flag_arg(
+        alloc,
+        "JSON",
+        "json",
+        "Answers with an object of JSON for each line",
     ))
 }
 

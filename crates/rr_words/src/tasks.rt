@@ -75,9 +75,9 @@ pub enum Task<'a> {
     /// `rr run --nodes NODES --dir DIR --script SCRIPT [--tape TAPE]`: a run of nodes in threads by the script in this
     /// file, and its tape into this file.
     Run(Option<&'a str>, Option<&'a str>, Option<&'a str>, Option<&'a str>),
-    /// `rr shell --nodes NODES --dir DIR [--client CLIENT]`: a run of nodes in threads, whom the lines of standard input ask as
-    /// this client.
-    Shell(Option<&'a str>, Option<&'a str>, Option<&'a str>),
+    /// `rr shell --nodes NODES --dir DIR [--client CLIENT] [--json]`: a run of nodes in threads, whom the lines of standard input
+    /// ask as this client; and whether they answer with JSON.
+    Shell(Option<&'a str>, Option<&'a str>, Option<&'a str>, bool),
     /// `rr sweep [FILE] --seed SEED`: what a node restarts with after a crash behind each device call of the schedule in
     /// this file, or else in standard input; with the seed of the words of the last ending.
     Sweep(Option<&'a str>, Option<&'a str>),
@@ -205,6 +205,7 @@ fn shell_task<'a>(matches: &ArgMatches<'a>) -> Task<'a>
         word_of(matches, "NODES"),
         word_of(matches, "DIR"),
         word_of(matches, "CLIENT"),
+        is_set(matches, "JSON"),
     )
 }
 

@@ -85,8 +85,8 @@ returns-in-Ok-Run-clause-ends g c =
 pub returns-in-Ok-Shell-clause-ends : goal.returns-in-Ok-Shell-clause-ends
 returns-in-Ok-Shell-clause-ends g c =
     let w = c.in-Ok-Shell in
-    let task : task_of (map g.S.AsStr.text c.args.words.now) ≡ Shell (text_of w.field-0-0) (text_of w.field-0-1) (text_of w.field-0-2) = sym w.ensures.task ∙ ap task_in w.field-0-is in
-    without_shell (text_of w.field-0-0) (text_of w.field-0-1) (text_of w.field-0-2) w.ensures.faults task c.end_without_shell.ensures refl
+    let task : task_of (map g.S.AsStr.text c.args.words.now) ≡ Shell (text_of w.field-0-0) (text_of w.field-0-1) (text_of w.field-0-2) w.field-0-3 = sym w.ensures.task ∙ ap task_in w.field-0-is in
+    without_shell (text_of w.field-0-0) (text_of w.field-0-1) (text_of w.field-0-2) w.field-0-3 w.ensures.faults task c.end_without_shell.ensures refl
 
 -- the task that a file and a seed make
 swept_from : (a b x y : Option (Bor (List ℕ))) → a ≡ x → b ≡ y → task_in (read.Sweep a b) ≡ task_in (read.Sweep x y)

@@ -1,4 +1,4 @@
-use Rattle.std.proofs.Common.{◌≡◌, ◌∙◌, List, Option, None, Some, [], option_map, refl, Bor, ℕ, sym, ap, subst, map, inl, inr}
+use Rattle.std.proofs.Common.{◌≡◌, ◌∙◌, List, Bool, Option, None, Some, [], option_map, refl, Bor, ℕ, sym, ap, subst, map, inl, inr}
 use Rattle.clap.specs.Words.{Text, kind_of}
 use Rattle.clap.specs.Kinds.{Kinds, IsAmong}
 use Rattle.clap.specs.declared.error.kind.ErrorKind.{ErrorKind}
@@ -50,13 +50,13 @@ without_script None b d asks = asks
 without_script (Some n) None d asks = asks
 without_script (Some n) (Some x) d asks = asks
 
-without_folder : (a c : Option Text) → AsksForThreads (Shell a None c) → ⊥
-without_folder None c asks = asks
-without_folder (Some n) c asks = asks
+without_folder : (a c : Option Text) (json : Bool) → AsksForThreads (Shell a None c json) → ⊥
+without_folder None c json asks = asks
+without_folder (Some n) c json asks = asks
 
 -- the task that three words make
-shell_from : (a b c w x : Option (Bor (List ℕ))) → a ≡ w → b ≡ x → task_in (read.Shell a b c) ≡ task_in (read.Shell w x c)
-shell_from a b c w x p q = rw (p, q) refl
+shell_from : (a b c w x : Option (Bor (List ℕ))) (json : Bool) → a ≡ w → b ≡ x → task_in (read.Shell a b c json) ≡ task_in (read.Shell w x c json)
+shell_from a b c w x json p q = rw (p, q) refl
 
 pub returns-in-Ok-Run-None-default-default-default-clause-ends : goal.returns-in-Ok-Run-None-default-default-default-clause-ends
 returns-in-Ok-Run-None-default-default-default-clause-ends g c =
@@ -76,23 +76,23 @@ returns-in-Ok-Run-default-default-None-default-clause-ends g c =
     let task : task_of (map g.S.AsStr.text c.args.words.now) ≡ Run (text_of w.field-0-0) (text_of w.field-0-1) None (text_of w.field-0-3) = sym w.ensures.task ∙ ap task_in w.field-0-is ∙ run_from _ _ _ _ _ _ _ refl refl w.field-0-2-is in
     by_others (λ none asks. without_script (text_of w.field-0-0) (text_of w.field-0-1) (text_of w.field-0-3) (subst (λ t. AsksForThreads t) task asks)) c.execute.ensures.ends
 
-pub returns-in-Ok-Shell-Some-Some-default-clause-ends : goal.returns-in-Ok-Shell-Some-Some-default-clause-ends
-returns-in-Ok-Shell-Some-Some-default-clause-ends g c =
-    let w = c.in-Ok-Shell-Some-Some-default in
-    let task : task_of (map g.S.AsStr.text c.args.words.now) ≡ Shell (Some w.nodes.now) (Some w.dir.now) (text_of w.client) = sym w.ensures.task ∙ ap task_in w.field-0-is ∙ shell_from _ _ _ _ _ w.field-0-0-is w.field-0-1-is in
-    by_shell (record { nodes = w.nodes.now; dir = w.dir.now; client = text_of w.client; is = task }) w.ensures.faults c.shell_by_words.ensures.ends
+pub returns-in-Ok-Shell-Some-Some-default-default-clause-ends : goal.returns-in-Ok-Shell-Some-Some-default-default-clause-ends
+returns-in-Ok-Shell-Some-Some-default-default-clause-ends g c =
+    let w = c.in-Ok-Shell-Some-Some-default-default in
+    let task : task_of (map g.S.AsStr.text c.args.words.now) ≡ Shell (Some w.nodes.now) (Some w.dir.now) (text_of w.client) w.json = sym w.ensures.task ∙ ap task_in w.field-0-is ∙ shell_from _ _ _ _ _ _ w.field-0-0-is w.field-0-1-is in
+    by_shell (record { nodes = w.nodes.now; dir = w.dir.now; client = text_of w.client; json = w.json; is = task }) w.ensures.faults c.shell_by_words.ensures.ends
 
-pub returns-in-Ok-Shell-None-default-default-clause-ends : goal.returns-in-Ok-Shell-None-default-default-clause-ends
-returns-in-Ok-Shell-None-default-default-clause-ends g c =
-    let w = c.in-Ok-Shell-None-default-default in
-    let task : task_of (map g.S.AsStr.text c.args.words.now) ≡ Shell None (text_of w.field-0-1) (text_of w.field-0-2) = sym w.ensures.task ∙ ap task_in w.field-0-is ∙ shell_from _ _ _ _ _ w.field-0-0-is refl in
-    by_others (λ none asks. subst (λ t. AsksForThreads t) task asks) c.execute-in-Ok-Shell-None-default-default.ensures.ends
+pub returns-in-Ok-Shell-None-default-default-default-clause-ends : goal.returns-in-Ok-Shell-None-default-default-default-clause-ends
+returns-in-Ok-Shell-None-default-default-default-clause-ends g c =
+    let w = c.in-Ok-Shell-None-default-default-default in
+    let task : task_of (map g.S.AsStr.text c.args.words.now) ≡ Shell None (text_of w.field-0-1) (text_of w.field-0-2) w.field-0-3 = sym w.ensures.task ∙ ap task_in w.field-0-is ∙ shell_from _ _ _ _ _ _ w.field-0-0-is refl in
+    by_others (λ none asks. subst (λ t. AsksForThreads t) task asks) c.execute-in-Ok-Shell-None-default-default-default.ensures.ends
 
-pub returns-in-Ok-Shell-default-None-default-clause-ends : goal.returns-in-Ok-Shell-default-None-default-clause-ends
-returns-in-Ok-Shell-default-None-default-clause-ends g c =
-    let w = c.in-Ok-Shell-default-None-default in
-    let task : task_of (map g.S.AsStr.text c.args.words.now) ≡ Shell (text_of w.field-0-0) None (text_of w.field-0-2) = sym w.ensures.task ∙ ap task_in w.field-0-is ∙ shell_from _ _ _ _ _ refl w.field-0-1-is in
-    by_others (λ none asks. without_folder (text_of w.field-0-0) (text_of w.field-0-2) (subst (λ t. AsksForThreads t) task asks)) c.execute-in-Ok-Shell-default-None-default.ensures.ends
+pub returns-in-Ok-Shell-default-None-default-default-clause-ends : goal.returns-in-Ok-Shell-default-None-default-default-clause-ends
+returns-in-Ok-Shell-default-None-default-default-clause-ends g c =
+    let w = c.in-Ok-Shell-default-None-default-default in
+    let task : task_of (map g.S.AsStr.text c.args.words.now) ≡ Shell (text_of w.field-0-0) None (text_of w.field-0-2) w.field-0-3 = sym w.ensures.task ∙ ap task_in w.field-0-is ∙ shell_from _ _ _ _ _ _ refl w.field-0-1-is in
+    by_others (λ none asks. without_folder (text_of w.field-0-0) (text_of w.field-0-2) w.field-0-3 (subst (λ t. AsksForThreads t) task asks)) c.execute-in-Ok-Shell-default-None-default-default.ensures.ends
 
 pub returns-in-Ok-Simulate-clause-ends : goal.returns-in-Ok-Simulate-clause-ends
 returns-in-Ok-Simulate-clause-ends g c =

@@ -62,8 +62,8 @@ returns-in-Ok-Run-clause-ends g c =
 pub returns-in-Ok-Shell-clause-ends : goal.returns-in-Ok-Shell-clause-ends
 returns-in-Ok-Shell-clause-ends g c =
     let w = c.in-Ok-Shell in
-    let task : task_of (map g.S.AsStr.text c.args.words.now) ≡ Shell (text_of w.field-0-0) (text_of w.field-0-1) (text_of w.field-0-2) = sym w.ensures.task ∙ ap task_in w.field-0-is in
-    by_others (λ none view is. no_shell (text_of w.field-0-0) (text_of w.field-0-1) (text_of w.field-0-2) view (sym task ∙ is)) c.execute-in-Ok-Shell.ensures.ends
+    let task : task_of (map g.S.AsStr.text c.args.words.now) ≡ Shell (text_of w.field-0-0) (text_of w.field-0-1) (text_of w.field-0-2) w.field-0-3 = sym w.ensures.task ∙ ap task_in w.field-0-is in
+    by_others (λ none view is. no_shell (text_of w.field-0-0) (text_of w.field-0-1) (text_of w.field-0-2) w.field-0-3 view (sym task ∙ is)) c.execute-in-Ok-Shell.ensures.ends
 
 pub returns-in-Ok-Sweep-clause-ends : goal.returns-in-Ok-Sweep-clause-ends
 returns-in-Ok-Sweep-clause-ends g c =

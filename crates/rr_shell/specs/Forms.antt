@@ -1,0 +1,52 @@
+-- What is said to a line of a shell: with JSON, or in words.
+use Rattle.std.specs.Prelude.{ℕ, Bool, if◌then◌else◌, List, Option, codes}
+use Rattle.rr_text.specs.declared.report.Binding.{Binding}
+use Rattle.rr_script.specs.declared.answer.Answer.{Answer}
+use Rattle.rr_shell.specs.declared.standing.Standing.{Standing}
+use Rattle.rr_shell.specs.declared.shell_line.LineFault.{LineFault}
+use Rattle.rr_shell.specs.Texts.{answer_line, list_lines, move_line, stop_line, start_line, snapshot_line, no_snapshot_line, no_snapshot_text, down_line, down_text, standing_line, help_line, help_text, fault_line, fault_text}
+use Rattle.rr_shell.specs.Objects.{answer_object, list_objects, node_object, standing_object, text_object}
+
+-- an answer
+abbrev pub answer_said : Bool → Answer → List ℕ
+answer_said json a = if json then answer_object a else answer_line a
+
+-- the bound names that were seen
+abbrev pub list_said : Bool → Option (List Binding) → List ℕ
+list_said json names = if json then list_objects names else list_lines names
+
+-- that node p is asked from now on
+abbrev pub move_said : Bool → ℕ → List ℕ
+move_said json p = if json then node_object (codes "at") p else move_line p
+
+-- that node p is down from now on
+abbrev pub stop_said : Bool → ℕ → List ℕ
+stop_said json p = if json then node_object (codes "stopped") p else stop_line p
+
+-- that node p is up from now on
+abbrev pub start_said : Bool → ℕ → List ℕ
+start_said json p = if json then node_object (codes "started") p else start_line p
+
+-- that node p has written a snapshot
+abbrev pub snapshot_said : Bool → ℕ → List ℕ
+snapshot_said json p = if json then node_object (codes "snapshot") p else snapshot_line p
+
+-- that node p hasn't
+abbrev pub no_snapshot_said : Bool → ℕ → List ℕ
+no_snapshot_said json p = if json then text_object (codes "error") (no_snapshot_text p) else no_snapshot_line p
+
+-- that node p, which is asked, is down
+abbrev pub down_said : Bool → ℕ → List ℕ
+down_said json p = if json then text_object (codes "error") (down_text p) else down_line p
+
+-- what a node tells of itself
+abbrev pub standing_said : Bool → Standing → List ℕ
+standing_said json s = if json then standing_object s else standing_line s
+
+-- the commands
+abbrev pub help_said : Bool → List ℕ
+help_said json = if json then text_object (codes "help") help_text else help_line
+
+-- what is wrong with a line, of n nodes
+abbrev pub fault_said : Bool → ℕ → LineFault → List ℕ
+fault_said json n fault = if json then text_object (codes "error") (fault_text n fault) else fault_line n fault

@@ -1,0 +1,93 @@
+-- What is said to a line of a shell as JSON: an object for each line of words.
+use Rattle.std.specs.Prelude.{ℕ, if◌then◌else◌, ◌||◌, ◌==◌, List, [], ◌∷◌, ◌++◌, length, Option, None, Some, codes, decimal}
+use Rattle.std.specs.List.{flat_map}
+use Rattle.rr_text.specs.ReportTexts.{reply_words}
+use Rattle.rr_text.specs.declared.report.Binding.{Binding}
+use Rattle.rr_script.specs.declared.answer.Answer.{Answer}
+use Rattle.rr_script.specs.declared.answer.Answer.TheVariants.{Acknowledged, Unacknowledged, Free, Bound, Unseen}
+use Rattle.rr_shell.specs.declared.standing.Standing.{Standing}
+use Rattle.rr_shell.specs.declared.standing.Known.{Known}
+
+-- a text between quotation marks
+unfoldable pub quoted : List ℕ → List ℕ
+quoted text = 34 ∷ text ++ 34 ∷ []
+
+-- a byte of a text: a backslash stands before a quotation mark and before a backslash
+abbrev pub escaped_byte : ℕ → List ℕ
+escaped_byte b = if (b == 34) || (b == 92) then 92 ∷ b ∷ [] else b ∷ []
+
+-- a comma, the name of a member, and a colon
+unfoldable pub label : List ℕ → List ℕ
+label name = 44 ∷ quoted name ++ 58 ∷ []
+
+-- a member that is a text without quotation marks and backslashes
+unfoldable pub text_member : List ℕ → List ℕ → List ℕ
+text_member name text = label name ++ quoted text
+
+-- a member that is a number
+unfoldable pub number_member : List ℕ → ℕ → List ℕ
+number_member name n = label name ++ decimal n
+
+-- the beginning of an object, with its kind
+unfoldable pub opened : List ℕ → List ℕ
+opened kind = 123 ∷ quoted (codes "kind") ++ 58 ∷ quoted kind
+
+-- the line of an object of this kind, with these members behind the kind
+abbrev pub object_line : List ℕ → List ℕ → List ℕ
+object_line kind members = opened kind ++ members ++ 125 ∷ 10 ∷ []
+
+-- the members of a reply, by its words: its name, and the owner of a name that is taken
+abbrev pub reply_members : List (List ℕ) → List ℕ
+reply_members [] = []
+reply_members (word ∷ []) = text_member (codes "reply") word
+reply_members (word ∷ owner ∷ words) = text_member (codes "reply") word ++ label (codes "owner") ++ owner
+
+-- the members of a name that is bound: its owner and its value
+abbrev pub bound_members : List ℕ → ℕ → List ℕ → List ℕ
+bound_members name owner value = text_member (codes "name") name ++ number_member (codes "owner") owner ++ text_member (codes "value") (flat_map escaped_byte value)
+
+-- a name that is bound
+abbrev pub bound_object : List ℕ → ℕ → List ℕ → List ℕ
+bound_object name owner value = object_line (codes "bound") (bound_members name owner value)
+
+-- an answer
+abbrev pub answer_object : Answer → List ℕ
+answer_object (Acknowledged p q reply) = object_line (codes "reply") (reply_members (reply_words reply))
+answer_object (Unacknowledged p q) = object_line (codes "unacknowledged") []
+answer_object (Free p name) = object_line (codes "free") (text_member (codes "name") name)
+answer_object (Bound p name owner value) = bound_object name owner value
+answer_object (Unseen p name) = object_line (codes "unseen") (text_member (codes "name") name)
+
+-- a bound name, as the answer to a look at it
+abbrev pub binding_object : Binding → List ℕ
+binding_object b = bound_object b.name b.owner b.value
+
+-- the bound names that were seen, behind an object that says how many they are; or that none was seen
+abbrev pub list_objects : Option (List Binding) → List ℕ
+list_objects None = object_line (codes "unseen") []
+list_objects (Some names) = object_line (codes "list") (number_member (codes "names") (length names)) ++ flat_map binding_object names
+
+-- that a node is asked, is down or is up from now on, by this word
+abbrev pub node_object : List ℕ → ℕ → List ℕ
+node_object word p = object_line word (number_member (codes "node") p)
+
+-- that a node is down; or that it is up, and what it knows: bit q of its suspects is node q
+abbrev pub known_members : Option Known → List ℕ
+known_members None = label (codes "up") ++ codes "false"
+known_members (Some k) =
+    (label (codes "up") ++ codes "true") ++ number_member (codes "facts") k.facts ++ number_member (codes "decided") k.decided ++ number_member (codes "suspects") k.suspects
+
+-- what a node tells of itself
+abbrev pub standing_object : Standing → List ℕ
+standing_object s = object_line (codes "node") (number_member (codes "node") s.node ++ known_members s.known)
+
+-- the beginning of an object of this kind that has a text, and its end
+abbrev pub text_opened : List ℕ → List ℕ
+text_opened kind = opened kind ++ label (codes "text") ++ 34 ∷ []
+
+abbrev pub text_closed : List ℕ
+text_closed = 34 ∷ 125 ∷ 10 ∷ []
+
+-- an error, or the commands, as a text
+abbrev pub text_object : List ℕ → List ℕ → List ℕ
+text_object kind text = text_opened kind ++ text ++ text_closed

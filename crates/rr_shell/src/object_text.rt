@@ -1,0 +1,365 @@
+//! What is said to a line as JSON: an object for each line of words.
+
+ghost use Rattle.std.specs.Prelude.{◌≡◌, ◌∷◌, ◌++◌, [], OnOk, IfErr, codes};
+ghost use Rattle.std.specs.List.{flat_map};
+ghost use Rattle.rr_text.specs.ReportTexts.{reply_words};
+ghost use Rattle.rr_shell.specs.Texts.{down_text, no_snapshot_text, help_text, fault_text};
+ghost use Rattle.rr_shell.specs.Objects.{quoted, escaped_byte, label, text_member, number_member, opened, object_line, reply_members, bound_members, bound_object, answer_object, binding_object, list_objects, node_object, known_members, standing_object, text_opened, text_closed, text_object};
+
+use crate::line_text::{push_down_text, push_fault_text, push_help_text, push_no_snapshot_text};
+use crate::listing::Listing;
+use crate::shell_line::LineFault;
+use crate::standing::{Known, Standing};
+use rr_script::Answer;
+use rr_text::Binding;
+use rr_text::text_word::{push_byte, push_bytes, push_number};
+use rr_types::{Name, NodeId, Nodes, Refusal, Reply, Value};
+
+#[tactic(auto, unfolding(crate::specs::Objects::quoted))]
+fn push_quoted(out: &mut Vec<u8>, text: &[u8]) -> Result<(), Refusal>
+    ensures ok { OnOk result (out.new.items ≡ out.old.items ++ quoted text.now) }
+    ensures err { IfErr result (λ e. e ≡ Refusal.OutOfMemory) }
+{
+    push_byte(out, b'"')?;
+    push_bytes(out, text)?;
+    push_byte(out, b'"')
+}
+
+fn push_escaped_byte(out: &mut Vec<u8>, byte: u8) -> Result<(), Refusal>
+    ensures ok { OnOk result (out.new.items ≡ out.old.items ++ escaped_byte byte) }
+    ensures err { IfErr result (λ e. e ≡ Refusal.OutOfMemory) }
+{
+    if byte == b'"' || byte == b'\\' {
+        push_bytes(out, &[b'\\', byte])
+    } else {
+        push_byte(out, byte)
+    }
+}
+
+fn push_escaped(out: &mut Vec<u8>, text: &[u8]) -> Result<(), Refusal>
+    ensures ok { OnOk result (out.new.items ≡ out.old.items ++ flat_map escaped_byte text.now) }
+    ensures err { IfErr result (λ e. e ≡ Refusal.OutOfMemory) }
+{
+    for byte in text {
+        push_escaped_byte(out, *byte)?;
+    }
+    Ok(())
+}
+
+// The name of a member.
+#[tactic(auto, unfolding(crate::specs::Objects::label))]
+fn push_label(out: &mut Vec<u8>, name: &[u8]) -> Result<(), Refusal>
+    ensures ok { OnOk result (out.new.items ≡ out.old.items ++ label name.now) }
+    ensures err { IfErr result (λ e. e ≡ Refusal.OutOfMemory) }
+{
+    push_byte(out, b',')?;
+    push_quoted(out, name)?;
+    push_byte(out, b':')
+}
+
+#[tactic(auto, unfolding(crate::specs::Objects::text_member))]
+fn push_text_member(out: &mut Vec<u8>, name: &[u8], text: &[u8]) -> Result<(), Refusal>
+    ensures ok { OnOk result (out.new.items ≡ out.old.items ++ text_member name.now text.now) }
+    ensures err { IfErr result (λ e. e ≡ Refusal.OutOfMemory) }
+{
+    push_label(out, name)?;
+    push_quoted(out, text)
+}
+
+#[tactic(auto, unfolding(crate::specs::Objects::number_member))]
+fn push_number_member(out: &mut Vec<u8>, name: &[u8], number: u64) -> Result<(), Refusal>
+    ensures ok { OnOk result (out.new.items ≡ out.old.items ++ number_member name.now number) }
+    ensures err { IfErr result (λ e. e ≡ Refusal.OutOfMemory) }
+{
+    push_label(out, name)?;
+    push_number(out, number)
+}
+
+// The beginning of an object, with its kind.
+#[tactic(auto, unfolding(crate::specs::Objects::opened))]
+fn push_open(out: &mut Vec<u8>, kind: &[u8]) -> Result<(), Refusal>
+    ensures ok { OnOk result (out.new.items ≡ out.old.items ++ opened kind.now) }
+    ensures err { IfErr result (λ e. e ≡ Refusal.OutOfMemory) }
+{
+    push_byte(out, b'{')?;
+    push_quoted(out, b"kind")?;
+    push_byte(out, b':')?;
+    push_quoted(out, kind)
+}
+
+// The end of an object and of its line.
+fn push_end(out: &mut Vec<u8>) -> Result<(), Refusal>
+    ensures ok { OnOk result (out.new.items ≡ out.old.items ++ 125 ∷ 10 ∷ []) }
+    ensures err { IfErr result (λ e. e ≡ Refusal.OutOfMemory) }
+{
+    push_bytes(out, b"}\n")
+}
+
+#[tactic(auto, unfolding(crate::specs::Objects::number_member))]
+fn push_reply_members(out: &mut Vec<u8>, reply: Reply) -> Result<(), Refusal>
+    ensures ok { OnOk result (out.new.items ≡ out.old.items ++ reply_members (reply_words reply)) }
+    ensures err { IfErr result (λ e. e ≡ Refusal.OutOfMemory) }
+{
+    match reply {
+        Reply::Claimed => push_text_member(out, b"reply", b"claimed"),
+        Reply::Updated => push_text_member(out, b"reply", b"updated"),
+        Reply::Released => push_text_member(out, b"reply", b"released"),
+        Reply::Transferred => push_text_member(out, b"reply", b"transferred"),
+        Reply::Taken(owner) => {
+            push_text_member(out, b"reply", b"taken")?;
+            push_number_member(out, b"owner", u64::from(owner))
+        }
+        Reply::Unknown => push_text_member(out, b"reply", b"unknown"),
+        Reply::NotOwner => push_text_member(out, b"reply", b"notowner"),
+        Reply::Full => push_text_member(out, b"reply", b"full"),
+    }
+}
+
+fn push_reply(out: &mut Vec<u8>, reply: Reply) -> Result<(), Refusal>
+    ensures ok { OnOk result (out.new.items ≡ out.old.items ++ opened (codes "reply") ++ reply_members (reply_words reply) ++ 125 ∷ 10 ∷ []) }
+    ensures err { IfErr result (λ e. e ≡ Refusal.OutOfMemory) }
+{
+    push_open(out, b"reply")?;
+    push_reply_members(out, reply)?;
+    push_end(out)
+}
+
+// That a name is free, or that nothing was seen of it.
+fn push_name(out: &mut Vec<u8>, kind: &[u8], name: &Name) -> Result<(), Refusal>
+    ensures ok { OnOk result (out.new.items ≡ out.old.items ++ opened kind.now ++ text_member (codes "name") name.now ++ 125 ∷ 10 ∷ []) }
+    ensures err { IfErr result (λ e. e ≡ Refusal.OutOfMemory) }
+{
+    push_open(out, kind)?;
+    push_text_member(out, b"name", name.as_bytes())?;
+    push_end(out)
+}
+
+// A value as a member.
+#[tactic(auto, unfolding(crate::specs::Objects::text_member, crate::specs::Objects::quoted))]
+fn push_value(out: &mut Vec<u8>, value: &Value) -> Result<(), Refusal>
+    ensures ok { OnOk result (out.new.items ≡ out.old.items ++ text_member (codes "value") (flat_map escaped_byte value.now)) }
+    ensures err { IfErr result (λ e. e ≡ Refusal.OutOfMemory) }
+{
+    push_label(out, b"value")?;
+    push_byte(out, b'"')?;
+    push_escaped(out, value.as_bytes())?;
+    push_byte(out, b'"')
+}
+
+fn push_bound_members(
+    out: &mut Vec<u8>,
+    name: &Name,
+    owner: u32,
+    value: &Value,
+) -> Result<(), Refusal>
+    ensures ok { OnOk result (out.new.items ≡ out.old.items ++ bound_members name.now owner value.now) }
+    ensures err { IfErr result (λ e. e ≡ Refusal.OutOfMemory) }
+{
+    push_text_member(out, b"name", name.as_bytes())?;
+    push_number_member(out, b"owner", u64::from(owner))?;
+    push_value(out, value)
+}
+
+fn push_bound(out: &mut Vec<u8>, name: &Name, owner: u32, value: &Value) -> Result<(), Refusal>
+    ensures ok { OnOk result (out.new.items ≡ out.old.items ++ bound_object name.now owner value.now) }
+    ensures err { IfErr result (λ e. e ≡ Refusal.OutOfMemory) }
+{
+    push_open(out, b"bound")?;
+    push_bound_members(out, name, owner, value)?;
+    push_end(out)
+}
+
+// An object that has only its kind.
+fn push_kind(out: &mut Vec<u8>, kind: &[u8]) -> Result<(), Refusal>
+    ensures ok { OnOk result (out.new.items ≡ out.old.items ++ object_line kind.now []) }
+    ensures err { IfErr result (λ e. e ≡ Refusal.OutOfMemory) }
+{
+    push_open(out, kind)?;
+    push_end(out)
+}
+
+/// Appends an answer as an object.
+///
+/// # Errors
+/// `OutOfMemory`. Then bytes of the line may stand at the end.
+pub fn push_answer_object(out: &mut Vec<u8>, answer: &Answer) -> Result<(), Refusal>
+    ensures ok { OnOk result (out.new.items ≡ out.old.items ++ answer_object answer.now) }
+    ensures err { IfErr result (λ e. e ≡ Refusal.OutOfMemory) }
+{
+    match answer {
+        Answer::Acknowledged { reply, .. } => push_reply(out, *reply),
+        Answer::Unacknowledged { .. } => push_kind(out, b"unacknowledged"),
+        Answer::Free { name, .. } => push_name(out, b"free", name),
+        Answer::Bound {
+            name,
+            owner,
+            value,
+            ..
+        } => push_bound(out, name, *owner, value),
+        Answer::Unseen { name, .. } => push_name(out, b"unseen", name),
+    }
+}
+
+fn push_bound_objects(out: &mut Vec<u8>, names: &[Binding]) -> Result<(), Refusal>
+    ensures ok { OnOk result (out.new.items ≡ out.old.items ++ flat_map binding_object names.now) }
+    ensures err { IfErr result (λ e. e ≡ Refusal.OutOfMemory) }
+{
+    for binding in names {
+        push_bound(out, &binding.name, binding.owner, &binding.value)?;
+    }
+    Ok(())
+}
+
+// How many bound names there are, and an object for each.
+fn push_bound_names(out: &mut Vec<u8>, names: &[Binding]) -> Result<(), Refusal>
+    ensures ok { OnOk result (out.new.items ≡ out.old.items ++ list_objects (Some names.now)) }
+    ensures err { IfErr result (λ e. e ≡ Refusal.OutOfMemory) }
+{
+    push_open(out, b"list")?;
+    push_number_member(out, b"names", names.len() as u64)?;
+    push_end(out)?;
+    push_bound_objects(out, names)
+}
+
+/// Appends the bound names that were seen as objects, behind one that says how many they are; or that none was seen.
+///
+/// # Errors
+/// `OutOfMemory`. Then bytes of the lines may stand at the end.
+pub fn push_listing_objects(out: &mut Vec<u8>, listing: &Listing) -> Result<(), Refusal>
+    ensures ok { OnOk result (out.new.items ≡ out.old.items ++ list_objects listing.now.names) }
+    ensures err { IfErr result (λ e. e ≡ Refusal.OutOfMemory) }
+{
+    match &listing.names {
+        None => push_kind(out, b"unseen"),
+        Some(names) => push_bound_names(out, names.as_slice()),
+    }
+}
+
+/// Appends that a node is asked, is down or is up from now on, as an object of this kind.
+///
+/// # Errors
+/// `OutOfMemory`. Then bytes of the line may stand at the end.
+pub fn push_node_object(out: &mut Vec<u8>, kind: &[u8], node: NodeId) -> Result<(), Refusal>
+    ensures ok { OnOk result (out.new.items ≡ out.old.items ++ node_object kind.now node) }
+    ensures err { IfErr result (λ e. e ≡ Refusal.OutOfMemory) }
+{
+    push_open(out, kind)?;
+    push_number_member(out, b"node", u64::from(node.index()))?;
+    push_end(out)
+}
+
+// That a node is up.
+fn push_up(out: &mut Vec<u8>) -> Result<(), Refusal>
+    ensures ok { OnOk result (out.new.items ≡ out.old.items ++ label (codes "up") ++ codes "true") }
+    ensures err { IfErr result (λ e. e ≡ Refusal.OutOfMemory) }
+{
+    push_label(out, b"up")?;
+    push_bytes(out, b"true")
+}
+
+// That a node is up, and what it knows.
+fn push_known(out: &mut Vec<u8>, known: &Known) -> Result<(), Refusal>
+    ensures ok { OnOk result (out.new.items ≡ out.old.items ++ known_members (Some known.now)) }
+    ensures err { IfErr result (λ e. e ≡ Refusal.OutOfMemory) }
+{
+    push_up(out)?;
+    push_number_member(out, b"facts", known.facts)?;
+    push_number_member(out, b"decided", known.decided)?;
+    push_number_member(out, b"suspects", u64::from(known.suspects.bits()))
+}
+
+// That a node is down.
+fn push_unknown(out: &mut Vec<u8>) -> Result<(), Refusal>
+    ensures ok { OnOk result (out.new.items ≡ out.old.items ++ known_members None) }
+    ensures err { IfErr result (λ e. e ≡ Refusal.OutOfMemory) }
+{
+    push_label(out, b"up")?;
+    push_bytes(out, b"false")
+}
+
+/// Appends what a node tells of itself as an object.
+///
+/// # Errors
+/// `OutOfMemory`. Then bytes of the line may stand at the end.
+pub fn push_standing_object(out: &mut Vec<u8>, standing: &Standing) -> Result<(), Refusal>
+    ensures ok { OnOk result (out.new.items ≡ out.old.items ++ standing_object standing.now) }
+    ensures err { IfErr result (λ e. e ≡ Refusal.OutOfMemory) }
+{
+    push_open(out, b"node")?;
+    push_number_member(out, b"node", u64::from(standing.node.index()))?;
+    match &standing.known {
+        None => push_unknown(out)?,
+        Some(known) => push_known(out, known)?,
+    }
+    push_end(out)
+}
+
+// The beginning of an object that has a text.
+fn push_text_open(out: &mut Vec<u8>, kind: &[u8]) -> Result<(), Refusal>
+    ensures ok { OnOk result (out.new.items ≡ out.old.items ++ text_opened kind.now) }
+    ensures err { IfErr result (λ e. e ≡ Refusal.OutOfMemory) }
+{
+    push_open(out, kind)?;
+    push_label(out, b"text")?;
+    push_byte(out, b'"')
+}
+
+// The end of an object that has a text, and of its line.
+fn push_text_close(out: &mut Vec<u8>) -> Result<(), Refusal>
+    ensures ok { OnOk result (out.new.items ≡ out.old.items ++ text_closed) }
+    ensures err { IfErr result (λ e. e ≡ Refusal.OutOfMemory) }
+{
+    push_bytes(out, b"\"}\n")
+}
+
+/// Appends that this node, which is asked, is down, as an object.
+///
+/// # Errors
+/// `OutOfMemory`. Then bytes of the line may stand at the end.
+pub fn push_down_object(out: &mut Vec<u8>, node: NodeId) -> Result<(), Refusal>
+    ensures ok { OnOk result (out.new.items ≡ out.old.items ++ text_object (codes "error") (down_text node)) }
+    ensures err { IfErr result (λ e. e ≡ Refusal.OutOfMemory) }
+{
+    push_text_open(out, b"error")?;
+    push_down_text(out, node)?;
+    push_text_close(out)
+}
+
+/// Appends that this node has written no snapshot, as an object.
+///
+/// # Errors
+/// `OutOfMemory`. Then bytes of the line may stand at the end.
+pub fn push_no_snapshot_object(out: &mut Vec<u8>, node: NodeId) -> Result<(), Refusal>
+    ensures ok { OnOk result (out.new.items ≡ out.old.items ++ text_object (codes "error") (no_snapshot_text node)) }
+    ensures err { IfErr result (λ e. e ≡ Refusal.OutOfMemory) }
+{
+    push_text_open(out, b"error")?;
+    push_no_snapshot_text(out, node)?;
+    push_text_close(out)
+}
+
+/// Appends the commands as an object.
+///
+/// # Errors
+/// `OutOfMemory`. Then bytes of the line may stand at the end.
+pub fn push_help_object(out: &mut Vec<u8>) -> Result<(), Refusal>
+    ensures ok { OnOk result (out.new.items ≡ out.old.items ++ text_object (codes "help") help_text) }
+    ensures err { IfErr result (λ e. e ≡ Refusal.OutOfMemory) }
+{
+    push_text_open(out, b"help")?;
+    push_help_text(out)?;
+    push_text_close(out)
+}
+
+/// Appends a fault as an object: what is wrong, and what is expected, where there are `nodes` nodes.
+///
+/// # Errors
+/// `OutOfMemory`. Then bytes of the line may stand at the end.
+pub fn push_fault_object(out: &mut Vec<u8>, nodes: Nodes, fault: LineFault) -> Result<(), Refusal>
+    ensures ok { OnOk result (out.new.items ≡ out.old.items ++ text_object (codes "error") (fault_text nodes fault)) }
+    ensures err { IfErr result (λ e. e ≡ Refusal.OutOfMemory) }
+{
+    push_text_open(out, b"error")?;
+    push_fault_text(out, nodes, fault)?;
+    push_text_close(out)
+}

@@ -1,0 +1,188 @@
+//! What is said to a line, in words or with JSON.
+
+ghost use Rattle.std.specs.Prelude.{◌≡◌, ◌++◌, OnOk, IfErr};
+ghost use Rattle.rr_shell.specs.Forms.{answer_said, list_said, move_said, stop_said, start_said, snapshot_said, no_snapshot_said, down_said, standing_said, help_said, fault_said};
+
+use crate::line_text::{
+    push_answer, push_down, push_fault, push_help, push_listing, push_move, push_no_snapshot,
+    push_snapshot, push_standing, push_start, push_stop,
+};
+use crate::listing::Listing;
+use crate::object_text::{
+    push_answer_object, push_down_object, push_fault_object, push_help_object,
+    push_listing_objects, push_no_snapshot_object, push_node_object, push_standing_object,
+};
+use crate::shell_line::LineFault;
+use crate::standing::Standing;
+use rr_script::Answer;
+use rr_types::{NodeId, Nodes, Refusal};
+
+/// Appends an answer: of a submit the reply, of a look the name and what was seen. It names no node.
+///
+/// # Errors
+/// `OutOfMemory`. Then bytes of the line may stand at the end.
+pub fn say_answer(out: &mut Vec<u8>, json: bool, answer: &Answer) -> Result<(), Refusal>
+    ensures ok { OnOk result (out.new.items ≡ out.old.items ++ answer_said json answer.now) }
+    ensures err { IfErr result (λ e. e ≡ Refusal.OutOfMemory) }
+{
+    if json {
+        push_answer_object(out, answer)
+    } else {
+        push_answer(out, answer)
+    }
+}
+
+/// Appends the bound names that were seen, a line each behind one that says how many they are; or that none was seen.
+///
+/// # Errors
+/// `OutOfMemory`. Then bytes of the line may stand at the end.
+pub fn say_listing(out: &mut Vec<u8>, json: bool, listing: &Listing) -> Result<(), Refusal>
+    ensures ok { OnOk result (out.new.items ≡ out.old.items ++ list_said json listing.now.names) }
+    ensures err { IfErr result (λ e. e ≡ Refusal.OutOfMemory) }
+{
+    if json {
+        push_listing_objects(out, listing)
+    } else {
+        push_listing(out, listing)
+    }
+}
+
+/// Appends that this node is asked from now on.
+///
+/// # Errors
+/// `OutOfMemory`. Then bytes of the line may stand at the end.
+pub fn say_move(out: &mut Vec<u8>, json: bool, node: NodeId) -> Result<(), Refusal>
+    ensures ok { OnOk result (out.new.items ≡ out.old.items ++ move_said json node) }
+    ensures err { IfErr result (λ e. e ≡ Refusal.OutOfMemory) }
+{
+    if json {
+        push_node_object(out, b"at", node)
+    } else {
+        push_move(out, node)
+    }
+}
+
+/// Appends that this node is down from now on.
+///
+/// # Errors
+/// `OutOfMemory`. Then bytes of the line may stand at the end.
+pub fn say_stop(out: &mut Vec<u8>, json: bool, node: NodeId) -> Result<(), Refusal>
+    ensures ok { OnOk result (out.new.items ≡ out.old.items ++ stop_said json node) }
+    ensures err { IfErr result (λ e. e ≡ Refusal.OutOfMemory) }
+{
+    if json {
+        push_node_object(out, b"stopped", node)
+    } else {
+        push_stop(out, node)
+    }
+}
+
+/// Appends that this node is up from now on.
+///
+/// # Errors
+/// `OutOfMemory`. Then bytes of the line may stand at the end.
+pub fn say_start(out: &mut Vec<u8>, json: bool, node: NodeId) -> Result<(), Refusal>
+    ensures ok { OnOk result (out.new.items ≡ out.old.items ++ start_said json node) }
+    ensures err { IfErr result (λ e. e ≡ Refusal.OutOfMemory) }
+{
+    if json {
+        push_node_object(out, b"started", node)
+    } else {
+        push_start(out, node)
+    }
+}
+
+/// Appends that this node has written a snapshot.
+///
+/// # Errors
+/// `OutOfMemory`. Then bytes of the line may stand at the end.
+pub fn say_snapshot(out: &mut Vec<u8>, json: bool, node: NodeId) -> Result<(), Refusal>
+    ensures ok { OnOk result (out.new.items ≡ out.old.items ++ snapshot_said json node) }
+    ensures err { IfErr result (λ e. e ≡ Refusal.OutOfMemory) }
+{
+    if json {
+        push_node_object(out, b"snapshot", node)
+    } else {
+        push_snapshot(out, node)
+    }
+}
+
+/// Appends that this node has written no snapshot.
+///
+/// # Errors
+/// `OutOfMemory`. Then bytes of the line may stand at the end.
+pub fn say_no_snapshot(out: &mut Vec<u8>, json: bool, node: NodeId) -> Result<(), Refusal>
+    ensures ok { OnOk result (out.new.items ≡ out.old.items ++ no_snapshot_said json node) }
+    ensures err { IfErr result (λ e. e ≡ Refusal.OutOfMemory) }
+{
+    if json {
+        push_no_snapshot_object(out, node)
+    } else {
+        push_no_snapshot(out, node)
+    }
+}
+
+/// Appends that this node, which is asked, is down.
+///
+/// # Errors
+/// `OutOfMemory`. Then bytes of the line may stand at the end.
+pub fn say_down(out: &mut Vec<u8>, json: bool, node: NodeId) -> Result<(), Refusal>
+    ensures ok { OnOk result (out.new.items ≡ out.old.items ++ down_said json node) }
+    ensures err { IfErr result (λ e. e ≡ Refusal.OutOfMemory) }
+{
+    if json {
+        push_down_object(out, node)
+    } else {
+        push_down(out, node)
+    }
+}
+
+/// Appends what a node tells of itself.
+///
+/// # Errors
+/// `OutOfMemory`. Then bytes of the line may stand at the end.
+pub fn say_standing(out: &mut Vec<u8>, json: bool, standing: &Standing) -> Result<(), Refusal>
+    ensures ok { OnOk result (out.new.items ≡ out.old.items ++ standing_said json standing.now) }
+    ensures err { IfErr result (λ e. e ≡ Refusal.OutOfMemory) }
+{
+    if json {
+        push_standing_object(out, standing)
+    } else {
+        push_standing(out, standing)
+    }
+}
+
+/// Appends the commands.
+///
+/// # Errors
+/// `OutOfMemory`. Then bytes of the line may stand at the end.
+pub fn say_help(out: &mut Vec<u8>, json: bool) -> Result<(), Refusal>
+    ensures ok { OnOk result (out.new.items ≡ out.old.items ++ help_said json) }
+    ensures err { IfErr result (λ e. e ≡ Refusal.OutOfMemory) }
+{
+    if json {
+        push_help_object(out)
+    } else {
+        push_help(out)
+    }
+}
+
+/// Appends a fault: what is wrong, and what is expected, where there are `nodes` nodes.
+///
+/// # Errors
+/// `OutOfMemory`. Then bytes of the line may stand at the end.
+pub fn say_fault(
+    out: &mut Vec<u8>,
+    json: bool,
+    nodes: Nodes,
+    fault: LineFault,
+) -> Result<(), Refusal>
+    ensures ok { OnOk result (out.new.items ≡ out.old.items ++ fault_said json nodes fault) }
+    ensures err { IfErr result (λ e. e ≡ Refusal.OutOfMemory) }
+{
+    if json {
+        push_fault_object(out, nodes, fault)
+    } else {
+        push_fault(out, nodes, fault)
+    }
+}

@@ -1,0 +1,123 @@
+-- The talk of a shell with n nodes, which answers with JSON or in words.
+use Rattle.std.specs.Prelude.{◌≡◌, ℕ, ◌+◌, ◌++◌, Bool, true, false, ◌&&◌, ◌==◌, List, [], Option, None, Some, Result, Ok, Err, Vec}
+use Rattle.std.specs.Str.{bytes_eq}
+use Rattle.std.specs.declared.alloc.Global.{Global}
+use Rattle.rr_types.specs.declared.command.Op.{Op}
+use Rattle.rr_script.specs.declared.answer.Answer.{Answer}
+use Rattle.rr_script.specs.declared.answer.Answer.TheVariants.{Acknowledged, Unacknowledged, Free, Bound, Unseen}
+use Rattle.rr_stream.specs.Streams.{Printing, Reading, IsPrinted, IsFrontPrinted}
+use Rattle.rr_talk.specs.declared.hearing.Heard.{Heard}
+use Rattle.rr_talk.specs.declared.hearing.Heard.TheVariants as heard
+use Rattle.rr_shell.specs.declared.listing.Listing.{Listing}
+use Rattle.rr_shell.specs.declared.standing.Standing.{Standing}
+use Rattle.rr_shell.specs.declared.shell_line.ShellLine.{ShellLine}
+use Rattle.rr_shell.specs.declared.shell_line.ShellLine.TheVariants.{Submit, Look, Names, At, Stop, Start, Snapshot, Status, Help, Quit}
+use Rattle.rr_shell.specs.declared.shell_line.LineFault.{LineFault}
+use Rattle.rr_shell.specs.declared.shell_line.LineFault.TheVariants.{TooLong}
+use Rattle.rr_talk.specs.declared.saying.Said.{Said}
+use Rattle.rr_talk.specs.declared.talking.Stop as breaks
+use Rattle.rr_talk.specs.Hearings.{Hears}
+use Rattle.rr_shell.specs.Lines.{shell_line_at}
+use Rattle.rr_shell.specs.Listings.{is_listing_at}
+use Rattle.rr_shell.specs.Forms.{answer_said, list_said, move_said, stop_said, start_said, snapshot_said, no_snapshot_said, down_said, standing_said, help_said, fault_said}
+
+-- whether an answer is node p's to a submit
+abbrev pub is_reply_at : ℕ → Answer → Bool
+is_reply_at p (Acknowledged q request reply) = q == p
+is_reply_at p (Unacknowledged q request) = q == p
+is_reply_at p _ = false
+
+-- whether an answer is node p's to a look at this name
+abbrev pub is_sight_at : ℕ → List ℕ → Answer → Bool
+is_sight_at p name (Free q seen) = (q == p) && bytes_eq seen name
+is_sight_at p name (Bound q seen owner value) = (q == p) && bytes_eq seen name
+is_sight_at p name (Unseen q seen) = (q == p) && bytes_eq seen name
+is_sight_at p name _ = false
+
+-- what the first k nodes tell of themselves, a line each
+pub data Stated (json : Bool) : ℕ → List ℕ → Type 0 where
+  nothing : Stated json 0 []
+  more : {k : ℕ} {text : List ℕ} → Stated json k text → (s : Standing) → s.node ≡ k → Stated json (k + 1) (text ++ standing_said json s)
+
+-- whether a line asks something of the node that is asked
+abbrev pub asks_node : ShellLine → Bool
+asks_node (Submit op) = true
+asks_node (Look name) = true
+asks_node (Names prefix) = true
+asks_node _ = false
+
+-- what is said to a line that asks for something at node p of n nodes, and the node that is asked then: the answer of node p to
+-- what it asks, or that this node is down; the names that it lists; the node that it moves to, stops or starts; that a node has
+-- written a snapshot, or hasn't; what each node tells; or the commands
+pub data Grants (json : Bool) (n p : ℕ) : ShellLine → ℕ → List ℕ → Type 0 where
+  submitted : (op : Op) (a : Answer) → is_reply_at p a ≡ true → Grants json n p (Submit op) p (answer_said json a)
+  looked : (name : List ℕ) (a : Answer) → is_sight_at p name a ≡ true → Grants json n p (Look name) p (answer_said json a)
+  listed : (prefix : Option (List ℕ)) (l : Listing) → is_listing_at p prefix l ≡ true → Grants json n p (Names prefix) p (list_said json l.names)
+  is_down : (asks : ShellLine) → asks_node asks ≡ true → Grants json n p asks p (down_said json p)
+  moved : (q : ℕ) → Grants json n p (At q) q (move_said json q)
+  stopped : (q : ℕ) → Grants json n p (Stop q) p (stop_said json q)
+  started : (q : ℕ) → Grants json n p (Start q) p (start_said json q)
+  written : (q : ℕ) → Grants json n p (Snapshot q) p (snapshot_said json q)
+  unwritten : (q : ℕ) → Grants json n p (Snapshot q) p (no_snapshot_said json q)
+  stated : (text : List ℕ) → Stated json n text → Grants json n p Status p text
+  helped : Grants json n p Help p (help_said json)
+
+-- what is said to what was heard where node p is asked, and the node that is asked then: to a line what it asks for, or why it
+-- asks for nothing; nothing to an empty line; and that a line is too long
+pub data Exchange (json : Bool) (n p : ℕ) : Heard → ℕ → List ℕ → Type 0 where
+  empty : (line : Vec ℕ Global) → line.items ≡ [] → Exchange json n p (heard.Line line) p []
+  granted : (line : Vec ℕ Global) (asks : ShellLine) (q : ℕ) (said : List ℕ) → shell_line_at n line.items ≡ Ok asks → Grants json n p asks q said → Exchange json n p (heard.Line line) q said
+  faulty : (line : Vec ℕ Global) (fault : LineFault) → shell_line_at n line.items ≡ Err fault → Exchange json n p (heard.Line line) p (fault_said json n fault)
+  too_long : Exchange json n p heard.TooLong p (fault_said json n TooLong)
+
+-- what ends a talk: a line that asks for that, or the end of the input
+abbrev pub IsLast : ℕ → Heard → Type 0
+IsLast n (heard.Line line) = shell_line_at n line.items ≡ Ok Quit
+IsLast n heard.TooLong = ⊥
+IsLast n heard.End = Unit {0}
+
+-- what is said to a line that asks for this at node p of n; none where it asks for the end
+abbrev pub IsSaidToRequest : Bool → ℕ → ℕ → ShellLine → Option Said → Type 0
+IsSaidToRequest json n p asks None = asks ≡ Quit
+IsSaidToRequest json n p asks (Some said) = Grants json n p asks said.node said.text.items
+
+-- what is said to what was heard where node p is asked; none where the talk is over
+abbrev pub IsSaidTo : Bool → ℕ → ℕ → Heard → Option Said → Type 0
+IsSaidTo json n p h None = IsLast n h
+IsSaidTo json n p h (Some said) = Exchange json n p h said.node said.text.items
+
+-- a turn where node p is asked, and the node that is asked then: something is heard, and what there is to say to it is printed and
+-- flushed; or the talk is over, and nothing is printed
+abbrev pub IsTurn : Bool → ℕ → ℕ → Reading → Reading → Printing → Printing → Option ℕ → Type 0
+IsTurn json n p from to old new None = (h : Heard) × Hears from to h × IsLast n h × (new ≡ old)
+IsTurn json n p from to old new (Some q) = (h : Heard) × (said : List ℕ) × Hears from to h × Exchange json n p h q said × IsPrinted old new said
+
+-- a talk so far, from an input and an output on: the node that is asked now, and the input and the output as they are now. Each line
+-- is answered, and the answer flushed, before the next is read
+pub data Talk (json : Bool) (n : ℕ) (from : Reading) (old : Printing) : ℕ → Reading → Printing → Type 0 where
+  begun : Talk json n from old 0 from old
+  said : {p q : ℕ} {r s : Reading} {a b : Printing} → Talk json n from old p r a → IsTurn json n p r s a b (Some q) → Talk json n from old q s b
+
+-- a talk that is over
+pub record HasTalked (json : Bool) (n : ℕ) (from to : Reading) (old new : Printing) : Type 0 where
+  pub node : ℕ
+  pub heard : Reading
+  pub talk : Talk json n from old node heard new
+  pub last : IsTurn json n node heard to new new None
+
+-- a front of some text was printed
+abbrev pub IsFrontSaid : Printing → Printing → Type 0
+IsFrontSaid old new = (said : List ℕ) × IsFrontPrinted old new said
+
+-- a talk that is broken off: a front of one more text may have been printed
+pub record BreaksOff (json : Bool) (n : ℕ) (from : Reading) (old new : Printing) : Type 0 where
+  pub node : ℕ
+  pub heard : Reading
+  pub printed : Printing
+  pub talk : Talk json n from old node heard printed
+  pub front : IsFrontSaid printed new
+
+-- a talk: over, or broken off
+abbrev pub Talks : Bool → ℕ → Reading → Reading → Printing → Printing → Result (Unit {0}) breaks.Stop → Type 0
+Talks json n from to old new (Ok done) = HasTalked json n from to old new
+Talks json n from to old new (Err stop) = BreaksOff json n from old new

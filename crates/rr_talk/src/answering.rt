@@ -1,0 +1,100 @@
+//! Whom a shell asks.
+
+ghost use Rattle.std.specs.Prelude.{◌≡◌, true, IfOk};
+ghost use Rattle.rr_shell.specs.Listings.{is_listing_at};
+ghost use Rattle.rr_talk.specs.Talks.{is_reply_at, is_sight_at};
+
+use rr_script::Answer;
+use rr_shell::{Listing, Standing};
+use rr_types::{Name, NodeId, Op, Refusal};
+
+/// Nodes that a shell asks.
+pub trait Asked {
+    /// Waits until they can be asked.
+    ///
+    /// # Errors
+    /// Why they can't be.
+    fn wait_until_ready(&mut self) -> Result<(), Refusal>;
+
+    /// Submits an operation at a node under a request number of its own, and waits for the reply.
+    ///
+    /// # Errors
+    /// Why the nodes can't be asked any more.
+    fn submit(&mut self, node: NodeId, op: &Op) -> Result<Answer, Refusal>
+        ensures { IfOk result (λ a. is_reply_at node a ≡ true) };
+
+    /// Looks at a name at a node.
+    ///
+    /// # Errors
+    /// Why the nodes can't be asked any more.
+    fn look(&mut self, node: NodeId, name: &Name) -> Result<Answer, Refusal>
+        ensures { IfOk result (λ a. is_sight_at node name.now a ≡ true) };
+
+    /// Lists the bound names at a node that begin so, or all.
+    ///
+    /// # Errors
+    /// Why the nodes can't be asked any more.
+    fn list(&mut self, node: NodeId, prefix: &Option<Name>) -> Result<Listing, Refusal>
+        ensures { IfOk result (λ l. is_listing_at node prefix.now l ≡ true) };
+
+    /// Whether a node can be asked: it hasn't been stopped since it was last started.
+    fn is_on(&self, node: NodeId) -> bool;
+
+    /// Stops a node, and waits until it is down. The others go on.
+    ///
+    /// # Errors
+    /// Why the nodes can't be asked any more.
+    fn stop(&mut self, node: NodeId) -> Result<(), Refusal>;
+
+    /// Starts a node, and waits until it is up.
+    ///
+    /// # Errors
+    /// Why the nodes can't be asked any more.
+    fn start(&mut self, node: NodeId) -> Result<(), Refusal>;
+
+    /// Has a node write a snapshot of its facts. Answers whether it is written.
+    ///
+    /// # Errors
+    /// Why the nodes can't be asked any more.
+    fn snapshot(&mut self, node: NodeId) -> Result<bool, Refusal>;
+
+    /// What a node tells of itself.
+    ///
+    /// # Errors
+    /// Why the nodes can't be asked any more.
+    fn standing(&mut self, node: NodeId) -> Result<Standing, Refusal>
+        ensures { IfOk result (λ s. s.node ≡ node) };
+}
+
+/// Whether an answer is this node's to a submit.
+pub fn is_reply_at(node: NodeId, answer: &Answer) -> bool
+    ensures { result ≡ is_reply_at node answer.now }
+{
+    match answer {
+        Answer::Acknowledged { node: own, .. } => own.index() == node.index(),
+        Answer::Unacknowledged { node: own, .. } => own.index() == node.index(),
+        _ => false,
+    }
+}
+
+/// Whether an answer is this node's to a look at this name.
+pub fn is_sight_at(node: NodeId, name: &Name, answer: &Answer) -> bool
+    ensures { result ≡ is_sight_at node name.now answer.now }
+{
+    match answer {
+        Answer::Free {
+            node: own,
+            name: seen,
+        } => own.index() == node.index() && seen == name,
+        Answer::Bound {
+            node: own,
+            name: seen,
+            ..
+        } => own.index() == node.index() && seen == name,
+        Answer::Unseen {
+            node: own,
+            name: seen,
+        } => own.index() == node.index() && seen == name,
+        _ => false,
+    }
+}

@@ -1,0 +1,14 @@
+//! The talk of a shell with nodes that run: it hears a line, asks the nodes what the line asks (`Asked`), and says the answer. It
+//! has no threads.
+#![tactic(auto)]
+
+mod answering;
+mod hearing;
+mod prompting;
+mod saying;
+mod talking;
+
+pub use answering::{Asked, is_reply_at, is_sight_at};
+pub use hearing::{Heard, hear};
+pub use prompting::{Prompted, Prompting};
+pub use talking::{Stop, talk};

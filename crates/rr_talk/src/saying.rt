@@ -1,0 +1,194 @@
+//! What is said to a line that asks for something.
+
+ghost use Rattle.std.specs.Prelude.{◌≡◌, ◌<◌, true, IfOk};
+ghost use Rattle.rr_talk.specs.Talks.{Stated, asks_node, IsSaidToRequest};
+ghost use Rattle.rr_shell.specs.Forms.{answer_said, list_said, move_said, stop_said, start_said, snapshot_said, no_snapshot_said, down_said, help_said, fault_said};
+
+use crate::answering::Asked;
+use rr_script::Answer;
+use rr_shell::{
+    LineFault, Listing, ShellLine, say_answer, say_down, say_fault, say_help, say_listing,
+    say_move, say_no_snapshot, say_snapshot, say_standing, say_start, say_stop,
+};
+use rr_types::{Name, NodeId, Nodes, Op, Refusal, Reply, Value, made_of};
+use std::alloc::Global;
+
+/// What is said to a line, and which node is asked from then on.
+#[derive(Debug, Drop)]
+pub struct Said {
+    pub node: NodeId,
+    pub text: Vec<u8>,
+}
+
+fn answered(alloc: Global, json: bool, node: NodeId, answer: &Answer) -> Result<Said, Refusal>
+    ensures { IfOk result (λ s. (s.node ≡ node) × (s.text.items ≡ answer_said json answer.now)) }
+{
+    let mut text = Vec::new(alloc);
+    say_answer(&mut text, json, answer)?;
+    Ok(Said { node, text })
+}
+
+fn listed(alloc: Global, json: bool, node: NodeId, listing: &Listing) -> Result<Said, Refusal>
+    ensures { IfOk result (λ s. (s.node ≡ node) × (s.text.items ≡ list_said json listing.now.names)) }
+{
+    let mut text = Vec::new(alloc);
+    say_listing(&mut text, json, listing)?;
+    Ok(Said { node, text })
+}
+
+fn moved(alloc: Global, json: bool, node: NodeId) -> Result<Said, Refusal>
+    ensures { IfOk result (λ s. (s.node ≡ node) × (s.text.items ≡ move_said json node)) }
+{
+    let mut text = Vec::new(alloc);
+    say_move(&mut text, json, node)?;
+    Ok(Said { node, text })
+}
+
+fn stopped(alloc: Global, json: bool, node: NodeId, next: NodeId) -> Result<Said, Refusal>
+    ensures { IfOk result (λ s. (s.node ≡ node) × (s.text.items ≡ stop_said json next)) }
+{
+    let mut text = Vec::new(alloc);
+    say_stop(&mut text, json, next)?;
+    Ok(Said { node, text })
+}
+
+fn started(alloc: Global, json: bool, node: NodeId, next: NodeId) -> Result<Said, Refusal>
+    ensures { IfOk result (λ s. (s.node ≡ node) × (s.text.items ≡ start_said json next)) }
+{
+    let mut text = Vec::new(alloc);
+    say_start(&mut text, json, next)?;
+    Ok(Said { node, text })
+}
+
+fn written(alloc: Global, json: bool, node: NodeId, next: NodeId) -> Result<Said, Refusal>
+    ensures { IfOk result (λ s. (s.node ≡ node) × (s.text.items ≡ snapshot_said json next)) }
+{
+    let mut text = Vec::new(alloc);
+    say_snapshot(&mut text, json, next)?;
+    Ok(Said { node, text })
+}
+
+fn unwritten(alloc: Global, json: bool, node: NodeId, next: NodeId) -> Result<Said, Refusal>
+    ensures { IfOk result (λ s. (s.node ≡ node) × (s.text.items ≡ no_snapshot_said json next)) }
+{
+    let mut text = Vec::new(alloc);
+    say_no_snapshot(&mut text, json, next)?;
+    Ok(Said { node, text })
+}
+
+fn down(alloc: Global, json: bool, node: NodeId) -> Result<Said, Refusal>
+    ensures { IfOk result (λ s. (s.node ≡ node) × (s.text.items ≡ down_said json node)) }
+{
+    let mut text = Vec::new(alloc);
+    say_down(&mut text, json, node)?;
+    Ok(Said { node, text })
+}
+
+// What all nodes tell of themselves.
+fn stated<A: Asked>(
+    alloc: Global,
+    json: bool,
+    nodes: Nodes,
+    node: NodeId,
+    asked: &mut A,
+) -> Result<Said, Refusal>
+    ensures { IfOk result (λ s. (s.node ≡ node) × Stated json nodes s.text.items) }
+{
+    let mut text = Vec::new(alloc);
+    for index in 0..nodes.count() {
+        let Some(next) = NodeId::new(nodes, index) else {
+            unreachable!()
+        };
+        let standing = asked.standing(next)?;
+        say_standing(&mut text, json, &standing)?;
+    }
+    Ok(Said { node, text })
+}
+
+fn helped(alloc: Global, json: bool, node: NodeId) -> Result<Said, Refusal>
+    ensures { IfOk result (λ s. (s.node ≡ node) × (s.text.items ≡ help_said json)) }
+{
+    let mut text = Vec::new(alloc);
+    say_help(&mut text, json)?;
+    Ok(Said { node, text })
+}
+
+/// What is said to a line that asks for nothing.
+pub fn faulted(
+    alloc: Global,
+    json: bool,
+    nodes: Nodes,
+    node: NodeId,
+    fault: LineFault,
+) -> Result<Said, Refusal>
+    ensures { IfOk result (λ s. (s.node ≡ node) × (s.text.items ≡ fault_said json nodes fault)) }
+{
+    let mut text = Vec::new(alloc);
+    say_fault(&mut text, json, nodes, fault)?;
+    Ok(Said { node, text })
+}
+
+// Whether a line asks something of the node that is asked.
+fn asks_node(line: &ShellLine) -> bool
+    ensures { result ≡ asks_node line.now }
+{
+    match line {
+        ShellLine::Submit(_) => true,
+        ShellLine::Look(_) => true,
+        ShellLine::Names(_) => true,
+        _ => false,
+    }
+}
+
+// Whether a line asks something of the node that is asked, and that is down.
+fn asks_in_vain<A: Asked>(asked: &A, node: NodeId, line: &ShellLine) -> bool
+    ensures { result ≡ true → asks_node line.now ≡ true }
+{
+    asks_node(line) && !asked.is_on(node)
+}
+
+/// What is said to a line that asks for this at a node. None: the talk is over.
+pub fn said_to_request<A: Asked>(
+    alloc: Global,
+    json: bool,
+    nodes: Nodes,
+    node: NodeId,
+    asked: &mut A,
+    line: &ShellLine,
+) -> Result<Option<Said>, Refusal>
+    ensures { IfOk result (IsSaidToRequest json nodes node line.now) }
+{
+    made_of!(Answer, Name, Op, Reply, Value);
+    if asks_in_vain(asked, node, line) {
+        return Ok(Some(down(alloc, json, node)?));
+    }
+    match line {
+        ShellLine::Submit(op) => Ok(Some(answered(alloc, json, node, &asked.submit(node, op)?)?)),
+        ShellLine::Look(name) => Ok(Some(answered(alloc, json, node, &asked.look(node, name)?)?)),
+        ShellLine::Names(prefix) => Ok(Some(listed(
+            alloc,
+            json,
+            node,
+            &asked.list(node, prefix)?,
+        )?)),
+        ShellLine::At(next) => Ok(Some(moved(alloc, json, *next)?)),
+        ShellLine::Stop(next) => {
+            asked.stop(*next)?;
+            Ok(Some(stopped(alloc, json, node, *next)?))
+        }
+        ShellLine::Start(next) => {
+            asked.start(*next)?;
+            Ok(Some(started(alloc, json, node, *next)?))
+        }
+        ShellLine::Snapshot(next) => {
+            if asked.snapshot(*next)? {
+                Ok(Some(written(alloc, json, node, *next)?))
+            } else {
+                Ok(Some(unwritten(alloc, json, node, *next)?))
+            }
+        }
+        ShellLine::Status => Ok(Some(stated(alloc, json, nodes, node, asked)?)),
+        ShellLine::Help => Ok(Some(helped(alloc, json, node)?)),
+        ShellLine::Quit => Ok(None),
+    }
+}

@@ -1,0 +1,120 @@
+//! The talk of a shell: it hears a line, says what there is to say to it, and hears the next.
+
+ghost use Rattle.std.specs.Prelude.{◌≡◌, ◌<◌, IfOk, OnErr};
+ghost use Rattle.rr_talk.specs.Talks.{IsSaidTo, IsTurn, IsFrontSaid, Talks};
+
+use crate::answering::Asked;
+use crate::hearing::{Heard, hear};
+use crate::prompting::Prompting;
+use crate::saying::{Said, faulted, said_to_request};
+use rr_shell::{LineFault, read_shell_line};
+use rr_stream::{Sink, print_all};
+use rr_types::{NodeId, Nodes, Refusal};
+use std::alloc::Global;
+use std::io;
+
+/// Why a talk is broken off.
+#[derive(Debug)]
+pub enum Stop {
+    /// Memory ran out, or the nodes can't be asked any more.
+    Refused(Refusal),
+    /// The input failed.
+    Unread(io::Error),
+    /// The output failed.
+    Unprinted(io::Error),
+}
+
+// What is said to what was heard, where this node is asked. None: the talk is over.
+fn said_to<A: Asked>(
+    alloc: Global,
+    json: bool,
+    nodes: Nodes,
+    node: NodeId,
+    asked: &mut A,
+    heard: &Heard,
+) -> Result<Option<Said>, Refusal>
+    ensures { IfOk result (IsSaidTo json nodes node heard.now) }
+{
+    let line = match heard {
+        Heard::Line(line) => line.as_slice(),
+        Heard::TooLong => return Ok(Some(faulted(alloc, json, nodes, node, LineFault::TooLong)?)),
+        Heard::End => return Ok(None),
+    };
+    if let [] = line {
+        let text = Vec::new(alloc);
+        return Ok(Some(Said { node, text }));
+    }
+    match read_shell_line(nodes, line) {
+        Ok(line) => said_to_request(alloc, json, nodes, node, asked, &line),
+        Err(fault) => Ok(Some(faulted(alloc, json, nodes, node, fault)?)),
+    }
+}
+
+// Hears a line and says what there is to say to it, where this node is asked. The node that is asked then; none: the talk is over.
+fn take_turn<I: Prompting, O: Sink, A: Asked>(
+    alloc: Global,
+    json: bool,
+    nodes: Nodes,
+    node: NodeId,
+    asked: &mut A,
+    input: &mut I,
+    out: &mut O,
+) -> Result<Option<NodeId>, Stop>
+    ensures turn { IfOk result (IsTurn json nodes node (I.reading input.old) (I.reading input.new) (O.printing out.old) (O.printing out.new)) }
+    ensures front { OnErr result (IsFrontSaid (O.printing out.old) (O.printing out.new)) }
+{
+    input.prompt();
+    let heard = match hear(alloc, input) {
+        Ok(heard) => heard,
+        Err(error) => return Err(Stop::Unread(error)),
+    };
+    let said = match said_to(alloc, json, nodes, node, asked, &heard) {
+        Ok(Some(said)) => said,
+        Ok(None) => return Ok(None),
+        Err(refusal) => return Err(Stop::Refused(refusal)),
+    };
+    let Said { node, text } = said;
+    match print_all(out, text.as_slice()) {
+        Ok(()) => Ok(Some(node)),
+        Err(error) => Err(Stop::Unprinted(error)),
+    }
+}
+
+// The node that is asked first.
+fn first_node(nodes: Nodes) -> NodeId
+    ensures { result ≡ 0 }
+{
+    match NodeId::new(nodes, 0) {
+        Some(node) => node,
+        None => unreachable!(),
+    }
+}
+
+/// Waits until the nodes can be asked. Then it hears line after line, each behind a prompt where somebody types, and says to each
+/// what there is to say, in words or with JSON, before it hears the next. It ends with a line that asks for that, or with the input. Node 0 is asked first.
+///
+/// # Errors
+/// `Refused`: what `asked` refuses with, or `OutOfMemory`; `Unread` and `Unprinted`: those of the streams. By then a front of
+/// one more line may have been said.
+pub fn talk<I: Prompting, O: Sink, A: Asked>(
+    alloc: Global,
+    nodes: Nodes,
+    json: bool,
+    asked: &mut A,
+    input: &mut I,
+    out: &mut O,
+) -> Result<(), Stop>
+    ensures { Talks json nodes (I.reading input.old) (I.reading input.new) (O.printing out.old) (O.printing out.new) result }
+{
+    if let Err(refusal) = asked.wait_until_ready() {
+        return Err(Stop::Refused(refusal));
+    }
+    let mut node = first_node(nodes);
+    'turns: for _ in 0..u64::MAX {
+        match take_turn(alloc, json, nodes, node, asked, input, out)? {
+            Some(next) => node = next,
+            None => return Ok(()),
+        }
+    }
+    Err(Stop::Refused(Refusal::TooLarge))
+}
