@@ -4,7 +4,7 @@
     bench/looks.py [--program PROGRAM] [--rounds N] [--looks N] [--disk FOLDER]
 
 One node without a writer, one node with one, and seven nodes with seven, which flush to a disk; with one reader and with
-two. The most of the rounds, which run in turns. The program is crates/bench_looks/out/bench_looks if left out."""
+two. The most of the rounds, which run in turns. The program is crates/bench_clients/out/bench_clients if left out."""
 import argparse
 import pathlib
 import re
@@ -12,6 +12,8 @@ import subprocess
 import tempfile
 
 HERE = pathlib.Path(__file__).resolve().parent
+# More commands than a writer makes.
+COMMANDS = 1_000_000
 # Nodes and writers.
 RUNS = ((1, 0), (1, 1), (7, 7))
 
@@ -19,16 +21,16 @@ RUNS = ((1, 0), (1, 1), (7, 7))
 def look(program, nodes, writers, readers, looks, disk):
     """Runs the program over fresh folders; gives the looks a second of a reader, and the commands acknowledged meanwhile."""
     with tempfile.TemporaryDirectory(dir=disk) as folder:
-        words = [program, *map(str, (nodes, writers, readers, looks)), folder]
+        words = [program, *map(str, (nodes, writers, COMMANDS, readers, looks)), folder]
         told = subprocess.run(words, capture_output=True, text=True, check=True)
     assert told.stdout == f"looks {readers * looks}\n", told.stdout
-    _, acknowledged, micros = map(int, re.findall(r"\d+", told.stderr))
+    _, acknowledged, micros, _, _ = map(int, re.findall(r"\d+", told.stderr))
     return looks / micros * 1_000_000, acknowledged
 
 
 def main():
     words = argparse.ArgumentParser(description=__doc__, formatter_class=argparse.RawDescriptionHelpFormatter)
-    words.add_argument("--program", default=str(HERE.parent / "crates/bench_looks/out/bench_looks"))
+    words.add_argument("--program", default=str(HERE.parent / "crates/bench_clients/out/bench_clients"))
     words.add_argument("--rounds", type=int, default=3)
     words.add_argument("--looks", type=int, default=10_000_000)
     words.add_argument("--disk", default="/var/tmp")

@@ -1,13 +1,16 @@
 #!/usr/bin/env python3
-"""`rr shell` is killed at random moments, over one folder again and again, while names are claimed and updated line by line. A
-fresh folder follows before names run out, of which a cluster binds 4,096.
+"""`rr shell` is killed at random moments, over one folder again and again, while names are claimed and updated line by line, and
+nodes are stopped and started, so that a majority is up, and write snapshots. A fresh folder follows before names run out, of which a cluster binds
+4,096.
 
     hostile/shell_kills.py RR [--count 50] [--seed 1] [--nodes 3] [--seconds 600]
 
-RR is the program. Behind each kill it is started again over the same folder, and each answer that was read before has to hold: at
-once at the node that gave it, and at every node once that has acknowledged a command that came later. The command whose answer
-wasn't read counts or doesn't; its name is used no more. The file of request numbers never holds a part of a number, and grows
-by one block a start. The script ends with status 1 where something is otherwise; it ends by itself, and removes its folder."""
+RR is the program. A node that is started again has at once what it answered before. Behind each kill `rr run` asks some of the
+answered requests once more, and each has its reply. Then the shell is started again over the same folder, and each answer that
+was read before has to hold: at once at the node that gave it, and at every node once that has acknowledged a command that came
+later; there a list has all names, and no other. The command whose answer wasn't read counts or doesn't; its name is used no
+more. The file of request numbers never holds a part of a number, and grows by one block a start. The script ends with status 1
+where something is otherwise; it ends by itself, and removes its folder."""
 import argparse
 import collections
 import os
@@ -22,7 +25,9 @@ import time
 
 MOST_NAMES = 2000
 BLOCK = 1048576
-LIMIT = 20
+LIMIT = 60
+REPEATED = 10
+REPLIES = {"claim": "claimed", "update": "updated"}
 
 
 class Wrong(Exception):
@@ -36,13 +41,20 @@ class Shell:
         words = [rr, "shell", "--nodes", str(nodes), "--dir", folder, "--client", "7"]
         self.child = subprocess.Popen(words, stdin=subprocess.PIPE, stdout=subprocess.PIPE, stderr=subprocess.PIPE, bufsize=0)
         self.read = b""
+        self.asked = 0
 
     def ask(self, line):
         """The answer to a line; None where the shell has gone before it gave one."""
+        if line.split()[0] in REPLIES:
+            self.asked += 1
         try:
             self.child.stdin.write(line.encode() + b"\n")
         except BrokenPipeError:
             return None
+        return self.hear(line)
+
+    def hear(self, line):
+        """The next line of the answer to a line; None where the shell has gone before it gave one."""
         while b"\n" not in self.read:
             if not select.select([self.child.stdout], [], [], LIMIT)[0]:
                 raise Wrong(f"no answer to {line!r} in {LIMIT} seconds")
@@ -102,6 +114,50 @@ def need(holds, what):
         raise Wrong(what)
 
 
+def listed(shell, names, counts):
+    """Whether the node that is asked lists what has to hold, and of names in doubt what may."""
+    lines = {}
+    for _ in range(int(shell.ask("list").removeprefix("list "))):
+        line = shell.hear("list")
+        lines[line.split()[0]] = line
+    need(list(lines) == sorted(lines), "a list isn't in order")
+    for name, line in lines.items():
+        values = {names.values[name]} if name in names.values else names.doubted.get(name, set())
+        need(line in {told(name, value) for value in values}, f"a list has {line!r}, wanted one of {values}")
+    for name in names.values:
+        need(name in lines, f"a list lacks {name}")
+    counts["lists that held"] += 1
+
+
+def repeat(asked, folder, answered, rng, counts):
+    """Asks some of these requests once more, in a run over the folder: each has the reply that it had."""
+    again = rng.sample(answered, min(REPEATED, len(answered)))
+    with tempfile.NamedTemporaryFile("w", suffix=".script") as script:
+        script.writelines(f"submit {node} 7 {number} {line}\n" for node, number, line in again)
+        script.flush()
+        words = [asked.rr, "run", "--nodes", str(asked.nodes), "--dir", folder, "--script", script.name]
+        ran = subprocess.run(words, capture_output=True, text=True, timeout=LIMIT)
+    wanted = "".join(f"ack {node} 7.{number} {REPLIES[line.split()[0]]}\n" for node, number, line in again)
+    need((ran.returncode, ran.stdout, ran.stderr) == (0, wanted, ""), f"{again} answered {ran}")
+    counts["requests repeated"] += len(again)
+
+
+def claim(shell, names, node, counts):
+    """Claims new names at the node that is asked until one is acknowledged: behind a kill that may wait for nodes to tick."""
+    begun, answer = time.monotonic(), None
+    while answer != "claimed":
+        need(time.monotonic() - begun < LIMIT, f"no claim is acknowledged at node {node} in {LIMIT} seconds")
+        names.made += 1
+        fresh = f"name-{names.made}"
+        answer = shell.ask(f"claim {fresh} x")
+        need(answer in ("claimed", "unacknowledged"), f"claim {fresh} at node {node}: {answer!r}")
+        if answer == "claimed":
+            names.acknowledge(node, fresh, "x")
+        else:
+            names.doubt(fresh, "x")
+            counts["commands that took more than five seconds"] += 1
+
+
 def check(shell, names, counts, nodes):
     """Whether all that was answered holds in a shell that was started again."""
     for name, node in list(names.nodes.items()):
@@ -112,10 +168,7 @@ def check(shell, names, counts, nodes):
             counts["answers that held at their node"] += 1
     for node in range(nodes):
         shell.ask(f"at {node}")
-        names.made += 1
-        fresh = f"name-{names.made}"
-        need(shell.ask(f"claim {fresh} x") == "claimed", f"{fresh} isn't claimed at node {node}")
-        names.acknowledge(node, fresh, "x")
+        claim(shell, names, node, counts)
         for name, value in names.values.items():
             answer = shell.ask(f"look {name}")
             need(answer == told(name, value), f"node {node}: {answer!r}, wanted {told(name, value)!r}")
@@ -123,6 +176,7 @@ def check(shell, names, counts, nodes):
         for name, values in names.doubted.items():
             answer = shell.ask(f"look {name}")
             need(answer in {told(name, value) for value in values}, f"node {node}: {answer!r}, wanted one of {values}")
+        listed(shell, names, counts)
 
 
 def stored(folder):
@@ -136,23 +190,69 @@ def stored(folder):
     return int(data)
 
 
-def play(shell, names, rng, counts, nodes):
-    """Asks until the shell is gone. Answers whether a command was in doubt then."""
-    node = 0
-    while True:
-        if rng.random() < 0.2:
-            node = rng.randrange(nodes)
+def switch(shell, names, rng, counts, ups, nodes):
+    """Stops a node, while a majority stays up, or starts the one that is down. Answers whether the shell is there still."""
+    node = rng.choice([node for node in range(nodes) if node not in ups] or range(nodes))
+    if node not in ups:
+        answer = shell.ask(f"start {node}")
+        if answer is None:
+            return False
+        need(answer == f"started {node}", f"start {node}: {answer!r}")
+        ups.add(node)
+        own = sorted(name for name, last in names.nodes.items() if last == node and name in names.values)
+        for name in rng.sample(own, min(REPEATED, len(own))):
             if shell.ask(f"at {node}") is None:
-                return
+                return False
+            answer = shell.ask(f"look {name}")
+            if answer is None:
+                return False
+            need(answer == told(name, names.values[name]), f"node {node}, started again: {answer!r}, wanted {names.values[name]!r}")
+            counts["answers that held at a node started again"] += 1
+    elif 2 * (len(ups) - 1) > nodes:
+        answer = shell.ask(f"stop {node}")
+        if answer is None:
+            return False
+        need(answer == f"stopped {node}", f"stop {node}: {answer!r}")
+        ups.remove(node)
+        counts["stops"] += 1
+    return True
+
+
+def snapshot(shell, rng, counts, ups):
+    """Has a node that is up write a snapshot. Answers whether the shell is there still."""
+    node = rng.choice(sorted(ups))
+    answer = shell.ask(f"snapshot {node}")
+    if answer is None:
+        return False
+    need(answer == f"snapshot {node}", f"snapshot {node}: {answer!r}")
+    counts["snapshots"] += 1
+    return True
+
+
+def play(shell, names, rng, counts, nodes, first):
+    """Asks until the shell is gone, whose first request number is given. The requests that were answered."""
+    node, ups, answered = 0, set(range(nodes)), []
+    while True:
+        # (a node that was down long takes long to catch up)
+        if rng.random() < (0.03 if len(ups) == nodes else 0.5) and not switch(shell, names, rng, counts, ups, nodes):
+            return answered
+        if rng.random() < 0.05 and not snapshot(shell, rng, counts, ups):
+            return answered
+        if rng.random() < 0.2 or node not in ups:
+            node = rng.choice(sorted(ups))
+        if shell.ask(f"at {node}") is None:
+            return answered
         verb, name, value = names.draw(rng, node)
+        number = first + shell.asked
         answer = shell.ask(f"{verb} {name} {value}")
         if answer is None or answer == "unacknowledged":
             names.doubt(name, value)
             counts["commands in doubt"] += 1
             if answer is None:
-                return
+                return answered
         else:
-            need(answer == {"claim": "claimed", "update": "updated"}[verb], f"{verb} {name}: {answer!r}")
+            need(answer == REPLIES[verb], f"{verb} {name}: {answer!r}")
+            answered.append((node, number, f"{verb} {name} {value}"))
             names.acknowledge(node, name, value)
             counts["answers"] += 1
 
@@ -167,13 +267,15 @@ def kills(asked, folder, counts):
         shell = Shell(asked.rr, asked.nodes, folder)
         timer = threading.Timer(rng.uniform(0, 0.12), shell.child.kill)
         timer.start()
-        play(shell, names, rng, counts, asked.nodes)
+        answered = play(shell, names, rng, counts, asked.nodes, before)
         timer.join()
         status, said = shell.end()
         need(status == -9 and not said, f"status {status}: {said!r}")
         counts["kills"] += 1
         number = stored(folder)
         need(before <= number <= before + BLOCK, f"the file of numbers went from {before} to {number}")
+        if answered:
+            repeat(asked, folder, answered, rng, counts)
         shell = Shell(asked.rr, asked.nodes, folder)
         check(shell, names, counts, asked.nodes)
         status, said = shell.end()
