@@ -30,7 +30,7 @@ CLIENTS = (1, 8, 64)
 NODES = (1, 3, 7)
 VALUE = "203.0.113.7:8443"
 PEER, CLIENT = 23800, 23790
-COUNTED = 200
+COUNTED = 60
 
 
 def read_words():
