@@ -10,6 +10,7 @@ use rr_types::{Body, Command, Message, Name, Nodes, Op, Refusal, Value, made_of}
 use rr_wire::{decode, encode};
 use std::alloc::Global;
 use std::fs;
+use std::os::unix::fs::FileExt;
 use std::rt::Files;
 
 /// The folder for the files of a question, which is made in the present one.
@@ -27,7 +28,10 @@ pub struct Answer {
 }
 
 /// What `rr` gives by these words with these bytes on standard input.
-fn run<R: Files + AllocGlobal>(rt: &R, words: &[&str], input: &[u8]) -> Answer {
+fn run<R: Files + AllocGlobal>(rt: &R, words: &[&str], input: &[u8]) -> Answer
+where
+    R::File: FileExt,
+{
     let mut out = Counted::new(Vec::new(rt.alloc()));
     let mut err = Vec::new(rt.alloc());
     let status = execute(rt, words, &mut Counted::new(input), &mut out, &mut err);
@@ -46,7 +50,10 @@ fn put_area<R: Files + AllocGlobal>(rt: &R, name: &str, bytes: &[u8]) -> Result<
 }
 
 /// What `rr` shows of these areas.
-fn show<R: Files + AllocGlobal>(rt: &R, first: &[u8], second: &[u8]) -> Result<Answer> {
+fn show<R: Files + AllocGlobal>(rt: &R, first: &[u8], second: &[u8]) -> Result<Answer>
+where
+    R::File: FileExt,
+{
     fs::create_dir_all(rt, ROOM)?;
     put_area(rt, "a0", first)?;
     put_area(rt, "a1", second)?;
@@ -109,7 +116,10 @@ fn read_script(alloc: Global, nodes: &str, bytes: &[u8]) -> Result<Answer> {
 }
 
 /// What is answered to a question.
-pub fn answer_to<R: Files + AllocGlobal>(rt: &R, question: &Question<'_>) -> Result<Answer> {
+pub fn answer_to<R: Files + AllocGlobal>(rt: &R, question: &Question<'_>) -> Result<Answer>
+where
+    R::File: FileExt,
+{
     match *question {
         Question::Simulate(text) => Ok(run(rt, &["rr", "sim"], text)),
         Question::Audit(text) => Ok(run(rt, &["rr", "audit"], text)),

@@ -14,6 +14,7 @@ use crate::run::{Library, outcome_of, prepare};
 use rr_run::Lockable;
 use std::fs::OpenFile;
 use std::io::{ErrorKind, Read, Seek, Write};
+use std::os::unix::fs::FileExt;
 use std::rt::Files;
 use std::sync::Wait;
 use std::thread::Threads;
@@ -21,7 +22,7 @@ use std::{env, fs, io};
 
 /// Whether a row gives what it wants; what came otherwise is printed.
 fn is_right<
-    F: Read + Write + Seek + OpenFile + Drop + Send + Lockable,
+    F: Read + Write + Seek + FileExt + OpenFile + Drop + Send + Lockable,
     R: Files<File = F> + Print + AllocGlobal + Threads + Wait + Sync,
 >(rt: &R, library: Library, row: &str) -> io::Result<bool> {
     prepare(rt, row)?;
@@ -31,7 +32,7 @@ fn is_right<
 
 /// How many rows of a file come otherwise.
 fn count_faults<
-    F: Read + Write + Seek + OpenFile + Drop + Send + Lockable,
+    F: Read + Write + Seek + FileExt + OpenFile + Drop + Send + Lockable,
     R: Files<File = F> + Print + AllocGlobal + Threads + Wait + Sync,
 >(rt: &R, library: Library, path: &str) -> io::Result<u64> {
     let text = fs::read_to_string(rt, path)?;

@@ -6,6 +6,7 @@ use rr_stream::Counted;
 use std::alloc::{AllocError, Global};
 use std::fs::OpenFile;
 use std::io::{ErrorKind, Read, Seek, Write};
+use std::os::unix::fs::FileExt;
 use std::rt::Files;
 use std::sync::Wait;
 use std::thread::Threads;
@@ -83,7 +84,7 @@ fn text(bytes: Vec<u8>) -> io::Result<String> {
 
 /// What the words of a row give with this input.
 fn run<
-    F: Read + Write + Seek + OpenFile + Drop + Send + Lockable,
+    F: Read + Write + Seek + FileExt + OpenFile + Drop + Send + Lockable,
     R: Files<File = F> + AllocGlobal + Threads + Wait + Sync,
 >(rt: &R, library: Library, words: &[&str], input: &str) -> io::Result<Outcome> {
     let mut input = Counted::new(input.as_bytes());
@@ -103,7 +104,7 @@ fn run<
 
 /// What a row gives: it has one line `rr WORDS`.
 pub fn outcome_of<
-    F: Read + Write + Seek + OpenFile + Drop + Send + Lockable,
+    F: Read + Write + Seek + FileExt + OpenFile + Drop + Send + Lockable,
     R: Files<File = F> + AllocGlobal + Threads + Wait + Sync,
 >(rt: &R, library: Library, row: &str) -> io::Result<Outcome> {
     let input = input_of(rt.alloc(), row)?;

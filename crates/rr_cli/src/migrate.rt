@@ -21,6 +21,7 @@ use rr_stream::Sink;
 use rr_types::{NodeId, Nodes, Refusal};
 use std::alloc::Global;
 use std::io::Write;
+use std::os::unix::fs::FileExt;
 use std::rt::Files;
 
 /// A node of a cluster, and how many nodes that has.
@@ -76,6 +77,8 @@ pub fn migrate_disk<D: Disk + Drop>(
 
 // Migrates the disk in a folder. Its files are opened to read and write, and nothing is made that is missing.
 fn folder_text<R: Files + AllocGlobal>(rt: &R, folder: &str, seat: Seat) -> Result<Vec<u8>, Refusal>
+where
+    R::File: FileExt,
     requires exists { seat.node < seat.nodes }
     ensures some { IfOk result TellsSome }
     ensures cause { IfErr result IsUnmigrated }
@@ -94,6 +97,8 @@ fn migrate_folder<R: Files + AllocGlobal, O: Sink, E: Write>(
     out: &mut O,
     err: &mut E,
 ) -> u8
+where
+    R::File: FileExt,
     requires exists { seat.node < seat.nodes }
     ensures ends { EndsOnMigration result (O.printing out.old) (O.printing out.new) }
     ensures quiet { result ≡ 0 → Keeps (E.contents err.old) (E.contents err.new) }
@@ -127,6 +132,8 @@ pub(crate) fn migrate_by_words<R: Files + AllocGlobal, O: Sink, E: Write>(
     out: &mut O,
     err: &mut E,
 ) -> u8
+where
+    R::File: FileExt,
     ensures ends { EndsOnSeat (option_map (λ s. s.now) folder.entry) (option_map (λ s. s.now) node.entry) (option_map (λ s. s.now) nodes.entry) result (O.printing out.old) (O.printing out.new) }
     ensures quiet { result ≡ 0 → Keeps (E.contents err.old) (E.contents err.new) }
 {

@@ -25,6 +25,7 @@ use rr_words::{Task, read_words};
 use std::alloc::Global;
 use std::convert::AsStr;
 use std::io::{ErrorKind, Write};
+use std::os::unix::fs::FileExt;
 use std::rt::Files;
 use std::{fs, io};
 
@@ -72,6 +73,8 @@ pub fn execute<R: Files + AllocGlobal, S: AsStr, I: Source, O: Sink, E: Write>(
     out: &mut O,
     err: &mut E,
 ) -> u8
+where
+    R::File: FileExt,
     ensures ends { EndsBy (faults_of (map S.text words.now)) (task_of (map S.text words.now))
         (I.reading input.old) (I.reading input.new) result (O.printing out.old) (O.printing out.new) }
     ensures quiet { result ≡ 0 → Keeps (E.contents err.old) (E.contents err.new) }
@@ -120,6 +123,8 @@ pub fn run<R: Files + AllocGlobal, I: Source, O: Sink, E: Write>(
     out: &mut O,
     err: &mut E,
 ) -> u8
+where
+    R::File: FileExt,
     ensures ends { IfOk words (λ words. EndsBy (faults_of (map string_bytes words.items)) (task_of (map string_bytes words.items))
         (I.reading input.old) (I.reading input.new) result (O.printing out.old) (O.printing out.new)) }
     ensures memory { IfErr words (λ error. error_kind error ≡ ErrorKind.OutOfMemory → result ≡ 6) }

@@ -20,6 +20,7 @@ use rr_types::Refusal;
 use std::alloc::{AllocError, Global};
 use std::io;
 use std::io::Write;
+use std::os::unix::fs::FileExt;
 use std::rt::Files;
 
 // Prints the line on an area.
@@ -94,6 +95,8 @@ pub fn show_disk<D: Disk>(alloc: Global, disk: &mut D) -> Result<Vec<u8>, Refusa
 
 // The text on the areas of the disk in a folder. Its files are opened for reading alone, and nothing is made.
 fn folder_text<R: Files + AllocGlobal>(rt: &R, folder: &str) -> Result<Vec<u8>, Refusal>
+where
+    R::File: FileExt,
     ensures { ((first : List ℕ) × (second : List ℕ) × IsShown result (inspected first second)) ⊎ (result ≡ Err Device) }
 {
     match FileDisk::open_read_only(rt, folder) {
@@ -112,6 +115,8 @@ pub(crate) fn show_folder<R: Files + AllocGlobal, O: Sink, E: Write>(
     out: &mut O,
     err: &mut E,
 ) -> u8
+where
+    R::File: FileExt,
     ensures ends { EndsOnFolder result (O.printing out.old) (O.printing out.new) }
     ensures quiet { result ≡ 0 → Keeps (E.contents err.old) (E.contents err.new) }
 {

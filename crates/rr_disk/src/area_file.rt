@@ -5,7 +5,7 @@ ghost use Rattle.rr_disk.specs.Asked.{Call, reads, writes, syncs};
 
 use std::fs::OpenFile;
 use std::io;
-use std::io::{Read, Seek, SeekFrom, Write};
+use std::os::unix::fs::FileExt;
 
 /// A file that holds an area. A disk over any such file can change it by these calls alone, so its clauses can
 /// name the calls that it made, in their order.
@@ -54,18 +54,15 @@ impl<F> OpenedFile<F> {
     }
 }
 
-impl<F: Read + Write + Seek + OpenFile> AreaFile for OpenedFile<F> {
+impl<F: FileExt + OpenFile> AreaFile for OpenedFile<F> {
     ghost gives = { λ _ _ _. Unit {0} };
 
     fn read_at(&mut self, at: u64, bytes: &mut [u8]) -> io::Result<()> {
-        self.file.seek(SeekFrom::Start(at))?;
-        self.file.read_exact(bytes)
+        self.file.read_exact_at(bytes, at)
     }
 
     fn write_at(&mut self, at: u64, bytes: &[u8]) -> io::Result<()> {
-        self.file.seek(SeekFrom::Start(at))?;
-        self.file.write_all(bytes)?;
-        self.file.flush()
+        self.file.write_all_at(bytes, at)
     }
 
     fn sync(&mut self) -> io::Result<()> {

@@ -15,6 +15,7 @@ use std::alloc::Global;
 use std::fs::{OpenFile, OpenOptions};
 use std::io::{ErrorKind, Read, Seek, Write};
 use std::marker::Model;
+use std::os::unix::fs::FileExt;
 use std::rt::Files;
 use std::{fs, io};
 
@@ -79,7 +80,7 @@ impl<F: AreaFile + Drop> FileDisk<F> {
     }
 }
 
-impl<F: Read + Write + Seek + OpenFile + Drop> FileDisk<OpenedFile<F>> {
+impl<F: Read + Write + Seek + FileExt + OpenFile + Drop> FileDisk<OpenedFile<F>> {
     /// The disk of the files `a0` and `a1` of a folder. Where `make` is true, the folder, those above it and the
     /// files are made if missing, and folders in which something was made are synced. Nothing is truncated.
     ///
@@ -128,6 +129,8 @@ fn open_areas<R: Files + AllocGlobal>(
     write: bool,
     make: bool,
 ) -> Result<FileDisk<OpenedFile<R::File>>, Refusal>
+where
+    R::File: FileExt,
     requires { make ≡ true → write ≡ true }
     ensures counts { IfOk result (λ d. (d.calls ≡ 0) × (d.faults ≡ 0) × (d.doubted ≡ true)) }
     ensures cause { IfErr result (λ e. (e ≡ OutOfMemory) ⊎ (e ≡ Device)) }

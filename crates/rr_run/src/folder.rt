@@ -10,6 +10,7 @@ use rr_types::{Nodes, Refusal};
 use std::fs;
 use std::fs::OpenFile;
 use std::io::{Read, Seek, Write};
+use std::os::unix::fs::FileExt;
 use std::rt::Files;
 
 /// The folders of a run, locked while this is there, and the disks in them, ascending.
@@ -29,7 +30,7 @@ pub(crate) enum Opening<F> {
 }
 
 // Opens a node's folder, which is made where it is missing, and locks it. None: another program has locked it.
-fn lock_folder<F: Read + Write + Seek + OpenFile + Drop + Lockable, R: Files<File = F>>(
+fn lock_folder<F: Read + Write + Seek + FileExt + OpenFile + Drop + Lockable, R: Files<File = F>>(
     rt: &R,
     path: &str,
 ) -> Result<Option<F>, Refusal>
@@ -66,7 +67,7 @@ fn sync_names<R: Files>(rt: &R, dir: &str) -> Result<(), Refusal>
 /// # Errors
 /// `OutOfMemory`; `Device` where a folder or a file can't be opened or made.
 pub(crate) fn open_folders<
-    F: Read + Write + Seek + OpenFile + Drop + Lockable,
+    F: Read + Write + Seek + FileExt + OpenFile + Drop + Lockable,
     R: Files<File = F> + AllocGlobal,
 >(rt: &R, nodes: Nodes, dir: &str) -> Result<Opening<F>, Refusal>
     ensures disks { IfOk result (λ o. HasDisks nodes o) }

@@ -16,6 +16,7 @@ use std::convert::AsStr;
 use std::fs::OpenFile;
 use std::io;
 use std::io::{ErrorKind, Read, Seek, Write};
+use std::os::unix::fs::FileExt;
 use std::rt::Files;
 use std::sync::Wait;
 use std::thread::Threads;
@@ -33,7 +34,7 @@ use std::thread::Threads;
 /// `input`. Each line is answered on `out` before the next is read, in words or with JSON. Where somebody types, `input` shows a prompt before each. What goes
 /// wrong is told on `err`: the words, then the folders, ascending, then the file DIR/requests, then the run or a stream.
 pub fn execute<
-    F: Read + Write + Seek + OpenFile + Drop + Send + Lockable,
+    F: Read + Write + Seek + FileExt + OpenFile + Drop + Send + Lockable,
     R: Files<File = F> + AllocGlobal + Threads + Wait + Sync,
     S: AsStr,
     I: Prompting,
@@ -71,7 +72,7 @@ pub fn execute<
 /// Runs the program as `execute` does, where its words could be had. Otherwise it ends with 6 if memory ran out, else
 /// with 2, as for a word that is no text.
 pub fn run<
-    F: Read + Write + Seek + OpenFile + Drop + Send + Lockable,
+    F: Read + Write + Seek + FileExt + OpenFile + Drop + Send + Lockable,
     R: Files<File = F> + AllocGlobal + Threads + Wait + Sync,
     I: Prompting,
     O: Sink,

@@ -23,6 +23,7 @@ use rr_types::{Nodes, Refusal};
 use std::alloc::Global;
 use std::fs::OpenFile;
 use std::io::{Read, Seek, Write};
+use std::os::unix::fs::FileExt;
 use std::rt::Files;
 use std::sync::Wait;
 use std::thread::Threads;
@@ -45,6 +46,8 @@ pub(crate) fn end_by_run_fault<R: Files + AllocGlobal, E: Write>(
     nodes: Nodes,
     refusal: &Refusal,
 ) -> u8
+where
+    R::File: FileExt,
     ensures { result ≡ status_of refusal.now }
 {
     let ending = end_by_refusal(err, refusal);
@@ -60,7 +63,10 @@ fn print_refused_folder<R: Files + AllocGlobal, W: Write>(
     err: &mut W,
     dir: &str,
     nodes: Nodes,
-) -> io::Result<()> {
+) -> io::Result<()>
+where
+    R::File: FileExt,
+{
     for node in 0..nodes.count() {
         let path = format!(in rt.alloc(); "{dir}/{node}")?;
         if fs::open(rt, path.as_str()).is_err() {
@@ -74,7 +80,10 @@ fn print_refused_folder<R: Files + AllocGlobal, W: Write>(
 }
 
 // Reads both areas of the disk in a folder.
-fn read_folder<R: Files + AllocGlobal>(rt: &R, folder: &str) -> Result<(), Refusal> {
+fn read_folder<R: Files + AllocGlobal>(rt: &R, folder: &str) -> Result<(), Refusal>
+where
+    R::File: FileExt,
+{
     let mut disk = FileDisk::open_read_only(rt, folder)?;
     let _ = inspect(rt.alloc(), &mut disk)?;
     Ok(())
@@ -149,8 +158,8 @@ fn end_by_tape<R: Files + AllocGlobal, O: Sink, E: Write>(
 
 // Runs a script over open folders, and prints the answers. The locks are released after the run.
 fn run_in<
-    F: Read + Write + Seek + OpenFile + Drop + Send,
-    R: Files + AllocGlobal + Threads + Wait + Sync,
+    F: Read + Write + Seek + FileExt + OpenFile + Drop + Send,
+    R: Files<File = F> + AllocGlobal + Threads + Wait + Sync,
     O: Sink,
     E: Write,
 >(rt: &R, dir: &str, folders: Folders<F>, script: &Script, out: &mut O, err: &mut E) -> u8
@@ -169,8 +178,8 @@ fn run_in<
 
 // Runs a script over fresh folders that are open, writes the tape to a file of this name, and prints the answers.
 fn run_taped<
-    F: Read + Write + Seek + OpenFile + Drop + Send,
-    R: Files + AllocGlobal + Threads + Wait + Sync,
+    F: Read + Write + Seek + FileExt + OpenFile + Drop + Send,
+    R: Files<File = F> + AllocGlobal + Threads + Wait + Sync,
     O: Sink,
     E: Write,
 >(
@@ -207,7 +216,7 @@ fn run_taped<
 
 // Runs a script over the folders in the folder DIR, and prints the answers; with a tape where a file is named for it.
 fn run_over<
-    F: Read + Write + Seek + OpenFile + Drop + Send + Lockable,
+    F: Read + Write + Seek + FileExt + OpenFile + Drop + Send + Lockable,
     R: Files<File = F> + AllocGlobal + Threads + Wait + Sync,
     O: Sink,
     E: Write,
@@ -228,7 +237,7 @@ fn run_over<
 
 // Runs the script that the bytes of this name are.
 fn run_bytes<
-    F: Read + Write + Seek + OpenFile + Drop + Send + Lockable,
+    F: Read + Write + Seek + FileExt + OpenFile + Drop + Send + Lockable,
     R: Files<File = F> + AllocGlobal + Threads + Wait + Sync,
     O: Sink,
     E: Write,
@@ -253,7 +262,7 @@ fn run_bytes<
 
 // Runs the script that the input of this name holds.
 fn run_input<
-    F: Read + Write + Seek + OpenFile + Drop + Send + Lockable,
+    F: Read + Write + Seek + FileExt + OpenFile + Drop + Send + Lockable,
     R: Files<File = F> + AllocGlobal + Threads + Wait + Sync,
     I: Source,
     O: Sink,
@@ -279,7 +288,7 @@ fn run_input<
 
 // Runs the script in a file.
 fn run_file<
-    F: Read + Write + Seek + OpenFile + Drop + Send + Lockable,
+    F: Read + Write + Seek + FileExt + OpenFile + Drop + Send + Lockable,
     R: Files<File = F> + AllocGlobal + Threads + Wait + Sync,
     O: Sink,
     E: Write,
@@ -305,7 +314,7 @@ fn run_file<
 /// Runs as many nodes as a word names, over the folders in the folder DIR, by the script in a file, and prints the
 /// answers. A word that is no number from 1 to 7, which the command line doesn't let through, ends with 2.
 pub(crate) fn run_by_words<
-    F: Read + Write + Seek + OpenFile + Drop + Send + Lockable,
+    F: Read + Write + Seek + FileExt + OpenFile + Drop + Send + Lockable,
     R: Files<File = F> + AllocGlobal + Threads + Wait + Sync,
     O: Sink,
     E: Write,

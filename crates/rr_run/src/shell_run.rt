@@ -24,6 +24,7 @@ use rr_types::{Command, Name, NodeId, Nodes, Op, Refusal, Reply, RequestNo, Valu
 use rr_words::LAST_CLIENT;
 use std::fs::OpenFile;
 use std::io::{Read, Seek, Write};
+use std::os::unix::fs::FileExt;
 use std::rt::Files;
 use std::sync::Wait;
 use std::thread;
@@ -167,7 +168,7 @@ impl<'a, F: FnMut() -> A, A> Work for Lent<'a, F> {
 
 // Runs the nodes until nothing is asked any more, or the run fails.
 fn run_nodes<
-    F: Read + Write + Seek + OpenFile + Drop + Send,
+    F: Read + Write + Seek + FileExt + OpenFile + Drop + Send,
     R: AllocGlobal + Threads + Wait + Sync,
 >(
     rt: &R,
@@ -187,7 +188,7 @@ fn run_nodes<
 fn start_nodes<
     's,
     E,
-    F: Read + Write + Seek + OpenFile + Drop + Send + 's,
+    F: Read + Write + Seek + FileExt + OpenFile + Drop + Send + 's,
     R: AllocGlobal + Threads + Wait + Sync + 's,
 >(
     scope: &Scope<'s, E>,
@@ -205,7 +206,7 @@ fn start_nodes<
 
 // Does some work while the nodes run. Then they come to their end.
 fn run_beside<
-    F: Read + Write + Seek + OpenFile + Drop + Send,
+    F: Read + Write + Seek + FileExt + OpenFile + Drop + Send,
     R: AllocGlobal + Threads + Wait + Sync,
     T: Work<Output = A> + Drop,
     A,
@@ -242,7 +243,7 @@ fn take_back<T>(lent: &mut T)
 
 // Calls a closure while the nodes run.
 fn call_beside<
-    F: Read + Write + Seek + OpenFile + Drop + Send,
+    F: Read + Write + Seek + FileExt + OpenFile + Drop + Send,
     R: AllocGlobal + Threads + Wait + Sync,
     C: FnMut() -> A,
     A,
@@ -264,7 +265,7 @@ fn call_beside<
 
 // Talks while the nodes run.
 fn talk_beside<
-    F: Read + Write + Seek + OpenFile + Drop + Send,
+    F: Read + Write + Seek + FileExt + OpenFile + Drop + Send,
     R: AllocGlobal + Threads + Wait + Sync,
     I: Prompting,
     O: Sink,
@@ -303,6 +304,8 @@ fn end_by_talk<R: Files + AllocGlobal, E: Write>(
     talked: Result<(), Stop>,
     refusal: Option<Refusal>,
 ) -> u8
+where
+    R::File: FileExt,
     ensures ends { EndsOnTalk talked result }
     ensures quiet { result ≡ 0 → Keeps (E.contents err.old) (E.contents err.new) }
 {
@@ -319,8 +322,8 @@ fn end_by_talk<R: Files + AllocGlobal, E: Write>(
 
 // Talks over folders that are open, and lets their locks go.
 fn shell_in<
-    F: Read + Write + Seek + OpenFile + Drop + Send,
-    R: Files + AllocGlobal + Threads + Wait + Sync,
+    F: Read + Write + Seek + FileExt + OpenFile + Drop + Send,
+    R: Files<File = F> + AllocGlobal + Threads + Wait + Sync,
     I: Prompting,
     O: Sink,
     E: Write,
@@ -398,7 +401,7 @@ fn client_of(word: Option<&str>) -> Option<u32>
 
 // Talks over the folders in the folder DIR.
 fn shell_over<
-    F: Read + Write + Seek + OpenFile + Drop + Send + Lockable,
+    F: Read + Write + Seek + FileExt + OpenFile + Drop + Send + Lockable,
     R: Files<File = F> + AllocGlobal + Threads + Wait + Sync,
     I: Prompting,
     O: Sink,
@@ -428,7 +431,7 @@ fn shell_over<
 /// Runs as many nodes as a word names, over the folders in the folder DIR, and answers the lines of the input. The client is that
 /// which a word names, or client 0. Words that are no such numbers, which the command line doesn't let through, end with 2.
 pub(crate) fn shell_by_words<
-    F: Read + Write + Seek + OpenFile + Drop + Send + Lockable,
+    F: Read + Write + Seek + FileExt + OpenFile + Drop + Send + Lockable,
     R: Files<File = F> + AllocGlobal + Threads + Wait + Sync,
     I: Prompting,
     O: Sink,

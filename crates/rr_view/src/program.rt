@@ -10,6 +10,7 @@ use rr_cli::{Task, end_by_words, read_words};
 use rr_stream::{Sink, Source};
 use std::convert::AsStr;
 use std::io::Write;
+use std::os::unix::fs::FileExt;
 use std::rt::Files;
 
 /// Runs the program `rr` by these words, the first of which is its name, and gives its exit status. It is
@@ -26,6 +27,8 @@ pub fn execute<R: Files + AllocGlobal, S: AsStr, I: Source, O: Sink, E: Write>(
     out: &mut O,
     err: &mut E,
 ) -> u8
+where
+    R::File: FileExt,
     ensures ends { EndsWithViews (faults_of (map S.text words.now)) (task_of (map S.text words.now))
         (I.reading input.old) (I.reading input.new) result (O.printing out.old) (O.printing out.new) }
     ensures quiet { result ≡ 0 → Keeps (E.contents err.old) (E.contents err.new) }

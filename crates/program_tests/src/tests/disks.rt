@@ -7,7 +7,7 @@ use rr_types::{NodeId, Nodes, Refusal};
 use std::alloc::Global;
 use std::fs;
 use std::fs::Permissions;
-use std::os::unix::fs::PermissionsExt;
+use std::os::unix::fs::{FileExt, PermissionsExt};
 use std::process::Abort;
 use std::rt::Files;
 
@@ -71,7 +71,10 @@ fn migrates_disks_of_any_kind(rt: HostRuntime) {
 }
 
 /// Asserts that `rr show` tells a folder as a fault of the device.
-fn assert_device<R: Files + AllocGlobal + Abort>(rt: &R, folder: &str) {
+fn assert_device<R: Files + AllocGlobal + Abort>(rt: &R, folder: &str)
+where
+    R::File: FileExt,
+{
     let mut out = Counted::new(Vec::new(rt.alloc()));
     let mut err = Vec::new(rt.alloc());
     let words = ["rr", "show", folder];

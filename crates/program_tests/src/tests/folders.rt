@@ -5,6 +5,7 @@ use rr_stream::Counted;
 use std::fs;
 use std::fs::OpenFile;
 use std::io::{Read, Seek, Write};
+use std::os::unix::fs::FileExt;
 use std::process::Abort;
 use std::rt::Files;
 use std::sync::Wait;
@@ -24,7 +25,7 @@ const WORDS: [&str; 8] = [
 
 /// Asserts that the run ends with this status, this output and this error.
 fn assert_ended<
-    F: Read + Write + Seek + OpenFile + Drop + Send + Lockable,
+    F: Read + Write + Seek + FileExt + OpenFile + Drop + Send + Lockable,
     R: Files<File = F> + AllocGlobal + Threads + Wait + Sync + Abort,
 >(rt: &R, status: u8, text: &str, error: &str) {
     let mut out = Counted::new(Vec::new(rt.alloc()));
