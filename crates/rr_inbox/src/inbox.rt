@@ -1,6 +1,6 @@
 //! An inbox of 256 messages.
 
-ghost use Rattle.std.specs.Prelude.{◌≡◌, true, false, [], IfOk, IfErr, OnOk, MatchOption};
+ghost use Rattle.std.specs.Prelude.{◌≡◌, true, false, [], IsTrue, IfOk, IfErr, OnOk, MatchOption};
 ghost use Rattle.rr_types.specs.declared.refusal.Refusal.TheVariants.{OutOfMemory};
 ghost use Rattle.rr_inbox.specs.InOrder.{Puts, Takes, HasHeld, view_of};
 ghost use Rattle.crossbeam_queue.specs.Passes.{ruled_capacity};
@@ -83,6 +83,14 @@ impl<T: Drop> Outlet<T> {
         let inbox = Arc::try_clone(&self.inbox)?;
         let pass = self.inbox.queue.another::<Putter>(&mut self.pass);
         Ok(Port { inbox, pass })
+    }
+
+    /// Whether no message waits. It is told only where all that this end knows was put has been taken, as `take` tells it.
+    pub fn is_empty(&mut self) -> bool
+        ensures same { self.new ≡ self.old }
+        ensures empty { IsTrue result → HasHeld 0 self.old }
+    {
+        self.inbox.queue.is_empty_as::<Take>(&mut self.pass)
     }
 
     /// Takes the oldest message. There is none only where all that this end knows was put has been taken.

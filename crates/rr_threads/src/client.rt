@@ -9,7 +9,7 @@ ghost use Rattle.rr_threads.specs.Asking.{IsAnswered, IsSeen, IsAnswerTo};
 
 use crate::desk::{Counter, Desk};
 use crate::recorder::Recorder;
-use crate::rest::{LONG, Rest};
+use crate::rest::{FIRST, LONG, Rest};
 use crate::shared::Shared;
 use rr_locked::{Place, Turnstile, submit_on};
 use rr_script::{Answer, ScriptLine};
@@ -120,7 +120,7 @@ fn receipt_at<W: WindowName, T, R: Wait>(
     counter: &Counter<W>,
     looks: u32,
 ) -> Option<Receipt<W>> {
-    let mut rest = Rest::new(LONG);
+    let mut rest = Rest::rung();
     for _ in 0..looks {
         if counter.is_told(rt) || desk.is_ending(shared) {
             break;
@@ -188,7 +188,7 @@ impl<'d, 'x, W: WindowName, T: Turnstile, R: Wait> Handle<'d, 'x, W, T, R> {
     pub fn snapshot(&self, looks: u32) -> bool {
         let number = self.desk.snapshots.ask();
         self.desk.flusher.unpark();
-        let mut rest = Rest::new(LONG);
+        let mut rest = Rest::new(FIRST, LONG);
         for _ in 0..looks {
             if self.desk.snapshots.is_written(number) {
                 return true;

@@ -1,7 +1,7 @@
 //! A flusher.
 
 use crate::desk::Desk;
-use crate::rest::{LONG, Rest};
+use crate::rest::Rest;
 use crate::shared::Shared;
 use crate::snapshotting::write_next;
 use rr_disk::Disk;
@@ -61,7 +61,7 @@ pub fn flush_all<W: WindowName, D: Disk + Drop, T: Turnstile, R: Wait>(
     flusher: Flusher<D>,
 ) -> D {
     let mut flusher = flusher;
-    let mut rest = Rest::new(LONG);
+    let mut rest = Rest::rung();
     for _ in rt.forever() {
         if flush_next(rt, alloc, shared.turnstile, desk.node, &mut flusher) {
             rest.end();

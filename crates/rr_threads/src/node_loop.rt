@@ -53,6 +53,10 @@ fn hear_all<R: Wait>(
     recorder: Option<&Recorder>,
     inbox: &mut Outlet<Sent>,
 ) -> Result<bool, Refusal> {
+    // Mostly nothing waits. To ask is cheaper than to make room for a message.
+    if inbox.is_empty() {
+        return Ok(false);
+    }
     let Some(first) = inbox.take(rt) else {
         return Ok(false);
     };
@@ -276,8 +280,9 @@ fn rests<R: Wait>(rt: &R, running: &Running, node: NodeId, rest: &mut Rest) -> b
     }
 }
 
-/// A look at what there is to do: hears messages, marks what is flushed, flushes what is staged, sends messages. Answers
-/// whether there was something.
+/// A look at what there is to do: marks what is flushed, sends messages, hears messages, flushes what is staged. In this
+/// order a group that comes back leaves in one look: what it backs is sent, and what was staged meanwhile is flushed.
+/// Answers whether there was something.
 fn look<W: WindowName, R: Wait>(
     rt: &R,
     running: &Running,
@@ -286,14 +291,14 @@ fn look<W: WindowName, R: Wait>(
     runner: &mut Runner,
 ) -> Result<bool, Refusal> {
     let node = &desk.locked;
-    let has_heard = hear_all(rt, node, recorder, &mut runner.mail.inbox)?;
     let has_marked = mark_next(rt, desk, recorder, &mut runner.backs)?;
+    let has_sent = send_all(rt, running, node, recorder, &mut runner.mail.ports)?;
+    let has_heard = hear_all(rt, node, recorder, &mut runner.mail.inbox)?;
     let has_staged = flush_next(rt, node, recorder, &mut runner.groups)?;
     if has_staged {
         desk.flusher.unpark();
     }
-    let has_sent = send_all(rt, running, node, recorder, &mut runner.mail.ports)?;
-    Ok(has_heard || has_marked || has_staged || has_sent)
+    Ok(has_marked || has_sent || has_heard || has_staged)
 }
 
 /// A turn of the loop: does what there is to do, or rests.
@@ -325,7 +330,7 @@ pub fn run_node<W: WindowName, T, R: Wait>(
         turns: Turns::new(),
         standstill: Standstill::new(),
     };
-    let mut rest = Rest::new(SHORT);
+    let mut rest = Rest::new(SHORT, SHORT);
     for _ in rt.forever() {
         if desk.is_ending(shared) {
             break;

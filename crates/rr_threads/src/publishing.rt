@@ -2,7 +2,7 @@
 
 use crate::desk::Desk;
 use crate::recorder::Recorder;
-use crate::rest::{LONG, Rest};
+use crate::rest::Rest;
 use crate::shared::Shared;
 use rr_locked::{ack_on, follow};
 use rr_types::{Refusal, Reply, RequestNo};
@@ -86,7 +86,7 @@ pub fn publish_all<W: WindowName, T, R: Wait>(
     publisher: &mut Publisher<W>,
 ) {
     let mut acknowledged = VecDeque::new(alloc);
-    let mut rest = Rest::new(LONG);
+    let mut rest = Rest::rung();
     for _ in rt.forever() {
         if desk.is_ending(shared) {
             break;
