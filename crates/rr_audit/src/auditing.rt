@@ -10,7 +10,7 @@ use rr_types::{Body, Command, Message, NodeId, Op, Refusal, made_of};
 use std::alloc::Global;
 
 /// What an audit finds.
-#[derive(Clone, Copy, Debug)]
+#[derive(Debug, Drop)]
 pub enum Verdict {
     /// The events, of which there are this many, are a tape run.
     Yes(u64),

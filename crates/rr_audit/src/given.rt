@@ -3,7 +3,7 @@
 use rr_types::{Message, NodeId, Refusal, Reply, RequestNo};
 
 /// What the world gives instead of an event of a tape that isn't next.
-#[derive(Clone, Copy, Debug)]
+#[derive(Debug, Drop)]
 pub enum Given {
     /// There is no such node.
     NoNode,
@@ -23,8 +23,8 @@ pub enum Given {
     Number(u64),
     /// The node has no message that may leave.
     NothingToSend,
-    /// The node sends this message next, as this number.
-    Sends(u32, Message),
+    /// The node sends this message next, as this number. The message is in a box: it is larger than all else here.
+    Sends(u32, Box<Message>),
     /// The node has nothing to acknowledge.
     NothingToAcknowledge,
     /// The node acknowledges this request next, with this reply.

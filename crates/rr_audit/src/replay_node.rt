@@ -159,18 +159,19 @@ impl ReplayNode {
         }
     }
 
-    // Sends this message, which is to be the next one. It needs no memory.
-    fn send(&mut self, number: u32, message: &Message) -> Option<Given>
-        ensures { Tells (next_leaving self.old ≡ Some message.now) (message_left self.old) self.new result }
+    // Sends this message, which is to be the next one.
+    fn send(&mut self, number: u32, message: &Message) -> Result<Option<Given>, Refusal>
+        ensures { Answers (next_leaving self.old ≡ Some message.now) (message_left self.old) self.new result }
     {
         match self.core.next_message() {
-            None => Some(Given::NothingToSend),
+            None => Ok(Some(Given::NothingToSend)),
             Some(cleared) => {
                 let next = cleared.as_message();
                 if is_same_message(next, message) {
-                    None
+                    Ok(None)
                 } else {
-                    Some(Given::Sends(number, *next))
+                    let next = Box::new(self.alloc, *next)?;
+                    Ok(Some(Given::Sends(number, next)))
                 }
             }
         }
@@ -212,7 +213,7 @@ impl ReplayNode {
                 if *number as usize != wire.len() {
                     return Ok(Some(Given::Number(wire.len() as u64)));
                 }
-                Ok(self.send(*number, message))
+                self.send(*number, message)
             }
             TapeEvent::Ack { request, reply, .. } => Ok(self.acknowledge(*request, *reply)),
         }

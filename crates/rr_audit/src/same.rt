@@ -10,7 +10,7 @@ fn is_same_estimate(estimate: &Estimate, other: &Estimate) -> bool
 {
     estimate.round().number() == other.round().number()
         && estimate.stamp() == other.stamp()
-        && estimate.command().is_same(&other.command())
+        && estimate.command_ref().is_same(other.command_ref())
 }
 
 fn is_same_body(body: &Body, other: &Body) -> bool

@@ -168,7 +168,7 @@ fn push_given(text: &mut Vec<u8>, node: NodeId, given: &Given) -> io::Result<()>
         Given::NothingToSend => write!(text, "node {at} has nothing to send"),
         Given::Sends(number, message) => {
             let number = u64::from(*number);
-            let message = *message;
+            let message = **message;
             push_next(text, at, &ReportLine::Send { number, message })
         }
         Given::NothingToAcknowledge => write!(text, "node {at} has nothing to acknowledge"),
