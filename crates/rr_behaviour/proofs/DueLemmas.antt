@@ -1,21 +1,24 @@
-use Rattle.std.proofs.Common.{◌≡◌, ◌+◌, ◌-◌, ◌^◌, ◌<◌, ◌≤◌, ℕ, zero, suc, arith, Bool, true, false, cond, eqb, not, ◌&&◌, ◌||◌, List, [], ◌∷◌, ◌++◌, length, get_or, drop, ap, sym, ◌∙◌, refl, if◌then◌else◌, Option, Some, None, option_map, is_some}
-use Rattle.std.specs.Prelude.{filter, find}
-use Rattle.std.specs.List.{range_with_len, list_any}
+use Rattle.std.proofs.Common.{◌≡◌, ◌+◌, ◌-◌, ◌<◌, ℕ, zero, suc, arith, Bool, true, false, eqb, not, ◌&&◌, ◌||◌, List, [], ◌∷◌, length, get_or, drop, ap, sym, ◌∙◌, refl, if◌then◌else◌, Option, Some, None}
+use Rattle.std.specs.Prelude.{nat_le}
+use Rattle.std.specs.List.{list_any}
 use Rattle.std.specs.Option.{option_map_or}
-use Rattle.std.proofs.lemmas.Bool.{eqb-true, false≢true}
-use Rattle.std.proofs.lemmas.List.{at_drop_more, at_drop_all, map-id, length-append}
-use Rattle.std.proofs.lemmas.List.Elements.{filter-append}
-use Rattle.std.proofs.lemmas.List.FromFn.{map-range_with_len_more}
-use Rattle.rr_types.specs.Nodes.{has_member}
+use Rattle.std.proofs.lemmas.Bool.{eqb-true, lt-leb}
+use Rattle.std.proofs.lemmas.List.{at_drop_more}
+use Rattle.rr_types.specs.Nodes.{has_member, joined}
+use Rattle.rr_types.specs.Rounds.{OpenAt, coordinator_of, majority_of}
+use Rattle.rr_types.specs.declared.promise.Standing.TheVariants.{Open}
+use Rattle.rr_round.proofs.TallyLemmas.{empty_has, empty_lacks, joined_empty}
 use Rattle.rr_types.specs.declared.command.Command.{Command}
 use Rattle.rr_types.specs.Commands.{is_same_command}
 use Rattle.rr_types.specs.Standings.{estimate_of}
 use Rattle.rr_types.specs.declared.promise.Standing.{Standing}
-use Rattle.rr_model.specs.NodeState.{NodeState, Vote, Tally, Row, row_of, standing_at, open_instances}
+use Rattle.rr_model.specs.NodeState.{NodeState, Tally, Row, row_of, standing_at, open_instances}
 use Rattle.rr_model.specs.NodeParts.{is_estimate_beside, free_command}
-use Rattle.rr_model.specs.NodeDue.{Due, better, best_vote, due, due_at, due_of_row, first_due, carry_out, settle_within}
+use Rattle.rr_model.specs.NodeDue.{Due, due, due_at, due_of_row, due_of_coordinator, due_of_participant, is_majority, first_due, carry_out, settle_within}
 use Rattle.rr_model.specs.NodeDue.Due.{Begin}
 use Rattle.rr_step.specs.Places.{first_free}
+use Rattle.rr_step.specs.Steps as steps
+use Rattle.rr_step.proofs.SpentLemmas.{find_same}
 use Rattle.rr_behaviour.proofs.RoundLemmas.{first_free_is}
 
 -- nothing is due for an instance: the next ones are looked at
@@ -63,10 +66,6 @@ beside_all s i c (j ∷ js) h = by (eqb j i) refl (beside_all s i c js h)
     by true e more = let none : is_estimate_at s j c ≡ false = ap (λ k. is_estimate_at s k c) (eqb-true _ _ e) ∙ no_estimate s i c h in rw none more
     by false e more = ap (λ b. is_estimate_at s j c || b) more
 
-find_same : (p q : Command → Bool) (cs : List Command) → ((c : Command) → p c ≡ q c) → find p cs ≡ find q cs
-find_same p q [] h = refl
-find_same p q (c ∷ cs) h = rw (h c) (ap (λ (o : Option Command). cond (q c) (Some c) o) (find_same p q cs h))
-
 -- the pool has the same command for each instance that no fact names
 pub free_for_each : (s : NodeState) (i j : ℕ) → row_of s.rows i ≡ None → row_of s.rows j ≡ None → free_command s i ≡ free_command s j
 unfolding free_command
@@ -76,15 +75,22 @@ free_for_each s i j h k = find_same (λ c. not (is_estimate_beside s i c)) (λ c
 abbrev pub IsSpent : NodeState → Type 0
 IsSpent s = (i : ℕ) → row_of s.rows i ≡ None → free_command s i ≡ None
 
--- no command came of the search for it
-not_found : (x : Option Command) (b : Bool) → b ≡ is_some x → b ≡ false → x ≡ None
-not_found None b e f = refl
-not_found (Some c) b e f = absurd (false≢true (sym f ∙ e))
+-- a step knows it
+pub spent_by : (s : NodeState) → steps.IsSpent s.rows s.pool → IsSpent s
+unfolding open_instances
+spent_by s h i n = sym (first_free_is s i) ∙ h.none i n
 
-pub spent : (s : NodeState) (is : List ℕ) (i : ℕ) (x : Option Command) (b : Bool) → is ≡ open_instances s → x ≡ first_free s.rows is i s.pool → b ≡ is_some x → b ≡ false → row_of s.rows i ≡ None → IsSpent s
-spent s is i x b o f e n h j k =
-    let none : first_free s.rows is i s.pool ≡ None = sym f ∙ not_found x b e n in
-    free_for_each s j i k h ∙ sym (first_free_is s i) ∙ ap (λ xs. first_free s.rows xs i s.pool) (sym o) ∙ none
+pub spent_for : (s : NodeState) → IsSpent s → steps.IsSpent s.rows s.pool
+unfolding open_instances
+spent_for s h = record { none = λ i n. first_free_is s i ∙ h i n }
+
+-- what the search for a command gives is the pool's for the instance
+pub free_found : (s : NodeState) (is : List ℕ) (i : ℕ) (x : Option Command) → is ≡ open_instances s → x ≡ first_free s.rows is i s.pool → free_command s i ≡ x
+free_found s is i x o f = sym (first_free_is s i) ∙ ap (λ xs. first_free s.rows xs i s.pool) (sym o) ∙ sym f
+
+-- a search in vain: there is none for the others
+pub spent : (s : NodeState) (is : List ℕ) (i : ℕ) → is ≡ open_instances s → None ≡ first_free s.rows is i s.pool → row_of s.rows i ≡ None → IsSpent s
+spent s is i o f h j k = free_for_each s j i k h ∙ free_found s is i None o f
 
 -- nothing is due for an instance by its row
 pub due_stops : (s : NodeState) (i : ℕ) (r : Row) (t : Tally) (d : Standing) → row_of s.rows i ≡ Some r → t ≡ r.tally → d ≡ r.standing → None ≡ due_of_row s i t d → due_at s i ≡ None
@@ -95,9 +101,21 @@ pub due_unnamed : (s : NodeState) (i : ℕ) → row_of s.rows i ≡ None → fre
 due_unnamed s i h n = rw (h, n) refl
 
 -- where a command was found for it, it begins
-found_begins : (s : NodeState) (i : ℕ) (x : Option Command) (b : Bool) → row_of s.rows i ≡ None → free_command s i ≡ x → b ≡ is_some x → b ≡ true → due_at s i ≡ Some (Begin i)
-found_begins s i None b h n e t = absurd (false≢true (sym e ∙ t))
-found_begins s i (Some c) b h n e t = rw (h, n) refl
+pub due_begins : (s : NodeState) (is : List ℕ) (i : ℕ) (v : Command) → is ≡ open_instances s → row_of s.rows i ≡ None → Some v ≡ first_free s.rows is i s.pool → due_at s i ≡ Some (Begin i)
+due_begins s is i v o h f = let free : free_command s i ≡ Some v = free_found s is i (Some v) o f in rw (h, free) refl
 
-pub due_begins : (s : NodeState) (is : List ℕ) (i : ℕ) (x : Option Command) (b : Bool) → is ≡ open_instances s → row_of s.rows i ≡ None → x ≡ first_free s.rows is i s.pool → b ≡ is_some x → b ≡ true → due_at s i ≡ Some (Begin i)
-due_begins s is i x b o h f e t = found_begins s i x b h (sym (first_free_is s i) ∙ ap (λ xs. first_free s.rows xs i s.pool) (sym o) ∙ sym f) e t
+-- nothing is due where nobody has answered and nobody is suspected
+pub not_due : (s : NodeState) (i : ℕ) (t : Tally) (o : OpenAt) → length t.estimates ≡ 0 → t.acks ≡ 0 → t.nacks ≡ 0 → s.suspects ≡ 0 → due_of_row s i t (Open o) ≡ None
+not_due s i t o e a n u = by (eqb (coordinator_of o.round s.nodes) s.node) o.proposal
+  where
+    by : (b : Bool) (p : Option Command) → (if b then due_of_coordinator s i t o.round p else due_of_participant s i o.round) ≡ None
+    by true None =
+        let few : nat_le (majority_of s.nodes) (length t.estimates) ≡ false = rw e (lt-leb _ _ (omega arith)) in
+        rw few refl
+    by true (Some v) =
+        let acks : is_majority s t.acks ≡ false = empty_lacks s.nodes t.acks a in
+        let all : is_majority s (joined t.acks t.nacks) ≡ false = empty_lacks s.nodes (joined t.acks t.nacks) (joined_empty t.acks t.nacks n ∙ a) in
+        rw (acks, all) refl
+    by false p =
+        let out : has_member s.suspects (coordinator_of o.round s.nodes) ≡ false = rw u (empty_has (coordinator_of o.round s.nodes)) in
+        rw out refl

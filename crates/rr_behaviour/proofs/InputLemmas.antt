@@ -1,5 +1,5 @@
-use Rattle.std.proofs.Common.{◌≡◌, ◌≢◌, ◌+◌, ◌<◌, ◌≤◌, ℕ, arith, Bool, true, false, ltb, eqb, ◌&&◌, ◌||◌, ◌++◌, if◌then◌else◌, not, cond, List, [], ◌∷◌, refl, sym, ap, ◌∙◌, Option, Some, None, option_map}
-use Rattle.std.proofs.lemmas.Bool.{ltb-true, ltb-false, lt-ltb, le-ltb, ne_eqb, eq-eqb, eqb-true, eqb-false, false≢true}
+use Rattle.std.proofs.Common.{◌≡◌, ◌≢◌, ◌+◌, ◌<◌, ◌≤◌, ℕ, arith, Bool, true, false, ltb, eqb, ◌||◌, ◌++◌, if◌then◌else◌, not, cond, List, [], ◌∷◌, refl, sym, ap, ◌∙◌, Option, Some, option_map}
+use Rattle.std.proofs.lemmas.Bool.{ltb-true, ne_eqb, eqb-true, eqb-false, false≢true}
 use Rattle.rr_types.specs.declared.message.Body.{Body}
 use Rattle.rr_types.specs.Standings.{is_undecided}
 use Rattle.rr_model.specs.NodeState.{NodeState, Row, everyone, others, is_decided_request, row_of, is_decided, undecided_from, first_undecided, standing_at}

@@ -58,14 +58,14 @@ pub advance_large : (s : NodeState) (t : Stepped) (x : Refusal) → t ≡ record
 advance_large s t x e r h = refusals.advance_too_large s r (rw (ap (λ (u : Stepped). u.state) e) at h.1) ∙ ap Some (sym h.0)
 
 -- why an input is refused for what it is
-pub submit_err : (c : Command) (s : NodeState) (t : Stepped) (r : Refusal) → t ≡ record { base = s; state = s } → Some r ≡ submit_refusal c t.state → (r ≡ OutOfMemory) ⊎ (refusal_of (Submit c) s ≡ Some r)
-submit_err c s t r e h = refusals.submit_err c s t.state r (ap (λ (u : Stepped). u.state) e) h
+pub submit_err : (c : Command) (s : NodeState) (r : Refusal) → Some r ≡ submit_refusal c s → (r ≡ OutOfMemory) ⊎ (refusal_of (Submit c) s ≡ Some r)
+submit_err c s r h = refusals.submit_err c s s r refl h
 
 pub advance_err : (s : NodeState) (t : Stepped) (r : Refusal) → t ≡ record { base = s; state = s } → (r ≡ OutOfMemory) ⊎ (advance_refusal t.state ≡ Some r) → (r ≡ OutOfMemory) ⊎ (refusal_of Advance s ≡ Some r)
 advance_err s t r e h = refusals.advance_err s t.state r (ap (λ (u : Stepped). u.state) e) h
 
 -- what is refused at the end of a step
-pub refused_of : (input : Input) (s u : NodeState) (r : Result Changed Refusal) → ((x : Refusal) → (x ≡ TooLarge) × (2 ^ 64 ≤ next_number (settle u)) → refusal_of input s ≡ Some x) → IfErr r (λ e. (e ≡ OutOfMemory) ⊎ ((e ≡ TooLarge) × (2 ^ 64 ≤ next_number (settle u)))) → IfErr r (λ e. (e ≡ OutOfMemory) ⊎ (refusal_of input s ≡ Some e))
+pub refused_of : {C : Type 0} → (input : Input) (s u : NodeState) (r : Result C Refusal) → ((x : Refusal) → (x ≡ TooLarge) × (2 ^ 64 ≤ next_number (settle u)) → refusal_of input s ≡ Some x) → IfErr r (λ e. (e ≡ OutOfMemory) ⊎ ((e ≡ TooLarge) × (2 ^ 64 ≤ next_number (settle u)))) → IfErr r (λ e. (e ≡ OutOfMemory) ⊎ (refusal_of input s ≡ Some e))
 refused_of input s u (Ok c) f h = h
 refused_of input s u (Err e) f (inl m) = inl m
 refused_of input s u (Err e) f (inr l) = inr (f e l)

@@ -8,7 +8,7 @@ use Rattle.rr_types.specs.declared.promise.Standing.TheVariants.{Open}
 use Rattle.rr_types.specs.Standings.{is_undecided, round_of, stamp_of}
 use Rattle.rr_types.specs.Rounds.{OpenAt, coordinator_of}
 use Rattle.rr_model.specs.NodeState.{NodeState, Row, everyone, next_number, standing_at, open_instances}
-use Rattle.rr_model.specs.NodeParts.{owe, stage, leave_round, propose, restate, backing_at, free_command}
+use Rattle.rr_model.specs.NodeParts.{owe, stage, leave_round, enter, enter_with, propose, restate, backing_at, free_command}
 use Rattle.rr_step.specs.Steps.{Stepped, stepped}
 use Rattle.rr_step.specs.Places.{first_free, is_estimate_beside, is_estimate_of}
 use Rattle.rr_behaviour.specs.Rounds.{owe_coordinator}
@@ -55,3 +55,13 @@ left_undecided i s t e u = ap (λ (w : Stepped). is_undecided (standing_at w.sta
     by : (b : Bool) → is_undecided (standing_at (cond b (owe (say.Nack i (round_of (standing_at s.state i))) None (coordinator_of (round_of (standing_at s.state i)) s.state.nodes ∷ []) s.state) s.state) i) ≡ true
     by true = u
     by false = u
+
+-- an instance that no fact names enters round 1 with the command that the pool has for it
+pub unnamed_undecided : (s : NodeState) (i : ℕ) → standing_at s i ≡ None → is_undecided (standing_at s i) ≡ true
+unnamed_undecided s i n = rw n refl
+
+pub begins : (i : ℕ) (v : Command) (s t : Stepped) → standing_at s.state i ≡ None → free_command s.state i ≡ Some v → t ≡ stepped (enter_with i (record { round = 1; stamp = 0; command = v })) s → t ≡ stepped (enter i 1 None) s
+unfolding enter
+begins i v s t n f e =
+    let is : enter i 1 None s.state ≡ enter_with i (record { round = 1; stamp = 0; command = v }) s.state = rw (n, f) refl in
+    e ∙ ap (λ (w : NodeState). record { base = s.base; state = w }) (sym is)

@@ -12,13 +12,12 @@ use rr_step::Step;
 use rr_types::{Body, Command, Fact, Instance, NodeId, Refusal};
 
 /// Decides on a command, and owes the decision to each other node.
-pub fn conclude(step: &mut Step<'_>, instance: Instance, command: Command) -> Result<(), Refusal>
+pub fn conclude(step: &mut Step<'_>, instance: Instance, command: &Command) -> Result<(), Refusal>
     requires undecided { is_undecided (standing_at step.old.state instance) ≡ true }
-    ensures ok { OnOk result (step.new ≡ stepped (conclude instance command) step.old) }
+    ensures ok { OnOk result (step.new ≡ stepped (conclude instance command.now) step.old) }
     ensures err { IfErr result (λ e. e ≡ Refusal.OutOfMemory) }
 {
     let number = step.next_number();
-    let command = &command;
     step.stage(Fact::Decide(instance, *command))?;
     // Who decides tells every other node, as in the broadcast of Chandra and Toueg (1996). So a decision can spread
     // although its coordinator crashes. Decisions may be lost and aren't restated: `answer` gives one to a node that
@@ -50,9 +49,9 @@ pub fn hear_decision(
     step: &mut Step<'_>,
     from: NodeId,
     instance: Instance,
-    command: Command,
+    command: &Command,
 ) -> Result<(), Refusal>
-    ensures ok { OnOk result (step.new ≡ stepped (heard_body from (say.Decision instance command)) step.old) }
+    ensures ok { OnOk result (step.new ≡ stepped (heard_body from (say.Decision instance command.now)) step.old) }
     ensures err { IfErr result (λ e. e ≡ Refusal.OutOfMemory) }
 {
     if step.is_undecided(instance) {

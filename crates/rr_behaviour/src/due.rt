@@ -1,14 +1,14 @@
 //! What a node does of its own accord, one thing after another until nothing is due.
 
-ghost use Rattle.std.specs.Prelude.{◌≡◌, ◌<◌, IfErr, IfSome, OnOk, option_map, Some};
+ghost use Rattle.std.specs.Prelude.{◌≡◌, ◌<◌, false, length, IsTrue, IfErr, IfSome, OnOk, option_map, Some};
 ghost use Rattle.rr_types.specs.Standings.{round_of};
 ghost use Rattle.rr_model.specs.NodeState.{open_instances};
 ghost use Rattle.rr_model.specs.NodeDue.{due_of_coordinator, due_of_participant, due_of_row, first_due, due, carry_out, settle};
-ghost use Rattle.rr_step.specs.Steps.{stepped};
+ghost use Rattle.rr_step.specs.Steps.{stepped, IsSpent};
 ghost use Rattle.rr_behaviour.specs.Dues.{meaning_of, MovesBelowLast, CanBeCarriedOut};
 
 use crate::decisions::conclude;
-use crate::entering::enter;
+use crate::entering::{begin, enter};
 use crate::proposing::propose;
 use rr_round::Tally;
 use rr_step::Step;
@@ -22,8 +22,8 @@ const TURNS: u64 = 1 << 54;
 /// What a node does of its own accord for an instance.
 #[derive(Clone, Copy, Debug)]
 pub enum Due {
-    /// It enters round 1 with a command of the pool.
-    Begin(Instance),
+    /// It enters round 1 with this command of the pool.
+    Begin(Instance, Command),
     /// It proposes this command in the present round.
     Offer(Instance, Round, Command),
     /// It decides on this command.
@@ -83,6 +83,14 @@ fn due_of_participant(step: &Step<'_>, instance: Instance, round: Round) -> Opti
     }
 }
 
+/// Whether anybody has answered in a round.
+fn has_answers(tally: &Tally) -> bool
+    ensures { result ≡ false → (length tally.now.estimates ≡ 0) × (tally.now.acks ≡ 0) × (tally.now.nacks ≡ 0) }
+{
+    tally.estimates.len() > 0 || tally.acks.bits() > 0 || tally.nacks.bits() > 0
+}
+
+#[tactic(auto, using(crate::proofs::DueLemmas::not_due))]
 fn due_of_row(
     step: &Step<'_>,
     instance: Instance,
@@ -95,6 +103,10 @@ fn due_of_row(
     match standing {
         Standing::Decided(_) => None,
         Standing::Open(at) => {
+            // Most rows wait: nobody has answered, and nobody is suspected.
+            if step.suspects().bits() == 0 && !has_answers(tally) {
+                return None;
+            }
             let round = at.round();
             if coordinator(round, step.nodes()).index() == step.node().index() {
                 due_of_coordinator(step, instance, tally, at)
@@ -106,39 +118,42 @@ fn due_of_row(
 }
 
 /// The first of the open instances, which these are, for which something is due. The pool is searched at most once: a
-/// command is free for each instance that no fact names, or for none.
-#[tactic(auto, using(crate::proofs::DueLemmas::first_due_more, crate::proofs::DueLemmas::first_due_here))]
-fn first_due(step: &Step<'_>, instances: &[Instance]) -> Option<Due>
+/// command is free for each instance that no fact names, or for none. It also tells whether the pool is known to have none.
+#[tactic(auto, using(crate::proofs::DueLemmas::first_due_more, crate::proofs::DueLemmas::first_due_here, crate::proofs::DueLemmas::spent_by, crate::proofs::DueLemmas::spent_for))]
+fn first_due(step: &Step<'_>, instances: &[Instance]) -> (Option<Due>, bool)
     requires { instances.now ≡ open_instances step.now.state }
-    ensures value { option_map meaning_of result ≡ first_due step.now.state instances.now }
-    ensures ready { IfSome result (CanBeCarriedOut step.now.state) }
+    ensures value { option_map meaning_of result.0 ≡ first_due step.now.state instances.now }
+    ensures ready { IfSome result.0 (CanBeCarriedOut step.now.state) }
+    ensures spent { IsTrue result.1 → IsSpent step.now.state.rows step.now.state.pool }
 {
-    let mut is_pool_spent = false;
+    let mut is_pool_spent = step.is_spent();
     for instance in instances {
         match step.row(*instance) {
             Some(row) => {
                 if let Some(due) = due_of_row(step, *instance, &row.tally, &row.standing) {
-                    return Some(due);
+                    return (Some(due), is_pool_spent);
                 }
             }
             None => {
                 if !is_pool_spent {
-                    if step.first_free(instances, *instance).is_some() {
-                        return Some(Due::Begin(*instance));
+                    if let Some(command) = step.first_free(instances, *instance) {
+                        return (Some(Due::Begin(*instance, command)), false);
                     }
                     is_pool_spent = true;
                 }
             }
         }
     }
-    None
+    (None, is_pool_spent)
 }
 
 /// What is due: the lowest open instance to which anything applies. What is found can be carried out.
+/// It also tells whether the pool is known to have no command for an instance that no fact names.
 #[tactic(auto, unfolding(rr_model::specs::NodeDue::due))]
-pub fn find_due(step: &Step<'_>) -> Option<Due>
-    ensures value { option_map meaning_of result ≡ due step.now.state }
-    ensures ready { IfSome result (CanBeCarriedOut step.now.state) }
+fn find_due(step: &Step<'_>) -> (Option<Due>, bool)
+    ensures value { option_map meaning_of result.0 ≡ due step.now.state }
+    ensures ready { IfSome result.0 (CanBeCarriedOut step.now.state) }
+    ensures spent { IsTrue result.1 → IsSpent step.now.state.rows step.now.state.pool }
 {
     let open = step.open_instances();
     first_due(step, open.as_slice())
@@ -146,15 +161,15 @@ pub fn find_due(step: &Step<'_>) -> Option<Due>
 
 /// The node does what is due.
 #[tactic(auto, unfolding(rr_model::specs::NodeDue::carry_out))]
-pub fn carry_out(step: &mut Step<'_>, due: Due) -> Result<(), Refusal>
+fn carry_out(step: &mut Step<'_>, due: Due) -> Result<(), Refusal>
     requires { CanBeCarriedOut step.old.state due }
     ensures ok { OnOk result (step.new ≡ stepped (carry_out (meaning_of due)) step.old) }
     ensures err { IfErr result (λ e. e ≡ Refusal.OutOfMemory) }
 {
     match due {
-        Due::Begin(instance) => enter(step, instance, Round::at(1), None),
-        Due::Offer(instance, round, command) => propose(step, instance, round, command),
-        Due::Conclude(instance, command) => conclude(step, instance, command),
+        Due::Begin(instance, command) => begin(step, instance, &command),
+        Due::Offer(instance, round, command) => propose(step, instance, round, &command),
+        Due::Conclude(instance, command) => conclude(step, instance, &command),
         Due::MoveOn(instance) => {
             let round = step.round(instance);
             enter(step, instance, Round::at(round + 1), None)
@@ -170,13 +185,20 @@ pub fn settle(step: &mut Step<'_>) -> Result<(), Refusal>
 {
     // A turn uses up one of an instance's steps, at most two a round. All instances together have at most 2^53, so the
     // turns suffice.
+    if step.is_settled() {
+        return Ok(());
+    }
     for turn in 0..TURNS {
-        match find_due(step) {
+        let (due, is_spent) = find_due(step);
+        match due {
             Some(due) => match carry_out(step, due) {
                 Ok(()) => (),
                 Err(refusal) => return Err(refusal),
             },
-            None => return Ok(()),
+            None => {
+                step.note_settled(is_spent);
+                return Ok(());
+            }
         }
     }
     Ok(())

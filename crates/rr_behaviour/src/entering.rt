@@ -1,6 +1,6 @@
 //! Entering a round: with which estimate, and what becomes of the round before.
 
-ghost use Rattle.std.specs.Prelude.{◌≡◌, ◌<◌, true, IfErr, OnOk};
+ghost use Rattle.std.specs.Prelude.{◌≡◌, ◌<◌, true, None, Some, IfErr, OnOk};
 ghost use Rattle.rr_types.specs.Standings.{round_of, is_undecided};
 ghost use Rattle.rr_model.specs.NodeState.{standing_at};
 ghost use Rattle.rr_model.specs.NodeParts.{free_command, enter, leave_round, enter_with, entering_estimate};
@@ -28,8 +28,8 @@ fn entering_estimate(
     requires { round_of (standing_at step.now.state instance) < round }
     ensures { result ≡ entering_estimate instance round heard step.now.state }
 {
-    if let Some(standing) = step.standing(instance) {
-        if let Standing::Open(at) = standing {
+    if let Some(row) = step.row(instance) {
+        if let Standing::Open(at) = &row.standing {
             // Estimate and stamp outlive the round. They carry what a majority may have adopted into the rounds that
             // follow (Chandra and Toueg 1996).
             return Some(Estimate::at(round, at.stamp(), at.estimate()));
@@ -49,9 +49,9 @@ fn leave_round(step: &mut Step<'_>, instance: Instance) -> Result<(), Refusal>
     ensures ok { OnOk result (step.new ≡ stepped (leave_round instance) step.old) }
     ensures err { IfErr result (λ e. e ≡ Refusal.OutOfMemory) }
 {
-    match step.standing(instance) {
+    match step.row(instance) {
         None => Ok(()),
-        Some(standing) => match standing {
+        Some(row) => match &row.standing {
             Standing::Decided(_) => Ok(()),
             Standing::Open(at) => {
                 let round = at.round();
@@ -81,6 +81,19 @@ fn enter_with(step: &mut Step<'_>, instance: Instance, estimate: Estimate) -> Re
     // round, although a later coordinator has counted its estimate (Aguilera, Chen and Toueg 2000).
     step.stage(Fact::Enter(instance, estimate))?;
     step.owe(Body::Estimate(instance, estimate), Some(number), to)
+}
+
+/// An instance that no fact names enters round 1 with the command that the pool has for it.
+#[tactic(auto, using(crate::proofs::RoundLemmas::unnamed_undecided))]
+pub fn begin(step: &mut Step<'_>, instance: Instance, command: &Command) -> Result<(), Refusal>
+    requires unnamed { standing_at step.old.state instance ≡ None }
+    requires free { free_command step.old.state instance ≡ Some command.now }
+    ensures ok { OnOk result (step.new ≡ stepped (enter instance 1 None) step.old) }
+    ensures err { IfErr result (λ e. e ≡ Refusal.OutOfMemory) }
+{
+    let estimate = Estimate::at(Round::at(1), 0, *command);
+    enter_with(step, instance, estimate)?;
+    Ok(())
 }
 
 /// The instance enters a round above its own, with its estimate, a free command of the pool or the one heard.

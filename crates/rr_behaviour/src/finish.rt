@@ -11,8 +11,8 @@ use rr_types::Refusal;
 
 /// All that is due is done: what the step has changed then, if the next fact has a number.
 #[tactic(auto, using(crate::proofs::InputSteps::settled))]
-pub fn finish(mut step: Step<'_>) -> Result<Changes, Refusal>
-    ensures ok { IfOk result (λ c. IsSettled step.entry.base step.entry.state c) }
+pub fn finish(mut step: Step<'_>) -> Result<Box<Changes>, Refusal>
+    ensures ok { IfOk result (λ c. IsSettled step.entry.base step.entry.state c.value) }
     ensures refused { IfErr result (λ e. (e ≡ Refusal.OutOfMemory) ⊎ ((e ≡ Refusal.TooLarge) × (2 ^ 64 ≤ next_number (settle step.entry.state)))) }
 {
     settle(&mut step)?;

@@ -23,14 +23,14 @@ fn catch_up(
     step: &mut Step<'_>,
     instance: Instance,
     round: Round,
-    command: Command,
+    command: &Command,
 ) -> Result<(), Refusal>
     requires { is_undecided (standing_at step.old.state instance) ≡ true }
-    ensures ok { OnOk result (step.new ≡ stepped (catch_up instance round command) step.old) }
+    ensures ok { OnOk result (step.new ≡ stepped (catch_up instance round command.now) step.old) }
     ensures err { IfErr result (λ e. e ≡ Refusal.OutOfMemory) }
 {
     if step.round(instance) < round.number() {
-        enter(step, instance, round, Some(command))
+        enter(step, instance, round, Some(*command))
     } else {
         Ok(())
     }
@@ -60,10 +60,10 @@ fn take_proposal(
     step: &mut Step<'_>,
     instance: Instance,
     round: Round,
-    command: Command,
+    command: &Command,
     from: NodeId,
 ) -> Result<(), Refusal>
-    ensures ok { OnOk result (step.new ≡ stepped (take_proposal instance round command from) step.old) }
+    ensures ok { OnOk result (step.new ≡ stepped (take_proposal instance round command.now from) step.old) }
     ensures err { IfErr result (λ e. e ≡ Refusal.OutOfMemory) }
 {
     if step.round(instance) != round.number() {
@@ -73,7 +73,7 @@ fn take_proposal(
     // phase 3). A further copy is only acknowledged again. The first acknowledgement may be lost, or a coordinator
     // that crashed has forgotten it (Aguilera, Chen and Toueg 2000).
     if step.stamp(instance) < round.number() {
-        step.stage(Fact::Adopt(instance, round, command))?;
+        step.stage(Fact::Adopt(instance, round, *command))?;
     }
     acknowledge(step, instance, round, from)
 }
@@ -84,9 +84,9 @@ fn take_estimate(
     alloc: Global,
     instance: Instance,
     from: NodeId,
-    estimate: Estimate,
+    estimate: &Estimate,
 ) -> Result<(), Refusal>
-    ensures ok { OnOk result (step.new ≡ stepped (take_estimate instance from estimate) step.old) }
+    ensures ok { OnOk result (step.new ≡ stepped (take_estimate instance from estimate.now) step.old) }
     ensures err { IfErr result (λ e. e ≡ Refusal.OutOfMemory) }
 {
     if step.round(instance) == estimate.round().number() {
@@ -102,9 +102,9 @@ fn hear_estimate(
     alloc: Global,
     from: NodeId,
     instance: Instance,
-    estimate: Estimate,
+    estimate: &Estimate,
 ) -> Result<(), Refusal>
-    ensures ok { OnOk result (step.new ≡ stepped (heard_body from (say.Estimate instance estimate)) step.old) }
+    ensures ok { OnOk result (step.new ≡ stepped (heard_body from (say.Estimate instance estimate.now)) step.old) }
     ensures err { IfErr result (λ e. e ≡ Refusal.OutOfMemory) }
 {
     if !step.is_undecided(instance) {
@@ -113,15 +113,13 @@ fn hear_estimate(
     if !step.is_open(instance) {
         return ask(step, from);
     }
-    let round = estimate.round();
-    let command = estimate.command();
+    let command = estimate.command_ref();
     let nodes = step.nodes();
-    if coordinator(round, nodes).index() != step.node().index() {
+    if coordinator(estimate.round(), nodes).index() != step.node().index() {
         return Ok(());
     }
-    let pooled = command;
-    step.pool_add(pooled)?;
-    catch_up(step, instance, round, command)?;
+    step.pool_add(command)?;
+    catch_up(step, instance, estimate.round(), command)?;
     take_estimate(step, alloc, instance, from, estimate)
 }
 
@@ -131,9 +129,9 @@ fn hear_proposal(
     from: NodeId,
     instance: Instance,
     round: Round,
-    command: Command,
+    command: &Command,
 ) -> Result<(), Refusal>
-    ensures ok { OnOk result (step.new ≡ stepped (heard_body from (say.Proposal instance round command)) step.old) }
+    ensures ok { OnOk result (step.new ≡ stepped (heard_body from (say.Proposal instance round command.now)) step.old) }
     ensures err { IfErr result (λ e. e ≡ Refusal.OutOfMemory) }
 {
     if !step.is_undecided(instance) {
@@ -146,10 +144,8 @@ fn hear_proposal(
     if coordinator(round, nodes).index() != from.index() {
         return Ok(());
     }
-    let pooled = command;
-    step.pool_add(pooled)?;
-    let entered = command;
-    catch_up(step, instance, round, entered)?;
+    step.pool_add(command)?;
+    catch_up(step, instance, round, command)?;
     take_proposal(step, instance, round, command, from)
 }
 
@@ -191,30 +187,30 @@ fn hear_nack(
 
 /// What a message says.
 #[tactic(auto, unfolding(rr_model::specs::NodeStep::heard_body))]
-fn hear_body(step: &mut Step<'_>, alloc: Global, from: NodeId, body: Body) -> Result<(), Refusal>
-    ensures ok { OnOk result (step.new ≡ stepped (heard_body from body) step.old) }
+fn hear_body(step: &mut Step<'_>, alloc: Global, from: NodeId, body: &Body) -> Result<(), Refusal>
+    ensures ok { OnOk result (step.new ≡ stepped (heard_body from body.now) step.old) }
     ensures err { IfErr result (λ e. e ≡ Refusal.OutOfMemory) }
 {
     match body {
         Body::Estimate(instance, estimate) => {
-            hear_estimate(step, alloc, from, instance, estimate)
+            hear_estimate(step, alloc, from, *instance, estimate)
         }
         Body::Proposal(instance, round, command) => {
-            hear_proposal(step, from, instance, round, command)
+            hear_proposal(step, from, *instance, *round, command)
         }
-        Body::Ack(instance, round) => hear_ack(step, alloc, from, instance, round),
-        Body::Decision(instance, command) => hear_decision(step, from, instance, command),
+        Body::Ack(instance, round) => hear_ack(step, alloc, from, *instance, *round),
+        Body::Decision(instance, command) => hear_decision(step, from, *instance, command),
         Body::Request(command) => step.pool_add(command),
-        Body::Nack(instance, round) => hear_nack(step, alloc, from, instance, round),
+        Body::Nack(instance, round) => hear_nack(step, alloc, from, *instance, *round),
         Body::Beat => {
             step.beat(from);
             Ok(())
         }
         Body::Suspects(set) => {
-            step.reduce(from, set);
+            step.reduce(from, *set);
             Ok(())
         }
-        Body::Ask(instance) => hear_ask(step, from, instance),
+        Body::Ask(instance) => hear_ask(step, from, *instance),
     }
 }
 
@@ -224,19 +220,24 @@ fn heard(step: &mut Step<'_>, alloc: Global, message: &Message) -> Result<(), Re
     ensures err { IfErr result (λ e. e ≡ Refusal.OutOfMemory) }
 {
     if message.to.index() == step.node().index() {
-        hear_body(step, alloc, message.from, message.body)
+        hear_body(step, alloc, message.from, &message.body)
     } else {
         Ok(())
     }
 }
 
-/// What a message changes.
+/// What a message changes, in the room of other changes.
 #[tactic(auto, using(crate::proofs::InputSteps::hear_is_step, crate::proofs::InputSteps::hear_large))]
-pub fn hear_step(state: &State, alloc: Global, message: &Message) -> Result<Changes, Refusal>
-    ensures ok { IfOk result (λ c. IsStep (Hear message.now) state.now c) }
+pub fn hear_step(
+    state: &State,
+    room: Box<Changes>,
+    alloc: Global,
+    message: &Message,
+) -> Result<Box<Changes>, Refusal>
+    ensures ok { IfOk result (λ c. IsStep (Hear message.now) state.now c.value) }
     ensures refused { IfErr result (λ e. (e ≡ Refusal.OutOfMemory) ⊎ (refusal_of (Hear message.now) state.now ≡ Some e)) }
 {
-    let mut step = Step::new(alloc, state);
+    let mut step = Step::new(room, state);
     heard(&mut step, alloc, message)?;
     finish(step)
 }

@@ -17,5 +17,5 @@ mod tick;
 
 pub use hear::hear_step;
 pub use start::started;
-pub use submit::submit_step;
-pub use tick::{advance_step, suspect_step, tick_step};
+pub use submit::{submit_refusal, submit_step};
+pub use tick::{advance_refusal, advance_step, suspect_step, tick_step};

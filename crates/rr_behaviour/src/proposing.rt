@@ -12,13 +12,12 @@ pub fn propose(
     step: &mut Step<'_>,
     instance: Instance,
     round: Round,
-    command: Command,
+    command: &Command,
 ) -> Result<(), Refusal>
-    ensures ok { OnOk result (step.new ≡ stepped (propose instance round command) step.old) }
+    ensures ok { OnOk result (step.new ≡ stepped (propose instance round command.now) step.old) }
     ensures err { IfErr result (λ e. e ≡ Refusal.OutOfMemory) }
 {
     let number = step.next_number();
-    let command = &command;
     step.stage(Fact::Propose(instance, round, *command))?;
     step.owe_everyone(Body::Proposal(instance, round, *command), Some(number))?;
     Ok(())

@@ -19,18 +19,18 @@ pub fn started(alloc: Global, opened: &Opened) -> Result<State, Refusal>
     ensures err { IfErr result (λ e. e ≡ Refusal.OutOfMemory) }
 {
     let mut state = State::restored(alloc, opened)?;
-    let changes = restatement(&state, alloc)?;
-    state.absorb(alloc, changes)?;
+    let mut changes = restatement(&state, alloc)?;
+    state.absorb(alloc, &mut changes)?;
     Ok(state)
 }
 
 /// What the restatement of the open instances changes.
-fn restatement(state: &State, alloc: Global) -> Result<Changes, Refusal>
-    ensures ok { IfOk result (λ c. combined state.now c ≡ restate_all (open_instances state.now) state.now) }
-    ensures fits { IfOk result (λ c. IsFitting state.now c) }
+fn restatement(state: &State, alloc: Global) -> Result<Box<Changes>, Refusal>
+    ensures ok { IfOk result (λ c. combined state.now c.value ≡ restate_all (open_instances state.now) state.now) }
+    ensures fits { IfOk result (λ c. IsFitting state.now c.value) }
     ensures err { IfErr result (λ e. e ≡ Refusal.OutOfMemory) }
 {
-    let mut step = Step::new(alloc, state);
+    let mut step = Step::new(Box::new(alloc, Changes::none(alloc, state))?, state);
     let open = step.open_instances();
     restate_all(&mut step, open.as_slice())?;
     Ok(step.into_changes())

@@ -11,15 +11,14 @@ ghost use Rattle.rr_behaviour.specs.Changes.{IsStep};
 use crate::finish::finish;
 use rr_step::{Changes, State, Step};
 use rr_types::{Body, Command, Refusal};
-use std::alloc::Global;
 
-/// Why a submit is refused: a new request, with all instances decided here.
-fn submit_refusal(step: &Step<'_>, command: Command) -> Option<Refusal>
-    ensures { result ≡ submit_refusal command step.now.state }
+/// Why a submit is refused: a new request, with all instances decided here. It takes no memory.
+pub fn submit_refusal(state: &State, command: &Command) -> Option<Refusal>
+    ensures { result ≡ submit_refusal command.now state.now }
 {
-    if step.is_list_full()
-        && !step.is_decided_request(command.request)
-        && !step.is_waiting(command.request)
+    if state.is_list_full()
+        && !state.is_decided_request(command.request)
+        && !state.is_waiting(command.request)
     {
         Some(Refusal::ListFull)
     } else {
@@ -41,30 +40,28 @@ fn submitted(step: &mut Step<'_>, command: Command, is_held: bool) -> Result<(),
     if is_known {
         return Ok(());
     }
-    let pooled = command;
-    step.pool_add(pooled)?;
+    step.pool_add(&command)?;
     step.owe_others(Body::Request(command), None)
 }
 
-/// What a client's command changes. `is_held`: whether the decided prefix has its request number. A refusal of the
-/// command for what it is comes before `OutOfMemory`.
+/// What a client's command changes, in the room of other changes. `is_held`: whether the decided prefix has its request
+/// number. A refusal of the command for what it is comes before `OutOfMemory`.
 #[tactic(auto, using(crate::proofs::InputSteps::submit_is_step, crate::proofs::InputSteps::submit_large, crate::proofs::InputSteps::submit_err))]
 pub fn submit_step(
     state: &State,
-    alloc: Global,
+    room: Box<Changes>,
     command: Command,
     is_held: bool,
-) -> Result<Changes, Refusal>
+) -> Result<Box<Changes>, Refusal>
     requires { is_held ≡ has_request (decided_prefix state.now) command.request }
-    ensures ok { IfOk result (λ c. IsStep (Submit command) state.now c) }
+    ensures ok { IfOk result (λ c. IsStep (Submit command) state.now c.value) }
     ensures order { (e : Refusal) → submit_refusal command state.now ≡ Some e → result ≡ Err e }
     ensures refused { IfErr result (λ e. (e ≡ Refusal.OutOfMemory) ⊎ (refusal_of (Submit command) state.now ≡ Some e)) }
 {
-    let asked = command;
-    let mut step = Step::new(alloc, state);
-    if let Some(refusal) = submit_refusal(&step, asked) {
+    if let Some(refusal) = submit_refusal(state, &command) {
         return Err(refusal);
     }
+    let mut step = Step::new(room, state);
     submitted(&mut step, command, is_held)?;
     finish(step)
 }

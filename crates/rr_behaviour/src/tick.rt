@@ -12,7 +12,6 @@ use crate::questions::ask_if_behind;
 use crate::restating::restate_all;
 use rr_step::{Changes, State, Step};
 use rr_types::{Body, NodeSet, Refusal, Round};
-use std::alloc::Global;
 
 /// A tick: a beat, the detector's suspects, the restatement of the open instances, and where the node is
 /// behind a question.
@@ -30,13 +29,13 @@ fn ticked_on(step: &mut Step<'_>) -> Result<(), Refusal>
     ask_if_behind(step)
 }
 
-/// What a tick changes.
+/// What a tick changes, in the room of other changes.
 #[tactic(auto, using(crate::proofs::InputSteps::tick_is_step, crate::proofs::InputSteps::tick_large))]
-pub fn tick_step(state: &State, alloc: Global) -> Result<Changes, Refusal>
-    ensures ok { IfOk result (λ c. IsStep Tick state.now c) }
+pub fn tick_step(state: &State, room: Box<Changes>) -> Result<Box<Changes>, Refusal>
+    ensures ok { IfOk result (λ c. IsStep Tick state.now c.value) }
     ensures refused { IfErr result (λ e. (e ≡ Refusal.OutOfMemory) ⊎ (refusal_of Tick state.now ≡ Some e)) }
 {
-    let mut step = Step::new(alloc, state);
+    let mut step = Step::new(room, state);
     ticked_on(&mut step)?;
     finish(step)
 }
@@ -62,25 +61,40 @@ fn advanced(step: &mut Step<'_>) -> Result<(), Refusal>
     }
 }
 
-/// What an advance changes. In the last round it is refused for that, even where memory runs out.
+/// Why an advance is refused: its instance is in the last round. It takes no memory.
+pub fn advance_refusal(state: &State) -> Option<Refusal>
+    ensures { result ≡ advance_refusal state.now }
+{
+    match state.lowest_in_round() {
+        Some(instance) if state.round(instance) == rr_types::MAX_ROUND => Some(Refusal::RoundsOut),
+        _ => None,
+    }
+}
+
+/// What an advance changes, in the room of other changes. In the last round it is refused for that, even where memory
+/// runs out.
 #[tactic(auto, using(crate::proofs::InputSteps::advance_is_step, crate::proofs::InputSteps::advance_large, crate::proofs::InputSteps::advance_err))]
-pub fn advance_step(state: &State, alloc: Global) -> Result<Changes, Refusal>
-    ensures ok { IfOk result (λ c. IsStep Advance state.now c) }
+pub fn advance_step(state: &State, room: Box<Changes>) -> Result<Box<Changes>, Refusal>
+    ensures ok { IfOk result (λ c. IsStep Advance state.now c.value) }
     ensures order { (e : Refusal) → advance_refusal state.now ≡ Some e → result ≡ Err e }
     ensures refused { IfErr result (λ e. (e ≡ Refusal.OutOfMemory) ⊎ (refusal_of Advance state.now ≡ Some e)) }
 {
-    let mut step = Step::new(alloc, state);
+    let mut step = Step::new(room, state);
     advanced(&mut step)?;
     finish(step)
 }
 
-/// What other suspects change.
+/// What other suspects change, in the room of other changes.
 #[tactic(auto, using(crate::proofs::InputSteps::suspect_is_step, crate::proofs::InputSteps::suspect_large))]
-pub fn suspect_step(state: &State, alloc: Global, suspects: NodeSet) -> Result<Changes, Refusal>
-    ensures ok { IfOk result (λ c. IsStep (Suspect suspects) state.now c) }
+pub fn suspect_step(
+    state: &State,
+    room: Box<Changes>,
+    suspects: NodeSet,
+) -> Result<Box<Changes>, Refusal>
+    ensures ok { IfOk result (λ c. IsStep (Suspect suspects) state.now c.value) }
     ensures refused { IfErr result (λ e. (e ≡ Refusal.OutOfMemory) ⊎ (refusal_of (Suspect suspects) state.now ≡ Some e)) }
 {
-    let mut step = Step::new(alloc, state);
+    let mut step = Step::new(room, state);
     step.suspect(suspects);
     finish(step)
 }

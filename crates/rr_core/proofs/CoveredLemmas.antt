@@ -1,5 +1,5 @@
 -- A message that a node owes is covered where it may leave.
-use Rattle.std.proofs.Common.{◌≡◌, ◌⊎◌, inl, inr, ◌<◌, ℕ, Bool, true, List, get_or, ap, sym, ◌∙◌, refl, Option, Some, None}
+use Rattle.std.proofs.Common.{◌≡◌, ◌⊎◌, inl, inr, ◌<◌, ℕ, true, List, get_or, ap, sym, ◌∙◌, refl, Option, Some, None}
 use Rattle.std.specs.Prelude.{All, IsTrue, nat_lt}
 use Rattle.std.specs.Option.{option_map_or}
 use Rattle.std.proofs.lemmas.Bool.{ltb-true}

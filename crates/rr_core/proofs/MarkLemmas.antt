@@ -1,4 +1,4 @@
-use Rattle.std.proofs.Common.{◌≡◌, ◌≢◌, ◌+◌, ◌-◌, ◌^◌, ◌<◌, ◌≤◌, ℕ, arith, min, Bool, true, false, cond, ◌&&◌, ◌==◌, List, [], ◌∷◌, ◌++◌, length, take, drop, ap, sym, ◌∙◌, refl, subst, Option, Some, None, is_some, option_map, IsTrue, ◌↔◌, MatchOption, rules, IfSome, IsSome, Result, Ok, Err, IfOk, OnOk, OnErr}
+use Rattle.std.proofs.Common.{◌≡◌, ◌≢◌, ◌+◌, ◌-◌, ◌^◌, ◌<◌, ◌≤◌, ℕ, arith, min, Bool, true, false, cond, ◌==◌, List, [], ◌∷◌, ◌++◌, length, take, drop, ap, sym, ◌∙◌, refl, subst, Option, Some, None, is_some, option_map, IsTrue, ◌↔◌, MatchOption, rules, IfSome, IsSome, Result, Ok, Err, IfOk, OnOk, OnErr}
 use Rattle.std.specs.Prelude.{find, slice_get}
 use Rattle.std.specs.Option.{option_map_or}
 use Rattle.std.proofs.lemmas.List.{take-append-drop, take_more, length-take, length-drop, length-append}
@@ -17,7 +17,7 @@ use Rattle.rr_types.specs.Registry.{has_request, is_same_request, Bindings, appl
 use Rattle.rr_types.specs.Groups.{Grouped}
 use Rattle.rr_types.specs.Facts.{instance_of, after_fact, decision_of}
 use Rattle.rr_types.specs.Promises.{standing_in, take_on, take_on_all, all_fit}
-use Rattle.rr_types.specs.Standings.{fits, is_undecided, round_of}
+use Rattle.rr_types.specs.Standings.{fits, is_undecided}
 use Rattle.rr_types.proofs.StandingLemmas.{fits_in_round}
 use Rattle.rr_registry.specs.Kept.{Kept, kept_of, kept_reply}
 use Rattle.rr_registry.proofs.KeptLemmas.{reply-kept_of, bindings-kept_of}

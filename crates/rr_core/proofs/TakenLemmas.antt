@@ -1,7 +1,9 @@
 -- What an input changes can be taken on, and the state with it is kept.
-use Rattle.std.proofs.Common.{◌≡◌, ◌^◌, ◌<◌, ℕ, Bool, true, false, ltb, List, ap, sym, ◌∙◌, refl, subst, Option, Some, None, is_some, Result, Ok, Err, OnOk, OnErr}
+use Rattle.std.proofs.Common.{◌≡◌, ◌^◌, ◌<◌, ℕ, Bool, true, false, ltb, List, ap, sym, ◌∙◌, refl, subst, Option, Some, None, is_some, unwrap_or, ◌⊎◌, inl, inr, Result, Ok, Err, OnOk, OnErr}
 use Rattle.std.proofs.lemmas.Bool.{ltb-true}
 use Rattle.rr_types.specs.declared.refusal.Refusal.{Refusal}
+use Rattle.rr_types.specs.declared.refusal.Refusal.TheVariants.{OutOfMemory}
+use Rattle.rr_types.specs.declared.command.Command.{Command}
 use Rattle.rr_types.specs.declared.command.RequestNo.{RequestNo}
 use Rattle.rr_types.specs.declared.command.Reply.{Reply}
 use Rattle.rr_types.specs.declared.promise.Entry.{Entry}
@@ -9,7 +11,7 @@ use Rattle.rr_types.specs.Registry.{has_request}
 use Rattle.rr_types.specs.Promises.{IsAscending}
 use Rattle.rr_registry.specs.Kept.{Kept, kept_of, kept_reply}
 use Rattle.rr_model.specs.NodeState.{NodeState, next_number, open_instances, decided_prefix}
-use Rattle.rr_model.specs.NodeStep.{Input, Submit, Suspect, Tick, Advance, Hear, node_step, input_refusal, refusal_of, restored, started}
+use Rattle.rr_model.specs.NodeStep.{Input, Submit, Suspect, Tick, Advance, Hear, node_step, input_refusal, submit_refusal, advance_refusal, refusal_of, restored, started}
 use Rattle.rr_step.specs.Steps.{Changed, combined}
 use Rattle.rr_behaviour.specs.Changes.{IsStep}
 use Rattle.rr_behaviour.proofs.RefusalLemmas as refusals
@@ -66,3 +68,12 @@ taken_at input s t c e d = subst (λ (u : NodeState). CanBeTaken u c) e (taken_o
 pub commit_kept : (s t : NodeState) (k : Kept) (c : Changed) (r : Result (Unit {0}) Refusal) → CanBeTaken s c → OnOk r (t ≡ combined s c) → OnErr r (t ≡ s) → IsKept s k → IsKept t k
 commit_kept s t k c (Ok u) d ok err kept = taken_kept s t k c d ok kept
 commit_kept s t k c (Err e) d ok err kept = rw err kept
+
+-- where memory is wanting, what speaks against the input itself is told
+pub submit_unless : (c : Command) (s : NodeState) (o : Option Refusal) (r : Refusal) → o ≡ submit_refusal c s → r ≡ OutOfMemory → (unwrap_or o r ≡ OutOfMemory) ⊎ (refusal_of (Submit c) s ≡ Some (unwrap_or o r))
+submit_unless c s None r e m = inl m
+submit_unless c s (Some x) r e m = refusals.submit_err c s s x refl e
+
+pub advance_unless : (s : NodeState) (o : Option Refusal) (r : Refusal) → o ≡ advance_refusal s → r ≡ OutOfMemory → (unwrap_or o r ≡ OutOfMemory) ⊎ (refusal_of Advance s ≡ Some (unwrap_or o r))
+advance_unless s None r e m = inl m
+advance_unless s (Some x) r e m = refusals.advance_err s s x refl (inr (sym e))

@@ -14,7 +14,10 @@ ghost use Rattle.rr_core.specs.Covered.{LeavesCovered};
 use crate::group::{commands_after, is_running_group, mark_running, put_back, take_group};
 use crate::leaving::{Searched, is_any_answered, take_acknowledged, take_leaving};
 use crate::prefix::registry_of_prefix;
-use rr_behaviour::{advance_step, hear_step, started, submit_step, suspect_step, tick_step};
+use rr_behaviour::{
+    advance_refusal, advance_step, hear_step, started, submit_refusal, submit_step, suspect_step,
+    tick_step,
+};
 use rr_journal::{Opened, Synced};
 use rr_outbox::Cleared;
 use rr_registry::{Entries, Registry};
@@ -31,6 +34,8 @@ use std::marker::Model;
 pub struct Core {
     alloc: Global,
     state: Box<State>,
+    // what the last step changed, whose memory the next one takes; none where that step was refused
+    room: Option<Box<Changes>>,
     registry: Registry,
     searched: Searched,
 }
@@ -63,6 +68,7 @@ impl Core {
             Ok(registry) => Ok(Core {
                 alloc,
                 state: Box::new(alloc, state)?,
+                room: None,
                 registry,
                 searched: Searched {
                     count: 0,
@@ -73,22 +79,39 @@ impl Core {
         }
     }
 
+    /// The room of the last step, for another.
+    fn take_room(&mut self) -> Result<Box<Changes>, Refusal>
+        ensures same { self.new ≡ self.old }
+        ensures err { IfErr result (λ e. e ≡ Refusal.OutOfMemory) }
+    {
+        match self.room.take() {
+            Some(room) => Ok(room),
+            None => {
+                let room = Box::new(self.alloc, Changes::none(self.alloc, &self.state))?;
+                Ok(room)
+            }
+        }
+    }
+
     /// The core takes on what a step has changed.
-    fn commit(&mut self, changes: Changes) -> Result<(), Refusal>
-        requires { CanBeTaken self.old changes }
-        ensures ok { OnOk result (self.new ≡ combined self.old changes) }
+    fn commit(&mut self, changes: Box<Changes>) -> Result<(), Refusal>
+        requires { CanBeTaken self.old changes.value }
+        ensures ok { OnOk result (self.new ≡ combined self.old changes.value) }
         ensures refused { IfErr result (λ e. e ≡ Refusal.OutOfMemory) }
         ensures err { OnErr result (self.new ≡ self.old) }
     {
         if is_any_answered(&changes.waiting, &self.registry) {
             self.searched.is_stale = true;
         }
-        self.state.absorb(self.alloc, changes)
+        let mut changes = changes;
+        let absorbed = self.state.absorb(self.alloc, &mut changes);
+        self.room = Some(changes);
+        absorbed
     }
 
     /// A client asks for a command. It is `ListFull`, even where memory runs out, if the command is new and all
     /// instances are decided here. It is `TooLarge` where a fact would have no number.
-    #[tactic(auto, using(crate::proofs::TakenLemmas::held))]
+    #[tactic(auto, using(crate::proofs::TakenLemmas::held, crate::proofs::TakenLemmas::submit_unless))]
     pub fn submit(&mut self, command: Command) -> Result<(), Refusal>
         ensures ok { OnOk result (self.new ≡ node_step (Submit command) self.old) }
         ensures allowed { OnOk result (refusal_of (Submit command) self.old ≡ None) }
@@ -97,7 +120,14 @@ impl Core {
         ensures err { OnErr result (self.new ≡ self.old) }
     {
         let is_held = self.registry.reply(command.request).is_some();
-        match submit_step(&self.state, self.alloc, command, is_held) {
+        let room = match self.take_room() {
+            Ok(room) => room,
+            // What speaks against the command itself is told even where memory runs out.
+            Err(refusal) => {
+                return Err(submit_refusal(&self.state, &command).unwrap_or(refusal));
+            }
+        };
+        match submit_step(&self.state, room, command, is_held) {
             Ok(changes) => self.commit(changes),
             Err(refusal) => Err(refusal),
         }
@@ -110,7 +140,8 @@ impl Core {
         ensures refused { IfErr result (λ e. (e ≡ Refusal.OutOfMemory) ⊎ (refusal_of (Hear message.now) self.old ≡ Some e)) }
         ensures err { OnErr result (self.new ≡ self.old) }
     {
-        match hear_step(&self.state, self.alloc, message) {
+        let room = self.take_room()?;
+        match hear_step(&self.state, room, self.alloc, message) {
             Ok(changes) => self.commit(changes),
             Err(refusal) => Err(refusal),
         }
@@ -123,7 +154,8 @@ impl Core {
         ensures refused { IfErr result (λ e. (e ≡ Refusal.OutOfMemory) ⊎ (refusal_of (Suspect suspects) self.old ≡ Some e)) }
         ensures err { OnErr result (self.new ≡ self.old) }
     {
-        match suspect_step(&self.state, self.alloc, suspects) {
+        let room = self.take_room()?;
+        match suspect_step(&self.state, room, suspects) {
             Ok(changes) => self.commit(changes),
             Err(refusal) => Err(refusal),
         }
@@ -137,7 +169,8 @@ impl Core {
         ensures refused { IfErr result (λ e. (e ≡ Refusal.OutOfMemory) ⊎ (refusal_of Tick self.old ≡ Some e)) }
         ensures err { OnErr result (self.new ≡ self.old) }
     {
-        match tick_step(&self.state, self.alloc) {
+        let room = self.take_room()?;
+        match tick_step(&self.state, room) {
             Ok(changes) => self.commit(changes),
             Err(refusal) => Err(refusal),
         }
@@ -145,6 +178,7 @@ impl Core {
 
     /// The lowest open instance that has a round enters the next one. It is `RoundsOut` where that is the last
     /// round already, even where memory runs out, and `TooLarge` where a fact would have no number.
+    #[tactic(auto, using(crate::proofs::TakenLemmas::advance_unless))]
     pub fn advance(&mut self) -> Result<(), Refusal>
         ensures ok { OnOk result (self.new ≡ node_step Advance self.old) }
         ensures allowed { OnOk result (refusal_of Advance self.old ≡ None) }
@@ -152,7 +186,11 @@ impl Core {
         ensures refused { IfErr result (λ e. (e ≡ Refusal.OutOfMemory) ⊎ (refusal_of Advance self.old ≡ Some e)) }
         ensures err { OnErr result (self.new ≡ self.old) }
     {
-        match advance_step(&self.state, self.alloc) {
+        let room = match self.take_room() {
+            Ok(room) => room,
+            Err(refusal) => return Err(advance_refusal(&self.state).unwrap_or(refusal)),
+        };
+        match advance_step(&self.state, room) {
             Ok(changes) => self.commit(changes),
             Err(refusal) => Err(refusal),
         }

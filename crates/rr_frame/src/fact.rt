@@ -85,7 +85,7 @@ pub fn put_estimate(out: &mut Vec<u8>, estimate: &Estimate) -> Result<(), AllocE
 {
     put_u32(out, estimate.round().number())?;
     put_u32(out, estimate.stamp())?;
-    put_command(out, &estimate.command())?;
+    put_command(out, estimate.command_ref())?;
     Ok(())
 }
 

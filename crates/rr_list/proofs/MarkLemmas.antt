@@ -6,6 +6,7 @@ use Rattle.std.specs.BTreeMap.{insert_entry, is_at}
 use Rattle.std.specs.Map.{lookup}
 use Rattle.std.proofs.lemmas.Bool.{ne_eqb, eq-eqb, lt-ltb, le-ltb, ltb-true, ltb-false, eqb-false}
 use Rattle.std.proofs.lemmas.List.{drop_all, drop_more}
+use Rattle.std.proofs.lemmas.Option.{none-some, same_Some}
 use Rattle.rr_types.specs.declared.command.Command.{Command}
 use Rattle.rr_types.specs.declared.fact.Fact.{Fact}
 use Rattle.rr_types.specs.declared.fact.Fact.TheVariants.{Enter, Propose, Adopt, Decide}
@@ -33,6 +34,17 @@ standing_by e es i k more false h = rw (eq_nat_cmp i e.0, k, h) more
 pub standing_at : (es : List (ℕ × Entry)) (i : ℕ) → AreEntered es → standing_in (entries_in es) i ≡ stands (lookup (is_at (nat_cmp i)) es)
 standing_at [] i h = refl
 standing_at (e ∷ es) i h = standing_by e es i h.0 (standing_at es i h.1) (e.1.instance == i) refl
+
+instance_by : (e : ℕ × Entry) (es : List (ℕ × Entry)) (i : ℕ) (x : Entry) → e.0 ≡ e.1.instance → (lookup (is_at (nat_cmp i)) es ≡ Some x → i ≡ x.instance) → lookup (is_at (nat_cmp i)) (e ∷ es) ≡ Some x → (b : Bool) → (e.0 == i) ≡ b → i ≡ x.instance
+instance_by e es i x k more t true h =
+    let same : e.1 ≡ x = same_Some e.1 x (rw (eq_nat_cmp i e.0, h) at t) in
+    sym (eqb-true e.0 i h) ∙ k ∙ ap (λ (y : Entry). y.instance) same
+instance_by e es i x k more t false h = more (rw (eq_nat_cmp i e.0, h) at t)
+
+-- and what it finds is at its instance
+pub instance_at : (es : List (ℕ × Entry)) (i : ℕ) (x : Entry) → AreEntered es → lookup (is_at (nat_cmp i)) es ≡ Some x → i ≡ x.instance
+instance_at [] i x h t = absurd (none-some x t)
+instance_at (e ∷ es) i x h t = instance_by e es i x h.0 (instance_at es i x h.1) t (e.0 == i) refl
 
 set_by : (x : Entry) (e : ℕ × Entry) (es : List (ℕ × Entry)) → e.0 ≡ e.1.instance → entries_in (insert_entry nat_cmp es x.instance x) ≡ set_entry x.instance x.standing (entries_in es) → (a b : Bool) → nat_lt x.instance e.1.instance ≡ a → (x.instance == e.1.instance) ≡ b → entries_in (insert_entry nat_cmp (e ∷ es) x.instance x) ≡ set_entry x.instance x.standing (entries_in (e ∷ es))
 set_by x e es k more true b h i = rw (k, h)

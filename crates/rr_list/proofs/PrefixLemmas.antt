@@ -1,8 +1,13 @@
 -- The decided prefix in its vector: where its instances stand, its commands moved, and the facts about it left out.
-use Rattle.std.proofs.Common.{◌≡◌, ℕ, zero, suc, ◌+◌, ◌-◌, ◌<◌, ◌≤◌, Bool, true, false, ◌==◌, ◌||◌, nat_lt, if◌then◌else◌, List, [], ◌∷◌, ◌++◌, length, slice_get, Option, None, Some, is_some, refl, ap, sym, ◌∙◌, arith, subst, eqb-true, get_or, drop, IsTrue, IfSome}
+use Rattle.std.proofs.Common.{◌≡◌, ℕ, zero, suc, ◌+◌, ◌-◌, ◌<◌, ◌≤◌, Bool, true, false, ◌==◌, ◌||◌, nat_lt, if◌then◌else◌, List, [], ◌∷◌, ◌++◌, length, slice_get, Option, None, Some, is_some, refl, ap, sym, ◌∙◌, arith, subst, eqb-true, get_or, drop, IfSome}
 use Rattle.std.specs.Ordering.{nat_cmp}
-use Rattle.std.specs.BTreeMap.{insert_entry}
+use Rattle.std.specs.BTreeMap.{insert_entry, is_at}
+use Rattle.std.specs.List.Sorted.{IsStrictlySortedBy}
+use Rattle.std.specs.Map.{keys_of, lookup, set_value}
 use Rattle.std.proofs.lemmas.Bool.{ne_eqb, eq-eqb, lt-ltb, le-ltb, ltb-true, ltb-false, eqb-false}
+use Rattle.std.proofs.lemmas.Cmp.{nat_cmp_total}
+use Rattle.std.proofs.lemmas.Map.Lookups.{exact_unsigned}
+use Rattle.std.proofs.lemmas.Map.Steps.{set_value_same}
 use Rattle.std.proofs.lemmas.Option.{none-some, same_Some, slice_get-get_or}
 use Rattle.rr_types.specs.declared.command.Command.{Command}
 use Rattle.rr_types.specs.declared.fact.Fact.{Fact}
@@ -11,13 +16,14 @@ use Rattle.rr_types.specs.declared.promise.Standing.TheVariants.{Decided, Open}
 use Rattle.rr_types.specs.declared.promise.Entry.{Entry}
 use Rattle.rr_types.specs.Facts.{instance_of, after_fact, decision_of}
 use Rattle.rr_types.specs.Standings.{standing_from, IsInRound}
-use Rattle.rr_types.specs.Promises.{AscendsFrom, IsAscending, standing_in, set_entry, take_on, take_on_all}
+use Rattle.rr_types.specs.Promises.{AscendsFrom, IsAscending, standing_in, set_entry, set_standing, take_on, take_on_all}
 use Rattle.rr_model.proofs.Promised.{standing_in-take_on, standing_in-take_on_all}
 use Rattle.rr_places.specs.Places.{filled, has_place}
+use Rattle.rr_places.proofs.PlaceLemmas.{filled-set, lookup-filled, value_of_place, joined}
 use Rattle.rr_list.specs.Listed.{KeepsPromised, AllInRound}
 use Rattle.rr_list.specs.declared.marks.Marks.{Marks}
 use Rattle.rr_list.specs.Marked.{entries_in, AreEntered, decided_entries, marked_in, has_mark_place, AreMarks, IsNext, IsCounted, facts_from}
-use Rattle.rr_list.proofs.MarkLemmas.{decided_in, some_or, none_is, none_below, ascend_all, facts_at, prefix_decided, set_entry_at, entered_at, ascend_set, instances_set}
+use Rattle.rr_list.proofs.MarkLemmas.{stands, standing_at, instance_at, decided_in, some_or, none_is, none_below, ascend_all, facts_at, prefix_decided, set_entry_at, entered_at, ascend_set, instances_set}
 use Rattle.rr_list.proofs.TableLemmas.{eq_nat_cmp}
 
 by_bool : {Z : Type 0} (b : Bool) → (b ≡ true → Z) → (b ≡ false → Z) → Z
@@ -193,9 +199,64 @@ tree_marks m n i x h e r l c p t =
       instances = rw value (instances_set x.instance x.standing (marked_in m) (omega (arith, e, r)) h.instances);
     }
 
--- a place behind the vector is in the tree
-pub place_high : (m : Marks) (i k : ℕ) → i ≡ k → length m.commands.items ≤ k → IsTrue (has_mark_place m k) → IsTrue (has_place nat_cmp m.entries.entries i)
-place_high m i k e l t = let o : nat_lt k (length m.commands.items) ≡ false = le-ltb _ _ l in subst (λ j. IsTrue (has_place nat_cmp m.entries.entries j)) (sym e) (subst (λ b. IsTrue (b || has_place nat_cmp m.entries.entries k)) o t)
+-- one fact has been taken on
+pub record HasTaken (m n : Marks) (f : Fact) : Type 0 where
+  pub value : marked_in n ≡ take_on (marked_in m) f
+  pub marks : AreMarks n
+
+-- the place of an instance behind the vector, as a look-up finds it
+pub record IsPlace (m : Marks) (i : ℕ) (p : Option Entry) : Type 0 where
+  pub behind : length m.commands.items ≤ i
+  pub sorted : IsStrictlySortedBy nat_cmp (keys_of m.entries.entries)
+  pub found : lookup (is_at (nat_cmp i)) m.entries.entries ≡ Some p
+
+pub place_behind : (m : Marks) (f : Fact) (i : ℕ) (p : Option Entry) → AreMarks m → m.prefix ≤ instance_of f → i ≡ instance_of f → IsStrictlySortedBy nat_cmp (keys_of m.entries.entries) → Some p ≡ lookup (is_at (nat_cmp i)) m.entries.entries → IsPlace m i p
+place_behind m f i p h l e s t = record { behind = let q = h.moved in omega (arith, q, l, e); sorted = s; found = sym t }
+
+-- what a place has is the entry of its instance
+pub entry_in_place : (m : Marks) (i : ℕ) (x : Entry) → AreMarks m → IsPlace m i (Some x) → i ≡ x.instance
+entry_in_place m i x h at = instance_at (filled m.entries.entries) i x h.entered (value_of_place (is_at (nat_cmp i)) m.entries.entries x at.found)
+
+-- the instance stands by it
+stands_in_place : (m : Marks) (i : ℕ) (p : Option Entry) → AreMarks m → IsPlace m i p → standing_in (marked_in m) i ≡ stands p
+stands_in_place m i p h at =
+    let b = at.behind in
+    stands_high 0 i m.commands.items (entries_in (filled m.entries.entries)) (omega (arith, b))
+    ∙ standing_at (filled m.entries.entries) i h.entered
+    ∙ ap stands (lookup-filled nat_cmp nat_cmp_total i m.entries.entries at.sorted ∙ ap joined at.found)
+
+-- a fact about it is of its round
+pub round_in_place : (m : Marks) (f : Fact) (i : ℕ) (p : Option Entry) → AreMarks m → IsPlace m i p → i ≡ instance_of f → IsInRound (standing_in (marked_in m) (instance_of f)) f → IsInRound (stands p) f
+round_in_place m f i p h at e r = subst (λ o. IsInRound o f) (ap (standing_in (marked_in m)) (sym e) ∙ stands_in_place m i p h at) r
+
+-- an entry written in the place takes a fact on
+pub taken_in_place : (m n : Marks) (f : Fact) (i : ℕ) (p : Option Entry) (x : Entry) → AreMarks m → IsPlace m i p → i ≡ instance_of f → i ≡ x.instance → i < 1048576 → Some x.standing ≡ after_fact (stands p) f → n.commands.items ≡ m.commands.items → n.prefix ≡ m.prefix → n.entries.entries ≡ set_value (is_at (nat_cmp i)) m.entries.entries (Some x) → HasTaken m n f
+taken_in_place m n f i p x h at e k r s c q t =
+    let b = at.behind in
+    let low : length m.commands.items ≤ x.instance = omega (arith, b, k) in
+    let tree : tree_set m n i x = ap filled t ∙ filled-set nat_cmp nat_cmp_total exact_unsigned i (Some x) m.entries.entries at.sorted (ap is_some at.found) in
+    let after : after_fact (standing_in (marked_in m) (instance_of f)) f ≡ Some x.standing = ap (λ j. after_fact (standing_in (marked_in m) j) f) (sym e) ∙ ap (λ o. after_fact o f) (stands_in_place m i p h at) ∙ sym s in
+    record {
+      value = tree_value m n i x h k low c tree ∙ ap (λ j. set_entry j x.standing (marked_in m)) (sym k ∙ e) ∙ ap (λ o. set_standing (instance_of f) o (marked_in m)) (sym after);
+      marks = tree_marks m n i x h k r low c q tree;
+    }
+
+-- a place left as it is takes on a fact that leaves no standing
+pub left_in_place : (m n : Marks) (f : Fact) (i : ℕ) (p : Option Entry) → AreMarks m → IsPlace m i p → i ≡ instance_of f → after_fact (stands p) f ≡ None → n.commands.items ≡ m.commands.items → n.prefix ≡ m.prefix → n.entries.entries ≡ set_value (is_at (nat_cmp i)) m.entries.entries p → HasTaken m n f
+left_in_place m n f i p h at e s c q t =
+    let len : length n.commands.items ≡ length m.commands.items = ap (λ (vs : List Command). length vs) c in
+    let tree : filled n.entries.entries ≡ filled m.entries.entries = ap filled (t ∙ set_value_same (is_at (nat_cmp i)) m.entries.entries p at.found) in
+    let value : marked_in n ≡ marked_in m = ap (λ vs. decided_entries 0 vs ++ entries_in (filled n.entries.entries)) c ∙ ap (λ es. decided_entries 0 m.commands.items ++ entries_in es) tree in
+    let after : after_fact (standing_in (marked_in m) (instance_of f)) f ≡ None = ap (λ j. after_fact (standing_in (marked_in m) j) f) (sym e) ∙ ap (λ o. after_fact o f) (stands_in_place m i p h at) ∙ s in
+    record {
+      value = value ∙ ap (λ o. set_standing (instance_of f) o (marked_in m)) (sym after);
+      marks = record {
+        moved = let l = h.moved in omega (arith, len, q, l);
+        entered = rw tree h.entered;
+        behind = rw (len, tree) h.behind;
+        instances = rw value h.instances;
+      };
+    }
 
 -- the tree's first command goes behind the vector
 first_entered : (n : ℕ) (x : Entry) (es : List (ℕ × Option Entry)) → slice_get es 0 ≡ Some (n, Some x) → AreEntered (filled es) → n ≡ x.instance

@@ -1,6 +1,6 @@
 //! The table of instances.
 
-ghost use Rattle.std.specs.Prelude.{◌≡◌, ◌≤◌, ◌&&◌, ◌++◌, None, Some, map, length, slice_get, nat_lt, IfOk, IfErr, OnOk, OnErr, MatchOption};
+ghost use Rattle.std.specs.Prelude.{◌≡◌, ◌≤◌, ◌&&◌, ◌++◌, [], None, Some, map, length, slice_get, nat_lt, IfOk, IfErr, OnOk, OnErr, MatchOption};
 ghost use Rattle.std.specs.List.{list_any};
 ghost use Rattle.rr_types.specs.Promises.{IsAscending, take_on_all};
 ghost use Rattle.rr_model.specs.NodeState.{row_of, is_decided, undecided_from, decided_from};
@@ -62,9 +62,10 @@ impl Instances {
         }
     }
 
-    /// The row of an instance.
+    /// The row of an instance; the rows ascend.
     pub fn row(&self, instance: Instance) -> Option<&Row>
-        ensures { MatchOption result (row_of self.now.rows instance ≡ None) (λ r. row_of self.now.rows instance ≡ Some r.now) }
+        ensures row { MatchOption result (row_of self.now.rows instance ≡ None) (λ r. row_of self.now.rows instance ≡ Some r.now) }
+        ensures ascend { AscendFrom 0 self.now.rows }
     {
         match self.rows.row(instance.number()) {
             Some(row) => Some(row),
@@ -115,18 +116,20 @@ impl Instances {
         self.rows.has_decided_above(instance)
     }
 
-    /// Puts these rows, all of them or, after an error, none. No decision may change.
-    pub fn absorb(&mut self, alloc: Global, rows: Vec<Row>) -> Result<(), Refusal>
-        requires { KeepsDecisions self.old.rows (put_rows self.old.rows rows.items) }
-        ensures ok { OnOk result (self.new ≡ record self.old { rows = put_rows self.old.rows rows.items }) }
+    /// Puts these rows, all of them or, after an error, none. No decision may change. The rows leave the vector, unless
+    /// an error comes.
+    pub fn absorb(&mut self, alloc: Global, rows: &mut Vec<Row>) -> Result<(), Refusal>
+        requires { KeepsDecisions self.old.rows (put_rows self.old.rows rows.old.items) }
+        ensures ok { OnOk result (self.new ≡ record self.old { rows = put_rows self.old.rows rows.old.items }) }
+        ensures taken { OnOk result (rows.new.items ≡ []) }
         ensures kept { OnErr result (self.new ≡ self.old) }
         ensures err { IfErr result (λ e. e ≡ Refusal.OutOfMemory) }
     {
         if rows.is_empty() {
             return Ok(());
         }
-        self.marks.make_places(&rows)?;
-        let is_decision_new = is_any_decided(&rows);
+        self.marks.make_places(rows)?;
+        let is_decision_new = is_any_decided(rows);
         match self.rows.absorb(alloc, rows) {
             Ok(()) => {
                 self.window = self.rows.slide_behind(&self.window, is_decision_new);

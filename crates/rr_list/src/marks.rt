@@ -10,7 +10,7 @@ ghost use Rattle.rr_types.specs.Standings.{IsInRound};
 ghost use Rattle.rr_list.specs.Listed.{KeepsPromised, AllInRound};
 ghost use Rattle.rr_list.specs.Marked.{marked_in, decided_entries, has_mark_place, AreMarks, IsNext, IsBegun, IsCounted, HaveMarkPlaces, facts_from, decision_after, decided_by};
 
-use rr_places::{insert, make_place, put, value_of};
+use rr_places::{insert, make_place, value_of};
 use rr_round::Row;
 use rr_types::{Command, Entry, Fact, INSTANCES, Instance, Op, Refusal, Standing, made_of};
 use std::alloc::Global;
@@ -64,21 +64,6 @@ impl Marks {
         }
     }
 
-    /// Where the instance with this number stands, if it is one.
-    pub(crate) fn standing(&self, number: u32) -> Option<Standing>
-        requires { AreMarks self.now }
-        ensures { result ≡ standing_in (marked_in self.now) number }
-    {
-        made_of!(Command, Op, Standing);
-        match self.moved(number) {
-            Some(command) => Some(Standing::Decided(command)),
-            None => match self.entry(number) {
-                Some(entry) => Some(entry.standing),
-                None => None,
-            },
-        }
-    }
-
     /// Makes a place for an instance.
     pub(crate) fn make_place(&mut self, instance: Instance) -> Result<(), Refusal>
         ensures value { marked_in self.new ≡ marked_in self.old }
@@ -90,7 +75,7 @@ impl Marks {
     {
         made_of!(Command, Op, Standing);
         let number = instance.number();
-        if number as usize >= self.commands.len() {
+        if number as usize >= self.commands.len() && !self.entries.contains_key(&number) {
             make_place(&mut self.entries, number)?;
         }
         Ok(())
@@ -109,21 +94,6 @@ impl Marks {
             self.make_place(row.instance)?;
         }
         Ok(())
-    }
-
-    /// Sets where an instance of the tree stands that has a place. It needs no memory.
-    fn set(&mut self, entry: &Entry)
-        requires marks { AreMarks self.old }
-        requires behind { length self.old.commands.items ≤ entry.now.instance }
-        requires place { IsTrue (has_mark_place self.old entry.now.instance) }
-        ensures value { marked_in self.new ≡ set_entry entry.now.instance entry.now.standing (marked_in self.old) }
-        ensures marks { AreMarks self.new }
-        ensures prefix { self.new.prefix ≡ self.old.prefix }
-        ensures places { (i : ℕ) → has_mark_place self.new i ≡ has_mark_place self.old i }
-    {
-        made_of!(Command, Op, Standing);
-        let number = entry.instance.number();
-        put(&mut self.entries, number, Some(*entry));
     }
 
     /// Sets where an instance of the tree stands, and makes a place for it where it has none.
@@ -154,8 +124,15 @@ impl Marks {
         ensures places { (i : ℕ) → has_mark_place self.new i ≡ has_mark_place self.old i }
     {
         let instance = fact.instance();
-        if let Some(standing) = Standing::after(&self.standing(instance.number()), fact) {
-            self.set(&Entry { instance, standing });
+        if let Some(place) = self.entries.get_mut(&instance.number()) {
+            match place {
+                Some(entry) => entry.standing.take_on(fact),
+                None => {
+                    if let Some(standing) = Standing::first(fact) {
+                        *place = Some(Entry { instance, standing });
+                    }
+                }
+            }
         }
     }
 

@@ -10,7 +10,7 @@ ghost use Rattle.rr_list.specs.Opened.{open_in};
 
 use crate::rows::Rows;
 use crate::window::Window;
-use rr_types::{INSTANCES, Instance, WINDOW};
+use rr_types::{INSTANCES, Instance, Standing, WINDOW};
 
 impl Rows {
     /// Whether the instance with this number has decided.
@@ -20,7 +20,7 @@ impl Rows {
         ensures ascend { AscendFrom 0 self.now }
     {
         match self.row(number) {
-            Some(row) => row.decided_command().is_some(),
+            Some(row) => matches!(&row.standing, Standing::Decided(_)),
             None => false,
         }
     }

@@ -18,6 +18,7 @@ use rr_types::{Command, Entry, Instance, Op, Refusal, RequestNo, Standing};
 use std::alloc::Global;
 use std::collections::BTreeMap;
 use std::marker::Model;
+use std::mem;
 
 /// The rows, each at its instance; the requests that they have decided; and the number above the highest instance
 /// that has decided, or 0.
@@ -344,21 +345,21 @@ impl Rows {
         Ok(())
     }
 
-    /// Puts these rows, all of them or, after an error, none. No decision may change.
-    pub(crate) fn absorb(&mut self, alloc: Global, rows: Vec<Row>) -> Result<(), Refusal>
-        requires { KeepsDecisions self.old (put_rows self.old rows.items) }
-        ensures ok { OnOk result (self.new ≡ put_rows self.old rows.items) }
+    /// Puts these rows, all of them or, after an error, none, and leaves the vector empty. No decision may change.
+    pub(crate) fn absorb(&mut self, alloc: Global, rows: &mut Vec<Row>) -> Result<(), Refusal>
+        requires { KeepsDecisions self.old (put_rows self.old rows.old.items) }
+        ensures ok { OnOk result (self.new ≡ put_rows self.old rows.old.items) }
+        ensures taken { rows.new.items ≡ [] }
         ensures kept { OnErr result (self.new ≡ self.old) }
         ensures ascend { OnOk result (AscendFrom 0 self.new) }
         ensures instances { OnOk result (AreInstances self.new) }
         ensures err { IfErr result (λ e. e ≡ Refusal.OutOfMemory) }
     {
-        let mut rows = rows;
         if rows.len() == 1 {
-            if let Some(row) = rows.pop() {
-                return self.put(row);
-            }
+            let row = rows.swap_remove(0);
+            return self.put(row);
         }
+        let rows = mem::replace(rows, Vec::new(alloc));
         self.absorb_all(alloc, rows)
     }
 

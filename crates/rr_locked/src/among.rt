@@ -36,7 +36,7 @@ fn estimate_law(estimate: &Estimate)
 {
     let _round = estimate.round().number();
     let _stamp = estimate.stamp();
-    command_law(&estimate.command());
+    command_law(estimate.command_ref());
 }
 
 fn reply_law(reply: Reply)

@@ -10,7 +10,7 @@ fn is_same_estimate(estimate: &Estimate, other: &Estimate) -> bool
 {
     estimate.round().number() == other.round().number()
         && estimate.stamp() == other.stamp()
-        && estimate.command().is_same(&other.command())
+        && estimate.command_ref().is_same(other.command_ref())
 }
 
 /// Whether two facts are one.
@@ -42,9 +42,7 @@ fn compare_facts(facts: &[Fact], others: &[Fact]) -> bool
         return false;
     }
     for index in 0..facts.len() {
-        let fact = facts[index];
-        let other = others[index];
-        if !is_same_fact(&fact, &other) {
+        if !is_same_fact(&facts[index], &others[index]) {
             return false;
         }
     }

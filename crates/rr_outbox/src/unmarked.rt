@@ -129,6 +129,7 @@ impl Unmarked {
     }
 
     /// The facts of the running group go. It needs no memory.
+    #[tactic(auto, using(std::proofs::lemmas::List::drop_all))]
     pub fn drop_running(&mut self)
         ensures { self.new ≡ record self.old { running = None } }
     {
@@ -137,6 +138,10 @@ impl Unmarked {
             None => 0,
         };
         self.running = None;
-        drop(self.facts.drain(..count));
+        if count == self.facts.len() {
+            self.facts.clear();
+        } else {
+            drop(self.facts.drain(..count));
+        }
     }
 }

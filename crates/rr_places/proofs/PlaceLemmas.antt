@@ -5,7 +5,7 @@ use Rattle.std.specs.Cmp.{IsTotalOrder}
 use Rattle.std.specs.List.{AllByRecursion}
 use Rattle.std.specs.List.Sorted.{IsStrictlySortedBy}
 use Rattle.std.specs.BTreeMap.{insert_entry, is_at}
-use Rattle.std.specs.Map.{lookup, remove_entry, keys_of}
+use Rattle.std.specs.Map.{lookup, remove_entry, set_value, keys_of}
 use Rattle.std.proofs.lemmas.Map.Keys.{sorted_head, sorted_tail}
 use Rattle.std.proofs.lemmas.Map.Lookups.{CmpEqualImpliesEq}
 use Rattle.rr_places.specs.Places.{filled, filled_cons, put_entry, held}
@@ -195,6 +195,23 @@ module _ {K V : Type 0} where
     filled-put o exact k None [] s = refl
     filled-put o exact k (Some v) [] s = refl
     filled-put o exact k v (e ∷ es) s = put_first o exact k v e es s (filled-put o exact k v es (sorted_tail R e.0 (keys_of es) s)) (R k e.0) refl
+
+    set_first : IsTotalOrder R → (k : K) (v : Option V) (e : K × Option V) (es : List (K × Option V)) → IsStrictlySortedBy R (keys_of (e ∷ es)) → (is_some (lookup (is_at (R k)) es) ≡ true → set_value (is_at (R k)) es v ≡ insert_entry R es k v) → is_some (lookup (is_at (R k)) (e ∷ es)) ≡ true → (r : Ordering) → R k e.0 ≡ r → set_value (is_at (R k)) (e ∷ es) v ≡ insert_entry R (e ∷ es) k v
+    set_first o k v e es s more t Less h =
+        let none : lookup (is_at (R k)) es ≡ None = none_below k es (below_less o k e.0 es h (sorted_head R e.0 (keys_of es) s)) in
+        let p = rw (h, none) at t in
+        cc
+    set_first o k v e es s more t Equal h = rw h refl
+    set_first o k v e es s more t Greater h = rw h (ap (λ xs. e ∷ xs) (more (rw h at t)))
+
+    -- what is written in a place that is found is as if put there
+    set_insert : IsTotalOrder R → (k : K) (v : Option V) (es : List (K × Option V)) → IsStrictlySortedBy R (keys_of es) → is_some (lookup (is_at (R k)) es) ≡ true → set_value (is_at (R k)) es v ≡ insert_entry R es k v
+    set_insert o k v [] s t = cc
+    set_insert o k v (e ∷ es) s t = set_first o k v e es s (set_insert o k v es (sorted_tail R e.0 (keys_of es) s)) t (R k e.0) refl
+
+    -- what is written in a place is put among the entries
+    pub filled-set : IsTotalOrder R → CmpEqualImpliesEq R → (k : K) (v : Option V) (es : List (K × Option V)) → IsStrictlySortedBy R (keys_of es) → is_some (lookup (is_at (R k)) es) ≡ true → filled (set_value (is_at (R k)) es v) ≡ put_entry R (filled es) k v
+    filled-set o exact k v es s t = ap filled (set_insert o k v es s t) ∙ filled-put o exact k v es s
 
     count_first : IsTotalOrder R → (k : K) (v : Option V) (e : K × Option V) (es : List (K × Option V)) → IsStrictlySortedBy R (keys_of (e ∷ es)) → length (filled (insert_entry R es k v)) + held (lookup (is_at (R k)) (filled es)) ≡ length (filled es) + held v → (r : Ordering) → R k e.0 ≡ r → length (filled (insert_entry R (e ∷ es) k v)) + held (lookup (is_at (R k)) (filled (e ∷ es))) ≡ length (filled (e ∷ es)) + held v
     count_first o k v e es s more Less h =

@@ -91,6 +91,7 @@ impl<V: Drop> Numbered<V> {
     }
 
     /// Writes what a number's place holds, and makes the place if it has none. Memory is refused only for a new place.
+    #[inline(always)]
     fn write(&mut self, number: u32, place: Option<V>) -> Result<(), AllocError>
         ensures ok { OnOk result (self.new ≡ insert_entry nat_cmp self.old number place) }
         ensures err { OnErr result (self.new ≡ self.old) }
@@ -133,6 +134,7 @@ impl<V: Drop> Numbered<V> {
     }
 
     /// Gives a number that has a place a value. It needs no memory.
+    #[inline(always)]
     pub fn put(&mut self, number: u32, value: V)
         requires { IsTrue (has_place nat_cmp self.old number) }
         ensures filled { filled self.new ≡ put_entry nat_cmp (filled self.old) number (Some value) }

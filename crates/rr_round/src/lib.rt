@@ -1,5 +1,5 @@
-//! An instance over its rounds. A `Row` says where it stands and which facts back its messages. `fresh` or `promised` makes it,
-//! `after` or `advance` takes a fact on. Its `Tally` is what the coordinator heard: `keep_estimate`, `keep_ack`, `keep_nack`.
+//! An instance over its rounds. A `Row` says where it stands and which facts back its messages. `first` or `promised` makes it,
+//! `after` takes a fact on. Its `Tally` is what the coordinator heard: `keep_estimate`, `keep_ack`, `keep_nack`.
 //! Then `pick`, `is_acknowledged` and `is_answered` say whether a majority has spoken.
 #![tactic(auto)]
 

@@ -1,12 +1,14 @@
 //! The row of an instance.
 
-ghost use Rattle.std.specs.Prelude.{◌≡◌, IfOk, IfErr};
-ghost use Rattle.rr_model.specs.NodeState.{is_decided, decided_command};
+ghost use Rattle.std.specs.Prelude.{◌≡◌, None, Some, MatchOption, IfOk, IfErr};
+ghost use Rattle.rr_types.specs.Facts.{instance_of, after_fact};
+ghost use Rattle.rr_types.specs.Standings.{IsInRound};
+ghost use Rattle.rr_model.specs.NodeState.{is_decided};
 ghost use Rattle.rr_model.specs.NodeParts.{backing_after, row_after, fresh_row};
 ghost use Rattle.rr_model.specs.NodeStep.{promised_row};
 
 use crate::tally::Tally;
-use rr_types::{Command, Entry, Fact, Instance, Refusal, Standing};
+use rr_types::{Entry, Fact, Instance, Refusal, Standing};
 use std::alloc::Global;
 use std::marker::Model;
 
@@ -87,15 +89,18 @@ impl Backing {
 }
 
 impl Row {
-    /// The row of an instance that no fact named before.
-    pub fn fresh(alloc: Global, instance: Instance, standing: Standing) -> Row
-        ensures { result ≡ fresh_row instance standing }
+    /// The row of an instance after the first fact about it, which has this number; `None` where that names no standing.
+    pub fn first(alloc: Global, number: u128, fact: &Fact) -> Option<Row>
+        ensures { MatchOption result (after_fact None fact.now ≡ None) (λ r. (after_fact None fact.now ≡ Some r.standing) × (r ≡ row_after number fact.now r.standing (fresh_row (instance_of fact.now) r.standing))) }
     {
-        Row {
-            instance,
-            standing,
-            backing: Backing::none(),
-            tally: Tally::new(alloc),
+        match Standing::first(fact) {
+            Some(standing) => Some(Row {
+                instance: fact.instance(),
+                standing,
+                backing: Backing::none().after(number, fact),
+                tally: Tally::new(alloc),
+            }),
+            None => None,
         }
     }
 
@@ -138,51 +143,27 @@ impl Row {
         matches!(self.standing, Standing::Decided(_))
     }
 
-    /// The command that the instance has decided.
-    pub fn decided_command(&self) -> Option<Command>
-        ensures { result ≡ decided_command self.now }
-    {
-        self.standing.decision()
-    }
-
-    /// The row after the fact with this number, which leaves the instance at `standing`. A tally that the fact drops
-    /// isn't copied.
+    /// The row after a fact about its instance, which has this number. A tally that the fact drops isn't copied.
     ///
     /// # Errors
     /// `OutOfMemory`.
-    pub fn after(
-        &self,
-        alloc: Global,
-        number: u128,
-        fact: &Fact,
-        standing: Standing,
-    ) -> Result<Row, Refusal>
-        ensures ok { IfOk result (λ r. r ≡ row_after number fact.now standing self.now) }
+    pub fn after(&self, alloc: Global, number: u128, fact: &Fact) -> Result<Row, Refusal>
+        requires { IsInRound (Some self.now.standing) fact.now }
+        ensures ok { IfOk result (λ r. (after_fact (Some self.now.standing) fact.now ≡ Some r.standing) × (r ≡ row_after number fact.now r.standing self.now)) }
         ensures err { IfErr result (λ e. e ≡ Refusal.OutOfMemory) }
     {
         let tally = match fact {
+            // The answers to a round don't count in the next one, and a decided instance needs none.
             Fact::Enter(..) | Fact::Decide(..) => Tally::new(alloc),
             Fact::Propose(..) | Fact::Adopt(..) => self.tally.try_clone(alloc)?,
         };
+        let mut standing = self.standing;
+        standing.take_on(fact);
         Ok(Row {
             instance: self.instance,
             standing,
             backing: self.backing.after(number, fact),
             tally,
         })
-    }
-
-    /// Takes on a fact with this number, which leaves the instance at `standing`. It needs no memory.
-    pub fn advance(&mut self, number: u128, fact: &Fact, standing: Standing)
-        ensures { self.new ≡ row_after number fact.now standing self.old }
-    {
-        let backing = self.backing.after(number, fact);
-        self.standing = standing;
-        self.backing = backing;
-        match fact {
-            // The answers to a round don't count in the next one, and a decided instance needs none.
-            Fact::Enter(..) | Fact::Decide(..) => self.tally.clear(),
-            Fact::Propose(..) | Fact::Adopt(..) => {}
-        }
     }
 }

@@ -9,7 +9,7 @@ ghost use Rattle.rr_types.specs.Nodes.{joined};
 ghost use Rattle.rr_model.specs.NodeDue.{better, best_vote, pick};
 ghost use Rattle.rr_round.specs.Majorities.{has_majority};
 
-use rr_types::{Command, Estimate, NodeId, NodeSet, Nodes, Refusal, majority};
+use rr_types::{Command, Estimate, NodeId, NodeSet, Nodes, Op, Refusal, made_of, majority};
 use std::alloc::Global;
 use std::marker::Model;
 
@@ -113,12 +113,17 @@ impl Tally {
         }
     }
 
-    /// A copy.
+    /// A copy. One that has estimates has room for one more: it is made to keep what was heard.
     pub fn try_clone(&self, alloc: Global) -> Result<Tally, Refusal>
         ensures ok { IfOk result (λ t. t ≡ self.now) }
         ensures err { IfErr result (λ e. e ≡ Refusal.OutOfMemory) }
     {
-        let estimates = Vec::from_slice(alloc, self.estimates.as_slice())?;
+        made_of!(Command, Op);
+        let mut estimates = Vec::new(alloc);
+        if !self.estimates.is_empty() {
+            estimates.try_reserve(self.estimates.len() + 1)?;
+            estimates.extend_from_slice(&self.estimates)?;
+        }
         Ok(Tally {
             estimates,
             acks: self.acks,
@@ -126,18 +131,9 @@ impl Tally {
         })
     }
 
-    /// Begins anew. It needs no memory.
-    pub fn clear(&mut self)
-        ensures { self.new ≡ no_votes }
-    {
-        self.estimates.clear();
-        self.acks = NodeSet::empty();
-        self.nacks = NodeSet::empty();
-    }
-
     /// Keeps an estimate; the first of a sender is kept.
-    pub fn keep_estimate(&mut self, sender: NodeId, estimate: Estimate) -> Result<(), Refusal>
-        ensures ok { OnOk result (self.new ≡ record self.old { estimates = with_vote (record { sender = sender; stamp = estimate.stamp; command = estimate.command }) self.old.estimates }) }
+    pub fn keep_estimate(&mut self, sender: NodeId, estimate: &Estimate) -> Result<(), Refusal>
+        ensures ok { OnOk result (self.new ≡ record self.old { estimates = with_vote (record { sender = sender; stamp = estimate.now.stamp; command = estimate.now.command }) self.old.estimates }) }
         ensures kept { OnErr result (self.new ≡ self.old) }
         ensures err { IfErr result (λ e. e ≡ Refusal.OutOfMemory) }
     {

@@ -3,3 +3,5 @@ pub mod OweLemmas
 pub mod OverLemmas
 pub mod PoolLemmas
 pub mod TailLemmas
+pub mod SpentLemmas
+pub mod SettledLemmas

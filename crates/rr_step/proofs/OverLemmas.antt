@@ -1,9 +1,10 @@
 -- Rows with changed ones over them.
 use Rattle.std.proofs.Common.{◌≡◌, ◌≢◌, ◌+◌, ◌<◌, ◌≤◌, ℕ, zero, suc, arith, Bool, true, false, ltb, eqb, cond, ◌&&◌, ◌||◌, not, List, [], ◌∷◌, ◌++◌, length, get_or, set, reverse, ap, sym, ◌∙◌, refl, subst, Option, Some, None, option_map}
 use Rattle.std.proofs.lemmas.List.{reverse-append}
+use Rattle.std.proofs.lemmas.Option.{none-some}
 use Rattle.std.specs.List.{list_any}
 use Rattle.std.specs.Option.{option_map_or}
-use Rattle.std.proofs.lemmas.Bool.{ltb-true, ltb-false, lt-ltb, le-ltb, ne_eqb, eq-eqb, eqb-true, eqb-false, false≢true}
+use Rattle.std.proofs.lemmas.Bool.{ltb-true, ltb-false, le-ltb, ne_eqb, eq-eqb, eqb-true, eqb-false, false≢true}
 use Rattle.rr_types.specs.declared.command.RequestNo.{RequestNo}
 use Rattle.rr_types.specs.declared.command.Command.{Command}
 use Rattle.rr_types.specs.declared.promise.Standing.{Standing}
@@ -20,7 +21,7 @@ use Rattle.rr_list.specs.Listed as listed
 use Rattle.rr_step.specs.Steps.{put_rows, KeepsStanding, KeepsDecision, KeepDecisions, Stepped, stepped, IsDecidedFact}
 
 -- the row put there is the one of its instance
-row_of_put : (r : Row) (rows : List Row) (i : ℕ) → row_of (put_row r rows) i ≡ cond (eqb r.instance i) (Some r) (row_of rows i)
+pub row_of_put : (r : Row) (rows : List Row) (i : ℕ) → row_of (put_row r rows) i ≡ cond (eqb r.instance i) (Some r) (row_of rows i)
 row_of_put r [] i = refl
 row_of_put r (o ∷ os) i = by (row_of_put r os i) (ltb r.instance o.instance) (eqb r.instance o.instance) (eqb o.instance i) (eqb r.instance i) refl refl refl refl
   where
@@ -299,27 +300,40 @@ keeps_standing rows i o r there same stands v d =
     let at : row_of rows r.instance ≡ Some o = ap (row_of rows) (same ∙ row_is_of rows i o there) ∙ there in
     ap (λ (s : Standing). decision_of (Some s)) stands ∙ sym (ap (λ (x : Option Row). decision_of (option_map (λ o. o.standing) x)) at) ∙ d
 
--- and so does the row after a fact after which the instance stands so
-pub after_keeps : (k : ℕ) (f : Fact) (st : Standing) (rows : List Row) (r : Row) → r ≡ row_after k f st (option_map_or (λ old. old) (row_of rows (instance_of f)) (fresh_row (instance_of f) st)) → KeepsStanding (option_map (λ (o : Row). o.standing) (row_of rows (instance_of f))) (Some st) → KeepsDecision rows r
-after_keeps k f st rows r e h v d =
-    let of : r.instance ≡ instance_of f = ap (λ (x : Row). x.instance) e ∙ by (row_of rows (instance_of f)) refl in
-    let stands : r.standing ≡ st = ap (λ (x : Row). x.standing) e in
-    ap (λ (s : Standing). decision_of (Some s)) stands ∙ h v (sym (ap (λ (i : ℕ). decision_of (option_map (λ (o : Row). o.standing) (row_of rows i))) of) ∙ d)
-  where
-    by : (x : Option Row) → row_of rows (instance_of f) ≡ x → (option_map_or (λ (old : Row). old) x (fresh_row (instance_of f) st)).instance ≡ instance_of f
-    by None g = refl
-    by (Some o) g = row_is_of rows (instance_of f) o g
+-- the row there, of which a tally was changed, stands where it stood
+pub still_stands : (rows : List Row) (i : ℕ) (o r : Row) → row_of rows i ≡ Some o → r.instance ≡ o.instance → r.standing ≡ o.standing → option_map (λ (q : Row). q.standing) (row_of rows r.instance) ≡ Some r.standing
+still_stands rows i o r there same stands = ap (λ (x : Option Row). option_map (λ (q : Row). q.standing) x) (ap (row_of rows) (same ∙ row_is_of rows i o there) ∙ there) ∙ ap Some (sym stands)
 
--- the rows after a fact, by where its instance then stands
-pub rows_stay : (k : ℕ) (f : Fact) (rows : List Row) → None ≡ after_fact (option_map (λ r. r.standing) (row_of rows (instance_of f))) f → rows_after k f rows ≡ rows
-rows_stay k f rows h = rw (sym h) refl
+-- so it leaves a decision alone
+pub tally_keeps : (rows : List Row) (r : Row) → option_map (λ (q : Row). q.standing) (row_of rows r.instance) ≡ Some r.standing → KeepsDecision rows r
+tally_keeps rows r h v d = sym (ap decision_of h) ∙ d
 
-pub rows_put : (k : ℕ) (f : Fact) (st : Standing) (rows : List Row) (r : Row) → Some st ≡ after_fact (option_map (λ r. r.standing) (row_of rows (instance_of f))) f → r ≡ row_after k f st (option_map_or (λ old. old) (row_of rows (instance_of f)) (fresh_row (instance_of f) st)) → put_row r rows ≡ rows_after k f rows
-rows_put k f st rows r h e = by (row_of rows (instance_of f)) refl
-  where
-    by : (x : Option Row) → row_of rows (instance_of f) ≡ x → put_row r rows ≡ rows_after k f rows
-    by None g = rw (e, sym h, g) refl
-    by (Some o) g = rw (e, sym h, g) refl
+-- and so does the row after a fact after which its standing does
+pub after_keeps : (k : ℕ) (f : Fact) (rows : List Row) (o r : Row) → row_of rows (instance_of f) ≡ Some o → after_fact (Some o.standing) f ≡ Some r.standing → r ≡ row_after k f r.standing o → KeepsStanding (option_map (λ (q : Row). q.standing) (row_of rows (instance_of f))) (after_fact (option_map (λ (q : Row). q.standing) (row_of rows (instance_of f))) f) → KeepsDecision rows r
+after_keeps k f rows o r there stands e h v d =
+    let of : r.instance ≡ instance_of f = ap (λ (x : Row). x.instance) e ∙ row_is_of rows (instance_of f) o there in
+    let after : after_fact (option_map (λ (q : Row). q.standing) (row_of rows (instance_of f))) f ≡ Some r.standing = ap (λ (x : Option Row). after_fact (option_map (λ (q : Row). q.standing) x) f) there ∙ stands in
+    sym (ap decision_of after) ∙ h v (sym (ap (λ (i : ℕ). decision_of (option_map (λ (q : Row). q.standing) (row_of rows i))) of) ∙ d)
+
+-- as does the first row of an instance
+pub first_keeps : (k : ℕ) (f : Fact) (rows : List Row) (r : Row) → row_of rows (instance_of f) ≡ None → r ≡ row_after k f r.standing (fresh_row (instance_of f) r.standing) → KeepsDecision rows r
+first_keeps k f rows r none e v d =
+    let of : r.instance ≡ instance_of f = ap (λ (x : Row). x.instance) e in
+    absurd (none-some v (sym (ap (λ (i : ℕ). decision_of (option_map (λ (q : Row). q.standing) (row_of rows i))) of ∙ ap (λ (x : Option Row). decision_of (option_map (λ (q : Row). q.standing) x)) none) ∙ d))
+
+-- the rows after a fact, by the row of its instance
+pub rows_put : (k : ℕ) (f : Fact) (rows : List Row) (o r : Row) → row_of rows (instance_of f) ≡ Some o → after_fact (Some o.standing) f ≡ Some r.standing → r ≡ row_after k f r.standing o → put_row r rows ≡ rows_after k f rows
+rows_put k f rows o r there stands e =
+    let is : rows_after k f rows ≡ put_row (row_after k f r.standing o) rows = rw (there, stands) refl in
+    ap (λ (x : Row). put_row x rows) e ∙ sym is
+
+pub rows_begin : (k : ℕ) (f : Fact) (rows : List Row) (r : Row) → row_of rows (instance_of f) ≡ None → after_fact None f ≡ Some r.standing → r ≡ row_after k f r.standing (fresh_row (instance_of f) r.standing) → put_row r rows ≡ rows_after k f rows
+rows_begin k f rows r none stands e =
+    let is : rows_after k f rows ≡ put_row (row_after k f r.standing (fresh_row (instance_of f) r.standing)) rows = rw (none, stands) refl in
+    ap (λ (x : Row). put_row x rows) e ∙ sym is
+
+pub rows_stay : (k : ℕ) (f : Fact) (rows : List Row) → row_of rows (instance_of f) ≡ None → after_fact None f ≡ None → rows_after k f rows ≡ rows
+rows_stay k f rows none h = rw (none, h) refl
 
 -- the oldest changed row is put first
 pub put_last : (rs rows : List Row) (r : Row) → put_rows (rs ++ r ∷ []) rows ≡ put_rows rs (put_row r rows)

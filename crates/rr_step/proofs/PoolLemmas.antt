@@ -21,8 +21,8 @@ none_taken [] = refl
 none_taken (c ∷ cs) = ap (λ (r : List Command). c ∷ r) (none_taken cs)
 
 -- a step that has changed nothing yet
-pub combined_none : (s : NodeState) → combined s (record { rows = []; staged = []; taken = []; pooled = []; suspects = s.suspects; watches = s.watches; waiting = []; owed = [] }) ≡ s
-combined_none s = rw (append-nil s.staged, append-nil s.pool, none_taken s.pool, append-nil s.waiting, append-nil s.owed) refl
+pub combined_none : (s : NodeState) (c : Changed) → c.rows ≡ [] → c.staged ≡ [] → c.taken ≡ [] → c.pooled ≡ [] → c.suspects ≡ s.suspects → c.watches ≡ s.watches → c.waiting ≡ [] → c.owed ≡ [] → combined s c ≡ s
+combined_none s c r t k p u w q o = rw (r, t, k, p, u, w, q, o, append-nil s.staged, append-nil s.pool, none_taken s.pool, append-nil s.waiting, append-nil s.owed) refl
 
 same_number : (a b : ℕ) → eqb a b ≡ eqb b a
 same_number a b = by (eqb a b) refl

@@ -1,4 +1,4 @@
-use Rattle.std.specs.Prelude.{◌≡◌, ℕ, true, false, not, List, [], ◌∷◌, ◌++◌, filter, All, Option, None, Some, option_map}
+use Rattle.std.specs.Prelude.{◌≡◌, ℕ, Bool, true, false, IsTrue, not, List, [], ◌∷◌, ◌++◌, filter, All, Option, None, Some, option_map}
 use Rattle.std.specs.List.{list_any}
 use Rattle.rr_types.specs.declared.command.RequestNo.{RequestNo}
 use Rattle.rr_types.specs.declared.command.Command.{Command}
@@ -7,9 +7,11 @@ use Rattle.rr_types.specs.declared.promise.Standing.{Standing}
 use Rattle.rr_types.specs.declared.fact.Fact.TheVariants.{Enter, Propose, Adopt, Decide}
 use Rattle.rr_types.specs.Facts.{decision_of}
 use Rattle.rr_types.specs.Registry.{is_same_request, has_request}
-use Rattle.rr_model.specs.NodeState.{NodeState, Row, Watch, Owed, row_of, put_row}
+use Rattle.rr_model.specs.NodeState.{NodeState, Row, Watch, Owed, row_of, put_row, lowest_undecided}
+use Rattle.rr_model.specs.NodeDue.{due}
 use Rattle.rr_outbox.specs.Marks.{IsOwn}
 use Rattle.rr_list.specs.Rowed.{has_decided}
+use Rattle.rr_step.specs.Places.{first_free}
 
 -- a node within a step: what it was before, and what it is by now
 pub record Stepped : Type 0 where
@@ -21,7 +23,8 @@ abbrev pub stepped : (NodeState → NodeState) → Stepped → Stepped
 stepped f s = record { base = s.base; state = f s.state }
 
 -- what a step has changed: rows, the newest first; staged facts; the request numbers that decisions took out of the
--- pool, and commands pooled; the suspects and the watches; requests that wait; messages owed
+-- pool, and commands pooled; the suspects and the watches; requests that wait; messages owed; whether the pool is known to
+-- have no command for an instance that no fact names, and whether nothing is known to be due
 pub record Changed : Type 0 where
   pub rows : List Row
   pub staged : List Fact
@@ -31,6 +34,8 @@ pub record Changed : Type 0 where
   pub watches : List Watch
   pub waiting : List RequestNo
   pub owed : List Owed
+  pub spent : Bool
+  pub settled : Bool
 
 -- rows with changed ones, of which the newest stands first
 abbrev pub put_rows : List Row → List Row → List Row
@@ -83,6 +88,14 @@ IsDecidedFact (Propose i r v) rows = Unit {0}
 IsDecidedFact (Adopt i r v) rows = Unit {0}
 IsDecidedFact (Decide i v) rows = list_any (has_decided v.request) rows ≡ true
 
+-- the pool has no command for an instance that no fact names
+pub record IsSpent (rows : List Row) (pool : List Command) : Type 0 where
+  pub none : (i : ℕ) → row_of rows i ≡ None → first_free rows (lowest_undecided 8 0 rows) i pool ≡ None
+
+-- nothing is due at a node of these parts
+pub record NothingIsDue (nodes node : ℕ) (rows : List Row) (pool : List Command) (suspects : ℕ) : Type 0 where
+  pub none : (s : NodeState) → s.nodes ≡ nodes → s.node ≡ node → s.rows ≡ rows → s.pool ≡ pool → s.suspects ≡ suspects → due s ≡ None
+
 -- what a step may change: decisions stay, what is taken out of the pool is decided, what comes into the pool and
 -- waits is new, and what is owed is the node's own, and free where no fact backs it
 pub record IsFitting (s : NodeState) (c : Changed) : Type 0 where
@@ -91,3 +104,5 @@ pub record IsFitting (s : NodeState) (c : Changed) : Type 0 where
   pub pooled : AreNew s.pool c.pooled
   pub waiting : AreNewRequests s.waiting c.waiting
   pub own : All (IsOwn s.node) c.owed
+  pub spent : IsTrue c.spent → IsSpent (put_rows c.rows s.rows) (without_requests c.taken (s.pool ++ c.pooled))
+  pub settled : IsTrue c.settled → NothingIsDue s.nodes s.node (put_rows c.rows s.rows) (without_requests c.taken (s.pool ++ c.pooled)) c.suspects

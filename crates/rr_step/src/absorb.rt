@@ -113,59 +113,56 @@ fn take_all(pool: &mut Pool, taken: &[RequestNo])
 }
 
 impl State {
-    /// Takes on what a step has changed. After an error, which is `OutOfMemory`, nothing has changed.
+    /// Takes on what a step has changed. After an error, which is `OutOfMemory`, nothing has changed. What is left in
+    /// `changes` is room for another step.
     #[tactic(auto, using(crate::proofs::OverLemmas::put_reversed, crate::proofs::OverLemmas::reversed_stay))]
-    pub fn absorb(&mut self, alloc: Global, changes: Changes) -> Result<(), Refusal>
-        requires { IsFitting self.old changes }
-        ensures ok { OnOk result (self.new ≡ combined self.old changes) }
+    pub fn absorb(&mut self, alloc: Global, changes: &mut Changes) -> Result<(), Refusal>
+        requires { IsFitting self.old changes.old }
+        ensures ok { OnOk result (self.new ≡ combined self.old changes.old) }
         ensures refused { IfErr result (λ e. e ≡ Refusal.OutOfMemory) }
         ensures err { OnErr result (self.new ≡ self.old) }
     {
-        let Changes {
-            rows,
-            staged,
-            taken,
-            pooled,
-            suspects,
-            heartbeat,
-            waiting,
-            owed,
-        } = changes;
         // What takes memory comes first, and is undone if a later part is refused. What follows the rows can't be
         // refused.
-        arrive(&mut self.pool, &mut self.waiting, &pooled, &waiting)?;
-        match self.owed.owe_all(&owed) {
+        arrive(
+            &mut self.pool,
+            &mut self.waiting,
+            &changes.pooled,
+            &changes.waiting,
+        )?;
+        match self.owed.owe_all(&changes.owed) {
             Ok(()) => (),
             Err(refusal) => {
-                unpool_all(&mut self.pool, &pooled);
-                unwait_all(&mut self.waiting, &waiting);
+                unpool_all(&mut self.pool, &changes.pooled);
+                unwait_all(&mut self.waiting, &changes.waiting);
                 return Err(refusal);
             }
         }
-        match self.unmarked.push_all(&staged) {
+        match self.unmarked.push_all(&changes.staged) {
             Ok(()) => (),
             Err(refusal) => {
-                self.owed.forget_last(owed.len());
-                unpool_all(&mut self.pool, &pooled);
-                unwait_all(&mut self.waiting, &waiting);
+                self.owed.forget_last(changes.owed.len());
+                unpool_all(&mut self.pool, &changes.pooled);
+                unwait_all(&mut self.waiting, &changes.waiting);
                 return Err(refusal);
             }
         }
-        let mut rows = rows;
-        rows.reverse();
-        match self.instances.absorb(alloc, rows) {
+        changes.rows.reverse();
+        match self.instances.absorb(alloc, &mut changes.rows) {
             Ok(()) => (),
             Err(refusal) => {
-                self.unmarked.take_back(&staged);
-                self.owed.forget_last(owed.len());
-                unpool_all(&mut self.pool, &pooled);
-                unwait_all(&mut self.waiting, &waiting);
+                self.unmarked.take_back(&changes.staged);
+                self.owed.forget_last(changes.owed.len());
+                unpool_all(&mut self.pool, &changes.pooled);
+                unwait_all(&mut self.waiting, &changes.waiting);
                 return Err(refusal);
             }
         }
-        take_all(&mut self.pool, &taken);
-        self.suspects = suspects;
-        self.heartbeat = heartbeat;
+        take_all(&mut self.pool, &changes.taken);
+        self.suspects = changes.suspects;
+        self.heartbeat = changes.heartbeat;
+        self.is_spent = changes.is_spent;
+        self.is_settled = changes.is_settled;
         Ok(())
     }
 }

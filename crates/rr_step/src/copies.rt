@@ -32,6 +32,8 @@ impl State {
             heartbeat: Heartbeat::new(nodes),
             waiting: Waiting::new(alloc),
             owed: Outbox::new(alloc, node),
+            is_spent: false,
+            is_settled: false,
         })
     }
 }

@@ -3,15 +3,17 @@
 ghost use Rattle.std.specs.Prelude.{◌≡◌, ◌≤◌, ◌<◌, ◌^◌, ◌&&◌, nat_lt, None, Some, MatchOption};
 ghost use Rattle.std.specs.List.{list_any};
 ghost use Rattle.rr_types.specs.Registry.{has_request, is_same_request};
-ghost use Rattle.rr_model.specs.NodeState.{next_number, row_of, is_decided, is_decided_request, undecided_from};
-ghost use Rattle.rr_model.specs.NodeStep.{is_waiting};
+ghost use Rattle.rr_model.specs.NodeState.{next_number, row_of, is_decided, is_decided_request, undecided_from, standing_at};
+ghost use Rattle.rr_types.specs.Standings.{round_of};
+ghost use Rattle.rr_model.specs.NodeStep.{is_waiting, is_list_full, lowest_in_round};
 ghost use Rattle.rr_list.specs.Rowed.{AscendFrom};
 ghost use Rattle.rr_list.specs.Opened.{open_in};
 
+use crate::over::lowest_in_round_over;
 use crate::state::State;
 use rr_list::Window;
 use rr_round::Row;
-use rr_types::{Instance, RequestNo};
+use rr_types::{INSTANCES, Instance, RequestNo, WINDOW};
 
 impl State {
     /// The number of the next fact.
@@ -22,9 +24,10 @@ impl State {
         self.mark.end() as u128 + self.unmarked.count() as u128
     }
 
-    /// The row of an instance.
+    /// The row of an instance; the rows ascend.
     pub(crate) fn row(&self, instance: Instance) -> Option<&Row>
-        ensures { MatchOption result (row_of self.now.rows instance ≡ None) (λ r. row_of self.now.rows instance ≡ Some r.now) }
+        ensures row { MatchOption result (row_of self.now.rows instance ≡ None) (λ r. row_of self.now.rows instance ≡ Some r.now) }
+        ensures ascend { AscendFrom 0 self.now.rows }
     {
         self.instances.row(instance)
     }
@@ -48,8 +51,34 @@ impl State {
         self.instances.undecided_from(from)
     }
 
+    /// Whether all instances are decided here.
+    pub fn is_list_full(&self) -> bool
+        ensures { result ≡ is_list_full self.now }
+    {
+        INSTANCES <= self.undecided_from(0)
+    }
+
+    /// The lowest open instance that has a round. It takes no memory.
+    #[tactic(auto, unfolding(rr_model::specs::NodeState::open_instances))]
+    pub fn lowest_in_round(&self) -> Option<Instance>
+        ensures { result ≡ lowest_in_round self.now }
+    {
+        lowest_in_round_over(self, &[], WINDOW)
+    }
+
+    /// The round of an instance; 0 where it has none.
+    pub fn round(&self, instance: Instance) -> u32
+        ensures value { result ≡ round_of (standing_at self.now instance) }
+        ensures range { result ≤ 2147483647 }
+    {
+        match self.row(instance) {
+            Some(row) => row.standing.round(),
+            None => 0,
+        }
+    }
+
     /// Whether some instance has decided a command with this request number.
-    pub(crate) fn is_decided_request(&self, request: RequestNo) -> bool
+    pub fn is_decided_request(&self, request: RequestNo) -> bool
         ensures { result ≡ is_decided_request self.now request }
     {
         self.instances.has_decided(request)
@@ -70,7 +99,7 @@ impl State {
     }
 
     /// Whether a request waits for its acknowledgement.
-    pub(crate) fn is_waiting(&self, request: RequestNo) -> bool
+    pub fn is_waiting(&self, request: RequestNo) -> bool
         ensures { result ≡ is_waiting self.now request }
     {
         self.waiting.has(request)

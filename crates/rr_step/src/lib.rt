@@ -1,6 +1,6 @@
 //! A step of a node. `Step::new` borrows the `State`. Look-ups see the node as the step has left it by then, and changes
 //! (`stage`, `owe`, `pool_add`) are collected beside it. `into_changes` gives them, and `State::absorb` takes on all or none. A
-//! refused step is dropped.
+//! refused step is dropped. What it collected in, `absorb` leaves as room for the next one.
 #![tactic(auto)]
 
 mod absorb;
@@ -11,7 +11,6 @@ mod lookup;
 mod over;
 mod owing;
 mod rows;
-mod staging;
 mod state;
 mod step;
 mod tally;

@@ -1,13 +1,13 @@
 //! What a node within a step knows of its instances.
 
 ghost use Rattle.std.specs.Prelude.{◌≡◌, ◌≤◌};
-ghost use Rattle.rr_types.specs.Standings.{round_of, stamp_of, proposal_of, is_undecided};
+ghost use Rattle.rr_types.specs.Standings.{round_of, stamp_of, is_undecided};
 ghost use Rattle.rr_types.specs.Facts.{decision_of};
 ghost use Rattle.rr_model.specs.NodeState.{standing_at};
-ghost use Rattle.rr_model.specs.NodeStep.{is_list_full, has_proposed};
+ghost use Rattle.rr_model.specs.NodeStep.{has_proposed};
 
 use crate::step::Step;
-use rr_types::{Command, INSTANCES, Instance, Round, Standing};
+use rr_types::{Command, Instance, Round};
 
 impl<'a> Step<'a> {
     /// The round of an instance; 0 where it has none.
@@ -15,8 +15,8 @@ impl<'a> Step<'a> {
         ensures value { result ≡ round_of (standing_at self.now.state instance) }
         ensures range { result ≤ 2147483647 }
     {
-        match self.standing(instance) {
-            Some(standing) => standing.round(),
+        match self.row(instance) {
+            Some(row) => row.standing.round(),
             None => 0,
         }
     }
@@ -25,19 +25,9 @@ impl<'a> Step<'a> {
     pub fn stamp(&self, instance: Instance) -> u32
         ensures { result ≡ stamp_of (standing_at self.now.state instance) }
     {
-        match self.standing(instance) {
-            Some(standing) => standing.stamp(),
+        match self.row(instance) {
+            Some(row) => row.standing.stamp(),
             None => 0,
-        }
-    }
-
-    /// The command that this node proposed in the present round of an instance.
-    pub fn proposal(&self, instance: Instance) -> Option<Command>
-        ensures { result ≡ proposal_of (standing_at self.now.state instance) }
-    {
-        match self.standing(instance) {
-            Some(standing) => standing.proposal(),
-            None => None,
         }
     }
 
@@ -45,8 +35,8 @@ impl<'a> Step<'a> {
     pub fn decision(&self, instance: Instance) -> Option<Command>
         ensures { result ≡ decision_of (standing_at self.now.state instance) }
     {
-        match self.standing(instance) {
-            Some(standing) => standing.decision(),
+        match self.row(instance) {
+            Some(row) => row.standing.decision(),
             None => None,
         }
     }
@@ -55,20 +45,22 @@ impl<'a> Step<'a> {
     pub fn is_undecided(&self, instance: Instance) -> bool
         ensures { result ≡ is_undecided (standing_at self.now.state instance) }
     {
-        !matches!(self.standing(instance), Some(Standing::Decided(_)))
+        match self.row(instance) {
+            Some(row) => !row.is_decided(),
+            None => true,
+        }
     }
 
     /// Whether the node has made a proposal in this round of an instance, which is the present one.
     pub fn has_proposed(&self, instance: Instance, round: Round) -> bool
         ensures { result ≡ has_proposed instance round self.now.state }
     {
-        self.round(instance) == round.number() && self.proposal(instance).is_some()
-    }
-
-    /// Whether all instances are decided here.
-    pub fn is_list_full(&self) -> bool
-        ensures { result ≡ is_list_full self.now.state }
-    {
-        INSTANCES <= self.first_undecided()
+        match self.row(instance) {
+            Some(row) => {
+                let standing = &row.standing;
+                standing.round() == round.number() && standing.has_proposal()
+            }
+            None => false,
+        }
     }
 }

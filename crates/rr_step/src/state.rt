@@ -6,7 +6,9 @@ use rr_outbox::{Mark, Outbox, Unmarked};
 use rr_types::{NodeId, Nodes};
 use std::marker::Model;
 
-/// A node that is up. Its mark and the messages that it owes are its own.
+/// A node that is up. Its mark and the messages that it owes are its own. It may know that the pool has no command for
+/// an instance that no fact names (`is_spent`), and that nothing is due (`is_settled`). So no step looks
+/// for either in vain.
 #[derive(Drop)]
 pub struct State {
     pub nodes: Nodes,
@@ -19,11 +21,15 @@ pub struct State {
     pub heartbeat: Heartbeat,
     pub waiting: Waiting,
     pub owed: Outbox,
+    pub is_spent: bool,
+    pub is_settled: bool,
 }
 
 impl Model for State {
     ghost use Rattle.std.specs.Prelude.{◌≡◌};
+    ghost use Rattle.std.specs.Prelude.{IsTrue};
     ghost use Rattle.rr_model.specs.NodeState as model;
+    ghost use Rattle.rr_step.specs.Steps.{IsSpent, NothingIsDue};
 
     ghost Value = { model.NodeState };
 
@@ -42,5 +48,5 @@ impl Model for State {
       owed = s.owed.owed;
     } };
 
-    ghost invariant = { λ s. (s.mark.node ≡ s.node) × (s.owed.node ≡ s.node) };
+    ghost invariant = { λ s. (s.mark.node ≡ s.node) × (s.owed.node ≡ s.node) × (IsTrue s.is_spent → IsSpent s.instances.rows s.pool) × (IsTrue s.is_settled → NothingIsDue s.nodes s.node s.instances.rows s.pool s.suspects) };
 }

@@ -1,6 +1,6 @@
 //! A step of a node: the node as it was before, borrowed, and what the step has changed.
 
-ghost use Rattle.std.specs.Prelude.{◌≡◌, ◌++◌, ◌∷◌, [], ◌^◌, ◌<◌, ◌&&◌, nat_lt, None, Some, IsTrue, option_map, MatchOption, IfOk, IfErr, IfSome, OnOk};
+ghost use Rattle.std.specs.Prelude.{◌≡◌, ◌++◌, ◌∷◌, [], ◌^◌, ◌<◌, ◌&&◌, nat_lt, true, None, Some, IsTrue, option_map, MatchOption, IfOk, IfErr, IfSome, OnOk};
 ghost use Rattle.std.specs.List.{list_any};
 ghost use Rattle.rr_types.specs.Registry.{has_request};
 ghost use Rattle.rr_types.specs.Facts.{instance_of, after_fact, decision_of};
@@ -8,15 +8,16 @@ ghost use Rattle.rr_types.specs.Standings.{round_of, IsInRound};
 ghost use Rattle.rr_model.specs.NodeState.{next_number, standing_at, row_of, put_row, is_decided, first_undecided, open_instances, is_open, is_decided_request, everyone, others};
 ghost use Rattle.rr_model.specs.NodeDetector.{all_ticked, heard_beat, late_nodes, reduced};
 ghost use Rattle.rr_model.specs.NodeParts.{owe, pool_add, stage, rows_after, pool_after};
+ghost use Rattle.rr_model.specs.NodeDue.{due};
 ghost use Rattle.rr_model.specs.NodeStep.{wait_for, is_waiting, lowest_in_round};
 ghost use Rattle.rr_outbox.specs.Marks.{is_free};
 ghost use Rattle.rr_step.specs.Places.{first_free, reached};
-ghost use Rattle.rr_step.specs.Steps.{stepped, combined, KeepsDecision, KeepsStanding, IsFitting, IsDecidedFact};
+ghost use Rattle.rr_step.specs.Steps.{stepped, combined, KeepsDecision, KeepsStanding, IsFitting, IsDecidedFact, IsSpent};
 
 use crate::known::is_among;
 use crate::owing::Reach;
 use crate::state::State;
-use crate::{estimates, over, owing, staging};
+use crate::{estimates, over, owing};
 use rr_detector::{Heartbeat, Suspects};
 use rr_list::Window;
 use rr_outbox::Owed;
@@ -29,7 +30,8 @@ use std::alloc::Global;
 use std::marker::Model;
 
 /// What a step has changed: rows, the newest first; staged facts; the request numbers that decisions took out of
-/// the pool, and commands pooled; the suspects and the watches; requests that wait; messages owed.
+/// the pool, and commands pooled; the suspects and the watches; requests that wait; messages owed; whether the pool is
+/// known to have no command for an instance that no fact names, and whether nothing is known to be due.
 #[derive(Debug, Drop)]
 pub struct Changes {
     pub rows: Vec<Row>,
@@ -40,6 +42,8 @@ pub struct Changes {
     pub heartbeat: Heartbeat,
     pub waiting: Vec<RequestNo>,
     pub owed: Vec<Owed>,
+    pub is_spent: bool,
+    pub is_settled: bool,
 }
 
 impl Model for Changes {
@@ -56,33 +60,19 @@ impl Model for Changes {
       watches = c.heartbeat;
       waiting = c.waiting.items;
       owed = c.owed.items;
+      spent = c.is_spent;
+      settled = c.is_settled;
     } };
 }
 
-/// A node within a step. Where the step is refused it is dropped, and the node is as it was.
-#[derive(Drop)]
-pub struct Step<'a> {
-    base: &'a State,
-    changes: Changes,
-}
-
-impl<'a> Model for Step<'a> {
-    ghost use Rattle.rr_step.specs.Steps.{Stepped, combined, IsFitting};
-
-    ghost Value = { Stepped };
-
-    ghost view = { λ s. record { base = s.base.now; state = combined s.base.now s.changes } };
-
-    ghost invariant = { λ s. IsFitting s.base.now s.changes };
-}
-
-impl<'a> Step<'a> {
-    /// A step that has changed nothing yet.
-    #[tactic(auto, using(crate::proofs::PoolLemmas::combined_none))]
-    pub fn new(alloc: Global, base: &'a State) -> Step<'a>
-        ensures { result ≡ record { base = base.now; state = base.now } }
+impl Changes {
+    /// Those of a step that has changed nothing of this node.
+    #[tactic(auto, using(crate::proofs::SpentLemmas::none_spent, crate::proofs::SettledLemmas::none_settled))]
+    pub fn none(alloc: Global, base: &State) -> Changes
+        ensures value { combined base.now result ≡ base.now }
+        ensures fits { IsFitting base.now result }
     {
-        let changes = Changes {
+        Changes {
             rows: Vec::new(alloc),
             staged: Vec::new(alloc),
             taken: Vec::new(alloc),
@@ -91,14 +81,69 @@ impl<'a> Step<'a> {
             heartbeat: base.heartbeat,
             waiting: Vec::new(alloc),
             owed: Vec::new(alloc),
-        };
+            is_spent: base.is_spent,
+            is_settled: base.is_settled,
+        }
+    }
+
+    /// Nothing is due with them.
+    fn settle(&mut self, is_spent: bool)
+        ensures { self.new ≡ record self.old { spent = is_spent; settled = true } }
+    {
+        self.is_spent = is_spent;
+        self.is_settled = true;
+    }
+
+    /// The same in the room of other changes.
+    #[tactic(auto, using(crate::proofs::SpentLemmas::none_spent, crate::proofs::SettledLemmas::none_settled))]
+    fn clear(&mut self, base: &State)
+        ensures value { combined base.now self.new ≡ base.now }
+        ensures fits { IsFitting base.now self.new }
+    {
+        self.rows.clear();
+        self.staged.clear();
+        self.taken.clear();
+        self.pooled.clear();
+        self.suspects = base.suspects;
+        self.heartbeat = base.heartbeat;
+        self.waiting.clear();
+        self.owed.clear();
+        self.is_spent = base.is_spent;
+        self.is_settled = base.is_settled;
+    }
+}
+
+/// A node within a step. Where the step is refused it is dropped, and the node is as it was.
+#[derive(Drop)]
+pub struct Step<'a> {
+    base: &'a State,
+    changes: Box<Changes>,
+}
+
+impl<'a> Model for Step<'a> {
+    ghost use Rattle.rr_step.specs.Steps.{Stepped, combined, IsFitting};
+
+    ghost Value = { Stepped };
+
+    ghost view = { λ s. record { base = s.base.now; state = combined s.base.now s.changes.value } };
+
+    ghost invariant = { λ s. IsFitting s.base.now s.changes.value };
+}
+
+impl<'a> Step<'a> {
+    /// A step that has changed nothing yet, in the room of other changes.
+    pub fn new(room: Box<Changes>, base: &'a State) -> Step<'a>
+        ensures { result ≡ record { base = base.now; state = base.now } }
+    {
+        let mut changes = room;
+        changes.clear(base);
         Step { base, changes }
     }
 
     /// What the step has changed.
-    pub fn into_changes(self) -> Changes
-        ensures value { combined self.entry.base result ≡ self.entry.state }
-        ensures fits { IsFitting self.entry.base result }
+    pub fn into_changes(self) -> Box<Changes>
+        ensures value { combined self.entry.base result.value ≡ self.entry.state }
+        ensures fits { IsFitting self.entry.base result.value }
     {
         let Step { base: _, changes } = self;
         changes
@@ -323,44 +368,92 @@ impl<'a> Step<'a> {
 
     /// Adds a command to the pool, unless its request number is there or decided.
     #[tactic(auto, using(crate::proofs::PoolLemmas::command_new, crate::proofs::PoolLemmas::pooled_last), unfolding(rr_model::specs::NodeParts::pool_add))]
-    pub fn pool_add(&mut self, command: Command) -> Result<(), Refusal>
-        ensures ok { OnOk result (self.new ≡ stepped (pool_add command) self.old) }
+    pub fn pool_add(&mut self, command: &Command) -> Result<(), Refusal>
+        ensures ok { OnOk result (self.new ≡ stepped (pool_add command.now) self.old) }
         ensures err { IfErr result (λ e. e ≡ Refusal.OutOfMemory) }
     {
         made_of!(Op);
         if self.has_pooled(command.request) || self.is_decided_request(command.request) {
             return Ok(());
         }
-        self.changes.pooled.push(command)?;
+        self.changes.pooled.push(*command)?;
+        self.changes.is_spent = false;
+        self.changes.is_settled = false;
         Ok(())
     }
 
     /// This is the row of its instance from now on; a decision there stays.
     #[tactic(auto, using(crate::proofs::OverLemmas::decided_stay))]
-    pub(crate) fn put_row(&mut self, row: Row) -> Result<(), Refusal>
+    fn put_row(&mut self, row: Row) -> Result<(), Refusal>
         requires { KeepsDecision self.old.state.rows row }
         ensures ok { OnOk result (self.new ≡ stepped (λ s. record s { rows = put_row row s.rows }) self.old) }
         ensures err { IfErr result (λ e. e ≡ Refusal.OutOfMemory) }
     {
+        self.changes.is_spent = false;
+        self.changes.is_settled = false;
         over::put_newest(&mut self.changes.rows, row)
     }
 
-    /// The row of a fact's instance is changed by it, where the instance then stands so.
-    #[tactic(auto, using(crate::proofs::OverLemmas::after_keeps, crate::proofs::OverLemmas::rows_put, crate::proofs::OverLemmas::rows_stay))]
-    fn put_row_after(&mut self, fact: &Fact, standing: Option<Standing>) -> Result<(), Refusal>
-        requires after { standing ≡ after_fact (standing_at self.old.state (instance_of fact.now)) fact.now }
-        requires keeps { KeepsStanding (standing_at self.old.state (instance_of fact.now)) standing }
+    /// The same of a row that stands where its instance stood. What the pool has for the others stays.
+    #[tactic(auto, using(crate::proofs::OverLemmas::decided_stay, crate::proofs::OverLemmas::tally_keeps, crate::proofs::SpentLemmas::tally_spent))]
+    pub(crate) fn put_tally(&mut self, row: Row) -> Result<(), Refusal>
+        requires { option_map (λ r. r.standing) (row_of self.old.state.rows row.instance) ≡ Some row.standing }
+        ensures ok { OnOk result (self.new ≡ stepped (λ s. record s { rows = put_row row s.rows }) self.old) }
+        ensures err { IfErr result (λ e. e ≡ Refusal.OutOfMemory) }
+    {
+        let base = self.base;
+        // That the rows ascend is told by this call alone.
+        let _row = base.row(row.instance);
+        if row.is_decided() {
+            self.changes.is_spent = false;
+        }
+        self.changes.is_settled = false;
+        over::put_newest(&mut self.changes.rows, row)
+    }
+
+    /// Whether the pool is known to have no command for an instance that no fact names.
+    pub fn is_spent(&self) -> bool
+        ensures { IsTrue result → IsSpent self.now.state.rows self.now.state.pool }
+    {
+        self.changes.is_spent
+    }
+
+    /// Whether nothing is known to be due.
+    #[tactic(auto, using(crate::proofs::SettledLemmas::none_due))]
+    pub fn is_settled(&self) -> bool
+        ensures { IsTrue result → due self.now.state ≡ None }
+    {
+        self.changes.is_settled
+    }
+
+    /// Nothing is due. `is_spent`: whether the pool is known to have no command for an instance that no fact names.
+    pub fn note_settled(&mut self, is_spent: bool)
+        requires due { due self.old.state ≡ None }
+        requires spent { IsTrue is_spent → IsSpent self.old.state.rows self.old.state.pool }
+        ensures { self.new ≡ self.old }
+    {
+        self.changes.settle(is_spent);
+    }
+
+    /// The row of a fact's instance is changed by it; a decision there stays.
+    #[tactic(auto, using(crate::proofs::OverLemmas::after_keeps, crate::proofs::OverLemmas::first_keeps, crate::proofs::OverLemmas::rows_put, crate::proofs::OverLemmas::rows_begin, crate::proofs::OverLemmas::rows_stay))]
+    fn put_row_after(&mut self, fact: &Fact) -> Result<(), Refusal>
+        requires round { IsInRound (standing_at self.old.state (instance_of fact.now)) fact.now }
+        requires keeps { KeepsStanding (standing_at self.old.state (instance_of fact.now)) (after_fact (standing_at self.old.state (instance_of fact.now)) fact.now) }
         ensures ok { OnOk result (self.new ≡ stepped (λ s. record s { rows = rows_after (next_number s) fact.now s.rows }) self.old) }
         ensures err { IfErr result (λ e. e ≡ Refusal.OutOfMemory) }
     {
         let number = self.next_number();
-        match standing {
-            None => Ok(()),
-            Some(standing) => {
-                let alloc = *self.changes.rows.allocator();
-                let row = staging::row_changed(alloc, self, number, fact, standing)?;
+        let alloc = *self.changes.rows.allocator();
+        match self.row(fact.instance()) {
+            Some(row) => {
+                let row = row.after(alloc, number, fact)?;
                 self.put_row(row)
             }
+            None => match Row::first(alloc, number, fact) {
+                Some(row) => self.put_row(row),
+                None => Ok(()),
+            },
         }
     }
 
@@ -374,6 +467,8 @@ impl<'a> Step<'a> {
         match fact {
             Fact::Decide(_, command) => {
                 self.changes.taken.push(command.request)?;
+                self.changes.is_spent = false;
+                self.changes.is_settled = false;
                 Ok(())
             }
             Fact::Enter(..) | Fact::Propose(..) | Fact::Adopt(..) => Ok(()),
@@ -400,8 +495,7 @@ impl<'a> Step<'a> {
         ensures err { IfErr result (λ e. e ≡ Refusal.OutOfMemory) }
     {
         let fact = &fact;
-        let standing = Standing::after(&self.standing(fact.instance()), fact);
-        self.put_row_after(fact, standing)?;
+        self.put_row_after(fact)?;
         self.take_decided(fact)?;
         self.push_staged(fact)
     }
@@ -411,6 +505,7 @@ impl<'a> Step<'a> {
         ensures { self.new ≡ stepped (λ s. record s { suspects = suspects }) self.old }
     {
         self.changes.suspects = Suspects::new(suspects);
+        self.changes.is_settled = false;
     }
 
     /// A node has told its suspects: these too, but not the node, which spoke.
@@ -418,6 +513,7 @@ impl<'a> Step<'a> {
         ensures { self.new ≡ stepped (λ s. record s { suspects = reduced s.suspects node set }) self.old }
     {
         self.changes.suspects.receive(node, set);
+        self.changes.is_settled = false;
     }
 
     /// A tick for the heartbeat detector.

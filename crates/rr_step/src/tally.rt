@@ -10,15 +10,15 @@ use std::alloc::Global;
 
 impl<'a> Step<'a> {
     /// The coordinator keeps an estimate.
-    #[tactic(auto, using(crate::proofs::OverLemmas::keeps_standing), unfolding(rr_model::specs::NodeStep::count_estimate))]
+    #[tactic(auto, using(crate::proofs::OverLemmas::still_stands), unfolding(rr_model::specs::NodeStep::count_estimate))]
     pub fn count_estimate(
         &mut self,
         alloc: Global,
         instance: Instance,
         sender: NodeId,
-        estimate: Estimate,
+        estimate: &Estimate,
     ) -> Result<(), Refusal>
-        ensures ok { OnOk result (self.new ≡ stepped (count_estimate instance sender estimate) self.old) }
+        ensures ok { OnOk result (self.new ≡ stepped (count_estimate instance sender estimate.now) self.old) }
         ensures err { IfErr result (λ e. e ≡ Refusal.OutOfMemory) }
     {
         let Some(row) = self.row(instance) else {
@@ -26,11 +26,11 @@ impl<'a> Step<'a> {
         };
         let mut row = row.try_clone(alloc)?;
         row.tally.keep_estimate(sender, estimate)?;
-        self.put_row(row)
+        self.put_tally(row)
     }
 
     /// The coordinator keeps an acknowledgement.
-    #[tactic(auto, using(crate::proofs::OverLemmas::keeps_standing), unfolding(rr_model::specs::NodeStep::count_ack))]
+    #[tactic(auto, using(crate::proofs::OverLemmas::still_stands), unfolding(rr_model::specs::NodeStep::count_ack))]
     pub fn count_ack(
         &mut self,
         alloc: Global,
@@ -45,11 +45,11 @@ impl<'a> Step<'a> {
         };
         let mut row = row.try_clone(alloc)?;
         row.tally.keep_ack(sender);
-        self.put_row(row)
+        self.put_tally(row)
     }
 
     /// The coordinator keeps a refusal.
-    #[tactic(auto, using(crate::proofs::OverLemmas::keeps_standing), unfolding(rr_model::specs::NodeStep::count_nack))]
+    #[tactic(auto, using(crate::proofs::OverLemmas::still_stands), unfolding(rr_model::specs::NodeStep::count_nack))]
     pub fn count_nack(
         &mut self,
         alloc: Global,
@@ -64,6 +64,6 @@ impl<'a> Step<'a> {
         };
         let mut row = row.try_clone(alloc)?;
         row.tally.keep_nack(sender);
-        self.put_row(row)
+        self.put_tally(row)
     }
 }

@@ -63,7 +63,7 @@ fn push_body(out: &mut Vec<u8>, body: &Body) -> Result<(), Refusal>
         Body::Estimate(instance, estimate) => {
             push_round(out, b"estimate", *instance, estimate.round())?;
             push_number_word(out, u64::from(estimate.stamp()))?;
-            push_command(out, &estimate.command())
+            push_command(out, estimate.command_ref())
         }
         Body::Proposal(instance, round, command) => {
             push_round(out, b"proposal", *instance, *round)?;

@@ -7,7 +7,7 @@ use Rattle.rr_types.specs.declared.promise.Standing.{Standing}
 use Rattle.rr_types.specs.declared.promise.Standing.TheVariants.{Decided, Open}
 use Rattle.rr_types.specs.Commands.{is_same_command}
 use Rattle.rr_types.specs.Rounds.{Estimated, coordinator_of}
-use Rattle.rr_types.specs.Facts.{instance_of, change_open, after_fact}
+use Rattle.rr_types.specs.Facts.{instance_of, after_fact}
 
 -- whether the instance has not decided
 abbrev pub is_undecided : Option Standing → Bool
@@ -38,14 +38,6 @@ abbrev pub proposal_of : Option Standing → Option Command
 proposal_of None = None
 proposal_of (Some (Decided v)) = None
 proposal_of (Some (Open o)) = o.proposal
-
--- the standing with this proposal made in its round; only an open instance has one
-abbrev pub with_proposal : Command → Option Standing → Option Standing
-with_proposal v s = change_open (λ o. record o { proposal = Some v }) s
-
--- the standing with this estimate, adopted in round r
-abbrev pub with_adopted : ℕ → Command → Option Standing → Option Standing
-with_adopted r v s = change_open (λ o. record o { stamp = r; estimate = v }) s
 
 -- where instance i stands after facts, oldest first, if it stood so before them
 abbrev pub standing_from : Option Standing → ℕ → List Fact → Option Standing

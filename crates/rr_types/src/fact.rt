@@ -84,6 +84,13 @@ impl Estimate {
     {
         self.command
     }
+
+    /// The same without a copy: a command is large.
+    pub fn command_ref(&self) -> &Command
+        ensures { result.now ≡ self.now.command }
+    {
+        &self.command
+    }
 }
 
 /// A fact of a node. Its node keeps each fact for good once a sync has covered it.

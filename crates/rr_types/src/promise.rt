@@ -4,6 +4,7 @@ ghost use Rattle.std.specs.Prelude.{◌≡◌, ◌≤◌, ◌<◌, ◌↔◌, No
 ghost use Rattle.rr_types.specs.Promises.{IsAscending};
 
 use crate::command::Command;
+use crate::fact::Estimate;
 use crate::round::{Instance, Round};
 use std::marker::Model;
 
@@ -99,6 +100,33 @@ impl OpenStanding {
             Some(command) => Some(command),
             None => None,
         }
+    }
+
+    /// Where an instance stands that has just entered a round with this estimate.
+    pub(crate) fn entered(estimate: &Estimate) -> OpenStanding
+        ensures { result ≡ record { round = estimate.now.round; stamp = estimate.now.stamp; estimate = estimate.now.command; proposal = None } }
+    {
+        OpenStanding {
+            round: estimate.round().number(),
+            stamp: estimate.stamp(),
+            estimate: estimate.command(),
+            proposal: None,
+        }
+    }
+
+    /// The node proposes a command in the round.
+    pub(crate) fn propose(&mut self, command: &Command)
+        ensures { self.new ≡ record self.old { proposal = Some command.now } }
+    {
+        self.proposal = Some(*command);
+    }
+
+    /// The node adopts an estimate in the round.
+    pub(crate) fn adopt(&mut self, command: &Command)
+        ensures { self.new ≡ record self.old { stamp = self.old.round; estimate = command.now } }
+    {
+        self.stamp = self.round;
+        self.estimate = *command;
     }
 }
 

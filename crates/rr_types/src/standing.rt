@@ -2,45 +2,12 @@
 
 ghost use Rattle.std.specs.Prelude.{◌≡◌, ◌≤◌, ◌<◌, Some, None, is_some};
 ghost use Rattle.rr_types.specs.Facts.{after_fact, decision_of};
-ghost use Rattle.rr_types.specs.Standings.{round_of, stamp_of, proposal_of, is_undecided, with_proposal, with_adopted, carries_on, fits, IsInRound};
+ghost use Rattle.rr_types.specs.Standings.{round_of, stamp_of, proposal_of, is_undecided, carries_on, fits, IsInRound};
 
 use crate::command::Command;
 use crate::fact::{Estimate, Fact};
 use crate::node::{NodeId, Nodes, coordinator};
 use crate::promise::{OpenStanding, Standing};
-
-impl OpenStanding {
-    /// Where an instance stands that has just entered a round with this estimate.
-    fn entered(estimate: &Estimate) -> OpenStanding
-        ensures { result ≡ record { round = estimate.now.round; stamp = estimate.now.stamp; estimate = estimate.now.command; proposal = None } }
-    {
-        match OpenStanding::new(estimate.round(), estimate.stamp(), estimate.command(), None) {
-            Some(open) => open,
-            None => unreachable!(),
-        }
-    }
-
-    /// The same with this proposal made in its round.
-    fn proposed(&self, command: Command) -> OpenStanding
-        ensures { result ≡ record self.now { proposal = Some command } }
-    {
-        match OpenStanding::new(self.round(), self.stamp(), self.estimate(), Some(command)) {
-            Some(open) => open,
-            None => unreachable!(),
-        }
-    }
-
-    /// The same with this estimate, adopted in its round.
-    fn adopted(&self, command: Command) -> OpenStanding
-        ensures { result ≡ record self.now { stamp = self.now.round; estimate = command } }
-    {
-        let round = self.round();
-        match OpenStanding::new(round, round.number(), command, self.proposal()) {
-            Some(open) => open,
-            None => unreachable!(),
-        }
-    }
-}
 
 impl Standing {
     /// The present round; 0 where the instance has decided.
@@ -84,23 +51,45 @@ impl Standing {
         }
     }
 
-    /// The standing with this proposal made in its round, if it has one.
-    fn proposed(&self, command: Command) -> Standing
-        ensures { Some result ≡ with_proposal command (Some self.now) }
+    /// Whether the node has proposed a command in the present round.
+    pub fn has_proposal(&self) -> bool
+        ensures { result ≡ is_some (proposal_of (Some self.now)) }
     {
         match self {
-            Standing::Decided(_) => *self,
-            Standing::Open(open) => Standing::Open(open.proposed(command)),
+            Standing::Decided(_) => false,
+            Standing::Open(open) => open.proposal_ref().is_some(),
         }
     }
 
-    /// The standing with this estimate, adopted in its round, if it has one.
-    fn adopted(&self, command: Command) -> Standing
-        ensures { Some result ≡ with_adopted (round_of (Some self.now)) command (Some self.now) }
+    /// Takes on a fact about the instance.
+    pub fn take_on(&mut self, fact: &Fact)
+        requires { IsInRound (Some self.old) fact.now }
+        ensures { Some self.new ≡ after_fact (Some self.old) fact.now }
     {
-        match self {
-            Standing::Decided(_) => *self,
-            Standing::Open(open) => Standing::Open(open.adopted(command)),
+        match fact {
+            Fact::Enter(_, estimate) => *self = Standing::Open(OpenStanding::entered(estimate)),
+            Fact::Propose(_, _, command) => {
+                if let Standing::Open(open) = self {
+                    open.propose(command);
+                }
+            }
+            Fact::Adopt(_, _, command) => {
+                if let Standing::Open(open) = self {
+                    open.adopt(command);
+                }
+            }
+            Fact::Decide(_, command) => *self = Standing::Decided(*command),
+        }
+    }
+
+    /// Where an instance stands after the first fact about it; `None` where that names no standing.
+    pub fn first(fact: &Fact) -> Option<Standing>
+        ensures { result ≡ after_fact None fact.now }
+    {
+        match fact {
+            Fact::Enter(_, estimate) => Some(Standing::Open(OpenStanding::entered(estimate))),
+            Fact::Propose(..) | Fact::Adopt(..) => None,
+            Fact::Decide(_, command) => Some(Standing::Decided(*command)),
         }
     }
 
@@ -109,32 +98,14 @@ impl Standing {
         requires { IsInRound before.now fact.now }
         ensures { result ≡ after_fact before.now fact.now }
     {
-        match fact {
-            Fact::Enter(_, estimate) => Some(Standing::Open(OpenStanding::entered(estimate))),
-            Fact::Propose(_, _, command) => with_proposal(before, *command),
-            Fact::Adopt(_, _, command) => with_adopted(before, *command),
-            Fact::Decide(_, command) => Some(Standing::Decided(*command)),
+        match before {
+            None => Standing::first(fact),
+            Some(before) => {
+                let mut standing = *before;
+                standing.take_on(fact);
+                Some(standing)
+            }
         }
-    }
-}
-
-/// The standing with this proposal made in its round.
-fn with_proposal(standing: &Option<Standing>, command: Command) -> Option<Standing>
-    ensures { result ≡ with_proposal command standing.now }
-{
-    match standing {
-        None => None,
-        Some(standing) => Some(standing.proposed(command)),
-    }
-}
-
-/// The standing with this estimate, adopted in its round.
-fn with_adopted(standing: &Option<Standing>, command: Command) -> Option<Standing>
-    ensures { result ≡ with_adopted (round_of standing.now) command standing.now }
-{
-    match standing {
-        None => None,
-        Some(standing) => Some(standing.adopted(command)),
     }
 }
 
@@ -166,7 +137,7 @@ fn has_proposal(standing: &Option<Standing>) -> bool
     ensures { result ≡ is_some (proposal_of standing.now) }
 {
     match standing {
-        Some(standing) => standing.proposal().is_some(),
+        Some(standing) => standing.has_proposal(),
         None => false,
     }
 }
@@ -180,7 +151,7 @@ fn carries_on(standing: &Option<Standing>, estimate: &Estimate) -> bool
         None => estimate.stamp() == 0,
         Some(Standing::Decided(_)) => false,
         Some(Standing::Open(open)) => {
-            estimate.stamp() == open.stamp() && estimate.command().is_same(&open.estimate())
+            estimate.stamp() == open.stamp() && estimate.command_ref().is_same(open.estimate_ref())
         }
     }
 }

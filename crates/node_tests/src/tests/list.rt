@@ -74,7 +74,7 @@ fn a_decided_instance_opens_the_next(rt: HostRuntime) {
     let mut rows = Vec::new(alloc);
     rows.push(Row::promised(alloc, 0, &decided(2, 1).expect(&rt, "memory")))
         .expect(&rt, "memory");
-    table.absorb(alloc, rows).expect(&rt, "memory");
+    table.absorb(alloc, &mut rows).expect(&rt, "memory");
     assert_open(&rt, &table, [0, 1, 3, 4, 5, 6, 7, 8]);
     assert_eq!(rt; table.undecided_from(2), 3);
     assert!(rt; table.has_decided(request(1)));

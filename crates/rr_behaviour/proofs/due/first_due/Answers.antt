@@ -1,15 +1,10 @@
-use Rattle.std.proofs.Common.{◌≡◌, ◌+◌, ap, sym, ◌∙◌, subst, true, drop, IsTrue, None, arith}
+use Rattle.std.proofs.Common.{◌≡◌, ◌+◌, ap, sym, ◌∙◌, subst, true, drop, IsTrue, Option, None, option_map, arith}
 use Rattle.rr_model.specs.NodeState.{Row}
 use Rattle.rr_model.specs.NodeDue.{due_at, first_due}
 use Rattle.rr_model.specs.NodeDue.Due.{Begin}
-use Rattle.rr_behaviour.proofs.DueLemmas.{IsSpent, first_due_more, first_due_here, due_begins, due_stops, due_unnamed, spent}
+use Rattle.rr_behaviour.proofs.DueLemmas.{IsSpent, first_due_more, first_due_here, due_begins, free_found, due_stops, due_unnamed, spent}
 use Rattle.rr_behaviour.proofs.due.first_due.Goals as goal
-use Rattle.rr_behaviour.proofs.due.first_due.Goals.{in-Some+in_default, in-None+then-not-is_pool_spent+else-is_some, in-None+else-not-is_pool_spent}
-
-pub returns-then-is_some-clause-value : goal.returns-then-is_some-clause-value
-returns-then-is_some-clause-value c =
-    let begin = due_begins c.args.step.now.state c.args.instances.now c.instance-item.result c.first_free.result c.is_some.result c.requires c.in-None.ensures c.first_free.ensures c.is_some.ensures c.if-is_some.true in
-    sym (first_due_here c.args.step.now.state c.args.instances.now c.loop-instance.instance-index c.instance-item.result (Begin c.instance-item.result) c.loop-instance-test.true c.instance-item.is begin) ∙ c.loop-instance.invariant.left
+use Rattle.rr_behaviour.proofs.due.first_due.Goals.{in-Some+in_default, in-None+then-not-is_pool_spent+in_default-first_free, in-None+else-not-is_pool_spent}
 
 pub loop-instance-preserved : goal.loop-instance-preserved
 loop-instance-preserved c =
@@ -23,10 +18,21 @@ loop-instance-preserved c =
         left = more (due_stops s i _ _ _ w.in-Some.ensures (ap (λ (r : Row). r.tally) w.row-in-Some.view_is) (ap (λ (r : Row). r.standing) w.row-in-Some.view_is) w.in_default.ensures.value);
         spent = λ t. inv.spent (subst IsTrue w.is_pool_spent-is t);
       }
-      | in-None+then-not-is_pool_spent+else-is_some w ↦
-          let all : IsSpent s = spent s is i w.first_free.result w.is_some.result c.requires w.first_free.ensures w.is_some.ensures w.if-is_some.false w.in-None.ensures in
+      | in-None+then-not-is_pool_spent+in_default-first_free w ↦
+          let all : IsSpent s = spent s is i c.requires (sym w.in_default-first_free.is ∙ w.first_free.ensures) w.in-None.ensures in
           record { left = more (due_unnamed s i w.in-None.ensures (all i w.in-None.ensures)); spent = λ t. all }
       | in-None+else-not-is_pool_spent w ↦
           let t : c.loop-instance.is_pool_spent ≡ true = grind (arith, w.if-not-is_pool_spent.false) in
           record { left = more (due_unnamed s i w.in-None.ensures (inv.spent t i w.in-None.ensures)); spent = λ u. inv.spent t }
     ]
+
+pub returns-in-Some-first_free-clause-value : goal.returns-in-Some-first_free-clause-value
+returns-in-Some-first_free-clause-value c =
+    let begin = due_begins c.args.step.now.state c.args.instances.now c.instance-item.result _ c.requires c.in-None.ensures (sym c.in-Some-first_free.is ∙ c.first_free.ensures) in
+    sym (first_due_here c.args.step.now.state c.args.instances.now c.loop-instance.instance-index c.instance-item.result (Begin c.instance-item.result) c.loop-instance-test.true c.instance-item.is begin) ∙ c.loop-instance.invariant.left
+
+pub returns-in-Some-first_free-clause-ready : goal.returns-in-Some-first_free-clause-ready
+returns-in-Some-first_free-clause-ready c = (
+  ap (λ (x : Option Row). option_map (λ (r : Row). r.standing) x) c.in-None.ensures,
+  free_found c.args.step.now.state c.args.instances.now c.instance-item.result _ c.requires (sym c.in-Some-first_free.is ∙ c.first_free.ensures),
+)

@@ -1,6 +1,6 @@
-use Rattle.std.proofs.Common.{◌≡◌, ◌∙◌, ap, sym}
+use Rattle.std.proofs.Common.{◌≡◌, ◌∙◌, ap}
 use Rattle.rr_model.specs.NodeStep.{Hear, heard}
-use Rattle.rr_step.specs.Steps.{Stepped, stepped}
+use Rattle.rr_step.specs.Steps.{stepped}
 use Rattle.rr_behaviour.proofs.InputSteps.{refused_of, hear_large}
 use Rattle.rr_behaviour.proofs.hear.hear_step.Goals as goal
 

@@ -1,7 +1,7 @@
-use Rattle.std.proofs.Common.{◌≡◌, ◌∙◌, ap, sym}
+use Rattle.std.proofs.Common.{◌≡◌, ◌∙◌, ap}
 use Rattle.rr_model.specs.NodeStep.{Suspect}
 use Rattle.rr_model.specs.NodeState.{NodeState}
-use Rattle.rr_step.specs.Steps.{Stepped, stepped}
+use Rattle.rr_step.specs.Steps.{stepped}
 use Rattle.rr_behaviour.proofs.InputSteps.{refused_of, suspect_large}
 use Rattle.rr_behaviour.proofs.tick.suspect_step.Goals as goal
 

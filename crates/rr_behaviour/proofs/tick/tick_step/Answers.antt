@@ -1,6 +1,6 @@
-use Rattle.std.proofs.Common.{◌≡◌, ◌∙◌, ap, sym}
+use Rattle.std.proofs.Common.{◌≡◌, ◌∙◌, ap}
 use Rattle.rr_model.specs.NodeStep.{Tick, ticked_on}
-use Rattle.rr_step.specs.Steps.{Stepped, stepped}
+use Rattle.rr_step.specs.Steps.{stepped}
 use Rattle.rr_behaviour.proofs.InputSteps.{refused_of, tick_large}
 use Rattle.rr_behaviour.proofs.tick.tick_step.Goals as goal
 

@@ -19,18 +19,19 @@ IsReady changes x = IsKept x.state.value x.registry × IsSearched x.searched.cou
 
 pub invariant_of-self : goal.invariant_of-self
 invariant_of-self c =
-    let changes : Changed = c.args.changes in
-    let taken : CanBeTaken c.self.inside.state.value changes = subst (λ (s : NodeState). CanBeTaken s changes) (sym c.self.view_is) c.requires in
+    let changes : Changed = c.deref_mut-2.result.now in
+    let boxed : changes ≡ c.args.changes.value = c.deref_mut-2.ensures.value in
+    let taken : CanBeTaken c.self.inside.state.value changes = subst (λ (d : Changed). CanBeTaken c.self.inside.state.value d) (sym boxed) (subst (λ (s : NodeState). CanBeTaken s c.args.changes.value) (sym c.self.view_is) c.requires) in
     let x : Inside = c.if-is_any_answered.self-inside in
     let ready : IsReady changes x = elim c.if-is_any_answered.branch [
       | then-is_any_answered w ↦ subst (IsReady changes) (sym w.self-inside-is) (c.self.invariant.0, stale c.self.inside.searched.count c.self.inside.searched.is_stale c.self.inside.state.value c.self.invariant.1, taken, λ e. absurd (false≢true (sym e)))
-      | else-is_any_answered w ↦ subst (IsReady changes) (sym w.self-inside-is) (c.self.invariant.0, c.self.invariant.1, taken, λ e. ap (λ (made : Changed). list_any (λ q. is_some (kept_reply c.self.inside.registry q)) made.waiting) (sym c.changes.view_is) ∙ ap (list_any (λ q. is_some (kept_reply c.self.inside.registry q))) (sym c.deref.ensures.value) ∙ sym c.is_any_answered.ensures ∙ w.if-is_any_answered.false)
+      | else-is_any_answered w ↦ subst (IsReady changes) (sym w.self-inside-is) (c.self.invariant.0, c.self.invariant.1, taken, λ e. ap (λ (made : Changed). list_any (λ q. is_some (kept_reply c.self.inside.registry q)) made.waiting) (boxed ∙ sym c.deref.ensures ∙ sym c.behind-changes.view_is) ∙ ap (list_any (λ q. is_some (kept_reply c.self.inside.registry q))) (sym c.deref-2.ensures.value) ∙ sym c.is_any_answered.ensures ∙ w.if-is_any_answered.false)
     ] in
     let s = c.deref_mut.result.now in
     let own = sym c.deref_mut.ensures.value in
     let kept = subst (λ (y : NodeState). IsKept y x.registry) own ready.0 in
     let fits = subst (λ (y : NodeState). CanBeTaken y changes) own ready.2 in (
-      commit_kept s c.absorb.new.self x.registry changes c.absorb.result fits c.absorb.ensures.ok c.absorb.ensures.err kept,
-      commit_searched x.searched.count x.searched.is_stale s c.absorb.new.self changes x.registry c.absorb.result kept c.absorb.ensures.ok c.absorb.ensures.err ready.3
+      commit_kept s c.absorb-absorbed.new.self x.registry changes c.absorb-absorbed.result fits c.absorb-absorbed.ensures.ok c.absorb-absorbed.ensures.err kept,
+      commit_searched x.searched.count x.searched.is_stale s c.absorb-absorbed.new.self changes x.registry c.absorb-absorbed.result kept c.absorb-absorbed.ensures.ok c.absorb-absorbed.ensures.err ready.3
           (subst (λ (y : NodeState). IsSearched x.searched.count x.searched.is_stale y) own ready.1),
     )
