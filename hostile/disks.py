@@ -16,6 +16,8 @@ SCRIPTS = (("a0", "s", "s", "a1", "s", "s"), ("a0", "a1", "s", "a0", "a0", "s", 
 BEHIND = ("s", "a0", "s", "s")
 SHORT = 2
 TRACED = "openat,creat,truncate,ftruncate,unlink,mkdir,rename,read,pread64,write,pwrite64,fsync,fdatasync"
+# How a read and a write of a file at an offset are called.
+CALLED = {"read": "pread64", "write": "pwrite64"}
 UNTOLD = {"O_CLOEXEC", "O_NOCTTY"}
 LINE = re.compile(r"^\d+ +(\w+)\((.*)\) += (-?\d+)(.*)$")
 
@@ -176,7 +178,7 @@ def one_run(rig, tally, words, held, kind=None, number=0, fault=None):
     again = fault == "EINTR"
     wanted = Expected(held, None if again else kind, number).make(words)
     folder = fresh(rig, held)
-    ending, lines = traced(rig, folder, "open", words, kind and f"inject={kind}:error={fault}:when={number}")
+    ending, lines = traced(rig, folder, "open", words, kind and f"inject={CALLED.get(kind, kind)}:error={fault}:when={number}")
     got = [it for it in asked_of(lines) if not (again and it[-1] == "failed")]
     got = [it[:-1] for it in got]
     what = f"{' '.join(words)} on {held}, {kind} {number} fails by {fault}"
@@ -191,7 +193,7 @@ def traced(rig, folder, way, words, inject=None):
     """Runs the program under strace: how it ended, and each call on the two files with its words and its answer."""
     trace = rig.path("trace")
     paths = [word for name in FILES for word in ("-P", os.path.join(folder, name))]
-    wanted = ["-e", f"trace={TRACED},lseek"] + (["-e", inject] if inject else [])
+    wanted = ["-e", f"trace={TRACED}"] + (["-e", inject] if inject else [])
     strace = shutil.which("strace")
     ending = rig.run_all([strace, "-q", "-f", "-xx", "-y", "-s", "100000", "-o", trace, *paths, *wanted, rig.calls, folder, way, *words])
     with open(trace) as file:
@@ -202,7 +204,7 @@ def traced(rig, folder, way, words, inject=None):
 
 def asked_of(lines):
     """The calls that read, write, sync or change the files: kind, file, offset and bytes, and whether it failed."""
-    at = {}
+    kinds = {call: kind for kind, call in CALLED.items()}
     for call, what, answer in lines:
         if call == "openat":
             continue
@@ -210,13 +212,10 @@ def asked_of(lines):
         path = bytes.fromhex(name.group(1).replace("\\x", "")).decode() if name and "\\x" in name.group(1) else name and name.group(1)
         file = os.path.basename(path) if path else "?"
         failed = "failed" if answer < 0 else "done"
-        if call == "lseek":
-            at[file] = answer
-        elif call in ("read", "write"):
+        if call in kinds:
             text = re.search(r'"([^"]*)"', what)
             data = bytes.fromhex(text.group(1).replace("\\x", "")) if text else None
-            yield call, file, at.get(file, 0), data, failed
-            at[file] = at.get(file, 0) + max(answer, 0)
+            yield kinds[call], file, int(what.rsplit(", ", 1)[1]), data, failed
         elif call == "fdatasync":
             yield call, file, failed
         else:

@@ -97,6 +97,33 @@ ssize_t write(int fd, const void *from, size_t size)
     return syscall(SYS_write, fd, from, size);
 }
 
+/* What is read or written at an offset is a read or a write too. Both names of a call are the same one here. */
+ssize_t pread64(int fd, void *to, size_t size, off_t at)
+{
+    if (is_meant("read", fd, NULL)) {
+        GOES_WRONG(syscall(SYS_pread64, fd, to, half(size), at));
+    }
+    return syscall(SYS_pread64, fd, to, size, at);
+}
+
+ssize_t pread(int fd, void *to, size_t size, off_t at)
+{
+    return pread64(fd, to, size, at);
+}
+
+ssize_t pwrite64(int fd, const void *from, size_t size, off_t at)
+{
+    if (is_meant("write", fd, NULL)) {
+        GOES_WRONG(syscall(SYS_pwrite64, fd, from, half(size), at));
+    }
+    return syscall(SYS_pwrite64, fd, from, size, at);
+}
+
+ssize_t pwrite(int fd, const void *from, size_t size, off_t at)
+{
+    return pwrite64(fd, from, size, at);
+}
+
 int fdatasync(int fd)
 {
     if (is_meant("sync", fd, NULL)) {

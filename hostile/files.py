@@ -10,7 +10,7 @@ import shutil
 from harness import Tally, schedules, tell
 
 # The calls by which rr asks for a file: opening, its length, a place in it, its bytes; and printing.
-CALLS = ("openat", "statx", "lseek", "read", "write")
+CALLS = ("openat", "statx", "pread64", "read", "write")
 FAULTS = ("EIO", "ENOSPC", "EACCES", "EINTR")
 FOLDERS = ("one_command", "second_snapshot", "snapshot_of_an_open_instance")
 TEXTS = ("one_command", "suspected_coordinators", "no_events")

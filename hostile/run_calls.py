@@ -20,8 +20,8 @@ KINDS = ("open", "read", "write", "sync")
 HOWS = {"open": ("EIO", "ENOSPC", "EINTR"), "read": ("EIO", "EINTR", "short"), "write": ("EIO", "ENOSPC", "EINTR", "short", "torn"), "sync": ("EIO", "ENOSPC", "EINTR")}
 KILLS = ("kill", "killed")
 # Calls that no signal interrupts; where one is told so all the same, it has failed.
-NEVER_INTERRUPTED = ("lseek", "statx", "mkdir", "ftruncate")
-TRACED = ("openat", "mkdir", "flock", "statx", "lseek", "read", "write", "fdatasync", "fsync", "ftruncate")
+NEVER_INTERRUPTED = ("statx", "mkdir", "ftruncate")
+TRACED = ("openat", "mkdir", "flock", "statx", "pread64", "read", "pwrite64", "write", "fdatasync", "fsync", "ftruncate")
 MOST_TRACED = 60
 ENOUGH = 3
 # How many nodes, how many lines, whether the folders hold something before, and whether a tape is recorded.

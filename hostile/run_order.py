@@ -19,9 +19,10 @@ import reading
 import scripts
 from harness import LONG, Tally, tell
 
-TRACED = "lseek,write,fdatasync,fsync"
+TRACED = "pwrite64,write,fdatasync,fsync"
 LINE = re.compile(r"^(\d+) +(?:(\w+)\((.*)|<\.\.\. (\w+) resumed>(.*))$")
 ANSWER = re.compile(r"\) += (-?\d+)")
+OFFSET = re.compile(r'"(?:\.\.\.)?, \d+, (\d+)')
 AREA = re.compile(r"/nodes/(\d)/a([01])$")
 SEEDS = 60
 SHORT = 2
@@ -79,27 +80,22 @@ def traced(rig, folder, nodes, lines):
 
 def events_of(file):
     """The calls' beginnings and ends: (begin or end, call, path, offset, bytes), where each write and sync is told twice."""
-    open_calls, places = {}, {}
+    open_calls = {}
     for line in file:
         match = LINE.match(line)
         if not match:
             continue
         thread, call, what, resumed, rest = match.groups()
         if call:
-            path = path_of(what)
-            data = bytes_of(what) if call == "write" else b""
-            open_calls[thread] = (call, path, places.get(path, 0), data)
-            if call != "lseek":
-                yield ("begin", *open_calls[thread])
+            at = int(OFFSET.search(what)[1]) if call == "pwrite64" else 0
+            data = bytes_of(what) if call in ("write", "pwrite64") else b""
+            open_calls[thread] = ("write" if call == "pwrite64" else call, path_of(what), at, data)
+            yield ("begin", *open_calls[thread])
             rest = what
         answer = ANSWER.search(rest)
         if answer and thread in open_calls:
-            call, path, at, data = open_calls.pop(thread)
-            if call == "lseek":
-                places[path] = int(answer[1])
-            else:
-                places[path] = at + max(int(answer[1]), 0) if call == "write" else at
-                yield ("end", call, path, at, int(answer[1]))
+            call, path, at, _ = open_calls.pop(thread)
+            yield ("end", call, path, at, int(answer[1]))
 
 
 def path_of(what):
