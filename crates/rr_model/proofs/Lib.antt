@@ -39,3 +39,10 @@ pub mod NodeInWorld
 pub mod NodeRestarts
 pub mod Frames
 pub mod NodeRounds
+pub mod Reaches
+pub mod OneNode
+pub mod Plans
+pub mod Phases
+pub mod Majorities
+pub mod PrefixHolds
+pub mod Served

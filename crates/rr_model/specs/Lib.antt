@@ -15,3 +15,4 @@ pub mod Laws
 pub mod NodeStays
 pub mod NodeReached
 pub mod NodeInWorld
+pub mod NoDeadEnd

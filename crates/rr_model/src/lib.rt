@@ -1,9 +1,9 @@
 //! The model: the world, in which nodes crash and messages are lost, repeated and reordered; what a sound run is; and what a
-//! node does. `agreement` says that every run of 1 to 7 nodes is sound. A node is defined in `specs/NodeStep.antt`.
+//! node does. `agreement` says that every run is sound, whatever the number of nodes. A node is defined in `specs/NodeStep.antt`.
 //! `laws_of_nodes` ties it to the world. The functions here do nothing: their contracts are the theorems.
 #![tactic(auto)]
 
-ghost use Rattle.std.specs.Prelude.{◌≡◌, ℕ, ◌≤◌, Bool, List, [], ◌∷◌, ◌++◌, ◌↔◌, Option, None, Some, IsTrue};
+ghost use Rattle.std.specs.Prelude.{◌≡◌, ℕ, Bool, List, [], ◌∷◌, ◌++◌, ◌↔◌, Option, None, Some, IsTrue};
 ghost use Rattle.std.specs.List.{Contains};
 ghost use Rattle.rr_types.specs.declared.command.Command.{Command};
 ghost use Rattle.rr_types.specs.declared.command.Reply.TheVariants.{Claimed};
@@ -27,12 +27,20 @@ ghost use Rattle.rr_model.specs.World.{World, Step, Acknowledged, Reported, deci
 ghost use Rattle.rr_model.specs.Examples.{first_request, claim_a_x, to_itself, first_estimate, decides_and_acknowledges, told_by_it, stages_and_crashes, goes_on, IsProposeOfAnotherUnlawful, IsAdoptBelowTheStampUnlawful, IsDecideWithoutMajorityUnlawful, IsEnterWithMadeUpCommandUnlawful};
 ghost use Rattle.rr_model.specs.ClusterExamples.{claim_a_y, first_round, two_rounds, IsDecideUnheardUnlawful, IsProposeOfAnotherCommandUnlawful, kept_over_two_rounds, decides_by_the_others, kept_by_it, crashes_before_it_tells, enters_anew, tells_it_now, IsLostEstimateUnlawful, decides_instance_1, decides_out_of_order, decides_twice, registry_of_one_claim};
 ghost use Rattle.rr_model.specs.Sound.{IsSound, IsChosen, IsDecidedList};
+ghost use Rattle.rr_model.specs.NoDeadEnd.{NoDeadEnd, EachCanBeServed};
 ghost use Rattle.rr_model.specs.Laws.{after_steps, AreBeginningsRuns, StaysChosen, DoesListGrow, AreKeptFactsNeverLost, DoRoundsRise, DoAcksBind, AreProposalsLocked, KeepsRealTime, DoLaterCommandsStandBehind, DoesWhatIsLeftFit, DoesPromiseStand, DoLawfulFactsFit};
 
-/// Agreement and durability: every run of 1 to 7 nodes is sound, whatever is lost, repeated, reordered,
+/// Agreement and durability: every run of any number of nodes is sound, whatever is lost, repeated, reordered,
 /// suspected, crashed and restarted.
 pub fn agreement()
-    ensures every_run_is_sound { (n : ℕ) (run : List Step) → 1 ≤ n → n ≤ 7 → IsRun n run → IsSound n run }
+    ensures every_run_is_sound { (n : ℕ) (run : List Step) → IsRun n run → IsSound n run }
+{}
+
+/// No run is a dead end. After whatever happened, a majority of the nodes can go on without the others: it can decide
+/// any instance, and serve any request that a client submits to it.
+pub fn no_dead_end()
+    ensures a_majority_can_decide { NoDeadEnd }
+    ensures each_request_can_be_served { EachCanBeServed }
 {}
 
 /// Laws of runs, of which agreement is made: rounds rise, an acknowledgement binds what its sender says

@@ -2,4 +2,4 @@ use Rattle.rr_model.proofs.Soundness.{sound}
 use Rattle.rr_model.proofs.agreement.Goals as goal
 
 pub returns : goal.returns
-returns c = record { every_run_is_sound = λ n run low high r. sound n run r }
+returns c = record { every_run_is_sound = sound }
