@@ -1,12 +1,12 @@
 //! An inbox of 256 messages.
 
-ghost use Rattle.std.specs.Prelude.{◌≡◌, true, false, [], IsTrue, IfOk, IfErr, OnOk, MatchOption};
+ghost use Rattle.std.specs.Prelude.{◌≡◌, IsTrue, IfOk, IfErr, OnOk, OnErr, MatchOption};
 ghost use Rattle.rr_types.specs.declared.refusal.Refusal.TheVariants.{OutOfMemory};
-ghost use Rattle.rr_inbox.specs.InOrder.{Puts, Takes, HasHeld, view_of};
+ghost use Rattle.rr_inbox.specs.InOrder.{Puts, Takes, HasHeld, OneQueue, one_more, new_end, end_of, first_taker};
 ghost use Rattle.crossbeam_queue.specs.Passes.{ruled_capacity};
 
-use crate::rule::{FirstInFirstOut, Put, Putter, Take};
-use crate::view::View;
+use crate::rule::{FirstInFirstOut, Meeting, Put, Putter, Take};
+use crate::view::Views;
 use crossbeam_queue::{Pass, RuledArrayQueue};
 use rr_types::Refusal;
 use std::alloc::Global;
@@ -19,7 +19,7 @@ pub const ROOM: usize = 256;
 /// The queue of an inbox.
 #[derive(Drop)]
 pub struct Inbox<T> {
-    queue: RuledArrayQueue<T, View<T>, FirstInFirstOut>,
+    queue: RuledArrayQueue<T, Views<T>, FirstInFirstOut>,
     ghost room: { ruled_capacity queue ≡ 256 },
 }
 
@@ -27,46 +27,46 @@ pub struct Inbox<T> {
 #[derive(Drop)]
 pub struct Port<T> {
     inbox: Arc<Inbox<T>, Global>,
-    pass: Pass<T, View<T>>,
+    pass: Pass<T, Views<T>>,
 }
 
 impl<T> Model for Port<T> {
-    ghost use Rattle.std.specs.Prelude.{◌≡◌, false};
+    ghost use Rattle.std.specs.Prelude.{◌≡◌};
     ghost use Rattle.std.specs.Arc.{arc_value};
     ghost use Rattle.crossbeam_queue.specs.Passes.{IsPassOf};
-    ghost use Rattle.rr_inbox.specs.declared.view.View.{View};
+    ghost use Rattle.rr_inbox.specs.InOrder.{End, Inbox, IsOne, end_of, first_of};
 
-    ghost Value = { View T };
+    ghost Value = { End Inbox T };
 
-    ghost view = { λ p. p.pass.me.0.client };
+    ghost view = { λ p. end_of p.pass.table_id (first_of p.pass.me.0.client) };
 
-    ghost invariant = { λ p. IsPassOf (arc_value p.inbox).queue p.pass };
+    ghost invariant = { λ p. IsPassOf (arc_value p.inbox).queue p.pass × IsOne p.pass.me.0.client };
 }
 
 /// The one end that takes messages out of an inbox.
 #[derive(Drop)]
 pub struct Outlet<T> {
     inbox: Arc<Inbox<T>, Global>,
-    pass: Pass<T, View<T>>,
+    pass: Pass<T, Views<T>>,
 }
 
 impl<T> Model for Outlet<T> {
     ghost use Rattle.std.specs.Prelude.{◌≡◌, true};
     ghost use Rattle.std.specs.Arc.{arc_value};
     ghost use Rattle.crossbeam_queue.specs.Passes.{IsPassOf};
-    ghost use Rattle.rr_inbox.specs.declared.view.View.{View};
+    ghost use Rattle.rr_inbox.specs.InOrder.{End, Inbox, IsOne, end_of, first_of};
 
-    ghost Value = { View T };
+    ghost Value = { End Inbox T };
 
-    ghost view = { λ o. o.pass.me.0.client };
+    ghost view = { λ o. end_of o.pass.table_id (first_of o.pass.me.0.client) };
 
-    ghost invariant = { λ o. IsPassOf (arc_value o.inbox).queue o.pass × (o.pass.me.0.client.takes ≡ true) };
+    ghost invariant = { λ o. IsPassOf (arc_value o.inbox).queue o.pass × IsOne o.pass.me.0.client × ((first_of o.pass.me.0.client).takes ≡ true) };
 }
 
 impl<T: Drop> Outlet<T> {
     /// An empty inbox: the end that takes. It is `OutOfMemory`.
     pub fn new(alloc: Global) -> Result<Outlet<T>, Refusal>
-        ensures ok { IfOk result (λ outlet. outlet ≡ view_of true [] [] []) }
+        ensures ok { IfOk result (λ outlet. outlet.view ≡ first_taker) }
         ensures err { IfErr result (λ e. e ≡ OutOfMemory) }
     {
         let (queue, pass) = RuledArrayQueue::ruled(alloc, ROOM)?;
@@ -74,10 +74,10 @@ impl<T: Drop> Outlet<T> {
         Ok(Outlet { inbox, pass })
     }
 
-    /// One more end that puts, and has put nothing yet. It is `OutOfMemory`.
+    /// One more end that puts into this inbox, and has put nothing yet. It is `OutOfMemory`.
     pub fn port(&mut self) -> Result<Port<T>, Refusal>
-        ensures same { self.new ≡ self.old }
-        ensures ok { IfOk result (λ port. port ≡ view_of false self.old.known [] []) }
+        ensures ok { IfOk result (λ port. (port ≡ end_of self.old.queue (new_end self.old.view)) × (self.new ≡ end_of self.old.queue (one_more self.old.view))) }
+        ensures same { OnErr result (self.new ≡ self.old) }
         ensures err { IfErr result (λ e. e ≡ OutOfMemory) }
     {
         let inbox = Arc::try_clone(&self.inbox)?;
@@ -88,16 +88,32 @@ impl<T: Drop> Outlet<T> {
     /// Whether no message waits. It is told only where all that this end knows was put has been taken, as `take` tells it.
     pub fn is_empty(&mut self) -> bool
         ensures same { self.new ≡ self.old }
-        ensures empty { IsTrue result → HasHeld 0 self.old }
+        ensures empty { IsTrue result → HasHeld 0 self.old.view }
     {
         self.inbox.queue.is_empty_as::<Take>(&mut self.pass)
     }
 
     /// Takes the oldest message. There is none only where all that this end knows was put has been taken.
     pub fn take<R: Wait>(&mut self, rt: &R) -> Option<T>
-        ensures { MatchOption result ((self.new ≡ self.old) × HasHeld 0 self.old) (λ message. Takes self.old message self.new) }
+        ensures queue { self.new.queue ≡ self.old.queue }
+        ensures taken { MatchOption result ((self.new ≡ self.old) × HasHeld 0 self.old.view) (λ message. Takes self.old.view message self.new.view) }
     {
         self.inbox.queue.pop_as::<Take, R>(rt, &mut self.pass)
+    }
+
+    /// A law for the holder of both ends of one inbox: what was taken is a beginning of all that was put, and of that
+    /// the port's messages are just those that it put, in order. It changes nothing.
+    pub fn meet(&mut self, port: Port<T>) -> Port<T>
+        requires one { port.queue ≡ self.old.queue }
+        ensures same { (self.new ≡ self.old) × (result ≡ port) }
+        ensures law { OneQueue self.old.view port.view }
+    {
+        let Port { inbox, pass } = port;
+        let queue = &self.inbox.queue;
+        queue.absorb::<Meeting>(&mut self.pass, pass);
+        queue.learn_as::<Meeting>(&mut self.pass);
+        let pass = queue.another::<Meeting>(&mut self.pass);
+        Port { inbox, pass }
     }
 }
 
@@ -105,8 +121,9 @@ impl<T: Drop> Port<T> {
     /// Puts a message behind all others. It comes back where 256 messages wait. The contract names such a history
     /// alone, and nothing ties that to the queue.
     pub fn put<R: Wait>(&mut self, rt: &R, message: T) -> Result<(), T>
-        ensures put { OnOk result (Puts self.old message self.new) }
-        ensures back { IfErr result (λ back. (back ≡ message) × (self.new ≡ self.old) × HasHeld 256 self.old) }
+        ensures queue { self.new.queue ≡ self.old.queue }
+        ensures put { OnOk result (Puts self.old.view message self.new.view) }
+        ensures back { IfErr result (λ back. (back ≡ message) × (self.new ≡ self.old) × HasHeld 256 self.old.view) }
     {
         let queue = &self.inbox.queue;
         queue.push_as::<Put, R>(rt, &mut self.pass, message)

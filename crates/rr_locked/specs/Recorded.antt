@@ -6,6 +6,12 @@ use Rattle.rr_types.specs.declared.refusal.Refusal.TheVariants.{OutOfMemory, Bad
 use Rattle.rr_tape.specs.declared.tape_event.TapeEvent.{TapeEvent}
 use Rattle.rr_tape.specs.declared.tape_event.TapeEvent.TheVariants.{Submit, Hear, Suspect, Tick, Advance, Take, Mark, Send, Ack}
 use Rattle.rr_tape.specs.Taped.{Taped, IsTapeEvent}
+use Rattle.rr_types.specs.declared.message.Message.{Message}
+
+-- a message on its way, and its number on the tape
+pub record Sent : Type 0 where
+  pub number : ℕ
+  pub message : Message
 
 -- whether a message is sent by the event
 abbrev pub is_send : TapeEvent → Bool

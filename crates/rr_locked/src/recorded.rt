@@ -12,7 +12,8 @@ ghost use Rattle.rr_tape.specs.declared.tape_event.TapeEvent.TheVariants as tape
 ghost use Rattle.rr_locked.specs.Recorded.{sent_on, with_event, HasNoPlace};
 
 use crate::locked::Locked;
-use crate::recording::{Recording, Sent};
+use crate::recording::Recording;
+use crate::sent::Sent;
 use rr_journal::Synced;
 use rr_tape::TapeEvent;
 use rr_types::{Body, Command, Estimate, Group, Message, Op, Refusal, Reply, RequestNo, made_of};
@@ -46,8 +47,8 @@ pub fn hear_on(locked: &mut Locked, recording: &mut Recording, sent: &Sent) -> R
         ⊎ ((locked.new ≡ node_step (node.Hear sent.now.message) locked.old) × HasNoPlace recording.old (tape.Hear locked.old.node sent.now.number) e)) }
 {
     let node = locked.node();
-    locked.hear(&sent.message)?;
-    let message = sent.number;
+    locked.hear(sent.message())?;
+    let message = sent.number();
     let event = TapeEvent::Hear { node, message };
     recording.note(&event)
 }
@@ -136,11 +137,9 @@ pub fn send_on(locked: &mut Locked, recording: &mut Recording) -> Result<Option<
         Some(cleared) => {
             let number = recording.sent();
             let message = cleared.message();
-            let sent = Sent { number, message };
-            let message = cleared.message();
             let event = TapeEvent::Send { number, message };
             recording.note(&event)?;
-            Ok(Some(sent))
+            Ok(Some(Sent::new(number, cleared)))
         }
     }
 }

@@ -30,13 +30,6 @@ impl Model for Recording {
     ghost invariant = { λ r. IsTape (record { nodes = r.nodes; events = r.events.items }) × (r.sent ≡ sent_on (record { nodes = r.nodes; events = r.events.items })) };
 }
 
-/// A message, and its number on the tape; 0 where nothing is recorded.
-#[derive(Clone, Copy, Debug)]
-pub struct Sent {
-    pub number: u32,
-    pub message: Message,
-}
-
 impl Recording {
     /// A tape of these nodes without events.
     pub fn new(alloc: Global, nodes: Nodes) -> Recording

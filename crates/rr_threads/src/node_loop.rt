@@ -8,10 +8,10 @@ use crate::shared::Shared;
 use rr_inbox::{Giver, Outlet, Port, Taker, TrySendError};
 use rr_journal::Synced;
 use rr_locked::{
-    Locked, Sent, Standstill, Turns, Unflushed, advance_on, hear_on, mark_on, send_on, take_on,
-    tick_on,
+    Locked, Sent, Standstill, Turns, Unflushed, advance_on, hear_on, mark_on, send, send_on,
+    take_on, tick_on,
 };
-use rr_types::{Body, Command, Estimate, Group, Message, NodeId, NodeSet, Op, Refusal, made_of};
+use rr_types::{Group, NodeId, NodeSet, Refusal};
 use rr_window::WindowName;
 use std::sync::{Mutex, Wait};
 
@@ -41,7 +41,7 @@ fn hear<R: Wait>(
     sent: &Sent,
 ) -> Result<(), Refusal> {
     match recorder {
-        None => locked.hear(&sent.message),
+        None => locked.hear(sent.message()),
         Some(recorder) => hear_on(locked, &mut recorder.recording().lock(rt), sent),
     }
 }
@@ -164,25 +164,17 @@ fn leave<R: Wait>(
     locked: &mut Locked,
     recorder: Option<&Recorder>,
 ) -> Result<Option<Sent>, Refusal> {
-    made_of!(Body, Command, Estimate, Message, Op);
     match recorder {
-        None => match locked.next_message() {
-            None => Ok(None),
-            Some(cleared) => {
-                let message = cleared.message();
-                Ok(Some(Sent { number: 0, message }))
-            }
-        },
+        None => Ok(send(locked)),
         Some(recorder) => send_on(locked, &mut recorder.recording().lock(rt)),
     }
 }
 
 /// A message goes into the inbox of its receiver, and is lost where that is full. Gives the receiver.
-fn put<R: Wait>(rt: &R, ports: &mut Vec<Port<Sent>>, sent: &Sent) -> NodeId {
-    made_of!(Body, Command, Estimate, Message, Op);
-    let to = sent.message.to;
+fn put<R: Wait>(rt: &R, ports: &mut Vec<Port<Sent>>, sent: Sent) -> NodeId {
+    let to = sent.message().to;
     if let Some(port) = ports.get_mut(usize::from(to.index())) {
-        let _lost = port.put(rt, *sent);
+        let _lost = port.put(rt, sent);
     }
     to
 }
@@ -194,13 +186,12 @@ fn put_all<R: Wait>(
     recorder: Option<&Recorder>,
     ports: &mut Vec<Port<Sent>>,
 ) -> Result<NodeSet, Refusal> {
-    made_of!(Body, Command, Estimate, Message, Op);
     let mut receivers = NodeSet::empty();
     let mut locked = node.lock(rt);
     for _ in 0..BATCH {
         match leave(rt, &mut locked, recorder)? {
             None => break,
-            Some(sent) => receivers = receivers.with(put(rt, ports, &sent)),
+            Some(sent) => receivers = receivers.with(put(rt, ports, sent)),
         }
     }
     Ok(receivers)
