@@ -1,6 +1,6 @@
 //! Snapshots that a flusher writes.
 
-ghost use Rattle.std.specs.Prelude.{◌≡◌, IfSome};
+ghost use Rattle.std.specs.Prelude.{◌≡◌, IfOk, IfSome, IsSome};
 ghost use Rattle.rr_frame.specs.Snapshots.{IsSnapshot};
 
 use crate::desk::Desk;
@@ -33,7 +33,9 @@ fn begin<D: Disk>(
     alloc: Global,
     core: &Core,
     journal: &mut Journal<D>,
-) -> Result<Option<SwitchJob>, Refusal> {
+) -> Result<Option<SwitchJob>, Refusal>
+    ensures whole { IfOk result (λ job. IsSome job → (core.now.node ≡ journal.old.node) × (core.now.marked_end ≡ journal.old.next)) }
+{
     let (nodes, node) = journal.owner();
     let next = journal.facts();
     if core.node().index() != node.index() || core.facts() != next {
