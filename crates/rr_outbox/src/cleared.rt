@@ -1,5 +1,5 @@
-//! Messages that may leave. Only a cleared message can be handed out, and only a draft that a mark of its sender
-//! covers, or a free message, can be cleared.
+//! Messages that may leave. Only a cleared message can be handed out, and only here is one cleared: a draft that a mark
+//! of its sender covers, or a free message.
 
 ghost use Rattle.std.specs.Prelude.{◌≡◌, ◌↔◌, IsTrue, IsSome, IfSome};
 ghost use Rattle.rr_outbox.specs.Marks.{is_free, clears};
@@ -10,7 +10,7 @@ use std::marker::Model;
 
 /// A message that waits for the fact with this number.
 #[derive(Debug, Drop)]
-pub struct Draft<'a> {
+pub(crate) struct Draft<'a> {
     message: &'a Message,
     number: u128,
 }
@@ -25,14 +25,14 @@ impl<'a> Model for Draft<'a> {
 
 impl<'a> Draft<'a> {
     /// A message that the fact with this number backs.
-    pub fn new(message: &'a Message, number: u128) -> Draft<'a>
+    pub(crate) fn new(message: &'a Message, number: u128) -> Draft<'a>
         ensures { result ≡ record { message = message.now; number = number } }
     {
         Draft { message, number }
     }
 
     /// The message may leave where the mark is of its sender and covers the fact.
-    pub fn clear(&self, mark: &Mark) -> Option<Cleared>
+    pub(crate) fn clear(&self, mark: &Mark) -> Option<Cleared>
         ensures valid { IsSome result ↔ IsTrue (clears mark.now self.now) }
         ensures ok { IfSome result (λ m. m ≡ self.now.message) }
     {
@@ -64,7 +64,7 @@ impl Model for Cleared {
 
 impl Cleared {
     /// A Request, Nack, Beat, Suspects or Ask may leave at once, and no other message.
-    pub fn free(message: &Message) -> Option<Cleared>
+    pub(crate) fn free(message: &Message) -> Option<Cleared>
         ensures valid { IsSome result ↔ IsTrue (is_free message.now.body) }
         ensures ok { IfSome result (λ m. m ≡ message.now) }
     {
@@ -92,7 +92,7 @@ impl Cleared {
 }
 
 /// Whether a body says nothing of facts.
-pub fn is_free(body: &Body) -> bool
+fn is_free(body: &Body) -> bool
     ensures { result ≡ is_free body.now }
 {
     match body {

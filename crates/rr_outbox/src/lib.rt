@@ -1,7 +1,6 @@
 //! What a node owes and has promised, and which of it may leave. `Unmarked` has the facts: `push_all` stages them, `run` makes
 //! a group of the oldest, `put_back` or `drop_running` ends it. `Outbox` has the messages: `owe_all` adds, `take_leaving` gives
-//! the oldest that is free or whose fact the `Mark` covers. It comes as a `Cleared`: only `Draft::clear` and `Cleared::free`
-//! make one.
+//! the oldest that is free or whose fact the `Mark` covers. It comes as a `Cleared`, which nothing else makes.
 #![tactic(auto)]
 
 mod cleared;
@@ -11,7 +10,7 @@ mod owed;
 mod same;
 mod unmarked;
 
-pub use cleared::{Cleared, Draft, is_free};
+pub use cleared::Cleared;
 pub use mark::Mark;
 pub use outbox::Outbox;
 pub use owed::Owed;
