@@ -7,13 +7,11 @@ use Rattle.rr_model.specs.Laws.{after_steps}
 use Rattle.rr_model.specs.World.{World, Step, Told, Acknowledged, empty_world}
 use Rattle.rr_model.proofs.Laws.{later_commands_stand_behind}
 use Rattle.rr_text.specs.declared.event.Event.{Event}
-use Rattle.rr_text.specs.declared.event.Event.TheVariants.{Submit}
 use Rattle.rr_text.specs.declared.report.ReportLine.{ReportLine}
 use Rattle.rr_text.specs.declared.report.ReportLine.TheVariants as line
 use Rattle.rr_text.specs.Reported.{Reported}
 use Rattle.rr_sim.specs.Clusters.{Cluster, new_cluster, Leads}
 use Rattle.rr_sim.specs.Headline.{TakesAlong, IsAlike, in_turn, IsRunOfTheWorld, KeepsRealTime}
-use Rattle.rr_sim.proofs.ClusterLaws.{contains_at}
 use Rattle.rr_sim.proofs.RefusedLaws.{step_notes}
 use Rattle.rr_sim.proofs.SubmittedLaws.{leads_along, joined, all_submitted_by_events}
 use Rattle.rr_sim.proofs.TellingLaws.{line_told}
@@ -72,7 +70,7 @@ keeps_real_time n events report r before after split =
       order = λ p q reply told v new k at. later_commands_stand_behind n (in_turn r.pieces) r.is_a_run (in_turn c.first) (in_turn c.second) parts p q reply
           (subst (λ (ts : List Told). Contains ts (Acknowledged p q reply)) (sym c.alike.told) (line_told c.here.lines (line.Ack p q reply) (Acknowledged p q reply) refl told))
           report.decided r.decided v
-          (λ there. let s = all_submitted_by_events n before c.here c.first c.here.lines v refl c.along there in new s.1 (contains_at before s.0 (Submit s.1 v) s.2))
+          (λ there. new (all_submitted_by_events n before c.here c.first c.here.lines v refl c.along there))
           k at;
     }
 

@@ -107,11 +107,15 @@ pub record IsRunOfTheWorld (n : ℕ) (events : List Event) (report : Reported) :
   pub nodes : (p : ℕ) (seat : Seat) → slice_get at_the_end.seats p ≡ Some seat → DecidesAsListed report.decided seat.doing
   pub is_sound : IsSound n (in_turn pieces)
 
+-- one of the events submits the command, and no line refuses it; the first event stands on line 2
+abbrev pub IsSubmitted : List Event → List ReportLine → Command → Type 0
+IsSubmitted events lines c = (place : ℕ) × (p : ℕ) × (slice_get events place ≡ Some (Submit p c)) ×
+    ((refusal : Refusal) → Contains lines (line.Refuse (2 + place) refusal) → ⊥)
+
 -- what a report tells agrees with the one list of commands that it ends with
 pub record AgreesWithOneList (events : List Event) (report : Reported) : Type 0 where
-  -- each command of the list was submitted, by an event that wasn't refused; the first event stands on line 2
-  pub submitted : (c : Command) → Contains report.decided c → (place : ℕ) × (p : ℕ) × (slice_get events place ≡ Some (Submit p c)) ×
-      ((refusal : Refusal) → Contains report.lines (line.Refuse (2 + place) refusal) → ⊥)
+  -- each command of the list was submitted
+  pub submitted : (c : Command) → Contains report.decided c → IsSubmitted events report.lines c
   -- a restarted node has the registry of a beginning of the list
   pub restarts : (p facts count : ℕ) (names : List Binding) → Contains report.lines (line.Restart p facts count names) →
       (count ≤ length report.decided) × (names ≡ shown (registry_of (take count report.decided)))
@@ -136,9 +140,9 @@ pub record Moment (n : ℕ) (before after : List Event) (report : Reported) : Ty
   -- the lines by then are a beginning of the report's
   pub lines : report.lines ≡ at_the_end.lines
   pub begins : report.lines ≡ cluster.lines ++ later_lines
-  -- the list up to a command that no event had submitted by then gives each reply acknowledged by then
+  -- the list up to a command that wasn't submitted by then gives each reply acknowledged by then
   pub order : (p : ℕ) (q : RequestNo) (reply : Reply) → Contains cluster.lines (line.Ack p q reply) →
-      (v : Command) → ((at : ℕ) → Contains before (Submit at v) → ⊥) →
+      (v : Command) → (IsSubmitted before cluster.lines v → ⊥) →
       (k : ℕ) → slice_get report.decided k ≡ Some v → reply_of (take k report.decided) q ≡ Some reply
 
 -- a command acknowledged by a moment stands before each command first submitted later: the list is a linearization
