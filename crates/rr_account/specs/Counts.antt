@@ -53,7 +53,9 @@ is_message_kind _ _ = false
 
 -- all kinds of messages
 abbrev pub message_kinds : List MessageKind
-message_kinds = message.Estimate ∷ message.Proposal ∷ message.Ack ∷ message.Decision ∷ message.Request ∷ message.Nack ∷ message.Beat ∷ message.Suspects ∷ message.Ask ∷ []
+message_kinds =
+    message.Estimate ∷ message.Proposal ∷ message.Ack ∷ message.Decision ∷ message.Request ∷ message.Nack
+    ∷ message.Beat ∷ message.Suspects ∷ message.Ask ∷ []
 
 -- whether a line of a report tells that a message of a kind was sent
 abbrev pub is_sent_kind : MessageKind → ReportLine → Bool

@@ -1,3 +1,4 @@
+-- What a step has owed, pooled or noted leaves who there is and where instances stand; an open instance is undecided.
 use Rattle.std.proofs.Common.{◌≡◌, ◌≢◌, ◌+◌, ◌<◌, ◌≤◌, ℕ, arith, Bool, true, false, ltb, eqb, ◌||◌, ◌++◌, if◌then◌else◌, not, cond, List, [], ◌∷◌, refl, sym, ap, ◌∙◌, Option, Some, option_map}
 use Rattle.std.proofs.lemmas.Bool.{ltb-true, ne_eqb, eqb-true, eqb-false, false≢true}
 use Rattle.rr_types.specs.declared.message.Body.{Body}

@@ -8,5 +8,6 @@ use Rattle.rr_model.specs.NodeParts.{owe, backing_at}
 unfoldable pub owe_coordinator : ℕ → OpenAt → NodeState → NodeState
 owe_coordinator i o s =
     if nat_lt o.stamp o.round
-    then owe (say.Estimate i (record { round = o.round; stamp = o.stamp; command = o.estimate })) (Some (backing_at (λ b. b.entered) s i)) (coordinator_of o.round s.nodes ∷ []) s
+    then owe (say.Estimate i (record { round = o.round; stamp = o.stamp; command = o.estimate }))
+    (Some (backing_at (λ b. b.entered) s i)) (coordinator_of o.round s.nodes ∷ []) s
     else owe (say.Ack i o.round) (Some (backing_at (λ b. b.adopted) s i)) (coordinator_of o.round s.nodes ∷ []) s

@@ -18,7 +18,8 @@ version_words Two = []
 abbrev pub area_words : ℕ → Option AreaReport → List (List ℕ)
 area_words number None = codes "area" ∷ decimal number ∷ codes "unformatted" ∷ []
 area_words number (Some r) =
-    codes "area" ∷ decimal number ∷ codes "epoch" ∷ decimal r.epoch ∷ codes "node" ∷ decimal r.node ∷ codes "of" ∷ decimal r.nodes ∷ codes "facts" ∷ decimal r.next ∷ codes "decided" ∷ decimal r.decided ∷ version_words r.version
+    codes "area" ∷ decimal number ∷ codes "epoch" ∷ decimal r.epoch ∷ codes "node" ∷ decimal r.node ∷ codes "of"
+    ∷ decimal r.nodes ∷ codes "facts" ∷ decimal r.next ∷ codes "decided" ∷ decimal r.decided ∷ version_words r.version
 
 -- the text on both areas, a line each
 abbrev pub areas_text : Option AreaReport → Option AreaReport → List ℕ

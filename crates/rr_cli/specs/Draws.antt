@@ -30,7 +30,8 @@ AreFaults true (Some word) (Some faults) = IsNumberIn 0 1000 word faults
 -- the words write a seed, a number of steps, a number of nodes, and the faults of a lively schedule
 abbrev pub AreNumbers : DrawWords → ℕ → ℕ → ℕ → Option ℕ → Type 0
 AreNumbers words seed steps nodes faults =
-    IsNumberOf 0 (2 ^ 64 - 1) words.seed seed × IsNumberOf 0 999930 words.steps steps × IsNumberOf 1 7 words.nodes nodes × AreFaults words.lively words.faults faults
+    IsNumberOf 0 (2 ^ 64 - 1) words.seed seed × IsNumberOf 0 999930 words.steps steps
+    × IsNumberOf 1 7 words.nodes nodes × AreFaults words.lively words.faults faults
 
 -- the text is that of a random schedule, or of a lively one: alone, or with a line `report` and the report of its run
 abbrev pub IsDrawnText : Bool → Option ℕ → ℕ → ℕ → ℕ → List ℕ → Type 0

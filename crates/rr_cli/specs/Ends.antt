@@ -47,19 +47,28 @@ pub data Prints (text : List ℕ) (status : ℕ) (old new : Printing) : Type 0 w
 -- is as it was
 pub data EndsOn (bytes : List ℕ) (status : ℕ) (old new : Printing) : Type 0 where
   reported : (text : List ℕ) → IsReportOn bytes text → Prints text status old new → EndsOn bytes status old new
-  refused : (refusal : Refusal) → IsFault IsEvent event_line bytes refusal → status ≡ status_of refusal → new ≡ old → EndsOn bytes status old new
+  refused : (refusal : Refusal) → IsFault IsEvent event_line bytes refusal → status ≡ status_of refusal
+      → new ≡ old
+      → EndsOn bytes status old new
 
 -- a run on these bytes: they are the text of a tape that is a tape run and agrees with one list, and the line of a yes is
 -- printed; or of a tape of which the world doesn't give some event next; or they are no tape or memory was wanting. Without
 -- a yes standard output is as it was
 pub data EndsOnTape (bytes : List ℕ) (status : ℕ) (old new : Printing) : Type 0 where
-  agreed : (tape : Taped) → IsTape tape → bytes ≡ tape_text tape → IsTapeRun tape.nodes tape.events → tapes.AgreesWithOneList tape.nodes tape.events → Prints (yes_text (length tape.events)) status old new → EndsOnTape bytes status old new
-  stopped : (tape : Taped) (number : ℕ) → IsTape tape → bytes ≡ tape_text tape → StopsAt tape.nodes tape.events number → status ≡ 7 → new ≡ old → EndsOnTape bytes status old new
-  no_tape : (refusal : Refusal) → IsFault IsTapeEvent tape_line bytes refusal → status ≡ status_of refusal → new ≡ old → EndsOnTape bytes status old new
+  agreed : (tape : Taped) → IsTape tape → bytes ≡ tape_text tape → IsTapeRun tape.nodes tape.events
+      → tapes.AgreesWithOneList tape.nodes tape.events → Prints (yes_text (length tape.events)) status old new
+      → EndsOnTape bytes status old new
+  stopped : (tape : Taped) (number : ℕ) → IsTape tape → bytes ≡ tape_text tape
+      → StopsAt tape.nodes tape.events number → status ≡ 7 → new ≡ old
+      → EndsOnTape bytes status old new
+  no_tape : (refusal : Refusal) → IsFault IsTapeEvent tape_line bytes refusal → status ≡ status_of refusal
+      → new ≡ old
+      → EndsOnTape bytes status old new
 
 -- a run on an input: on all its bytes, in this way; or one of its calls failed or memory was wanting, and standard output
 -- is as it was
-pub data EndsOnInput (On : List ℕ → ℕ → Printing → Printing → Type 0) (from to : Reading) (status : ℕ) (old new : Printing) : Type 0 where
+pub data EndsOnInput (On : List ℕ → ℕ → Printing → Printing → Type 0) (from to : Reading) (status : ℕ)
+    (old new : Printing) : Type 0 where
   read : (bytes : List ℕ) → AreAllOf from.remaining bytes → On bytes status old new → EndsOnInput On from to status old new
   unread : status ≡ 5 → Grew from.faults to.faults → new ≡ old → EndsOnInput On from to status old new
   unheld : status ≡ 6 → new ≡ old → EndsOnInput On from to status old new
@@ -72,14 +81,20 @@ pub data EndsOnFile (On : List ℕ → ℕ → Printing → Printing → Type 0)
 -- a run on a folder: the text on its areas is printed; or an area is broken or a device or memory failed, and standard
 -- output is as it was
 pub data EndsOnFolder (status : ℕ) (old new : Printing) : Type 0 where
-  told : (first second : List ℕ) (of_first of_second : Option AreaReport) → inspected first second ≡ Tells of_first of_second → Prints (areas_text of_first of_second) status old new → EndsOnFolder status old new
-  broken : (first second : List ℕ) (area : Area) (offset : ℕ) → inspected first second ≡ Breaks area offset → status ≡ 4 → new ≡ old → EndsOnFolder status old new
+  told : (first second : List ℕ) (of_first of_second : Option AreaReport)
+      → inspected first second ≡ Tells of_first of_second → Prints (areas_text of_first of_second) status old new
+      → EndsOnFolder status old new
+  broken : (first second : List ℕ) (area : Area) (offset : ℕ) → inspected first second ≡ Breaks area offset
+      → status ≡ 4 → new ≡ old
+      → EndsOnFolder status old new
   failed : IsStreamStatus status → new ≡ old → EndsOnFolder status old new
 
 -- the migration of a folder: its disk was opened, and the text on its areas is printed; or it was refused, as an area is
 -- damaged, a device or memory failed, or no epoch is left, and standard output is as it was
 pub data EndsOnMigration (status : ℕ) (old new : Printing) : Type 0 where
-  migrated : (first second : List ℕ) (of_first of_second : Option AreaReport) → inspected first second ≡ Tells of_first of_second → Prints (areas_text of_first of_second) status old new → EndsOnMigration status old new
+  migrated : (first second : List ℕ) (of_first of_second : Option AreaReport)
+      → inspected first second ≡ Tells of_first of_second → Prints (areas_text of_first of_second) status old new
+      → EndsOnMigration status old new
   unmigrated : (refusal : Refusal) → IsUnmigrated refusal → status ≡ status_of refusal → new ≡ old → EndsOnMigration status old new
 
 -- the words write a node, a number of nodes, and the node is one of them
@@ -88,20 +103,29 @@ AreSeat of_node of_nodes p n = IsNumberOf 0 6 of_node p × IsNumberOf 1 7 of_nod
 
 -- a migration by words: of the folder that they name; or they name none or no node of so many, and standard output is as it was
 pub data EndsOnSeat (folder of_node of_nodes : Option Text) (status : ℕ) (old new : Printing) : Type 0 where
-  seated : (path : Text) (p n : ℕ) → folder ≡ Some path → AreSeat of_node of_nodes p n → EndsOnMigration status old new → EndsOnSeat folder of_node of_nodes status old new
-  unseated : ((path : Text) (p n : ℕ) → folder ≡ Some path → AreSeat of_node of_nodes p n → ⊥) → status ≡ 2 → new ≡ old → EndsOnSeat folder of_node of_nodes status old new
+  seated : (path : Text) (p n : ℕ) → folder ≡ Some path → AreSeat of_node of_nodes p n
+      → EndsOnMigration status old new
+      → EndsOnSeat folder of_node of_nodes status old new
+  unseated : ((path : Text) (p n : ℕ) → folder ≡ Some path → AreSeat of_node of_nodes p n → ⊥) → status ≡ 2
+      → new ≡ old
+      → EndsOnSeat folder of_node of_nodes status old new
 
 -- a run on the numbers of a random schedule, which has faults if it is lively, and is printed alone or with the report of its
 -- run; or memory was wanting, and standard output is as it was
 pub data EndsOnDraw (alone : Bool) (faults : Option ℕ) (n seed steps : ℕ) (status : ℕ) (old new : Printing) : Type 0 where
-  drawn : (text : List ℕ) → IsDrawnText alone faults n seed steps text → Prints text status old new → EndsOnDraw alone faults n seed steps status old new
+  drawn : (text : List ℕ) → IsDrawnText alone faults n seed steps text → Prints text status old new
+      → EndsOnDraw alone faults n seed steps status old new
   cut_off : status ≡ 6 → new ≡ old → EndsOnDraw alone faults n seed steps status old new
 
 -- a run on the words of a random schedule: by the numbers that they write, or they write none and standard output is as
 -- it was
 pub data EndsOnWords (words : DrawWords) (status : ℕ) (old new : Printing) : Type 0 where
-  numbered : (seed steps nodes : ℕ) (faults : Option ℕ) → AreNumbers words seed steps nodes faults → EndsOnDraw words.alone faults nodes seed steps status old new → EndsOnWords words status old new
-  unnumbered : ((seed steps nodes : ℕ) (faults : Option ℕ) → AreNumbers words seed steps nodes faults → ⊥) → status ≡ 2 → new ≡ old → EndsOnWords words status old new
+  numbered : (seed steps nodes : ℕ) (faults : Option ℕ) → AreNumbers words seed steps nodes faults
+      → EndsOnDraw words.alone faults nodes seed steps status old new
+      → EndsOnWords words status old new
+  unnumbered : ((seed steps nodes : ℕ) (faults : Option ℕ) → AreNumbers words seed steps nodes faults → ⊥)
+      → status ≡ 2 → new ≡ old
+      → EndsOnWords words status old new
 
 -- lines of a sweep as text
 abbrev pub sweep_text : List SweepLine → List ℕ
@@ -111,24 +135,39 @@ sweep_text lines = flat_map sweep_line lines
 -- standard output failed, which by then has taken a front of the lines of a front of the events; or there are more events than
 -- a sweep takes, or the bytes are no schedule or memory was wanting for reading it, and standard output is as it was
 pub data EndsOnSweep (seed : ℕ) (bytes : List ℕ) (status : ℕ) (old new : Printing) : Type 0 where
-  swept : (schedule : Scheduled) (lines : List SweepLine) → IsSchedule schedule → bytes ≡ schedule_text schedule → IsSweep schedule.nodes schedule.events seed lines → status ≡ 0 → IsPrinted old new (sweep_text lines) → EndsOnSweep seed bytes status old new
-  broken_off : (schedule : Scheduled) (before after : List Event) (lines : List SweepLine) → IsSchedule schedule → bytes ≡ schedule_text schedule → schedule.events ≡ before ++ after → IsSweep schedule.nodes before seed lines → IsFrontPrinted old new (sweep_text lines) → (status ≡ 6) ⊎ (IsStreamStatus status × Grew old.faults new.faults) → EndsOnSweep seed bytes status old new
-  too_long : (schedule : Scheduled) → IsSchedule schedule → bytes ≡ schedule_text schedule → 999989 < length schedule.events → status ≡ 3 → new ≡ old → EndsOnSweep seed bytes status old new
-  faulty : (refusal : Refusal) → IsFault IsEvent event_line bytes refusal → status ≡ status_of refusal → new ≡ old → EndsOnSweep seed bytes status old new
+  swept : (schedule : Scheduled) (lines : List SweepLine) → IsSchedule schedule → bytes ≡ schedule_text schedule
+      → IsSweep schedule.nodes schedule.events seed lines → status ≡ 0 → IsPrinted old new (sweep_text lines)
+      → EndsOnSweep seed bytes status old new
+  broken_off : (schedule : Scheduled) (before after : List Event) (lines : List SweepLine) → IsSchedule schedule
+      → bytes ≡ schedule_text schedule → schedule.events ≡ before ++ after → IsSweep schedule.nodes before seed lines
+      → IsFrontPrinted old new (sweep_text lines)
+      → (status ≡ 6) ⊎ (IsStreamStatus status × Grew old.faults new.faults)
+      → EndsOnSweep seed bytes status old new
+  too_long : (schedule : Scheduled) → IsSchedule schedule → bytes ≡ schedule_text schedule
+      → 999989 < length schedule.events → status ≡ 3 → new ≡ old
+      → EndsOnSweep seed bytes status old new
+  faulty : (refusal : Refusal) → IsFault IsEvent event_line bytes refusal → status ≡ status_of refusal → new ≡ old
+      → EndsOnSweep seed bytes status old new
 
 -- a sweep of an input, by a word that writes its seed; or it writes none, and standard output is as it was
-pub data EndsOnSeed (On : (List ℕ → ℕ → Printing → Printing → Type 0) → ℕ → Printing → Printing → Type 0) (of_seed : Text) (status : ℕ) (old new : Printing) : Type 0 where
-  seeded : (seed : ℕ) → IsNumberIn 0 (2 ^ 64 - 1) of_seed seed → On (EndsOnSweep seed) status old new → EndsOnSeed On of_seed status old new
-  unseeded : ((seed : ℕ) → IsNumberIn 0 (2 ^ 64 - 1) of_seed seed → ⊥) → status ≡ 2 → new ≡ old → EndsOnSeed On of_seed status old new
+pub data EndsOnSeed (On : (List ℕ → ℕ → Printing → Printing → Type 0) → ℕ → Printing → Printing → Type 0)
+    (of_seed : Text) (status : ℕ) (old new : Printing) : Type 0 where
+  seeded : (seed : ℕ) → IsNumberIn 0 (2 ^ 64 - 1) of_seed seed → On (EndsOnSweep seed) status old new
+      → EndsOnSeed On of_seed status old new
+  unseeded : ((seed : ℕ) → IsNumberIn 0 (2 ^ 64 - 1) of_seed seed → ⊥) → status ≡ 2 → new ≡ old
+      → EndsOnSeed On of_seed status old new
 
 -- a picture of this cut of these bytes: it is printed; or the bytes are no schedule or memory was wanting, and standard
 -- output is as it was
 pub data EndsOnPicture (cut : Cut) (bytes : List ℕ) (status : ℕ) (old new : Printing) : Type 0 where
   pictured : (text : List ℕ) → IsPictureOf cut bytes text → Prints text status old new → EndsOnPicture cut bytes status old new
-  unpictured : (refusal : Refusal) → IsFault IsEvent event_line bytes refusal → status ≡ status_of refusal → new ≡ old → EndsOnPicture cut bytes status old new
+  unpictured : (refusal : Refusal) → IsFault IsEvent event_line bytes refusal → status ≡ status_of refusal
+      → new ≡ old
+      → EndsOnPicture cut bytes status old new
 
 -- a picture of an input, of the cut that words write; or they write none, and standard output is as it was
-pub data EndsOnCut (On : (List ℕ → ℕ → Printing → Printing → Type 0) → ℕ → Printing → Printing → Type 0) (words : CutWords) (status : ℕ) (old new : Printing) : Type 0 where
+pub data EndsOnCut (On : (List ℕ → ℕ → Printing → Printing → Type 0) → ℕ → Printing → Printing → Type 0)
+    (words : CutWords) (status : ℕ) (old new : Printing) : Type 0 where
   cut_so : (cut : Cut) → IsCutBy words cut → On (EndsOnPicture cut) status old new → EndsOnCut On words status old new
   uncut : ((cut : Cut) → IsCutBy words cut → ⊥) → status ≡ 2 → new ≡ old → EndsOnCut On words status old new
 
@@ -143,7 +182,8 @@ version_text = line (codes "rr 0.1.0, proved with rattle logic dac8208d650f15bf"
 -- the line with which the help ends, behind an empty one
 abbrev pub statuses_text : List ℕ
 statuses_text =
-    10 ∷ codes "Exit status: 0 done, 1 a difference, 2 wrong words, 3 no schedule, 4 a damaged area, 5 a stream, a file or a device, 6 memory, 7 an audit" ++ 10 ∷ []
+    10 ∷ codes "Exit status: 0 done, 1 a difference, 2 wrong words, 3 no schedule, 4 a damaged area, 5 a stream, a file or a device, 6 memory, 7 an audit"
+    ++ 10 ∷ []
 
 -- the help is printed, which ends with the line on statuses; or memory was wanting, and standard output is as it was
 pub data Helps (status : ℕ) (old new : Printing) : Type 0 where
@@ -152,23 +192,50 @@ pub data Helps (status : ℕ) (old new : Printing) : Type 0 where
 
 -- a run by words: what they ask for, what is wrong with them, or no memory even to read them
 pub data EndsBy (faults : Kinds) (task : Task) (from to : Reading) (status : ℕ) (old new : Printing) : Type 0 where
-  mistaken : (kind : ErrorKind) → IsAmong kind faults → IsMistake kind → status ≡ 2 → new ≡ old → EndsBy faults task from to status old new
-  by_help : (kind : ErrorKind) → IsAmong kind faults → kind ≡ DisplayHelp → Helps status old new → EndsBy faults task from to status old new
-  by_version : (kind : ErrorKind) → IsAmong kind faults → kind ≡ DisplayVersion → Prints version_text status old new → EndsBy faults task from to status old new
+  mistaken : (kind : ErrorKind) → IsAmong kind faults → IsMistake kind → status ≡ 2 → new ≡ old
+      → EndsBy faults task from to status old new
+  by_help : (kind : ErrorKind) → IsAmong kind faults → kind ≡ DisplayHelp → Helps status old new
+      → EndsBy faults task from to status old new
+  by_version : (kind : ErrorKind) → IsAmong kind faults → kind ≡ DisplayVersion
+      → Prints version_text status old new
+      → EndsBy faults task from to status old new
   out_of_memory : status ≡ 6 → new ≡ old → EndsBy faults task from to status old new
-  by_standard_input : faults ≡ [] → task ≡ Simulate None → EndsOnInput EndsOn from to status old new → EndsBy faults task from to status old new
-  by_file : (path : Text) → faults ≡ [] → task ≡ Simulate (Some path) → EndsOnFile EndsOn status old new → EndsBy faults task from to status old new
-  by_folder : (path : Text) → faults ≡ [] → task ≡ Show (Some path) → EndsOnFolder status old new → EndsBy faults task from to status old new
+  by_standard_input : faults ≡ [] → task ≡ Simulate None → EndsOnInput EndsOn from to status old new
+      → EndsBy faults task from to status old new
+  by_file : (path : Text) → faults ≡ [] → task ≡ Simulate (Some path) → EndsOnFile EndsOn status old new
+      → EndsBy faults task from to status old new
+  by_folder : (path : Text) → faults ≡ [] → task ≡ Show (Some path) → EndsOnFolder status old new
+      → EndsBy faults task from to status old new
   without_folder : faults ≡ [] → task ≡ Show None → status ≡ 2 → new ≡ old → EndsBy faults task from to status old new
-  by_numbers : (words : DrawWords) → faults ≡ [] → task ≡ Draw words → EndsOnWords words status old new → EndsBy faults task from to status old new
-  by_tape_in_standard_input : faults ≡ [] → task ≡ Audit None → EndsOnInput EndsOnTape from to status old new → EndsBy faults task from to status old new
-  by_tape_in_a_file : (path : Text) → faults ≡ [] → task ≡ Audit (Some path) → EndsOnFile EndsOnTape status old new → EndsBy faults task from to status old new
-  by_sweep_of_standard_input : (of_seed : Text) → faults ≡ [] → task ≡ Sweep None (Some of_seed) → EndsOnSeed (λ on. EndsOnInput on from to) of_seed status old new → EndsBy faults task from to status old new
-  by_sweep_of_a_file : (path of_seed : Text) → faults ≡ [] → task ≡ Sweep (Some path) (Some of_seed) → EndsOnSeed EndsOnFile of_seed status old new → EndsBy faults task from to status old new
-  without_seed : (file : Option Text) → faults ≡ [] → task ≡ Sweep file None → status ≡ 2 → new ≡ old → EndsBy faults task from to status old new
-  by_picture_of_standard_input : (words : CutWords) → faults ≡ [] → task ≡ Picture None words → EndsOnCut (λ on. EndsOnInput on from to) words status old new → EndsBy faults task from to status old new
-  by_picture_of_a_file : (path : Text) (words : CutWords) → faults ≡ [] → task ≡ Picture (Some path) words → EndsOnCut EndsOnFile words status old new → EndsBy faults task from to status old new
-  by_migration : (folder of_node of_nodes : Option Text) → faults ≡ [] → task ≡ Migrate folder of_node of_nodes → EndsOnSeat folder of_node of_nodes status old new → EndsBy faults task from to status old new
-  without_views : (view : View) → faults ≡ [] → task ≡ Viewing view → status ≡ 2 → new ≡ old → EndsBy faults task from to status old new
-  without_threads : (nodes dir script tape : Option Text) → faults ≡ [] → task ≡ Run nodes dir script tape → status ≡ 2 → new ≡ old → EndsBy faults task from to status old new
-  without_shell : (nodes dir client : Option Text) (json : Bool) → faults ≡ [] → task ≡ Shell nodes dir client json → status ≡ 2 → new ≡ old → EndsBy faults task from to status old new
+  by_numbers : (words : DrawWords) → faults ≡ [] → task ≡ Draw words → EndsOnWords words status old new
+      → EndsBy faults task from to status old new
+  by_tape_in_standard_input : faults ≡ [] → task ≡ Audit None → EndsOnInput EndsOnTape from to status old new
+      → EndsBy faults task from to status old new
+  by_tape_in_a_file : (path : Text) → faults ≡ [] → task ≡ Audit (Some path)
+      → EndsOnFile EndsOnTape status old new
+      → EndsBy faults task from to status old new
+  by_sweep_of_standard_input : (of_seed : Text) → faults ≡ [] → task ≡ Sweep None (Some of_seed)
+      → EndsOnSeed (λ on. EndsOnInput on from to) of_seed status old new
+      → EndsBy faults task from to status old new
+  by_sweep_of_a_file : (path of_seed : Text) → faults ≡ [] → task ≡ Sweep (Some path) (Some of_seed)
+      → EndsOnSeed EndsOnFile of_seed status old new
+      → EndsBy faults task from to status old new
+  without_seed : (file : Option Text) → faults ≡ [] → task ≡ Sweep file None → status ≡ 2 → new ≡ old
+      → EndsBy faults task from to status old new
+  by_picture_of_standard_input : (words : CutWords) → faults ≡ [] → task ≡ Picture None words
+      → EndsOnCut (λ on. EndsOnInput on from to) words status old new
+      → EndsBy faults task from to status old new
+  by_picture_of_a_file : (path : Text) (words : CutWords) → faults ≡ [] → task ≡ Picture (Some path) words
+      → EndsOnCut EndsOnFile words status old new
+      → EndsBy faults task from to status old new
+  by_migration : (folder of_node of_nodes : Option Text) → faults ≡ [] → task ≡ Migrate folder of_node of_nodes
+      → EndsOnSeat folder of_node of_nodes status old new
+      → EndsBy faults task from to status old new
+  without_views : (view : View) → faults ≡ [] → task ≡ Viewing view → status ≡ 2 → new ≡ old
+      → EndsBy faults task from to status old new
+  without_threads : (nodes dir script tape : Option Text) → faults ≡ [] → task ≡ Run nodes dir script tape
+      → status ≡ 2 → new ≡ old
+      → EndsBy faults task from to status old new
+  without_shell : (nodes dir client : Option Text) (json : Bool) → faults ≡ []
+      → task ≡ Shell nodes dir client json → status ≡ 2 → new ≡ old
+      → EndsBy faults task from to status old new

@@ -1,3 +1,4 @@
+-- A group is of the oldest staged facts, and a mark at the end of the running group marks it.
 use Rattle.std.proofs.Common.{◌≡◌, ◌≢◌, ◌+◌, ◌^◌, ◌<◌, ◌≤◌, ℕ, arith, min, false, List, [], length, take, ap, sym, ◌∙◌, refl, Option, Some, None, is_some, option_map}
 use Rattle.std.specs.Option.{option_map_or}
 use Rattle.std.proofs.lemmas.List.{length-take}

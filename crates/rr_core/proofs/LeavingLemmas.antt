@@ -1,3 +1,4 @@
+-- The tests of the code find and remove the message and the request that the definitions name.
 use Rattle.std.proofs.Common.{◌≡◌, ℕ, Bool, true, false, cond, eqb, List, [], ◌∷◌, ap, sym, ◌∙◌, refl, Some}
 use Rattle.std.specs.Prelude.{find}
 use Rattle.rr_types.specs.declared.command.Command.{Command}

@@ -1,3 +1,4 @@
+-- Deciding, proposing, entering a round and leaving one stage lawful facts alone.
 use Rattle.std.proofs.Common.{◌≡◌, ◌<◌, ℕ, Bool, true, false, ◌&&◌, not, ◌==◌, ltb, nat_lt, List, [], ◌∷◌, ap, sym, ◌∙◌, refl, subst, Option, Some, None, is_none, if◌then◌else◌}
 use Rattle.std.specs.Option.{option_map_or}
 use Rattle.std.proofs.lemmas.Bool.{false≢true, eq-eqb, lt-ltb}

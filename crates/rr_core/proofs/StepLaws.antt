@@ -1,3 +1,4 @@
+-- Each input to a node, with what is due behind it, leaves lawful facts and the promise.
 use Rattle.std.proofs.Common.{◌≡◌, ◌+◌, ◌<◌, ℕ, arith, Bool, true, false, cond, ◌&&◌, ◌||◌, not, ◌==◌, eqb, nat_lt, List, [], ◌∷◌, ap, sym, ◌∙◌, refl, Option, Some, None, option_map, if◌then◌else◌}
 use Rattle.std.specs.Prelude.{find}
 use Rattle.std.specs.Option.{option_map_or}

@@ -1,3 +1,4 @@
+-- The set of the late nodes, as bits: a node is in it exactly where its watch is late.
 use Rattle.std.proofs.Common.{inl, inr, ◌≡◌, ◌+◌, ◌-◌, ◌*◌, ◌/◌, ◌%◌, ◌^◌, ◌<◌, ◌≤◌, ℕ, zero, suc, arith, Bool, true, false, ◌&&◌, not, ◌==◌, cond, List, [], ◌∷◌, length, ap, sym, ◌∙◌, refl, eqb-true}
 use Rattle.std.proofs.lemmas.Bool.{cases_lt, eq-eqb, ne_eqb}
 use Rattle.std.proofs.lemmas.Nat.Bits.{bit_at-zero, bit_at-suc}

@@ -1,3 +1,4 @@
+-- The reduction suspects exactly those whom receipts named and who stayed silent since: it is complete, and invents nothing.
 use Rattle.std.proofs.Common.{◌≡◌, ◌≢◌, ℕ, ◌<◌, ◌⊎◌, inl, inr, Bool, true, false, ◌==◌, ◌&&◌, ◌||◌, not, IsTrue, List, [], ◌∷◌, ap, sym, ◌∙◌, refl, subst}
 use Rattle.std.proofs.lemmas.Bool.{false≢true, ne_eqb, eqb-false}
 use Rattle.rr_types.specs.Nodes.{has_member}

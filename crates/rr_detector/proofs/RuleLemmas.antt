@@ -1,3 +1,4 @@
+-- A watch suspects its node exactly by the rule of time-outs, over all ticks and beats.
 use Rattle.std.proofs.Common.{◌≡◌, ◌≢◌, ◌+◌, ◌<◌, ◌≤◌, ℕ, zero, suc, arith, Bool, true, false, ◌&&◌, ◌==◌, nat_lt, List, [], ◌∷◌, length, ap, ◌∙◌, refl, if◌then◌else◌}
 use Rattle.std.specs.Prelude.{replicate, Option, None, Some, option_map}
 use Rattle.std.specs.Option.{option_map_or}

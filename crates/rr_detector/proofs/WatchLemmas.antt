@@ -1,3 +1,4 @@
+-- The loop over the watches gathers the late nodes, and a beat changes the watch of its node alone.
 use Rattle.std.proofs.Common.{◌≡◌, ◌+◌, ◌++◌, take, map, ◌/◌, ◌^◌, ◌<◌, ◌≤◌, ℕ, zero, suc, arith, Bool, true, false, ◌&&◌, ◌==◌, cond, List, [], ◌∷◌, length, get_or, set, drop, ap, sym, ◌∙◌, refl, if◌then◌else◌}
 use Rattle.std.specs.Prelude.{replicate}
 use Rattle.std.proofs.lemmas.List.{at_drop_more}

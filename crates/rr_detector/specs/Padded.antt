@@ -12,7 +12,11 @@ pub record IsPadded (n : ℕ) (watches : List Watch) : Type 0 where
   pub fresh : drop n watches ≡ replicate (7 - n) new_watch
 
 -- the fields follow from the watches of the nodes alone
-pub inverse_view : (h : Inside) → IsPadded h.nodes h.watches → (let make : ℕ → List Watch → Inside = (λ n ws. record { nodes = n; watches = ws }) in make (length (take h.nodes h.watches)) (take h.nodes h.watches ++ replicate (7 - length (take h.nodes h.watches)) new_watch) ≡ h)
+pub inverse_view : (h : Inside) → IsPadded h.nodes h.watches
+    → (let make : ℕ → List Watch → Inside = (λ n ws. record { nodes = n; watches = ws })
+    in make (length (take h.nodes h.watches))
+    (take h.nodes h.watches ++ replicate (7 - length (take h.nodes h.watches)) new_watch)
+    ≡ h)
 inverse_view h i =
     let make : ℕ → List Watch → Inside = (λ n ws. record { nodes = n; watches = ws }) in
     let front : length (take h.nodes h.watches) ≡ h.nodes = length-take-le h.nodes h.watches (omega (arith, i.whole, i.few)) in

@@ -10,7 +10,11 @@ pub data Call : Type 0 where
 -- the bytes from an offset up to an end are written back: each block is read, and written where it was read. It is done, or stops at a call that fails
 pub data WritesBack {F : Type 0} (gives : F → Call → F → Type 0) (end : ℕ) : Bool → ℕ → F → F → Type 0 where
   done : (at : ℕ) (file : F) → end ≤ at → WritesBack gives end true at file file
-  block : (whole : Bool) (at : ℕ) (bytes : List ℕ) (old read written new : F) → at + length bytes ≤ end → gives old (reads at bytes true) read → gives read (writes at bytes true) written
+  block : (whole : Bool) (at : ℕ) (bytes : List ℕ) (old read written new : F) → at + length bytes ≤ end
+      → gives old (reads at bytes true) read
+      → gives read (writes at bytes true) written
       → WritesBack gives end whole (at + length bytes) written new → WritesBack gives end whole at old new
   unread : (at : ℕ) (bytes : List ℕ) (old new : F) → gives old (reads at bytes false) new → WritesBack gives end false at old new
-  unwritten : (at : ℕ) (bytes : List ℕ) (old read new : F) → gives old (reads at bytes true) read → gives read (writes at bytes false) new → WritesBack gives end false at old new
+  unwritten : (at : ℕ) (bytes : List ℕ) (old read new : F) → gives old (reads at bytes true) read
+      → gives read (writes at bytes false) new
+      → WritesBack gives end false at old new

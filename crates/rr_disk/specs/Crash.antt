@@ -58,5 +58,6 @@ crash_images cut_first cut_second fill both =
 -- some cuts, no further than the present lengths, and some fill name these images
 abbrev pub IsNamed : Areas → Images → Type 0
 IsNamed both images =
-    (cut_first : ℕ) × (cut_second : ℕ) × (fill : List ℕ) × (cut_first ≤ length both.first.cells) × (cut_second ≤ length both.second.cells) × All (λ b. b < 256) fill
+    (cut_first : ℕ) × (cut_second : ℕ) × (fill : List ℕ) × (cut_first ≤ length both.first.cells)
+    × (cut_second ≤ length both.second.cells) × All (λ b. b < 256) fill
     × (crash_images cut_first cut_second fill both ≡ images)

@@ -33,7 +33,8 @@ failing_bytes (b ∷ fill) bytes = repeated (b ∷ fill) 0 (length bytes)
 abbrev pub OneByOne : {D : Type 0} → (D → Area → ℕ → List ℕ → Result (Unit {0}) Refusal → D → Type 0) → Area → ℕ → List ℕ → D → D → Type 0
 OneByOne {D} gives area at [] old new = new ≡ old
 OneByOne {D} gives area at (b ∷ bytes) old new =
-    (mid : D) × (r : Result (Unit {0}) Refusal) × gives old area at (b ∷ []) r mid × MatchResult r (λ _. OneByOne gives area (at + 1) bytes mid new) (λ _. new ≡ mid)
+    (mid : D) × (r : Result (Unit {0}) Refusal) × gives old area at (b ∷ []) r mid
+    × MatchResult r (λ _. OneByOne gives area (at + 1) bytes mid new) (λ _. new ≡ mid)
 
 -- the disk after one more call that went through to the disk below
 abbrev pub passed : {D : Type 0} → D → FailingState D → FailingState D
@@ -44,7 +45,8 @@ abbrev pub fell : {D : Type 0} → D → FailingState D → FailingState D
 fell below disk = record { below = below; due = None; calls = counted disk.calls; faults = counted disk.faults }
 
 -- what a read gives: where a failure is due, it and nothing else; else what the disk below gives
-abbrev pub FailingRead : {D : Type 0} → (D → Area → ℕ → ℕ → Result (Vec ℕ Global) Refusal → D → Type 0) → FailingState D → Area → ℕ → ℕ → Result (Vec ℕ Global) Refusal → FailingState D → Type 0
+abbrev pub FailingRead : {D : Type 0} → (D → Area → ℕ → ℕ → Result (Vec ℕ Global) Refusal → D → Type 0)
+    → FailingState D → Area → ℕ → ℕ → Result (Vec ℕ Global) Refusal → FailingState D → Type 0
 FailingRead gives old area at count result new =
     MatchOption old.due
     (gives old.below area at count result new.below × MatchResult result (λ _. new ≡ passed new.below old)
@@ -52,7 +54,8 @@ FailingRead gives old area at count result new =
     (λ _. (result ≡ Err Device) × (new ≡ fell old.below old))
 
 -- what a write gives: where a failure is due, it, with the bytes written and the fill written over them; else what the disk below gives
-abbrev pub FailingWrite : {D : Type 0} → (D → Area → ℕ → List ℕ → Result (Unit {0}) Refusal → D → Type 0) → FailingState D → Area → ℕ → List ℕ → Result (Unit {0}) Refusal → FailingState D → Type 0
+abbrev pub FailingWrite : {D : Type 0} → (D → Area → ℕ → List ℕ → Result (Unit {0}) Refusal → D → Type 0)
+    → FailingState D → Area → ℕ → List ℕ → Result (Unit {0}) Refusal → FailingState D → Type 0
 FailingWrite {D} gives old area at bytes result new =
     MatchOption old.due
     (gives old.below area at bytes result new.below × MatchResult result (λ _. new ≡ passed new.below old) (λ _. new ≡ fell new.below old))

@@ -43,7 +43,13 @@ file_failed disk = record disk { calls = counted disk.calls; faults = counted di
 -- a disk of these files, which was just opened
 abbrev pub opened : {F : Type 0} → F → ℕ → F → ℕ → FileState F
 opened first first_len second second_len =
-    record { first = record { file = first; len = first_len; unsynced = false }; second = record { file = second; len = second_len; unsynced = false }; doubted = true; calls = 0; faults = 0 }
+    record {
+      first = record { file = first; len = first_len; unsynced = false };
+      second = record { file = second; len = second_len; unsynced = false };
+      doubted = true;
+      calls = 0;
+      faults = 0;
+    }
 
 module _ {F : Type 0} (gives : F → Call → F → Type 0) where
   -- what reading an area gives: as many bytes as are asked for or as there are, by one read of its file; or that fails, or memory is refused
@@ -53,22 +59,32 @@ module _ {F : Type 0} (gives : F → Call → F → Type 0) where
       × MatchResult result (λ v. (length v.items ≡ min count (old.len - at)) × gives old.file (reads at v.items true) new.file)
       (λ e. ((e ≡ OutOfMemory) × (new.file ≡ old.file)) ⊎ ((e ≡ Device) × ((bytes : List ℕ) × gives old.file (reads at bytes false) new.file)))
 
-  -- what writing to an area gives: one write of its file, in its place. Where that fails the area may have grown up to its end; past the area's end none is asked for
+  -- what writing to an area gives: one write of its file, in its place. Where that fails the area may have grown up to its
+  -- end; past the area's end none is asked for
   abbrev pub HeldWrite : Held F → ℕ → List ℕ → Result (Unit {0}) Refusal → Held F → Type 0
   HeldWrite old at bytes result new =
       let end = at + length bytes in
       MatchResult result
-      (λ _. (at ≤ old.len) × (end < 2 ^ 64) × gives old.file (writes at bytes true) new.file × (new ≡ record { file = new.file; len = max old.len end; unsynced = true }))
-      (λ e. (e ≡ Device) × (((old.len < at) ⊎ (2 ^ 64 ≤ end)) × (new ≡ old)
-      ⊎ (at ≤ old.len) × gives old.file (writes at bytes false) new.file × (old.len ≤ new.len) × (new.len ≤ max old.len end) × (new.unsynced ≡ true)))
+      (λ _. (at ≤ old.len) × (end < 2 ^ 64) × gives old.file (writes at bytes true) new.file
+      × (new ≡ record { file = new.file; len = max old.len end; unsynced = true }))
+      (λ e. (e ≡ Device)
+      × (((old.len < at) ⊎ (2 ^ 64 ≤ end)) × (new ≡ old)
+      ⊎ (at ≤ old.len) × gives old.file (writes at bytes false) new.file × (old.len ≤ new.len)
+      × (new.len ≤ max old.len end) × (new.unsynced ≡ true)))
 
-  -- a sync of one area, where the disk is doubted or not, that succeeds or not: none is asked for where nothing was written, and where the disk is doubted the bytes are written back before it
+  -- a sync of one area, where the disk is doubted or not, that succeeds or not: none is asked for where nothing was written,
+  -- and where the disk is doubted the bytes are written back before it
   pub data HeldSync : Bool → Bool → Held F → Held F → Type 0 where
     unneeded : (held : Held F) → held.unsynced ≡ false → HeldSync false true held held
-    needed : (held : Held F) (file : F) → held.unsynced ≡ true → gives held.file (syncs true) file → HeldSync false true held (record held { file = file; unsynced = false })
+    needed : (held : Held F) (file : F) → held.unsynced ≡ true → gives held.file (syncs true) file
+        → HeldSync false true held (record held { file = file; unsynced = false })
     failing : (held : Held F) (file : F) → held.unsynced ≡ true → gives held.file (syncs false) file → HeldSync false false held (record held { file = file })
-    behind : (held : Held F) (mid file : F) → WritesBack gives held.len true 0 held.file mid → gives mid (syncs true) file → HeldSync true true held (record held { file = file; unsynced = false })
-    failing_behind : (held : Held F) (mid file : F) → WritesBack gives held.len true 0 held.file mid → gives mid (syncs false) file → HeldSync true false held (record held { file = file })
+    behind : (held : Held F) (mid file : F) → WritesBack gives held.len true 0 held.file mid
+        → gives mid (syncs true) file
+        → HeldSync true true held (record held { file = file; unsynced = false })
+    failing_behind : (held : Held F) (mid file : F) → WritesBack gives held.len true 0 held.file mid
+        → gives mid (syncs false) file
+        → HeldSync true false held (record held { file = file })
     stopped : (held : Held F) (file : F) → WritesBack gives held.len false 0 held.file file → HeldSync true false held (record held { file = file })
 
   -- what a read gives
@@ -76,7 +92,8 @@ module _ {F : Type 0} (gives : F → Call → F → Type 0) where
   FileRead old area at count result new =
       HeldRead (held_of old area) at count result (held_of new area)
       × MatchResult result (λ _. new ≡ file_called (with_held old area (held_of new area)))
-      (λ e. ((e ≡ OutOfMemory) × (new ≡ file_called (with_held old area (held_of new area)))) ⊎ ((e ≡ Device) × (new ≡ file_failed (with_held old area (held_of new area)))))
+      (λ e. ((e ≡ OutOfMemory) × (new ≡ file_called (with_held old area (held_of new area))))
+      ⊎ ((e ≡ Device) × (new ≡ file_failed (with_held old area (held_of new area)))))
 
   -- what a write gives
   abbrev pub FileWrite : FileState F → Area → ℕ → List ℕ → Result (Unit {0}) Refusal → FileState F → Type 0
@@ -89,5 +106,7 @@ module _ {F : Type 0} (gives : F → Call → F → Type 0) where
   FileSync old result new = MatchResult result
       (λ _. HeldSync old.doubted true old.first new.first × HeldSync old.doubted true old.second new.second
       × (new ≡ file_called (record old { first = new.first; second = new.second; doubted = false })))
-      (λ e. (e ≡ Device) × (HeldSync old.doubted false old.first new.first × (new.second ≡ old.second) ⊎ HeldSync old.doubted true old.first new.first × HeldSync old.doubted false old.second new.second)
+      (λ e. (e ≡ Device)
+      × (HeldSync old.doubted false old.first new.first × (new.second ≡ old.second)
+      ⊎ HeldSync old.doubted true old.first new.first × HeldSync old.doubted false old.second new.second)
       × (new ≡ file_failed (record old { first = new.first; second = new.second; doubted = true })))

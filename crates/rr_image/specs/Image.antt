@@ -32,7 +32,10 @@ pub data Found : Type 0 where
 
 -- behind an open gate: the payload, and the bytes from the next gate on; None where the frame isn't whole
 abbrev pub frame_behind : List ℕ → Option (List ℕ × List ℕ)
-frame_behind bytes = if nat_le 4 (length bytes) && nat_lt (number_in 4 bytes) (length (drop 4 bytes)) then Some (take (number_in 4 bytes) (drop 4 bytes), drop (number_in 4 bytes) (drop 4 bytes)) else None
+frame_behind bytes =
+    if nat_le 4 (length bytes) && nat_lt (number_in 4 bytes) (length (drop 4 bytes))
+    then Some (take (number_in 4 bytes) (drop 4 bytes), drop (number_in 4 bytes) (drop 4 bytes))
+    else None
 
 -- the content after a group, which begins with the next fact and whose facts fit the promise before them
 abbrev pub with_group : ℕ → ℕ → Grouped → ℕ → Content → Option Content
@@ -46,7 +49,9 @@ after_payload version n p c payload = elim (group_in version payload) [ Err offs
 
 -- the content after the frame behind an open gate, and the bytes from the next gate on; None where it is no lawful group
 abbrev pub after_frame : Version → ℕ → ℕ → Content → List ℕ → Option (Content × List ℕ)
-after_frame version n p c bytes = elim (frame_behind bytes) [ None ↦ None | Some x ↦ elim (after_payload version n p c x.0) [ None ↦ None | Some d ↦ Some (d, x.1) ] ]
+after_frame version n p c bytes =
+    elim (frame_behind bytes)
+    [ None ↦ None | Some x ↦ elim (after_payload version n p c x.0) [ None ↦ None | Some d ↦ Some (d, x.1) ] ]
 
 -- the content of an area from a gate on, by at most so many frames; Err where a frame behind this gate is no lawful group
 abbrev pub content_from : Version → ℕ → ℕ → ℕ → Content → List ℕ → Result Content ℕ

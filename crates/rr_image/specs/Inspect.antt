@@ -33,7 +33,15 @@ own_front bytes = front_of (owner_of bytes).nodes (owner_of bytes).node bytes
 
 -- what is told of an area of this version and content: how many instances have decided is counted from 0 on without a gap
 abbrev pub told : Owner → Version → Content → AreaReport
-told owner version c = record { version = version; epoch = c.epoch; node = owner.node; nodes = owner.nodes; next = c.next; decided = length (decided_from 0 c.promise) }
+told owner version c =
+    record {
+      version = version;
+      epoch = c.epoch;
+      node = owner.node;
+      nodes = owner.nodes;
+      next = c.next;
+      decided = length (decided_from 0 c.promise);
+    }
 
 -- what is told of both areas, where None is said of one that isn't formatted; or the area that is broken, and where
 pub data Inspected : Type 0 where
@@ -47,7 +55,9 @@ beside Second one other = Tells other (Some one)
 
 -- an active area, whose frames are all read, beside what is told of the other
 abbrev pub active : Area → Owner → Version → Content → List ℕ → Option AreaReport → Inspected
-active area owner version c rest other = elim (content_behind version owner.nodes owner.node c rest) [ Err offset ↦ Breaks area offset | Ok d ↦ beside area (told owner version d) other ]
+active area owner version c rest other =
+    elim (content_behind version owner.nodes owner.node c rest)
+    [ Err offset ↦ Breaks area offset | Ok d ↦ beside area (told owner version d) other ]
 
 -- the first frames of both areas decide which is active; of one that isn't its snapshot is told alone
 abbrev pub inspected_by : Owner → Owner → Front → Front → Inspected
@@ -69,7 +79,10 @@ inspected first second = inspected_by (owner_of first) (owner_of second) (own_fr
 abbrev pub IsOwnFront : List ℕ → code.OwnFront → Type 0
 IsOwnFront bytes fronts.Blank = own_front bytes ≡ Blank
 IsOwnFront bytes fronts.Faulty = own_front bytes ≡ Faulty
-IsOwnFront bytes (fronts.Begins own) = (own.content.gate ≤ length bytes) × (own_front bytes ≡ Begins own.version own.content (drop own.content.gate bytes)) × (owner_of bytes ≡ record { nodes = own.nodes; node = own.node })
+IsOwnFront bytes (fronts.Begins own) =
+    (own.content.gate ≤ length bytes)
+    × (own_front bytes ≡ Begins own.version own.content (drop own.content.gate bytes))
+    × (owner_of bytes ≡ record { nodes = own.nodes; node = own.node })
 
 -- an inspection answered with what the areas tell, or with the place where one is broken; or memory ran out
 abbrev pub IsTold : Result (Option AreaReport × Option AreaReport) Refusal → Inspected → Type 0
@@ -88,9 +101,12 @@ abbrev pub IsRefusedRead : Refusal → Type 0
 IsRefusedRead e = (e ≡ refusals.OutOfMemory) ⊎ (e ≡ refusals.Device)
 
 -- an inspection of a disk: both areas were read, and what they tell was answered; or a read was refused
-pub data Inspects {D : Type 0} (of_read : D → Area → ℕ → ℕ → Result (Vec ℕ Global) Refusal → D → Type 0) (old : D) (result : Result (Option AreaReport × Option AreaReport) Refusal) (new : D) : Type 0 where
+pub data Inspects {D : Type 0} (of_read : D → Area → ℕ → ℕ → Result (Vec ℕ Global) Refusal → D → Type 0) (old : D)
+    (result : Result (Option AreaReport × Option AreaReport) Refusal) (new : D) : Type 0 where
   both_read : (first second : Vec ℕ Global) (mid : D) → of_read old First 0 (2 ^ 64 - 1) (Ok first) mid → of_read mid Second 0 (2 ^ 64 - 1) (Ok second) new
       → IsTold result (inspected first.items second.items) → Inspects of_read old result new
   first_refused : (e : Refusal) → IsRefusedRead e → of_read old First 0 (2 ^ 64 - 1) (Err e) new → result ≡ Err e → Inspects of_read old result new
-  second_refused : (first : Vec ℕ Global) (mid : D) (e : Refusal) → IsRefusedRead e → of_read old First 0 (2 ^ 64 - 1) (Ok first) mid → of_read mid Second 0 (2 ^ 64 - 1) (Err e) new
+  second_refused : (first : Vec ℕ Global) (mid : D) (e : Refusal) → IsRefusedRead e
+      → of_read old First 0 (2 ^ 64 - 1) (Ok first) mid
+      → of_read mid Second 0 (2 ^ 64 - 1) (Err e) new
       → result ≡ Err e → Inspects of_read old result new

@@ -28,7 +28,8 @@ SomeHolds holds both facts = (images : Images) × IsCrashImage both images × ho
 -- the journal is over the facts of one of the images that a crash might have left, and every image now holds these
 abbrev pub IsOpenWithOneOf : {D : Type 0} → (D → Areas) → (Images → List Fact → Type 0) → Areas → Journal D × Opened → Type 0
 IsOpenWithOneOf areas holds old (journal, opened) =
-    (facts : List Fact) × SomeHolds holds old facts × IsOpenWith areas facts (journal, opened) × EachHolds (Holds journal.nodes journal.node) (areas journal.disk) facts
+    (facts : List Fact) × SomeHolds holds old facts × IsOpenWith areas facts (journal, opened)
+    × EachHolds (Holds journal.nodes journal.node) (areas journal.disk) facts
 
 -- an opening in this phase writes nothing yet
 abbrev pub IsReading : Phase → Type 0

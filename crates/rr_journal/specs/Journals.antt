@@ -11,7 +11,9 @@ use Rattle.rr_journal.specs.declared.journal.Journal.{Journal}
 -- the journal appends behind these images: they hold these facts, and its area, its last gate and its next number are theirs
 pub record IsOver {D : Type 0} (journal : Journal D) (start : Images) (facts : List Fact) : Type 0 where
   pub holds : Holds journal.nodes journal.node start facts
-  pub active : found journal.nodes journal.node start.of_first start.of_second ≡ Active journal.area (record { epoch = journal.epoch; promise = promise_of facts; next = journal.next; gate = journal.gate })
+  pub active : found journal.nodes journal.node start.of_first start.of_second
+      ≡ Active journal.area
+      (record { epoch = journal.epoch; promise = promise_of facts; next = journal.next; gate = journal.gate })
 
 -- the journal once a flush of it has ended: the flush's last byte is the last gate
 abbrev pub once_flushed : {D : Type 0} → Flush → Journal D → Journal D

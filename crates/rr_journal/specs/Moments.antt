@@ -67,7 +67,8 @@ pub record IsGrounded (holds : Images → List Fact → Type 0) (flush : Flush) 
       → holds (with_image start flush.area image) (facts ++ flush.group.facts)
 
 -- the disk is at this moment of a flush
-pub record IsAt (moment : Flush → Images → Areas) (holds : Images → List Fact → Type 0) (flush : Flush) (start : Images) (facts : List Fact) (both : Areas) : Type 0 where
+pub record IsAt (moment : Flush → Images → Areas) (holds : Images → List Fact → Type 0) (flush : Flush)
+    (start : Images) (facts : List Fact) (both : Areas) : Type 0 where
   pub grounded : IsGrounded holds flush start facts
   pub stands : both ≡ moment flush start
 

@@ -47,8 +47,12 @@ calls_by n p first second (Outdated area c) = if may_migrate c then migrate_call
 
 -- the device calls that are left
 abbrev pub calls_from : ℕ → ℕ → Phase → Areas → List Call
-calls_from n p Settling both = Sync ∷ Read First ∷ Read Second ∷ calls_by n p (whole_read both.first) (whole_read both.second) (found n p (whole_read both.first) (whole_read both.second))
-calls_from n p ReadingFirst both = Read First ∷ Read Second ∷ calls_by n p (whole_read both.first) (whole_read both.second) (found n p (whole_read both.first) (whole_read both.second))
+calls_from n p Settling both =
+    Sync ∷ Read First ∷ Read Second
+    ∷ calls_by n p (whole_read both.first) (whole_read both.second) (found n p (whole_read both.first) (whole_read both.second))
+calls_from n p ReadingFirst both =
+    Read First ∷ Read Second
+    ∷ calls_by n p (whole_read both.first) (whole_read both.second) (found n p (whole_read both.first) (whole_read both.second))
 calls_from n p (ReadingSecond first) both = Read Second ∷ calls_by n p first (whole_read both.second) (found n p first (whole_read both.second))
 calls_from n p (Rewriting found []) both = Sync ∷ []
 calls_from n p (Rewriting found (call ∷ calls)) both = call ∷ calls
@@ -64,22 +68,29 @@ IsDone calls areas counts old new = (areas new ≡ areas_after calls (areas old)
 
 -- an opening that found this ends so, or is refused for memory or by the device
 abbrev pub EndsBy : {D : Type 0} → Found → Result (Journal D × Opened) (Refusal × D) → Type 0
-EndsBy found (Ok (journal, opened)) = end_by found ≡ Opens journal.area (record { epoch = journal.epoch; promise = opened.promise; next = opened.next; gate = journal.gate })
+EndsBy found (Ok (journal, opened)) =
+    end_by found
+    ≡ Opens journal.area (record { epoch = journal.epoch; promise = opened.promise; next = opened.next; gate = journal.gate })
 EndsBy found (Err (e, disk)) = (e ≡ OutOfMemory) ⊎ (e ≡ Device) ⊎ (end_by found ≡ Stops e)
 
 -- behind a step an opening finds what it would have found, and makes the calls that were left but one; or it ends so, or is refused for memory or by the device
 abbrev pub StaysOnCourse : {D : Type 0} → (D → Areas) → OpeningState D → Result (code_2.Progress D) (Refusal × D) → Type 0
 StaysOnCourse areas o (Ok (progress.More next)) = (areas next.disk ≡ after_call (due_call (phase_of o.phase)) (areas o.disk))
     × (found_from next.nodes next.node (phase_of next.phase) (areas next.disk) ≡ found_from o.nodes o.node (phase_of o.phase) (areas o.disk))
-    × (calls_from o.nodes o.node (phase_of o.phase) (areas o.disk) ≡ due_call (phase_of o.phase) ∷ calls_from next.nodes next.node (phase_of next.phase) (areas next.disk))
+    × (calls_from o.nodes o.node (phase_of o.phase) (areas o.disk)
+    ≡ due_call (phase_of o.phase) ∷ calls_from next.nodes next.node (phase_of next.phase) (areas next.disk))
 StaysOnCourse areas o (Ok (progress.Done journal opened)) = (areas journal.disk ≡ after_call (due_call (phase_of o.phase)) (areas o.disk))
-    × (end_by (found_from o.nodes o.node (phase_of o.phase) (areas o.disk)) ≡ Opens journal.area (record { epoch = journal.epoch; promise = opened.promise; next = opened.next; gate = journal.gate }))
+    × (end_by (found_from o.nodes o.node (phase_of o.phase) (areas o.disk))
+    ≡ Opens journal.area
+    (record { epoch = journal.epoch; promise = opened.promise; next = opened.next; gate = journal.gate }))
     × (calls_from o.nodes o.node (phase_of o.phase) (areas o.disk) ≡ due_call (phase_of o.phase) ∷ [])
 StaysOnCourse areas o (Err (e, disk)) = (e ≡ OutOfMemory) ⊎ (e ≡ Device) ⊎ (end_by (found_from o.nodes o.node (phase_of o.phase) (areas o.disk)) ≡ Stops e)
 
 -- an opening is refused for memory, where a device call failed, for damage, or for want of a next epoch
 abbrev pub IsRefused : {D : Type 0} → (D → ℕ) → D → Refusal × D → Type 0
-IsRefused faults old (e, new) = (e ≡ OutOfMemory) ⊎ ((e ≡ Device) × Grew (faults old) (faults new)) ⊎ ((area : Area) × (offset : ℕ) × (e ≡ Damaged (area_number area) offset)) ⊎ (e ≡ TooLarge)
+IsRefused faults old (e, new) =
+    (e ≡ OutOfMemory) ⊎ ((e ≡ Device) × Grew (faults old) (faults new))
+    ⊎ ((area : Area) × (offset : ℕ) × (e ≡ Damaged (area_number area) offset)) ⊎ (e ≡ TooLarge)
 
 -- both areas are as they were, or synced
 abbrev pub IsAsBefore : Areas → Areas → Type 0

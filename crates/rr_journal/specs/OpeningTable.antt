@@ -66,13 +66,17 @@ OpensWith n p facts (at.Rewriting rewrite) both = (rewrites : IsRewriting n p re
 abbrev pub GoesOnAny : ℕ → ℕ → code_2.Next → Areas → Type 0
 GoesOnAny n p (next.Phase phase) both = OpensAny n p phase both
 GoesOnAny n p (next.Open area epoch gate promise number) both =
-    (start : Images) × (both ≡ restarted start) × (found n p start.of_first start.of_second ≡ Active area (record { epoch = epoch; promise = promise; next = number; gate = gate }))
+    (start : Images) × (both ≡ restarted start)
+    × (found n p start.of_first start.of_second
+    ≡ Active area (record { epoch = epoch; promise = promise; next = number; gate = gate }))
 
 -- where the disk holds facts: such a phase, or a content of the facts
 abbrev pub GoesOnWith : ℕ → ℕ → List Fact → code_2.Next → Areas → Type 0
 GoesOnWith n p facts (next.Phase phase) both = OpensWith n p facts phase both
 GoesOnWith n p facts (next.Open area epoch gate promise number) both =
-    (start : Images) × (both ≡ restarted start) × Holds n p start facts × (found n p start.of_first start.of_second ≡ Active area (record { epoch = epoch; promise = promise; next = number; gate = gate }))
+    (start : Images) × (both ≡ restarted start) × Holds n p start facts
+    × (found n p start.of_first start.of_second
+    ≡ Active area (record { epoch = epoch; promise = promise; next = number; gate = gate }))
 
 -- a step of such an opening gives one, or a journal over what the bytes stand for
 abbrev pub ComesToAny : {D : Type 0} → (D → Areas) → code_3.Progress D → Type 0

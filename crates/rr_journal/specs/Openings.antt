@@ -76,7 +76,9 @@ after_opening_call n p bytes (Rewriting found []) = end_by found
 after_opening_call n p bytes (Rewriting found (call ∷ [])) = end_by found
 after_opening_call n p bytes (Rewriting found (call ∷ next ∷ calls)) = Goes (Rewriting found (next ∷ calls))
 
-module _ {D : Type 0} (of_read : D → Area → ℕ → ℕ → Result (Vec ℕ Global) Refusal → D → Type 0) (of_write : D → Area → ℕ → List ℕ → Result (Unit {0}) Refusal → D → Type 0) (of_sync : D → Result (Unit {0}) Refusal → D → Type 0) where
+module _ {D : Type 0} (of_read : D → Area → ℕ → ℕ → Result (Vec ℕ Global) Refusal → D → Type 0)
+    (of_write : D → Area → ℕ → List ℕ → Result (Unit {0}) Refusal → D → Type 0)
+    (of_sync : D → Result (Unit {0}) Refusal → D → Type 0) where
   -- a device call answered Ok, a read with these bytes, by what the disk's calls exactly give
   abbrev pub Done : Call → D → Vec ℕ Global → D → Type 0
   Done (Read area) old read new = of_read old area 0 (2 ^ 64 - 1) (Ok read) new

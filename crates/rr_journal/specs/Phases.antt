@@ -27,5 +27,6 @@ TakesMemory (Rewriting found calls) = ⊥
 -- the code goes on as it must behind a device call, unless memory is wanting
 abbrev pub Follows : Result next.Next Refusal → Phase → After → Type 0
 Follows (Ok (next_is.Phase phase)) old after = after ≡ Goes (phase_of phase)
-Follows (Ok (next_is.Open area epoch gate promise number)) old after = after ≡ Opens area (record { epoch = epoch; promise = promise; next = number; gate = gate })
+Follows (Ok (next_is.Open area epoch gate promise number)) old after =
+    after ≡ Opens area (record { epoch = epoch; promise = promise; next = number; gate = gate })
 Follows (Err e) old after = ((e ≡ OutOfMemory) × TakesMemory old) ⊎ (after ≡ Stops e)

@@ -68,7 +68,8 @@ flush_anew n p found = record {
 -- both areas in a stage of a flush that began over these images: its gate has to be closed first, or it is closed, and they are at a moment of the flush
 abbrev pub IsInStage : Stage → Flush → Images → Areas → Type 0
 IsInStage Closing flush start both = (must_close (image_of start flush.area) ≡ true) × (both ≡ restarted start)
-IsInStage SettlingClosed flush start both = (must_close (image_of start flush.area) ≡ true) × (both ≡ after_call (Write flush.area 0 (0 ∷ [])) (restarted start))
+IsInStage SettlingClosed flush start both =
+    (must_close (image_of start flush.area) ≡ true) × (both ≡ after_call (Write flush.area 0 (0 ∷ [])) (restarted start))
 IsInStage WritingBody flush start both = (must_close (image_of start flush.area) ≡ false) × (both ≡ body_due flush start)
 IsInStage SettlingBody flush start both = (must_close (image_of start flush.area) ≡ false) × (both ≡ body_out flush start)
 IsInStage OpeningGate flush start both = (must_close (image_of start flush.area) ≡ false) × (both ≡ body_safe flush start)

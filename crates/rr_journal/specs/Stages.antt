@@ -38,7 +38,8 @@ stage_behind OpeningGate = Some SettlingGate
 stage_behind SettlingGate = None
 
 -- a write or a sync gave this, by what the disk's calls exactly give
-abbrev pub Gave : {D : Type 0} → (D → Area → ℕ → List ℕ → Result (Unit {0}) Refusal → D → Type 0) → (D → Result (Unit {0}) Refusal → D → Type 0) → Call → D → Result (Unit {0}) Refusal → D → Type 0
+abbrev pub Gave : {D : Type 0} → (D → Area → ℕ → List ℕ → Result (Unit {0}) Refusal → D → Type 0)
+    → (D → Result (Unit {0}) Refusal → D → Type 0) → Call → D → Result (Unit {0}) Refusal → D → Type 0
 Gave of_write of_sync (Read area) old result new = ⊥
 Gave of_write of_sync (Write area at bytes) old result new = of_write old area at bytes result new
 Gave of_write of_sync Sync old result new = of_sync old result new

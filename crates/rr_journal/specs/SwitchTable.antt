@@ -21,7 +21,9 @@ use Rattle.rr_journal.specs.Switches.{Switch, snapshot_of, switched}
 
 -- a device call led to the next stage, or to the end of the switch; of the areas only the disk has changed else
 abbrev pub GoesOn : {D : Type 0} → Switch → Journal D → code.Switching → Journal D → Type 0
-GoesOn job old (switching.More next) new = (stage_behind job.stage ≡ Some next.stage) × (next ≡ record job { stage = next.stage }) × (new ≡ record old { disk = new.disk })
+GoesOn job old (switching.More next) new =
+    (stage_behind job.stage ≡ Some next.stage) × (next ≡ record job { stage = next.stage })
+    × (new ≡ record old { disk = new.disk })
 GoesOn job old switching.Done new = (stage_behind job.stage ≡ None) × (new ≡ record (switched job old) { disk = new.disk })
 
 -- the areas rest on these images, which hold these facts, and know whether the other area has to be closed
@@ -46,7 +48,8 @@ pub record IsSwitchOf {D : Type 0} (slots : Journal D) (job : Switch) (facts : L
 -- both areas in a stage of a switch that began over these images: its gate has to be closed first, or it is at a moment of its flush
 abbrev pub IsAtStage : Stage → Switch → Images → List Fact → Areas → Type 0
 IsAtStage Closing job start facts both = (must_close (image_of start job.area) ≡ true) × (both ≡ restarted start)
-IsAtStage SettlingClosed job start facts both = (must_close (image_of start job.area) ≡ true) × (both ≡ after_call (Write job.area 0 (0 ∷ [])) (restarted start))
+IsAtStage SettlingClosed job start facts both =
+    (must_close (image_of start job.area) ≡ true) × (both ≡ after_call (Write job.area 0 (0 ∷ [])) (restarted start))
 IsAtStage WritingBody job start facts both = IsAt body_due (Holds job.nodes job.node) (flush_of job) start facts both
 IsAtStage SettlingBody job start facts both = IsAt body_out (Holds job.nodes job.node) (flush_of job) start facts both
 IsAtStage OpeningGate job start facts both = IsAt body_safe (Holds job.nodes job.node) (flush_of job) start facts both

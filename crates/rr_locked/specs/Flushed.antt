@@ -29,7 +29,13 @@ HasFailed faults old new = (old.failed ≡ false) × (new.failed ≡ true) × Gr
 
 -- the journal appends behind the group now: its last gate and its next number are those behind it
 abbrev pub IsBehind : {D : Type 0} → Grouped → Journal D → Journal D → Type 0
-IsBehind group old new = new ≡ record old { disk = new.disk; gate = old.gate + length (frame_bytes (group_bytes group)); next = group.serial + length group.facts; busy = false }
+IsBehind group old new =
+    new ≡ record old {
+      disk = new.disk;
+      gate = old.gate + length (frame_bytes (group_bytes group));
+      next = group.serial + length group.facts;
+      busy = false;
+    }
 
 -- the journal's disk holds these facts and more, and the journal appends behind them
 abbrev pub HasMore : {D : Type 0} → (D → Areas) → Journal D → List Fact → List Fact → Type 0

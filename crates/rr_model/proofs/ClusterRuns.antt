@@ -1,3 +1,4 @@
+-- The small runs of three nodes are runs and end as they should, and what the examples of three nodes forbid is unlawful.
 use Rattle.std.proofs.Common.{◌≡◌, ℕ, ◌<◌, ◌≤◌, ◌⊎◌, inl, inr, Bool, true, false, ◌==◌, eq-eqb, List, [], ◌∷◌, ◌++◌, Some, refl, ap, sym, arith}
 use Rattle.std.proofs.lemmas.Bool.{false≢true}
 use Rattle.rr_types.specs.declared.command.Command.{Command}

@@ -1,3 +1,4 @@
+-- What is lawful, chosen or backed stays so where more was heard, sent or kept.
 use Rattle.std.proofs.Common.{◌≡◌, ℕ, ◌⊎◌, inl, inr, Bool, true, false, ◌==◌, if◌then◌else◌, List, [], ◌∷◌, ◌++◌, Contains, Option, None, Some, refl, sym, subst, eqb-true}
 use Rattle.std.proofs.lemmas.List.Elements.{Contains-append_left}
 use Rattle.rr_types.specs.declared.command.Command.{Command}

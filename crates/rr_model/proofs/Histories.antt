@@ -1,3 +1,4 @@
+-- Lists of facts of which each is lawful where it stands (histories), and what holds behind them because lawful facts keep it.
 use Rattle.std.proofs.Common.{◌≡◌, ℕ, ◌<◌, Bool, true, false, ◌==◌, if◌then◌else◌, List, [], ◌∷◌, ◌++◌, Option, None, Some, refl, ap, sym, ◌∙◌, subst, append_assoc, append-nil, eqb-true}
 use Rattle.std.proofs.lemmas.Bool.{false≢true}
 use Rattle.rr_types.specs.declared.command.Command.{Command}

@@ -1,3 +1,4 @@
+-- The invariant of runs: the empty world has it, and each step of the world keeps it.
 use Rattle.std.proofs.Common.{◌≡◌, ℕ, ◌<◌, inl, inr, List, [], ◌∷◌, ◌++◌, length, take, drop, Contains, Option, None, Some, IsTrue, refl, ap, sym, ◌∙◌, subst, arith, append_assoc, append-nil, take-append-drop, if◌then◌else◌, eq-eqb}
 use Rattle.std.proofs.lemmas.Bool.{false≢true}
 use Rattle.std.proofs.lemmas.Option.{none-some, same_Some}

@@ -1,3 +1,4 @@
+-- The laws of runs: what is chosen or kept stays, rounds rise, later proposals are locked, and the list keeps real time.
 use Rattle.std.proofs.Common.{◌≡◌, ℕ, ◌<◌, ◌≤◌, List, [], ◌∷◌, ◌++◌, length, take, Contains, drop, Option, None, Some, slice_get, IsTrue, refl, ap, sym, ◌∙◌, subst, arith, append-nil, append_assoc, le_refl, le_of_suc-le-suc, zero, suc, inl, inr}
 use Rattle.std.proofs.lemmas.Bool.{false≢true, cases_lt}
 use Rattle.std.proofs.lemmas.List.{take_at, take-take, take-append-drop}

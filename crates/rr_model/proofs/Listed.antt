@@ -1,3 +1,4 @@
+-- Whether a command is chosen for an instance can be found out, so each wire has a decided list, and only one.
 use Rattle.std.proofs.Common.{◌≡◌, ℕ, ◌+◌, ◌<◌, ◌≤◌, ◌⊎◌, inl, inr, zero, suc, Bool, true, false, ◌==◌, ◌&&◌, ◌||◌, if◌then◌else◌, List, [], ◌∷◌, ◌++◌, length, Contains, get_or, Option, None, Some, slice_get, refl, ap, sym, subst, arith, eqb-true, eq-eqb, le_of_suc-le-suc, add-zero}
 use Rattle.std.proofs.lemmas.Bool.{false≢true, cases_eq, cases_lt, and_parts, and_from, or_cases, or_left, or_right}
 use Rattle.std.proofs.lemmas.Option.{none-some, same_Some}

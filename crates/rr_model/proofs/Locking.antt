@@ -1,3 +1,4 @@
+-- In a round one command is proposed, and once a majority has acknowledged it every later round proposes the same.
 use Rattle.std.proofs.Common.{◌≡◌, ℕ, ◌<◌, ◌≤◌, inl, inr, zero, suc, List, ◌∷◌, ◌++◌, Contains, Option, None, Some, IsTrue, refl, sym, ◌∙◌, subst, arith, le_refl}
 use Rattle.std.proofs.lemmas.Bool.{false≢true, cases_order}
 use Rattle.std.proofs.lemmas.Option.{none-some}

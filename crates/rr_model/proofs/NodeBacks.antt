@@ -1,3 +1,4 @@
+-- Each number in a node's row is that of a fact which backs the row's messages, also behind an opening.
 use Rattle.std.proofs.Common.{◌≡◌, ℕ, ◌-◌, ◌≤◌, ◌<◌, zero, suc, Bool, true, false, ◌==◌, ◌&&◌, nat_lt, if◌then◌else◌, List, [], ◌∷◌, ◌++◌, length, take, Contains, Option, None, Some, is_none, slice_get, refl, ap, sym, ◌∙◌, subst, arith, append_assoc, append-nil, eqb-true, ltb-true, le_refl, le_of_suc-le-suc}
 use Rattle.std.proofs.lemmas.Bool.{false≢true, and_parts}
 use Rattle.std.proofs.lemmas.Option.{none-some, same_Some, slice_get_within}

@@ -1,3 +1,4 @@
+-- Entering a later round, proposing and deciding stage lawful facts, and leave a node that knows what it should.
 use Rattle.std.proofs.Common.{◌≡◌, ℕ, ◌<◌, suc, Bool, true, false, ◌==◌, ◌&&◌, not, nat_lt, if◌then◌else◌, List, [], ◌∷◌, find, Contains, Option, None, Some, IsTrue, refl, sym, ◌∙◌, subst, arith, ltb-true}
 use Rattle.std.proofs.lemmas.Bool.{ltb-false}
 use Rattle.std.specs.Option.{option_map_or}

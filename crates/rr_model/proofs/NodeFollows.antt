@@ -1,3 +1,4 @@
+-- A node opened over facts that fit makes only steps of the world, whatever happens at it.
 use Rattle.std.proofs.Common.{◌≡◌, ℕ, ◌+◌, ◌≤◌, ◌<◌, inl, inr, Bool, true, false, ◌==◌, if◌then◌else◌, List, [], ◌∷◌, ◌++◌, length, length-append, take, drop, map, Option, None, Some, is_none, Contains, refl, ap, sym, ◌∙◌, subst, arith, append_assoc, append-nil, take-append-drop, eqb-true, eq-eqb}
 use Rattle.std.specs.Option.{option_map_or}
 use Rattle.std.proofs.lemmas.List.{take_at, take-append-le}

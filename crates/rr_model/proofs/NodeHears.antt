@@ -1,3 +1,4 @@
+-- What an input does at once, before anything that is due, stages only lawful facts.
 use Rattle.std.proofs.Common.{◌≤◌, ◌++◌, ◌&&◌, not, Contains, le_refl, eq-eqb, ◌≡◌, ℕ, ◌+◌, ◌<◌, inl, inr, Bool, true, false, ◌==◌, ◌||◌, nat_lt, if◌then◌else◌, List, [], ◌∷◌, find, Option, None, Some, IsTrue, refl, ap, sym, ◌∙◌, subst, arith, eqb-true, ltb-true}
 use Rattle.std.specs.Option.{option_map_or}
 use Rattle.std.proofs.lemmas.Bool.{false≢true, and_parts, ltb-false}

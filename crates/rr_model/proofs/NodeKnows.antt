@@ -1,3 +1,4 @@
+-- What a node knows of its facts and of what it heard, and that it still knows it once nothing or lawful facts were staged.
 use Rattle.std.proofs.Common.{◌≡◌, ℕ, ◌+◌, ◌⊎◌, inl, inr, Bool, true, false, ◌==◌, if◌then◌else◌, List, [], ◌∷◌, ◌++◌, length, length-append, filter, Contains, Option, None, Some, refl, ap, sym, ◌∙◌, subst, arith, append_assoc, append-nil, eqb-true}
 use Rattle.std.specs.Option.{option_map_or}
 use Rattle.std.proofs.lemmas.Option.{none-some, same_Some}

@@ -1,3 +1,4 @@
+-- A node's decided prefix, read off its promise, is that of its facts.
 use Rattle.std.proofs.Common.{◌≡◌, ℕ, ◌+◌, ◌≤◌, ◌<◌, ◌⊎◌, inl, inr, zero, suc, Bool, true, false, ◌==◌, nat_lt, if◌then◌else◌, List, [], ◌∷◌, length, Option, None, Some, refl, ap, sym, ◌∙◌, subst, arith, eqb-true, ltb-true, le_refl, le_of_suc-le-suc}
 use Rattle.std.proofs.lemmas.Bool.{false≢true, eqb-false, ltb-false, ne_eqb, and_parts, cases_order}
 use Rattle.rr_types.specs.declared.command.Command.{Command}

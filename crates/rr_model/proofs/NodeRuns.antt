@@ -1,3 +1,4 @@
+-- The example of a node alone: it goes through the four phases, sends its estimate and acknowledges its request.
 use Rattle.std.proofs.Common.{◌≡◌, [], ◌∷◌, None, Some, refl}
 use Rattle.rr_types.specs.declared.fact.Fact.TheVariants.{Enter, Propose, Adopt, Decide}
 use Rattle.rr_types.specs.declared.message.Body.TheVariants.{Estimate}

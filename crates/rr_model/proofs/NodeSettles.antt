@@ -1,3 +1,4 @@
+-- What a node does of its own accord, as long as something is due, stages only lawful facts.
 use Rattle.std.proofs.Common.{◌≡◌, ℕ, ◌+◌, ◌≤◌, zero, suc, Bool, true, false, ◌==◌, ◌&&◌, nat_lt, if◌then◌else◌, List, [], ◌∷◌, length, filter, is_some, Option, None, Some, option_map, inr, refl, ap, sym, ◌∙◌, subst, arith, eqb-true}
 use Rattle.std.specs.Option.{option_map_or}
 use Rattle.std.specs.List.{range_with_len}

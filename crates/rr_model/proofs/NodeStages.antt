@@ -1,3 +1,4 @@
+-- A node's step stages only lawful facts, and so does whatever happens at a node opened over any facts.
 use Rattle.std.proofs.Common.{◌≡◌, ℕ, ◌+◌, ◌-◌, ◌<◌, zero, suc, inl, Bool, true, false, ◌==◌, nat_lt, if◌then◌else◌, List, [], ◌∷◌, ◌++◌, length, length-append, take, drop, take-append-drop, get_or, map, find, Option, None, Some, is_none, option_map, Contains, refl, ap, sym, ◌∙◌, subst, arith, append-nil, append_assoc, le_of_suc-le-suc, ltb-true}
 use Rattle.std.specs.Option.{option_map_or}
 use Rattle.std.proofs.lemmas.Option.{none-some, same_Some}

@@ -1,3 +1,4 @@
+-- What a coordinator tallies was heard: its pick is of largest stamp among a majority, and its acknowledgements are said.
 use Rattle.std.proofs.Common.{◌≡◌, ℕ, ◌+◌, ◌≤◌, ◌<◌, inl, inr, zero, suc, Bool, true, false, ◌==◌, nat_lt, nat_le, if◌then◌else◌, List, [], ◌∷◌, length, filter, Option, None, Some, option_map, refl, ap, sym, ◌∙◌, subst, arith, eqb-true, eq-eqb, ltb-true, le_refl}
 use Rattle.std.specs.List.{range_with_len}
 use Rattle.std.proofs.lemmas.Bool.{false≢true, eqb-false, ltb-false, leb-true, cases_order}

@@ -1,3 +1,4 @@
+-- Sums of one number for each index: such a sum falls where one number falls, and is at most the count times a bound.
 use Rattle.std.proofs.Common.{◌≡◌, ℕ, ◌+◌, ◌*◌, ◌≤◌, ◌<◌, inl, inr, zero, suc, refl, sym, subst, arith, le_refl}
 use Rattle.std.proofs.lemmas.Bool.{cases_eq}
 use Rattle.std.proofs.Math.Nat.{suc-mul}

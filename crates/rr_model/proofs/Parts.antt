@@ -1,3 +1,4 @@
+-- The parts of a sound run, each as a statement of its own.
 use Rattle.std.specs.Prelude.{◌≡◌, ℕ, ◌≤◌, IsTrue, List, ◌∷◌, ◌++◌, length, take, Some}
 use Rattle.std.specs.List.{Contains}
 use Rattle.rr_types.specs.declared.command.Command.{Command}

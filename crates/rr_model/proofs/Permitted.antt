@@ -1,3 +1,4 @@
+-- Lawfulness by the kind of fact first, over the parts of a standing, and that it is lawfulness as defined.
 use Rattle.std.proofs.Common.{◌≡◌, ℕ, ◌<◌, ◌⊎◌, inl, inr, IsTrue, List, Contains, Option, None, Some, refl, sym, ◌∙◌, subst}
 use Rattle.std.proofs.lemmas.Bool.{false≢true}
 use Rattle.std.proofs.lemmas.Option.{none-some, same_Some}

@@ -1,3 +1,4 @@
+-- The places of a member in a list, which of two comes first, and what one more member adds.
 use Rattle.std.proofs.Common.{◌≡◌, ℕ, ◌<◌, ◌⊎◌, inl, inr, zero, suc, List, [], ◌∷◌, ◌++◌, length, get_or, Contains, refl, ap, sym, arith, le_of_suc-le-suc, length-append}
 
 -- a place where x stands in the list

@@ -1,3 +1,4 @@
+-- The decided prefix of facts instance by instance, and that lawful facts only make it longer.
 use Rattle.std.proofs.Common.{◌≡◌, ℕ, ◌+◌, ◌≤◌, ◌⊎◌, inl, inr, zero, suc, Bool, true, false, ◌==◌, if◌then◌else◌, List, [], ◌∷◌, ◌++◌, length, Contains, Option, None, Some, slice_get, refl, ap, sym, ◌∙◌, subst, arith, append-nil, eqb-true, le_of_suc-le-suc, add-zero, length-append}
 use Rattle.std.specs.Prelude.{map}
 use Rattle.std.specs.Option.{some_prefix}

@@ -1,3 +1,4 @@
+-- The promise of facts says where each instance stands, and lawful facts fit the promise of those before them.
 use Rattle.std.proofs.Common.{◌≡◌, ℕ, Bool, true, false, ◌==◌, nat_lt, if◌then◌else◌, List, [], ◌∷◌, ◌++◌, Option, None, Some, is_none, refl, ap, sym, ◌∙◌, subst, append_assoc, eqb-true, eq-eqb, lt-ltb}
 use Rattle.std.proofs.lemmas.Bool.{false≢true, and_from, eqb-false}
 use Rattle.rr_types.specs.declared.fact.Fact.{Fact}

@@ -1,3 +1,4 @@
+-- Two sets with more than n members below n meet, and so do two majorities.
 use Rattle.std.proofs.Common.{◌≡◌, ℕ, ◌+◌, ◌<◌, zero, suc, Bool, true, false, if◌then◌else◌, refl, arith}
 use Rattle.rr_model.specs.Lawful.{count_below, HasMajority}
 

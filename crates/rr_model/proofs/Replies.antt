@@ -1,3 +1,4 @@
+-- A longer list gives each reply that a shorter one gives, and a list with a reply to a request holds the request.
 use Rattle.std.proofs.Common.{◌≡◌, Bool, true, false, if◌then◌else◌, List, [], ◌∷◌, ◌++◌, Option, Some, refl, ap, sym, subst}
 use Rattle.std.proofs.lemmas.Option.{none-some}
 use Rattle.rr_types.specs.declared.command.Command.{Command}

@@ -1,3 +1,4 @@
+-- The tests for equal requests, operations and commands pass exactly for equal ones.
 use Rattle.std.proofs.Common.{◌≡◌, ℕ, true, ◌==◌, List, refl, ap, eqb-true, eq-eqb, bytes_eq}
 use Rattle.std.proofs.lemmas.Bool.{false≢true, and_parts, and_from}
 use Rattle.std.proofs.lemmas.Slice.Eq.{bytes_eq-Decides}

@@ -1,3 +1,4 @@
+-- Searches for a proof. One that finds it computes to Some, so that a small run is proved to be one by refl.
 use Rattle.std.proofs.Common.{◌≡◌, ℕ, ◌+◌, ◌<◌, ◌≤◌, ◌⊎◌, inl, inr, zero, suc, ◌||◌, slice_get, get_or, sym, ◌∙◌, subst, eq-eqb, add-zero, Bool, true, false, ◌==◌, nat_lt, nat_le, List, [], ◌∷◌, ◌++◌, length, Contains, Option, None, Some, is_some, refl, ap, arith, eqb-true}
 use Rattle.std.proofs.lemmas.Bool.{false≢true, ltb-true, leb-true, cases_lt, or_left, or_right}
 use Rattle.std.proofs.lemmas.Option.{none-some, same_Some, slice_get_cases}
@@ -20,8 +21,6 @@ use Rattle.rr_model.specs.World.{World, Step, Submit, Hear, Stage, Settle, Send,
 use Rattle.rr_model.specs.Sound.{IsChosen, IsChosenList, IsDecidedList}
 use Rattle.rr_model.proofs.SameCommands.{same_command}
 use Rattle.rr_model.proofs.Listed.{acks, counts_no_fewer, says_acks, says_cases, says_head, says_tail}
-
--- Searches for a proof. One that finds it computes to Some, so that a small run is proved to be one by refl
 
 -- the proof that a search found
 pub found : {A : Type 0} → (o : Option A) → is_some o ≡ true → A

@@ -1,3 +1,4 @@
+-- The small runs of one node are runs, and each fact that an example forbids is unlawful.
 use Rattle.std.proofs.Common.{◌≡◌, ℕ, ◌<◌, ◌≤◌, inl, inr, zero, suc, true, List, [], ◌∷◌, ◌++◌, get_or, refl, ap, sym, arith, ◌==◌, eq-eqb}
 use Rattle.rr_types.specs.declared.command.Command.{Command}
 use Rattle.rr_types.specs.declared.message.Body.{Body}

@@ -1,3 +1,4 @@
+-- What was told is true by a list for each node, and stays true as the lists grow and more is told.
 use Rattle.std.proofs.Common.{◌≡◌, ℕ, ◌≤◌, inl, inr, suc, true, List, [], ◌∷◌, ◌++◌, length, take, Contains, Some, refl, ap, sym, ◌∙◌, subst, arith, take_all, length-append}
 use Rattle.std.proofs.lemmas.List.{take-append-le}
 use Rattle.std.proofs.lemmas.List.Elements.{Contains-push_cases}

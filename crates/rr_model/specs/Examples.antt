@@ -58,7 +58,10 @@ goes_on = Restart 0 0 ∷ Submit 0 claim_a_x ∷ Stage 0 (Enter 0 first_estimate
 
 -- no node but the coordinator may propose in a round
 abbrev pub IsProposeOfAnotherUnlawful : Type 0
-IsProposeOfAnotherUnlawful = (n p i r : ℕ) (v : Command) (s : Option Standing) (h : Heard) → (p ≡ coordinator_of r n → ⊥) → IsLawfulAt n p s h (Propose i r v) → ⊥
+IsProposeOfAnotherUnlawful =
+    (n p i r : ℕ) (v : Command) (s : Option Standing) (h : Heard) → (p ≡ coordinator_of r n → ⊥)
+    → IsLawfulAt n p s h (Propose i r v)
+    → ⊥
 
 -- no node may adopt in a round at or below its stamp
 abbrev pub IsAdoptBelowTheStampUnlawful : Type 0

@@ -29,35 +29,63 @@ AreBeginningsRuns n run = (before after : List Step) → run ≡ before ++ after
 
 -- what is chosen at a moment stays chosen
 abbrev pub StaysChosen : ℕ → List Step → Type 0
-StaysChosen n run = (before after : List Step) → run ≡ before ++ after → (i : ℕ) (v : Command) → IsChosen n (end_of before).wire i v → IsChosen n (end_of run).wire i v
+StaysChosen n run =
+    (before after : List Step) → run ≡ before ++ after
+    → (i : ℕ) (v : Command) → IsChosen n (end_of before).wire i v
+    → IsChosen n (end_of run).wire i v
 
 -- the decided list of a moment is a beginning of the last one
 abbrev pub DoesListGrow : ℕ → List Step → Type 0
-DoesListGrow n run = (before after : List Step) → run ≡ before ++ after → (list last : List Command) → IsDecidedList n (end_of before).wire list → IsDecidedList n (end_of run).wire last → (length list ≤ length last) × (take (length list) last ≡ list)
+DoesListGrow n run =
+    (before after : List Step) → run ≡ before ++ after
+    → (list last : List Command) → IsDecidedList n (end_of before).wire list → IsDecidedList n (end_of run).wire last
+    → (length list ≤ length last) × (take (length list) last ≡ list)
 
 -- what a node keeps at a moment is a beginning of what it keeps at the end
 abbrev pub AreKeptFactsNeverLost : List Step → Type 0
-AreKeptFactsNeverLost run = (before after : List Step) → run ≡ before ++ after → (p : ℕ) → (rest : List Fact) × ((end_of run).kept p ≡ (end_of before).kept p ++ rest)
+AreKeptFactsNeverLost run =
+    (before after : List Step) → run ≡ before ++ after
+    → (p : ℕ) → (rest : List Fact) × ((end_of run).kept p ≡ (end_of before).kept p ++ rest)
 
 -- a node's rounds of an instance rise, over restarts too
 abbrev pub DoRoundsRise : List Step → Type 0
-DoRoundsRise run = (p i : ℕ) (a b : List Fact) (e f : Estimated) → (end_of run).kept p ≡ a ++ Enter i e ∷ b → Contains b (Enter i f) → e.round < f.round
+DoRoundsRise run =
+    (p i : ℕ) (a b : List Fact) (e f : Estimated) → (end_of run).kept p ≡ a ++ Enter i e ∷ b → Contains b (Enter i f)
+    → e.round < f.round
 
 -- an acknowledgement binds its sender's estimates of later rounds: their stamps are at least its round
 abbrev pub DoAcksBind : List Step → Type 0
-DoAcksBind run = (q i r : ℕ) (e : Estimated) → Says (end_of run).wire q (Ack i r) → Says (end_of run).wire q (Estimate i e) → r < e.round → r ≤ e.stamp
+DoAcksBind run =
+    (q i r : ℕ) (e : Estimated) → Says (end_of run).wire q (Ack i r) → Says (end_of run).wire q (Estimate i e)
+    → r < e.round → r ≤ e.stamp
 
 -- where a majority acknowledged a round, each later round proposes the same command
 abbrev pub AreProposalsLocked : ℕ → List Step → Type 0
-AreProposalsLocked n run = (i r : ℕ) (v : Command) (p : ℕ) → Says (end_of run).wire p (Proposal i r v) → HasMajority n (λ q. Says (end_of run).wire q (Ack i r)) → (k : ℕ) (w : Command) (c : ℕ) → r ≤ k → Says (end_of run).wire c (Proposal i k w) → w ≡ v
+AreProposalsLocked n run =
+    (i r : ℕ) (v : Command) (p : ℕ) → Says (end_of run).wire p (Proposal i r v)
+    → HasMajority n (λ q. Says (end_of run).wire q (Ack i r))
+    → (k : ℕ) (w : Command) (c : ℕ) → r ≤ k → Says (end_of run).wire c (Proposal i k w)
+    → w ≡ v
 
 -- a reply acknowledged by a moment comes from a beginning of the last decided list that was wholly submitted by then
 abbrev pub KeepsRealTime : ℕ → List Step → Type 0
-KeepsRealTime n run = (before after : List Step) → run ≡ before ++ after → (p : ℕ) (q : RequestNo) (reply : Reply) → Contains (end_of before).trace (Acknowledged p q reply) → (last : List Command) → IsDecidedList n (end_of run).wire last → (front : List Command) × (take (length front) last ≡ front) × (reply_of front q ≡ Some reply) × ((c : Command) → Contains front c → Contains (end_of before).submitted c)
+KeepsRealTime n run =
+    (before after : List Step) → run ≡ before ++ after
+    → (p : ℕ) (q : RequestNo) (reply : Reply)
+    → Contains (end_of before).trace (Acknowledged p q reply)
+    → (last : List Command) → IsDecidedList n (end_of run).wire last
+    → (front : List Command) × (take (length front) last ≡ front) × (reply_of front q ≡ Some reply)
+    × ((c : Command) → Contains front c → Contains (end_of before).submitted c)
 
 -- where a command stands that was not submitted by a moment, the commands before it give each reply acknowledged by then
 abbrev pub DoLaterCommandsStandBehind : ℕ → List Step → Type 0
-DoLaterCommandsStandBehind n run = (before after : List Step) → run ≡ before ++ after → (p : ℕ) (q : RequestNo) (reply : Reply) → Contains (end_of before).trace (Acknowledged p q reply) → (last : List Command) → IsDecidedList n (end_of run).wire last → (c : Command) → (Contains (end_of before).submitted c → ⊥) → (k : ℕ) → slice_get last k ≡ Some c → reply_of (take k last) q ≡ Some reply
+DoLaterCommandsStandBehind n run =
+    (before after : List Step) → run ≡ before ++ after
+    → (p : ℕ) (q : RequestNo) (reply : Reply) → Contains (end_of before).trace (Acknowledged p q reply)
+    → (last : List Command) → IsDecidedList n (end_of run).wire last
+    → (c : Command) → (Contains (end_of before).submitted c → ⊥)
+    → (k : ℕ) → slice_get last k ≡ Some c
+    → reply_of (take k last) q ≡ Some reply
 
 -- whatever a crash leaves of a node's facts fits, fact by fact
 abbrev pub DoesWhatIsLeftFit : ℕ → List Step → Type 0
@@ -69,4 +97,5 @@ DoesPromiseStand facts = (i : ℕ) → standing_in (promise_of facts) i ≡ stan
 
 -- a lawful fact fits
 abbrev pub DoLawfulFactsFit : ℕ → ℕ → List Fact → Type 0
-DoLawfulFactsFit n p facts = (h : Heard) (f : Fact) → IsLawful n p facts h f → IsTrue (fits n p (standing_of (instance_of f) facts) f)
+DoLawfulFactsFit n p facts =
+    (h : Heard) (f : Fact) → IsLawful n p facts h f → IsTrue (fits n p (standing_of (instance_of f) facts) f)

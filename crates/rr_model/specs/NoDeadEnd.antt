@@ -45,7 +45,10 @@ pub record CanDecide (n : ℕ) (set : ℕ → Bool) (run : List Step) (c : Comma
 -- no run of n nodes is a dead end: whatever happened before, a set that holds a majority of the nodes can go on without the
 -- others and decide any instance. Clients submit but one command meanwhile, for where no node of the set has one
 abbrev pub NoDeadEnd : Type 0
-NoDeadEnd = (n : ℕ) (run : List Step) → IsRun n run → (set : ℕ → Bool) → majority_of n ≤ count_below set n → (c : Command) (i : ℕ) → CanDecide n set run c i
+NoDeadEnd =
+    (n : ℕ) (run : List Step) → IsRun n run
+    → (set : ℕ → Bool) → majority_of n ≤ count_below set n → (c : Command) (i : ℕ)
+    → CanDecide n set run c i
 
 -- the run has a continuation, with steps at nodes of the set alone, after which each of them has the command in its decided
 -- prefix, and may acknowledge the command's request
@@ -54,8 +57,12 @@ pub record CanServe (n : ℕ) (set : ℕ → Bool) (run : List Step) (c : Comman
   pub steps_are_of_the_set : AreAllSteps (IsStepOf n set c) more
   pub is_run : IsRun n (run ++ more)
   pub is_listed : (q : ℕ) → q < n → set q ≡ true → Contains (decided_prefix ((end_of (run ++ more)).kept q)) c
-  pub may_reply : (q : ℕ) → q < n → set q ≡ true → (reply : Reply) × MayHappen n (end_of (run ++ more)) (Acknowledge q c.request reply)
+  pub may_reply : (q : ℕ) → q < n → set q ≡ true
+      → (reply : Reply) × MayHappen n (end_of (run ++ more)) (Acknowledge q c.request reply)
 
 -- and the nodes of such a set can serve any request that its client submits to them
 abbrev pub EachCanBeServed : Type 0
-EachCanBeServed = (n : ℕ) (run : List Step) → IsRun n run → (set : ℕ → Bool) → majority_of n ≤ count_below set n → (c : Command) → CanServe n set run c
+EachCanBeServed =
+    (n : ℕ) (run : List Step) → IsRun n run
+    → (set : ℕ → Bool) → majority_of n ≤ count_below set n → (c : Command)
+    → CanServe n set run c

@@ -55,7 +55,10 @@ due_of_participant s i r = if has_member s.suspects (coordinator_of r s.nodes) &
 -- what is due for a row: nothing once it has decided
 abbrev pub due_of_row : NodeState → ℕ → Tally → Standing → Option Due
 due_of_row s i tally (Decided v) = None
-due_of_row s i tally (Open o) = if coordinator_of o.round s.nodes == s.node then due_of_coordinator s i tally o.round o.proposal else due_of_participant s i o.round
+due_of_row s i tally (Open o) =
+    if coordinator_of o.round s.nodes == s.node
+    then due_of_coordinator s i tally o.round o.proposal
+    else due_of_participant s i o.round
 
 -- what is due for instance i: an instance that has no round enters the first one where the pool has a command for it
 abbrev pub due_at : NodeState → ℕ → Option Due

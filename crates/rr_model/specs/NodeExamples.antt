@@ -10,7 +10,10 @@ told_alone = node_step (Submit claim_a_x) (started 1 0 [] 0)
 
 -- and then hears its own messages: estimate, proposal, acknowledgement
 unfoldable pub decided_alone : NodeState
-decided_alone = node_step (Hear (to_itself (Ack 0 1))) (node_step (Hear (to_itself (Proposal 0 1 claim_a_x))) (node_step (Hear (to_itself (Estimate 0 first_estimate))) told_alone))
+decided_alone =
+    node_step (Hear (to_itself (Ack 0 1)))
+    (node_step (Hear (to_itself (Proposal 0 1 claim_a_x)))
+    (node_step (Hear (to_itself (Estimate 0 first_estimate))) told_alone))
 
 -- what it staged is marked
 unfoldable pub marked_alone : NodeState

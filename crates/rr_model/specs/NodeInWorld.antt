@@ -50,11 +50,17 @@ LeavesTheGroup Answered = Unit {0}
 
 -- an event is a run of the world's steps, behind which the world has the node as the event left it
 abbrev pub IsRunInWorld : Bool → ℕ → ℕ → List Fact → Heard → NodeState → NodeEvent → Type 0
-IsRunInWorld settled n p facts h s e = (w : World) → IsInWorld settled n p facts h s w → MayCome w p s e → IsRunFrom n w (steps_of_event p s e) × IsInWorld settled n p (facts ++ facts_of_event s e) (heard_after p h e) (after_event s e) (after_steps w (steps_of_event p s e))
+IsRunInWorld settled n p facts h s e =
+    (w : World) → IsInWorld settled n p facts h s w → MayCome w p s e
+    → IsRunFrom n w (steps_of_event p s e)
+    × IsInWorld settled n p (facts ++ facts_of_event s e) (heard_after p h e) (after_event s e)
+    (after_steps w (steps_of_event p s e))
 
 -- the step that settles the running group, from which on its facts are kept
 abbrev pub SettlesItsGroup : ℕ → ℕ → List Fact → Heard → NodeState → Type 0
-SettlesItsGroup n p facts h s = (w : World) (group : List Fact) → s.running ≡ Some group → IsInWorld false n p facts h s w → IsRunFrom n w (Settle p (length group) ∷ []) × IsInWorld true n p facts h s (after_steps w (Settle p (length group) ∷ []))
+SettlesItsGroup n p facts h s =
+    (w : World) (group : List Fact) → s.running ≡ Some group → IsInWorld false n p facts h s w
+    → IsRunFrom n w (Settle p (length group) ∷ []) × IsInWorld true n p facts h s (after_steps w (Settle p (length group) ∷ []))
 
 -- marking a settled group is no step
 abbrev pub MarksWhatIsSettled : ℕ → ℕ → List Fact → Heard → NodeState → Type 0
@@ -66,7 +72,9 @@ PutsBackItsGroup n p facts h s = (w : World) → IsInWorld false n p facts h s w
 
 -- the node may go down at any time: what is kept and staged stays
 abbrev pub GoesDown : Bool → ℕ → ℕ → List Fact → Heard → NodeState → Type 0
-GoesDown settled n p facts h s = (w : World) → IsInWorld settled n p facts h s w → IsRunFrom n w (GoDown p ∷ []) × IsDownIn p (w.kept p) (w.staged p) (after_steps w (GoDown p ∷ []))
+GoesDown settled n p facts h s =
+    (w : World) → IsInWorld settled n p facts h s w
+    → IsRunFrom n w (GoDown p ∷ []) × IsDownIn p (w.kept p) (w.staged p) (after_steps w (GoDown p ∷ []))
 
 -- what a restart of node p reports
 abbrev pub report_of : ℕ → NodeState → world.Told
@@ -75,7 +83,14 @@ report_of p s = Reported p (length (decided_prefix s)) (registry_of (decided_pre
 -- a node that is down may restart over the kept facts and the first so many of the staged ones where these fit: the
 -- world has it as its opening leaves it, and tells of its decided prefix
 abbrev pub Restarts : ℕ → ℕ → List Fact → List Fact → ℕ → Type 0
-Restarts n p kept staged count = (w : World) → p < n → IsDownIn p kept staged w → count ≤ length staged → all_fit n p [] (kept ++ take count staged) ≡ true → IsRunFrom n w (Restart p count ∷ []) × IsInWorld false n p (kept ++ take count staged) nothing_heard (opened_over n p (kept ++ take count staged)) (after_steps w (Restart p count ∷ [])) × ((after_steps w (Restart p count ∷ [])).trace ≡ w.trace ++ report_of p (opened_over n p (kept ++ take count staged)) ∷ [])
+Restarts n p kept staged count =
+    (w : World) → p < n → IsDownIn p kept staged w → count ≤ length staged
+    → all_fit n p [] (kept ++ take count staged) ≡ true
+    → IsRunFrom n w (Restart p count ∷ [])
+    × IsInWorld false n p (kept ++ take count staged) nothing_heard (opened_over n p (kept ++ take count staged))
+    (after_steps w (Restart p count ∷ []))
+    × ((after_steps w (Restart p count ∷ [])).trace
+    ≡ w.trace ++ report_of p (opened_over n p (kept ++ take count staged)) ∷ [])
 
 -- the node at which a step happens
 abbrev pub node_of : Step → ℕ
@@ -118,8 +133,12 @@ told_by_event p s Grouped = []
 told_by_event p s PutBack = []
 told_by_event p s Marked = []
 told_by_event p s Left = option_map_or (λ m. Sent m ∷ []) (next_leaving s) []
-told_by_event p s Answered = option_map_or (λ q. option_map_or (λ reply. Acknowledged p q reply ∷ []) (told_reply s q) []) (next_acknowledged s) []
+told_by_event p s Answered =
+    option_map_or (λ q. option_map_or (λ reply. Acknowledged p q reply ∷ []) (told_reply s q) []) (next_acknowledged s) []
 
 -- the steps of an event add just that to the wire and the trace
 abbrev pub SaysJustThat : ℕ → NodeState → NodeEvent → Type 0
-SaysJustThat p s e = (w : World) → ((after_steps w (steps_of_event p s e)).wire ≡ w.wire ++ sent_by_event s e) × ((after_steps w (steps_of_event p s e)).trace ≡ w.trace ++ told_by_event p s e)
+SaysJustThat p s e =
+    (w : World)
+    → ((after_steps w (steps_of_event p s e)).wire ≡ w.wire ++ sent_by_event s e)
+    × ((after_steps w (steps_of_event p s e)).trace ≡ w.trace ++ told_by_event p s e)

@@ -125,7 +125,9 @@ StagesOnlyLawful n p facts h s (e ∷ es) =
 
 -- node p of n, opened over these facts, stages only lawful facts, whatever happens at it
 abbrev pub IsLawfulNode : ℕ → ℕ → List Fact → Type 0
-IsLawfulNode n p facts = (es : List NodeEvent) → AreEventsOfNodes n es → StagesOnlyLawful n p facts nothing_heard (started n p (promise_of facts) (length facts)) es
+IsLawfulNode n p facts =
+    (es : List NodeEvent) → AreEventsOfNodes n es
+    → StagesOnlyLawful n p facts nothing_heard (started n p (promise_of facts) (length facts)) es
 
 -- an acknowledgement is of a round above 0, as all rounds of messages are
 abbrev pub HasRound : Body → Type 0
@@ -164,7 +166,8 @@ pub record IsTruthful (p : ℕ) (facts : List Fact) (h : Heard) (s : NodeState) 
   -- an owed message that waits for fact number k is backed by the facts up to that one
   pub owed : (o : Owed) (k : ℕ) → Contains s.owed o → o.backing ≡ Some k → HasRound o.message.body → IsBacked o.message.body (take (k + 1) facts)
   -- a message that leaves is its own, backed by marked facts, and a request in it was submitted here
-  pub leaving : (m : Message) → next_leaving s ≡ Some m → HasRound m.body → (m.from ≡ p) × IsBacked m.body (marked_facts facts s) × IsOfSubmitted m.body h.commands
+  pub leaving : (m : Message) → next_leaving s ≡ Some m → HasRound m.body
+      → (m.from ≡ p) × IsBacked m.body (marked_facts facts s) × IsOfSubmitted m.body h.commands
   -- its decided prefix is that of the marked facts
   pub prefix : decided_prefix s ≡ world.decided_prefix (marked_facts facts s)
   -- a request that it acknowledges has a reply by that prefix
@@ -177,4 +180,6 @@ StaysTruthful p facts h s (e ∷ es) = IsTruthful p facts h s × StaysTruthful p
 
 -- node p of n, opened over these facts, says only what its facts back, whatever happens at it
 abbrev pub IsTruthfulNode : ℕ → ℕ → List Fact → Type 0
-IsTruthfulNode n p facts = (es : List NodeEvent) → AreEventsOfNodes n es → StaysTruthful p facts nothing_heard (started n p (promise_of facts) (length facts)) es
+IsTruthfulNode n p facts =
+    (es : List NodeEvent) → AreEventsOfNodes n es
+    → StaysTruthful p facts nothing_heard (started n p (promise_of facts) (length facts)) es

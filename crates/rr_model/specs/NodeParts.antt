@@ -119,7 +119,8 @@ restate i s = standing (standing_at s i)
     standing (Some (Decided v)) = s
     standing (Some (Open o)) =
         (if nat_lt o.stamp o.round
-        then owe (say.Estimate i (record { round = o.round; stamp = o.stamp; command = o.estimate })) (Some (backing_at (λ b. b.entered) s i)) (coordinator_of o.round s.nodes ∷ []) s
+        then owe (say.Estimate i (record { round = o.round; stamp = o.stamp; command = o.estimate }))
+        (Some (backing_at (λ b. b.entered) s i)) (coordinator_of o.round s.nodes ∷ []) s
         else owe (say.Ack i o.round) (Some (backing_at (λ b. b.adopted) s i)) (coordinator_of o.round s.nodes ∷ []) s)
         ▷ proposing o.round o.proposal
 

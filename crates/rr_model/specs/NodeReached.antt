@@ -47,7 +47,9 @@ pub data IsReached (n p : ℕ) : List Fact → Heard → NodeState → Type 0 wh
   -- it was opened
   Opened : (facts : List Fact) → all_fit n p [] facts ≡ true → IsReached n p facts nothing_heard (opened_over n p facts)
   -- one more event happened
-  Happened : (facts : List Fact) (h : Heard) (s : NodeState) (e : NodeEvent) → IsReached n p facts h s → IsProperEvent n e → IsReached n p (facts ++ facts_of_event s e) (heard_after p h e) (after_event s e)
+  Happened : (facts : List Fact) (h : Heard) (s : NodeState) (e : NodeEvent) → IsReached n p facts h s
+      → IsProperEvent n e
+      → IsReached n p (facts ++ facts_of_event s e) (heard_after p h e) (after_event s e)
 
 -- an event stages its facts behind the others, and they are lawful
 abbrev pub StagesLawfully : ℕ → ℕ → List Fact → Heard → NodeState → NodeEvent → Type 0

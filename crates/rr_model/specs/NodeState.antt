@@ -127,7 +127,10 @@ first_undecided s = undecided_from 0 s.rows
 -- the count lowest undecided instances from i on, ascending
 abbrev pub lowest_undecided : ℕ → ℕ → List Row → List ℕ
 lowest_undecided zero i rows = []
-lowest_undecided (suc count) i rows = if nat_lt (undecided_from i rows) 1048576 then undecided_from i rows ∷ lowest_undecided count (undecided_from i rows + 1) rows else []
+lowest_undecided (suc count) i rows =
+    if nat_lt (undecided_from i rows) 1048576
+    then undecided_from i rows ∷ lowest_undecided count (undecided_from i rows + 1) rows
+    else []
 
 -- the open instances: the eight lowest undecided ones
 unfoldable pub open_instances : NodeState → List ℕ

@@ -84,7 +84,12 @@ change_tally i change s = option_map_or (λ (row : Row). record s { rows = put_r
 
 -- the coordinator keeps an estimate of q
 unfoldable pub count_estimate : ℕ → ℕ → Estimated → NodeState → NodeState
-count_estimate i q e s = change_tally i (λ (t : Tally). record t { estimates = with_vote (record { sender = q; stamp = e.stamp; command = e.command }) t.estimates }) s
+count_estimate i q e s =
+    change_tally i
+    (λ (t : Tally). record t {
+      estimates = with_vote (record { sender = q; stamp = e.stamp; command = e.command }) t.estimates;
+    })
+    s
 
 -- q joins the acknowledgements, or the refusals
 unfoldable pub count_ack : ℕ → ℕ → NodeState → NodeState
@@ -128,7 +133,11 @@ if_open i q change s = if is_open s i then change s else ask (q ∷ []) s
 unfoldable pub heard_body : ℕ → Body → NodeState → NodeState
 heard_body q (Estimate i e) s =
     if is_undecided (standing_at s i)
-    then if_open i q (λ t. if coordinator_of e.round t.nodes == t.node then t ▷ pool_add e.command ▷ catch_up i e.round e.command ▷ take_estimate i q e else t) s
+    then if_open i q
+    (λ t. if coordinator_of e.round t.nodes == t.node
+    then t ▷ pool_add e.command ▷ catch_up i e.round e.command ▷ take_estimate i q e
+    else t)
+    s
     else answer i q s
 heard_body q (Proposal i r v) s =
     if is_undecided (standing_at s i)
@@ -196,7 +205,10 @@ group_put_back s = record s { running = None; staged = option_map_or (λ facts. 
 
 -- the running group is marked: its facts are promised for good
 unfoldable pub marked_running : NodeState → NodeState
-marked_running s = option_map_or (λ facts. record s { running = None; marked = take_on_all s.marked facts; marked_end = s.marked_end + length facts }) s.running s
+marked_running s =
+    option_map_or
+    (λ facts. record s { running = None; marked = take_on_all s.marked facts; marked_end = s.marked_end + length facts })
+    s.running s
 
 -- whether a message may leave: it is free, or the fact that backs it is marked
 abbrev pub may_leave : ℕ → Owed → Bool
@@ -230,7 +242,12 @@ acknowledged s = record s { waiting = without_first_held (decided_prefix s) s.wa
 
 -- the row of a promised entry: a fact from before the opening counts as the last one below its end
 abbrev pub promised_row : ℕ → Entry → Row
-promised_row next e = record { instance = e.instance; standing = e.standing; backing = (let k = next - 1 in record { entered = k; proposed = k; adopted = k; decided = k }); tally = no_votes }
+promised_row next e = record {
+  instance = e.instance;
+  standing = e.standing;
+  backing = (let k = next - 1 in record { entered = k; proposed = k; adopted = k; decided = k });
+  tally = no_votes;
+}
 
 -- a node that knows its facts and nothing else
 abbrev pub restored : ℕ → ℕ → List Entry → ℕ → NodeState

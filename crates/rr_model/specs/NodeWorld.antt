@@ -36,7 +36,8 @@ steps_of_event p s Grouped = []
 steps_of_event p s PutBack = []
 steps_of_event p s Marked = Settle p (length (option_map_or (λ group. group) s.running [])) ∷ []
 steps_of_event p s Left = option_map_or (λ m. Send p m ∷ []) (next_leaving s) []
-steps_of_event p s Answered = option_map_or (λ q. option_map_or (λ reply. Acknowledge p q reply ∷ []) (told_reply s q) []) (next_acknowledged s) []
+steps_of_event p s Answered =
+    option_map_or (λ q. option_map_or (λ reply. Acknowledge p q reply ∷ []) (told_reply s q) []) (next_acknowledged s) []
 
 -- the world has node p of n up in this state, with these facts, after what it heard: its marked facts are kept, the
 -- others staged, and what was submitted here was submitted
@@ -67,13 +68,19 @@ MayCome w p s Answered = Unit {0}
 
 -- an event of the node is a run of the world's steps, behind which the world has the node as the event left it
 abbrev pub IsRunOfSteps : ℕ → ℕ → List Fact → Heard → NodeState → NodeEvent → Type 0
-IsRunOfSteps n p facts h s e = (w : World) → IsAtNode n p facts h s w → MayCome w p s e → IsRunFrom n w (steps_of_event p s e) × IsAtNode n p (facts ++ facts_of_event s e) (heard_after p h e) (after_event s e) (after_steps w (steps_of_event p s e))
+IsRunOfSteps n p facts h s e =
+    (w : World) → IsAtNode n p facts h s w → MayCome w p s e
+    → IsRunFrom n w (steps_of_event p s e)
+    × IsAtNode n p (facts ++ facts_of_event s e) (heard_after p h e) (after_event s e) (after_steps w (steps_of_event p s e))
 
 -- that holds of each of these events in turn
 abbrev pub FollowsTheWorld : ℕ → ℕ → List Fact → Heard → NodeState → List NodeEvent → Type 0
 FollowsTheWorld n p facts h s [] = Unit {0}
-FollowsTheWorld n p facts h s (e ∷ es) = IsRunOfSteps n p facts h s e × FollowsTheWorld n p (facts ++ facts_of_event s e) (heard_after p h e) (after_event s e) es
+FollowsTheWorld n p facts h s (e ∷ es) =
+    IsRunOfSteps n p facts h s e × FollowsTheWorld n p (facts ++ facts_of_event s e) (heard_after p h e) (after_event s e) es
 
 -- node p of n, opened over these facts, does nothing but steps of the world, whatever happens at it
 abbrev pub IsWorldlyNode : ℕ → ℕ → List Fact → Type 0
-IsWorldlyNode n p facts = (es : List NodeEvent) → AreEventsOfNodes n es → FollowsTheWorld n p facts nothing_heard (started n p (promise_of facts) (length facts)) es
+IsWorldlyNode n p facts =
+    (es : List NodeEvent) → AreEventsOfNodes n es
+    → FollowsTheWorld n p facts nothing_heard (started n p (promise_of facts) (length facts)) es

@@ -104,7 +104,9 @@ abbrev pub IsAnewSpelt : opening.Phase → Type 0
 IsAnewSpelt opening.Settling = Unit {0}
 IsAnewSpelt opening.ReadingFirst = Unit {0}
 IsAnewSpelt (opening.ReadingSecond first) = Unit {0}
-IsAnewSpelt (opening.Rewriting found calls) = (n p : ℕ) → n ≤ 7 → IsSnapshot (opening.snapshot_with n p (content_anew found)) → IsLawfulSnapshot (opening.snapshot_with n p (content_anew found))
+IsAnewSpelt (opening.Rewriting found calls) =
+    (n p : ℕ) → n ≤ 7 → IsSnapshot (opening.snapshot_with n p (content_anew found))
+    → IsLawfulSnapshot (opening.snapshot_with n p (content_anew found))
 
 -- the group that a node is flushing has a spelling, or the snapshot to which it switches or that its opening writes
 abbrev pub IsSpelt : Doing → Type 0
@@ -122,12 +124,20 @@ StartsInStep n p = p < n → InStep n p (new_seat n p) empty_world
 
 -- each event of a node in step is a run of steps that keeps it so
 abbrev pub StepsInStep : ℕ → ℕ → Type 0
-StepsInStep n p = (event : NodeEvent) (seat next : Seat) (w : World) (answer : Result Outcome Refusal) → InStep n p seat w → MayCome n p w event → Gives event seat answer next → IsSpelt next.doing → GoesOn n p (MayBe p event) w answer next
+StepsInStep n p =
+    (event : NodeEvent) (seat next : Seat) (w : World) (answer : Result Outcome Refusal) → InStep n p seat w
+    → MayCome n p w event → Gives event seat answer next → IsSpelt next.doing
+    → GoesOn n p (MayBe p event) w answer next
 
 -- so is each failing device call, whose fill is of bytes
 abbrev pub FailsInStep : ℕ → ℕ → Type 0
-FailsInStep n p = (fill : List ℕ) (seat next : Seat) (w : World) (answer : Result Outcome Refusal) → All (λ b. b < 256) fill → InStep n p seat w → Fails fill seat answer next → GoesOn n p (MayFall p) w answer next
+FailsInStep n p =
+    (fill : List ℕ) (seat next : Seat) (w : World) (answer : Result Outcome Refusal) → All (λ b. b < 256) fill
+    → InStep n p seat w → Fails fill seat answer next
+    → GoesOn n p (MayFall p) w answer next
 
 -- and each crash, whose fill is of bytes
 abbrev pub CrashesInStep : ℕ → ℕ → Type 0
-CrashesInStep n p = (cut_first cut_second : ℕ) (fill : List ℕ) (seat : Seat) (w : World) → All (λ b. b < 256) fill → InStep n p seat w → GoesOn n p (MayFall p) w (Ok Quiet) (crashed cut_first cut_second fill seat)
+CrashesInStep n p =
+    (cut_first cut_second : ℕ) (fill : List ℕ) (seat : Seat) (w : World) → All (λ b. b < 256) fill → InStep n p seat w
+    → GoesOn n p (MayFall p) w (Ok Quiet) (crashed cut_first cut_second fill seat)

@@ -23,7 +23,8 @@ use Rattle.rr_journal.specs.OtherAreas.{other_area, closes_in}
 use Rattle.rr_journal.specs.Switches.{switch_calls}
 use Rattle.rr_journal.specs.Openings.{Phase, Settling, After, Goes, Opens, Stops, due_call, after_opening_call}
 
--- a job: none, the device calls that are left of a flush, a synced group that isn't marked yet, or the calls that are left of a switch
+-- a job: none, the device calls that are left of a flush, a synced group that isn't marked yet, or the calls that are left of
+-- a switch
 pub data Flush : Type 0 where
   Resting : Flush
   Writing : List Call → Flush
@@ -43,7 +44,8 @@ pub data Doing : Type 0 where
   Opening : Phase → Doing
   Serving : NodeState → Journaled → Flush → Doing
 
--- a node and its disk: how many nodes there are, which it is, what it does, what its areas hold, and how many device calls were made
+-- a node and its disk: how many nodes there are, which it is, what it does, what its areas hold, and how many device calls
+-- were made
 pub record Seat : Type 0 where
   pub nodes : ℕ
   pub node : ℕ
@@ -53,7 +55,8 @@ pub record Seat : Type 0 where
 
 -- node p of n, which was never started, over an empty disk
 abbrev pub new_seat : ℕ → ℕ → Seat
-new_seat n p = record { nodes = n; node = p; doing = Stopped; areas = record { first = at_rest []; second = at_rest [] }; calls = 0 }
+new_seat n p =
+    record { nodes = n; node = p; doing = Stopped; areas = record { first = at_rest []; second = at_rest [] }; calls = 0 }
 
 -- the seat after one more device call, which left the areas so
 abbrev pub called : Areas → Seat → Seat
@@ -79,7 +82,8 @@ goes_on outcome doing seat = (Ok outcome, record seat { doing = doing })
 abbrev pub serves : Area → Content → Seat → Answer
 serves area c seat =
     let s = started seat.nodes seat.node c.promise c.next in
-    goes_on (Opened c.next (length (decided_prefix s)) (registry_of (decided_prefix s))) (Serving s (record { area = area; gate = c.gate; epoch = c.epoch }) Resting) seat
+    goes_on (Opened c.next (length (decided_prefix s)) (registry_of (decided_prefix s)))
+    (Serving s (record { area = area; gate = c.gate; epoch = c.epoch }) Resting) seat
 
 -- the bytes that a device call reads
 abbrev pub read_by : Call → Areas → List ℕ
@@ -96,34 +100,47 @@ opens_on seat (Stops e) = (Err e, record seat { doing = Stopped })
 -- the next device call of an opening
 abbrev pub open_on : Seat → Phase → Answer
 open_on seat phase =
-    opens_on (called (after_call (due_call phase) seat.areas) seat) (after_opening_call seat.nodes seat.node (read_by (due_call phase) seat.areas) phase)
+    opens_on (called (after_call (due_call phase) seat.areas) seat)
+    (after_opening_call seat.nodes seat.node (read_by (due_call phase) seat.areas) phase)
 
 -- where the journal appends once the running group is on the disk
 abbrev pub journal_behind : NodeState → Journaled → Journaled
-journal_behind s journal = record journal { gate = journal.gate + 5 + option_map_or (λ g. length (group_bytes g)) (running_group s) 0 }
+journal_behind s journal =
+    record journal { gate = journal.gate + 5 + option_map_or (λ g. length (group_bytes g)) (running_group s) 0 }
 
 -- the snapshot of the marked facts with the next epoch
 abbrev pub snapshot_of : NodeState → Journaled → Snapped
-snapshot_of s journal = record { node = s.node; nodes = s.nodes; epoch = journal.epoch + 1; next = s.marked_end; entries = s.marked }
+snapshot_of s journal =
+    record { node = s.node; nodes = s.nodes; epoch = journal.epoch + 1; next = s.marked_end; entries = s.marked }
 
 -- where the journal appends once the other area is active: behind that snapshot
 abbrev pub journal_switched : NodeState → Journaled → Journaled
-journal_switched s journal = record { area = other_area journal.area; gate = 5 + length (snapshot_bytes (snapshot_of s journal)); epoch = journal.epoch + 1 }
+journal_switched s journal =
+    record {
+      area = other_area journal.area;
+      gate = 5 + length (snapshot_bytes (snapshot_of s journal));
+      epoch = journal.epoch + 1;
+    }
 
 -- the next device call of a job
 abbrev pub flush_on : NodeState → Journaled → Seat → Flush → Answer
 flush_on s journal seat Resting = (Ok Quiet, seat)
 flush_on s journal seat Flushed = (Ok Quiet, seat)
 flush_on s journal seat (Writing []) = (Ok Quiet, seat)
-flush_on s journal seat (Writing (call ∷ [])) = goes_on Quiet (Serving s (journal_behind s journal) Flushed) (called (after_call call seat.areas) seat)
-flush_on s journal seat (Writing (call ∷ next ∷ calls)) = goes_on Quiet (Serving s journal (Writing (next ∷ calls))) (called (after_call call seat.areas) seat)
+flush_on s journal seat (Writing (call ∷ [])) =
+    goes_on Quiet (Serving s (journal_behind s journal) Flushed) (called (after_call call seat.areas) seat)
+flush_on s journal seat (Writing (call ∷ next ∷ calls)) =
+    goes_on Quiet (Serving s journal (Writing (next ∷ calls))) (called (after_call call seat.areas) seat)
 flush_on s journal seat (Switching []) = (Ok Quiet, seat)
-flush_on s journal seat (Switching (call ∷ [])) = goes_on Quiet (Serving s (journal_switched s journal) Resting) (called (after_call call seat.areas) seat)
-flush_on s journal seat (Switching (call ∷ next ∷ calls)) = goes_on Quiet (Serving s journal (Switching (next ∷ calls))) (called (after_call call seat.areas) seat)
+flush_on s journal seat (Switching (call ∷ [])) =
+    goes_on Quiet (Serving s (journal_switched s journal) Resting) (called (after_call call seat.areas) seat)
+flush_on s journal seat (Switching (call ∷ next ∷ calls)) =
+    goes_on Quiet (Serving s journal (Switching (next ∷ calls))) (called (after_call call seat.areas) seat)
 
 -- an input to a serving node
 abbrev pub told : Input → NodeState → Journaled → Flush → Seat → Answer
-told input s journal flush seat = option_map_or (λ e. refuse e seat) (refusal_of input s) (goes_on Quiet (Serving (node_step input s) journal flush) seat)
+told input s journal flush seat =
+    option_map_or (λ e. refuse e seat) (refusal_of input s) (goes_on Quiet (Serving (node_step input s) journal flush) seat)
 
 -- the group that a flush would write
 abbrev pub payload_of : NodeState → List ℕ
@@ -148,7 +165,10 @@ may_snap s journal = nat_lt (journal.epoch + 1) (2 ^ 64) && nat_lt (6 + length (
 abbrev pub snap_up : NodeState → Journaled → Flush → Seat → Answer
 snap_up s journal Resting seat =
     if may_snap s journal
-    then goes_on Quiet (Serving s journal (Switching (switch_calls (other_area journal.area) (closes_in seat.areas (other_area journal.area)) (snapshot_bytes (snapshot_of s journal))))) seat
+    then goes_on Quiet
+    (Serving s journal (Switching (switch_calls (other_area journal.area)
+    (closes_in seat.areas (other_area journal.area)) (snapshot_bytes (snapshot_of s journal)))))
+    seat
     else refuse because.TooLarge seat
 snap_up s journal (Writing calls) seat = refuse because.Busy seat
 snap_up s journal Flushed seat = refuse because.Busy seat
@@ -163,11 +183,16 @@ mark_up s journal Flushed seat = goes_on Quiet (Serving (marked_running s) journ
 
 -- the oldest message that may leave goes
 abbrev pub send_off : NodeState → Journaled → Flush → Seat → Answer
-send_off s journal flush seat = option_map_or (λ m. goes_on (Left m) (Serving (message_left s) journal flush) seat) (next_leaving s) (Ok Quiet, seat)
+send_off s journal flush seat =
+    option_map_or (λ m. goes_on (Left m) (Serving (message_left s) journal flush) seat) (next_leaving s) (Ok Quiet, seat)
 
 -- the oldest decided request that waits is acknowledged
 abbrev pub reply_off : NodeState → Journaled → Flush → Seat → Answer
-reply_off s journal flush seat = option_map_or (λ q. option_map_or (λ reply. goes_on (Replied q reply) (Serving (acknowledged s) journal flush) seat) (reply_of (decided_prefix s) q) (Ok Quiet, seat)) (next_acknowledged s) (Ok Quiet, seat)
+reply_off s journal flush seat =
+    option_map_or
+    (λ q. option_map_or (λ reply. goes_on (Replied q reply) (Serving (acknowledged s) journal flush) seat)
+    (reply_of (decided_prefix s) q) (Ok Quiet, seat))
+    (next_acknowledged s) (Ok Quiet, seat)
 
 -- an event at a serving node
 abbrev pub serve : NodeState → Journaled → Flush → Seat → NodeEvent → Answer
@@ -223,7 +248,8 @@ by_doing event seat (Serving s journal flush) = serve s journal flush seat event
 
 -- after a crash the areas hold what the cuts and the fill leave, and the node is down
 abbrev pub crashed : ℕ → ℕ → List ℕ → Seat → Seat
-crashed cut_first cut_second fill seat = record seat { doing = Stopped; areas = restarted (crash_images cut_first cut_second fill seat.areas) }
+crashed cut_first cut_second fill seat =
+    record seat { doing = Stopped; areas = restarted (crash_images cut_first cut_second fill seat.areas) }
 
 -- what an event answers, and the node after it, where memory is there
 abbrev pub seat_step : NodeEvent → Seat → Answer

@@ -111,7 +111,9 @@ IsFlushOf s j (flush.Body job) = IsJobOf s j job
 IsFlushOf s j (flush.BodyOut job) = IsJobOf s j job
 IsFlushOf s j (flush.BodySafe job) = IsJobOf s j job
 IsFlushOf s j (flush.GateSet job) = IsJobOf s j job
-IsFlushOf s j (flush.Flushed synced) = (synced.node ≡ s.node) × (running_group s ≡ Some synced.group) × (j.busy ≡ false) × (j.next ≡ synced.group.serial + length synced.group.facts)
+IsFlushOf s j (flush.Flushed synced) =
+    (synced.node ≡ s.node) × (running_group s ≡ Some synced.group) × (j.busy ≡ false)
+    × (j.next ≡ synced.group.serial + length synced.group.facts)
 IsFlushOf s j (flush.Switching job) = IsSwitchOf s j job
 
 -- the journal has noted whether the other area has to be closed; in a switch that area looks formatted once its gate is open
@@ -170,7 +172,9 @@ CarriesOn event s answer new = (n p : ℕ) → Carries n p event (does.Serving s
 
 -- the next device call of a job of a node with this core leads to this job over this journal, or is refused and the node has failed
 abbrev pub StepsOn : NodeState → Journal NodeDisk → code_2.Flush → Result code_2.Flush Refusal → Journal NodeDisk → Type 0
-StepsOn s j f (Ok next) k = CarriesOn at.Device (record { core = s; slots = j; flush = f }) (Ok Quiet) (does.Serving (record { core = s; slots = k; flush = next }))
+StepsOn s j f (Ok next) k =
+    CarriesOn at.Device (record { core = s; slots = j; flush = f }) (Ok Quiet)
+    (does.Serving (record { core = s; slots = k; flush = next }))
 StepsOn s j f (Err e) k = CarriesOn at.Device (record { core = s; slots = j; flush = f }) (Err e) (does.Faulted k.disk)
 
 -- a journal is node p's of n, rests and hasn't failed

@@ -125,7 +125,19 @@ is_settled (Switching calls) = false
 
 -- a journal of so many facts that appends there
 abbrev pub journal_at : ℕ → ℕ → Journaled → ℕ → Journal (Unit {0})
-journal_at n p journal next = record { disk = tt; nodes = n; node = p; area = journal.area; epoch = journal.epoch; gate = journal.gate; next = next; failed = false; busy = false; closes_other = true }
+journal_at n p journal next =
+    record {
+      disk = tt;
+      nodes = n;
+      node = p;
+      area = journal.area;
+      epoch = journal.epoch;
+      gate = journal.gate;
+      next = next;
+      failed = false;
+      busy = false;
+      closes_other = true;
+    }
 
 -- a flush of the running group at one of its moments, over a disk at rest
 pub record IsFlushing (n p : ℕ) (s : NodeState) (journal : Journaled) (start : Images) (both : Areas) (calls : List Call) : Type 0 where
@@ -143,7 +155,16 @@ snapshot_over n p journal kept = record { node = p; nodes = n; epoch = journal.e
 
 -- the switch to it in the other area, at one of its stages
 abbrev pub switch_at : ℕ → ℕ → Journaled → List Fact → slots.Stage → Switch
-switch_at n p journal kept stage = record { nodes = n; node = p; area = other_area journal.area; epoch = journal.epoch + 1; next = length kept; body = frame_bytes (snapshot_bytes (snapshot_over n p journal kept)); stage = stage }
+switch_at n p journal kept stage =
+    record {
+      nodes = n;
+      node = p;
+      area = other_area journal.area;
+      epoch = journal.epoch + 1;
+      next = length kept;
+      body = frame_bytes (snapshot_bytes (snapshot_over n p journal kept));
+      stage = stage;
+    }
 
 -- a switch to the snapshot of the kept facts at one of its stages; no group runs
 pub record IsSwitchingTo (n p : ℕ) (s : NodeState) (journal : Journaled) (kept : List Fact) (start : Images) (both : Areas) (calls : List Call) : Type 0 where

@@ -1,3 +1,4 @@
+-- The search through the owed messages finds and removes the first that may leave, which is the node's own and backed.
 use Rattle.std.proofs.Common.{◌≡◌, ◌⊎◌, inl, inr, ◌+◌, ◌<◌, ◌≤◌, ℕ, suc, arith, Bool, true, false, cond, List, [], ◌∷◌, ◌++◌, length, get_or, take, drop, ap, sym, subst, ◌∙◌, refl, append_assoc, Option, Some, None}
 use Rattle.std.specs.Prelude.{find}
 use Rattle.std.specs.List.{remove}

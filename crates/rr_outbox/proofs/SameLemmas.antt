@@ -1,3 +1,4 @@
+-- The tests for equal facts pass exactly for equal ones.
 use Rattle.std.proofs.Common.{◌≡◌, ◌<◌, ◌≤◌, ◌+◌, ℕ, arith, Bool, true, false, ◌&&◌, ◌==◌, eqb, ap, sym, ◌∙◌, refl, List, [], ◌∷◌, length, get_or, drop, IsTrue}
 use Rattle.std.specs.Str.{bytes_eq}
 use Rattle.std.proofs.lemmas.Slice.Eq.{bytes_eq-Decides}

@@ -60,7 +60,9 @@ abbrev pub CountsAtEnd : {D : Type 0} → (D → Areas) → Progress D → Type 
 CountsAtEnd areas (progress.More o) = Unit {0}
 CountsAtEnd areas (progress.Done core slots) = HoldSoMany slots.nodes slots.node (areas slots.disk) core.marked_end
 
-module _ {D : Type 0} (of_read : D → Area → ℕ → ℕ → Result (Vec ℕ Global) Refusal → D → Type 0) (of_write : D → Area → ℕ → List ℕ → Result (Unit {0}) Refusal → D → Type 0) (of_sync : D → Result (Unit {0}) Refusal → D → Type 0) where
+module _ {D : Type 0} (of_read : D → Area → ℕ → ℕ → Result (Vec ℕ Global) Refusal → D → Type 0)
+    (of_write : D → Area → ℕ → List ℕ → Result (Unit {0}) Refusal → D → Type 0)
+    (of_sync : D → Result (Unit {0}) Refusal → D → Type 0) where
   -- the last step of the journal's opening was made, and memory is wanting for the core
   abbrev pub WantsCore : OpeningState D → Result (Progress D) (Refusal × D) → Type 0
   WantsCore o result =

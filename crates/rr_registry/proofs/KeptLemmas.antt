@@ -1,3 +1,4 @@
+-- The bound names and kept replies are those of the commands applied, and of each request number the first counts.
 use Rattle.std.proofs.Common.{◌≡◌, ℕ, Bool, true, false, cond, List, [], ◌∷◌, ◌++◌, None, Some, Option, Ordering, is_some, refl, sym, ap, ◌∙◌, arith, ◌==◌}
 use Rattle.std.specs.declared.cmp.Ordering.TheVariants.{Less, Equal, Greater}
 use Rattle.std.specs.Ordering.{is_eq}

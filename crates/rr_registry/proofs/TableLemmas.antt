@@ -1,3 +1,4 @@
+-- Names and requests compare as equal exactly where they are, and a command keeps its places where the tables do.
 use Rattle.std.proofs.Common.{◌≡◌, ℕ, Bool, true, false, cond, List, [], ◌∷◌, Some, Ordering, refl, ap, ◌∙◌, arith, IsTrue, ◌==◌, ◌&&◌}
 use Rattle.std.specs.declared.cmp.Ordering.TheVariants.{Less, Equal, Greater}
 use Rattle.std.specs.Ordering.{is_eq, nat_cmp, ordering_then}

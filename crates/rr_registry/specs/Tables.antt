@@ -72,7 +72,8 @@ effected m name (Bind h) = bind m name h.owner h.value
 effected m name (Replace h) = bind m name h.owner h.value
 effected m name Free = unbind m name
 
--- whether an operation can have this effect, by who has its name and how many names are bound: a claim binds a free name while there is room, the others are about a bound name
+-- whether an operation can have this effect, by who has its name and how many names are bound: a claim binds a free name
+-- while there is room, the others are about a bound name
 abbrev pub CanHave : ℕ → Option Holding → Op → Effect → Type 0
 CanHave bound held op Nothing = ⊤
 CanHave bound held op (Bind h) = IsTrue (is_claim op) × (held ≡ None) × (bound < 4096)
@@ -92,11 +93,15 @@ HasNoFreeName t = (n : List ℕ) → IsTrue (has_name_place t n) → IsTrue (is_
 
 -- the free places of names are of these commands: each other name with a place is bound
 abbrev pub HasFreeNamesOnlyFor : Tables → List Command → Type 0
-HasFreeNamesOnlyFor t cs = (n : List ℕ) → IsTrue (has_name_place t.names n) → IsTrue (is_some (holding_of (bindings_in t.names) n) || list_any (λ c. may_free c.op n) cs)
+HasFreeNamesOnlyFor t cs =
+    (n : List ℕ) → IsTrue (has_name_place t.names n)
+    → IsTrue (is_some (holding_of (bindings_in t.names) n) || list_any (λ c. may_free c.op n) cs)
 
 -- the free places of requests are of these commands: each other request with one has a reply
 abbrev pub HasFreeRepliesOnlyFor : Tables → List Command → Type 0
-HasFreeRepliesOnlyFor t cs = (q : RequestNo) → IsTrue (has_reply_place t q) → IsTrue (is_some (kept_reply (kept_in t) q) || list_any (λ c. is_same_request c.request q) cs)
+HasFreeRepliesOnlyFor t cs =
+    (q : RequestNo) → IsTrue (has_reply_place t q)
+    → IsTrue (is_some (kept_reply (kept_in t) q) || list_any (λ c. is_same_request c.request q) cs)
 
 -- the free places are of these commands
 pub record HasFreeOnlyFor (t : Tables) (cs : List Command) : Type 0 where

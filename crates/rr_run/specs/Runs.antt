@@ -28,7 +28,9 @@ pub data EndsOnFolders (tape : Option Text) (status : ℕ) (old new : Printing) 
 -- a run of n nodes on the bytes of a script: in threads; or the bytes are no script for n nodes, and standard output is as
 -- it was
 pub data EndsOnScript (n : ℕ) (tape : Option Text) (bytes : List ℕ) (status : ℕ) (old new : Printing) : Type 0 where
-  asked : (script : Scripted) → IsScript script → script.nodes ≡ n → bytes ≡ script_text script.lines → EndsOnFolders tape status old new → EndsOnScript n tape bytes status old new
+  asked : (script : Scripted) → IsScript script → script.nodes ≡ n → bytes ≡ script_text script.lines
+      → EndsOnFolders tape status old new
+      → EndsOnScript n tape bytes status old new
   faulty : (refusal : Refusal) → IsScriptFault n bytes refusal → status ≡ status_of refusal → new ≡ old → EndsOnScript n tape bytes status old new
 
 -- a run by words: of the number of nodes that a word names, or it names none from 1 to 7
@@ -61,6 +63,8 @@ AsksForThreads task = ⊥
 -- the program with threads, by words: a run, or a shell, or what the program without threads does, or no memory even to read them
 pub data EndsWithThreads (faults : Kinds) (task : Task) (from to : Reading) (status : ℕ) (old new : Printing) : Type 0 where
   by_script : (asks : AsksForRun task) → faults ≡ [] → EndsOnRun asks.nodes asks.tape status old new → EndsWithThreads faults task from to status old new
-  by_shell : (asks : AsksForShell task) → faults ≡ [] → EndsOnShellWords asks.nodes asks.client asks.json from to status old new → EndsWithThreads faults task from to status old new
+  by_shell : (asks : AsksForShell task) → faults ≡ []
+      → EndsOnShellWords asks.nodes asks.client asks.json from to status old new
+      → EndsWithThreads faults task from to status old new
   by_others : (faults ≡ [] → AsksForThreads task → ⊥) → EndsWithViews faults task from to status old new → EndsWithThreads faults task from to status old new
   out_of_memory : status ≡ 6 → new ≡ old → EndsWithThreads faults task from to status old new

@@ -22,8 +22,9 @@ abbrev pub EndsOnTalk : Result (Unit {0}) Stop → ℕ → Type 0
 EndsOnTalk (Ok done) status = (status ≡ 0) ⊎ IsRefusedBy status
 EndsOnTalk (Err stop) status = IsRefusedBy status
 
--- a shell over folders, with n nodes, that answers with JSON or not: a talk that is over; or one that is over or broken off, and the run, memory or a stream has
--- failed; or it doesn't begin, as the folders or the request numbers are refused, and nothing is read or printed
+-- a shell over folders, with n nodes, that answers with JSON or not: a talk that is over; or one that is over or broken off,
+-- and the run, memory or a stream has failed; or it doesn't begin, as the folders or the request numbers are refused, and
+-- nothing is read or printed
 pub data EndsOnShell (json : Bool) (n : ℕ) (from to : Reading) (status : ℕ) (old new : Printing) : Type 0 where
   talked : HasTalked json n from to old new → status ≡ 0 → EndsOnShell json n from to status old new
   failed : HasTalked json n from to old new → IsRefusedBy status → EndsOnShell json n from to status old new
@@ -32,5 +33,9 @@ pub data EndsOnShell (json : Bool) (n : ℕ) (from to : Reading) (status : ℕ) 
 
 -- a shell by words: of the number of nodes that a word names, for the client that a word names; or there are no such numbers
 pub data EndsOnShellWords (of_nodes : Text) (of_client : Option Text) (json : Bool) (from to : Reading) (status : ℕ) (old new : Printing) : Type 0 where
-  numbered : (n c : ℕ) → IsNumberIn 1 7 of_nodes n → IsClientBy of_client c → EndsOnShell json n from to status old new → EndsOnShellWords of_nodes of_client json from to status old new
-  unnumbered : ((n c : ℕ) → IsNumberIn 1 7 of_nodes n → IsClientBy of_client c → ⊥) → status ≡ 2 → to ≡ from → new ≡ old → EndsOnShellWords of_nodes of_client json from to status old new
+  numbered : (n c : ℕ) → IsNumberIn 1 7 of_nodes n → IsClientBy of_client c
+      → EndsOnShell json n from to status old new
+      → EndsOnShellWords of_nodes of_client json from to status old new
+  unnumbered : ((n c : ℕ) → IsNumberIn 1 7 of_nodes n → IsClientBy of_client c → ⊥) → status ≡ 2 → to ≡ from
+      → new ≡ old
+      → EndsOnShellWords of_nodes of_client json from to status old new

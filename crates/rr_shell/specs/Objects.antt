@@ -44,7 +44,9 @@ reply_members (word ∷ owner ∷ words) = text_member (codes "reply") word ++ l
 
 -- the members of a name that is bound: its owner and its value
 abbrev pub bound_members : List ℕ → ℕ → List ℕ → List ℕ
-bound_members name owner value = text_member (codes "name") name ++ number_member (codes "owner") owner ++ text_member (codes "value") (flat_map escaped_byte value)
+bound_members name owner value =
+    text_member (codes "name") name ++ number_member (codes "owner") owner
+    ++ text_member (codes "value") (flat_map escaped_byte value)
 
 -- a name that is bound
 abbrev pub bound_object : List ℕ → ℕ → List ℕ → List ℕ
@@ -75,7 +77,8 @@ node_object word p = object_line word (number_member (codes "node") p)
 abbrev pub known_members : Option Known → List ℕ
 known_members None = label (codes "up") ++ codes "false"
 known_members (Some k) =
-    (label (codes "up") ++ codes "true") ++ number_member (codes "facts") k.facts ++ number_member (codes "decided") k.decided ++ number_member (codes "suspects") k.suspects
+    (label (codes "up") ++ codes "true") ++ number_member (codes "facts") k.facts
+    ++ number_member (codes "decided") k.decided ++ number_member (codes "suspects") k.suspects
 
 -- what a node tells of itself
 abbrev pub standing_object : Standing → List ℕ

@@ -83,7 +83,8 @@ standing_line s = spaced (codes "node" ∷ decimal s.node ∷ known_words s.know
 
 -- the commands
 abbrev pub help_text : List ℕ
-help_text = codes "claim NAME [VALUE], update NAME [VALUE], release NAME, transfer NAME OWNER, look NAME, list [PREFIX], at NODE, stop NODE, start NODE, snapshot NODE, status, help or quit"
+help_text =
+    codes "claim NAME [VALUE], update NAME [VALUE], release NAME, transfer NAME OWNER, look NAME, list [PREFIX], at NODE, stop NODE, start NODE, snapshot NODE, status, help or quit"
 
 -- the line that names them
 abbrev pub help_line : List ℕ

@@ -57,7 +57,9 @@ at_node p at starved event c = option_map_or (λ seat. with_answer p at c (if st
 
 -- the next device call of node p, failing
 abbrev pub fail_at : ℕ → ℕ → Bool → List ℕ → Cluster → Cluster
-fail_at p at starved fill c = option_map_or (λ seat. with_answer p at c (if starved then starve_fails fill seat else seat_fails fill seat)) (slice_get c.seats p) c
+fail_at p at starved fill c =
+    option_map_or (λ seat. with_answer p at c (if starved then starve_fails fill seat else seat_fails fill seat))
+    (slice_get c.seats p) c
 
 -- hearing a message of the wire; one that isn't there or is for another node does nothing
 abbrev pub hear_at : ℕ → ℕ → Bool → ℕ → Cluster → Cluster
@@ -65,7 +67,9 @@ hear_at p at starved k c = option_map_or (λ m. if m.to == p then at_node p at s
 
 -- a crash of node p
 abbrev pub crash_at : ℕ → ℕ → ℕ → List ℕ → Cluster → Cluster
-crash_at p cut_first cut_second fill c = option_map_or (λ seat. record c { seats = slice_set c.seats p (crashed cut_first cut_second fill seat) }) (slice_get c.seats p) c
+crash_at p cut_first cut_second fill c =
+    option_map_or (λ seat. record c { seats = slice_set c.seats p (crashed cut_first cut_second fill seat) })
+    (slice_get c.seats p) c
 
 -- what the event of a line does to a cluster
 abbrev pub event_step : ℕ → Bool → Event → Cluster → Cluster

@@ -40,7 +40,8 @@ pub record IsRestartBehind (n p : ℕ) (events : List Event) (restart : ReportLi
   pub one_list : AgreesWithOneList events report
   pub real_time : KeepsRealTime n events report
   pub clean : IsOnlyOneIfClean n events report
-  pub keeps_what_it_acknowledged : (q : RequestNo) (reply : Reply) → Contains earlier (line.Ack p q reply) → IsTrue (has_request (take decided report.decided) q)
+  pub keeps_what_it_acknowledged : (q : RequestNo) (reply : Reply) → Contains earlier (line.Ack p q reply)
+      → IsTrue (has_request (take decided report.decided) q)
 
 -- the lines of a device call of node p, behind these events that end with it: one for each of these endings, by a word, each
 -- the restart behind these events, the crash that ends the call so, and the opening of the node
@@ -85,7 +86,8 @@ pub record HasSwept (n m seed : ℕ) (events : List Event) (lines : List SweepLi
   pub leads : LeadsSpelt 2 events (new_cluster n) cluster
   pub in_memory : LeadsInMemory 2 events (new_cluster n) cluster
   pub kept : sweeping.cluster ≡ record cluster { lines = [] }
-  pub swept : (more : List Event) (rest : List SweepLine) → AreSwept n events sweeping.generator more rest → AreSwept n [] (seeded seed) (events ++ more) (lines ++ rest)
+  pub swept : (more : List Event) (rest : List SweepLine) → AreSwept n events sweeping.generator more rest
+      → AreSwept n [] (seeded seed) (events ++ more) (lines ++ rest)
 
 -- a sweep has come behind these events, and this one, on this line, is the next: an event among m nodes at one of the n
 pub record IsNext (n m seed : ℕ) (events : List Event) (lines : List SweepLine) (at : ℕ) (e : Event) (sweeping : Sweeping) : Type 0 where

@@ -66,7 +66,9 @@ pub data Grants (json : Bool) (n p : ℕ) : ShellLine → ℕ → List ℕ → T
 -- asks for nothing; nothing to an empty line; and that a line is too long
 pub data Exchange (json : Bool) (n p : ℕ) : Heard → ℕ → List ℕ → Type 0 where
   empty : (line : Vec ℕ Global) → line.items ≡ [] → Exchange json n p (heard.Line line) p []
-  granted : (line : Vec ℕ Global) (asks : ShellLine) (q : ℕ) (said : List ℕ) → shell_line_at n line.items ≡ Ok asks → Grants json n p asks q said → Exchange json n p (heard.Line line) q said
+  granted : (line : Vec ℕ Global) (asks : ShellLine) (q : ℕ) (said : List ℕ)
+      → shell_line_at n line.items ≡ Ok asks → Grants json n p asks q said
+      → Exchange json n p (heard.Line line) q said
   faulty : (line : Vec ℕ Global) (fault : LineFault) → shell_line_at n line.items ≡ Err fault → Exchange json n p (heard.Line line) p (fault_said json n fault)
   too_long : Exchange json n p heard.TooLong p (fault_said json n TooLong)
 

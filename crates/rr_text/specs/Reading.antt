@@ -128,7 +128,13 @@ op_at text = cut_at 32 text >>= λ w. verb_at w.0 >>= λ v. target_at v w.1
 
 -- a command as the words of a submit have it
 abbrev pub submitted_at : List ℕ → Option Command
-submitted_at text = cut_at 32 text >>= λ c. small_at c.0 >>= λ client. cut_at 32 c.1 >>= λ s. number_at s.0 >>= λ seq. op_at s.1 >>= λ op. Some (record { request = record { client = client; seq = seq }; op = op })
+submitted_at text =
+    cut_at 32 text >>= λ c.
+    small_at c.0 >>= λ client.
+    cut_at 32 c.1 >>= λ s.
+    number_at s.0 >>= λ seq.
+    op_at s.1 >>= λ op.
+    Some (record { request = record { client = client; seq = seq }; op = op })
 
 -- the word of each event
 abbrev pub keyword_text : Keyword → List ℕ
@@ -157,7 +163,13 @@ first_node_at n text = cut_at 32 text >>= λ w. node_at n w.0 >>= λ p. Some (p,
 
 -- the two cuts of a crash and its fill
 abbrev pub cuts_at : List ℕ → Option (ℕ × ℕ × List ℕ)
-cuts_at text = cut_at 32 text >>= λ a. small_at a.0 >>= λ cut_0. cut_at 32 a.1 >>= λ b. small_at b.0 >>= λ cut_1. fill_at b.1 >>= λ fill. Some (cut_0, cut_1, fill)
+cuts_at text =
+    cut_at 32 text >>= λ a.
+    small_at a.0 >>= λ cut_0.
+    cut_at 32 a.1 >>= λ b.
+    small_at b.0 >>= λ cut_1.
+    fill_at b.1 >>= λ fill.
+    Some (cut_0, cut_1, fill)
 
 -- the event of this keyword at a node, where that is all that it says
 abbrev pub plain_at : Keyword → ℕ → Option Event

@@ -1,3 +1,4 @@
+-- A longer list gives the replies of its beginnings, and requests that test as equal are equal.
 use Rattle.std.proofs.Common.{◌≡◌, true, List, Some, subst}
 use mathlib.Core.List.{IsPrefix}
 use Rattle.rr_types.specs.declared.command.Command.{Command}

@@ -23,7 +23,8 @@ IsAnswered q a _ = ⊥
 -- client then knows; where nothing is seen, it knows what it knew
 abbrev pub IsSeen : List ℕ → Asking → Asking → Answer → Type 0
 IsSeen name before a (Free p n) = (p ≡ a.node) × (n ≡ name) × (holding_of (registry_of a.known) name ≡ None)
-IsSeen name before a (Bound p n owner value) = (p ≡ a.node) × (n ≡ name) × (holding_of (registry_of a.known) name ≡ Some (record { owner = owner; value = value }))
+IsSeen name before a (Bound p n owner value) =
+    (p ≡ a.node) × (n ≡ name) × (holding_of (registry_of a.known) name ≡ Some (record { owner = owner; value = value }))
 IsSeen name before a (Unseen p n) = (p ≡ a.node) × (n ≡ name) × (a ≡ before)
 IsSeen name before a _ = ⊥
 

@@ -1,3 +1,4 @@
+-- A set of nodes stays below 128 when a node joins, and two sets are joined node by node.
 use Rattle.std.proofs.Common.{◌≡◌, ◌≢◌, ◌+◌, ◌*◌, ◌/◌, ◌%◌, ◌^◌, ◌<◌, ℕ, zero, suc, arith, false, refl, if◌then◌else◌}
 use Rattle.std.proofs.lemmas.Bool.{eqb-false}
 use Rattle.rr_types.specs.Nodes.{has_member, with_member, joined_below}

@@ -1,3 +1,4 @@
+-- A text written over the first of 64 zeros is padded as a short text is.
 use Rattle.std.proofs.Common.{◌≡◌, ◌≤◌, ℕ, List, ◌++◌, length, drop, ◌∙◌, arith}
 use Rattle.std.proofs.lemmas.List.{drop-replicate}
 use Rattle.std.proofs.Math.Seq.{drop-append_seam}

@@ -1,3 +1,4 @@
+-- A fact that fits is of the instance's present round, if it is an Adopt.
 use Rattle.std.proofs.Common.{◌≡◌, refl, ℕ, Bool, true, false, ◌&&◌, ◌==◌, Option}
 use Rattle.std.proofs.lemmas.Bool.{false≢true, eqb-true}
 use Rattle.rr_types.specs.declared.fact.Fact.{Fact}

@@ -22,7 +22,10 @@ standing_in (e ∷ es) i = if e.instance == i then Some e.standing else standing
 -- the entries with this standing of instance i, in their order; no standing leaves them
 abbrev pub set_entry : ℕ → Standing → List Entry → List Entry
 set_entry i s [] = record { instance = i; standing = s } ∷ []
-set_entry i s (e ∷ es) = if nat_lt i e.instance then record { instance = i; standing = s } ∷ e ∷ es else (if i == e.instance then record { instance = i; standing = s } ∷ es else e ∷ set_entry i s es)
+set_entry i s (e ∷ es) =
+    if nat_lt i e.instance
+    then record { instance = i; standing = s } ∷ e ∷ es
+    else (if i == e.instance then record { instance = i; standing = s } ∷ es else e ∷ set_entry i s es)
 
 -- the entries with this standing of instance i, if there is one
 abbrev pub set_standing : ℕ → Option Standing → List Entry → List Entry

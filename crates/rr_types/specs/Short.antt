@@ -10,7 +10,11 @@ pub record IsPadded (len : ℕ) (bytes : List ℕ) : Type 0 where
   pub zeros : drop len bytes ≡ replicate (64 - len) 0
 
 -- the fields follow from the text alone
-pub inverse-view : (s : Inside) → IsPadded s.len s.bytes → (let make : ℕ → List ℕ → Inside = (λ n b. record { len = n; bytes = b }) in make (length (take s.len s.bytes)) (take s.len s.bytes ++ replicate (64 - length (take s.len s.bytes)) 0) ≡ s)
+pub inverse-view : (s : Inside) → IsPadded s.len s.bytes
+    → (let make : ℕ → List ℕ → Inside = (λ n b. record { len = n; bytes = b })
+    in make (length (take s.len s.bytes))
+    (take s.len s.bytes ++ replicate (64 - length (take s.len s.bytes)) 0)
+    ≡ s)
 inverse-view s h =
     let make : ℕ → List ℕ → Inside = (λ n b. record { len = n; bytes = b }) in
     let front : length (take s.len s.bytes) ≡ s.len = length-take-le s.len s.bytes (omega (arith, h.whole, h.short)) in

@@ -45,18 +45,25 @@ Shows (shown.Statistics Json) account text = AreObjects 1 text
 -- a view of the run of the schedule that bytes are: a text that shows it is printed; or the bytes are no schedule or memory
 -- was wanting, and standard output is as it was
 pub data EndsOnShown (how : Shown) (bytes : List ℕ) (status : ℕ) (old new : Printing) : Type 0 where
-  viewed : (account : Accounted) (text : List ℕ) → IsAccountOn bytes account → Shows how account text → Prints text status old new → EndsOnShown how bytes status old new
+  viewed : (account : Accounted) (text : List ℕ) → IsAccountOn bytes account → Shows how account text
+      → Prints text status old new
+      → EndsOnShown how bytes status old new
   refused : (refusal : Refusal) → IsFault IsEvent event_line bytes refusal → status ≡ status_of refusal → new ≡ old → EndsOnShown how bytes status old new
 
 -- a comparison of the report of the schedule that bytes are with a text: they are the same, and nothing is printed; or they
 -- differ, and a text on that is printed; or the bytes are no schedule or memory was wanting, and standard output is as it was
 pub data EndsOnCompared (bytes text : List ℕ) (status : ℕ) (old new : Printing) : Type 0 where
-  same : (account : Accounted) → IsAccountOn bytes account → text ≡ report_text account.report → status ≡ 0 → new ≡ old → EndsOnCompared bytes text status old new
-  other : (account : Accounted) (told : List ℕ) (printing : ℕ) → IsAccountOn bytes account → text ≢ report_text account.report → Prints told printing old new → status ≡ different printing → EndsOnCompared bytes text status old new
+  same : (account : Accounted) → IsAccountOn bytes account → text ≡ report_text account.report → status ≡ 0
+      → new ≡ old
+      → EndsOnCompared bytes text status old new
+  other : (account : Accounted) (told : List ℕ) (printing : ℕ) → IsAccountOn bytes account
+      → text ≢ report_text account.report → Prints told printing old new → status ≡ different printing
+      → EndsOnCompared bytes text status old new
   refused : (refusal : Refusal) → IsFault IsEvent event_line bytes refusal → status ≡ status_of refusal → new ≡ old → EndsOnCompared bytes text status old new
 
 -- a run on a file: on its bytes, in this way; or it can't be read, and standard output is as it was
-pub data EndsOnRead (On : List ℕ → Reading → ℕ → Printing → Printing → Type 0) (file : Option Text) (from to : Reading) (status : ℕ) (old new : Printing) : Type 0 where
+pub data EndsOnRead (On : List ℕ → Reading → ℕ → Printing → Printing → Type 0) (file : Option Text)
+    (from to : Reading) (status : ℕ) (old new : Printing) : Type 0 where
   read : (bytes : List ℕ) (between : Reading) → IsReadFor file from between bytes → On bytes between status old new → EndsOnRead On file from to status old new
   unread : IsUnreadFor file from to status → new ≡ old → EndsOnRead On file from to status old new
 
@@ -65,10 +72,13 @@ abbrev pub EndsOnView : View → Reading → Reading → ℕ → Printing → Pr
 EndsOnView (Report file) from to status old new = EndsOnRead (λ bytes between. EndsOnShown shown.Report bytes) file from to status old new
 EndsOnView (Explanation form file) from to status old new = EndsOnRead (λ bytes between. EndsOnShown (shown.Explanation form) bytes) file from to status old new
 EndsOnView (Statistics form file) from to status old new = EndsOnRead (λ bytes between. EndsOnShown (shown.Statistics form) bytes) file from to status old new
-EndsOnView (Comparison file report) from to status old new = EndsOnRead (λ bytes between. EndsOnRead (λ text last. EndsOnCompared bytes text) report between to) file from to status old new
+EndsOnView (Comparison file report) from to status old new =
+    EndsOnRead (λ bytes between. EndsOnRead (λ text last. EndsOnCompared bytes text) report between to)
+    file from to status old new
 
 -- the program with views, by words: a view, or what the program without views does, or no memory even to read them
 pub data EndsWithViews (faults : Kinds) (task : Task) (from to : Reading) (status : ℕ) (old new : Printing) : Type 0 where
   by_view : (view : View) → faults ≡ [] → task ≡ Viewing view → EndsOnView view from to status old new → EndsWithViews faults task from to status old new
-  by_others : (faults ≡ [] → (view : View) → task ≡ Viewing view → ⊥) → EndsBy faults task from to status old new → EndsWithViews faults task from to status old new
+  by_others : (faults ≡ [] → (view : View) → task ≡ Viewing view → ⊥) → EndsBy faults task from to status old new
+      → EndsWithViews faults task from to status old new
   out_of_memory : status ≡ 6 → new ≡ old → EndsWithViews faults task from to status old new

@@ -49,7 +49,11 @@ with_arg line rule = with_rule line rule
 
 -- the subcommand sim, with a FILE that may be left out, and the options for reasons and for JSON
 unfoldable pub sim_line : App
-sim_line = with_arg (with_arg (with_arg (new_app (codes "sim")) (word_rule (codes "FILE") false)) (flag_rule (codes "EXPLAIN") (codes "explain"))) (flag_rule (codes "JSON") (codes "json"))
+sim_line =
+    with_arg (with_arg (with_arg (new_app (codes "sim"))
+    (word_rule (codes "FILE") false))
+    (flag_rule (codes "EXPLAIN") (codes "explain")))
+    (flag_rule (codes "JSON") (codes "json"))
 
 -- the subcommand stats, with a FILE that may be left out, and the option for JSON
 unfoldable pub stats_line : App
@@ -66,13 +70,19 @@ show_line = with_arg (new_app (codes "show")) (word_rule (codes "DIR") true)
 -- the subcommand random, with a seed, a number of steps and a number of nodes
 unfoldable pub numbers_line : App
 numbers_line =
-    with_arg (with_arg (with_arg (new_app (codes "random")) (number_rule (codes "SEED") (codes "seed") 0 18446744073709551615)) (number_rule (codes "STEPS") (codes "steps") 0 999930)) (number_rule (codes "NODES") (codes "nodes") 1 7)
+    with_arg (with_arg (with_arg (new_app (codes "random"))
+    (number_rule (codes "SEED") (codes "seed") 0 18446744073709551615))
+    (number_rule (codes "STEPS") (codes "steps") 0 999930))
+    (number_rule (codes "NODES") (codes "nodes") 1 7)
 
 -- the same with the option for lively schedules, the number of their faults, which may be left out, and the option for the
 -- schedule alone
 unfoldable pub random_line : App
 random_line =
-    with_arg (with_arg (with_arg numbers_line (flag_rule (codes "LIVELY") (codes "lively"))) (optional_number_rule (codes "FAULTS") (codes "faults") 0 1000)) (flag_rule (codes "ALONE") (codes "schedule-only"))
+    with_arg (with_arg (with_arg numbers_line
+    (flag_rule (codes "LIVELY") (codes "lively")))
+    (optional_number_rule (codes "FAULTS") (codes "faults") 0 1000))
+    (flag_rule (codes "ALONE") (codes "schedule-only"))
 
 -- the subcommand audit, with a FILE that may be left out
 unfoldable pub audit_line : App
@@ -83,7 +93,10 @@ audit_line = with_arg (new_app (codes "audit")) (word_rule (codes "FILE") false)
 unfoldable pub run_line : App
 run_line =
     with_arg
-    (with_arg (with_arg (with_arg (new_app (codes "run")) (number_rule (codes "NODES") (codes "nodes") 1 7)) (option_rule (codes "DIR") (codes "dir") true)) (option_rule (codes "SCRIPT") (codes "script") true))
+    (with_arg (with_arg (with_arg (new_app (codes "run"))
+    (number_rule (codes "NODES") (codes "nodes") 1 7))
+    (option_rule (codes "DIR") (codes "dir") true))
+    (option_rule (codes "SCRIPT") (codes "script") true))
     (option_rule (codes "TAPE") (codes "tape") false)
 
 -- the subcommand shell, with a number of nodes, the folder of their folders, the number of a client, which may be left out, and
@@ -91,7 +104,10 @@ run_line =
 unfoldable pub shell_line : App
 shell_line =
     with_arg
-    (with_arg (with_arg (with_arg (new_app (codes "shell")) (number_rule (codes "NODES") (codes "nodes") 1 7)) (option_rule (codes "DIR") (codes "dir") true)) (optional_number_rule (codes "CLIENT") (codes "client") 0 4294967295))
+    (with_arg (with_arg (with_arg (new_app (codes "shell"))
+    (number_rule (codes "NODES") (codes "nodes") 1 7))
+    (option_rule (codes "DIR") (codes "dir") true))
+    (optional_number_rule (codes "CLIENT") (codes "client") 0 4294967295))
     (flag_rule (codes "JSON") (codes "json"))
 
 -- the subcommand sweep, with a FILE that may be left out, and a seed
@@ -103,13 +119,20 @@ unfoldable pub draw_line : App
 draw_line =
     with_arg
     (with_arg
-    (with_arg (with_arg (with_arg (new_app (codes "draw")) (word_rule (codes "FILE") false)) (optional_number_rule (codes "FROM") (codes "from") 1 4294967295)) (optional_number_rule (codes "TO") (codes "to") 1 4294967295))
+    (with_arg (with_arg (with_arg (new_app (codes "draw"))
+    (word_rule (codes "FILE") false))
+    (optional_number_rule (codes "FROM") (codes "from") 1 4294967295))
+    (optional_number_rule (codes "TO") (codes "to") 1 4294967295))
     (optional_number_rule (codes "NODE") (codes "node") 0 6))
     (optional_number_rule (codes "INSTANCE") (codes "instance") 0 1048575)
 
 -- the subcommand migrate, with a DIR, the number of a node and a number of nodes
 unfoldable pub migrate_line : App
-migrate_line = with_arg (with_arg (with_arg (new_app (codes "migrate")) (word_rule (codes "DIR") true)) (number_rule (codes "NODE") (codes "node") 0 6)) (number_rule (codes "NODES") (codes "nodes") 1 7)
+migrate_line =
+    with_arg (with_arg (with_arg (new_app (codes "migrate"))
+    (word_rule (codes "DIR") true))
+    (number_rule (codes "NODE") (codes "node") 0 6))
+    (number_rule (codes "NODES") (codes "nodes") 1 7)
 
 -- a command with a version
 unfoldable pub with_version : App → App
@@ -125,7 +148,9 @@ and_also above below = with_subcommand above below.top
 
 -- the command line of rr with the subcommands on schedules
 unfoldable pub schedule_lines : App
-schedule_lines = and_also (and_also (and_also (and_also (and_also (and_also (rr_settings (new_app (codes "rr"))) sim_line) stats_line) check_line) random_line) sweep_line) draw_line
+schedule_lines =
+    and_also (and_also (and_also (and_also (and_also (and_also (rr_settings (new_app (codes "rr")))
+    sim_line) stats_line) check_line) random_line) sweep_line) draw_line
 
 -- the command line of rr
 unfoldable pub rr_line : App

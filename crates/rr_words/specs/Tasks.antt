@@ -49,12 +49,13 @@ pub data View : Type 0 where
   Comparison : Option Text → Option Text → View
 
 -- what a command asks for: the report of the schedule in this file or else in standard input; or a view of its run; or the
--- areas of the disk in this folder; or a random schedule by these words; or the audit of the tape in this file or else in standard input; or a run of this number of
--- nodes in threads, over the folders in this folder, by the script in this file, with its tape in this file or none; or a run
--- of this number of nodes over the folders in this folder, whom standard input asks as this client or as client 0, answered with
--- JSON or not; or a sweep of the schedule in this file or else in standard input, with this seed, which only wrong words leave out; or the
--- picture of the schedule in this file or else in standard input, of the cut that these words write; or an opening of the
--- disk in this folder as that of this node of so many, all of which only wrong words leave out, and its areas then
+-- areas of the disk in this folder; or a random schedule by these words; or the audit of the tape in this file or else in
+-- standard input; or a run of this number of nodes in threads, over the folders in this folder, by the script in this file,
+-- with its tape in this file or none; or a run of this number of nodes over the folders in this folder, whom standard input
+-- asks as this client or as client 0, answered with JSON or not; or a sweep of the schedule in this file or else in standard
+-- input, with this seed, which only wrong words leave out; or the picture of the schedule in this file or else in standard
+-- input, of the cut that these words write; or an opening of the disk in this folder as that of this node of so many, all of
+-- which only wrong words leave out, and its areas then
 pub data Task : Type 0 where
   Simulate : Option Text → Task
   Viewing : View → Task
@@ -78,7 +79,13 @@ is_set id rows = option_map_or (λ value. bytes_eq value (codes "true")) (first_
 
 -- the words of a cut among these arguments
 abbrev pub cut_words_of : List Row → CutWords
-cut_words_of rows = record { from = first_of (codes "FROM") rows; to = first_of (codes "TO") rows; node = first_of (codes "NODE") rows; instance = first_of (codes "INSTANCE") rows }
+cut_words_of rows =
+    record {
+      from = first_of (codes "FROM") rows;
+      to = first_of (codes "TO") rows;
+      node = first_of (codes "NODE") rows;
+      instance = first_of (codes "INSTANCE") rows;
+    }
 
 -- how something is printed, by the option for JSON
 abbrev pub form_of : List Row → Form
@@ -149,12 +156,24 @@ task_of words = option_map_or task_by (found_in words) (Simulate None)
 -- the words of a cut that were read so
 abbrev pub cut_words_in : code_words.CutWords → CutWords
 cut_words_in words =
-    record { from = option_map (λ s. s.now) words.from; to = option_map (λ s. s.now) words.to; node = option_map (λ s. s.now) words.node; instance = option_map (λ s. s.now) words.instance }
+    record {
+      from = option_map (λ s. s.now) words.from;
+      to = option_map (λ s. s.now) words.to;
+      node = option_map (λ s. s.now) words.node;
+      instance = option_map (λ s. s.now) words.instance;
+    }
 
 -- the words of a random schedule that were read so
 abbrev pub draw_words_in : code_draws.DrawWords → DrawWords
 draw_words_in words =
-    record { seed = option_map (λ s. s.now) words.seed; steps = option_map (λ s. s.now) words.steps; nodes = option_map (λ s. s.now) words.nodes; lively = words.lively; faults = option_map (λ s. s.now) words.faults; alone = words.alone }
+    record {
+      seed = option_map (λ s. s.now) words.seed;
+      steps = option_map (λ s. s.now) words.steps;
+      nodes = option_map (λ s. s.now) words.nodes;
+      lively = words.lively;
+      faults = option_map (λ s. s.now) words.faults;
+      alone = words.alone;
+    }
 
 -- what is shown that was read so
 abbrev pub view_in : view.View → View
@@ -170,7 +189,9 @@ task_in (read.View v) = Viewing (view_in v)
 task_in (read.Show folder) = Show (option_map (λ s. s.now) folder)
 task_in (read.Draw words) = Draw (draw_words_in words)
 task_in (read.Audit file) = Audit (option_map (λ s. s.now) file)
-task_in (read.Run nodes dir script tape) = Run (option_map (λ s. s.now) nodes) (option_map (λ s. s.now) dir) (option_map (λ s. s.now) script) (option_map (λ s. s.now) tape)
+task_in (read.Run nodes dir script tape) =
+    Run (option_map (λ s. s.now) nodes) (option_map (λ s. s.now) dir) (option_map (λ s. s.now) script)
+    (option_map (λ s. s.now) tape)
 task_in (read.Shell nodes dir client json) = Shell (option_map (λ s. s.now) nodes) (option_map (λ s. s.now) dir) (option_map (λ s. s.now) client) json
 task_in (read.Sweep file seed) = Sweep (option_map (λ s. s.now) file) (option_map (λ s. s.now) seed)
 task_in (read.Picture file words) = Picture (option_map (λ s. s.now) file) (cut_words_in words)
