@@ -1,5 +1,6 @@
 use Rattle.std.specs.Prelude.{◌≡◌, ℕ, ◌<◌, true, None, Some}
 use Rattle.rr_types.specs.Standings.{round_of, is_undecided}
+use Rattle.rr_types.specs.Limits.{last_round}
 use Rattle.rr_model.specs.NodeState.{NodeState, standing_at}
 use Rattle.rr_model.specs.NodeParts.{free_command}
 use Rattle.rr_model.specs.NodeDue as model
@@ -18,7 +19,7 @@ abbrev pub MovesBelowLast : ℕ → Due → Type 0
 MovesBelowLast r (Begin i v) = Unit {0}
 MovesBelowLast r (Offer i q v) = Unit {0}
 MovesBelowLast r (Conclude i v) = Unit {0}
-MovesBelowLast r (MoveOn i) = r < 2147483647
+MovesBelowLast r (MoveOn i) = r < last_round
 
 -- an instance that begins is named by no fact, and the command is the pool's for it; one that moves on isn't in the last
 -- round; none is decided
@@ -26,4 +27,4 @@ abbrev pub CanBeCarriedOut : NodeState → Due → Type 0
 CanBeCarriedOut s (Begin i v) = (standing_at s i ≡ None) × (free_command s i ≡ Some v)
 CanBeCarriedOut s (Offer i r v) = Unit {0}
 CanBeCarriedOut s (Conclude i v) = is_undecided (standing_at s i) ≡ true
-CanBeCarriedOut s (MoveOn i) = (round_of (standing_at s i) < 2147483647) × (is_undecided (standing_at s i) ≡ true)
+CanBeCarriedOut s (MoveOn i) = (round_of (standing_at s i) < last_round) × (is_undecided (standing_at s i) ≡ true)

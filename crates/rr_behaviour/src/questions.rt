@@ -1,6 +1,7 @@
 //! Questions: what the first undecided instance has decided elsewhere.
 
 ghost use Rattle.std.specs.Prelude.{◌≡◌, ◌<◌, ◌&&◌, not, [], ◌∷◌, None, IfErr, OnOk, if◌then◌else◌};
+ghost use Rattle.rr_types.specs.Limits.{instance_count};
 ghost use Rattle.rr_model.specs.NodeState.{first_undecided, others};
 ghost use Rattle.rr_model.specs.NodeStep.{is_list_full, is_behind, ask};
 ghost use Rattle.rr_step.specs.Steps.{stepped};
@@ -10,7 +11,7 @@ use rr_types::{Body, Instance, NodeId, Refusal};
 
 /// The node asks another what the first undecided instance has decided.
 pub fn ask(step: &mut Step<'_>, to: NodeId) -> Result<(), Refusal>
-    requires { first_undecided step.old.state < 1048576 }
+    requires { first_undecided step.old.state < instance_count }
     ensures ok { OnOk result (step.new ≡ stepped (ask (to ∷ [])) step.old) }
     ensures err { IfErr result (λ e. e ≡ Refusal.OutOfMemory) }
 {

@@ -2,6 +2,7 @@ use Rattle.std.specs.Prelude.{◌≡◌, ℕ, ◌≤◌, ◌++◌, [], List, len
 use Rattle.std.specs.Option.{option_map_or}
 use Rattle.rr_types.specs.declared.fact.Fact.{Fact}
 use Rattle.rr_types.specs.Promises.{standing_in, take_on_all, all_fit, IsAscending}
+use Rattle.rr_types.specs.Limits.{max_group}
 use Rattle.rr_model.specs.NodeState.{NodeState, standing_at}
 
 -- the facts that aren't marked yet, oldest first
@@ -14,4 +15,4 @@ pub record IsLawful (s : NodeState) : Type 0 where
   pub ascends : IsAscending s.marked
   pub fits : all_fit s.nodes s.node s.marked (unmarked_facts s) ≡ true
   pub stands : (i : ℕ) → standing_at s i ≡ standing_in (take_on_all s.marked (unmarked_facts s)) i
-  pub few : IfSome s.running (λ facts. (1 ≤ length facts) × (length facts ≤ 64))
+  pub few : IfSome s.running (λ facts. (1 ≤ length facts) × (length facts ≤ max_group))

@@ -5,6 +5,7 @@ use Rattle.rr_types.specs.declared.command.Op.{Op}
 use Rattle.rr_types.specs.declared.command.Op.TheVariants.{Claim, Update, Release, Transfer}
 use Rattle.rr_types.specs.declared.command.Command.{Command}
 use Rattle.rr_types.specs.Names.{IsValue, is_name_byte, is_value_byte}
+use Rattle.rr_types.specs.Limits.{max_text}
 use Rattle.rr_frame.specs.Numbers.{number_bytes}
 use Rattle.rr_frame.specs.declared.version.Version.{Version}
 use Rattle.rr_frame.specs.declared.version.Version.TheVariants.{Two}
@@ -57,7 +58,7 @@ name_at version bytes = do
 unfoldable pub value_at : List ℕ → Reading (List ℕ)
 value_at bytes = do
   count ← number_at 1 bytes
-  count ← if_lawful (nat_le count.0 64) bytes count
+  count ← if_lawful (nat_le count.0 max_text) bytes count
   text_at is_value_byte count.0 count.1
 
 -- what stands behind the name, by the operation's number

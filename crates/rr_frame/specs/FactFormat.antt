@@ -4,6 +4,7 @@ use Rattle.rr_types.specs.declared.command.Command.{Command}
 use Rattle.rr_types.specs.declared.fact.Fact.{Fact}
 use Rattle.rr_types.specs.declared.fact.Fact.TheVariants.{Enter, Propose, Adopt, Decide}
 use Rattle.rr_types.specs.Rounds.{Estimated}
+use Rattle.rr_types.specs.Limits.{last_round}
 use Rattle.rr_frame.specs.Numbers.{number_bytes}
 use Rattle.rr_frame.specs.declared.version.Version.{Version}
 use Rattle.rr_frame.specs.declared.version.Version.TheVariants.{Two}
@@ -28,7 +29,7 @@ fact_bytes (Decide i v) = number_bytes 1 4 ++ (number_bytes 4 i ++ command_bytes
 
 -- a round's number
 abbrev pub IsRound : ℕ → Type 0
-IsRound r = (1 ≤ r) × (r ≤ 2147483647)
+IsRound r = (1 ≤ r) × (r ≤ last_round)
 
 -- an estimate that has a spelling in a version: its stamp lies below its round
 pub record IsLawfulEstimateIn (version : Version) (e : Estimated) : Type 0 where
@@ -60,7 +61,7 @@ instance_at version bytes = do
 unfoldable pub round_at : List ℕ → Reading ℕ
 round_at bytes = do
   round ← number_at 4 bytes
-  if_lawful (nat_le 1 round.0 && nat_le round.0 2147483647) bytes round
+  if_lawful (nat_le 1 round.0 && nat_le round.0 last_round) bytes round
 
 -- an estimate at the front
 unfoldable pub estimate_at : Version → List ℕ → Reading Estimated

@@ -3,6 +3,7 @@ use Rattle.std.specs.Prelude.{ℕ, zero, suc, ◌+◌, ◌^◌, ◌<◌, ◌≤�
 use Rattle.std.specs.List.{flat_map, AllByRecursion}
 use Rattle.rr_types.specs.declared.fact.Fact.{Fact}
 use Rattle.rr_types.specs.Groups.{Grouped}
+use Rattle.rr_types.specs.Limits.{max_group}
 use Rattle.rr_frame.specs.Numbers.{number_bytes}
 use Rattle.rr_frame.specs.declared.version.Version.{Version}
 use Rattle.rr_frame.specs.declared.version.Version.TheVariants.{Two}
@@ -16,7 +17,7 @@ group_bytes g = number_bytes 8 g.serial ++ (number_bytes 2 (length g.facts) ++ f
 -- a group that has a spelling in a version: 1 to 64 facts, whose numbers fit
 pub record IsLawfulGroupIn (version : Version) (g : Grouped) : Type 0 where
   pub some : 1 ≤ length g.facts
-  pub few : length g.facts ≤ 64
+  pub few : length g.facts ≤ max_group
   pub room : g.serial + length g.facts < 2 ^ 64
   pub facts : AllByRecursion (IsLawfulFactIn version) g.facts
 

@@ -7,6 +7,7 @@ use Rattle.rr_types.specs.declared.promise.Standing.TheVariants.{Decided, Open}
 use Rattle.rr_types.specs.declared.promise.Entry.{Entry}
 use Rattle.rr_types.specs.Promises.{AscendsFrom}
 use Rattle.rr_types.specs.Rounds.{OpenAt, coordinator_of}
+use Rattle.rr_types.specs.Limits.{max_nodes}
 use Rattle.rr_frame.specs.Numbers.{number_bytes}
 use Rattle.rr_frame.specs.declared.version.Version.{Version}
 use Rattle.rr_frame.specs.declared.version.Version.TheVariants.{Two}
@@ -74,7 +75,7 @@ IsSpellable e = (n p : ℕ) → IsTrue (proposes_lawfully n p e.standing) → Is
 -- a snapshot that has a spelling in a version
 pub record IsLawfulSnapshotIn (version : Version) (s : Snapped) : Type 0 where
   pub node : s.node < s.nodes
-  pub nodes : s.nodes ≤ 7
+  pub nodes : s.nodes ≤ max_nodes
   pub epoch : (1 ≤ s.epoch) × (s.epoch < 2 ^ 64)
   pub next : s.next < 2 ^ 64
   pub empty : s.next ≡ 0 → s.entries ≡ []
@@ -135,9 +136,9 @@ unfoldable pub owner_at : List ℕ → Reading (Version × ℕ × ℕ)
 owner_at bytes = do
   version ← version_at bytes
   node ← number_at 1 version.1
-  node ← if_lawful (nat_lt node.0 7) version.1 node
+  node ← if_lawful (nat_lt node.0 max_nodes) version.1 node
   nodes ← number_at 1 node.1
-  nodes ← if_lawful (nat_lt node.0 nodes.0 && nat_le nodes.0 7) node.1 nodes
+  nodes ← if_lawful (nat_lt node.0 nodes.0 && nat_le nodes.0 max_nodes) node.1 nodes
   Ok ((version.0, node.0, nodes.0), nodes.1)
 
 -- next fact number and entries of node p of n at the front

@@ -1,6 +1,7 @@
 -- The two versions of the bytes. Their fields are the same; they differ in what these may hold.
 use Rattle.std.specs.Prelude.{ℕ, ◌==◌, ◌||◌, if◌then◌else◌, List, ◌≤◌, length, Ok}
 use Rattle.rr_types.specs.Names.{IsName}
+use Rattle.rr_types.specs.Limits.{instance_count, max_text}
 use Rattle.rr_frame.specs.declared.version.Version.{Version}
 use Rattle.rr_frame.specs.declared.version.Version.TheVariants.{One, Two}
 use Rattle.rr_frame.specs.Reading.{Reading, ◌>>=◌, if_lawful, number_at}
@@ -13,12 +14,12 @@ version_number Two = 2
 -- the most bytes of a name
 abbrev pub longest_name : Version → ℕ
 longest_name One = 32
-longest_name Two = 64
+longest_name Two = max_text
 
 -- how many instances there are
 abbrev pub instances : Version → ℕ
 instances One = 65536
-instances Two = 1048576
+instances Two = instance_count
 
 -- how many operations there are: version 1 has no transfer
 abbrev pub operations : Version → ℕ

@@ -8,6 +8,7 @@ use Rattle.rr_types.specs.Facts.{instance_of, decision_of}
 use Rattle.rr_types.specs.declared.promise.Entry.{Entry}
 use Rattle.rr_types.specs.declared.promise.Standing.TheVariants.{Decided}
 use Rattle.rr_types.specs.Promises.{AscendsFrom, standing_in, take_on_all}
+use Rattle.rr_types.specs.Limits.{instance_count}
 use Rattle.rr_model.specs.NodeState.{decided_from}
 use Rattle.rr_places.specs.Places.{filled, has_place}
 use Rattle.rr_list.specs.declared.marks.Marks.{Marks}
@@ -39,7 +40,7 @@ pub record AreMarks (m : Marks) : Type 0 where
   pub moved : length m.commands.items ≤ m.prefix
   pub entered : AreEntered (filled m.entries.entries)
   pub behind : AscendsFrom (length m.commands.items) (entries_in (filled m.entries.entries))
-  pub instances : (i : ℕ) → 1048576 ≤ i → standing_in (marked_in m) i ≡ None
+  pub instances : (i : ℕ) → instance_count ≤ i → standing_in (marked_in m) i ≡ None
 
 -- the tree's first entry is that of the instance behind the vector, which belongs to the prefix and has decided v
 pub record IsNext (m : Marks) (v : Command) : Type 0 where
@@ -49,7 +50,7 @@ pub record IsNext (m : Marks) (v : Command) : Type 0 where
 -- the count is that of the decided prefix
 pub record IsCounted (m : Marks) : Type 0 where
   pub count : m.prefix ≡ length (decided_from 0 (marked_in m))
-  pub small : m.prefix ≤ 1048576
+  pub small : m.prefix ≤ instance_count
 
 -- each place below the count is of the decided prefix
 abbrev pub IsBegun : Marks → Type 0

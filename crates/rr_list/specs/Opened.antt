@@ -1,4 +1,5 @@
 use Rattle.std.specs.Prelude.{◌≡◌, ℕ, false, List, None}
+use Rattle.rr_types.specs.Limits.{open_count}
 use Rattle.rr_model.specs.NodeState.{Row, row_of, lowest_undecided}
 use Rattle.rr_list.specs.Rowed.{AscendFrom, AreInstances}
 use Rattle.rr_list.specs.Marked.{has_mark_place, AreMarks, IsCounted}
@@ -6,7 +7,7 @@ use Rattle.rr_list.specs.declared.marks.Marks.{Marks}
 
 -- the open instances: the eight lowest undecided ones
 unfoldable pub open_in : List Row → List ℕ
-open_in rows = lowest_undecided 8 0 rows
+open_in rows = lowest_undecided open_count 0 rows
 
 -- each instance that has a row can be marked without memory
 abbrev pub ArePlaced : List Row → Marks → Type 0

@@ -6,6 +6,7 @@ use Rattle.std.specs.Map.{lookup}
 use Rattle.rr_types.specs.declared.command.RequestNo.{RequestNo}
 use Rattle.rr_types.specs.declared.command.Command.{Command}
 use Rattle.rr_types.specs.Registry.{is_same_request}
+use Rattle.rr_types.specs.Limits.{instance_count}
 use Rattle.rr_registry.specs.Kept.{request_cmp}
 use Rattle.rr_model.specs.NodeState.{Row, row_of, put_row, decided_command}
 use Rattle.rr_places.specs.Places.{has_place}
@@ -28,7 +29,7 @@ AscendFrom low (r ∷ rs) = (low ≤ r.instance) × AscendFrom (r.instance + 1) 
 
 -- no row lies above the last instance
 abbrev pub AreInstances : List Row → Type 0
-AreInstances rows = (i : ℕ) → 1048576 ≤ i → row_of rows i ≡ None
+AreInstances rows = (i : ℕ) → instance_count ≤ i → row_of rows i ≡ None
 
 -- whether a row has decided a command with this request number
 abbrev pub has_decided : RequestNo → Row → Bool

@@ -3,6 +3,7 @@
 ghost use Rattle.std.specs.Prelude.{◌≡◌, ◌≤◌, ◌&&◌, ◌++◌, [], None, Some, map, length, slice_get, nat_lt, IfOk, IfErr, OnOk, OnErr, MatchOption};
 ghost use Rattle.std.specs.List.{list_any};
 ghost use Rattle.rr_types.specs.Promises.{IsAscending, take_on_all};
+ghost use Rattle.rr_types.specs.Limits.{instance_count};
 ghost use Rattle.rr_model.specs.NodeState.{row_of, is_decided, undecided_from, decided_from};
 ghost use Rattle.rr_model.specs.NodeStep.{promised_row};
 ghost use Rattle.rr_list.specs.Listed.{put_rows, KeepsDecisions, KeepsPromised, HaveRows, AllInRound};
@@ -93,9 +94,9 @@ impl Instances {
     /// The lowest undecided instance from this one on; 1,048,576 where there is none. Beyond the open instances it
     /// is looked for one after another.
     pub fn undecided_from(&self, from: u32) -> u32
-        requires { from ≤ 1048576 }
+        requires { from ≤ instance_count }
         ensures value { result ≡ undecided_from from self.now.rows }
-        ensures range { result ≤ 1048576 }
+        ensures range { result ≤ instance_count }
         ensures above { from ≤ result }
         ensures ascend { AscendFrom 0 self.now.rows }
     {

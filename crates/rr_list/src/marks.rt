@@ -7,6 +7,7 @@ ghost use Rattle.rr_types.specs.Facts.{instance_of, decision_of, after_fact};
 ghost use Rattle.rr_types.specs.Promises.{standing_in, set_entry, take_on, take_on_all, IsAscending};
 ghost use Rattle.rr_model.specs.NodeState.{decided_from};
 ghost use Rattle.rr_types.specs.Standings.{IsInRound};
+ghost use Rattle.rr_types.specs.Limits.{instance_count};
 ghost use Rattle.rr_list.specs.Listed.{KeepsPromised, AllInRound};
 ghost use Rattle.rr_list.specs.Marked.{marked_in, decided_entries, has_mark_place, AreMarks, IsNext, IsBegun, IsCounted, HaveMarkPlaces, facts_from, decision_after, decided_by};
 
@@ -158,7 +159,7 @@ impl Marks {
     fn decision(&self, number: u32) -> Option<Command>
         requires { AreMarks self.now }
         ensures value { result ≡ decision_of (standing_in (marked_in self.now) number) }
-        ensures range { IfSome result (λ _. number < 1048576) }
+        ensures range { IfSome result (λ _. number < instance_count) }
     {
         match self.moved(number) {
             Some(command) => Some(command),
@@ -174,7 +175,7 @@ impl Marks {
         requires marks { AreMarks self.now }
         requires behind { self.now.prefix ≤ number }
         ensures value { result ≡ is_some (decision_of (standing_in (marked_in self.now) number)) }
-        ensures range { IsTrue result → number < 1048576 }
+        ensures range { IsTrue result → number < instance_count }
     {
         match self.entry(number) {
             Some(entry) => matches!(&entry.standing, Standing::Decided(_)),
@@ -187,7 +188,7 @@ impl Marks {
         requires marks { AreMarks self.now }
         requires begun { IsBegun self.now }
         ensures value { result ≡ length (decided_from 0 (marked_in self.now)) }
-        ensures range { (self.now.prefix ≤ result) × (result ≤ 1048576) }
+        ensures range { (self.now.prefix ≤ result) × (result ≤ instance_count) }
     {
         for place in self.prefix..INSTANCES {
             if !self.has_decided(place) {
@@ -313,7 +314,7 @@ impl Marks {
         requires counted { IsCounted self.now }
         requires keeps { KeepsPromised (marked_in self.now) (take_on_all (marked_in self.now) facts.now) }
         ensures value { result ≡ decision_of (standing_in (take_on_all (marked_in self.now) facts.now) number) }
-        ensures range { IfSome result (λ _. number < 1048576) }
+        ensures range { IfSome result (λ _. number < instance_count) }
     {
         // The instance behind the prefix decides by these facts or not at all, and needs no look-up.
         if number != self.prefix {
@@ -391,7 +392,7 @@ impl Marks {
 /// The command that facts have decided for the instance with this number.
 fn decided_by(facts: &[Fact], number: u32) -> Option<Command>
     ensures value { result ≡ decided_by None number facts.now }
-    ensures range { IfSome result (λ _. number < 1048576) }
+    ensures range { IfSome result (λ _. number < instance_count) }
 {
     let mut decided = None;
     for fact in facts {

@@ -2,6 +2,7 @@
 
 ghost use Rattle.std.specs.Prelude.{◌≡◌, ◌<◌, ◌≤◌, ◌-◌, ◌++◌, ◌∷◌, List, [], length, filter, is_some, IsTrue};
 ghost use Rattle.std.specs.List.{list_any};
+ghost use Rattle.rr_types.specs.Limits.{instance_count};
 ghost use Rattle.rr_model.specs.NodeState.{is_decided, undecided_from, lowest_undecided};
 ghost use Rattle.rr_model.specs.NodeState as model;
 ghost use Rattle.rr_list.specs.Listed.{decision_at, put_rows, KeepsDecisions};
@@ -16,7 +17,7 @@ impl Rows {
     /// Whether the instance with this number has decided.
     pub(crate) fn is_decided(&self, number: u32) -> bool
         ensures value { result ≡ is_some (decision_at self.now number) }
-        ensures range { IsTrue result → number < 1048576 }
+        ensures range { IsTrue result → number < instance_count }
         ensures ascend { AscendFrom 0 self.now }
     {
         match self.row(number) {
@@ -27,9 +28,9 @@ impl Rows {
 
     /// The lowest undecided instance from this one on, found one after another.
     pub(crate) fn search(&self, from: u32) -> u32
-        requires { from ≤ 1048576 }
+        requires { from ≤ instance_count }
         ensures value { result ≡ undecided_from from self.now }
-        ensures range { result ≤ 1048576 }
+        ensures range { result ≤ instance_count }
         ensures above { from ≤ result }
     {
         for number in from..INSTANCES {
@@ -59,7 +60,7 @@ impl Rows {
     /// The instances, and behind them the lowest undecided ones from this one on, eight in all.
     #[tactic(auto, using(crate::proofs::OpenLemmas::lowest_next, crate::proofs::OpenLemmas::lowest_done, crate::proofs::OpenLemmas::push_next))]
     pub(crate) fn fill(&self, kept: Window, from: u32) -> Window
-        requires { from ≤ 1048576 }
+        requires { from ≤ instance_count }
         ensures { result ≡ kept ++ lowest_undecided (8 - length kept) from self.now }
     {
         let mut lowest = kept;
@@ -106,11 +107,11 @@ impl Rows {
     /// The lowest undecided instance from this one on. As long as it isn't above all these open instances, it is
     /// one of them.
     pub(crate) fn undecided_from(&self, window: &Window, from: u32) -> u32
-        requires range { from ≤ 1048576 }
+        requires range { from ≤ instance_count }
         requires shown { window.now ≡ open_in self.now }
         requires ascend { AscendFrom 0 self.now }
         ensures value { result ≡ undecided_from from self.now }
-        ensures range { result ≤ 1048576 }
+        ensures range { result ≤ instance_count }
         ensures above { from ≤ result }
     {
         let instances = window.as_slice();

@@ -4,6 +4,7 @@ ghost use Rattle.std.specs.Prelude.{◌≡◌, ◌<◌, ◌≤◌, ◌&&◌, ℕ
 ghost use Rattle.std.specs.List.{list_any, All};
 ghost use Rattle.std.specs.Ordering.{nat_cmp};
 ghost use Rattle.rr_types.specs.declared.command.RequestNo.{RequestNo};
+ghost use Rattle.rr_types.specs.Limits.{instance_count};
 ghost use Rattle.rr_registry.specs.Kept.{request_cmp};
 ghost use Rattle.rr_model.specs.NodeState.{row_of, put_row, is_decided, decided_command};
 ghost use Rattle.rr_model.specs.NodeState as model;
@@ -46,7 +47,7 @@ impl Model for Rows {
 fn make_row_places(map: &mut Numbered<Row>, rows: &[Row]) -> Result<(), Refusal>
     ensures filled { filled map.new ≡ filled map.old }
     ensures made { OnOk result (All (λ r. IsTrue (has_place nat_cmp map.new r.instance)) rows.now) }
-    ensures instances { OnOk result (All (λ r. r.instance < 1048576) rows.now) }
+    ensures instances { OnOk result (All (λ r. r.instance < instance_count) rows.now) }
     ensures err { IfErr result (λ e. e ≡ Refusal.OutOfMemory) }
 {
     for row in rows {
@@ -97,7 +98,7 @@ fn make_places(
     ensures requests { filled requests.new.entries ≡ filled requests.old.entries }
     ensures row_places { OnOk result (All (λ r. IsTrue (has_place nat_cmp map.new r.instance)) rows.now) }
     ensures request_places { OnOk result (All (λ r. IsTrue (has_request_place requests.new.entries r)) rows.now) }
-    ensures instances { OnOk result (All (λ r. r.instance < 1048576) rows.now) }
+    ensures instances { OnOk result (All (λ r. r.instance < instance_count) rows.now) }
     ensures err { IfErr result (λ e. e ≡ Refusal.OutOfMemory) }
 {
     make_row_places(map, rows)?;

@@ -3,6 +3,7 @@ use Rattle.std.specs.Prelude.{◌≡◌, ◌⊎◌, ℕ, ◌+◌, ◌++◌, ◌�
 use Rattle.std.specs.List.{count_by}
 use Rattle.rr_types.specs.declared.refusal.Refusal.{Refusal}
 use Rattle.rr_types.specs.declared.refusal.Refusal.TheVariants.{OutOfMemory, BadEvent}
+use Rattle.rr_types.specs.Limits.{max_events}
 use Rattle.rr_tape.specs.declared.tape_event.TapeEvent.{TapeEvent}
 use Rattle.rr_tape.specs.declared.tape_event.TapeEvent.TheVariants.{Submit, Hear, Suspect, Tick, Advance, Take, Mark, Send, Ack}
 use Rattle.rr_tape.specs.Taped.{Taped, IsTapeEvent}
@@ -36,4 +37,4 @@ with_event t e = record t { events = t.events ++ e ∷ [] }
 -- why an event isn't recorded: no memory; or its line has no place, since a million events are on the tape, or since
 -- it is none of these nodes'
 abbrev pub HasNoPlace : Taped → TapeEvent → Refusal → Type 0
-HasNoPlace t event e = (e ≡ OutOfMemory) ⊎ ((e ≡ BadEvent (length t.events + 2)) × ((length t.events ≡ 1000000) ⊎ (IsTapeEvent t.nodes event → ⊥)))
+HasNoPlace t event e = (e ≡ OutOfMemory) ⊎ ((e ≡ BadEvent (length t.events + 2)) × ((length t.events ≡ max_events) ⊎ (IsTapeEvent t.nodes event → ⊥)))

@@ -6,6 +6,7 @@ use Rattle.rr_types.specs.declared.promise.Standing.TheVariants.{Decided, Open}
 use Rattle.rr_types.specs.Standings.{round_of}
 use Rattle.rr_types.specs.Rounds.{coordinator_of, majority_of}
 use Rattle.rr_types.specs.Nodes.{has_member}
+use Rattle.rr_types.specs.Limits.{last_round}
 use Rattle.rr_model.specs.NodeState.{NodeState, Row, Vote, Tally, row_of, standing_at, open_instances, size_of}
 use Rattle.rr_types.specs.Nodes.{joined}
 use Rattle.rr_model.specs.NodeParts.{free_command, enter, propose, conclude}
@@ -46,11 +47,11 @@ abbrev pub due_of_coordinator : NodeState → ℕ → Tally → ℕ → Option C
 due_of_coordinator s i tally r None = option_map (λ v. Offer i r v) (pick s.nodes tally)
 due_of_coordinator s i tally r (Some v) =
     if is_majority s tally.acks then Some (Conclude i v)
-    else (if is_majority s (joined tally.acks tally.nacks) && nat_lt r 2147483647 then Some (MoveOn i) else None)
+    else (if is_majority s (joined tally.acks tally.nacks) && nat_lt r last_round then Some (MoveOn i) else None)
 
 -- in a round of another coordinator: move on where that node is suspected, unless the round is the last
 abbrev pub due_of_participant : NodeState → ℕ → ℕ → Option Due
-due_of_participant s i r = if has_member s.suspects (coordinator_of r s.nodes) && nat_lt r 2147483647 then Some (MoveOn i) else None
+due_of_participant s i r = if has_member s.suspects (coordinator_of r s.nodes) && nat_lt r last_round then Some (MoveOn i) else None
 
 -- what is due for a row: nothing once it has decided
 abbrev pub due_of_row : NodeState → ℕ → Tally → Standing → Option Due

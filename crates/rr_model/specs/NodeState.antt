@@ -11,6 +11,7 @@ use Rattle.rr_types.specs.Registry.{is_same_request}
 use Rattle.rr_types.specs.Standings.{is_undecided}
 use Rattle.rr_types.specs.Facts.{decision_of}
 use Rattle.rr_types.specs.Nodes.{has_member}
+use Rattle.rr_types.specs.Limits.{instance_count, open_count}
 
 -- an estimate that the coordinator of a round has heard: from whom, with its stamp
 pub record Vote : Type 0 where
@@ -128,13 +129,13 @@ first_undecided s = undecided_from 0 s.rows
 abbrev pub lowest_undecided : ℕ → ℕ → List Row → List ℕ
 lowest_undecided zero i rows = []
 lowest_undecided (suc count) i rows =
-    if nat_lt (undecided_from i rows) 1048576
+    if nat_lt (undecided_from i rows) instance_count
     then undecided_from i rows ∷ lowest_undecided count (undecided_from i rows + 1) rows
     else []
 
 -- the open instances: the eight lowest undecided ones
 unfoldable pub open_instances : NodeState → List ℕ
-open_instances s = lowest_undecided 8 0 s.rows
+open_instances s = lowest_undecided open_count 0 s.rows
 
 -- whether instance i is open
 abbrev pub is_open : NodeState → ℕ → Bool

@@ -17,6 +17,7 @@ use Rattle.rr_types.specs.Promises.{take_on_all}
 use Rattle.rr_types.specs.Rounds.{Estimated, coordinator_of}
 use Rattle.rr_types.specs.Nodes.{with_member}
 use Rattle.rr_types.specs.Registry.{is_same_request, has_request}
+use Rattle.rr_types.specs.Limits.{instance_count, last_round, max_group}
 use Rattle.rr_model.specs.NodeState.{NodeState, Row, Vote, Tally, Owed, no_votes, ◌▷◌, next_number, everyone, others, row_of, put_row, standing_at, is_decided, open_instances, is_open, first_undecided, is_decided_request, decided_prefix}
 use Rattle.rr_model.specs.NodeDetector.{new_watch, all_ticked, heard_beat, late_nodes, reduced}
 use Rattle.rr_model.specs.NodeParts.{owe, pool_add, stage, backing_at, enter, restate_all, conclude}
@@ -47,7 +48,7 @@ submitted c s =
 
 -- whether all instances are decided here
 abbrev pub is_list_full : NodeState → Bool
-is_list_full s = nat_le 1048576 (first_undecided s)
+is_list_full s = nat_le instance_count (first_undecided s)
 
 -- whether the first undecided instance has a round, or a later one is decided
 abbrev pub is_behind : NodeState → Bool
@@ -173,7 +174,7 @@ submit_refusal c s = if is_list_full s && not (is_decided_request s c.request) &
 
 -- why an advance is refused: the instance is in the last round
 abbrev pub advance_refusal : NodeState → Option Refusal
-advance_refusal s = option_map_or (λ i. if round_of (standing_at s i) == 2147483647 then Some RoundsOut else None) (lowest_in_round s) None
+advance_refusal s = option_map_or (λ i. if round_of (standing_at s i) == last_round then Some RoundsOut else None) (lowest_in_round s) None
 
 -- why an input is refused for what it is
 abbrev pub input_refusal : Input → NodeState → Option Refusal
@@ -193,7 +194,7 @@ refusal_of input s = first (input_refusal input s)
 
 -- the oldest staged facts, at most 64, become the running group
 unfoldable pub group_taken : NodeState → NodeState
-group_taken s = record s { running = Some (take 64 s.staged); staged = drop 64 s.staged }
+group_taken s = record s { running = Some (take max_group s.staged); staged = drop max_group s.staged }
 
 -- the group that runs: its facts, and the number of the first
 abbrev pub running_group : NodeState → Option Grouped

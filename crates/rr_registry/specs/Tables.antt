@@ -9,6 +9,7 @@ use Rattle.rr_types.specs.declared.command.Op.{Op}
 use Rattle.rr_types.specs.declared.command.Op.TheVariants.{Claim, Update, Release, Transfer}
 use Rattle.rr_types.specs.declared.command.Command.{Command}
 use Rattle.rr_types.specs.Registry.{Holding, Bindings, holding_of, bind, is_same_request}
+use Rattle.rr_types.specs.Limits.{max_bound}
 use Rattle.rr_registry.specs.declared.names.Names.{Names}
 use Rattle.rr_registry.specs.declared.names.Effect.{Effect}
 use Rattle.rr_registry.specs.declared.names.Effect.TheVariants.{Nothing, Bind, Replace, Free}
@@ -76,7 +77,7 @@ effected m name Free = unbind m name
 -- while there is room, the others are about a bound name
 abbrev pub CanHave : ℕ → Option Holding → Op → Effect → Type 0
 CanHave bound held op Nothing = ⊤
-CanHave bound held op (Bind h) = IsTrue (is_claim op) × (held ≡ None) × (bound < 4096)
+CanHave bound held op (Bind h) = IsTrue (is_claim op) × (held ≡ None) × (bound < max_bound)
 CanHave bound held op (Replace h) = IsTrue (is_some held)
 CanHave bound held op Free = IsTrue (is_some held)
 

@@ -1,6 +1,7 @@
 use Rattle.std.specs.Prelude.{ℕ, ◌<◌, ◌≤◌, List}
 use Rattle.std.specs.List.{AllByRecursion}
 use Rattle.rr_types.specs.Names.{IsName}
+use Rattle.rr_types.specs.Limits.{max_nodes}
 use Rattle.rr_text.specs.Words.{IsCommand}
 use Rattle.rr_script.specs.declared.script_line.ScriptLine.{ScriptLine}
 use Rattle.rr_script.specs.declared.script_line.ScriptLine.TheVariants.{Submit, Look}
@@ -23,5 +24,5 @@ IsScriptLine n (Look p name) = (p < n) × IsName name
 -- a script for 1 to 7 nodes, whose lines ask these
 pub record IsScript (s : Scripted) : Type 0 where
   pub some : 1 ≤ s.nodes
-  pub few : s.nodes ≤ 7
+  pub few : s.nodes ≤ max_nodes
   pub each : AllByRecursion (IsScriptLine s.nodes) s.lines

@@ -7,6 +7,7 @@ use Rattle.rr_types.specs.declared.promise.Standing.{Standing}
 use Rattle.rr_types.specs.declared.fact.Fact.TheVariants.{Enter, Propose, Adopt, Decide}
 use Rattle.rr_types.specs.Facts.{decision_of}
 use Rattle.rr_types.specs.Registry.{is_same_request, has_request}
+use Rattle.rr_types.specs.Limits.{open_count}
 use Rattle.rr_model.specs.NodeState.{NodeState, Row, Watch, Owed, row_of, put_row, lowest_undecided}
 use Rattle.rr_model.specs.NodeDue.{due}
 use Rattle.rr_outbox.specs.Marks.{IsOwn}
@@ -90,7 +91,7 @@ IsDecidedFact (Decide i v) rows = list_any (has_decided v.request) rows ≡ true
 
 -- the pool has no command for an instance that no fact names
 pub record IsSpent (rows : List Row) (pool : List Command) : Type 0 where
-  pub none : (i : ℕ) → row_of rows i ≡ None → first_free rows (lowest_undecided 8 0 rows) i pool ≡ None
+  pub none : (i : ℕ) → row_of rows i ≡ None → first_free rows (lowest_undecided open_count 0 rows) i pool ≡ None
 
 -- nothing is due at a node of these parts
 pub record NothingIsDue (nodes node : ℕ) (rows : List Row) (pool : List Command) (suspects : ℕ) : Type 0 where

@@ -5,6 +5,7 @@ ghost use Rattle.std.specs.List.{list_any};
 ghost use Rattle.rr_types.specs.Registry.{has_request, is_same_request};
 ghost use Rattle.rr_model.specs.NodeState.{next_number, row_of, is_decided, is_decided_request, undecided_from, standing_at};
 ghost use Rattle.rr_types.specs.Standings.{round_of};
+ghost use Rattle.rr_types.specs.Limits.{instance_count, last_round};
 ghost use Rattle.rr_model.specs.NodeStep.{is_waiting, is_list_full, lowest_in_round};
 ghost use Rattle.rr_list.specs.Rowed.{AscendFrom};
 ghost use Rattle.rr_list.specs.Opened.{open_in};
@@ -42,9 +43,9 @@ impl State {
 
     /// The lowest undecided instance from `from` on; the rows ascend.
     pub(crate) fn undecided_from(&self, from: u32) -> u32
-        requires { from ≤ 1048576 }
+        requires { from ≤ instance_count }
         ensures value { result ≡ undecided_from from self.now.rows }
-        ensures range { result ≤ 1048576 }
+        ensures range { result ≤ instance_count }
         ensures above { from ≤ result }
         ensures ascend { AscendFrom 0 self.now.rows }
     {
@@ -69,7 +70,7 @@ impl State {
     /// The round of an instance; 0 where it has none.
     pub fn round(&self, instance: Instance) -> u32
         ensures value { result ≡ round_of (standing_at self.now instance) }
-        ensures range { result ≤ 2147483647 }
+        ensures range { result ≤ last_round }
     {
         match self.row(instance) {
             Some(row) => row.standing.round(),

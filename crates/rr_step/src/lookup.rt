@@ -3,6 +3,7 @@
 ghost use Rattle.std.specs.Prelude.{◌≡◌, ◌≤◌};
 ghost use Rattle.rr_types.specs.Standings.{round_of, stamp_of, is_undecided};
 ghost use Rattle.rr_types.specs.Facts.{decision_of};
+ghost use Rattle.rr_types.specs.Limits.{last_round};
 ghost use Rattle.rr_model.specs.NodeState.{standing_at};
 ghost use Rattle.rr_model.specs.NodeStep.{has_proposed};
 
@@ -13,7 +14,7 @@ impl<'a> Step<'a> {
     /// The round of an instance; 0 where it has none.
     pub fn round(&self, instance: Instance) -> u32
         ensures value { result ≡ round_of (standing_at self.now.state instance) }
-        ensures range { result ≤ 2147483647 }
+        ensures range { result ≤ last_round }
     {
         match self.row(instance) {
             Some(row) => row.standing.round(),

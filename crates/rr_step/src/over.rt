@@ -3,6 +3,7 @@
 ghost use Rattle.std.specs.Prelude.{◌≡◌, ◌≤◌, ◌<◌, ◌&&◌, ◌==◌, nat_lt, IsTrue, List, None, Some, find, option_map, MatchOption, IfSome, IfErr, OnOk, OnErr};
 ghost use Rattle.std.specs.List.{list_any};
 ghost use Rattle.rr_types.specs.Standings.{round_of};
+ghost use Rattle.rr_types.specs.Limits.{instance_count};
 ghost use Rattle.rr_model.specs.NodeState as model;
 ghost use Rattle.rr_model.specs.NodeState.{row_of, put_row, is_decided, undecided_from, lowest_undecided};
 ghost use Rattle.rr_list.specs.Rowed.{has_decided};
@@ -48,7 +49,7 @@ pub fn put_newest(changed: &mut Vec<Row>, row: Row) -> Result<(), Refusal>
 /// Whether a row of this instance has decided.
 fn is_decided_at(rows: &[Row], number: u32) -> bool
     ensures value { result ≡ list_any (λ r. r.instance == number && is_decided r) rows.now }
-    ensures range { IsTrue result → number < 1048576 }
+    ensures range { IsTrue result → number < instance_count }
 {
     for row in rows {
         if row.instance.number() == number && row.is_decided() {
@@ -61,10 +62,10 @@ fn is_decided_at(rows: &[Row], number: u32) -> bool
 /// The lowest undecided instance from `from` on.
 #[tactic(auto, using(crate::proofs::OverLemmas::from_base, crate::proofs::OverLemmas::lowest_open, crate::proofs::OverLemmas::next_base, crate::proofs::OverLemmas::none_between))]
 pub fn undecided_over(base: &State, changed: &[Row], from: u32) -> u32
-    requires range { from ≤ 1048576 }
+    requires range { from ≤ instance_count }
     requires keep { KeepDecisions changed.now base.now.rows }
     ensures value { result ≡ undecided_from from (put_rows changed.now base.now.rows) }
-    ensures range { result ≤ 1048576 }
+    ensures range { result ≤ instance_count }
     ensures above { from ≤ result }
 {
     let mut lowest = base.undecided_from(from);

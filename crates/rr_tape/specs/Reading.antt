@@ -9,6 +9,7 @@ use Rattle.rr_types.specs.declared.message.Body.{Body}
 use Rattle.rr_types.specs.declared.message.Body.TheVariants as bodies
 use Rattle.rr_types.specs.declared.message.Message.{Message}
 use Rattle.rr_types.specs.Rounds.{Estimated}
+use Rattle.rr_types.specs.Limits.{instance_count, last_round}
 use Rattle.rr_text.specs.declared.event.Event.{Event}
 use Rattle.rr_text.specs.declared.event.Event.TheVariants as events
 use Rattle.rr_text.specs.declared.keyword.Keyword.{Keyword}
@@ -23,11 +24,11 @@ use Rattle.rr_tape.specs.declared.tape_event.TapeEvent.TheVariants as tapes
 
 -- the number of an instance
 abbrev pub instance_at : List ℕ → Option ℕ
-instance_at w = small_at w >>= λ i. if nat_lt i 1048576 then Some i else None
+instance_at w = small_at w >>= λ i. if nat_lt i instance_count then Some i else None
 
 -- the number of a round
 abbrev pub round_at : List ℕ → Option ℕ
-round_at w = small_at w >>= λ r. if nat_le 1 r && nat_le r 2147483647 then Some r else None
+round_at w = small_at w >>= λ r. if nat_le 1 r && nat_le r last_round then Some r else None
 
 -- a request number
 abbrev pub request_at : List ℕ → Option RequestNo

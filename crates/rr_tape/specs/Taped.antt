@@ -7,6 +7,7 @@ use Rattle.rr_types.specs.declared.message.Body.{Body}
 use Rattle.rr_types.specs.declared.message.Body.TheVariants as bodies
 use Rattle.rr_types.specs.declared.message.Message.{Message}
 use Rattle.rr_types.specs.Rounds.{Estimated}
+use Rattle.rr_types.specs.Limits.{instance_count, last_round, max_events, max_nodes}
 use Rattle.rr_text.specs.Words.{IsCommand}
 use Rattle.rr_tape.specs.declared.tape_event.TapeEvent.{TapeEvent}
 use Rattle.rr_tape.specs.declared.tape_event.TapeEvent.TheVariants.{Submit, Hear, Suspect, Tick, Advance, Take, Mark, Send, Ack}
@@ -18,11 +19,11 @@ pub record Taped : Type 0 where
 
 -- the number of an instance
 abbrev pub IsInstance : ℕ → Type 0
-IsInstance i = i < 1048576
+IsInstance i = i < instance_count
 
 -- the number of a round
 abbrev pub IsRound : ℕ → Type 0
-IsRound r = (1 ≤ r) × (r ≤ 2147483647)
+IsRound r = (1 ≤ r) × (r ≤ last_round)
 
 -- an estimate whose stamp lies before its round
 pub record IsEstimate (e : Estimated) : Type 0 where
@@ -79,6 +80,6 @@ IsTapeEvent n (Ack p q r) = (p < n) × IsRequest q × IsReply r
 -- a tape of 1 to 7 nodes and at most a million events among them
 pub record IsTape (t : Taped) : Type 0 where
   pub some : 1 ≤ t.nodes
-  pub few : t.nodes ≤ 7
-  pub short : length t.events ≤ 1000000
+  pub few : t.nodes ≤ max_nodes
+  pub short : length t.events ≤ max_events
   pub each : AllByRecursion (IsTapeEvent t.nodes) t.events

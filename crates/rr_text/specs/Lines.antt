@@ -4,6 +4,7 @@ use Rattle.std.specs.Prelude.{true, ◌≡◌, ℕ, ◌+◌, ◌<◌, ◌≤◌,
 use Rattle.std.specs.List.{flat_map, AllByRecursion}
 use Rattle.rr_types.specs.declared.refusal.Refusal.{Refusal}
 use Rattle.rr_types.specs.declared.refusal.Refusal.TheVariants.{OutOfMemory, BadNodes, BadEvent}
+use Rattle.rr_types.specs.Limits.{max_events}
 use Rattle.rr_text.specs.Numbers.{is_number}
 
 -- the first line of a text about n nodes
@@ -17,7 +18,7 @@ HasNoLine {X} Fits line bytes = (x : X) (more : List ℕ) → Fits x → bytes �
 -- things that there can be, a million at most, and the bytes that they are printed as
 pub record ArePrinted {X : Type 0} (Fits : X → Type 0) (line : X → List ℕ) (things : List X) (bytes : List ℕ) : Type 0 where
   pub each : AllByRecursion Fits things
-  pub short : length things ≤ 1000000
+  pub short : length things ≤ max_events
   pub split : bytes ≡ flat_map line things
 
 -- behind the first line, the line of this number is the first that has no place: lines stand before it, a million at most,
@@ -26,11 +27,11 @@ pub record StopsAt {X : Type 0} (Fits : X → Type 0) (line : X → List ℕ) (b
   pub before : List X
   pub rest : List ℕ
   pub each : AllByRecursion Fits before
-  pub short : length before ≤ 1000000
+  pub short : length before ≤ max_events
   pub split : bytes ≡ flat_map line before ++ rest
   pub counted : number ≡ length before + 2
   pub some : 0 < length rest
-  pub fault : (length before ≡ 1000000) ⊎ HasNoLine Fits line rest
+  pub fault : (length before ≡ max_events) ⊎ HasNoLine Fits line rest
 
 -- why bytes behind a first line are no lines, memory aside
 abbrev pub IsStop : {X : Type 0} → (X → Type 0) → (X → List ℕ) → List ℕ → Refusal → Type 0

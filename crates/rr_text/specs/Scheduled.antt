@@ -1,5 +1,6 @@
 use Rattle.std.specs.Prelude.{ℕ, ◌^◌, ◌<◌, ◌≤◌, List, length}
 use Rattle.std.specs.List.{AllByRecursion}
+use Rattle.rr_types.specs.Limits.{max_events, max_nodes}
 use Rattle.rr_text.specs.declared.event.Event.{Event}
 use Rattle.rr_text.specs.declared.event.Event.TheVariants.{Submit, Hear, Suspect, Tick, Advance, Take, Device, Fail, Mark, Send, Ack, Snap, Crash, Restart}
 use Rattle.rr_text.specs.Words.{IsCommand, IsFill}
@@ -51,6 +52,6 @@ pub record IsEvent (n : ℕ) (e : Event) : Type 0 where
 -- a schedule of 1 to 7 nodes and at most a million events among them
 pub record IsSchedule (s : Scheduled) : Type 0 where
   pub some : 1 ≤ s.nodes
-  pub few : s.nodes ≤ 7
-  pub short : length s.events ≤ 1000000
+  pub few : s.nodes ≤ max_nodes
+  pub short : length s.events ≤ max_events
   pub each : AllByRecursion (IsEvent s.nodes) s.events

@@ -1,5 +1,6 @@
 use Rattle.std.specs.Prelude.{ℕ, ◌≤◌, Bool, ◌&&◌, ◌||◌, ◌==◌, nat_le, List, length, IsTrue}
 use Rattle.std.specs.List.{list_all}
+use Rattle.rr_types.specs.Limits.{max_text}
 
 -- whether a name may have this byte: a to z, 0 to 9, hyphen
 abbrev pub is_name_byte : ℕ → Bool
@@ -12,10 +13,10 @@ is_value_byte b = nat_le 33 b && nat_le b 126
 -- 1 to 64 bytes that a name may have
 pub record IsName (bytes : List ℕ) : Type 0 where
   pub some : 1 ≤ length bytes
-  pub short : length bytes ≤ 64
+  pub short : length bytes ≤ max_text
   pub letters : IsTrue (list_all is_name_byte bytes)
 
 -- at most 64 bytes that a value may have
 pub record IsValue (bytes : List ℕ) : Type 0 where
-  pub short : length bytes ≤ 64
+  pub short : length bytes ≤ max_text
   pub letters : IsTrue (list_all is_value_byte bytes)

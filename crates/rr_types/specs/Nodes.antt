@@ -1,4 +1,5 @@
 use Rattle.std.specs.Prelude.{ℕ, zero, suc, ◌+◌, ◌-◌, ◌/◌, ◌%◌, ◌^◌, Bool, ◌==◌, if◌then◌else◌}
+use Rattle.rr_types.specs.Limits.{max_nodes}
 
 -- whether a set of nodes has node p: the set is a number, in which node p is bit p
 abbrev pub has_member : ℕ → ℕ → Bool
@@ -19,4 +20,4 @@ joined_below (suc q) a b = joined_below q (if has_member b q then with_member a 
 
 -- two sets of nodes together
 unfoldable pub joined : ℕ → ℕ → ℕ
-joined a b = joined_below 7 a b
+joined a b = joined_below max_nodes a b

@@ -11,6 +11,7 @@ use Rattle.rr_types.specs.declared.command.Op.TheVariants.{Claim, Update, Releas
 use Rattle.rr_types.specs.declared.command.Command.{Command}
 use Rattle.rr_types.specs.declared.command.Reply.{Reply}
 use Rattle.rr_types.specs.declared.command.Reply.TheVariants.{Claimed, Updated, Released, Transferred, Taken, Unknown, NotOwner, Full}
+use Rattle.rr_types.specs.Limits.{max_bound}
 
 -- who has a name, and its value
 pub record Holding : Type 0 where
@@ -31,7 +32,7 @@ bind m name owner value = insert_entry (slice_cmp nat_cmp) m name (record { owne
 
 -- what a claim of a name does, where it is free and where somebody has it
 abbrev pub claim : Bindings → ℕ → List ℕ → List ℕ → Option Holding → Bindings × Reply
-claim m client name value None = if nat_lt (length m) 4096 then (bind m name client value, Claimed) else (m, Full)
+claim m client name value None = if nat_lt (length m) max_bound then (bind m name client value, Claimed) else (m, Full)
 claim m client name value (Some h) = (m, Taken h.owner)
 
 -- what the owner of a name may do to it; it answers Unknown on a free name, NotOwner on another client's

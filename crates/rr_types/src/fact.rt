@@ -2,6 +2,7 @@
 
 ghost use Rattle.std.specs.Prelude.{◌≡◌, ◌+◌, ◌^◌, ◌<◌, ◌≤◌, ◌↔◌, length, IsSome, IfSome, IsOk, IfOk, IfErr};
 ghost use Rattle.rr_types.specs.Facts.{instance_of};
+ghost use Rattle.rr_types.specs.Limits.{last_round, max_group};
 
 use crate::command::Command;
 use crate::round::{Instance, Round};
@@ -22,12 +23,13 @@ pub struct Estimate {
 impl Model for Estimate {
     ghost use Rattle.std.specs.Prelude.{◌<◌, ◌≤◌};
     ghost use Rattle.rr_types.specs.Rounds.{Estimated};
+    ghost use Rattle.rr_types.specs.Limits.{last_round};
 
     ghost Value = { Estimated };
 
     ghost view = { λ e. record { round = e.round; stamp = e.stamp; command = e.command } };
 
-    ghost invariant = { λ e. (e.stamp < e.round) × (e.round ≤ 2147483647) };
+    ghost invariant = { λ e. (e.stamp < e.round) × (e.round ≤ last_round) };
 
     ghost inverse = { λ e. record { round = e.round; stamp = e.stamp; command = e.command } };
 }
@@ -73,7 +75,7 @@ impl Estimate {
     /// The round in which the node adopted the command, or 0.
     pub fn stamp(&self) -> u32
         ensures value { result ≡ self.now.stamp }
-        ensures range { result < 2147483647 }
+        ensures range { result < last_round }
     {
         self.stamp
     }
@@ -131,18 +133,19 @@ pub struct Group {
 impl Model for Group {
     ghost use Rattle.std.specs.Prelude.{◌+◌, ◌^◌, ◌<◌, ◌≤◌, length};
     ghost use Rattle.rr_types.specs.Groups.{Grouped};
+    ghost use Rattle.rr_types.specs.Limits.{max_group};
 
     ghost Value = { Grouped };
 
     ghost view = { λ g. record { serial = g.serial; facts = g.facts.items } };
 
-    ghost invariant = { λ g. (1 ≤ length g.facts.items) × (length g.facts.items ≤ 64) × (g.serial + length g.facts.items < 2 ^ 64) };
+    ghost invariant = { λ g. (1 ≤ length g.facts.items) × (length g.facts.items ≤ max_group) × (g.serial + length g.facts.items < 2 ^ 64) };
 }
 
 impl Group {
     /// The group of these facts, where they are 1 to 64 and their numbers fit. It keeps the vector.
     pub fn new(serial: u64, facts: Vec<Fact>) -> Result<Group, Vec<Fact>>
-        ensures valid { IsOk result ↔ ((1 ≤ length facts.items) × (length facts.items ≤ 64) × (serial + length facts.items < 2 ^ 64)) }
+        ensures valid { IsOk result ↔ ((1 ≤ length facts.items) × (length facts.items ≤ max_group) × (serial + length facts.items < 2 ^ 64)) }
         ensures ok { IfOk result (λ g. g ≡ record { serial = serial; facts = facts.items }) }
         ensures err { IfErr result (λ back. back ≡ facts) }
     {
@@ -167,7 +170,7 @@ impl Group {
     pub fn facts(&self) -> &[Fact]
         ensures value { result.now ≡ self.now.facts }
         ensures some { 1 ≤ length result.now }
-        ensures few { length result.now ≤ 64 }
+        ensures few { length result.now ≤ max_group }
     {
         let facts = &self.facts;
         facts

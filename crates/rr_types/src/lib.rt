@@ -7,6 +7,7 @@
 
 mod command;
 mod fact;
+mod limit_law;
 mod made_of;
 mod message;
 mod name;
@@ -19,6 +20,7 @@ mod standing;
 
 pub use command::{Command, Op, Reply, RequestNo};
 pub use fact::{Estimate, Fact, GROUP, Group};
+pub use limit_law::limits;
 pub use message::{Body, Message};
 pub use name::{MAX_NAME, MAX_VALUE, Name, Value, is_name_byte, is_value_byte};
 pub use node::{MAX_NODES, NodeId, NodeSet, Nodes, coordinator, majority};

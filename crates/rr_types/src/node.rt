@@ -3,6 +3,7 @@
 ghost use Rattle.std.specs.Prelude.{◌≡◌, ◌^◌, ◌<◌, ◌≤◌, ◌↔◌, ◌⊎◌, IsOk, IfOk, IsErrOf, IsSome, IfSome};
 ghost use Rattle.rr_types.specs.Rounds.{majority_of, coordinator_of};
 ghost use Rattle.rr_types.specs.Nodes.{has_member, with_member, without_member, joined};
+ghost use Rattle.rr_types.specs.Limits.{max_nodes};
 
 use crate::refusal::Refusal;
 use crate::round::Round;
@@ -19,12 +20,13 @@ pub struct Nodes {
 
 impl Model for Nodes {
     ghost use Rattle.std.specs.Prelude.{ℕ, ◌≤◌};
+    ghost use Rattle.rr_types.specs.Limits.{max_nodes};
 
     ghost Value = { ℕ };
 
     ghost view = { λ n. n.count };
 
-    ghost invariant = { λ n. (1 ≤ n.count) × (n.count ≤ 7) };
+    ghost invariant = { λ n. (1 ≤ n.count) × (n.count ≤ max_nodes) };
 
     ghost inverse = { λ n. record { count = n } };
 }
@@ -32,9 +34,9 @@ impl Model for Nodes {
 impl Nodes {
     /// A number of nodes from 1 to 7; another number is `BadNodes`.
     pub fn new(count: u8) -> Result<Nodes, Refusal>
-        ensures valid { IsOk result ↔ ((1 ≤ count) × (count ≤ 7)) }
+        ensures valid { IsOk result ↔ ((1 ≤ count) × (count ≤ max_nodes)) }
         ensures value { IfOk result (λ n. n ≡ count) }
-        ensures refused { IsErrOf result Refusal.BadNodes ↔ ((count < 1) ⊎ (7 < count)) }
+        ensures refused { IsErrOf result Refusal.BadNodes ↔ ((count < 1) ⊎ (max_nodes < count)) }
     {
         if 1 <= count && count <= MAX_NODES {
             Ok(Nodes { count })
@@ -46,7 +48,7 @@ impl Nodes {
     /// The number, from 1 to 7.
     pub fn count(self) -> u8
         ensures value { result ≡ self }
-        ensures range { (1 ≤ result) × (result ≤ 7) }
+        ensures range { (1 ≤ result) × (result ≤ max_nodes) }
     {
         self.count
     }
@@ -60,12 +62,13 @@ pub struct NodeId {
 
 impl Model for NodeId {
     ghost use Rattle.std.specs.Prelude.{ℕ, ◌<◌};
+    ghost use Rattle.rr_types.specs.Limits.{max_nodes};
 
     ghost Value = { ℕ };
 
     ghost view = { λ p. p.index };
 
-    ghost invariant = { λ p. p.index < 7 };
+    ghost invariant = { λ p. p.index < max_nodes };
 
     ghost inverse = { λ n. record { index = n } };
 }
@@ -85,7 +88,7 @@ impl NodeId {
 
     /// The node with this number, 0 to 6, however many nodes there are.
     pub fn at(index: u8) -> Option<NodeId>
-        ensures valid { IsSome result ↔ (index < 7) }
+        ensures valid { IsSome result ↔ (index < max_nodes) }
         ensures value { IfSome result (λ p. p ≡ index) }
     {
         if index < MAX_NODES {
@@ -98,7 +101,7 @@ impl NodeId {
     /// Its number, from 0 to 6.
     pub fn index(self) -> u8
         ensures value { result ≡ self }
-        ensures range { result < 7 }
+        ensures range { result < max_nodes }
     {
         self.index
     }

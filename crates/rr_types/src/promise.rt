@@ -21,12 +21,13 @@ pub struct OpenStanding {
 impl Model for OpenStanding {
     ghost use Rattle.std.specs.Prelude.{◌≤◌};
     ghost use Rattle.rr_types.specs.Rounds.{OpenAt};
+    ghost use Rattle.rr_types.specs.Limits.{last_round};
 
     ghost Value = { OpenAt };
 
     ghost view = { λ s. record { round = s.round; stamp = s.stamp; estimate = s.estimate; proposal = s.proposal } };
 
-    ghost invariant = { λ s. (1 ≤ s.round) × (s.round ≤ 2147483647) × (s.stamp ≤ s.round) };
+    ghost invariant = { λ s. (1 ≤ s.round) × (s.round ≤ last_round) × (s.stamp ≤ s.round) };
 
     ghost inverse = { λ s. record { round = s.round; stamp = s.stamp; estimate = s.estimate; proposal = s.proposal } };
 }

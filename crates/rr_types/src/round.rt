@@ -1,6 +1,7 @@
 //! Instances of consensus and their rounds.
 
 ghost use Rattle.std.specs.Prelude.{◌≡◌, ◌+◌, ◌<◌, ◌≤◌, ◌↔◌, IsSome, IfSome};
+ghost use Rattle.rr_types.specs.Limits.{instance_count, last_round};
 
 use std::marker::Model;
 
@@ -21,12 +22,13 @@ pub struct Instance {
 
 impl Model for Instance {
     ghost use Rattle.std.specs.Prelude.{ℕ, ◌<◌};
+    ghost use Rattle.rr_types.specs.Limits.{instance_count};
 
     ghost Value = { ℕ };
 
     ghost view = { λ i. i.number };
 
-    ghost invariant = { λ i. i.number < 1048576 };
+    ghost invariant = { λ i. i.number < instance_count };
 
     ghost inverse = { λ n. record { number = n } };
 }
@@ -34,7 +36,7 @@ impl Model for Instance {
 impl Instance {
     /// The instance with this number, where there is one.
     pub fn new(number: u32) -> Option<Instance>
-        ensures valid { IsSome result ↔ (number < 1048576) }
+        ensures valid { IsSome result ↔ (number < instance_count) }
         ensures value { IfSome result (λ i. i ≡ number) }
     {
         if number < INSTANCES {
@@ -47,7 +49,7 @@ impl Instance {
     /// Its number, from 0 to 1,048,575.
     pub fn number(self) -> u32
         ensures value { result ≡ self }
-        ensures range { result < 1048576 }
+        ensures range { result < instance_count }
     {
         self.number
     }
@@ -61,12 +63,13 @@ pub struct Round {
 
 impl Model for Round {
     ghost use Rattle.std.specs.Prelude.{ℕ, ◌≤◌};
+    ghost use Rattle.rr_types.specs.Limits.{last_round};
 
     ghost Value = { ℕ };
 
     ghost view = { λ r. r.number };
 
-    ghost invariant = { λ r. (1 ≤ r.number) × (r.number ≤ 2147483647) };
+    ghost invariant = { λ r. (1 ≤ r.number) × (r.number ≤ last_round) };
 
     ghost inverse = { λ n. record { number = n } };
 }
@@ -74,7 +77,7 @@ impl Model for Round {
 impl Round {
     /// The round with this number, where there is one.
     pub fn new(number: u32) -> Option<Round>
-        ensures valid { IsSome result ↔ ((1 ≤ number) × (number ≤ 2147483647)) }
+        ensures valid { IsSome result ↔ ((1 ≤ number) × (number ≤ last_round)) }
         ensures value { IfSome result (λ r. r ≡ number) }
     {
         if 1 <= number && number <= MAX_ROUND {
@@ -86,7 +89,7 @@ impl Round {
 
     /// The round with this number, which is known to be one.
     pub fn at(number: u32) -> Round
-        requires { (1 ≤ number) × (number ≤ 2147483647) }
+        requires { (1 ≤ number) × (number ≤ last_round) }
         ensures { result ≡ number }
     {
         Round { number }
@@ -95,14 +98,14 @@ impl Round {
     /// Its number, from 1 to 2,147,483,647.
     pub fn number(self) -> u32
         ensures value { result ≡ self }
-        ensures range { (1 ≤ result) × (result ≤ 2147483647) }
+        ensures range { (1 ≤ result) × (result ≤ last_round) }
     {
         self.number
     }
 
     /// The round after this one; the last has none.
     pub fn next(self) -> Option<Round>
-        ensures valid { IsSome result ↔ (self < 2147483647) }
+        ensures valid { IsSome result ↔ (self < last_round) }
         ensures value { IfSome result (λ r. r ≡ self + 1) }
     {
         if self.number < MAX_ROUND {

@@ -3,6 +3,7 @@
 ghost use Rattle.std.specs.Prelude.{◌≡◌, ◌≤◌, ◌<◌, Some, None, is_some};
 ghost use Rattle.rr_types.specs.Facts.{after_fact, decision_of};
 ghost use Rattle.rr_types.specs.Standings.{round_of, stamp_of, proposal_of, is_undecided, carries_on, fits, IsInRound};
+ghost use Rattle.rr_types.specs.Limits.{last_round};
 
 use crate::command::Command;
 use crate::fact::{Estimate, Fact};
@@ -13,7 +14,7 @@ impl Standing {
     /// The present round; 0 where the instance has decided.
     pub fn round(&self) -> u32
         ensures value { result ≡ round_of (Some self.now) }
-        ensures range { result ≤ 2147483647 }
+        ensures range { result ≤ last_round }
     {
         match self {
             Standing::Decided(_) => 0,

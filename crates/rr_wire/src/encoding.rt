@@ -1,6 +1,7 @@
 //! Messages as bytes.
 
 ghost use Rattle.std.specs.Prelude.{◌≡◌, ◌<◌, ◌++◌, IfOk, IfErr, OnOk};
+ghost use Rattle.rr_types.specs.Limits.{instance_count};
 ghost use Rattle.rr_frame.specs.Numbers.{number_bytes};
 ghost use Rattle.rr_wire.specs.MessageFormat.{body_bytes, message_bytes, IsLawfulBody, IsLawfulMessage};
 
@@ -15,7 +16,7 @@ const USUAL_LENGTH: usize = 64;
 /// Puts the kind of a message, and the instance that it is about.
 fn put_about(out: &mut Vec<u8>, kind: u8, instance: Instance) -> Result<(), AllocError>
     ensures ok { OnOk result (out.new.items ≡ out.old.items ++ (number_bytes 1 kind ++ number_bytes 4 instance)) }
-    ensures lawful { OnOk result (instance < 1048576) }
+    ensures lawful { OnOk result (instance < instance_count) }
 {
     put_u8(out, kind)?;
     put_u32(out, instance.number())?;
