@@ -83,6 +83,7 @@ impl Account {
 
     /// What came of the event of a line of the schedule.
     pub fn outcome_of(&self, line: u64) -> Outcome {
+        // Line 1 of a schedule has the number of nodes, so the first event stands on line 2.
         match self.outcomes.get(line.saturating_sub(2) as usize) {
             Some(outcome) => *outcome,
             None => Outcome::Quiet,

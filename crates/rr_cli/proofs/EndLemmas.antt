@@ -1,4 +1,4 @@
--- Lemmas on how a run ends.
+-- What keeps the words of a command line from naming a task: no memory, the help, the version, or a mistake.
 use Rattle.std.proofs.Common.{◌≡◌, ◌≢◌, ◌⊎◌, refl, inl, inr}
 use Rattle.clap.specs.declared.error.kind.ErrorKind.{ErrorKind}
 use Rattle.clap.specs.declared.error.kind.ErrorKind.TheVariants as kinds

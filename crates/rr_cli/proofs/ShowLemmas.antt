@@ -1,4 +1,4 @@
--- Lemmas on how a run on a folder ends.
+-- Showing a folder ends as defined: the text on what an inspection tells is printed, or a refusal has its status.
 use Rattle.std.proofs.Common.{◌≡◌, ◌⊎◌, ℕ, List, [], ◌∷◌, ◌++◌, Option, None, Result, Ok, Err, refl, ap, inl, inr, codes, append_assoc}
 use Rattle.std.specs.Prelude.{decimal}
 use Rattle.std.specs.Prelude.{Vec}

@@ -1,4 +1,4 @@
--- Lemmas on how an audit ends.
+-- An audit ends as defined: the line of a yes is printed, or a no has its status.
 use Rattle.std.proofs.Common.{◌≡◌, ℕ, List, subst}
 use Rattle.rr_stream.specs.Streams.{Printing}
 use Rattle.rr_audit.specs.declared.given.Given.{Given}

@@ -90,6 +90,7 @@ unfoldable pub settle_within : ℕ → NodeState → NodeState
 settle_within zero s = s
 settle_within (suc turns) s = option_map_or (λ d. settle_within turns (carry_out d s)) (due s) s
 
--- until nothing is due
+-- until nothing is due. 2 ^ 54 turns are always enough: each of the 2 ^ 20 instances has 2 ^ 31 rounds at most, a round takes
+-- two turns at most, and few come beside these
 unfoldable pub settle : NodeState → NodeState
 settle s = settle_within (2 ^ 54) s

@@ -1,0 +1,139 @@
+#!/usr/bin/env python3
+"""Counts what the house of this tree is made of, and prints it as a table.
+
+    bench/house.py [--markdown] [TREE ..]
+
+Other trees may be named, a column each: such as a clone of an older commit, and `.`. With --markdown the table is one for
+docs/ARCHITECTURE.md, without the names of types. The counts:
+
+- lines of `src/*.rt` in `crates/rr` and `crates/rr_*`, blank ones and comments too
+- enums of events in that code: those with Submit and Hear among their variants; and `data` types of events in the definitions:
+  those with Submit and Hear among their constructors, and those with a constructor for a value of such a type
+- pairs of places in that code with eight or more alike lines, as the command `duplicates` finds them, if the machine has it
+- libraries `rr_*`, and how many crates the longest chain of crates.txt has, each above the next
+- lines of over 160 characters in definitions (`specs/*.antt`) and files of lemmas without a first line that says what they show;
+  imports don't count, nor what is written of a single function's proof"""
+import argparse
+import functools
+import pathlib
+import re
+import shutil
+import subprocess
+import tempfile
+
+EVENT = {"Submit", "Hear"}
+OF_A_FUNCTION = {"Answers.antt", "Invariants.antt", "Proof.antt"}
+
+
+def sources(tree):
+    """The files of the product's code."""
+    return [path for crate in ("rr", "rr_*") for path in sorted(tree.glob(f"crates/{crate}/src/**/*.rt"))]
+
+
+def definitions(tree):
+    return sorted(tree.glob("crates/*/specs/**/*.antt"))
+
+
+def enums(text):
+    """The enums of a source, each with its body and the names of its variants."""
+    for indent, name, body in re.findall(r"^( *)(?:pub(?:\([a-z]+\))? )?enum (\w+)[^{]*\{\n(.*?)^\1\}", text, re.M | re.S):
+        yield name, body, set(re.findall(rf"^{indent}    ([A-Z]\w*)", body, re.M))
+
+
+def data_types(text):
+    """The data types of a file of definitions, each with its body and the names of its constructors."""
+    for name, body in re.findall(r"^ *(?:pub )?data (\w+)[^\n]* where\n((?: [^\n]*\n)+)", text, re.M):
+        yield name, body, {word for names in re.findall(r"^ +([A-Z][\w ]*) :", body, re.M) for word in names.split()}
+
+
+def of_events(paths, types):
+    """The types of events, each as CRATE::TYPE, and those made of one."""
+    found = [(path.parent.parent.name, *told) for path in paths for told in types(path.read_text())]
+    events = {(crate, name) for crate, name, _, names in found if EVENT <= names}
+    made = {(crate, name) for crate, name, body, _ in found for of, event in events if of == crate and f": {event} →" in body}
+    return [f"{crate}::{name}" for crate, name in sorted(events | made)]
+
+
+def libraries_below(tree):
+    """What crates.txt says: of each crate the crates of this tree that it uses."""
+    lines = [line.partition(":") for line in (tree / "crates.txt").read_text().splitlines() if line.partition("#")[0].strip()]
+    uses = {left.split()[0]: right.split() for left, _, right in lines}
+    return {crate: [name for name in names if name in uses] for crate, names in uses.items()}
+
+
+def longest_chain(uses):
+    @functools.cache
+    def chain(crate):
+        return 1 + max(map(chain, uses[crate]), default=0)
+
+    return max(map(chain, uses))
+
+
+def alike(tree):
+    """How many pairs of places have eight or more alike lines."""
+    if not shutil.which("duplicates"):
+        return "not counted: this machine has no `duplicates`"
+    with tempfile.TemporaryDirectory() as room:
+        for path in sources(tree):  # the command doesn't know the ending `.rt`
+            copy = (pathlib.Path(room) / path.relative_to(tree)).with_suffix(".rs")
+            copy.parent.mkdir(parents=True, exist_ok=True)
+            shutil.copy(path, copy)
+        words = ["duplicates", "--repo", room, "--min-lines", "8", "--most", "200", "--seconds", "600"]
+        said = subprocess.run(words, capture_output=True, text=True).stdout
+    found = re.search(r"\d+", said)
+    whole = "" if "incomplete" not in said else ", not all read"
+    return f"{found[0] if found else 0}{whole}"
+
+
+def too_long(tree):
+    """How many lines of definitions are longer than 160 characters."""
+    lines = (line for path in definitions(tree) for line in path.read_text().splitlines())
+    return sum(len(line) > 160 and not re.match(r"(pub )?use ", line) for line in lines)
+
+
+def without_a_header(tree):
+    """How many files of lemmas don't begin with a comment."""
+    files = [path for path in tree.glob("crates/*/proofs/**/*.antt") if path.name != "Lib.antt"]
+    lemmas = [path for path in files if path.parent.name == "proofs" or path.name not in OF_A_FUNCTION]
+    return sum(not path.read_text().startswith("--") for path in lemmas)
+
+
+def counts(tree):
+    uses = libraries_below(tree)
+    events, types = of_events(sources(tree), enums), of_events(definitions(tree), data_types)
+    return [
+        ("product source lines (`rr` and `rr_*`)", f"{sum(len(path.read_text().splitlines()) for path in sources(tree)):,}"),
+        ("enums of events in the code", events),
+        ("types of them in definitions", types),
+        ("pairs of places with eight or more alike lines", alike(tree)),
+        ("libraries `rr_*`", sum((tree / f"crates/{crate}/src/lib.rt").is_file() for crate in uses if crate.startswith("rr_"))),
+        ("longest chain of crates", longest_chain(uses)),
+        ("lines of definitions over 160 characters", too_long(tree)),
+        ("files of lemmas without a header", without_a_header(tree)),
+    ]
+
+
+def shown(number, markdown):
+    if isinstance(number, list):
+        return len(number) if markdown else f"{len(number)}: {', '.join(number)}"
+    return number
+
+
+def main():
+    words = argparse.ArgumentParser()
+    words.add_argument("--markdown", action="store_true")
+    words.add_argument("trees", type=pathlib.Path, nargs="*", metavar="TREE")
+    asked = words.parse_args()
+    trees = asked.trees or [pathlib.Path(__file__).resolve().parent.parent]
+    found = [counts(tree) for tree in trees]
+    columns = [[shown(number, asked.markdown) for _, number in rows] for rows in found]
+    if asked.markdown:
+        print("| what |" + "".join(f" {tree} |" for tree in trees) + "\n|---|" + "---|" * len(trees))
+    for (what, _), *numbers in zip(found[0], *columns):
+        if asked.markdown:
+            print(f"| {what} |" + "".join(f" {number} |" for number in numbers))
+        else:
+            print(f"{what.replace('`', ''):48}", *(f"{number:<12}" for number in numbers))
+
+
+main()
