@@ -7,7 +7,7 @@ use rr_core::Core;
 use rr_disk::{Disk, FileDisk};
 use rr_journal::Journal;
 use rr_recover::recover;
-use rr_types::{Command, Name, NodeId, Nodes, Op, Refusal, RequestNo, Value};
+use rr_types::{Command, Input, Name, NodeId, Nodes, Op, Refusal, RequestNo, Value};
 use std::alloc::Global;
 use std::io::Write;
 
@@ -42,7 +42,7 @@ fn send(core: &mut Core) -> Result<(), Refusal> {
         let Some(cleared) = core.next_message() else {
             break;
         };
-        core.hear(&cleared.message())?;
+        core.step(&Input::Hear(cleared.message()))?;
     }
     Ok(())
 }
@@ -68,7 +68,7 @@ fn serve<D: Disk>(
     command: Command,
 ) -> Result<()> {
     println!(rt; "opened with {} facts", core.facts())?;
-    core.submit(command)?;
+    core.step(&Input::Submit(command))?;
     for _ in 0..64 {
         if !turn(rt, core, journal)? {
             break;

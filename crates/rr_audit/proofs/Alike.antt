@@ -14,7 +14,8 @@ use Rattle.rr_model.specs.NodeInWorld.{IsInWorld, LeavesTheGroup, sent_by_event,
 use Rattle.rr_model.specs.NodeLaws.{NodeEvent, Told, Grouped, PutBack, Marked, Left, Answered, after_event, heard_after, facts_of_event, facts_of_input}
 use Rattle.rr_model.specs.NodeReached.{IsReached, Happened, IsProperEvent, NamesRounds}
 use Rattle.rr_model.specs.NodeState.{NodeState}
-use Rattle.rr_model.specs.NodeStep as node
+use Rattle.rr_types.specs.declared.input.Input.{Input}
+use Rattle.rr_types.specs.declared.input.Input.TheVariants as node
 use Rattle.rr_model.specs.NodeStep.{next_leaving, marked_running}
 use Rattle.rr_model.specs.NodeWorld.{steps_of_event, step_of_input, told_reply, MayCome}
 use Rattle.rr_model.specs.World as world
@@ -105,7 +106,7 @@ staged p [] w = refl
 staged p (f ∷ facts) w = staged p facts (after_step w (Stage p f))
 
 -- an input submits what its own step does
-input_submits : (p : ℕ) (s : NodeState) (input : node.Input) (w : World) → (after_steps w (steps_of_event p s (Told input))).submitted ≡ (after_steps w (step_of_input p input)).submitted
+input_submits : (p : ℕ) (s : NodeState) (input : Input) (w : World) → (after_steps w (steps_of_event p s (Told input))).submitted ≡ (after_steps w (step_of_input p input)).submitted
 input_submits p s input w =
     ap (λ (v : World). v.submitted) (after_steps-append w (step_of_input p input) (map (Stage p) (facts_of_input s input)))
     ∙ staged p (facts_of_input s input) (after_steps w (step_of_input p input))
@@ -127,7 +128,7 @@ IsProper n m = (m.from < n) × NamesRounds m.body
 
 module _ (n : ℕ) (s : NodeState) (w : World) (wire : List Message) (same : w.wire ≡ wire) (proper : AllByRecursion (IsProper n) wire) where
   -- an input that is no message
-  input_does : (e : TapeEvent) (input : node.Input) → IsThere n (node_of e) s w → IsProperEvent n (Told input) → MayCome w (node_of e) s (Told input)
+  input_does : (e : TapeEvent) (input : Input) → IsThere n (node_of e) s w → IsProperEvent n (Told input) → MayCome w (node_of e) s (Told input)
       → sent_by e ≡ [] → told_by e ≡ [] → (after_steps w (step_of_input (node_of e) input)).submitted ≡ w.submitted ++ submitted_by e → Does n e s w (Told input)
   input_does e input t good may unsent untold submits = record {
     goes = leaves n (node_of e) s (Told input) w t good tt may;

@@ -11,8 +11,9 @@ use Rattle.rr_types.specs.Groups.{Grouped}
 use Rattle.rr_model.specs.NodeLaws.{NodeEvent, Told, after_event}
 use Rattle.rr_model.specs.NodeState.{NodeState}
 use Rattle.rr_model.specs.NodeStays.{StaysMarked}
-use Rattle.rr_model.specs.NodeStep as node
-use Rattle.rr_model.specs.NodeStep.{Input, node_step, refusal_of, running_group, marked_running, restored, started}
+use Rattle.rr_types.specs.declared.input.Input.TheVariants as node
+use Rattle.rr_types.specs.declared.input.Input.{Input}
+use Rattle.rr_model.specs.NodeStep.{node_step, refusal_of, running_group, marked_running, restored, started}
 use Rattle.rr_model.proofs.NodeSteady.{input_stays, started_stays}
 use Rattle.rr_tape.specs.declared.tape_event.TapeEvent.{TapeEvent}
 use Rattle.rr_tape.specs.declared.tape_event.TapeEvent.TheVariants.{Hear}

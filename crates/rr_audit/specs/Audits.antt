@@ -9,7 +9,7 @@ use Rattle.rr_types.specs.declared.message.Message.{Message}
 use Rattle.rr_types.specs.Registry.{reply_of}
 use Rattle.rr_model.specs.NodeLaws.{NodeEvent, Told, Grouped, Marked, Left, Answered, after_event}
 use Rattle.rr_model.specs.NodeState.{NodeState, decided_prefix}
-use Rattle.rr_model.specs.NodeStep as node
+use Rattle.rr_types.specs.declared.input.Input.TheVariants as node
 use Rattle.rr_model.specs.NodeStep.{refusal_of, next_leaving, next_acknowledged, started}
 use Rattle.rr_model.specs.NodeWorld.{steps_of_event}
 use Rattle.rr_model.specs.Sound.{IsDecidedList, IsSound}

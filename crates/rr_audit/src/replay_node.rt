@@ -2,7 +2,7 @@
 
 ghost use Rattle.std.specs.Prelude.{◌≡◌, ◌≢◌, [], length, IfOk, IfErr, IsSome, MatchResult, None, Some};
 ghost use Rattle.rr_model.specs.NodeState.{decided_prefix};
-ghost use Rattle.rr_model.specs.NodeStep.{Submit, Suspect, Tick, Advance, Hear, node_step, refusal_of, group_taken, marked_running, message_left, next_leaving, next_acknowledged, acknowledged, started};
+ghost use Rattle.rr_model.specs.NodeStep.{node_step, refusal_of, group_taken, marked_running, message_left, next_leaving, next_acknowledged, acknowledged, started};
 ghost use Rattle.rr_types.specs.Registry.{reply_of};
 ghost use Rattle.rr_audit.specs.Following.{Tells, Answers, FollowsAt};
 
@@ -11,7 +11,7 @@ use crate::paper::{opened, synced};
 use crate::same::is_same_message;
 use rr_core::Core;
 use rr_tape::TapeEvent;
-use rr_types::{Command, Group, Message, NodeId, NodeSet, Nodes, Refusal, Reply, RequestNo};
+use rr_types::{Group, Input, Message, NodeId, Nodes, Refusal, Reply, RequestNo};
 use rr_wire::MessageLog;
 use std::alloc::Global;
 use std::marker::Model;
@@ -64,46 +64,11 @@ impl ReplayNode {
         }
     }
 
-    fn submit(&mut self, command: Command) -> Result<Option<Given>, Refusal>
-        ensures { Answers (refusal_of (Submit command) self.old ≡ None) (node_step (Submit command) self.old) self.new result }
+    // Tells the core an input.
+    fn tell(&mut self, input: &Input) -> Result<Option<Given>, Refusal>
+        ensures { Answers (refusal_of input.now self.old ≡ None) (node_step input.now self.old) self.new result }
     {
-        match self.core.submit(command) {
-            Ok(()) => Ok(None),
-            Err(refusal) => refused(refusal),
-        }
-    }
-
-    fn suspect(&mut self, set: NodeSet) -> Result<Option<Given>, Refusal>
-        ensures { Answers (refusal_of (Suspect set) self.old ≡ None) (node_step (Suspect set) self.old) self.new result }
-    {
-        match self.core.suspect(set) {
-            Ok(()) => Ok(None),
-            Err(refusal) => refused(refusal),
-        }
-    }
-
-    fn tick(&mut self) -> Result<Option<Given>, Refusal>
-        ensures { Answers (refusal_of Tick self.old ≡ None) (node_step Tick self.old) self.new result }
-    {
-        match self.core.tick() {
-            Ok(()) => Ok(None),
-            Err(refusal) => refused(refusal),
-        }
-    }
-
-    fn advance(&mut self) -> Result<Option<Given>, Refusal>
-        ensures { Answers (refusal_of Advance self.old ≡ None) (node_step Advance self.old) self.new result }
-    {
-        match self.core.advance() {
-            Ok(()) => Ok(None),
-            Err(refusal) => refused(refusal),
-        }
-    }
-
-    fn hear(&mut self, message: &Message) -> Result<Option<Given>, Refusal>
-        ensures { Answers (refusal_of (Hear message.now) self.old ≡ None) (node_step (Hear message.now) self.old) self.new result }
-    {
-        match self.core.hear(message) {
+        match self.core.step(input) {
             Ok(()) => Ok(None),
             Err(refusal) => refused(refusal),
         }
@@ -124,7 +89,7 @@ impl ReplayNode {
         if message.to.index() != node.index() {
             return Ok(Some(Given::OtherNode(message.to)));
         }
-        self.hear(&message)
+        self.tell(&Input::Hear(message))
     }
 
     // Begins to flush the oldest staged facts.
@@ -202,11 +167,11 @@ impl ReplayNode {
         ensures { FollowsAt wire.now event.now self.old self.new result }
     {
         match event {
-            TapeEvent::Submit { command, .. } => self.submit(*command),
+            TapeEvent::Submit { command, .. } => self.tell(&Input::Submit(*command)),
             TapeEvent::Hear { node, message } => self.hear_from(wire, *node, *message),
-            TapeEvent::Suspect { set, .. } => self.suspect(*set),
-            TapeEvent::Tick { .. } => self.tick(),
-            TapeEvent::Advance { .. } => self.advance(),
+            TapeEvent::Suspect { set, .. } => self.tell(&Input::Suspect(*set)),
+            TapeEvent::Tick { .. } => self.tell(&Input::Tick),
+            TapeEvent::Advance { .. } => self.tell(&Input::Advance),
             TapeEvent::Take { .. } => self.take(),
             TapeEvent::Mark { .. } => self.mark(),
             TapeEvent::Send { number, message } => {

@@ -1,12 +1,12 @@
 -- What a step has owed, pooled or noted leaves who there is and where instances stand; an open instance is undecided.
-use Rattle.std.proofs.Common.{◌≡◌, ◌≢◌, ◌+◌, ◌<◌, ◌≤◌, ℕ, arith, Bool, true, false, ltb, eqb, ◌||◌, ◌++◌, if◌then◌else◌, not, cond, List, [], ◌∷◌, refl, sym, ap, ◌∙◌, Option, Some, option_map}
+use Rattle.std.proofs.Common.{◌≡◌, ◌≢◌, ◌+◌, ◌<◌, ◌≤◌, ℕ, arith, Bool, true, false, ltb, eqb, ◌||◌, ◌++◌, if◌then◌else◌, not, cond, List, [], ◌∷◌, refl, sym, ap, ◌∙◌, Option, None, Some, option_map}
 use Rattle.std.proofs.lemmas.Bool.{ltb-true, ne_eqb, eqb-true, eqb-false, false≢true}
 use Rattle.rr_types.specs.declared.message.Body.{Body}
-use Rattle.rr_types.specs.Standings.{is_undecided}
+use Rattle.rr_types.specs.Standings.{is_undecided, round_of}
 use Rattle.rr_model.specs.NodeState.{NodeState, Row, everyone, others, is_decided_request, row_of, is_decided, undecided_from, first_undecided, standing_at}
 use Rattle.rr_step.specs.Steps.{Stepped, stepped}
 use Rattle.rr_model.specs.NodeParts.{owe, pool_add}
-use Rattle.rr_model.specs.NodeStep.{wait_for, is_waiting}
+use Rattle.rr_model.specs.NodeStep.{wait_for, is_waiting, lowest_in_round, advance_refusal}
 use Rattle.rr_types.specs.declared.command.Command.{Command}
 use Rattle.rr_types.specs.declared.command.RequestNo.{RequestNo}
 use Rattle.rr_types.specs.Registry.{has_request}
@@ -70,3 +70,7 @@ pooled_undecided c i s t e u = ap (λ (w : Stepped). is_undecided (standing_at w
     by : (b : Bool) → is_undecided (standing_at (cond b s.state (record s.state { pool = s.state.pool ++ c ∷ [] })) i) ≡ true
     by true = u
     by false = u
+
+-- where an advance isn't refused, its instance isn't in the last round
+pub below_last_round : (i r : ℕ) (s : NodeState) → Some i ≡ lowest_in_round s → r ≡ round_of (standing_at s i) → advance_refusal s ≡ None → r ≢ 2147483647
+below_last_round i r s e f h last = let k = rw (sym e, sym f, last) at h in cc

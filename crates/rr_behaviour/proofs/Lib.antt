@@ -2,5 +2,4 @@ pub mod RelayLemmas
 pub mod RoundLemmas
 pub mod DueLemmas
 pub mod InputLemmas
-pub mod RefusalLemmas
 pub mod InputSteps

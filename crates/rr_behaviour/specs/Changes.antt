@@ -1,8 +1,16 @@
-use Rattle.std.specs.Prelude.{◌≡◌, ◌<◌, ◌^◌, None}
-use Rattle.rr_model.specs.NodeState.{NodeState, next_number}
+use Rattle.std.specs.Prelude.{◌≡◌, ◌<◌, ◌^◌, Bool, false, None}
+use Rattle.rr_types.specs.Registry.{has_request}
+use Rattle.rr_model.specs.NodeState.{NodeState, next_number, decided_prefix}
 use Rattle.rr_model.specs.NodeDue.{settle}
-use Rattle.rr_model.specs.NodeStep.{Input, node_step, refusal_of}
+use Rattle.rr_types.specs.declared.input.Input.{Input}
+use Rattle.rr_types.specs.declared.input.Input.TheVariants.{Submit}
+use Rattle.rr_model.specs.NodeStep.{node_step, refusal_of}
 use Rattle.rr_step.specs.Steps.{Changed, combined, IsFitting}
+
+-- whether an input is a command whose request the decided prefix holds
+abbrev pub is_repeated : Input → NodeState → Bool
+is_repeated (Submit c) s = has_request (decided_prefix s) c.request
+is_repeated input s = false
 
 -- what a step changes makes all that was due done, and the next fact has a number
 pub record IsSettled (base state : NodeState) (c : Changed) : Type 0 where

@@ -1,18 +1,16 @@
 //! A message: what each kind of it does.
 
-ghost use Rattle.std.specs.Prelude.{◌≡◌, true, IfErr, OnOk, Some, ◌⊎◌, IfOk};
+ghost use Rattle.std.specs.Prelude.{◌≡◌, true, IfErr, OnOk};
 ghost use Rattle.rr_types.specs.Standings.{is_undecided};
 ghost use Rattle.rr_model.specs.NodeState.{standing_at};
 ghost use Rattle.rr_step.specs.Steps.{stepped};
-ghost use Rattle.rr_model.specs.NodeStep.{catch_up, acknowledge, take_proposal, take_estimate, heard_body, heard, Hear, refusal_of};
-ghost use Rattle.rr_behaviour.specs.Changes.{IsStep};
+ghost use Rattle.rr_model.specs.NodeStep.{catch_up, acknowledge, take_proposal, take_estimate, heard_body, heard};
 ghost use Rattle.rr_types.specs.declared.message.Body.TheVariants as say;
 
 use crate::decisions::{answer, hear_ask, hear_decision};
 use crate::entering::enter;
-use crate::finish::finish;
 use crate::questions::ask;
-use rr_step::{Changes, State, Step};
+use rr_step::Step;
 use rr_types::{
     Body, Command, Estimate, Fact, Instance, Message, NodeId, Refusal, Round, coordinator,
 };
@@ -215,7 +213,7 @@ fn hear_body(step: &mut Step<'_>, alloc: Global, from: NodeId, body: &Body) -> R
 }
 
 /// A message; one for another node is dropped.
-fn heard(step: &mut Step<'_>, alloc: Global, message: &Message) -> Result<(), Refusal>
+pub fn heard(step: &mut Step<'_>, alloc: Global, message: &Message) -> Result<(), Refusal>
     ensures ok { OnOk result (step.new ≡ stepped (heard message.now) step.old) }
     ensures err { IfErr result (λ e. e ≡ Refusal.OutOfMemory) }
 {
@@ -224,20 +222,4 @@ fn heard(step: &mut Step<'_>, alloc: Global, message: &Message) -> Result<(), Re
     } else {
         Ok(())
     }
-}
-
-/// What a message changes, in the room of other changes.
-#[tactic(auto, using(crate::proofs::InputSteps::hear_is_step, crate::proofs::InputSteps::hear_large))]
-pub fn hear_step(
-    state: &State,
-    room: Box<Changes>,
-    alloc: Global,
-    message: &Message,
-) -> Result<Box<Changes>, Refusal>
-    ensures ok { IfOk result (λ c. IsStep (Hear message.now) state.now c.value) }
-    ensures refused { IfErr result (λ e. (e ≡ Refusal.OutOfMemory) ⊎ (refusal_of (Hear message.now) state.now ≡ Some e)) }
-{
-    let mut step = Step::new(room, state);
-    heard(&mut step, alloc, message)?;
-    finish(step)
 }

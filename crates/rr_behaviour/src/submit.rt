@@ -1,15 +1,12 @@
 //! A client's command.
 
-ghost use Rattle.std.specs.Prelude.{◌≡◌, IfErr, OnOk, Some, Err, ◌⊎◌, IfOk};
+ghost use Rattle.std.specs.Prelude.{◌≡◌, IfErr, OnOk};
 ghost use Rattle.rr_model.specs.NodeState.{decided_prefix};
 ghost use Rattle.rr_step.specs.Steps.{stepped};
-ghost use Rattle.rr_types.specs.declared.refusal.Refusal.{Refusal};
 ghost use Rattle.rr_types.specs.Registry.{has_request};
-ghost use Rattle.rr_model.specs.NodeStep.{submitted, submit_refusal, Submit, refusal_of};
-ghost use Rattle.rr_behaviour.specs.Changes.{IsStep};
+ghost use Rattle.rr_model.specs.NodeStep.{submitted, submit_refusal};
 
-use crate::finish::finish;
-use rr_step::{Changes, State, Step};
+use rr_step::{State, Step};
 use rr_types::{Body, Command, Refusal};
 
 /// Why a submit is refused: a new request, with all instances decided here. It takes no memory.
@@ -26,12 +23,12 @@ pub fn submit_refusal(state: &State, command: &Command) -> Option<Refusal>
     }
 }
 
-/// A submit: a request that is new waits, is pooled and sent to each other node. `is_held`: whether the
-/// decided prefix holds it.
+/// A submit: a request that is new waits, is pooled and sent to each other node. `is_held`: whether
+/// the decided prefix holds it.
 #[tactic(auto, using(crate::proofs::InputLemmas::others_after_pool_add, crate::proofs::InputLemmas::others_after_wait_for), unfolding(rr_model::specs::NodeStep::submitted))]
-fn submitted(step: &mut Step<'_>, command: Command, is_held: bool) -> Result<(), Refusal>
+pub fn submitted(step: &mut Step<'_>, command: &Command, is_held: bool) -> Result<(), Refusal>
     requires { is_held ≡ has_request (decided_prefix step.old.state) command.request }
-    ensures ok { OnOk result (step.new ≡ stepped (submitted command) step.old) }
+    ensures ok { OnOk result (step.new ≡ stepped (submitted command.now) step.old) }
     ensures err { IfErr result (λ e. e ≡ Refusal.OutOfMemory) }
 {
     let request = command.request;
@@ -40,28 +37,6 @@ fn submitted(step: &mut Step<'_>, command: Command, is_held: bool) -> Result<(),
     if is_known {
         return Ok(());
     }
-    step.pool_add(&command)?;
-    step.owe_others(Body::Request(command), None)
-}
-
-/// What a client's command changes, in the room of other changes. `is_held`: whether the decided prefix has its request
-/// number. A refusal of the command for what it is comes before `OutOfMemory`.
-#[tactic(auto, using(crate::proofs::InputSteps::submit_is_step, crate::proofs::InputSteps::submit_large, crate::proofs::InputSteps::submit_err))]
-pub fn submit_step(
-    state: &State,
-    room: Box<Changes>,
-    command: Command,
-    is_held: bool,
-) -> Result<Box<Changes>, Refusal>
-    requires { is_held ≡ has_request (decided_prefix state.now) command.request }
-    ensures ok { IfOk result (λ c. IsStep (Submit command) state.now c.value) }
-    ensures order { (e : Refusal) → submit_refusal command state.now ≡ Some e → result ≡ Err e }
-    ensures refused { IfErr result (λ e. (e ≡ Refusal.OutOfMemory) ⊎ (refusal_of (Submit command) state.now ≡ Some e)) }
-{
-    if let Some(refusal) = submit_refusal(state, &command) {
-        return Err(refusal);
-    }
-    let mut step = Step::new(room, state);
-    submitted(&mut step, command, is_held)?;
-    finish(step)
+    step.pool_add(command)?;
+    step.owe_others(Body::Request(*command), None)
 }

@@ -1,9 +1,7 @@
 -- What an input changes can be taken on, and the state with it is kept.
-use Rattle.std.proofs.Common.{◌≡◌, ◌^◌, ◌<◌, ℕ, Bool, true, false, ltb, List, ap, sym, ◌∙◌, refl, subst, Option, Some, None, is_some, unwrap_or, ◌⊎◌, inl, inr, Result, Ok, Err, OnOk, OnErr}
+use Rattle.std.proofs.Common.{◌≡◌, ◌^◌, ◌<◌, ℕ, Bool, true, false, ltb, List, ap, sym, ◌∙◌, refl, subst, Option, Some, None, is_some, Result, Ok, Err, OnOk, OnErr}
 use Rattle.std.proofs.lemmas.Bool.{ltb-true}
 use Rattle.rr_types.specs.declared.refusal.Refusal.{Refusal}
-use Rattle.rr_types.specs.declared.refusal.Refusal.TheVariants.{OutOfMemory}
-use Rattle.rr_types.specs.declared.command.Command.{Command}
 use Rattle.rr_types.specs.declared.command.RequestNo.{RequestNo}
 use Rattle.rr_types.specs.declared.command.Reply.{Reply}
 use Rattle.rr_types.specs.declared.promise.Entry.{Entry}
@@ -11,10 +9,12 @@ use Rattle.rr_types.specs.Registry.{has_request}
 use Rattle.rr_types.specs.Promises.{IsAscending}
 use Rattle.rr_registry.specs.Kept.{Kept, kept_of, kept_reply}
 use Rattle.rr_model.specs.NodeState.{NodeState, next_number, open_instances, decided_prefix}
-use Rattle.rr_model.specs.NodeStep.{Input, Submit, Suspect, Tick, Advance, Hear, node_step, input_refusal, submit_refusal, advance_refusal, refusal_of, restored, started}
+use Rattle.rr_types.specs.declared.input.Input.{Input}
+use Rattle.rr_types.specs.declared.input.Input.TheVariants.{Submit, Suspect, Tick, Advance, Hear}
+use Rattle.rr_model.specs.NodeStep.{taken_in, node_step, input_refusal, refusal_of, restored, started}
 use Rattle.rr_step.specs.Steps.{Changed, combined}
 use Rattle.rr_behaviour.specs.Changes.{IsStep}
-use Rattle.rr_behaviour.proofs.RefusalLemmas as refusals
+use Rattle.rr_behaviour.proofs.InputSteps.{step_is}
 use Rattle.rr_core.specs.Lawful.{IsLawful}
 use Rattle.rr_core.specs.Kept.{IsKept}
 use Rattle.rr_core.specs.Taken.{CanBeTaken}
@@ -33,12 +33,16 @@ has_room input s h = by (input_refusal input s) refl (ltb (next_number (node_ste
     by (Some y) e false g = absurd (let k = rw e at h in cc)
 
 -- and stays lawful
+taken_lawful : (input : Input) (s : NodeState) → IsLawful s → IsLawful (taken_in input s)
+unfolding taken_in
+taken_lawful (Submit c) s h = core.submit_lawful c s h
+taken_lawful (Hear m) s h = core.hear_lawful m s h
+taken_lawful (Suspect set) s h = core.suspect_lawful set s h
+taken_lawful Tick s h = core.tick_lawful s h
+taken_lawful Advance s h = core.advance_lawful s h
+
 stays_lawful : (input : Input) (s : NodeState) → IsLawful s → IsLawful (node_step input s)
-stays_lawful (Submit c) s h = rw (refusals.submit_step c s) (law.settle_lawful _ (core.submit_lawful c s h))
-stays_lawful (Suspect set) s h = rw (refusals.suspect_step set s) (law.settle_lawful _ (core.suspect_lawful set s h))
-stays_lawful Tick s h = rw (refusals.tick_step s) (law.settle_lawful _ (core.tick_lawful s h))
-stays_lawful Advance s h = rw (refusals.advance_step s) (law.settle_lawful _ (core.advance_lawful s h))
-stays_lawful (Hear m) s h = rw (refusals.hear_step m s) (law.settle_lawful _ (core.hear_lawful m s h))
+stays_lawful input s h = rw (step_is input s) (law.settle_lawful _ (taken_lawful input s h))
 
 -- what an input changes can be taken on
 pub taken_on : (input : Input) (s : NodeState) (c : Changed) → IsStep input s c → CanBeTaken s c
@@ -68,12 +72,3 @@ taken_at input s t c e d = subst (λ (u : NodeState). CanBeTaken u c) e (taken_o
 pub commit_kept : (s t : NodeState) (k : Kept) (c : Changed) (r : Result (Unit {0}) Refusal) → CanBeTaken s c → OnOk r (t ≡ combined s c) → OnErr r (t ≡ s) → IsKept s k → IsKept t k
 commit_kept s t k c (Ok u) d ok err kept = taken_kept s t k c d ok kept
 commit_kept s t k c (Err e) d ok err kept = rw err kept
-
--- where memory is wanting, what speaks against the input itself is told
-pub submit_unless : (c : Command) (s : NodeState) (o : Option Refusal) (r : Refusal) → o ≡ submit_refusal c s → r ≡ OutOfMemory → (unwrap_or o r ≡ OutOfMemory) ⊎ (refusal_of (Submit c) s ≡ Some (unwrap_or o r))
-submit_unless c s None r e m = inl m
-submit_unless c s (Some x) r e m = refusals.submit_err c s s x refl e
-
-pub advance_unless : (s : NodeState) (o : Option Refusal) (r : Refusal) → o ≡ advance_refusal s → r ≡ OutOfMemory → (unwrap_or o r ≡ OutOfMemory) ⊎ (refusal_of Advance s ≡ Some (unwrap_or o r))
-advance_unless s None r e m = inl m
-advance_unless s (Some x) r e m = refusals.advance_err s s x refl (inr (sym e))

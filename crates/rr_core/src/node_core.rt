@@ -2,28 +2,26 @@
 
 ghost use Rattle.std.specs.Prelude.{◌≡◌, ◌≢◌, ◌^◌, ◌<◌, ◌≤◌, ◌⊎◌, true, None, Some, Err, [], length, slice_get, IfOk, IfErr, IfSome, IsSome, MatchOption, OnOk, OnErr};
 ghost use Rattle.rr_model.specs.NodeState.{decided_prefix};
-ghost use Rattle.rr_model.specs.NodeStep.{Submit, Suspect, Tick, Advance, Hear, node_step, submit_refusal, advance_refusal, refusal_of, group_taken, running_group, group_put_back, marked_running, next_leaving, message_left, next_acknowledged, acknowledged, started};
+ghost use Rattle.rr_model.specs.NodeStep.{node_step, input_refusal, refusal_of, group_taken, running_group, group_put_back, marked_running, next_leaving, message_left, next_acknowledged, acknowledged, started};
 ghost use Rattle.rr_types.specs.declared.refusal.Refusal.{Refusal};
 ghost use Rattle.rr_types.specs.Promises.{all_fit};
 ghost use Rattle.rr_types.specs.Registry.{registry_of, reply_of};
 ghost use Rattle.rr_outbox.specs.Marks.{IsFreeOrBacked};
 ghost use Rattle.rr_step.specs.Steps.{combined};
+ghost use Rattle.rr_behaviour.specs.Changes.{is_repeated};
 ghost use Rattle.rr_core.specs.Taken.{CanBeTaken};
 ghost use Rattle.rr_core.specs.Covered.{LeavesCovered};
 
 use crate::group::{commands_after, is_running_group, mark_running, put_back, take_group};
 use crate::leaving::{Searched, is_any_answered, take_acknowledged, take_leaving};
 use crate::prefix::registry_of_prefix;
-use rr_behaviour::{
-    advance_refusal, advance_step, hear_step, started, submit_refusal, submit_step, suspect_step,
-    tick_step,
-};
+use rr_behaviour::{input_refusal, input_step, started};
 use rr_journal::{Opened, Synced};
 use rr_outbox::Cleared;
 use rr_registry::{Entries, Registry};
 use rr_step::{Changes, State};
 use rr_types::{
-    Command, Group, Instance, Message, NodeId, NodeSet, Nodes, Promise, Refusal, Reply, RequestNo,
+    Command, Group, Input, Instance, NodeId, NodeSet, Nodes, Promise, Refusal, Reply, RequestNo,
 };
 use std::alloc::Global;
 use std::marker::Model;
@@ -109,88 +107,34 @@ impl Core {
         absorbed
     }
 
-    /// A client asks for a command. It is `ListFull`, even where memory runs out, if the command is new and all
-    /// instances are decided here. It is `TooLarge` where a fact would have no number.
-    #[tactic(auto, using(crate::proofs::TakenLemmas::held, crate::proofs::TakenLemmas::submit_unless))]
-    pub fn submit(&mut self, command: Command) -> Result<(), Refusal>
-        ensures ok { OnOk result (self.new ≡ node_step (Submit command) self.old) }
-        ensures allowed { OnOk result (refusal_of (Submit command) self.old ≡ None) }
-        ensures order { (e : Refusal) → submit_refusal command self.old ≡ Some e → result ≡ Err e }
-        ensures refused { IfErr result (λ e. (e ≡ Refusal.OutOfMemory) ⊎ (refusal_of (Submit command) self.old ≡ Some e)) }
-        ensures err { OnErr result (self.new ≡ self.old) }
+    /// Whether an input is a command whose request the decided prefix holds.
+    #[tactic(auto, using(crate::proofs::TakenLemmas::held))]
+    fn is_repeated(&self, input: &Input) -> bool
+        ensures { result ≡ is_repeated input.now self.now }
     {
-        let is_held = self.registry.reply(command.request).is_some();
-        let room = match self.take_room() {
-            Ok(room) => room,
-            // What speaks against the command itself is told even where memory runs out.
-            Err(refusal) => {
-                return Err(submit_refusal(&self.state, &command).unwrap_or(refusal));
-            }
-        };
-        match submit_step(&self.state, room, command, is_held) {
-            Ok(changes) => self.commit(changes),
-            Err(refusal) => Err(refusal),
+        match input {
+            Input::Submit(command) => self.registry.reply(command.request).is_some(),
+            _ => false,
         }
     }
 
-    /// A message comes. It is `TooLarge` where a fact would have no number.
-    pub fn hear(&mut self, message: &Message) -> Result<(), Refusal>
-        ensures ok { OnOk result (self.new ≡ node_step (Hear message.now) self.old) }
-        ensures allowed { OnOk result (refusal_of (Hear message.now) self.old ≡ None) }
-        ensures refused { IfErr result (λ e. (e ≡ Refusal.OutOfMemory) ⊎ (refusal_of (Hear message.now) self.old ≡ Some e)) }
+    /// The node is told this. It is refused for what it is even where memory runs out: a new command while all instances
+    /// are decided here is `ListFull`, and an advance out of the last round `RoundsOut`. It is `TooLarge` where a fact
+    /// would have no number.
+    #[tactic(auto, using(rr_behaviour::proofs::InputSteps::refused))]
+    pub fn step(&mut self, input: &Input) -> Result<(), Refusal>
+        ensures ok { OnOk result (self.new ≡ node_step input.now self.old) }
+        ensures allowed { OnOk result (refusal_of input.now self.old ≡ None) }
+        ensures order { (e : Refusal) → input_refusal input.now self.old ≡ Some e → result ≡ Err e }
+        ensures refused { IfErr result (λ e. (e ≡ Refusal.OutOfMemory) ⊎ (refusal_of input.now self.old ≡ Some e)) }
         ensures err { OnErr result (self.new ≡ self.old) }
     {
+        if let Some(refusal) = input_refusal(&self.state, input) {
+            return Err(refusal);
+        }
+        let is_held = self.is_repeated(input);
         let room = self.take_room()?;
-        match hear_step(&self.state, room, self.alloc, message) {
-            Ok(changes) => self.commit(changes),
-            Err(refusal) => Err(refusal),
-        }
-    }
-
-    /// The suspects are set. It is `TooLarge` where a fact would have no number.
-    pub fn suspect(&mut self, suspects: NodeSet) -> Result<(), Refusal>
-        ensures ok { OnOk result (self.new ≡ node_step (Suspect suspects) self.old) }
-        ensures allowed { OnOk result (refusal_of (Suspect suspects) self.old ≡ None) }
-        ensures refused { IfErr result (λ e. (e ≡ Refusal.OutOfMemory) ⊎ (refusal_of (Suspect suspects) self.old ≡ Some e)) }
-        ensures err { OnErr result (self.new ≡ self.old) }
-    {
-        let room = self.take_room()?;
-        match suspect_step(&self.state, room, suspects) {
-            Ok(changes) => self.commit(changes),
-            Err(refusal) => Err(refusal),
-        }
-    }
-
-    /// A tick: the heartbeat detector ticks, and the node restates where it stands. It is `TooLarge` where a
-    /// fact would have no number.
-    pub fn tick(&mut self) -> Result<(), Refusal>
-        ensures ok { OnOk result (self.new ≡ node_step Tick self.old) }
-        ensures allowed { OnOk result (refusal_of Tick self.old ≡ None) }
-        ensures refused { IfErr result (λ e. (e ≡ Refusal.OutOfMemory) ⊎ (refusal_of Tick self.old ≡ Some e)) }
-        ensures err { OnErr result (self.new ≡ self.old) }
-    {
-        let room = self.take_room()?;
-        match tick_step(&self.state, room) {
-            Ok(changes) => self.commit(changes),
-            Err(refusal) => Err(refusal),
-        }
-    }
-
-    /// The lowest open instance that has a round enters the next one. It is `RoundsOut` where that is the last
-    /// round already, even where memory runs out, and `TooLarge` where a fact would have no number.
-    #[tactic(auto, using(crate::proofs::TakenLemmas::advance_unless))]
-    pub fn advance(&mut self) -> Result<(), Refusal>
-        ensures ok { OnOk result (self.new ≡ node_step Advance self.old) }
-        ensures allowed { OnOk result (refusal_of Advance self.old ≡ None) }
-        ensures order { (e : Refusal) → advance_refusal self.old ≡ Some e → result ≡ Err e }
-        ensures refused { IfErr result (λ e. (e ≡ Refusal.OutOfMemory) ⊎ (refusal_of Advance self.old ≡ Some e)) }
-        ensures err { OnErr result (self.new ≡ self.old) }
-    {
-        let room = match self.take_room() {
-            Ok(room) => room,
-            Err(refusal) => return Err(advance_refusal(&self.state).unwrap_or(refusal)),
-        };
-        match advance_step(&self.state, room) {
+        match input_step(&self.state, room, self.alloc, input, is_held) {
             Ok(changes) => self.commit(changes),
             Err(refusal) => Err(refusal),
         }

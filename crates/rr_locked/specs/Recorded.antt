@@ -8,11 +8,21 @@ use Rattle.rr_tape.specs.declared.tape_event.TapeEvent.{TapeEvent}
 use Rattle.rr_tape.specs.declared.tape_event.TapeEvent.TheVariants.{Submit, Hear, Suspect, Tick, Advance, Take, Mark, Send, Ack}
 use Rattle.rr_tape.specs.Taped.{Taped, IsTapeEvent}
 use Rattle.rr_types.specs.declared.message.Message.{Message}
+use Rattle.rr_types.specs.declared.input.Input.{Input}
+use Rattle.rr_types.specs.declared.input.Input.TheVariants as told
 
 -- a message on its way, and its number on the tape
 pub record Sent : Type 0 where
   pub number : ℕ
   pub message : Message
+
+-- an input of node p as an event of a tape, on which a message that it hears has number k
+abbrev pub event_of : ℕ → ℕ → Input → TapeEvent
+event_of p k (told.Submit c) = Submit p c
+event_of p k (told.Hear m) = Hear p k
+event_of p k (told.Suspect set) = Suspect p set
+event_of p k told.Tick = Tick p
+event_of p k told.Advance = Advance p
 
 -- whether a message is sent by the event
 abbrev pub is_send : TapeEvent → Bool

@@ -1,7 +1,6 @@
 //! What a node's threads share, and what each does in a turn; `rr_threads` has the loops. `Locked` is a core under its lock:
-//! clients call `submit`, the node's loop `hear`, `mark`, `take_group`, `next_message`, `tick` and `advance`. `carry` flushes a
-//! group, and `follow` takes what is decided to a publisher. The calls named `.._on` also note their event on the tape
-//! (`Recording`).
+//! clients and the node's loop call `step`, and the loop `mark`, `take_group` and `next_message`. `carry` flushes a group,
+//! and `follow` takes what is decided to a publisher. The calls named `.._on` also note their event on the tape (`Recording`).
 #![tactic(auto)]
 
 mod among;
@@ -20,7 +19,7 @@ pub use ending::{Ending, Failure};
 pub use flusher::{Unflushed, carry, flush};
 pub use following::follow;
 pub use locked::Locked;
-pub use recorded::{ack_on, advance_on, hear_on, mark_on, send_on, submit_on, take_on, tick_on};
+pub use recorded::{ack_on, input_on, mark_on, send_on, take_on};
 pub use recording::Recording;
 pub use sent::{Sent, send};
 pub use standstill::Standstill;

@@ -2,7 +2,7 @@
 
 ghost use Rattle.std.specs.Prelude.{◌≡◌, ◌≢◌, ◌⊎◌, [], true, None, Some, Err, IfOk, IfErr, IfSome, IsSome, MatchOption, OnOk, OnErr};
 ghost use Rattle.rr_model.specs.NodeState.{decided_prefix};
-ghost use Rattle.rr_model.specs.NodeStep.{Submit, Tick, Advance, Hear, node_step, advance_refusal, refusal_of, group_taken, running_group, group_put_back, marked_running, next_leaving, message_left, next_acknowledged, acknowledged};
+ghost use Rattle.rr_model.specs.NodeStep.{node_step, input_refusal, refusal_of, group_taken, running_group, group_put_back, marked_running, next_leaving, message_left, next_acknowledged, acknowledged};
 ghost use Rattle.rr_types.specs.Promises.{all_fit};
 ghost use Rattle.rr_types.specs.Registry.{reply_of};
 ghost use Rattle.rr_outbox.specs.Marks.{IsFreeOrBacked};
@@ -10,7 +10,7 @@ ghost use Rattle.rr_core.specs.Covered.{LeavesCovered};
 
 use rr_core::{Cleared, Core};
 use rr_journal::Synced;
-use rr_types::{Command, Group, Message, NodeId, Refusal, Reply, RequestNo};
+use rr_types::{Group, Input, NodeId, Refusal, Reply, RequestNo};
 use std::marker::Model;
 
 /// A node as its threads share it, one at a time. Whenever none of them is inside a call, each message that may leave is
@@ -69,54 +69,16 @@ impl Locked {
         self.core.reply(request)
     }
 
-    /// A client asks for a command. It is `ListFull` where the command is new and all instances are decided
-    /// here, and `TooLarge` where a fact would have no number.
-    pub fn submit(&mut self, command: &Command) -> Result<(), Refusal>
-        ensures ok { OnOk result (self.new ≡ node_step (Submit command.now) self.old) }
-        ensures allowed { OnOk result (refusal_of (Submit command.now) self.old ≡ None) }
-        ensures refused { IfErr result (λ e. (e ≡ Refusal.OutOfMemory) ⊎ (refusal_of (Submit command.now) self.old ≡ Some e)) }
+    /// The node is told this. A new command while all instances are decided here is `ListFull`, an advance out of the last
+    /// round `RoundsOut`, both even where memory runs out. It is `TooLarge` where a fact would have no number.
+    pub fn step(&mut self, input: &Input) -> Result<(), Refusal>
+        ensures ok { OnOk result (self.new ≡ node_step input.now self.old) }
+        ensures allowed { OnOk result (refusal_of input.now self.old ≡ None) }
+        ensures order { (e : Refusal) → input_refusal input.now self.old ≡ Some e → result ≡ Err e }
+        ensures refused { IfErr result (λ e. (e ≡ Refusal.OutOfMemory) ⊎ (refusal_of input.now self.old ≡ Some e)) }
         ensures err { OnErr result (self.new ≡ self.old) }
     {
-        let told = self.core.submit(*command);
-        self.core.leaves_covered();
-        told
-    }
-
-    /// A message comes. It is `TooLarge` where a fact would have no number.
-    pub fn hear(&mut self, message: &Message) -> Result<(), Refusal>
-        ensures ok { OnOk result (self.new ≡ node_step (Hear message.now) self.old) }
-        ensures allowed { OnOk result (refusal_of (Hear message.now) self.old ≡ None) }
-        ensures refused { IfErr result (λ e. (e ≡ Refusal.OutOfMemory) ⊎ (refusal_of (Hear message.now) self.old ≡ Some e)) }
-        ensures err { OnErr result (self.new ≡ self.old) }
-    {
-        let told = self.core.hear(message);
-        self.core.leaves_covered();
-        told
-    }
-
-    /// A tick: the heartbeat detector ticks, and the node restates where it stands. It is `TooLarge` where a fact
-    /// would have no number.
-    pub fn tick(&mut self) -> Result<(), Refusal>
-        ensures ok { OnOk result (self.new ≡ node_step Tick self.old) }
-        ensures allowed { OnOk result (refusal_of Tick self.old ≡ None) }
-        ensures refused { IfErr result (λ e. (e ≡ Refusal.OutOfMemory) ⊎ (refusal_of Tick self.old ≡ Some e)) }
-        ensures err { OnErr result (self.new ≡ self.old) }
-    {
-        let told = self.core.tick();
-        self.core.leaves_covered();
-        told
-    }
-
-    /// The lowest open instance that has a round enters the next one. It is `RoundsOut` where that is the last
-    /// round already, and `TooLarge` where a fact would have no number.
-    pub fn advance(&mut self) -> Result<(), Refusal>
-        ensures ok { OnOk result (self.new ≡ node_step Advance self.old) }
-        ensures allowed { OnOk result (refusal_of Advance self.old ≡ None) }
-        ensures order { (e : Refusal) → advance_refusal self.old ≡ Some e → result ≡ Err e }
-        ensures refused { IfErr result (λ e. (e ≡ Refusal.OutOfMemory) ⊎ (refusal_of Advance self.old ≡ Some e)) }
-        ensures err { OnErr result (self.new ≡ self.old) }
-    {
-        let told = self.core.advance();
+        let told = self.core.step(input);
         self.core.leaves_covered();
         told
     }

@@ -5,79 +5,55 @@
 
 ghost use Rattle.std.specs.Prelude.{◌≡◌, ◌≢◌, ◌⊎◌, [], None, Some, IfOk, IfErr, IfNone, IfSome, IsSome, OnOk, OnErr};
 ghost use Rattle.rr_model.specs.NodeState.{decided_prefix};
-ghost use Rattle.rr_model.specs.NodeStep as node;
 ghost use Rattle.rr_model.specs.NodeStep.{node_step, refusal_of, group_taken, running_group, marked_running, next_leaving, message_left, next_acknowledged, acknowledged};
 ghost use Rattle.rr_types.specs.Registry.{reply_of};
 ghost use Rattle.rr_tape.specs.declared.tape_event.TapeEvent.TheVariants as tape;
-ghost use Rattle.rr_locked.specs.Recorded.{sent_on, with_event, HasNoPlace};
+ghost use Rattle.rr_locked.specs.Recorded.{event_of, sent_on, with_event, HasNoPlace};
 
 use crate::locked::Locked;
 use crate::recording::Recording;
 use crate::sent::Sent;
 use rr_journal::Synced;
 use rr_tape::TapeEvent;
-use rr_types::{Body, Command, Estimate, Group, Message, Op, Refusal, Reply, RequestNo, made_of};
+use rr_types::{
+    Body, Command, Estimate, Group, Input, Message, NodeId, Op, Refusal, Reply, RequestNo, made_of,
+};
 
-/// A client asks a node for a command.
-pub fn submit_on(
+/// An input of a node as an event of a tape, on which a message that it hears has this number.
+fn event_of(node: NodeId, number: u32, input: &Input) -> TapeEvent
+    ensures { result ≡ event_of node number input.now }
+{
+    made_of!(Command, Op);
+    match input {
+        Input::Submit(command) => TapeEvent::Submit {
+            node,
+            command: *command,
+        },
+        Input::Hear(_) => TapeEvent::Hear {
+            node,
+            message: number,
+        },
+        Input::Suspect(set) => TapeEvent::Suspect { node, set: *set },
+        Input::Tick => TapeEvent::Tick { node },
+        Input::Advance => TapeEvent::Advance { node },
+    }
+}
+
+/// A node is told this. A message that it hears has this number on the tape.
+pub fn input_on(
     locked: &mut Locked,
     recording: &mut Recording,
-    command: &Command,
+    input: &Input,
+    number: u32,
 ) -> Result<(), Refusal>
-    ensures step { OnOk result ((locked.new ≡ node_step (node.Submit command.now) locked.old) × (refusal_of (node.Submit command.now) locked.old ≡ None)) }
-    ensures event { OnOk result (recording.new ≡ with_event recording.old (tape.Submit locked.old.node command.now)) }
+    ensures step { OnOk result ((locked.new ≡ node_step input.now locked.old) × (refusal_of input.now locked.old ≡ None)) }
+    ensures event { OnOk result (recording.new ≡ with_event recording.old (event_of locked.old.node number input.now)) }
     ensures kept { OnErr result (recording.new ≡ recording.old) }
-    ensures cause { IfErr result (λ e. ((locked.new ≡ locked.old) × ((e ≡ Refusal.OutOfMemory) ⊎ (refusal_of (node.Submit command.now) locked.old ≡ Some e)))
-        ⊎ ((locked.new ≡ node_step (node.Submit command.now) locked.old) × HasNoPlace recording.old (tape.Submit locked.old.node command.now) e)) }
+    ensures cause { IfErr result (λ e. ((locked.new ≡ locked.old) × ((e ≡ Refusal.OutOfMemory) ⊎ (refusal_of input.now locked.old ≡ Some e)))
+        ⊎ ((locked.new ≡ node_step input.now locked.old) × HasNoPlace recording.old (event_of locked.old.node number input.now) e)) }
 {
-    made_of!(Op);
-    let node = locked.node();
-    locked.submit(command)?;
-    let command = *command;
-    let event = TapeEvent::Submit { node, command };
-    recording.note(&event)
-}
-
-/// A node hears a message of this number.
-pub fn hear_on(locked: &mut Locked, recording: &mut Recording, sent: &Sent) -> Result<(), Refusal>
-    ensures step { OnOk result ((locked.new ≡ node_step (node.Hear sent.now.message) locked.old) × (refusal_of (node.Hear sent.now.message) locked.old ≡ None)) }
-    ensures event { OnOk result (recording.new ≡ with_event recording.old (tape.Hear locked.old.node sent.now.number)) }
-    ensures kept { OnErr result (recording.new ≡ recording.old) }
-    ensures cause { IfErr result (λ e. ((locked.new ≡ locked.old) × ((e ≡ Refusal.OutOfMemory) ⊎ (refusal_of (node.Hear sent.now.message) locked.old ≡ Some e)))
-        ⊎ ((locked.new ≡ node_step (node.Hear sent.now.message) locked.old) × HasNoPlace recording.old (tape.Hear locked.old.node sent.now.number) e)) }
-{
-    let node = locked.node();
-    locked.hear(sent.message())?;
-    let message = sent.number();
-    let event = TapeEvent::Hear { node, message };
-    recording.note(&event)
-}
-
-/// A node ticks.
-pub fn tick_on(locked: &mut Locked, recording: &mut Recording) -> Result<(), Refusal>
-    ensures step { OnOk result ((locked.new ≡ node_step node.Tick locked.old) × (refusal_of node.Tick locked.old ≡ None)) }
-    ensures event { OnOk result (recording.new ≡ with_event recording.old (tape.Tick locked.old.node)) }
-    ensures kept { OnErr result (recording.new ≡ recording.old) }
-    ensures cause { IfErr result (λ e. ((locked.new ≡ locked.old) × ((e ≡ Refusal.OutOfMemory) ⊎ (refusal_of node.Tick locked.old ≡ Some e)))
-        ⊎ ((locked.new ≡ node_step node.Tick locked.old) × HasNoPlace recording.old (tape.Tick locked.old.node) e)) }
-{
-    let node = locked.node();
-    locked.tick()?;
-    let event = TapeEvent::Tick { node };
-    recording.note(&event)
-}
-
-/// The lowest open instance of a node that has a round enters the next one.
-pub fn advance_on(locked: &mut Locked, recording: &mut Recording) -> Result<(), Refusal>
-    ensures step { OnOk result ((locked.new ≡ node_step node.Advance locked.old) × (refusal_of node.Advance locked.old ≡ None)) }
-    ensures event { OnOk result (recording.new ≡ with_event recording.old (tape.Advance locked.old.node)) }
-    ensures kept { OnErr result (recording.new ≡ recording.old) }
-    ensures cause { IfErr result (λ e. ((locked.new ≡ locked.old) × ((e ≡ Refusal.OutOfMemory) ⊎ (refusal_of node.Advance locked.old ≡ Some e)))
-        ⊎ ((locked.new ≡ node_step node.Advance locked.old) × HasNoPlace recording.old (tape.Advance locked.old.node) e)) }
-{
-    let node = locked.node();
-    locked.advance()?;
-    let event = TapeEvent::Advance { node };
+    let event = event_of(locked.node(), number, input);
+    locked.step(input)?;
     recording.note(&event)
 }
 

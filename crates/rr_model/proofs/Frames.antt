@@ -12,8 +12,9 @@ use Rattle.rr_model.specs.World as world
 use Rattle.rr_model.specs.World.{World, Step, Submit, Hear, Stage, Settle, Send, Acknowledge, GoDown, Restart, after_step, with_at}
 use Rattle.rr_model.specs.Laws.{after_steps}
 use Rattle.rr_model.specs.NodeState.{NodeState}
-use Rattle.rr_model.specs.NodeStep as step
-use Rattle.rr_model.specs.NodeStep.{Input, next_leaving, next_acknowledged}
+use Rattle.rr_types.specs.declared.input.Input.TheVariants as told
+use Rattle.rr_types.specs.declared.input.Input.{Input}
+use Rattle.rr_model.specs.NodeStep.{next_leaving, next_acknowledged}
 use Rattle.rr_model.specs.NodeLaws.{NodeEvent, Told, Grouped, PutBack, Marked, Left, Answered, facts_of_input}
 use Rattle.rr_model.specs.NodeWorld.{step_of_input, told_reply, steps_of_event}
 use Rattle.rr_model.specs.NodeInWorld.{IsInWorld, IsDownIn, node_of, AreStepsAt, LeavesAlone, SaysJustThat}
@@ -63,11 +64,11 @@ stages_at p [] = tt
 stages_at p (f ∷ fs) = (refl, stages_at p fs)
 
 input_at : (p : ℕ) (input : Input) → AreStepsAt p (step_of_input p input)
-input_at p (step.Submit c) = (refl, tt)
-input_at p (step.Suspect set) = tt
-input_at p step.Tick = tt
-input_at p step.Advance = tt
-input_at p (step.Hear m) = at (m.to == p)
+input_at p (told.Submit c) = (refl, tt)
+input_at p (told.Suspect set) = tt
+input_at p told.Tick = tt
+input_at p told.Advance = tt
+input_at p (told.Hear m) = at (m.to == p)
   where
     at : (b : Bool) → AreStepsAt p (if b then Hear p m ∷ [] else [])
     at true = (refl, tt)
@@ -104,11 +105,11 @@ stages_quietly p w [] = record { wire = refl; trace = refl }
 stages_quietly p w (f ∷ fs) = let q : IsAsQuiet (after_step w (Stage p f)) (after_steps (after_step w (Stage p f)) (map (Stage p) fs)) = stages_quietly p (after_step w (Stage p f)) fs in record { wire = q.wire; trace = q.trace }
 
 input_quietly : (p : ℕ) (w : World) (input : Input) → IsAsQuiet w (after_steps w (step_of_input p input))
-input_quietly p w (step.Submit c) = record { wire = refl; trace = refl }
-input_quietly p w (step.Suspect set) = record { wire = refl; trace = refl }
-input_quietly p w step.Tick = record { wire = refl; trace = refl }
-input_quietly p w step.Advance = record { wire = refl; trace = refl }
-input_quietly p w (step.Hear m) = at (m.to == p)
+input_quietly p w (told.Submit c) = record { wire = refl; trace = refl }
+input_quietly p w (told.Suspect set) = record { wire = refl; trace = refl }
+input_quietly p w told.Tick = record { wire = refl; trace = refl }
+input_quietly p w told.Advance = record { wire = refl; trace = refl }
+input_quietly p w (told.Hear m) = at (m.to == p)
   where
     at : (b : Bool) → IsAsQuiet w (after_steps w (if b then Hear p m ∷ [] else []))
     at true = record { wire = refl; trace = refl }

@@ -23,7 +23,9 @@ use Rattle.rr_model.proofs.Permitted.{IsNamed, IsInRound}
 use Rattle.rr_model.specs.NodeState.{NodeState, Row, Tally, row_of, standing_at, open_instances, is_open, first_undecided, decided_prefix, everyone, others, ◌▷◌}
 use Rattle.rr_model.specs.NodeDetector.{all_ticked, late_nodes}
 use Rattle.rr_model.specs.NodeParts.{owe, restate_all, stage, pool_add, backing_at, enter, conclude}
-use Rattle.rr_model.specs.NodeStep.{Input, Submit, Suspect, Tick, Advance, Hear, is_waiting, wait_for, submitted, is_list_full, is_behind, ask, acknowledge, ticked_on, lowest_in_round, advanced, count_estimate, count_ack, count_nack, catch_up, take_proposal, take_estimate, answer, heard_body, taken_in}
+use Rattle.rr_types.specs.declared.input.Input.{Input}
+use Rattle.rr_types.specs.declared.input.Input.TheVariants.{Submit, Suspect, Tick, Advance, Hear}
+use Rattle.rr_model.specs.NodeStep.{is_waiting, wait_for, submitted, is_list_full, is_behind, ask, acknowledge, ticked_on, lowest_in_round, advanced, count_estimate, count_ack, count_nack, catch_up, take_proposal, take_estimate, answer, heard_body, taken_in}
 use Rattle.rr_model.specs.NodeLaws.{hear_message, IsOfSubmitted, heard_input, IsInputOfNodes}
 use Rattle.rr_model.proofs.Growth.{Within}
 use Rattle.rr_model.proofs.NodeRows.{stands}

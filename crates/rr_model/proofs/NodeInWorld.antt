@@ -14,7 +14,8 @@ use Rattle.rr_model.specs.World as world
 use Rattle.rr_model.specs.World.{World, Step, Stage, Settle, Send, Acknowledge, GoDown, after_step, IsRunFrom}
 use Rattle.rr_model.specs.Laws.{after_steps}
 use Rattle.rr_model.specs.NodeState.{NodeState}
-use Rattle.rr_model.specs.NodeStep.{Input, node_step, group_taken, group_put_back, marked_running, message_left, acknowledged, next_leaving, next_acknowledged}
+use Rattle.rr_types.specs.declared.input.Input.{Input}
+use Rattle.rr_model.specs.NodeStep.{node_step, group_taken, group_put_back, marked_running, message_left, acknowledged, next_leaving, next_acknowledged}
 use Rattle.rr_model.specs.NodeLaws.{AreLawful, IsOfSubmitted, NodeEvent, Told, Grouped, PutBack, Marked, Left, Answered, heard_input, facts_of_input, marked_facts, IsTruthful}
 use Rattle.rr_model.specs.NodeWorld.{step_of_input, told_reply}
 use Rattle.rr_model.specs.NodeReached.{IsProperEvent, IsReached}

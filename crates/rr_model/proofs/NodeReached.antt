@@ -8,7 +8,9 @@ use Rattle.rr_types.specs.Standings.{fits}
 use Rattle.rr_types.specs.Promises.{promise_of, all_fit}
 use Rattle.rr_model.specs.Lawful.{Heard}
 use Rattle.rr_model.specs.NodeState.{NodeState}
-use Rattle.rr_model.specs.NodeStep.{Input, Submit, Suspect, Tick, Advance, Hear, node_step}
+use Rattle.rr_types.specs.declared.input.Input.{Input}
+use Rattle.rr_types.specs.declared.input.Input.TheVariants.{Submit, Suspect, Tick, Advance, Hear}
+use Rattle.rr_model.specs.NodeStep.{node_step}
 use Rattle.rr_model.specs.NodeLaws.{AreLawful, NodeEvent, Told, Grouped, PutBack, Marked, Left, Answered, after_event, heard_input, heard_after, IsInputOfNodes, IsEventOfNodes, facts_of_event, marked_facts, IsTruthful}
 use Rattle.rr_model.specs.NodeReached.{IsProperInput, IsProperEvent, IsReached, Opened, Happened, StagesLawfully, IsItself}
 use Rattle.rr_model.proofs.Permitted.{lawful_permitted}

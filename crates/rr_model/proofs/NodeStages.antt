@@ -16,7 +16,8 @@ use Rattle.rr_model.specs.NodeState as node
 use Rattle.rr_model.specs.Lawful.{Heard, IsBacked}
 use Rattle.rr_model.specs.World.{nothing_heard}
 use Rattle.rr_model.specs.NodeState.{NodeState, Row, Owed, row_of, open_instances}
-use Rattle.rr_model.specs.NodeStep.{Input, node_step, taken_in, group_taken, group_put_back, marked_running, may_leave, without_first_leaving, message_left, acknowledged, promised_row, restored, started}
+use Rattle.rr_types.specs.declared.input.Input.{Input}
+use Rattle.rr_model.specs.NodeStep.{node_step, taken_in, group_taken, group_put_back, marked_running, may_leave, without_first_leaving, message_left, acknowledged, promised_row, restored, started}
 use Rattle.rr_model.specs.NodeDue.{settle}
 use Rattle.rr_model.specs.NodeLaws.{IsOfSubmitted, AreLawful, NodeEvent, Told, Grouped, PutBack, Marked, Left, Answered, after_event, heard_input, heard_after, IsInputOfNodes, IsEventOfNodes, AreEventsOfNodes, facts_of_input, facts_of_event, StagesOnlyLawful, IsLawfulNode, HasRound, IsTruthful, StaysTruthful, IsTruthfulNode}
 use Rattle.rr_model.proofs.Promised.{standing_in-promise_of}

@@ -21,7 +21,9 @@ use Rattle.rr_model.specs.NodeState.{NodeState, Row, Tally, ◌▷◌, next_numb
 use Rattle.rr_model.specs.NodeDetector.{all_ticked, late_nodes}
 use Rattle.rr_model.specs.NodeParts.{owe, pool_add, stage, backing_at, leave_round, enter_with, entering_estimate, enter, restate, restate_all, conclude, propose}
 use Rattle.rr_model.specs.NodeDue.{Due, Begin, Offer, Conclude, MoveOn, due, carry_out, settle_within, settle}
-use Rattle.rr_model.specs.NodeStep.{Input, Submit, Suspect, Tick, Advance, Hear, is_waiting, wait_for, submitted, is_list_full, is_behind, ask, ticked_on, lowest_in_round, advanced, with_vote, change_tally, count_estimate, count_ack, count_nack, catch_up, acknowledge, take_proposal, take_estimate, has_proposed, answer, if_open, heard_body, heard, taken_in, node_step, restored, started}
+use Rattle.rr_types.specs.declared.input.Input.{Input}
+use Rattle.rr_types.specs.declared.input.Input.TheVariants.{Submit, Suspect, Tick, Advance, Hear}
+use Rattle.rr_model.specs.NodeStep.{is_waiting, wait_for, submitted, is_list_full, is_behind, ask, ticked_on, lowest_in_round, advanced, with_vote, change_tally, count_estimate, count_ack, count_nack, catch_up, acknowledge, take_proposal, take_estimate, has_proposed, answer, if_open, heard_body, heard, taken_in, node_step, restored, started}
 use Rattle.rr_model.specs.NodeStays.{StaysMarked}
 
 itself : (s : NodeState) → StaysMarked s s

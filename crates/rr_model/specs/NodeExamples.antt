@@ -2,7 +2,8 @@ use Rattle.std.specs.Prelude.{[]}
 use Rattle.rr_types.specs.declared.message.Body.TheVariants.{Estimate, Proposal, Ack}
 use Rattle.rr_model.specs.Examples.{claim_a_x, first_estimate, to_itself}
 use Rattle.rr_model.specs.NodeState.{NodeState}
-use Rattle.rr_model.specs.NodeStep.{Submit, Hear, node_step, group_taken, marked_running, started}
+use Rattle.rr_types.specs.declared.input.Input.TheVariants.{Submit, Hear}
+use Rattle.rr_model.specs.NodeStep.{node_step, group_taken, marked_running, started}
 
 -- a node alone is told to claim the name a
 unfoldable pub told_alone : NodeState

@@ -14,7 +14,9 @@ use Rattle.rr_model.specs.Lawful.{Heard, IsLawful, IsBacked}
 use Rattle.rr_model.specs.World as world
 use Rattle.rr_model.specs.World.{nothing_heard}
 use Rattle.rr_model.specs.NodeState.{NodeState, Owed, decided_prefix}
-use Rattle.rr_model.specs.NodeStep.{Input, Submit, Suspect, Tick, Advance, Hear, node_step, group_taken, group_put_back, marked_running, message_left, next_leaving, next_acknowledged, acknowledged, started}
+use Rattle.rr_types.specs.declared.input.Input.{Input}
+use Rattle.rr_types.specs.declared.input.Input.TheVariants.{Submit, Suspect, Tick, Advance, Hear}
+use Rattle.rr_model.specs.NodeStep.{node_step, group_taken, group_put_back, marked_running, message_left, next_leaving, next_acknowledged, acknowledged, started}
 
 -- the facts are lawful for node p of n one after another, behind those before them, after what it heard
 abbrev pub AreLawful : ℕ → ℕ → List Fact → Heard → List Fact → Type 0

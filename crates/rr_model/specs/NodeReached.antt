@@ -6,7 +6,9 @@ use Rattle.rr_types.specs.Promises.{promise_of, all_fit}
 use Rattle.rr_model.specs.Lawful.{Heard}
 use Rattle.rr_model.specs.World.{nothing_heard}
 use Rattle.rr_model.specs.NodeState.{NodeState}
-use Rattle.rr_model.specs.NodeStep.{Input, Submit, Suspect, Tick, Advance, Hear, started}
+use Rattle.rr_types.specs.declared.input.Input.{Input}
+use Rattle.rr_types.specs.declared.input.Input.TheVariants.{Submit, Suspect, Tick, Advance, Hear}
+use Rattle.rr_model.specs.NodeStep.{started}
 use Rattle.rr_model.specs.NodeLaws.{AreLawful, NodeEvent, Told, Grouped, PutBack, Marked, Left, Answered, after_event, heard_after, facts_of_event, StagesBehind, marked_facts}
 
 -- the round that a message names is above 0

@@ -4,6 +4,8 @@ use Rattle.std.specs.List.{list_any}
 use Rattle.rr_types.specs.declared.command.RequestNo.{RequestNo}
 use Rattle.rr_types.specs.declared.command.Command.{Command}
 use Rattle.rr_types.specs.declared.fact.Fact.TheVariants.{Adopt}
+use Rattle.rr_types.specs.declared.input.Input.{Input}
+use Rattle.rr_types.specs.declared.input.Input.TheVariants.{Submit, Hear, Suspect, Tick, Advance}
 use Rattle.rr_types.specs.declared.message.Message.{Message}
 use Rattle.rr_types.specs.declared.message.Body.{Body}
 use Rattle.rr_types.specs.declared.message.Body.TheVariants.{Estimate, Proposal, Ack, Decision, Request, Nack, Beat, Suspects, Ask}
@@ -22,14 +24,6 @@ use Rattle.rr_model.specs.NodeState.{NodeState, Row, Vote, Tally, Owed, no_votes
 use Rattle.rr_model.specs.NodeDetector.{new_watch, all_ticked, heard_beat, late_nodes, reduced}
 use Rattle.rr_model.specs.NodeParts.{owe, pool_add, stage, backing_at, enter, restate_all, conclude}
 use Rattle.rr_model.specs.NodeDue.{settle}
-
--- what a node is told
-pub data Input : Type 0 where
-  Submit : Command → Input
-  Suspect : ℕ → Input
-  Tick : Input
-  Advance : Input
-  Hear : Message → Input
 
 -- whether the request waits for its acknowledgement
 abbrev pub is_waiting : NodeState → RequestNo → Bool

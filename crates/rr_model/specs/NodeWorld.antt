@@ -13,7 +13,9 @@ use Rattle.rr_model.specs.World as world
 use Rattle.rr_model.specs.World.{World, Step, Stage, Settle, Send, Acknowledge, nothing_heard, IsRunFrom}
 use Rattle.rr_model.specs.Laws.{after_steps}
 use Rattle.rr_model.specs.NodeState.{NodeState, decided_prefix}
-use Rattle.rr_model.specs.NodeStep.{Input, Submit, Suspect, Tick, Advance, Hear, next_leaving, next_acknowledged, started}
+use Rattle.rr_types.specs.declared.input.Input.{Input}
+use Rattle.rr_types.specs.declared.input.Input.TheVariants.{Submit, Suspect, Tick, Advance, Hear}
+use Rattle.rr_model.specs.NodeStep.{next_leaving, next_acknowledged, started}
 use Rattle.rr_model.specs.NodeLaws.{NodeEvent, Told, Grouped, PutBack, Marked, Left, Answered, after_event, heard_after, AreEventsOfNodes, facts_of_input, facts_of_event, HasRound, marked_facts}
 
 -- what an input is in the world: a submit or a message for the node is a step, the rest is the node's own affair

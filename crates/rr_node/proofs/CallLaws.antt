@@ -9,7 +9,8 @@ use Rattle.rr_types.specs.declared.refusal.Refusal.{Refusal}
 use Rattle.rr_types.specs.declared.refusal.Refusal.TheVariants as because
 use Rattle.rr_types.specs.Registry.{reply_of}
 use Rattle.rr_model.specs.NodeState.{NodeState, decided_prefix}
-use Rattle.rr_model.specs.NodeStep.{Input, Submit, Hear, Suspect, Tick, Advance, node_step, refusal_of, group_taken, next_leaving, message_left, next_acknowledged, acknowledged}
+use Rattle.rr_types.specs.declared.input.Input.{Input}
+use Rattle.rr_model.specs.NodeStep.{node_step, refusal_of, group_taken, next_leaving, message_left, next_acknowledged, acknowledged}
 use Rattle.rr_disk.specs.Areas.{Areas, synced}
 use Rattle.rr_frame.specs.SnapshotFormat.{snapshot_bytes}
 use Rattle.rr_journal.specs.Calls.{Call, Read, Write, Sync, after_call, after_starved, after_failing, append_calls}
@@ -87,11 +88,7 @@ reply_none s journal flush seat = by (next_acknowledged s)
     by (Some q) = replied q (reply_of (decided_prefix s) q)
 
 serve_none : (event : NodeEvent) (s : NodeState) (journal : Journaled) (flush : Flush) (seat : Seat) → event ≢ at.Device → MakesNone seat (serve s journal flush seat event)
-serve_none (at.Submit c) s journal flush seat other = told_none (Submit c) s journal flush seat
-serve_none (at.Hear m) s journal flush seat other = told_none (Hear m) s journal flush seat
-serve_none (at.Suspect set) s journal flush seat other = told_none (Suspect set) s journal flush seat
-serve_none at.Tick s journal flush seat other = told_none Tick s journal flush seat
-serve_none at.Advance s journal flush seat other = told_none Advance s journal flush seat
+serve_none (at.Told input) s journal flush seat other = told_none input s journal flush seat
 serve_none at.Take s journal flush seat other = take_none s journal flush seat
 serve_none at.Device s journal flush seat other = absurd (other refl)
 serve_none at.Mark s journal flush seat other = mark_none s journal flush seat
@@ -101,11 +98,7 @@ serve_none at.Snap s journal flush seat other = snap_none s journal flush seat
 serve_none at.Restart s journal flush seat other = refl
 
 wait_none : (event : NodeEvent) (seat : Seat) (e : Refusal) → MakesNone seat (wait event seat e)
-wait_none (at.Submit c) seat e = refl
-wait_none (at.Hear m) seat e = refl
-wait_none (at.Suspect set) seat e = refl
-wait_none at.Tick seat e = refl
-wait_none at.Advance seat e = refl
+wait_none (at.Told input) seat e = refl
 wait_none at.Take seat e = refl
 wait_none at.Device seat e = refl
 wait_none at.Mark seat e = refl
@@ -115,11 +108,7 @@ wait_none at.Snap seat e = refl
 wait_none at.Restart seat e = refl
 
 await_none : (event : NodeEvent) (phase : Phase) (seat : Seat) → event ≢ at.Device → MakesNone seat (await_opening phase seat event)
-await_none (at.Submit c) phase seat other = refl
-await_none (at.Hear m) phase seat other = refl
-await_none (at.Suspect set) phase seat other = refl
-await_none at.Tick phase seat other = refl
-await_none at.Advance phase seat other = refl
+await_none (at.Told input) phase seat other = refl
 await_none at.Take phase seat other = refl
 await_none at.Device phase seat other = absurd (other refl)
 await_none at.Mark phase seat other = refl
@@ -137,11 +126,7 @@ step_none event seat (Serving s journal flush) other = serve_none event s journa
 -- where memory is wanting
 
 awaiting_none : (event : NodeEvent) (phase : Phase) (seat : Seat) → event ≢ at.Device → MakesNone seat (starve_awaiting phase event seat)
-awaiting_none (at.Submit c) phase seat other = step_none (at.Submit c) seat seat.doing other
-awaiting_none (at.Hear m) phase seat other = step_none (at.Hear m) seat seat.doing other
-awaiting_none (at.Suspect set) phase seat other = step_none (at.Suspect set) seat seat.doing other
-awaiting_none at.Tick phase seat other = step_none at.Tick seat seat.doing other
-awaiting_none at.Advance phase seat other = step_none at.Advance seat seat.doing other
+awaiting_none (at.Told input) phase seat other = step_none (at.Told input) seat seat.doing other
 awaiting_none at.Take phase seat other = step_none at.Take seat seat.doing other
 awaiting_none at.Device phase seat other = absurd (other refl)
 awaiting_none at.Mark phase seat other = step_none at.Mark seat seat.doing other
@@ -163,11 +148,7 @@ marking_none Flushed seat = refl
 marking_none (Switching calls) seat = step_none at.Mark seat seat.doing (λ e. cc)
 
 serving_none : (event : NodeEvent) (s : NodeState) (flush : Flush) (seat : Seat) → event ≢ at.Device → MakesNone seat (starve_serving s flush event seat)
-serving_none (at.Submit c) s flush seat other = refl
-serving_none (at.Hear m) s flush seat other = refl
-serving_none (at.Suspect set) s flush seat other = refl
-serving_none at.Tick s flush seat other = refl
-serving_none at.Advance s flush seat other = refl
+serving_none (at.Told input) s flush seat other = refl
 serving_none at.Take s flush seat other = beginning_none at.Take flush seat other
 serving_none at.Device s flush seat other = absurd (other refl)
 serving_none at.Mark s flush seat other = marking_none flush seat
@@ -253,11 +234,7 @@ fail_one leaves (Serving s journal (Switching (call ∷ calls))) seat = inr refl
 -- ---- what was given
 
 is_device : (event : NodeEvent) → (event ≡ at.Device) ⊎ (event ≢ at.Device)
-is_device (at.Submit c) = inr (λ e. cc)
-is_device (at.Hear m) = inr (λ e. cc)
-is_device (at.Suspect set) = inr (λ e. cc)
-is_device at.Tick = inr (λ e. cc)
-is_device at.Advance = inr (λ e. cc)
+is_device (at.Told input) = inr (λ e. cc)
 is_device at.Take = inr (λ e. cc)
 is_device at.Device = inl refl
 is_device at.Mark = inr (λ e. cc)

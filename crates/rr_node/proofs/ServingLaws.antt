@@ -12,7 +12,8 @@ use Rattle.rr_types.specs.Promises.{all_fit}
 use Rattle.rr_types.specs.declared.promise.Entry.{Entry}
 use Rattle.rr_types.specs.Registry.{Bindings, registry_of}
 use Rattle.rr_model.specs.NodeState.{NodeState, decided_prefix}
-use Rattle.rr_model.specs.NodeStep.{Input, node_step, input_refusal, refusal_of, group_taken, group_put_back, marked_running, running_group, restored, started}
+use Rattle.rr_types.specs.declared.input.Input.{Input}
+use Rattle.rr_model.specs.NodeStep.{node_step, input_refusal, refusal_of, group_taken, group_put_back, marked_running, running_group, restored, started}
 use Rattle.rr_model.specs.NodeStays.{StaysMarked}
 use Rattle.rr_model.proofs.NodeSteady.{input_stays, started_stays}
 use Rattle.rr_disk.specs.declared.area.Area.{Area}

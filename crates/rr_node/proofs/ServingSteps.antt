@@ -13,7 +13,9 @@ use Rattle.rr_model.specs.World as world
 use Rattle.rr_model.specs.World.{World, Step, Stage, Send, after_step, IsRunFrom}
 use Rattle.rr_model.specs.Laws.{after_steps}
 use Rattle.rr_model.specs.NodeState.{NodeState, decided_prefix}
-use Rattle.rr_model.specs.NodeStep.{Input, Submit, Hear, Suspect, Tick, Advance, node_step, refusal_of, running_group, next_leaving, message_left, next_acknowledged, acknowledged}
+use Rattle.rr_types.specs.declared.input.Input.{Input}
+use Rattle.rr_types.specs.declared.input.Input.TheVariants.{Submit, Hear, Suspect, Tick, Advance}
+use Rattle.rr_model.specs.NodeStep.{node_step, refusal_of, running_group, next_leaving, message_left, next_acknowledged, acknowledged}
 use Rattle.rr_model.specs.NodeLaws.{NodeEvent, Told, Left, Answered, after_event, heard_after, facts_of_input, facts_of_event}
 use Rattle.rr_model.specs.NodeReached.{NamesRounds, IsProperEvent, Happened}
 use Rattle.rr_model.specs.NodeWorld as worldly
@@ -32,17 +34,17 @@ use Rattle.rr_node.specs.declared.event.NodeEvent.TheVariants as at
 use Rattle.rr_node.specs.declared.event.Outcome.TheVariants as outcome
 use Rattle.rr_node.specs.Seats.{Flush, Resting, Writing, Flushed, Switching, Journaled, Serving, Seat, goes_on, refuse, told, send_off, reply_off}
 use Rattle.rr_node.specs.Worlds.{is_settled, journal_at, FlushesSo, IsServing, InStep}
-use Rattle.rr_node.specs.Runs.{MayBe, GoesOn}
+use Rattle.rr_node.specs.Runs.{MayCome, MayBe, GoesOn}
 use Rattle.rr_node.proofs.Going.{no_member, goes, stays}
 use Rattle.rr_node.proofs.Falling.{seated}
 
 -- any event may be no step
 pub nothing : (p : ℕ) (event : node.NodeEvent) → MayBe p event []
-nothing p (at.Submit c) = inl refl
-nothing p (at.Hear m) = inl refl
-nothing p (at.Suspect set) = ([], refl)
-nothing p at.Tick = ([], refl)
-nothing p at.Advance = ([], refl)
+nothing p (at.Told (Submit c)) = inl refl
+nothing p (at.Told (Hear m)) = inl refl
+nothing p (at.Told (Suspect set)) = ([], refl)
+nothing p (at.Told Tick) = ([], refl)
+nothing p (at.Told Advance) = ([], refl)
 nothing p at.Take = refl
 nothing p at.Device = inl (inl refl)
 nothing p at.Mark = refl
@@ -114,45 +116,38 @@ told_keeps p w s input =
     ∙ ap (λ (k : ℕ → List Fact). k p) (stages_keep p (after_steps w (step_of_input p input)) (facts_of_input s input) ∙ input_keeps p w input)
 
 module _ (n p k : ℕ) (w : World) (both : Areas) (s : NodeState) (journal : Journaled) (flush : Flush) (h : InStep n p (seated n p k both (Serving s journal flush)) w) where
-  -- an input that isn't refused is a run of steps
-  pub told_in_step : (event : node.NodeEvent) (input : Input) → MayBe p event (steps_of_event p s (Told input)) → IsProperEvent n (Told input) → worldly.MayCome w p s (Told input)
-      → (let x = told input s journal flush (seated n p k both (Serving s journal flush)) in GoesOn n p (MayBe p event) w x.0 x.1)
-  told_in_step event input may proper comes = by (refusal_of input s)
+  -- an input that may come is such steps
+  told_may_be : (input : Input) → MayCome n p w (at.Told input) → MayBe p (at.Told input) (steps_of_event p s (Told input)) × IsProperEvent n (Told input) × worldly.MayCome w p s (Told input)
+  told_may_be (Submit c) comes = (inr (facts_of_input s (Submit c), refl), tt, tt)
+  told_may_be (Hear m) comes = (
+    inr (facts_of_input s (Hear m), ap (λ (b : Bool). (if b then world.Hear p m ∷ [] else []) ++ map (Stage p) (facts_of_input s (Hear m))) (eq-eqb m.to p comes.1)),
+    (comes.2, comes.3),
+    λ to. comes.0,
+  )
+  told_may_be (Suspect set) comes = ((facts_of_input s (Suspect set), refl), tt, tt)
+  told_may_be Tick comes = ((facts_of_input s Tick, refl), tt, tt)
+  told_may_be Advance comes = ((facts_of_input s Advance, refl), tt, tt)
+
+  -- one that isn't refused is a run of them
+  pub tells : (input : Input) → MayCome n p w (at.Told input) → (let x = told input s journal flush (seated n p k both (Serving s journal flush)) in GoesOn n p (MayBe p (at.Told input)) w x.0 x.1)
+  tells input comes = by (refusal_of input s)
     where
-      by : (o : Option Refusal) → (let x = option_map_or (λ e. refuse e (seated n p k both (Serving s journal flush))) o (goes_on outcome.Quiet (Serving (node_step input s) journal flush) (seated n p k both (Serving s journal flush))) in GoesOn n p (MayBe p event) w x.0 x.1)
-      by (Some e) = refuses n p w event (seated n p k both (Serving s journal flush)) e h
+      by : (o : Option Refusal) → (let x = option_map_or (λ e. refuse e (seated n p k both (Serving s journal flush))) o (goes_on outcome.Quiet (Serving (node_step input s) journal flush) (seated n p k both (Serving s journal flush))) in GoesOn n p (MayBe p (at.Told input)) w x.0 x.1)
+      by (Some e) = refuses n p w (at.Told input) (seated n p k both (Serving s journal flush)) e h
       by None =
+          let so = told_may_be input comes in
           let says = event_says p s (Told input) w in
           let same = input_stays input s in
-          goes n p (MayBe p event) w (Ok outcome.Quiet) (seated n p k both (Serving (node_step input s) journal flush)) (steps_of_event p s (Told input)) tt may
-          (event_runs n p w both s journal flush h.doing (Told input) proper tt comes) (event_at p s (Told input))
+          goes n p (MayBe p (at.Told input)) w (Ok outcome.Quiet) (seated n p k both (Serving (node_step input s) journal flush)) (steps_of_event p s (Told input)) tt so.0
+          (event_runs n p w both s journal flush h.doing (Told input) so.1 tt so.2) (event_at p s (Told input))
           (record {
             exists = h.exists;
             nodes = refl;
             node = refl;
             in_order = h.in_order;
-            doing = serves_on n p w both s journal flush h.doing (Told input) proper tt comes (told_keeps p w s input) (record { running = same.running; marked_end = same.marked_end });
+            doing = serves_on n p w both s journal flush h.doing (Told input) so.1 tt so.2 (told_keeps p w s input) (record { running = same.running; marked_end = same.marked_end });
           })
           says.0 says.1 (λ m held. absurd (no_member m held))
-
-  -- a submit, a message, and the node's own affairs
-  pub submits : (c : Command) → (let x = told (Submit c) s journal flush (seated n p k both (Serving s journal flush)) in GoesOn n p (MayBe p (at.Submit c)) w x.0 x.1)
-  submits c = told_in_step (at.Submit c) (Submit c) (inr (facts_of_input s (Submit c), refl)) tt tt
-
-  pub hears : (m : Message) → Contains w.wire m → m.to ≡ p → m.from < n → NamesRounds m.body → (let x = told (Hear m) s journal flush (seated n p k both (Serving s journal flush)) in GoesOn n p (MayBe p (at.Hear m)) w x.0 x.1)
-  hears m sent here from names =
-      told_in_step (at.Hear m) (Hear m)
-      (inr (facts_of_input s (Hear m), ap (λ (b : Bool). (if b then world.Hear p m ∷ [] else []) ++ map (Stage p) (facts_of_input s (Hear m))) (eq-eqb m.to p here)))
-      (from, names) (λ to. sent)
-
-  pub suspects : (set : ℕ) → (let x = told (Suspect set) s journal flush (seated n p k both (Serving s journal flush)) in GoesOn n p (MayBe p (at.Suspect set)) w x.0 x.1)
-  suspects set = told_in_step (at.Suspect set) (Suspect set) (facts_of_input s (Suspect set), refl) tt tt
-
-  pub ticks : (let x = told Tick s journal flush (seated n p k both (Serving s journal flush)) in GoesOn n p (MayBe p at.Tick) w x.0 x.1)
-  ticks = told_in_step at.Tick Tick (facts_of_input s Tick, refl) tt tt
-
-  pub advances : (let x = told Advance s journal flush (seated n p k both (Serving s journal flush)) in GoesOn n p (MayBe p at.Advance) w x.0 x.1)
-  advances = told_in_step at.Advance Advance (facts_of_input s Advance, refl) tt tt
 
   -- ---- what leaves the node
 

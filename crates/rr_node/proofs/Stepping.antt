@@ -18,13 +18,13 @@ use Rattle.rr_node.specs.Seats.{Flush, Resting, Writing, Flushed, Switching, Jou
 use Rattle.rr_node.specs.Worlds.{AreInOrder, EachHoldsSome, HoldsSome, IsDown, InStep}
 use Rattle.rr_node.specs.Runs.{MayCome, MayBe, IsSpelt, GoesOn, StepsInStep}
 use Rattle.rr_model.specs.NodeState.{NodeState}
-use Rattle.rr_model.specs.NodeStep.{Submit, Advance, input_refusal}
+use Rattle.rr_model.specs.NodeStep.{input_refusal}
 use Rattle.rr_node.proofs.InOrder.{own_image, synced_in_order, rest_image}
 use Rattle.rr_node.proofs.Holding.{seat_holds}
 use Rattle.rr_node.proofs.Going.{stays, given}
 use Rattle.rr_node.proofs.Falling.{seated, stopped, faulted, down_falls, opening_down, starvation, opening_fails}
 use Rattle.rr_node.proofs.Opens.{opens_in_step}
-use Rattle.rr_node.proofs.ServingSteps.{nothing, refuses, submits, hears, suspects, ticks, advances, sends, replies}
+use Rattle.rr_node.proofs.ServingSteps.{nothing, refuses, tells, sends, replies}
 use Rattle.rr_node.proofs.SwitchSteps.{snaps_in_step}
 use Rattle.rr_node.proofs.FlushSteps.{takes_in_step, marks_in_step, device_in_step, starves_in_step}
 
@@ -34,11 +34,7 @@ module _ (n p k : ℕ) (few : n ≤ 7) (w : World) (areas : Areas) where
   idle_in_step doing e down h at.Restart =
       stays n p (MayBe p at.Restart) w (Ok Quiet) (seated n p k areas (Opening opening.Settling)) refl
       (record { exists = h.exists; nodes = refl; node = refl; in_order = h.in_order; doing = (down, seat_holds n p (seated n p k areas doing) w h) }) (record { unsent = refl; untold = refl })
-  idle_in_step doing e down h (at.Submit c) = refuses n p w (at.Submit c) (seated n p k areas doing) e h
-  idle_in_step doing e down h (at.Hear m) = refuses n p w (at.Hear m) (seated n p k areas doing) e h
-  idle_in_step doing e down h (at.Suspect set) = refuses n p w (at.Suspect set) (seated n p k areas doing) e h
-  idle_in_step doing e down h at.Tick = refuses n p w at.Tick (seated n p k areas doing) e h
-  idle_in_step doing e down h at.Advance = refuses n p w at.Advance (seated n p k areas doing) e h
+  idle_in_step doing e down h (at.Told input) = refuses n p w (at.Told input) (seated n p k areas doing) e h
   idle_in_step doing e down h at.Take = refuses n p w at.Take (seated n p k areas doing) e h
   idle_in_step doing e down h at.Device = refuses n p w at.Device (seated n p k areas doing) e h
   idle_in_step doing e down h at.Mark = refuses n p w at.Mark (seated n p k areas doing) e h
@@ -50,11 +46,7 @@ module _ (n p k : ℕ) (few : n ≤ 7) (w : World) (areas : Areas) where
   opening_in_step : (phase : opening.Phase) → InStep n p (seated n p k areas (Opening phase)) w → (event : NodeEvent) → (let x = await_opening phase (seated n p k areas (Opening phase)) event in IsSpelt x.1.doing → GoesOn n p (MayBe p event) w x.0 x.1)
   opening_in_step phase h at.Device = opens_in_step n p k few w areas phase h
   opening_in_step phase h at.Restart = λ spelt. refuses n p w at.Restart (seated n p k areas (Opening phase)) because.Busy h
-  opening_in_step phase h (at.Submit c) = λ spelt. refuses n p w (at.Submit c) (seated n p k areas (Opening phase)) because.Down h
-  opening_in_step phase h (at.Hear m) = λ spelt. refuses n p w (at.Hear m) (seated n p k areas (Opening phase)) because.Down h
-  opening_in_step phase h (at.Suspect set) = λ spelt. refuses n p w (at.Suspect set) (seated n p k areas (Opening phase)) because.Down h
-  opening_in_step phase h at.Tick = λ spelt. refuses n p w at.Tick (seated n p k areas (Opening phase)) because.Down h
-  opening_in_step phase h at.Advance = λ spelt. refuses n p w at.Advance (seated n p k areas (Opening phase)) because.Down h
+  opening_in_step phase h (at.Told input) = λ spelt. refuses n p w (at.Told input) (seated n p k areas (Opening phase)) because.Down h
   opening_in_step phase h at.Take = λ spelt. refuses n p w at.Take (seated n p k areas (Opening phase)) because.Down h
   opening_in_step phase h at.Mark = λ spelt. refuses n p w at.Mark (seated n p k areas (Opening phase)) because.Down h
   opening_in_step phase h at.Send = λ spelt. refuses n p w at.Send (seated n p k areas (Opening phase)) because.Down h
@@ -64,11 +56,7 @@ module _ (n p k : ℕ) (few : n ≤ 7) (w : World) (areas : Areas) where
   -- one that is up does as it is told
   serving_in_step : (s : NodeState) (journal : Journaled) (flush : Flush) → InStep n p (seated n p k areas (Serving s journal flush)) w → (event : NodeEvent) → MayCome n p w event
       → (let x = serve s journal flush (seated n p k areas (Serving s journal flush)) event in IsSpelt x.1.doing → GoesOn n p (MayBe p event) w x.0 x.1)
-  serving_in_step s journal flush h (at.Submit c) comes = λ spelt. submits n p k w areas s journal flush h c
-  serving_in_step s journal flush h (at.Hear m) comes = λ spelt. hears n p k w areas s journal flush h m comes.0 comes.1 comes.2 comes.3
-  serving_in_step s journal flush h (at.Suspect set) comes = λ spelt. suspects n p k w areas s journal flush h set
-  serving_in_step s journal flush h at.Tick comes = λ spelt. ticks n p k w areas s journal flush h
-  serving_in_step s journal flush h at.Advance comes = λ spelt. advances n p k w areas s journal flush h
+  serving_in_step s journal flush h (at.Told input) comes = λ spelt. tells n p k w areas s journal flush h input comes
   serving_in_step s journal flush h at.Take comes = takes_in_step n p k w areas s journal flush h
   serving_in_step s journal flush h at.Device comes = λ spelt. device_in_step n p k w areas s journal h.exists flush h
   serving_in_step s journal flush h at.Mark comes = λ spelt. marks_in_step n p k w areas s journal flush h
@@ -123,11 +111,7 @@ module _ (n p k : ℕ) (few : n ≤ 7) (w : World) (areas : Areas) where
 
   awaiting_starves : (phase : opening.Phase) → InStep n p (seated n p k areas (Opening phase)) w → (event : NodeEvent) → (let x = starve_awaiting phase event (seated n p k areas (Opening phase)) in IsSpelt x.1.doing → GoesOn n p (MayBe p event) w x.0 x.1)
   awaiting_starves phase h at.Device = opening_starves phase h (due_call phase) refl
-  awaiting_starves phase h (at.Submit c) = opening_in_step phase h (at.Submit c)
-  awaiting_starves phase h (at.Hear m) = opening_in_step phase h (at.Hear m)
-  awaiting_starves phase h (at.Suspect set) = opening_in_step phase h (at.Suspect set)
-  awaiting_starves phase h at.Tick = opening_in_step phase h at.Tick
-  awaiting_starves phase h at.Advance = opening_in_step phase h at.Advance
+  awaiting_starves phase h (at.Told input) = opening_in_step phase h (at.Told input)
   awaiting_starves phase h at.Take = opening_in_step phase h at.Take
   awaiting_starves phase h at.Mark = opening_in_step phase h at.Mark
   awaiting_starves phase h at.Send = opening_in_step phase h at.Send
@@ -160,11 +144,7 @@ module _ (n p k : ℕ) (few : n ≤ 7) (w : World) (areas : Areas) where
 
   serving_starves : (s : NodeState) (journal : Journaled) (flush : Flush) → InStep n p (seated n p k areas (Serving s journal flush)) w → (event : NodeEvent)
       → (let x = starve_serving s flush event (seated n p k areas (Serving s journal flush)) in IsSpelt x.1.doing → GoesOn n p (MayBe p event) w x.0 x.1)
-  serving_starves s journal flush h (at.Submit c) = λ spelt. refuses n p w (at.Submit c) (seated n p k areas (Serving s journal flush)) (unwrap_or (input_refusal (Submit c) s) because.OutOfMemory) h
-  serving_starves s journal flush h (at.Hear m) = λ spelt. refuses n p w (at.Hear m) (seated n p k areas (Serving s journal flush)) because.OutOfMemory h
-  serving_starves s journal flush h (at.Suspect set) = λ spelt. refuses n p w (at.Suspect set) (seated n p k areas (Serving s journal flush)) because.OutOfMemory h
-  serving_starves s journal flush h at.Tick = λ spelt. refuses n p w at.Tick (seated n p k areas (Serving s journal flush)) because.OutOfMemory h
-  serving_starves s journal flush h at.Advance = λ spelt. refuses n p w at.Advance (seated n p k areas (Serving s journal flush)) (unwrap_or (input_refusal Advance s) because.OutOfMemory) h
+  serving_starves s journal flush h (at.Told input) = λ spelt. refuses n p w (at.Told input) (seated n p k areas (Serving s journal flush)) (unwrap_or (input_refusal input s) because.OutOfMemory) h
   serving_starves s journal flush h at.Take = taking_starves s journal flush h
   serving_starves s journal flush h at.Device = λ spelt. starves_in_step n p k w areas s journal h.exists flush h
   serving_starves s journal flush h at.Mark = λ spelt. marking_starves s journal flush h

@@ -4,6 +4,7 @@ use Rattle.std.specs.List.{Contains}
 use Rattle.rr_types.specs.declared.command.RequestNo.{RequestNo}
 use Rattle.rr_types.specs.declared.command.Reply.{Reply}
 use Rattle.rr_types.specs.declared.fact.Fact.{Fact}
+use Rattle.rr_types.specs.declared.input.Input.TheVariants.{Submit, Hear, Suspect, Tick, Advance}
 use Rattle.rr_types.specs.declared.message.Message.{Message}
 use Rattle.rr_types.specs.declared.refusal.Refusal.{Refusal}
 use Rattle.rr_model.specs.World as world
@@ -41,18 +42,8 @@ told_by p (Err e) = []
 
 -- a heard message is on the wire, for this node, from one of the n nodes, and names rounds above 0
 abbrev pub MayCome : ℕ → ℕ → World → NodeEvent → Type 0
-MayCome n p w (at.Submit c) = Unit {0}
-MayCome n p w (at.Hear m) = Contains w.wire m × (m.to ≡ p) × (m.from < n) × NamesRounds m.body
-MayCome n p w (at.Suspect set) = Unit {0}
-MayCome n p w at.Tick = Unit {0}
-MayCome n p w at.Advance = Unit {0}
-MayCome n p w at.Take = Unit {0}
-MayCome n p w at.Device = Unit {0}
-MayCome n p w at.Mark = Unit {0}
-MayCome n p w at.Send = Unit {0}
-MayCome n p w at.Acknowledge = Unit {0}
-MayCome n p w at.Snap = Unit {0}
-MayCome n p w at.Restart = Unit {0}
+MayCome n p w (at.Told (Hear m)) = Contains w.wire m × (m.to ≡ p) × (m.from < n) × NamesRounds m.body
+MayCome n p w event = Unit {0}
 
 -- nothing, or staged facts
 abbrev pub AreStaged : ℕ → List Step → Type 0
@@ -72,11 +63,11 @@ IsDeviceCall p steps = MayFall p steps ⊎ ((count : ℕ) × (steps ≡ Settle p
 
 -- the steps of the world that an event of node p may be
 abbrev pub MayBe : ℕ → NodeEvent → List Step → Type 0
-MayBe p (at.Submit c) steps = AreStagedBehind p (world.Submit p c) steps
-MayBe p (at.Hear m) steps = AreStagedBehind p (world.Hear p m) steps
-MayBe p (at.Suspect set) steps = AreStaged p steps
-MayBe p at.Tick steps = AreStaged p steps
-MayBe p at.Advance steps = AreStaged p steps
+MayBe p (at.Told (Submit c)) steps = AreStagedBehind p (world.Submit p c) steps
+MayBe p (at.Told (Hear m)) steps = AreStagedBehind p (world.Hear p m) steps
+MayBe p (at.Told (Suspect set)) steps = AreStaged p steps
+MayBe p (at.Told Tick) steps = AreStaged p steps
+MayBe p (at.Told Advance) steps = AreStaged p steps
 MayBe p at.Take steps = steps ≡ []
 MayBe p at.Device steps = IsDeviceCall p steps
 MayBe p at.Mark steps = steps ≡ []

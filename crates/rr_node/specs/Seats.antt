@@ -5,7 +5,8 @@ use Rattle.rr_types.specs.declared.refusal.Refusal.{Refusal}
 use Rattle.rr_types.specs.declared.refusal.Refusal.TheVariants as because
 use Rattle.rr_types.specs.Registry.{registry_of, reply_of}
 use Rattle.rr_model.specs.NodeState.{NodeState, decided_prefix}
-use Rattle.rr_model.specs.NodeStep.{Input, Submit, Hear, Suspect, Tick, Advance, node_step, input_refusal, refusal_of, group_taken, marked_running, running_group, next_leaving, message_left, next_acknowledged, acknowledged, started}
+use Rattle.rr_types.specs.declared.input.Input.{Input}
+use Rattle.rr_model.specs.NodeStep.{node_step, input_refusal, refusal_of, group_taken, marked_running, running_group, next_leaving, message_left, next_acknowledged, acknowledged, started}
 use Rattle.rr_disk.specs.declared.area.Area.{Area}
 use Rattle.rr_disk.specs.Areas.{Areas, extent_of, read_of, at_rest, synced}
 use Rattle.rr_disk.specs.Counts.{counted}
@@ -196,11 +197,7 @@ reply_off s journal flush seat =
 
 -- an event at a serving node
 abbrev pub serve : NodeState → Journaled → Flush → Seat → NodeEvent → Answer
-serve s journal flush seat (at.Submit c) = told (Submit c) s journal flush seat
-serve s journal flush seat (at.Hear m) = told (Hear m) s journal flush seat
-serve s journal flush seat (at.Suspect set) = told (Suspect set) s journal flush seat
-serve s journal flush seat at.Tick = told Tick s journal flush seat
-serve s journal flush seat at.Advance = told Advance s journal flush seat
+serve s journal flush seat (at.Told input) = told input s journal flush seat
 serve s journal flush seat at.Take = take_up s journal flush seat
 serve s journal flush seat at.Device = flush_on s journal seat flush
 serve s journal flush seat at.Mark = mark_up s journal flush seat
@@ -212,11 +209,7 @@ serve s journal flush seat at.Restart = refuse because.Busy seat
 -- an event at a node that is down, opening or failed
 abbrev pub wait : NodeEvent → Seat → Refusal → Answer
 wait at.Restart seat e = goes_on Quiet (Opening Settling) seat
-wait (at.Submit c) seat e = refuse e seat
-wait (at.Hear m) seat e = refuse e seat
-wait (at.Suspect set) seat e = refuse e seat
-wait at.Tick seat e = refuse e seat
-wait at.Advance seat e = refuse e seat
+wait (at.Told input) seat e = refuse e seat
 wait at.Take seat e = refuse e seat
 wait at.Device seat e = refuse e seat
 wait at.Mark seat e = refuse e seat
@@ -228,11 +221,7 @@ wait at.Snap seat e = refuse e seat
 abbrev pub await_opening : Phase → Seat → NodeEvent → Answer
 await_opening phase seat at.Device = open_on seat phase
 await_opening phase seat at.Restart = refuse because.Busy seat
-await_opening phase seat (at.Submit c) = refuse because.Down seat
-await_opening phase seat (at.Hear m) = refuse because.Down seat
-await_opening phase seat (at.Suspect set) = refuse because.Down seat
-await_opening phase seat at.Tick = refuse because.Down seat
-await_opening phase seat at.Advance = refuse because.Down seat
+await_opening phase seat (at.Told input) = refuse because.Down seat
 await_opening phase seat at.Take = refuse because.Down seat
 await_opening phase seat at.Mark = refuse because.Down seat
 await_opening phase seat at.Send = refuse because.Down seat
@@ -293,11 +282,7 @@ starve_opening phase Sync seat = starve_end (called (synced seat.areas) seat) (a
 -- an event at a node that opens, where memory is wanting: only device calls take it
 abbrev pub starve_awaiting : Phase → NodeEvent → Seat → Answer
 starve_awaiting phase at.Device seat = starve_opening phase (due_call phase) seat
-starve_awaiting phase (at.Submit c) seat = seat_step (at.Submit c) seat
-starve_awaiting phase (at.Hear m) seat = seat_step (at.Hear m) seat
-starve_awaiting phase (at.Suspect set) seat = seat_step (at.Suspect set) seat
-starve_awaiting phase at.Tick seat = seat_step at.Tick seat
-starve_awaiting phase at.Advance seat = seat_step at.Advance seat
+starve_awaiting phase (at.Told input) seat = seat_step (at.Told input) seat
 starve_awaiting phase at.Take seat = seat_step at.Take seat
 starve_awaiting phase at.Mark seat = seat_step at.Mark seat
 starve_awaiting phase at.Send seat = seat_step at.Send seat
@@ -325,11 +310,7 @@ starve_input input s seat = refuse (unwrap_or (input_refusal input s) because.Ou
 
 -- an event at a serving node where memory is wanting: inputs are refused; sending, acknowledging and a restart take none
 abbrev pub starve_serving : NodeState → Flush → NodeEvent → Seat → Answer
-starve_serving s flush (at.Submit c) seat = starve_input (Submit c) s seat
-starve_serving s flush (at.Hear m) seat = starve_input (Hear m) s seat
-starve_serving s flush (at.Suspect set) seat = starve_input (Suspect set) s seat
-starve_serving s flush at.Tick seat = starve_input Tick s seat
-starve_serving s flush at.Advance seat = starve_input Advance s seat
+starve_serving s flush (at.Told input) seat = starve_input input s seat
 starve_serving s flush at.Take seat = starve_beginning flush at.Take seat
 starve_serving s flush at.Device seat = starve_flush flush seat
 starve_serving s flush at.Mark seat = starve_marking flush seat

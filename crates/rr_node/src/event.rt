@@ -3,22 +3,14 @@
 ghost use Rattle.std.specs.Prelude.{◌≡◌};
 
 use rr_registry::Holding;
-use rr_types::{Command, Message, Name, NodeSet, Reply, RequestNo};
+use rr_types::{Input, Message, Name, Reply, RequestNo};
 use std::marker::Model;
 
 /// What happens at a node, but for crashes.
 #[derive(Clone, Copy, Debug)]
 pub enum NodeEvent {
-    /// A client asks for a command.
-    Submit(Command),
-    /// A message arrives.
-    Hear(Message),
-    /// The node's suspects become these.
-    Suspect(NodeSet),
-    /// The heartbeat detector ticks.
-    Tick,
-    /// The lowest open instance that has a round enters the next one.
-    Advance,
+    /// It is told this.
+    Told(Input),
     /// A flush of the staged facts begins.
     Take,
     /// The next device call of the opening, the flush or the switch is made.

@@ -12,7 +12,7 @@ use crate::doing::{Doing, NodeDisk};
 use crate::event::{NodeEvent, Outcome, Stance};
 use rr_core::Core;
 use rr_journal::{Body, BodyOut, BodySafe, GateSet, Job, Journal, SwitchJob, Switching, Synced};
-use rr_types::{Command, Fact, Group, Message, NodeSet, Refusal};
+use rr_types::{Fact, Group, Input, Refusal};
 use std::alloc::Global;
 use std::mem;
 
@@ -123,11 +123,7 @@ impl Serving {
         ensures { CarriesOn event.now self.old (quiet result) (Doing.Serving self.new) }
     {
         match event {
-            NodeEvent::Submit(command) => self.submit(*command),
-            NodeEvent::Hear(message) => self.hear(message),
-            NodeEvent::Suspect(set) => self.suspect(*set),
-            NodeEvent::Tick => self.tick(),
-            NodeEvent::Advance => self.advance(),
+            NodeEvent::Told(input) => self.tell(input),
             NodeEvent::Take => self.take(alloc),
             NodeEvent::Mark => self.mark(),
             NodeEvent::Snap => self.snap(alloc),
@@ -136,34 +132,11 @@ impl Serving {
         }
     }
 
-    fn submit(&mut self, command: Command) -> Result<(), Refusal>
-        ensures { CarriesOn (NodeEvent.Submit command) self.old (quiet result) (Doing.Serving self.new) }
+    /// The core is told an input.
+    fn tell(&mut self, input: &Input) -> Result<(), Refusal>
+        ensures { CarriesOn (NodeEvent.Told input.now) self.old (quiet result) (Doing.Serving self.new) }
     {
-        self.core.submit(command)
-    }
-
-    fn hear(&mut self, message: &Message) -> Result<(), Refusal>
-        ensures { CarriesOn (NodeEvent.Hear message.now) self.old (quiet result) (Doing.Serving self.new) }
-    {
-        self.core.hear(message)
-    }
-
-    fn suspect(&mut self, set: NodeSet) -> Result<(), Refusal>
-        ensures { CarriesOn (NodeEvent.Suspect set) self.old (quiet result) (Doing.Serving self.new) }
-    {
-        self.core.suspect(set)
-    }
-
-    fn tick(&mut self) -> Result<(), Refusal>
-        ensures { CarriesOn NodeEvent.Tick self.old (quiet result) (Doing.Serving self.new) }
-    {
-        self.core.tick()
-    }
-
-    fn advance(&mut self) -> Result<(), Refusal>
-        ensures { CarriesOn NodeEvent.Advance self.old (quiet result) (Doing.Serving self.new) }
-    {
-        self.core.advance()
+        self.core.step(input)
     }
 
     /// The oldest message that may leave goes.

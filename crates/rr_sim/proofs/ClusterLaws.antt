@@ -13,6 +13,7 @@ use Rattle.rr_model.specs.Laws.{after_steps}
 use Rattle.rr_model.specs.NodeReached.{NamesRounds}
 use Rattle.rr_model.specs.World.{World, Step, Told, Reported, empty_world, IsRunFrom}
 use Rattle.rr_node.specs.declared.event.NodeEvent.{NodeEvent}
+use Rattle.rr_types.specs.declared.input.Input.TheVariants as input
 use Rattle.rr_node.specs.declared.event.NodeEvent.TheVariants as node
 use Rattle.rr_node.specs.declared.event.Outcome.{Outcome}
 use Rattle.rr_node.specs.declared.event.Outcome.TheVariants.{Quiet, Left, Replied, Opened}
@@ -152,11 +153,11 @@ pub record NodeLaws (n : ℕ) : Type 0 where
 
 -- an event may be nothing
 no_steps : (p : ℕ) (event : NodeEvent) → MayBe p event []
-no_steps p (node.Submit c) = inl refl
-no_steps p (node.Hear m) = inl refl
-no_steps p (node.Suspect set) = ([], refl)
-no_steps p node.Tick = ([], refl)
-no_steps p node.Advance = ([], refl)
+no_steps p (node.Told (input.Submit c)) = inl refl
+no_steps p (node.Told (input.Hear m)) = inl refl
+no_steps p (node.Told (input.Suspect set)) = ([], refl)
+no_steps p (node.Told input.Tick) = ([], refl)
+no_steps p (node.Told input.Advance) = ([], refl)
 no_steps p node.Take = refl
 no_steps p node.Device = inl (inl refl)
 no_steps p node.Mark = refl
@@ -241,18 +242,18 @@ module _ (n : ℕ) (laws : NodeLaws n) where
   hear_takes p at starved k w c h (inr spelt) = by (slice_get c.wire k) refl
     where
       at_this : Bool → Message → Cluster
-      at_this b m = if b then at_node p at starved (node.Hear m) c else c
+      at_this b m = if b then at_node p at starved (node.Told (input.Hear m)) c else c
 
       step : Option Message → Cluster
       step o = option_map_or (λ m. at_this (eqb m.to p) m) o c
 
-      comes : (m : Message) → slice_get c.wire k ≡ Some m → m.to ≡ p → MayCome n p w (node.Hear m)
+      comes : (m : Message) → slice_get c.wire k ≡ Some m → m.to ≡ p → MayCome n p w (node.Told (input.Hear m))
       comes m e own = let good = all_at (IsProper n) c.wire k m h.proper e in (subst (λ (ms : List Message). Contains ms m) (sym h.alike.wire) (contains_at c.wire k m e), own, good.0, good.1)
 
       heard : (m : Message) (b : Bool) → slice_get c.wire k ≡ Some m → eqb m.to p ≡ b → hear_at p at starved k c ≡ at_this b m → Took n p at (AreStepsOf c.wire (Hear p k)) w c (hear_at p at starved k c)
       heard m false e own is = stays n p at (AreStepsOf c.wire (Hear p k)) w c (hear_at p at starved k c) (inl refl) is h
       heard m true e own is = subst (λ (x : Cluster). Took n p at (AreStepsOf c.wire (Hear p k)) w c x) (sym is) (
-          node_takes p at starved (node.Hear m) (AreStepsOf c.wire (Hear p k)) w c (λ steps may. inr (m, e, may)) h (comes m e (eqb-true m.to p own))
+          node_takes p at starved (node.Told (input.Hear m)) (AreStepsOf c.wire (Hear p k)) w c (λ steps may. inr (m, e, may)) h (comes m e (eqb-true m.to p own))
           (subst (λ (x : Cluster). IsSpeltAt p x) is spelt)
           )
 
@@ -269,11 +270,11 @@ module _ (n : ℕ) (laws : NodeLaws n) where
   -- an event of a schedule
   event_takes : (at : ℕ) (starved : Bool) (e : Event) (m : ℕ) (w : World) (c : Cluster) → IsInRange m e → IsClusterInStep n c w → IsSpeltBehind e c (event_step at starved e c)
       → Took n (node_of e) at (AreStepsOf c.wire e) w c (event_step at starved e c)
-  event_takes at starved (Submit p v) m w c range h spelt = takes p at starved (node.Submit v) w c h tt spelt
+  event_takes at starved (Submit p v) m w c range h spelt = takes p at starved (node.Told (input.Submit v)) w c h tt spelt
   event_takes at starved (Hear p k) m w c range h spelt = hear_takes p at starved k w c h spelt
-  event_takes at starved (Suspect p set) m w c range h spelt = takes p at starved (node.Suspect set) w c h tt spelt
-  event_takes at starved (Tick p) m w c range h spelt = takes p at starved node.Tick w c h tt spelt
-  event_takes at starved (Advance p) m w c range h spelt = takes p at starved node.Advance w c h tt spelt
+  event_takes at starved (Suspect p set) m w c range h spelt = takes p at starved (node.Told (input.Suspect set)) w c h tt spelt
+  event_takes at starved (Tick p) m w c range h spelt = takes p at starved (node.Told input.Tick) w c h tt spelt
+  event_takes at starved (Advance p) m w c range h spelt = takes p at starved (node.Told input.Advance) w c h tt spelt
   event_takes at starved (Take p) m w c range h spelt = takes p at starved node.Take w c h tt spelt
   event_takes at starved (Device p) m w c range h spelt = takes p at starved node.Device w c h tt spelt
   event_takes at starved (Fail p fill) m w c range h spelt = failing_takes p at starved fill w c range h

@@ -7,6 +7,7 @@ use Rattle.std.proofs.lemmas.List.Elements.{Contains-append_cases}
 use Rattle.rr_types.specs.declared.message.Message.{Message}
 use Rattle.rr_types.specs.declared.refusal.Refusal.{Refusal}
 use Rattle.rr_node.specs.declared.event.NodeEvent.{NodeEvent}
+use Rattle.rr_types.specs.declared.input.Input.TheVariants as input
 use Rattle.rr_node.specs.declared.event.NodeEvent.TheVariants as node
 use Rattle.rr_node.specs.declared.event.Outcome.{Outcome}
 use Rattle.rr_node.specs.declared.event.Outcome.TheVariants.{Quiet, Left, Replied, Opened}
@@ -55,11 +56,11 @@ node_notes p at starved event c = by_seat p at c (λ seat. if starved then starv
 hear_notes : (p at : ℕ) (starved : Bool) (k : ℕ) (c : Cluster) → Notes at c (hear_at p at starved k c)
 hear_notes p at starved k c = by (slice_get c.wire k)
   where
-    at_this : (m : Message) (b : Bool) → Notes at c (if b then at_node p at starved (node.Hear m) c else c)
-    at_this m true = node_notes p at starved (node.Hear m) c
+    at_this : (m : Message) (b : Bool) → Notes at c (if b then at_node p at starved (node.Told (input.Hear m)) c else c)
+    at_this m true = node_notes p at starved (node.Told (input.Hear m)) c
     at_this m false = none at c
 
-    by : (o : Option Message) → Notes at c (option_map_or (λ m. if m.to == p then at_node p at starved (node.Hear m) c else c) o c)
+    by : (o : Option Message) → Notes at c (option_map_or (λ m. if m.to == p then at_node p at starved (node.Told (input.Hear m)) c else c) o c)
     by None = none at c
     by (Some m) = at_this m (m.to == p)
 
@@ -71,11 +72,11 @@ crash_notes p at a b fill c = by (slice_get c.seats p)
     by (Some seat) = record { notes = []; lines = sym (append-nil c.lines); own = λ k r held. absurd (omega (arith, held.1)) }
 
 event_notes : (at : ℕ) (starved : Bool) (e : Event) (c : Cluster) → Notes at c (event_step at starved e c)
-event_notes at starved (Submit p v) c = node_notes p at starved (node.Submit v) c
+event_notes at starved (Submit p v) c = node_notes p at starved (node.Told (input.Submit v)) c
 event_notes at starved (Hear p k) c = hear_notes p at starved k c
-event_notes at starved (Suspect p set) c = node_notes p at starved (node.Suspect set) c
-event_notes at starved (Tick p) c = node_notes p at starved node.Tick c
-event_notes at starved (Advance p) c = node_notes p at starved node.Advance c
+event_notes at starved (Suspect p set) c = node_notes p at starved (node.Told (input.Suspect set)) c
+event_notes at starved (Tick p) c = node_notes p at starved (node.Told input.Tick) c
+event_notes at starved (Advance p) c = node_notes p at starved (node.Told input.Advance) c
 event_notes at starved (Take p) c = node_notes p at starved node.Take c
 event_notes at starved (Device p) c = node_notes p at starved node.Device c
 event_notes at starved (Fail p fill) c = by_seat p at c (λ seat. if starved then starve_fails fill seat else seat_fails fill seat) (slice_get c.seats p)

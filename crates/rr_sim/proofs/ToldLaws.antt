@@ -12,6 +12,7 @@ use Rattle.rr_model.specs.Sound.{IsDecidedList}
 use Rattle.rr_node.specs.Runs.{sent_by}
 use Rattle.rr_node.specs.Seats.{Seat, Answer, seat_step, starve, seat_fails, starve_fails}
 use Rattle.rr_node.specs.declared.event.NodeEvent.{NodeEvent}
+use Rattle.rr_types.specs.declared.input.Input.TheVariants as input
 use Rattle.rr_node.specs.declared.event.NodeEvent.TheVariants as node
 use Rattle.rr_text.specs.declared.event.Event.{Event}
 use Rattle.rr_text.specs.declared.event.Event.TheVariants.{Submit, Hear, Suspect, Tick, Advance, Take, Device, Fail, Mark, Send, Ack, Snap, Crash, Restart}
@@ -57,21 +58,21 @@ either ls true x y c h = h
 either ls false x y c h = refl
 
 heard : (p at : ℕ) (starved : Bool) (ls : List ReportLine) (c : Cluster) (o : Option Message)
-    → option_map_or (λ (m : Message). if m.to == p then at_node p at starved (node.Hear m) (behind_lines ls c) else behind_lines ls c) o (behind_lines ls c)
-    ≡ behind_lines ls (option_map_or (λ (m : Message). if m.to == p then at_node p at starved (node.Hear m) c else c) o c)
+    → option_map_or (λ (m : Message). if m.to == p then at_node p at starved (node.Told (input.Hear m)) (behind_lines ls c) else behind_lines ls c) o (behind_lines ls c)
+    ≡ behind_lines ls (option_map_or (λ (m : Message). if m.to == p then at_node p at starved (node.Told (input.Hear m)) c else c) o c)
 heard p at starved ls c None = refl
-heard p at starved ls c (Some m) = either ls (m.to == p) (at_node p at starved (node.Hear m) (behind_lines ls c)) (at_node p at starved (node.Hear m) c) c (at_node_behind p at starved (node.Hear m) ls c)
+heard p at starved ls c (Some m) = either ls (m.to == p) (at_node p at starved (node.Told (input.Hear m)) (behind_lines ls c)) (at_node p at starved (node.Told (input.Hear m)) c) c (at_node_behind p at starved (node.Told (input.Hear m)) ls c)
 
 crashed_behind : (ls : List ReportLine) (c : Cluster) (f : Seat → List Seat) (o : Option Seat) → option_map_or (λ (seat : Seat). record (behind_lines ls c) { seats = f seat }) o (behind_lines ls c) ≡ behind_lines ls (option_map_or (λ (seat : Seat). record c { seats = f seat }) o c)
 crashed_behind ls c f None = refl
 crashed_behind ls c f (Some seat) = refl
 
 pub stepped : (at : ℕ) (starved : Bool) (e : Event) (ls : List ReportLine) (c : Cluster) → event_step at starved e (behind_lines ls c) ≡ behind_lines ls (event_step at starved e c)
-stepped at starved (Submit p v) ls c = at_node_behind p at starved (node.Submit v) ls c
+stepped at starved (Submit p v) ls c = at_node_behind p at starved (node.Told (input.Submit v)) ls c
 stepped at starved (Hear p k) ls c = heard p at starved ls c (slice_get c.wire k)
-stepped at starved (Suspect p set) ls c = at_node_behind p at starved (node.Suspect set) ls c
-stepped at starved (Tick p) ls c = at_node_behind p at starved node.Tick ls c
-stepped at starved (Advance p) ls c = at_node_behind p at starved node.Advance ls c
+stepped at starved (Suspect p set) ls c = at_node_behind p at starved (node.Told (input.Suspect set)) ls c
+stepped at starved (Tick p) ls c = at_node_behind p at starved (node.Told input.Tick) ls c
+stepped at starved (Advance p) ls c = at_node_behind p at starved (node.Told input.Advance) ls c
 stepped at starved (Take p) ls c = at_node_behind p at starved node.Take ls c
 stepped at starved (Device p) ls c = at_node_behind p at starved node.Device ls c
 stepped at starved (Fail p fill) ls c = fail_at_behind p at starved fill ls c

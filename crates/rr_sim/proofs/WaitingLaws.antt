@@ -6,6 +6,7 @@ use Rattle.std.proofs.lemmas.List.{append-nil}
 use Rattle.rr_types.specs.declared.message.Message.{Message}
 use Rattle.rr_types.specs.declared.refusal.Refusal.{Refusal}
 use Rattle.rr_node.specs.declared.event.NodeEvent.{NodeEvent}
+use Rattle.rr_types.specs.declared.input.Input.TheVariants as input
 use Rattle.rr_node.specs.declared.event.NodeEvent.TheVariants as node
 use Rattle.rr_node.specs.Seats.{Seat, seat_step}
 use Rattle.rr_text.specs.declared.event.Event.{Event}
@@ -45,10 +46,10 @@ waits_where (Some e) p seat c found refuses = waits p e seat c found refuses
 -- an event that is the node's alone, and neither a restart nor a device call, is refused
 pub event_waits : (event : Event) (e : Refusal) (c : Cluster) → IsOfNode event → ((p : ℕ) → event ≢ Restart p) → ((p : ℕ) → event ≢ Device p)
     → Waits (node_of event) e c → (at : ℕ) → event_step at false event c ≡ refused at e c
-event_waits (Submit p v) e c own r d w at = w at (node.Submit v) (λ x. absurd (cc)) (λ x. absurd (cc))
-event_waits (Suspect p set) e c own r d w at = w at (node.Suspect set) (λ x. absurd (cc)) (λ x. absurd (cc))
-event_waits (Tick p) e c own r d w at = w at node.Tick (λ x. absurd (cc)) (λ x. absurd (cc))
-event_waits (Advance p) e c own r d w at = w at node.Advance (λ x. absurd (cc)) (λ x. absurd (cc))
+event_waits (Submit p v) e c own r d w at = w at (node.Told (input.Submit v)) (λ x. absurd (cc)) (λ x. absurd (cc))
+event_waits (Suspect p set) e c own r d w at = w at (node.Told (input.Suspect set)) (λ x. absurd (cc)) (λ x. absurd (cc))
+event_waits (Tick p) e c own r d w at = w at (node.Told input.Tick) (λ x. absurd (cc)) (λ x. absurd (cc))
+event_waits (Advance p) e c own r d w at = w at (node.Told input.Advance) (λ x. absurd (cc)) (λ x. absurd (cc))
 event_waits (Take p) e c own r d w at = w at node.Take (λ x. absurd (cc)) (λ x. absurd (cc))
 event_waits (Mark p) e c own r d w at = w at node.Mark (λ x. absurd (cc)) (λ x. absurd (cc))
 event_waits (Send p) e c own r d w at = w at node.Send (λ x. absurd (cc)) (λ x. absurd (cc))
@@ -81,5 +82,5 @@ pub hear_refused : (r : Result (Unit {0}) Refusal) (p at k : ℕ) (m : Message) 
     → OnOk r (new ≡ refused at e old) → OnOk r (IsEither (λ starved. new ≡ hear_at p at starved k old))
 hear_refused (Err why) p at k m e old new found own w is = tt
 hear_refused (Ok x) p at k m e old new found own w is =
-    let heard : hear_at p at false k old ≡ at_node p at false (node.Hear m) old = rw (found, own) in
-    inl (is ∙ sym (heard ∙ w at (node.Hear m) (λ y. absurd (cc)) (λ y. absurd (cc))))
+    let heard : hear_at p at false k old ≡ at_node p at false (node.Told (input.Hear m)) old = rw (found, own) in
+    inl (is ∙ sym (heard ∙ w at (node.Told (input.Hear m)) (λ y. absurd (cc)) (λ y. absurd (cc))))

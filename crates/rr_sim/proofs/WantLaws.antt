@@ -6,6 +6,7 @@ use Rattle.rr_types.specs.declared.message.Message.{Message}
 use Rattle.rr_types.specs.declared.refusal.Refusal.{Refusal}
 use Rattle.rr_types.specs.declared.refusal.Refusal.TheVariants as because
 use Rattle.rr_node.specs.declared.event.NodeEvent.{NodeEvent}
+use Rattle.rr_types.specs.declared.input.Input.TheVariants as input
 use Rattle.rr_node.specs.declared.event.NodeEvent.TheVariants as node
 use Rattle.rr_node.specs.Seats.{Seat, Answer, seat_step, starve, seat_fails, starve_fails}
 use Rattle.rr_text.specs.declared.event.Event.{Event}
@@ -52,10 +53,10 @@ hear_wants : (p at k : ℕ) (c : Cluster) → TellsOfNoWant c (hear_at p at true
 hear_wants p at k c = by (slice_get c.wire k)
   where
     heard : Bool → Bool → Message → Cluster
-    heard starved own m = if own then at_node p at starved (node.Hear m) c else c
+    heard starved own m = if own then at_node p at starved (node.Told (input.Hear m)) c else c
 
     this : (own : Bool) (m : Message) → TellsOfNoWant c (heard true own m) → heard true own m ≡ heard false own m
-    this true m none = node_wants p at (node.Hear m) c none
+    this true m none = node_wants p at (node.Told (input.Hear m)) c none
     this false m none = refl
 
     step : Bool → Option Message → Cluster
@@ -82,11 +83,11 @@ fail_wants p at fill c none = by (slice_get c.seats p) refl
 -- ---- the events
 
 event_wants : (at : ℕ) (e : Event) (c : Cluster) → TellsOfNoWant c (event_step at true e c) → StepsInMemory at e c (event_step at true e c)
-event_wants at (Submit p v) c none = inl (node_wants p at (node.Submit v) c none)
+event_wants at (Submit p v) c none = inl (node_wants p at (node.Told (input.Submit v)) c none)
 event_wants at (Hear p k) c none = inl (hear_wants p at k c none)
-event_wants at (Suspect p set) c none = inl (node_wants p at (node.Suspect set) c none)
-event_wants at (Tick p) c none = inl (node_wants p at node.Tick c none)
-event_wants at (Advance p) c none = inl (node_wants p at node.Advance c none)
+event_wants at (Suspect p set) c none = inl (node_wants p at (node.Told (input.Suspect set)) c none)
+event_wants at (Tick p) c none = inl (node_wants p at (node.Told input.Tick) c none)
+event_wants at (Advance p) c none = inl (node_wants p at (node.Told input.Advance) c none)
 event_wants at (Take p) c none = inl (node_wants p at node.Take c none)
 event_wants at (Device p) c none = inl (node_wants p at node.Device c none)
 event_wants at (Fail p fill) c none = inr ((p, fill, refl), refl)

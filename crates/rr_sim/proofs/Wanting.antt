@@ -4,7 +4,8 @@ use Rattle.std.specs.Prelude.{if◌then◌else◌}
 use Rattle.rr_types.specs.declared.refusal.Refusal.{Refusal}
 use Rattle.rr_types.specs.declared.refusal.Refusal.TheVariants as because
 use Rattle.rr_model.specs.NodeState.{NodeState}
-use Rattle.rr_model.specs.NodeStep.{Input, Submit, Advance, input_refusal, refusal_of}
+use Rattle.rr_types.specs.declared.input.Input.{Input}
+use Rattle.rr_model.specs.NodeStep.{input_refusal, refusal_of}
 use Rattle.rr_journal.specs.Calls.{Call, Read, Write, Sync, after_call, after_starved, after_failing}
 use Rattle.rr_journal.specs.Openings.{Phase, After, Goes, Opens, Stops, due_call, after_opening_call}
 use Rattle.rr_node.specs.declared.event.NodeEvent.{NodeEvent}
@@ -58,11 +59,7 @@ wanting_opening phase seat opens Sync due =
 
 wanting_awaiting : (phase : Phase) (event : NodeEvent) (seat : Seat) → seat.doing ≡ Opening phase → WantsOrSame event seat (starve_awaiting phase event seat)
 wanting_awaiting phase node.Device seat opens = wanting_opening phase seat opens (due_call phase) refl
-wanting_awaiting phase (node.Submit c) seat opens = inr refl
-wanting_awaiting phase (node.Hear m) seat opens = inr refl
-wanting_awaiting phase (node.Suspect set) seat opens = inr refl
-wanting_awaiting phase node.Tick seat opens = inr refl
-wanting_awaiting phase node.Advance seat opens = inr refl
+wanting_awaiting phase (node.Told input) seat opens = inr refl
 wanting_awaiting phase node.Take seat opens = inr refl
 wanting_awaiting phase node.Mark seat opens = inr refl
 wanting_awaiting phase node.Send seat opens = inr refl
@@ -95,11 +92,7 @@ wanting_input input event s journal flush seat steps = by (input_refusal input s
     by (Some why) e = inr (sym (steps ∙ rw (refused_for input s why e, e) refl))
 
 wanting_serving : (s : NodeState) (journal : Journaled) (flush : Flush) (event : NodeEvent) (seat : Seat) → seat.doing ≡ Serving s journal flush → WantsOrSame event seat (starve_serving s flush event seat)
-wanting_serving s journal flush (node.Submit c) seat does = wanting_input (Submit c) (node.Submit c) s journal flush seat (ap (by_doing (node.Submit c) seat) does)
-wanting_serving s journal flush (node.Hear m) seat does = inl (no_memory _ refl)
-wanting_serving s journal flush (node.Suspect set) seat does = inl (no_memory _ refl)
-wanting_serving s journal flush node.Tick seat does = inl (no_memory _ refl)
-wanting_serving s journal flush node.Advance seat does = wanting_input Advance node.Advance s journal flush seat (ap (by_doing node.Advance seat) does)
+wanting_serving s journal flush (node.Told input) seat does = wanting_input input (node.Told input) s journal flush seat (ap (by_doing (node.Told input) seat) does)
 wanting_serving s journal flush node.Take seat does = wanting_beginning flush node.Take seat
 wanting_serving s journal flush node.Device seat does = wanting_flush flush seat
 wanting_serving s journal flush node.Mark seat does = wanting_marking flush seat

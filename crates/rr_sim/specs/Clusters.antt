@@ -8,6 +8,7 @@ use Rattle.rr_types.specs.declared.refusal.Refusal.TheVariants as because
 use Rattle.rr_types.specs.Registry.{Bindings}
 use Rattle.rr_model.specs.Sound.{IsDecidedList}
 use Rattle.rr_node.specs.declared.event.NodeEvent.{NodeEvent}
+use Rattle.rr_types.specs.declared.input.Input.TheVariants as input
 use Rattle.rr_node.specs.declared.event.NodeEvent.TheVariants as node
 use Rattle.rr_node.specs.declared.event.Outcome.{Outcome}
 use Rattle.rr_node.specs.declared.event.Outcome.TheVariants.{Quiet, Left, Replied, Opened}
@@ -63,7 +64,7 @@ fail_at p at starved fill c =
 
 -- hearing a message of the wire; one that isn't there or is for another node does nothing
 abbrev pub hear_at : ℕ → ℕ → Bool → ℕ → Cluster → Cluster
-hear_at p at starved k c = option_map_or (λ m. if m.to == p then at_node p at starved (node.Hear m) c else c) (slice_get c.wire k) c
+hear_at p at starved k c = option_map_or (λ m. if m.to == p then at_node p at starved (node.Told (input.Hear m)) c else c) (slice_get c.wire k) c
 
 -- a crash of node p
 abbrev pub crash_at : ℕ → ℕ → ℕ → List ℕ → Cluster → Cluster
@@ -73,11 +74,11 @@ crash_at p cut_first cut_second fill c =
 
 -- what the event of a line does to a cluster
 abbrev pub event_step : ℕ → Bool → Event → Cluster → Cluster
-event_step at starved (Submit p v) c = at_node p at starved (node.Submit v) c
+event_step at starved (Submit p v) c = at_node p at starved (node.Told (input.Submit v)) c
 event_step at starved (Hear p k) c = hear_at p at starved k c
-event_step at starved (Suspect p set) c = at_node p at starved (node.Suspect set) c
-event_step at starved (Tick p) c = at_node p at starved node.Tick c
-event_step at starved (Advance p) c = at_node p at starved node.Advance c
+event_step at starved (Suspect p set) c = at_node p at starved (node.Told (input.Suspect set)) c
+event_step at starved (Tick p) c = at_node p at starved (node.Told input.Tick) c
+event_step at starved (Advance p) c = at_node p at starved (node.Told input.Advance) c
 event_step at starved (Take p) c = at_node p at starved node.Take c
 event_step at starved (Device p) c = at_node p at starved node.Device c
 event_step at starved (Fail p fill) c = fail_at p at starved fill c

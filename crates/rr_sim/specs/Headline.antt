@@ -13,6 +13,7 @@ use Rattle.rr_model.specs.NodeState.{decided_prefix}
 use Rattle.rr_model.specs.Sound.{IsDecidedList, IsSound}
 use Rattle.rr_model.specs.World as world
 use Rattle.rr_model.specs.World.{World, Step, Told, Sent, Acknowledged, empty_world, IsRun, end_of}
+use Rattle.rr_types.specs.declared.input.Input.TheVariants as input
 use Rattle.rr_node.specs.declared.event.NodeEvent.TheVariants as node
 use Rattle.rr_node.specs.Runs.{MayBe, MayFall}
 use Rattle.rr_node.specs.Seats.{Doing, Stopped, Faulted, Opening, Serving, Seat}
@@ -43,11 +44,11 @@ told_in lines = flat_map told_by_line lines
 
 -- the steps of the world that an event over this wire may be, all at its node
 abbrev pub AreStepsOf : List Message → Event → List Step → Type 0
-AreStepsOf wire (Submit p c) steps = MayBe p (node.Submit c) steps
-AreStepsOf wire (Hear p k) steps = (steps ≡ []) ⊎ ((m : Message) × (slice_get wire k ≡ Some m) × MayBe p (node.Hear m) steps)
-AreStepsOf wire (Suspect p set) steps = MayBe p (node.Suspect set) steps
-AreStepsOf wire (Tick p) steps = MayBe p node.Tick steps
-AreStepsOf wire (Advance p) steps = MayBe p node.Advance steps
+AreStepsOf wire (Submit p c) steps = MayBe p (node.Told (input.Submit c)) steps
+AreStepsOf wire (Hear p k) steps = (steps ≡ []) ⊎ ((m : Message) × (slice_get wire k ≡ Some m) × MayBe p (node.Told (input.Hear m)) steps)
+AreStepsOf wire (Suspect p set) steps = MayBe p (node.Told (input.Suspect set)) steps
+AreStepsOf wire (Tick p) steps = MayBe p (node.Told input.Tick) steps
+AreStepsOf wire (Advance p) steps = MayBe p (node.Told input.Advance) steps
 AreStepsOf wire (Take p) steps = MayBe p node.Take steps
 AreStepsOf wire (Device p) steps = MayBe p node.Device steps
 AreStepsOf wire (Fail p fill) steps = MayFall p steps

@@ -15,7 +15,7 @@ use rr_node::{Node, NodeEvent, Outcome};
 use rr_registry::Holding;
 use rr_text::text_report::push_report_lines;
 use rr_text::{Binding, BoundNames, Event, ReportLine};
-use rr_types::{Message, Name, NodeId, Nodes, Refusal};
+use rr_types::{Input, Message, Name, NodeId, Nodes, Refusal};
 use std::alloc::Global;
 use std::marker::Model;
 
@@ -123,10 +123,10 @@ fn node_event(event: &Event) -> NodeEvent
     ensures { (at : ℕ) (starved : Bool) (c : clusters.Cluster) → event_step at starved event.now c ≡ at_node (node_of event.now) at starved result c }
 {
     match event {
-        Event::Submit { command, .. } => NodeEvent::Submit(*command),
-        Event::Suspect { set, .. } => NodeEvent::Suspect(*set),
-        Event::Tick { .. } => NodeEvent::Tick,
-        Event::Advance { .. } => NodeEvent::Advance,
+        Event::Submit { command, .. } => NodeEvent::Told(Input::Submit(*command)),
+        Event::Suspect { set, .. } => NodeEvent::Told(Input::Suspect(*set)),
+        Event::Tick { .. } => NodeEvent::Told(Input::Tick),
+        Event::Advance { .. } => NodeEvent::Told(Input::Advance),
         Event::Take { .. } => NodeEvent::Take,
         Event::Device { .. } => NodeEvent::Device,
         Event::Mark { .. } => NodeEvent::Mark,
@@ -354,7 +354,7 @@ impl Cluster {
             Some(message) if message.to == node => match self.refusal_at(node) {
                 Some(refusal) => self.refuse(line, refusal),
                 None => {
-                    let event = NodeEvent::Hear(*message);
+                    let event = NodeEvent::Told(Input::Hear(*message));
                     self.at_node(alloc, node, line, &event)
                 }
             },

@@ -8,12 +8,15 @@ ghost use Rattle.rr_window.specs.Sights.{entries_of};
 ghost use Rattle.rr_threads.specs.Asking.{IsAnswered, IsSeen, IsAnswerTo};
 
 use crate::desk::{Counter, Desk};
+use crate::node_loop::tell;
 use crate::recorder::Recorder;
 use crate::rest::{FIRST, LONG, Rest};
 use crate::shared::Shared;
-use rr_locked::{Place, Turnstile, submit_on};
+use rr_locked::{Place, Turnstile};
 use rr_script::{Answer, ScriptLine};
-use rr_types::{Command, Name, NodeId, NodeSet, Op, Refusal, Reply, RequestNo, Value, made_of};
+use rr_types::{
+    Command, Input, Name, NodeId, NodeSet, Op, Refusal, Reply, RequestNo, Value, made_of,
+};
 use rr_window::{Entry, Receipt, Seat, Sight, WindowName};
 use std::alloc::Global;
 use std::marker::Model;
@@ -70,10 +73,7 @@ fn submit_in<W: WindowName, R: Wait>(
     command: &Command,
 ) -> Result<bool, Refusal> {
     let mut locked = desk.locked.lock(rt);
-    match recorder {
-        None => locked.submit(command)?,
-        Some(recorder) => submit_on(&mut locked, &mut recorder.recording().lock(rt), command)?,
-    }
+    tell(rt, &mut locked, recorder, &Input::Submit(*command), 0)?;
     Ok(locked.reply(command.request).is_some())
 }
 

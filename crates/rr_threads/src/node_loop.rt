@@ -8,10 +8,9 @@ use crate::shared::Shared;
 use rr_inbox::{Giver, Outlet, Port, Taker, TrySendError};
 use rr_journal::Synced;
 use rr_locked::{
-    Locked, Sent, Standstill, Turns, Unflushed, advance_on, hear_on, mark_on, send, send_on,
-    take_on, tick_on,
+    Locked, Sent, Standstill, Turns, Unflushed, input_on, mark_on, send, send_on, take_on,
 };
-use rr_types::{Group, NodeId, NodeSet, Refusal};
+use rr_types::{Group, Input, NodeId, NodeSet, Refusal};
 use rr_window::WindowName;
 use std::sync::{Mutex, Wait};
 
@@ -33,6 +32,20 @@ pub struct Runner {
     pub backs: Taker<Result<Synced, Unflushed>>,
 }
 
+/// The node is told this. A message that it hears has this number on the tape.
+pub fn tell<R: Wait>(
+    rt: &R,
+    locked: &mut Locked,
+    recorder: Option<&Recorder>,
+    input: &Input,
+    number: u32,
+) -> Result<(), Refusal> {
+    match recorder {
+        None => locked.step(input),
+        Some(recorder) => input_on(locked, &mut recorder.recording().lock(rt), input, number),
+    }
+}
+
 /// The node hears a message.
 fn hear<R: Wait>(
     rt: &R,
@@ -40,10 +53,8 @@ fn hear<R: Wait>(
     recorder: Option<&Recorder>,
     sent: &Sent,
 ) -> Result<(), Refusal> {
-    match recorder {
-        None => locked.hear(sent.message()),
-        Some(recorder) => hear_on(locked, &mut recorder.recording().lock(rt), sent),
-    }
+    let input = Input::Hear(*sent.message());
+    tell(rt, locked, recorder, &input, sent.number())
 }
 
 /// The messages of the inbox are heard, of many the first. Answers whether there was one.
@@ -213,11 +224,7 @@ fn send_all<R: Wait>(
 
 /// The node ticks.
 fn tick<R: Wait>(rt: &R, node: &Mutex<Locked>, recorder: Option<&Recorder>) -> Result<(), Refusal> {
-    let mut locked = node.lock(rt);
-    match recorder {
-        None => locked.tick(),
-        Some(recorder) => tick_on(&mut locked, &mut recorder.recording().lock(rt)),
-    }
+    tell(rt, &mut node.lock(rt), recorder, &Input::Tick, 0)
 }
 
 /// The node enters the next round of its lowest open instance, if that has one.
@@ -226,14 +233,9 @@ fn advance<R: Wait>(
     node: &Mutex<Locked>,
     recorder: Option<&Recorder>,
 ) -> Result<(), Refusal> {
-    let mut locked = node.lock(rt);
-    let advanced = match recorder {
-        None => locked.advance(),
-        Some(recorder) => advance_on(&mut locked, &mut recorder.recording().lock(rt)),
-    };
-    match advanced {
+    match tell(rt, &mut node.lock(rt), recorder, &Input::Advance, 0) {
         Err(Refusal::RoundsOut) => Ok(()),
-        _ => advanced,
+        advanced => advanced,
     }
 }
 

@@ -1,5 +1,5 @@
 //! The vocabulary of a replicated name registry: nodes, rounds and instances, names and values,
-//! commands and replies, facts, promises and messages, and the refusals of every call.
+//! commands and replies, facts, promises, messages and inputs, and the refusals of every call.
 //!
 //! Each type keeps its range: a `Round` is always a number from 1 to 2,147,483,647. Contracts
 //! see numbers as numbers, names and values as lists of bytes, and the rest as the record or the variant.
@@ -7,6 +7,7 @@
 
 mod command;
 mod fact;
+mod input;
 mod limit_law;
 mod made_of;
 mod message;
@@ -20,6 +21,7 @@ mod standing;
 
 pub use command::{Command, Op, Reply, RequestNo};
 pub use fact::{Estimate, Fact, GROUP, Group};
+pub use input::Input;
 pub use limit_law::limits;
 pub use message::{Body, Message};
 pub use name::{MAX_NAME, MAX_VALUE, Name, Value, is_name_byte, is_value_byte};

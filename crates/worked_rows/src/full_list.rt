@@ -4,8 +4,8 @@ use rr_disk::{Area, Disk, MemDisk};
 use rr_frame::{Snapshot, encode_group, encode_snapshot, put_u8, put_u32};
 use rr_node::{Node, NodeEvent, Outcome};
 use rr_types::{
-    Command, Fact, GROUP, Group, INSTANCES, Instance, Message, Name, NodeId, Nodes, Op, Promise,
-    Refusal, RequestNo, Value, made_of,
+    Command, Fact, GROUP, Group, INSTANCES, Input, Instance, Message, Name, NodeId, Nodes, Op,
+    Promise, Refusal, RequestNo, Value, made_of,
 };
 use std::alloc::Global;
 use std::io;
@@ -79,7 +79,7 @@ fn full_node(alloc: Global) -> Result<Node, Refusal> {
 
 /// What the node answers to a request, where it is acknowledged at once.
 fn answer(alloc: Global, node: &mut Node, seq: u64) -> Result<Outcome, Refusal> {
-    node.step(alloc, &NodeEvent::Submit(command(seq)?))?;
+    node.step(alloc, &NodeEvent::Told(Input::Submit(command(seq)?)))?;
     node.step(alloc, &NodeEvent::Acknowledge)
 }
 

@@ -2,7 +2,7 @@
 
 use super::started::{claim, node_over, open, put_decided, put_head};
 use rr_node::{Node, NodeEvent, Outcome};
-use rr_types::{Message, Op, Refusal, Reply, made_of};
+use rr_types::{Input, Message, Op, Refusal, Reply, made_of};
 use std::alloc::Global;
 use std::process::Abort;
 
@@ -68,7 +68,7 @@ fn the_last_round_isnt_left(rt: HostRuntime) {
         &rt,
         alloc,
         &mut node,
-        NodeEvent::Advance,
+        NodeEvent::Told(Input::Advance),
         Refusal::RoundsOut,
     );
     // The node is as it was: it still owes the estimate of that round.
@@ -82,16 +82,22 @@ fn no_fact_comes_behind_the_last(rt: HostRuntime) {
     let mut node = opened(&rt, alloc, &LAST_FACT, 0xFFFF_FFFF_FFFF_FFFE, 0);
     // The node enters round 1 of instance 0 by the fact 2^64 - 2; the next would have the number 2^64 - 1.
     let first = claim(1, b"a").expect(&rt, "memory");
-    assert_quiet(&rt, alloc, &mut node, NodeEvent::Submit(first));
+    assert_quiet(&rt, alloc, &mut node, NodeEvent::Told(Input::Submit(first)));
     let second = claim(2, b"b").expect(&rt, "memory");
     assert_refused(
         &rt,
         alloc,
         &mut node,
-        NodeEvent::Submit(second),
+        NodeEvent::Told(Input::Submit(second)),
         Refusal::TooLarge,
     );
-    assert_refused(&rt, alloc, &mut node, NodeEvent::Advance, Refusal::TooLarge);
+    assert_refused(
+        &rt,
+        alloc,
+        &mut node,
+        NodeEvent::Told(Input::Advance),
+        Refusal::TooLarge,
+    );
 }
 
 #[test]
@@ -115,7 +121,13 @@ fn an_area_that_is_cut_short_is_damaged(rt: HostRuntime) {
     assert_quiet(&rt, alloc, &mut node, NodeEvent::Device);
     let damaged = Refusal::Damaged { area: 0, offset: 0 };
     assert_refused(&rt, alloc, &mut node, NodeEvent::Device, damaged);
-    assert_refused(&rt, alloc, &mut node, NodeEvent::Tick, Refusal::Down);
+    assert_refused(
+        &rt,
+        alloc,
+        &mut node,
+        NodeEvent::Told(Input::Tick),
+        Refusal::Down,
+    );
 }
 
 /// Area 0 of a node that has decided 4,096 claims of names of their own, `n0000` to `n4095`, and then one of `b`.
@@ -137,7 +149,7 @@ fn no_name_is_bound_behind_the_last(rt: HostRuntime) {
     let alloc = rt.alloc();
     let mut node = opened(&rt, alloc, &crowded(&rt, alloc), 4097, 4097);
     let last = claim(4096, b"b").expect(&rt, "memory");
-    assert_quiet(&rt, alloc, &mut node, NodeEvent::Submit(last));
+    assert_quiet(&rt, alloc, &mut node, NodeEvent::Told(Input::Submit(last)));
     match node.step(alloc, &NodeEvent::Acknowledge) {
         Ok(Outcome::Replied(request, reply)) => {
             assert_eq!(rt; request.seq, 4096);

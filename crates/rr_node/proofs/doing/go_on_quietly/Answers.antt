@@ -10,11 +10,7 @@ use Rattle.rr_node.proofs.doing.go_on_quietly.Goals as goal
 
 -- all but a send and an acknowledgement give nothing
 others : (event : NodeEvent) → event ≢ at.Send → event ≢ at.Acknowledge → gives_nothing event ≡ true
-others (at.Submit command) send acknowledge = refl
-others (at.Hear message) send acknowledge = refl
-others (at.Suspect set) send acknowledge = refl
-others at.Tick send acknowledge = refl
-others at.Advance send acknowledge = refl
+others (at.Told input) send acknowledge = refl
 others at.Take send acknowledge = refl
 others at.Device send acknowledge = refl
 others at.Mark send acknowledge = refl

@@ -1,6 +1,6 @@
 use Rattle.std.proofs.Common.{sym, refl, subst}
 use Rattle.rr_model.specs.NodeLaws.{Told}
-use Rattle.rr_model.specs.NodeStep as node
+use Rattle.rr_types.specs.declared.input.Input.TheVariants as node
 use Rattle.rr_tape.specs.declared.tape_event.TapeEvent.{TapeEvent}
 use Rattle.rr_tape.specs.declared.tape_event.TapeEvent.TheVariants.{Submit, Suspect, Tick, Advance}
 use Rattle.rr_audit.specs.Following.{FollowsAt}
@@ -9,20 +9,20 @@ use Rattle.rr_audit.proofs.replay_node.ReplayNode.follow.Goals as goal
 
 pub returns-in-Submit : goal.returns-in-Submit
 returns-in-Submit c =
-    subst (λ (e : TapeEvent). FollowsAt c.args.wire.now e c.args.self.now c.submit.new.self c.submit.result) (sym c.in-Submit.is)
-    (follows_input c.args.wire.now (Submit c.in-Submit.node c.in-Submit.command) (node.Submit c.in-Submit.command) c.args.self.now c.submit.new.self c.submit.result c.submit.ensures (λ ok. (refl, ok)) (λ does is. is.1))
+    subst (λ (e : TapeEvent). FollowsAt c.args.wire.now e c.args.self.now c.tell.new.self c.tell.result) (sym c.in-Submit.is)
+    (follows_input c.args.wire.now (Submit c.in-Submit.node c.in-Submit.command) (node.Submit c.in-Submit.command) c.args.self.now c.tell.new.self c.tell.result c.tell.ensures (λ ok. (refl, ok)) (λ does is. is.1))
 
 pub returns-in-Suspect : goal.returns-in-Suspect
 returns-in-Suspect c =
-    subst (λ (e : TapeEvent). FollowsAt c.args.wire.now e c.args.self.now c.suspect.new.self c.suspect.result) (sym c.in-Suspect.is)
-    (follows_input c.args.wire.now (Suspect c.in-Suspect.node c.in-Suspect.set) (node.Suspect c.in-Suspect.set) c.args.self.now c.suspect.new.self c.suspect.result c.suspect.ensures (λ ok. (refl, ok)) (λ does is. is.1))
+    subst (λ (e : TapeEvent). FollowsAt c.args.wire.now e c.args.self.now c.tell-2.new.self c.tell-2.result) (sym c.in-Suspect.is)
+    (follows_input c.args.wire.now (Suspect c.in-Suspect.node c.in-Suspect.set) (node.Suspect c.in-Suspect.set) c.args.self.now c.tell-2.new.self c.tell-2.result c.tell-2.ensures (λ ok. (refl, ok)) (λ does is. is.1))
 
 pub returns-in-Tick : goal.returns-in-Tick
 returns-in-Tick c =
-    subst (λ (e : TapeEvent). FollowsAt c.args.wire.now e c.args.self.now c.tick.new.self c.tick.result) (sym c.in-Tick.is)
-    (follows_input c.args.wire.now (Tick c.in-Tick.node) node.Tick c.args.self.now c.tick.new.self c.tick.result c.tick.ensures (λ ok. (refl, ok)) (λ does is. is.1))
+    subst (λ (e : TapeEvent). FollowsAt c.args.wire.now e c.args.self.now c.tell-3.new.self c.tell-3.result) (sym c.in-Tick.is)
+    (follows_input c.args.wire.now (Tick c.in-Tick.node) node.Tick c.args.self.now c.tell-3.new.self c.tell-3.result c.tell-3.ensures (λ ok. (refl, ok)) (λ does is. is.1))
 
 pub returns-in-Advance : goal.returns-in-Advance
 returns-in-Advance c =
-    subst (λ (e : TapeEvent). FollowsAt c.args.wire.now e c.args.self.now c.advance.new.self c.advance.result) (sym c.in-Advance.is)
-    (follows_input c.args.wire.now (Advance c.in-Advance.node) node.Advance c.args.self.now c.advance.new.self c.advance.result c.advance.ensures (λ ok. (refl, ok)) (λ does is. is.1))
+    subst (λ (e : TapeEvent). FollowsAt c.args.wire.now e c.args.self.now c.tell-4.new.self c.tell-4.result) (sym c.in-Advance.is)
+    (follows_input c.args.wire.now (Advance c.in-Advance.node) node.Advance c.args.self.now c.tell-4.new.self c.tell-4.result c.tell-4.ensures (λ ok. (refl, ok)) (λ does is. is.1))
