@@ -10,7 +10,7 @@ ghost use Rattle.rr_list.specs.Opened.{open_in};
 
 use crate::rows::Rows;
 use crate::window::Window;
-use rr_types::{INSTANCES, Instance, Standing, WINDOW};
+use rr_types::{INSTANCES, Instance, OPEN_INSTANCES, Standing};
 
 impl Rows {
     /// Whether the instance with this number has decided.
@@ -64,7 +64,7 @@ impl Rows {
     {
         let mut lowest = kept;
         let mut from = from;
-        let room = WINDOW - lowest.as_slice().len();
+        let room = OPEN_INSTANCES - lowest.as_slice().len();
         for _turn in 0..room {
             match Instance::new(self.search(from)) {
                 None => return lowest,
@@ -84,10 +84,10 @@ impl Rows {
     {
         let kept = self.kept(window);
         let instances = window.as_slice();
-        if instances.len() < WINDOW {
+        if instances.len() < OPEN_INSTANCES {
             return kept;
         }
-        self.fill(kept, instances[WINDOW - 1].number() + 1)
+        self.fill(kept, instances[OPEN_INSTANCES - 1].number() + 1)
     }
 
     /// The open instances behind rows that were put, where these were open before. They are the same unless a row has
@@ -120,7 +120,7 @@ impl Rows {
             }
         }
         // Fewer than eight are open only where nothing behind them is undecided.
-        let from = if instances.len() < WINDOW {
+        let from = if instances.len() < OPEN_INSTANCES {
             INSTANCES
         } else {
             from
