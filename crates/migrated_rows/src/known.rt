@@ -6,8 +6,8 @@ use rr_disk::MemDisk;
 use rr_frame::{Snapshot, encode_snapshot};
 use rr_recover::recover;
 use rr_text::text_report::push_report_words;
-use rr_text::{Binding, BoundNames, ReportLine};
-use rr_types::Refusal;
+use rr_text::{BoundNames, ReportLine};
+use rr_types::{Binding, Refusal};
 use std::alloc::Global;
 
 /// What a node knows. The words of its restart in a report tell how many facts it has, and the bound names. A snapshot of

@@ -3,14 +3,14 @@ use Rattle.std.specs.Prelude.{ℕ, Bool, true, false, List, [], ◌∷◌}
 use Rattle.std.specs.List.{count_by}
 use Rattle.rr_types.specs.declared.message.Body.{Body}
 use Rattle.rr_types.specs.declared.message.Body.TheVariants as says
+use Rattle.rr_types.specs.declared.message.MessageKind.{MessageKind}
+use Rattle.rr_types.specs.declared.message.MessageKind.TheVariants as message
 use Rattle.rr_text.specs.declared.event.Event.{Event}
 use Rattle.rr_text.specs.declared.event.Event.TheVariants as event
 use Rattle.rr_text.specs.declared.report.ReportLine.{ReportLine}
 use Rattle.rr_text.specs.declared.report.ReportLine.TheVariants as line
 use Rattle.rr_account.specs.declared.kind.EventKind.{EventKind}
 use Rattle.rr_account.specs.declared.kind.EventKind.TheVariants.{Submit, Hear, Suspect, Tick, Advance, Take, Device, Fail, Mark, Send, Ack, Snap, Crash, Restart}
-use Rattle.rr_account.specs.declared.kind.MessageKind.{MessageKind}
-use Rattle.rr_account.specs.declared.kind.MessageKind.TheVariants as message
 
 -- whether an event is of a kind
 abbrev pub is_event_kind : EventKind → Event → Bool

@@ -4,13 +4,11 @@ ghost use Rattle.std.specs.Prelude.{◌≡◌, ◌+◌, ℕ, length, OnOk, IfOk,
 ghost use Rattle.rr_account.specs.Texts.{AreObjects};
 
 use crate::account::Account;
-use crate::kind::MessageKind;
 use crate::note::push_object;
 use crate::reasons::{Reason, reason_text};
-use rr_text::text_report::refusal_name;
 use rr_text::text_schedule::push_event;
-use rr_text::{Binding, Event, ReportLine};
-use rr_types::{Body, Command, Name, NodeId, NodeSet, Nodes, Op, Refusal, Reply, Value};
+use rr_text::{Event, ReportLine};
+use rr_types::{Binding, Body, Command, Name, NodeId, NodeSet, Nodes, Op, Refusal, Reply, Value};
 use serde::{Described, Serialize, Serializer};
 use std::alloc::Global;
 use std::str;
@@ -68,7 +66,7 @@ struct CommandRow {
 // write all members of all variants, and that proves slowly.)
 #[derive(Drop, Serialize)]
 struct BodyRow {
-    kind: MessageKind,
+    kind: &'static str,
     #[serde(skip_serializing_if = "Option::is_none")]
     instance: Option<u32>,
     #[serde(skip_serializing_if = "Option::is_none")]
@@ -195,16 +193,15 @@ fn text_of(bytes: &[u8]) -> &str {
 }
 
 fn command_row(command: &Command) -> CommandRow {
-    let (operation, name, value, owner) = match &command.op {
-        Op::Claim(name, value) => ("claim", *name, Some(ValueText(*value)), None),
-        Op::Update(name, value) => ("update", *name, Some(ValueText(*value)), None),
-        Op::Release(name) => ("release", *name, None, None),
-        Op::Transfer(name, owner) => ("transfer", *name, None, Some(*owner)),
+    let (name, value, owner) = match &command.op {
+        Op::Claim(name, value) | Op::Update(name, value) => (*name, Some(ValueText(*value)), None),
+        Op::Release(name) => (*name, None, None),
+        Op::Transfer(name, owner) => (*name, None, Some(*owner)),
     };
     CommandRow {
         client: command.request.client,
         request: command.request.seq,
-        operation,
+        operation: command.op.kind().word(),
         name: NameText(name),
         value,
         owner,
@@ -228,50 +225,35 @@ fn members(alloc: Global, set: NodeSet) -> Result<Vec<u8>, Refusal>
     Ok(members)
 }
 
-// The kind of a message, and its instance, its round and its command, where it names them.
-fn named(body: &Body) -> (MessageKind, Option<u32>, Option<u32>, Option<CommandRow>) {
+// The instance of a message, its round and its command, where it names them.
+fn named(body: &Body) -> (Option<u32>, Option<u32>, Option<CommandRow>) {
     match body {
         Body::Estimate(instance, estimate) => (
-            MessageKind::Estimate,
             Some(instance.number()),
             Some(estimate.round().number()),
             Some(command_row(&estimate.command())),
         ),
         Body::Proposal(instance, round, command) => (
-            MessageKind::Proposal,
             Some(instance.number()),
             Some(round.number()),
             Some(command_row(command)),
         ),
-        Body::Ack(instance, round) => (
-            MessageKind::Ack,
-            Some(instance.number()),
-            Some(round.number()),
-            None,
-        ),
-        Body::Decision(instance, command) => (
-            MessageKind::Decision,
-            Some(instance.number()),
-            None,
-            Some(command_row(command)),
-        ),
-        Body::Request(command) => (MessageKind::Request, None, None, Some(command_row(command))),
-        Body::Nack(instance, round) => (
-            MessageKind::Nack,
-            Some(instance.number()),
-            Some(round.number()),
-            None,
-        ),
-        Body::Beat => (MessageKind::Beat, None, None, None),
-        Body::Suspects(_) => (MessageKind::Suspects, None, None, None),
-        Body::Ask(instance) => (MessageKind::Ask, Some(instance.number()), None, None),
+        Body::Ack(instance, round) | Body::Nack(instance, round) => {
+            (Some(instance.number()), Some(round.number()), None)
+        }
+        Body::Decision(instance, command) => {
+            (Some(instance.number()), None, Some(command_row(command)))
+        }
+        Body::Request(command) => (None, None, Some(command_row(command))),
+        Body::Beat | Body::Suspects(_) => (None, None, None),
+        Body::Ask(instance) => (Some(instance.number()), None, None),
     }
 }
 
 fn body_row(alloc: Global, body: &Body) -> Result<BodyRow, Refusal>
     ensures { IfErr result (λ e. e ≡ Refusal.OutOfMemory) }
 {
-    let (kind, instance, round, command) = named(body);
+    let (instance, round, command) = named(body);
     let stamp = match body {
         Body::Estimate(_, estimate) => Some(estimate.stamp()),
         _ => None,
@@ -281,7 +263,7 @@ fn body_row(alloc: Global, body: &Body) -> Result<BodyRow, Refusal>
         _ => None,
     };
     Ok(BodyRow {
-        kind,
+        kind: body.kind().word(),
         instance,
         round,
         stamp,
@@ -356,7 +338,7 @@ fn row_of(alloc: Global, line: &ReportLine) -> Result<Row, Refusal>
             kind: "refuse",
             line: *line,
             number: refusal.number(),
-            name: refusal_name(refusal),
+            name: refusal.name(),
         }),
     })
 }

@@ -4,7 +4,7 @@ ghost use Rattle.std.specs.Prelude.{◌≡◌};
 ghost use Rattle.rr_account.specs.Counts.{is_event_kind, is_message_kind};
 
 use rr_text::Event;
-use rr_types::Body;
+use rr_types::{Body, MessageKind};
 use serde::{Described, Serialize, Serializer};
 
 /// What an event does, by its keyword.
@@ -97,29 +97,6 @@ impl EventKind {
     }
 }
 
-/// What a message says.
-#[derive(Clone, Copy)]
-pub enum MessageKind {
-    Estimate,
-    Proposal,
-    Ack,
-    Decision,
-    Request,
-    Nack,
-    Beat,
-    Suspects,
-    Ask,
-}
-
-impl Described for MessageKind {}
-
-// As JSON a kind is its word.
-impl Serialize for MessageKind {
-    fn serialize<S: Serializer>(&self, out: &mut S) -> Result<(), S::Error> {
-        self.word().serialize(out)
-    }
-}
-
 /// All kinds of messages.
 pub(crate) const MESSAGE_KINDS: [MessageKind; 9] = [
     MessageKind::Estimate,
@@ -133,36 +110,27 @@ pub(crate) const MESSAGE_KINDS: [MessageKind; 9] = [
     MessageKind::Ask,
 ];
 
-impl MessageKind {
-    /// Its word.
-    pub fn word(self) -> &'static str {
-        match self {
-            MessageKind::Estimate => "estimate",
-            MessageKind::Proposal => "proposal",
-            MessageKind::Ack => "ack",
-            MessageKind::Decision => "decision",
-            MessageKind::Request => "request",
-            MessageKind::Nack => "nack",
-            MessageKind::Beat => "beat",
-            MessageKind::Suspects => "suspects",
-            MessageKind::Ask => "ask",
-        }
-    }
+/// Writes a kind of messages as JSON: it is its word.
+pub(crate) fn serialize_message_kind<S: Serializer>(
+    kind: &MessageKind,
+    out: &mut S,
+) -> Result<(), S::Error> {
+    kind.word().serialize(out)
+}
 
-    /// Whether a message says such a thing.
-    pub fn is_of(self, body: &Body) -> bool
-        ensures { result ≡ is_message_kind self body.now }
-    {
-        match body {
-            Body::Estimate(_, _) => matches!(self, MessageKind::Estimate),
-            Body::Proposal(_, _, _) => matches!(self, MessageKind::Proposal),
-            Body::Ack(_, _) => matches!(self, MessageKind::Ack),
-            Body::Decision(_, _) => matches!(self, MessageKind::Decision),
-            Body::Request(_) => matches!(self, MessageKind::Request),
-            Body::Nack(_, _) => matches!(self, MessageKind::Nack),
-            Body::Beat => matches!(self, MessageKind::Beat),
-            Body::Suspects(_) => matches!(self, MessageKind::Suspects),
-            Body::Ask(_) => matches!(self, MessageKind::Ask),
-        }
+/// Whether a message says a thing of this kind.
+pub(crate) fn is_message_kind(kind: MessageKind, body: &Body) -> bool
+    ensures { result ≡ is_message_kind kind body.now }
+{
+    match body {
+        Body::Estimate(_, _) => matches!(kind, MessageKind::Estimate),
+        Body::Proposal(_, _, _) => matches!(kind, MessageKind::Proposal),
+        Body::Ack(_, _) => matches!(kind, MessageKind::Ack),
+        Body::Decision(_, _) => matches!(kind, MessageKind::Decision),
+        Body::Request(_) => matches!(kind, MessageKind::Request),
+        Body::Nack(_, _) => matches!(kind, MessageKind::Nack),
+        Body::Beat => matches!(kind, MessageKind::Beat),
+        Body::Suspects(_) => matches!(kind, MessageKind::Suspects),
+        Body::Ask(_) => matches!(kind, MessageKind::Ask),
     }
 }

@@ -5,11 +5,10 @@ ghost use Rattle.std.specs.List.{AllByRecursion};
 ghost use Rattle.rr_account.specs.Counts.{count_events, count_messages, is_sent_kind, event_kinds, message_kinds};
 
 use crate::account::Account;
-use crate::kind::{EVENT_KINDS, EventKind, MESSAGE_KINDS, MessageKind};
+use crate::kind::{EVENT_KINDS, EventKind, MESSAGE_KINDS, is_message_kind, serialize_message_kind};
 use crate::outcome::Outcome;
-use rr_text::text_report::refusal_name;
 use rr_text::{Event, ReportLine};
-use rr_types::{Body, Instance, Refusal, Round};
+use rr_types::{Body, Instance, MessageKind, Refusal, Round};
 use serde::Serialize;
 use std::alloc::{AllocError, Global};
 
@@ -28,6 +27,7 @@ pub struct EventCount {
 /// before, and how many were never heard.
 #[derive(Clone, Copy, Serialize)]
 pub struct MessageCount {
+    #[serde(serialize_with = "serialize_message_kind")]
     pub kind: MessageKind,
     pub sent: u64,
     pub heard: u64,
@@ -163,7 +163,7 @@ fn is_sent(line: &ReportLine, kind: MessageKind) -> bool
     ensures { result ≡ is_sent_kind kind line.now }
 {
     match line {
-        ReportLine::Send { message, .. } => kind.is_of(&message.body),
+        ReportLine::Send { message, .. } => is_message_kind(kind, &message.body),
         _ => false,
     }
 }
@@ -198,7 +198,7 @@ fn message_count(lines: &[ReportLine], heard: &[u64], kind: MessageKind) -> Mess
     };
     for line in lines {
         if let ReportLine::Send { number, message } = line {
-            if kind.is_of(&message.body) {
+            if is_message_kind(kind, &message.body) {
                 match heard.get(*number as usize) {
                     Some(0) | None => count.never = count.never.saturating_add(1),
                     Some(times) => {
@@ -236,7 +236,7 @@ fn refusal_counts(alloc: Global, lines: &[ReportLine]) -> Result<Vec<RefusalCoun
         for line in lines {
             if let ReportLine::Refuse { refusal, .. } = line {
                 if refusal.number() == number {
-                    name = refusal_name(refusal);
+                    name = refusal.name();
                     refusals = refusals.saturating_add(1);
                 }
             }

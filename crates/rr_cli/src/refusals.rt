@@ -5,7 +5,6 @@ ghost use Rattle.std.specs.Io.KnownBytes.{Appends};
 ghost use Rattle.rr_cli.specs.Refusals.{status_of, refusal_line};
 
 use rr_explain::{print_schedule_fault, print_tape_fault};
-use rr_text::text_report::refusal_name;
 use rr_types::Refusal;
 use std::io;
 use std::io::Write;
@@ -32,14 +31,7 @@ pub fn print_refusal<W: Write>(err: &mut W, refusal: &Refusal) -> io::Result<()>
     ensures { OnOk result (Appends (W.contents err.old) (W.contents err.new) (refusal_line refusal.now)) }
 {
     let number = refusal.number();
-    let name = refusal_name(refusal);
-    match refusal {
-        Refusal::Damaged { area, offset } => writeln!(err, "rr: {number} {name} {area} {offset}"),
-        Refusal::Malformed(at) | Refusal::BadEvent(at) | Refusal::AuditNo(at) => {
-            writeln!(err, "rr: {number} {name} {at}")
-        }
-        _ => writeln!(err, "rr: {number} {name}"),
-    }
+    writeln!(err, "rr: {number} {refusal}")
 }
 
 /// Ends by a refusal: prints its line, and gives its status. Where the line can't be printed the status still tells.

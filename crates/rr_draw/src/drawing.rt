@@ -189,7 +189,7 @@ impl Drawing {
         };
         let class = if sent.is_heard { "again" } else { "" };
         sent.is_heard = true;
-        let kind = class_of(&message.body);
+        let kind = class_of(message.body.kind());
         let from = sent.y;
         let class = format!(in self.alloc; "{kind} {class}")?;
         push_arrow(
@@ -218,7 +218,7 @@ impl Drawing {
         };
         let x = self.x(node);
         let y = self.y;
-        let kind = class_of(&message.body);
+        let kind = class_of(message.body.kind());
         write!(
             out,
             "<circle class=\"{kind}\" cx=\"{x}\" cy=\"{y}\" r=\"1.2\"/>"
@@ -548,7 +548,7 @@ impl Drawing {
     fn draw_lost(&self, message: &Message, y: u64, out: &mut Vec<u8>) -> io::Result<()> {
         let x = self.x(message.from);
         let to = self.x(message.to);
-        let class = class_of(&message.body);
+        let class = class_of(message.body.kind());
         let end = if to > x {
             x.saturating_add(16)
         } else {

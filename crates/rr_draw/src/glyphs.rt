@@ -1,54 +1,44 @@
 //! The marks of a picture.
 
-use rr_types::{Body, Fact, Message};
+use rr_types::{Body, Fact, Message, MessageKind};
 use std::io;
 use std::io::Write;
 
 /// The class of a message, by which it has its colour.
-pub(crate) fn class_of(body: &Body) -> &'static str {
-    match body {
-        Body::Estimate(_, _) => "e",
-        Body::Proposal(_, _, _) => "p",
-        Body::Ack(_, _) => "a",
-        Body::Decision(_, _) => "d",
-        Body::Request(_) => "q",
-        Body::Nack(_, _) | Body::Beat | Body::Suspects(_) | Body::Ask(_) => "o",
+pub(crate) fn class_of(kind: MessageKind) -> &'static str {
+    match kind {
+        MessageKind::Estimate => "e",
+        MessageKind::Proposal => "p",
+        MessageKind::Ack => "a",
+        MessageKind::Decision => "d",
+        MessageKind::Request => "q",
+        MessageKind::Nack | MessageKind::Beat | MessageKind::Suspects | MessageKind::Ask => "o",
     }
 }
 
 /// Appends the short name of a message: what it is, its instance and its round.
 pub(crate) fn push_message_name(out: &mut Vec<u8>, message: &Message) -> io::Result<()> {
+    let word = message.body.kind().word();
     match message.body {
         Body::Estimate(instance, estimate) => {
             let (i, r) = (instance.number(), estimate.round().number());
-            write!(out, "estimate {i}.{r}")
+            write!(out, "{word} {i}.{r}")
         }
-        Body::Proposal(instance, round, _) => {
+        Body::Proposal(instance, round, _)
+        | Body::Ack(instance, round)
+        | Body::Nack(instance, round) => {
             let (i, r) = (instance.number(), round.number());
-            write!(out, "proposal {i}.{r}")
+            write!(out, "{word} {i}.{r}")
         }
-        Body::Ack(instance, round) => {
-            let (i, r) = (instance.number(), round.number());
-            write!(out, "ack {i}.{r}")
-        }
-        Body::Nack(instance, round) => {
-            let (i, r) = (instance.number(), round.number());
-            write!(out, "nack {i}.{r}")
-        }
-        Body::Decision(instance, _) => {
+        Body::Decision(instance, _) | Body::Ask(instance) => {
             let i = instance.number();
-            write!(out, "decision {i}")
-        }
-        Body::Ask(instance) => {
-            let i = instance.number();
-            write!(out, "ask {i}")
+            write!(out, "{word} {i}")
         }
         Body::Request(command) => {
             let (c, s) = (command.request.client, command.request.seq);
-            write!(out, "request {c}.{s}")
+            write!(out, "{word} {c}.{s}")
         }
-        Body::Beat => write!(out, "beat"),
-        Body::Suspects(_) => write!(out, "suspects"),
+        Body::Beat | Body::Suspects(_) => write!(out, "{word}"),
     }
 }
 

@@ -2,8 +2,8 @@
 
 use crate::recorded::Recorded;
 use rr_text::keyword::Keyword;
-use rr_text::text_read::{hex_byte, keyword, node, number, set, small_number};
-use rr_types::{Name, Nodes, Value};
+use rr_text::text_read::{hex_byte, keyword, node, number, op_kind, set, small_number};
+use rr_types::{Name, Nodes, OpKind, Value};
 
 /// What may stand next in a line.
 #[derive(Clone, Copy, Debug)]
@@ -175,15 +175,11 @@ pub(crate) fn digits(nodes: Nodes) -> &'static str {
 
 // What may stand behind an operation of this name.
 fn behind_operation(word: &[u8]) -> Option<Awaited> {
-    if word == b"claim".as_slice() || word == b"update".as_slice() {
-        Some(Awaited::Claimed)
-    } else if word == b"release".as_slice() {
-        Some(Awaited::Released)
-    } else if word == b"transfer".as_slice() {
-        Some(Awaited::Transferred)
-    } else {
-        None
-    }
+    Some(match op_kind(word)? {
+        OpKind::Claim | OpKind::Update => Awaited::Claimed,
+        OpKind::Release => Awaited::Released,
+        OpKind::Transfer => Awaited::Transferred,
+    })
 }
 
 fn is_fill(word: &[u8]) -> bool {

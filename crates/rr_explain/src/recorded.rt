@@ -2,8 +2,8 @@
 
 use crate::awaited::{Awaited, digits};
 use rr_text::keyword::Keyword;
-use rr_text::text_read::{cut, keyword, node, number, small_number};
-use rr_types::{Instance, Nodes, Round};
+use rr_text::text_read::{cut, keyword, message_kind, node, number, small_number};
+use rr_types::{Instance, MessageKind, Nodes, Round};
 
 /// What may stand next in a line of a tape, where a schedule's lines have no such place.
 #[derive(Clone, Copy, Debug)]
@@ -155,24 +155,15 @@ fn behind_event(word: &[u8]) -> Option<Awaited> {
 
 // What may stand behind the word for a message.
 fn behind_message(word: &[u8]) -> Option<Awaited> {
-    let next = if word == b"estimate".as_slice() {
-        Recorded::EstimateInstance
-    } else if word == b"proposal".as_slice() {
-        Recorded::ProposalInstance
-    } else if word == b"ack".as_slice() || word == b"nack".as_slice() {
-        Recorded::AnswerInstance
-    } else if word == b"decision".as_slice() {
-        Recorded::DecisionInstance
-    } else if word == b"request".as_slice() {
-        Recorded::Request
-    } else if word == b"ask".as_slice() {
-        Recorded::AskInstance
-    } else if word == b"suspects".as_slice() {
-        return Some(Awaited::Suspects);
-    } else if word == b"beat".as_slice() {
-        return Some(Awaited::End);
-    } else {
-        return None;
+    let next = match message_kind(word)? {
+        MessageKind::Estimate => Recorded::EstimateInstance,
+        MessageKind::Proposal => Recorded::ProposalInstance,
+        MessageKind::Ack | MessageKind::Nack => Recorded::AnswerInstance,
+        MessageKind::Decision => Recorded::DecisionInstance,
+        MessageKind::Request => Recorded::Request,
+        MessageKind::Beat => return Some(Awaited::End),
+        MessageKind::Suspects => return Some(Awaited::Suspects),
+        MessageKind::Ask => Recorded::AskInstance,
     };
     Some(Awaited::Recorded(next))
 }

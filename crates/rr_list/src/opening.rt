@@ -11,7 +11,7 @@ ghost use Rattle.rr_list.specs.Opened.{open_in};
 
 use crate::rows::Rows;
 use crate::window::Window;
-use rr_types::{INSTANCES, Instance, Standing, WINDOW};
+use rr_types::{INSTANCES, Instance, OPEN_INSTANCES, Standing};
 
 impl Rows {
     /// Whether the instance with this number has decided.
@@ -65,7 +65,7 @@ impl Rows {
     {
         let mut lowest = kept;
         let mut from = from;
-        let room = WINDOW - lowest.as_slice().len();
+        let room = OPEN_INSTANCES - lowest.as_slice().len();
         for _turn in 0..room {
             match Instance::new(self.search(from)) {
                 None => return lowest,
@@ -85,10 +85,10 @@ impl Rows {
     {
         let kept = self.kept(window);
         let instances = window.as_slice();
-        if instances.len() < WINDOW {
+        if instances.len() < OPEN_INSTANCES {
             return kept;
         }
-        self.fill(kept, instances[WINDOW - 1].number() + 1)
+        self.fill(kept, instances[OPEN_INSTANCES - 1].number() + 1)
     }
 
     /// The open instances behind rows that were put, where these were open before. They are the same unless a row has
@@ -121,7 +121,7 @@ impl Rows {
             }
         }
         // Fewer than eight are open only where nothing behind them is undecided.
-        let from = if instances.len() < WINDOW {
+        let from = if instances.len() < OPEN_INSTANCES {
             INSTANCES
         } else {
             from

@@ -2,7 +2,7 @@
 
 ghost use Rattle.std.specs.Prelude.{◌≡◌, ◌<◌, ◌≤◌, ◌∷◌, ◌++◌, [], length};
 
-use rr_types::{Instance, WINDOW};
+use rr_types::{Instance, OPEN_INSTANCES};
 use std::marker::Model;
 
 /// Up to eight instances, in order. No call needs memory.
@@ -29,7 +29,7 @@ impl Window {
     {
         match Instance::new(0) {
             Some(first) => Window {
-                places: [first; WINDOW],
+                places: [first; OPEN_INSTANCES],
                 count: 0,
             },
             None => unreachable!(),

@@ -1,8 +1,9 @@
 //! Who has a name.
 
 ghost use Rattle.std.specs.Prelude.{◌≡◌};
+ghost use Rattle.rr_types.specs.Registry.{binding_of};
 
-use rr_types::Value;
+use rr_types::{Binding, Name, Value};
 use std::marker::Model;
 
 /// Who has a name, and its value.
@@ -41,5 +42,17 @@ impl Holding {
         ensures { result ≡ self.now.value }
     {
         self.value
+    }
+}
+
+/// A bound name with its holding, in one.
+pub fn binding_of(bound: &(Name, Holding)) -> Binding
+    ensures { result ≡ binding_of bound.now }
+{
+    let (name, holding) = bound;
+    Binding {
+        name: *name,
+        owner: holding.owner,
+        value: holding.value,
     }
 }

@@ -10,6 +10,6 @@ mod registry;
 mod tables;
 
 pub use entries::Entries;
-pub use holding::Holding;
+pub use holding::{Holding, binding_of};
 pub use names::MAX_BOUND;
 pub use registry::Registry;

@@ -1,17 +1,17 @@
 //! Where a shell leaves what it asks, and the nodes' clients the answers.
 
-ghost use Rattle.std.specs.Prelude.{◌≡◌, map, IfOk, IfErr, IfSome};
+ghost use Rattle.std.specs.Prelude.{◌≡◌, IfOk, IfErr, IfSome};
 ghost use Rattle.rr_types.specs.Registry.{registry_of};
-ghost use Rattle.rr_window.specs.Sights.{entries_of};
-ghost use Rattle.rr_run.specs.Listings.{bytes_of, binding_of};
+ghost use Rattle.rr_window.specs.Sights.{bindings_with};
+ghost use Rattle.rr_run.specs.Listings.{bytes_of};
 
 use rr_locked::Turnstile;
 use rr_script::{Answer, ScriptLine};
-use rr_shell::{Known, Listing};
-use rr_text::{Binding, BoundNames};
-use rr_threads::{Client, Handle, Standing, Switches};
-use rr_types::{Command, Name, NodeId, Nodes, Op, Refusal, Reply, Value, made_of};
-use rr_window::{Entry, WindowName};
+use rr_shell::Listing;
+use rr_text::BoundNames;
+use rr_threads::{Client, Handle, Switches};
+use rr_types::{Command, Name, NodeId, NodeSummary, Nodes, Op, Refusal, Reply, Value, made_of};
+use rr_window::WindowName;
 use std::alloc::Global;
 use std::mem;
 use std::sync::atomic::{AtomicBool, Ordering};
@@ -32,8 +32,8 @@ pub(crate) enum Question {
     Line(ScriptLine),
     /// Which bound names begin so, or all.
     Names { node: NodeId, prefix: Option<Name> },
-    /// What the node knows.
-    Standing { node: NodeId },
+    /// The node in brief.
+    Summary { node: NodeId },
     /// A snapshot of its facts.
     Snapshot { node: NodeId },
 }
@@ -43,7 +43,7 @@ impl Question {
         match self {
             Question::Line(line) => line.node(),
             Question::Names { node, .. } => *node,
-            Question::Standing { node } => *node,
+            Question::Summary { node } => *node,
             Question::Snapshot { node } => *node,
         }
     }
@@ -54,7 +54,7 @@ impl Question {
 pub(crate) enum Told {
     Answer(Answer),
     Listing(Listing),
-    Known(Known),
+    Summary(NodeSummary),
     /// Whether a snapshot is written.
     Written(bool),
 }
@@ -259,29 +259,6 @@ fn bytes_of(prefix: &Option<Name>) -> &[u8]
     }
 }
 
-fn binding_of(entry: &Entry) -> Binding
-    ensures { result ≡ binding_of entry.now }
-{
-    made_of!(Name, Value);
-    Binding {
-        name: entry.name,
-        owner: entry.owner,
-        value: entry.value,
-    }
-}
-
-// Entries as bound names.
-fn bound_names(alloc: Global, entries: &[Entry]) -> Result<BoundNames, Refusal>
-    ensures ok { IfOk result (λ names. names ≡ map binding_of entries.now) }
-    ensures err { IfErr result (λ e. e ≡ Refusal.OutOfMemory) }
-{
-    let mut names = Vec::new(alloc);
-    for entry in entries {
-        names.push(binding_of(entry))?;
-    }
-    Ok(BoundNames::new(names))
-}
-
 // The bound names of a node that begin so, or all. It is refused for lack of memory alone.
 fn names_at<W: WindowName, T: Turnstile, R: Wait>(
     alloc: Global,
@@ -289,28 +266,17 @@ fn names_at<W: WindowName, T: Turnstile, R: Wait>(
     prefix: &Option<Name>,
 ) -> Result<Listing, Refusal>
     ensures node { IfOk result (λ l. l.node ≡ handle.old.node) }
-    ensures names { IfOk result (λ l. IfSome l.names (λ names. names ≡ map binding_of (entries_of (bytes_of prefix.now) (registry_of handle.new.known)))) }
+    ensures names { IfOk result (λ l. IfSome l.names (λ names. names ≡ bindings_with (bytes_of prefix.now) (registry_of handle.new.known))) }
     ensures err { IfErr result (λ e. e ≡ Refusal.OutOfMemory) }
 {
     let node = handle.node();
     match handle.list(alloc, bytes_of(prefix)) {
-        Ok(entries) => {
-            let names = bound_names(alloc, entries.as_slice())?;
-            Ok(Listing {
-                node,
-                names: Some(names),
-            })
-        }
+        Ok(bindings) => Ok(Listing {
+            node,
+            names: Some(BoundNames::new(bindings)),
+        }),
         Err(Refusal::OutOfMemory) => Err(Refusal::OutOfMemory),
         Err(_) => Ok(Listing { node, names: None }),
-    }
-}
-
-fn known_of(standing: &Standing) -> Known {
-    Known {
-        facts: standing.facts,
-        decided: standing.decided,
-        suspects: standing.suspects,
     }
 }
 
@@ -332,7 +298,7 @@ fn answer_to<W: WindowName, T: Turnstile, R: Wait>(
         Question::Names { node: _, prefix } => {
             Ok(Some(Told::Listing(names_at(alloc, handle, prefix)?)))
         }
-        Question::Standing { node: _ } => Ok(Some(Told::Known(known_of(&handle.standing())))),
+        Question::Summary { node: _ } => Ok(Some(Told::Summary(handle.summary()))),
         Question::Snapshot { node: _ } => {
             let is_written = handle.snapshot(LOOKS);
             if handle.is_over() && !is_written {

@@ -16,7 +16,7 @@ use rr_cli::{end_by_refusal, end_by_stream, end_by_unprinted, nodes_of, number_i
 use rr_disk::{FileDisk, OpenedFile};
 use rr_locked::Open;
 use rr_script::{Answer, ScriptLine};
-use rr_shell::{Listing, Standing, is_listing_at};
+use rr_shell::{Listing, NodeStatus, is_listing_at};
 use rr_stream::Sink;
 use rr_talk::{Asked, Prompting, Stop, is_reply_at, is_sight_at, talk};
 use rr_threads::run_switched;
@@ -117,17 +117,23 @@ impl<'x, R: Files + AllocGlobal + Wait> Asked for Console<'x, R> {
         Ok(matches!(told, Told::Written(true)))
     }
 
-    fn standing(&mut self, node: NodeId) -> Result<Standing, Refusal> {
+    fn status(&mut self, node: NodeId) -> Result<NodeStatus, Refusal> {
         if !self.post.switches.is_on(node) {
-            return Ok(Standing { node, known: None });
-        }
-        let told = self.post.ask(self.rt, &Question::Standing { node })?;
-        match &told {
-            Told::Known(known) => Ok(Standing {
+            return Ok(NodeStatus {
                 node,
-                known: Some(*known),
+                summary: None,
+            });
+        }
+        let told = self.post.ask(self.rt, &Question::Summary { node })?;
+        match &told {
+            Told::Summary(summary) => Ok(NodeStatus {
+                node,
+                summary: Some(*summary),
             }),
-            _ => Ok(Standing { node, known: None }),
+            _ => Ok(NodeStatus {
+                node,
+                summary: None,
+            }),
         }
     }
 }

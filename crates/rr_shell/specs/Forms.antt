@@ -1,11 +1,11 @@
 -- What is said to a line of a shell: with JSON, or in words.
 use Rattle.std.specs.Prelude.{ℕ, Bool, if◌then◌else◌, List, Option, codes}
-use Rattle.rr_text.specs.declared.report.Binding.{Binding}
+use Rattle.rr_types.specs.declared.binding.Binding.{Binding}
 use Rattle.rr_script.specs.declared.answer.Answer.{Answer}
-use Rattle.rr_shell.specs.declared.standing.Standing.{Standing}
+use Rattle.rr_shell.specs.declared.status.NodeStatus.{NodeStatus}
 use Rattle.rr_shell.specs.declared.shell_line.LineFault.{LineFault}
-use Rattle.rr_shell.specs.Texts.{answer_line, list_lines, move_line, stop_line, start_line, snapshot_line, no_snapshot_line, no_snapshot_text, down_line, down_text, standing_line, help_line, help_text, fault_line, fault_text}
-use Rattle.rr_shell.specs.Objects.{answer_object, list_objects, node_object, standing_object, text_object}
+use Rattle.rr_shell.specs.Texts.{answer_line, list_lines, move_line, stop_line, start_line, snapshot_line, no_snapshot_line, no_snapshot_text, down_line, down_text, status_line, help_line, help_text, fault_line, fault_text}
+use Rattle.rr_shell.specs.Objects.{answer_object, list_objects, node_object, status_object, text_object}
 
 -- an answer
 abbrev pub answer_said : Bool → Answer → List ℕ
@@ -40,8 +40,8 @@ abbrev pub down_said : Bool → ℕ → List ℕ
 down_said json p = if json then text_object (codes "error") (down_text p) else down_line p
 
 -- what a node tells of itself
-abbrev pub standing_said : Bool → Standing → List ℕ
-standing_said json s = if json then standing_object s else standing_line s
+abbrev pub status_said : Bool → NodeStatus → List ℕ
+status_said json s = if json then status_object s else status_line s
 
 -- the commands
 abbrev pub help_said : Bool → List ℕ

@@ -1,7 +1,9 @@
 -- What a line of a shell asks for: reading it from left to right, as the code does.
-use Rattle.std.specs.Prelude.{ℕ, if◌then◌else◌, ◌||◌, is_some, List, [], codes, Option, None, Some, Result, Ok, Err}
+use Rattle.std.specs.Prelude.{ℕ, if◌then◌else◌, is_some, List, [], codes, Option, None, Some, Result, Ok, Err}
 use Rattle.std.specs.Str.{bytes_eq}
-use Rattle.rr_text.specs.Reading.{cut_at, name_at, node_at, op_at}
+use Rattle.rr_types.specs.declared.command.OpKind.{OpKind}
+use Rattle.rr_types.specs.declared.command.OpKind.TheVariants.{Claim, Update, Release, Transfer}
+use Rattle.rr_text.specs.Reading.{cut_at, name_at, node_at, op_kind_at, op_at}
 use Rattle.rr_shell.specs.declared.shell_line.ShellLine.{ShellLine}
 use Rattle.rr_shell.specs.declared.shell_line.ShellLine.TheVariants.{Submit, Look, Names, At, Stop, Start, Snapshot, Status, Help, Quit}
 use Rattle.rr_shell.specs.declared.shell_line.LineFault.{LineFault}
@@ -20,12 +22,13 @@ parts_of text = parts_from text (cut_at 32 text)
 abbrev pub named_fault : LineFault → List ℕ → LineFault
 named_fault fault rest = if is_some (name_at (parts_of rest).0) then fault else BadName
 
--- why a line of this word, with this behind it, is no operation
-abbrev pub op_fault : List ℕ → List ℕ → LineFault
-op_fault word rest =
-    if bytes_eq word (codes "claim") || bytes_eq word (codes "update") then named_fault BadValue rest
-    else (if bytes_eq word (codes "transfer") then named_fault BadOwner rest
-    else (if bytes_eq word (codes "release") then BadName else NoCommand))
+-- why a line that begins as an operation of this kind, with this behind its word, is none
+abbrev pub op_fault : Option OpKind → List ℕ → LineFault
+op_fault (Some Claim) rest = named_fault BadValue rest
+op_fault (Some Update) rest = named_fault BadValue rest
+op_fault (Some Release) rest = BadName
+op_fault (Some Transfer) rest = named_fault BadOwner rest
+op_fault None rest = NoCommand
 
 -- what a line asks for that wants something, where that is there
 abbrev pub wanted : {A : Type 0} → LineFault → (A → ShellLine) → Option A → Result ShellLine LineFault
@@ -54,7 +57,7 @@ start_at n rest = wanted NoNode Start (node_at n rest)
 
 -- a submit of the operation that a text is, of this first word and this behind it
 abbrev pub command_at : List ℕ → List ℕ → List ℕ → Result ShellLine LineFault
-command_at text word rest = wanted (op_fault word rest) Submit (op_at text)
+command_at text word rest = wanted (op_fault (op_kind_at word) rest) Submit (op_at text)
 
 -- a snapshot of the node that a text is, of n nodes
 abbrev pub snapshot_at : ℕ → List ℕ → Result ShellLine LineFault

@@ -2,11 +2,11 @@
 use Rattle.std.specs.Prelude.{ℕ, if◌then◌else◌, ◌||◌, ◌==◌, List, [], ◌∷◌, ◌++◌, length, Option, None, Some, codes, decimal}
 use Rattle.std.specs.List.{flat_map}
 use Rattle.rr_text.specs.ReportTexts.{reply_words}
-use Rattle.rr_text.specs.declared.report.Binding.{Binding}
+use Rattle.rr_types.specs.declared.binding.Binding.{Binding}
 use Rattle.rr_script.specs.declared.answer.Answer.{Answer}
 use Rattle.rr_script.specs.declared.answer.Answer.TheVariants.{Acknowledged, Unacknowledged, Free, Bound, Unseen}
-use Rattle.rr_shell.specs.declared.standing.Standing.{Standing}
-use Rattle.rr_shell.specs.declared.standing.Known.{Known}
+use Rattle.rr_shell.specs.declared.status.NodeStatus.{NodeStatus}
+use Rattle.rr_types.specs.declared.summary.NodeSummary.{NodeSummary}
 
 -- a text between quotation marks
 unfoldable pub quoted : List ℕ → List ℕ
@@ -74,15 +74,15 @@ abbrev pub node_object : List ℕ → ℕ → List ℕ
 node_object word p = object_line word (number_member (codes "node") p)
 
 -- that a node is down; or that it is up, and what it knows: bit q of its suspects is node q
-abbrev pub known_members : Option Known → List ℕ
-known_members None = label (codes "up") ++ codes "false"
-known_members (Some k) =
+abbrev pub summary_members : Option NodeSummary → List ℕ
+summary_members None = label (codes "up") ++ codes "false"
+summary_members (Some k) =
     (label (codes "up") ++ codes "true") ++ number_member (codes "facts") k.facts
     ++ number_member (codes "decided") k.decided ++ number_member (codes "suspects") k.suspects
 
 -- what a node tells of itself
-abbrev pub standing_object : Standing → List ℕ
-standing_object s = object_line (codes "node") (number_member (codes "node") s.node ++ known_members s.known)
+abbrev pub status_object : NodeStatus → List ℕ
+status_object s = object_line (codes "node") (number_member (codes "node") s.node ++ summary_members s.summary)
 
 -- the beginning of an object of this kind that has a text, and its end
 abbrev pub text_opened : List ℕ → List ℕ

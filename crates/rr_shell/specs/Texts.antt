@@ -3,11 +3,11 @@ use Rattle.std.specs.Prelude.{ℕ, List, [], ◌∷◌, ◌++◌, length, Option
 use Rattle.std.specs.List.{flat_map}
 use Rattle.rr_text.specs.Words.{spaced, value_words, set_text}
 use Rattle.rr_text.specs.ReportTexts.{reply_words}
-use Rattle.rr_text.specs.declared.report.Binding.{Binding}
+use Rattle.rr_types.specs.declared.binding.Binding.{Binding}
 use Rattle.rr_script.specs.declared.answer.Answer.{Answer}
 use Rattle.rr_script.specs.declared.answer.Answer.TheVariants.{Acknowledged, Unacknowledged, Free, Bound, Unseen}
-use Rattle.rr_shell.specs.declared.standing.Standing.{Standing}
-use Rattle.rr_shell.specs.declared.standing.Known.{Known}
+use Rattle.rr_shell.specs.declared.status.NodeStatus.{NodeStatus}
+use Rattle.rr_types.specs.declared.summary.NodeSummary.{NodeSummary}
 use Rattle.rr_shell.specs.declared.shell_line.LineFault.{LineFault}
 use Rattle.rr_shell.specs.declared.shell_line.LineFault.TheVariants.{NoCommand, BadName, BadValue, BadOwner, NoNode, TooLong}
 
@@ -73,13 +73,13 @@ abbrev pub down_line : ℕ → List ℕ
 down_line p = codes "error: " ++ down_text p ++ 10 ∷ []
 
 -- that a node is down; or that it is up, and what it knows
-abbrev pub known_words : Option Known → List (List ℕ)
-known_words None = codes "down" ∷ []
-known_words (Some k) = codes "up" ∷ codes "facts" ∷ decimal k.facts ∷ codes "decided" ∷ decimal k.decided ∷ codes "suspects" ∷ set_text k.suspects ∷ []
+abbrev pub summary_words : Option NodeSummary → List (List ℕ)
+summary_words None = codes "down" ∷ []
+summary_words (Some k) = codes "up" ∷ codes "facts" ∷ decimal k.facts ∷ codes "decided" ∷ decimal k.decided ∷ codes "suspects" ∷ set_text k.suspects ∷ []
 
 -- the line of what a node tells of itself
-abbrev pub standing_line : Standing → List ℕ
-standing_line s = spaced (codes "node" ∷ decimal s.node ∷ known_words s.known) ++ 10 ∷ []
+abbrev pub status_line : NodeStatus → List ℕ
+status_line s = spaced (codes "node" ∷ decimal s.node ∷ summary_words s.summary) ++ 10 ∷ []
 
 -- the commands
 abbrev pub help_text : List ℕ

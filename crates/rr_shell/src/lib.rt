@@ -7,13 +7,13 @@ mod listing;
 mod object_text;
 mod said_text;
 mod shell_line;
-mod standing;
+mod status;
 
 pub use line_read::read_shell_line;
 pub use listing::{Listing, is_listing_at};
 pub use said_text::{
     say_answer, say_down, say_fault, say_help, say_listing, say_move, say_no_snapshot,
-    say_snapshot, say_standing, say_start, say_stop,
+    say_snapshot, say_start, say_status, say_stop,
 };
 pub use shell_line::{LineFault, MAX_LINE, ShellLine};
-pub use standing::{Known, Standing};
+pub use status::NodeStatus;

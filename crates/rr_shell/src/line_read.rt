@@ -4,8 +4,8 @@ ghost use Rattle.std.specs.Prelude.{◌≡◌};
 ghost use Rattle.rr_shell.specs.Lines.{parts_of, named_fault, op_fault, look_at, list_at, move_at, stop_at, start_at, snapshot_at, command_at, control_from, shell_line_at};
 
 use crate::shell_line::{LineFault, ShellLine};
-use rr_text::text_read::{cut, name, node, op};
-use rr_types::{Name, NodeId, Nodes, Op, Value, made_of};
+use rr_text::text_read::{cut, name, node, op, op_kind};
+use rr_types::{Name, NodeId, Nodes, Op, OpKind, Value, made_of};
 
 // The first word of a text, and what stands behind it. A word alone has nothing behind it.
 fn parts(text: &[u8]) -> (&[u8], &[u8])
@@ -29,18 +29,15 @@ fn named_fault(fault: LineFault, rest: &[u8]) -> LineFault
     }
 }
 
-// Why a line of this word, with this behind it, is no operation.
-fn op_fault(word: &[u8], rest: &[u8]) -> LineFault
-    ensures { result ≡ op_fault word.now rest.now }
+// Why a line that begins as an operation of this kind, with this behind its word, is none.
+fn op_fault(kind: Option<OpKind>, rest: &[u8]) -> LineFault
+    ensures { result ≡ op_fault kind rest.now }
 {
-    if word == b"claim".as_slice() || word == b"update".as_slice() {
-        named_fault(LineFault::BadValue, rest)
-    } else if word == b"transfer".as_slice() {
-        named_fault(LineFault::BadOwner, rest)
-    } else if word == b"release".as_slice() {
-        LineFault::BadName
-    } else {
-        LineFault::NoCommand
+    match kind {
+        Some(OpKind::Claim | OpKind::Update) => named_fault(LineFault::BadValue, rest),
+        Some(OpKind::Transfer) => named_fault(LineFault::BadOwner, rest),
+        Some(OpKind::Release) => LineFault::BadName,
+        None => LineFault::NoCommand,
     }
 }
 
@@ -94,7 +91,7 @@ fn command(text: &[u8], word: &[u8], rest: &[u8]) -> Result<ShellLine, LineFault
 {
     match op(text) {
         Some(op) => Ok(ShellLine::Submit(op)),
-        None => Err(op_fault(word, rest)),
+        None => Err(op_fault(op_kind(word), rest)),
     }
 }
 

@@ -4,17 +4,16 @@ ghost use Rattle.std.specs.Prelude.{◌≡◌, ◌∷◌, ◌++◌, OnOk, IfErr,
 ghost use Rattle.std.specs.List.{flat_map};
 ghost use Rattle.rr_text.specs.Words.{spaced};
 ghost use Rattle.rr_text.specs.ReportTexts.{reply_words};
-ghost use Rattle.rr_shell.specs.Texts.{bound_words, answer_words, answer_line, bound_line, list_lines, move_line, stop_line, start_line, snapshot_line, node_text, no_snapshot_text, no_snapshot_line, down_text, down_line, known_words, standing_line, help_text, help_line, no_node_text, fault_text, fault_line};
+ghost use Rattle.rr_shell.specs.Texts.{bound_words, answer_words, answer_line, bound_line, list_lines, move_line, stop_line, start_line, snapshot_line, node_text, no_snapshot_text, no_snapshot_line, down_text, down_line, summary_words, status_line, help_text, help_line, no_node_text, fault_text, fault_line};
 
 use crate::listing::Listing;
 use crate::shell_line::{LineFault, MAX_LINE};
-use crate::standing::{Known, Standing};
+use crate::status::NodeStatus;
 use rr_script::Answer;
-use rr_text::Binding;
 use rr_text::text_word::{
     push_byte, push_bytes, push_number, push_number_word, push_set, push_word,
 };
-use rr_types::{Name, NodeId, Nodes, Refusal, Reply, Value};
+use rr_types::{Binding, Name, NodeId, NodeSummary, Nodes, Refusal, Reply, Value};
 
 // The text of too long a line names the most bytes.
 const _: () = prove!(MAX_LINE == 4096);
@@ -231,32 +230,32 @@ pub fn push_down(out: &mut Vec<u8>, node: NodeId) -> Result<(), Refusal>
 }
 
 // A space, that a node is up, and what it knows.
-fn push_known(out: &mut Vec<u8>, known: &Known) -> Result<(), Refusal>
-    ensures ok { OnOk result (out.new.items ≡ out.old.items ++ 32 ∷ spaced (known_words (Some known.now))) }
+fn push_summary(out: &mut Vec<u8>, summary: &NodeSummary) -> Result<(), Refusal>
+    ensures ok { OnOk result (out.new.items ≡ out.old.items ++ 32 ∷ spaced (summary_words (Some summary.now))) }
     ensures err { IfErr result (λ e. e ≡ Refusal.OutOfMemory) }
 {
     push_word(out, b"up")?;
     push_word(out, b"facts")?;
-    push_number_word(out, known.facts)?;
+    push_number_word(out, summary.facts)?;
     push_word(out, b"decided")?;
-    push_number_word(out, known.decided)?;
+    push_number_word(out, summary.decided)?;
     push_word(out, b"suspects")?;
-    push_set(out, known.suspects)
+    push_set(out, summary.suspects)
 }
 
 /// Appends the line of what a node tells of itself.
 ///
 /// # Errors
 /// `OutOfMemory`. Then bytes of the line may stand at the end.
-pub fn push_standing(out: &mut Vec<u8>, standing: &Standing) -> Result<(), Refusal>
-    ensures ok { OnOk result (out.new.items ≡ out.old.items ++ standing_line standing.now) }
+pub fn push_status(out: &mut Vec<u8>, status: &NodeStatus) -> Result<(), Refusal>
+    ensures ok { OnOk result (out.new.items ≡ out.old.items ++ status_line status.now) }
     ensures err { IfErr result (λ e. e ≡ Refusal.OutOfMemory) }
 {
     push_bytes(out, b"node")?;
-    push_number_word(out, u64::from(standing.node.index()))?;
-    match &standing.known {
+    push_number_word(out, u64::from(status.node.index()))?;
+    match &status.summary {
         None => push_word(out, b"down")?,
-        Some(known) => push_known(out, known)?,
+        Some(summary) => push_summary(out, summary)?,
     }
     push_byte(out, b'\n')
 }

@@ -3,8 +3,8 @@
 ghost use Rattle.std.specs.Prelude.{◌≡◌};
 ghost use Rattle.rr_shell.specs.Listings.{begins_with, begin_with, ascend_from, ascend, is_list_of, is_listing_at};
 
-use rr_text::{Binding, BoundNames};
-use rr_types::{Name, NodeId};
+use rr_text::BoundNames;
+use rr_types::{Binding, Name, NodeId};
 use std::cmp::Ordering;
 
 /// What a node tells of the bound names with a prefix, or of all.

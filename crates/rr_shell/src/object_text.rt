@@ -4,16 +4,15 @@ ghost use Rattle.std.specs.Prelude.{◌≡◌, ◌∷◌, ◌++◌, [], OnOk, If
 ghost use Rattle.std.specs.List.{flat_map};
 ghost use Rattle.rr_text.specs.ReportTexts.{reply_words};
 ghost use Rattle.rr_shell.specs.Texts.{down_text, no_snapshot_text, help_text, fault_text};
-ghost use Rattle.rr_shell.specs.Objects.{quoted, escaped_byte, label, text_member, number_member, opened, object_line, reply_members, bound_members, bound_object, answer_object, binding_object, list_objects, node_object, known_members, standing_object, text_opened, text_closed, text_object};
+ghost use Rattle.rr_shell.specs.Objects.{quoted, escaped_byte, label, text_member, number_member, opened, object_line, reply_members, bound_members, bound_object, answer_object, binding_object, list_objects, node_object, summary_members, status_object, text_opened, text_closed, text_object};
 
 use crate::line_text::{push_down_text, push_fault_text, push_help_text, push_no_snapshot_text};
 use crate::listing::Listing;
 use crate::shell_line::LineFault;
-use crate::standing::{Known, Standing};
+use crate::status::NodeStatus;
 use rr_script::Answer;
-use rr_text::Binding;
 use rr_text::text_word::{push_byte, push_bytes, push_number};
-use rr_types::{Name, NodeId, Nodes, Refusal, Reply, Value};
+use rr_types::{Binding, Name, NodeId, NodeSummary, Nodes, Refusal, Reply, Value};
 
 #[tactic(auto, unfolding(crate::specs::Objects::quoted))]
 fn push_quoted(out: &mut Vec<u8>, text: &[u8]) -> Result<(), Refusal>
@@ -258,19 +257,19 @@ fn push_up(out: &mut Vec<u8>) -> Result<(), Refusal>
 }
 
 // That a node is up, and what it knows.
-fn push_known(out: &mut Vec<u8>, known: &Known) -> Result<(), Refusal>
-    ensures ok { OnOk result (out.new.items ≡ out.old.items ++ known_members (Some known.now)) }
+fn push_summary(out: &mut Vec<u8>, summary: &NodeSummary) -> Result<(), Refusal>
+    ensures ok { OnOk result (out.new.items ≡ out.old.items ++ summary_members (Some summary.now)) }
     ensures err { IfErr result (λ e. e ≡ Refusal.OutOfMemory) }
 {
     push_up(out)?;
-    push_number_member(out, b"facts", known.facts)?;
-    push_number_member(out, b"decided", known.decided)?;
-    push_number_member(out, b"suspects", u64::from(known.suspects.bits()))
+    push_number_member(out, b"facts", summary.facts)?;
+    push_number_member(out, b"decided", summary.decided)?;
+    push_number_member(out, b"suspects", u64::from(summary.suspects.bits()))
 }
 
 // That a node is down.
-fn push_unknown(out: &mut Vec<u8>) -> Result<(), Refusal>
-    ensures ok { OnOk result (out.new.items ≡ out.old.items ++ known_members None) }
+fn push_no_summary(out: &mut Vec<u8>) -> Result<(), Refusal>
+    ensures ok { OnOk result (out.new.items ≡ out.old.items ++ summary_members None) }
     ensures err { IfErr result (λ e. e ≡ Refusal.OutOfMemory) }
 {
     push_label(out, b"up")?;
@@ -281,15 +280,15 @@ fn push_unknown(out: &mut Vec<u8>) -> Result<(), Refusal>
 ///
 /// # Errors
 /// `OutOfMemory`. Then bytes of the line may stand at the end.
-pub fn push_standing_object(out: &mut Vec<u8>, standing: &Standing) -> Result<(), Refusal>
-    ensures ok { OnOk result (out.new.items ≡ out.old.items ++ standing_object standing.now) }
+pub fn push_status_object(out: &mut Vec<u8>, status: &NodeStatus) -> Result<(), Refusal>
+    ensures ok { OnOk result (out.new.items ≡ out.old.items ++ status_object status.now) }
     ensures err { IfErr result (λ e. e ≡ Refusal.OutOfMemory) }
 {
     push_open(out, b"node")?;
-    push_number_member(out, b"node", u64::from(standing.node.index()))?;
-    match &standing.known {
-        None => push_unknown(out)?,
-        Some(known) => push_known(out, known)?,
+    push_number_member(out, b"node", u64::from(status.node.index()))?;
+    match &status.summary {
+        None => push_no_summary(out)?,
+        Some(summary) => push_summary(out, summary)?,
     }
     push_end(out)
 }

@@ -1,19 +1,19 @@
 //! What is said to a line, in words or with JSON.
 
 ghost use Rattle.std.specs.Prelude.{◌≡◌, ◌++◌, OnOk, IfErr};
-ghost use Rattle.rr_shell.specs.Forms.{answer_said, list_said, move_said, stop_said, start_said, snapshot_said, no_snapshot_said, down_said, standing_said, help_said, fault_said};
+ghost use Rattle.rr_shell.specs.Forms.{answer_said, list_said, move_said, stop_said, start_said, snapshot_said, no_snapshot_said, down_said, status_said, help_said, fault_said};
 
 use crate::line_text::{
     push_answer, push_down, push_fault, push_help, push_listing, push_move, push_no_snapshot,
-    push_snapshot, push_standing, push_start, push_stop,
+    push_snapshot, push_start, push_status, push_stop,
 };
 use crate::listing::Listing;
 use crate::object_text::{
     push_answer_object, push_down_object, push_fault_object, push_help_object,
-    push_listing_objects, push_no_snapshot_object, push_node_object, push_standing_object,
+    push_listing_objects, push_no_snapshot_object, push_node_object, push_status_object,
 };
 use crate::shell_line::LineFault;
-use crate::standing::Standing;
+use crate::status::NodeStatus;
 use rr_script::Answer;
 use rr_types::{NodeId, Nodes, Refusal};
 
@@ -141,14 +141,14 @@ pub fn say_down(out: &mut Vec<u8>, json: bool, node: NodeId) -> Result<(), Refus
 ///
 /// # Errors
 /// `OutOfMemory`. Then bytes of the line may stand at the end.
-pub fn say_standing(out: &mut Vec<u8>, json: bool, standing: &Standing) -> Result<(), Refusal>
-    ensures ok { OnOk result (out.new.items ≡ out.old.items ++ standing_said json standing.now) }
+pub fn say_status(out: &mut Vec<u8>, json: bool, status: &NodeStatus) -> Result<(), Refusal>
+    ensures ok { OnOk result (out.new.items ≡ out.old.items ++ status_said json status.now) }
     ensures err { IfErr result (λ e. e ≡ Refusal.OutOfMemory) }
 {
     if json {
-        push_standing_object(out, standing)
+        push_status_object(out, status)
     } else {
-        push_standing(out, standing)
+        push_status(out, status)
     }
 }
 

@@ -16,7 +16,7 @@ use Rattle.rr_model.specs.Sound.{IsDecidedList, IsSound}
 use Rattle.rr_model.specs.World as world
 use Rattle.rr_model.specs.World.{World, Step, Stage, Settle, GoDown, Acknowledge, Told, Sent, Acknowledged, Reported, after_step, empty_world, end_of}
 use Rattle.rr_model.proofs.Places.{place_of, Contains-split}
-use Rattle.rr_text.specs.declared.report.Binding.{Binding}
+use Rattle.rr_types.specs.declared.binding.Binding.{Binding}
 use Rattle.rr_text.specs.declared.report.ReportLine.{ReportLine}
 use Rattle.rr_text.specs.declared.report.ReportLine.TheVariants as line
 use Rattle.rr_sim.specs.Clusters.{shown}

@@ -5,7 +5,7 @@ use Rattle.std.specs.List.{range_with_len}
 use Rattle.rr_types.specs.declared.message.Message.{Message}
 use Rattle.rr_types.specs.declared.refusal.Refusal.{Refusal}
 use Rattle.rr_types.specs.declared.refusal.Refusal.TheVariants as because
-use Rattle.rr_types.specs.Registry.{Bindings}
+use Rattle.rr_types.specs.Registry.{Bindings, binding_of}
 use Rattle.rr_model.specs.Sound.{IsDecidedList}
 use Rattle.rr_node.specs.declared.event.NodeEvent.{NodeEvent}
 use Rattle.rr_types.specs.declared.input.Input.TheVariants as input
@@ -16,7 +16,7 @@ use Rattle.rr_node.specs.Runs.{sent_by, IsSpelt}
 use Rattle.rr_node.specs.Seats.{Seat, new_seat, Answer, seat_step, starve, seat_fails, starve_fails, crashed}
 use Rattle.rr_text.specs.declared.event.Event.{Event}
 use Rattle.rr_text.specs.declared.event.Event.TheVariants.{Submit, Hear, Suspect, Tick, Advance, Take, Device, Fail, Mark, Send, Ack, Snap, Crash, Restart}
-use Rattle.rr_text.specs.declared.report.Binding.{Binding}
+use Rattle.rr_types.specs.declared.binding.Binding.{Binding}
 use Rattle.rr_text.specs.declared.report.ReportLine.{ReportLine}
 use Rattle.rr_text.specs.declared.report.ReportLine.TheVariants as line
 use Rattle.rr_text.specs.Reported.{Reported}
@@ -34,7 +34,7 @@ new_cluster n = record { seats = map (new_seat n) (range_with_len 0 n); wire = [
 
 -- the bound names of a registry, as a report shows them
 abbrev pub shown : Bindings → List Binding
-shown bindings = map (λ b. record { name = b.0; owner = b.1.owner; value = b.1.value }) bindings
+shown bindings = map binding_of bindings
 
 -- what a report says of an answer of node p to the event of a line, where so many messages were sent before
 abbrev pub note_of : ℕ → ℕ → ℕ → Result Outcome Refusal → List ReportLine

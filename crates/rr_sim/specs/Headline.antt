@@ -20,7 +20,7 @@ use Rattle.rr_node.specs.Seats.{Doing, Stopped, Faulted, Opening, Serving, Seat}
 use Rattle.rr_node.specs.Worlds.{InStep}
 use Rattle.rr_text.specs.declared.event.Event.{Event}
 use Rattle.rr_text.specs.declared.event.Event.TheVariants.{Submit, Hear, Suspect, Tick, Advance, Take, Device, Fail, Mark, Send, Ack, Snap, Crash, Restart}
-use Rattle.rr_text.specs.declared.report.Binding.{Binding}
+use Rattle.rr_types.specs.declared.binding.Binding.{Binding}
 use Rattle.rr_text.specs.declared.report.ReportLine.{ReportLine}
 use Rattle.rr_text.specs.declared.report.ReportLine.TheVariants as line
 use Rattle.rr_text.specs.Reported.{Reported}

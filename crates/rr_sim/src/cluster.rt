@@ -12,10 +12,10 @@ ghost use Rattle.rr_sim.specs.Told.{told};
 use crate::simulator::node_of;
 use rr_disk::MemDisk;
 use rr_node::{Node, NodeEvent, Outcome};
-use rr_registry::Holding;
+use rr_registry::binding_of;
 use rr_text::text_report::push_report_lines;
-use rr_text::{Binding, BoundNames, Event, ReportLine};
-use rr_types::{Input, Message, Name, NodeId, Nodes, Refusal};
+use rr_text::{BoundNames, Event, ReportLine};
+use rr_types::{Input, Message, NodeId, Nodes, Refusal};
 use std::alloc::Global;
 use std::marker::Model;
 
@@ -36,16 +36,6 @@ impl Model for Cluster {
         record { seats = c.seats.items; wire = c.wire.items; lines = c.lines.items } };
 }
 
-fn binding(entry: &(Name, Holding)) -> Binding
-    ensures { result ≡ record { name = entry.now.0; owner = entry.now.1.owner; value = entry.now.1.value } }
-{
-    Binding {
-        name: entry.0,
-        owner: entry.1.owner(),
-        value: entry.1.value(),
-    }
-}
-
 /// The bound names as a report shows them.
 ///
 /// # Errors
@@ -57,7 +47,7 @@ pub fn shown(alloc: Global, names: &rr_node::BoundNames) -> Result<BoundNames, R
     let entries = names.entries();
     let mut bindings = Vec::new(alloc);
     for entry in entries {
-        bindings.push(binding(entry))?;
+        bindings.push(binding_of(entry))?;
     }
     Ok(BoundNames::new(bindings))
 }

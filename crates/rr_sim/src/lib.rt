@@ -14,6 +14,6 @@ pub use cluster::{Cluster, shown};
 pub use drawing::{MAX_STEPS, random};
 pub use random_text::random_run;
 pub use rr_node::Stance;
-pub use rr_text::{Binding, BoundNames, Event, Fill, MAX_EVENTS, Report, ReportLine, Schedule};
+pub use rr_text::{BoundNames, Event, Fill, MAX_EVENTS, Report, ReportLine, Schedule};
 pub use simulator::{accepted, node_of, nodes_after, simulate};
 pub use telling::{report_on, tell_read};

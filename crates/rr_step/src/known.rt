@@ -14,7 +14,7 @@ use crate::over::lowest_in_round_over;
 use crate::state::State;
 use rr_list::Window;
 use rr_round::Row;
-use rr_types::{INSTANCES, Instance, RequestNo, WINDOW};
+use rr_types::{INSTANCES, Instance, OPEN_INSTANCES, RequestNo};
 
 impl State {
     /// The number of the next fact.
@@ -64,7 +64,7 @@ impl State {
     pub fn lowest_in_round(&self) -> Option<Instance>
         ensures { result ≡ lowest_in_round self.now }
     {
-        lowest_in_round_over(self, &[], WINDOW)
+        lowest_in_round_over(self, &[], OPEN_INSTANCES)
     }
 
     /// The round of an instance; 0 where it has none.

@@ -13,7 +13,7 @@ use crate::rows::{find_row, has_decided_request};
 use crate::state::State;
 use rr_list::{Window, is_any_decided};
 use rr_round::Row;
-use rr_types::{Instance, Refusal, RequestNo, WINDOW};
+use rr_types::{Instance, OPEN_INSTANCES, Refusal, RequestNo};
 
 /// The row of an instance.
 #[tactic(auto, using(crate::proofs::OverLemmas::row_changed, crate::proofs::OverLemmas::row_same))]
@@ -95,7 +95,7 @@ fn lowest_over(base: &State, changed: &[Row]) -> Window
 {
     let mut found = Window::new();
     let mut from = 0;
-    for _turn in 0..WINDOW {
+    for _turn in 0..OPEN_INSTANCES {
         match Instance::new(undecided_over(base, changed, from)) {
             None => return found,
             Some(instance) => {

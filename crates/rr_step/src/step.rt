@@ -23,8 +23,8 @@ use rr_list::Window;
 use rr_outbox::Owed;
 use rr_round::{Backing, Row};
 use rr_types::{
-    Body, Command, Fact, Instance, NodeId, NodeSet, Nodes, Op, Refusal, RequestNo, Standing,
-    WINDOW, made_of,
+    Body, Command, Fact, Instance, NodeId, NodeSet, Nodes, OPEN_INSTANCES, Op, Refusal, RequestNo,
+    Standing, made_of,
 };
 use std::alloc::Global;
 use std::marker::Model;
@@ -240,7 +240,7 @@ impl<'a> Step<'a> {
     pub fn is_open(&self, instance: Instance) -> bool
         ensures { result ≡ is_open self.now.state instance }
     {
-        over::is_lowest_over(self.base, &self.changes.rows, WINDOW, instance)
+        over::is_lowest_over(self.base, &self.changes.rows, OPEN_INSTANCES, instance)
     }
 
     /// The lowest open instance that has a round. It takes no memory.
@@ -249,7 +249,7 @@ impl<'a> Step<'a> {
         ensures value { result ≡ lowest_in_round self.now.state }
         ensures round { IfSome result (λ i. 0 < round_of (standing_at self.now.state i)) }
     {
-        over::lowest_in_round_over(self.base, &self.changes.rows, WINDOW)
+        over::lowest_in_round_over(self.base, &self.changes.rows, OPEN_INSTANCES)
     }
 
     /// Whether some instance has decided a command with this request number.

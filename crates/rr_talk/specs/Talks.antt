@@ -9,7 +9,7 @@ use Rattle.rr_stream.specs.Streams.{Printing, Reading, IsPrinted, IsFrontPrinted
 use Rattle.rr_talk.specs.declared.hearing.Heard.{Heard}
 use Rattle.rr_talk.specs.declared.hearing.Heard.TheVariants as heard
 use Rattle.rr_shell.specs.declared.listing.Listing.{Listing}
-use Rattle.rr_shell.specs.declared.standing.Standing.{Standing}
+use Rattle.rr_shell.specs.declared.status.NodeStatus.{NodeStatus}
 use Rattle.rr_shell.specs.declared.shell_line.ShellLine.{ShellLine}
 use Rattle.rr_shell.specs.declared.shell_line.ShellLine.TheVariants.{Submit, Look, Names, At, Stop, Start, Snapshot, Status, Help, Quit}
 use Rattle.rr_shell.specs.declared.shell_line.LineFault.{LineFault}
@@ -19,7 +19,7 @@ use Rattle.rr_talk.specs.declared.talking.Stop as breaks
 use Rattle.rr_talk.specs.Hearings.{Hears}
 use Rattle.rr_shell.specs.Lines.{shell_line_at}
 use Rattle.rr_shell.specs.Listings.{is_listing_at}
-use Rattle.rr_shell.specs.Forms.{answer_said, list_said, move_said, stop_said, start_said, snapshot_said, no_snapshot_said, down_said, standing_said, help_said, fault_said}
+use Rattle.rr_shell.specs.Forms.{answer_said, list_said, move_said, stop_said, start_said, snapshot_said, no_snapshot_said, down_said, status_said, help_said, fault_said}
 
 -- whether an answer is node p's to a submit
 abbrev pub is_reply_at : ℕ → Answer → Bool
@@ -37,7 +37,7 @@ is_sight_at p name _ = false
 -- what the first k nodes tell of themselves, a line each
 pub data Stated (json : Bool) : ℕ → List ℕ → Type 0 where
   nothing : Stated json 0 []
-  more : {k : ℕ} {text : List ℕ} → Stated json k text → (s : Standing) → s.node ≡ k → Stated json (k + 1) (text ++ standing_said json s)
+  more : {k : ℕ} {text : List ℕ} → Stated json k text → (s : NodeStatus) → s.node ≡ k → Stated json (k + 1) (text ++ status_said json s)
 
 -- whether a line asks something of the node that is asked
 abbrev pub asks_node : ShellLine → Bool

@@ -5,7 +5,7 @@ ghost use Rattle.rr_shell.specs.Listings.{is_listing_at};
 ghost use Rattle.rr_talk.specs.Talks.{is_reply_at, is_sight_at};
 
 use rr_script::Answer;
-use rr_shell::{Listing, Standing};
+use rr_shell::{Listing, NodeStatus};
 use rr_types::{Name, NodeId, Op, Refusal};
 
 /// Nodes that a shell asks.
@@ -62,7 +62,7 @@ pub trait Asked {
     ///
     /// # Errors
     /// Why the nodes can't be asked any more.
-    fn standing(&mut self, node: NodeId) -> Result<Standing, Refusal>
+    fn status(&mut self, node: NodeId) -> Result<NodeStatus, Refusal>
         ensures { IfOk result (λ s. s.node ≡ node) };
 }
 

@@ -8,7 +8,7 @@ use crate::answering::Asked;
 use rr_script::Answer;
 use rr_shell::{
     LineFault, Listing, ShellLine, say_answer, say_down, say_fault, say_help, say_listing,
-    say_move, say_no_snapshot, say_snapshot, say_standing, say_start, say_stop,
+    say_move, say_no_snapshot, say_snapshot, say_start, say_status, say_stop,
 };
 use rr_types::{Name, NodeId, Nodes, Op, Refusal, Reply, Value, made_of};
 use std::alloc::Global;
@@ -99,8 +99,8 @@ fn stated<A: Asked>(
         let Some(next) = NodeId::new(nodes, index) else {
             unreachable!()
         };
-        let standing = asked.standing(next)?;
-        say_standing(&mut text, json, &standing)?;
+        let status = asked.status(next)?;
+        say_status(&mut text, json, &status)?;
     }
     Ok(Said { node, text })
 }

@@ -12,16 +12,17 @@ use Rattle.rr_types.specs.declared.message.Body.TheVariants as bodies
 use Rattle.rr_types.specs.Rounds.{Estimated}
 use Rattle.rr_text.specs.Words.{spaced, op_words, set_text, IsOp, IsCommand}
 use Rattle.rr_text.specs.ReportTexts.{request_text, command_words, body_words, message_words, reply_words}
-use Rattle.rr_text.specs.Reading.{◌>>=◌, cut_at, find_by, small_at, number_at, op_at}
+use Rattle.rr_text.specs.Reading.{◌>>=◌, cut_at, find_by, small_at, number_at, op_at, message_kind_at}
 use Rattle.rr_text.proofs.CutLemmas.{AtLeast, AtLeast-append, bind_some, cut_again, cut_takes, plain_by_test}
 use Rattle.rr_text.proofs.NumberLemmas.{number_again, number_takes, small_again, small_takes, decimal_plain, decimal_high}
 use Rattle.rr_text.proofs.WordReading.{chosen, same_text}
 use Rattle.rr_text.proofs.OpReading.{find_takes, op_again, op_takes}
 use Rattle.rr_text.proofs.EventReading.{joined, low, spaced_op, op_plain}
-use Rattle.rr_tape.specs.declared.message_read.Kind.{Kind}
-use Rattle.rr_tape.specs.declared.message_read.Kind.TheVariants.{Estimate, Proposal, Ack, Decision, Request, Nack, Suspects, Ask}
+use Rattle.rr_types.specs.declared.message.MessageKind.{MessageKind}
+use Rattle.rr_types.specs.declared.message.MessageKind.TheVariants.{Estimate, Proposal, Ack, Decision, Request, Nack, Beat, Suspects, Ask}
+use Rattle.rr_types.specs.Messages.{message_word}
 use Rattle.rr_tape.specs.Taped.{IsInstance, IsRound, IsEstimate, IsBody, IsMessage, IsRequest, IsReply}
-use Rattle.rr_tape.specs.Reading.{instance_at, round_at, request_at, both_at, command_at, estimate_from, estimate_at, estimated_at, proposed_at, round_of_at, decided_at, kind_text, kind_at, body_fields_at, body_from, body_at, message_at, reply_from, reply_at}
+use Rattle.rr_tape.specs.Reading.{instance_at, round_at, request_at, both_at, command_at, estimate_from, estimate_at, estimated_at, proposed_at, round_of_at, decided_at, body_fields_at, body_from, body_at, message_at, reply_from, reply_at}
 use Rattle.rr_tape.proofs.Readers.{IsReader, as_text, made, taken_as, beside, small_word, set_word, node_word}
 
 -- ---- words
@@ -118,36 +119,39 @@ decided_text = beside instance_word command_text
 
 -- ---- what a message says
 
-kind_again : (k : Kind) → kind_at (kind_text k) ≡ Some k
+kind_again : (k : MessageKind) → message_kind_at (message_word k) ≡ Some k
 kind_again Estimate = refl
 kind_again Proposal = refl
 kind_again Ack = refl
 kind_again Decision = refl
 kind_again Request = refl
 kind_again Nack = refl
+kind_again Beat = refl
 kind_again Suspects = refl
 kind_again Ask = refl
 
-kind_plain : (k : Kind) → AtLeast 33 (kind_text k)
+kind_plain : (k : MessageKind) → AtLeast 33 (message_word k)
 kind_plain Estimate = plain_by_test (codes "estimate") refl
 kind_plain Proposal = plain_by_test (codes "proposal") refl
 kind_plain Ack = plain_by_test (codes "ack") refl
 kind_plain Decision = plain_by_test (codes "decision") refl
 kind_plain Request = plain_by_test (codes "request") refl
 kind_plain Nack = plain_by_test (codes "nack") refl
+kind_plain Beat = plain_by_test (codes "beat") refl
 kind_plain Suspects = plain_by_test (codes "suspects") refl
 kind_plain Ask = plain_by_test (codes "ask") refl
 
 abbrev body_text : Body → List ℕ
 body_text b = spaced (body_words b)
 
-fields_takes : (n : ℕ) (k : Kind) (t : List ℕ) (b : Body) → n ≤ 7 → body_fields_at n k t ≡ Some b → (body_text b ≡ kind_text k ++ 32 ∷ t) × IsBody n b
+fields_takes : (n : ℕ) (k : MessageKind) (t : List ℕ) (b : Body) → n ≤ 7 → body_fields_at n k t ≡ Some b → (body_text b ≡ message_word k ++ 32 ∷ t) × IsBody n b
 fields_takes n Estimate t b few e = taken_as estimated_text (λ x. bodies.Estimate x.0 x.1) body_text (IsBody n) (codes "estimate") (λ x. refl) (λ x h. h) t b e
 fields_takes n Proposal t b few e = taken_as proposed_text (λ x. bodies.Proposal x.0 x.1 x.2) body_text (IsBody n) (codes "proposal") (λ x. refl) (λ x h. h) t b e
 fields_takes n Ack t b few e = taken_as round_of_text (λ x. bodies.Ack x.0 x.1) body_text (IsBody n) (codes "ack") (λ x. refl) (λ x h. h) t b e
 fields_takes n Decision t b few e = taken_as decided_text (λ x. bodies.Decision x.0 x.1) body_text (IsBody n) (codes "decision") (λ x. refl) (λ x h. h) t b e
 fields_takes n Request t b few e = taken_as command_text (λ c. bodies.Request c) body_text (IsBody n) (codes "request") (λ x. refl) (λ x h. h) t b e
 fields_takes n Nack t b few e = taken_as round_of_text (λ x. bodies.Nack x.0 x.1) body_text (IsBody n) (codes "nack") (λ x. refl) (λ x h. h) t b e
+fields_takes n Beat t b few e = absurd cc
 fields_takes n Suspects t b few e = taken_as (set_word n few) (λ s. bodies.Suspects s) body_text (IsBody n) (codes "suspects") (λ x. refl) (λ x h. h) t b e
 fields_takes n Ask t b few e = taken_as instance_word (λ i. bodies.Ask i) body_text (IsBody n) (codes "ask") (λ x. refl) (λ x h. h) t b e
 
@@ -156,13 +160,13 @@ body_from_takes n t None b few cut e =
     let g = cond_some (bytes_eq t (codes "beat")) bodies.Beat b e in
     subst (λ (d : Body). (body_text d ≡ t) × IsBody n d) g.1 (sym (same_text t (codes "beat") g.0), tt)
 body_from_takes n t (Some w) b few cut e =
-    let k = bind_some (kind_at w.0) (λ k. body_fields_at n k w.1) b e in
+    let k = bind_some (message_kind_at w.0) (λ k. body_fields_at n k w.1) b e in
     let f = fields_takes n k.0 w.1 b few k.2 in
-    let word : w.0 ≡ kind_text k.0 = find_takes kind_text w.0 (Estimate ∷ Proposal ∷ Ack ∷ Decision ∷ Request ∷ Nack ∷ Suspects ∷ Ask ∷ []) k.0 k.1 in
+    let word : w.0 ≡ message_word k.0 = find_takes message_word w.0 (Estimate ∷ Proposal ∷ Ack ∷ Decision ∷ Request ∷ Nack ∷ Beat ∷ Suspects ∷ Ask ∷ []) k.0 k.1 in
     (f.0 ∙ ap (λ (v : List ℕ). v ++ 32 ∷ w.1) (sym word) ∙ sym (cut_takes 32 t w.0 w.1 cut), f.1)
 
-body_of : (n : ℕ) (k : Kind) (t : List ℕ) (b : Body) → body_fields_at n k t ≡ Some b → body_at n (kind_text k ++ 32 ∷ t) ≡ Some b
-body_of n k t b given = rw (cut_again 32 33 (kind_text k) t (omega arith) (kind_plain k), kind_again k) given
+body_of : (n : ℕ) (k : MessageKind) (t : List ℕ) (b : Body) → body_fields_at n k t ≡ Some b → body_at n (message_word k ++ 32 ∷ t) ≡ Some b
+body_of n k t b given = rw (cut_again 32 33 (message_word k) t (omega arith) (kind_plain k), kind_again k) given
 
 body_again : (n : ℕ) (b : Body) → n ≤ 7 → IsBody n b → body_at n (body_text b) ≡ Some b
 body_again n (bodies.Estimate i e) few h = body_of n Estimate (decimal i ++ 32 ∷ estimate_words e) (bodies.Estimate i e) (rw (estimated_text.again (i, e) h) refl)
@@ -175,8 +179,8 @@ body_again n bodies.Beat few h = refl
 body_again n (bodies.Suspects s) few h = body_of n Suspects (set_text s) (bodies.Suspects s) (rw ((set_word n few).again s h) refl)
 body_again n (bodies.Ask i) few h = body_of n Ask (decimal i) (bodies.Ask i) (rw (instance_word.again i h) refl)
 
-said_plain : (k : Kind) (t : List ℕ) → AtLeast 32 t → AtLeast 32 (kind_text k ++ 32 ∷ t)
-said_plain k t h = joined (kind_text k) t (kind_plain k) h
+said_plain : (k : MessageKind) (t : List ℕ) → AtLeast 32 t → AtLeast 32 (message_word k ++ 32 ∷ t)
+said_plain k t h = joined (message_word k) t (kind_plain k) h
 
 body_plain : (n : ℕ) (b : Body) → n ≤ 7 → IsBody n b → AtLeast 32 (body_text b)
 body_plain n (bodies.Estimate i e) few h = said_plain Estimate (decimal i ++ 32 ∷ estimate_words e) (estimated_text.plain (i, e) h)

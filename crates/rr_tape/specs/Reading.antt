@@ -8,6 +8,9 @@ use Rattle.rr_types.specs.declared.command.Reply.TheVariants.{Claimed, Updated, 
 use Rattle.rr_types.specs.declared.message.Body.{Body}
 use Rattle.rr_types.specs.declared.message.Body.TheVariants as bodies
 use Rattle.rr_types.specs.declared.message.Message.{Message}
+use Rattle.rr_types.specs.declared.message.MessageKind.{MessageKind}
+use Rattle.rr_types.specs.declared.message.MessageKind.TheVariants.{Estimate, Proposal, Ack, Decision, Request, Nack, Beat, Suspects, Ask}
+use Rattle.rr_types.specs.Messages.{message_word}
 use Rattle.rr_types.specs.Rounds.{Estimated}
 use Rattle.rr_types.specs.Limits.{instance_count, last_round}
 use Rattle.rr_text.specs.declared.event.Event.{Event}
@@ -16,9 +19,7 @@ use Rattle.rr_text.specs.declared.keyword.Keyword.{Keyword}
 use Rattle.rr_text.specs.declared.keyword.Keyword.TheVariants as keywords
 use Rattle.rr_text.specs.Words.{spaced}
 use Rattle.rr_text.specs.ReportTexts.{reply_words}
-use Rattle.rr_text.specs.Reading.{◌>>=◌, cut_at, find_by, number_at, small_at, node_at, set_at, op_at, keyword_at, fields_at}
-use Rattle.rr_tape.specs.declared.message_read.Kind.{Kind}
-use Rattle.rr_tape.specs.declared.message_read.Kind.TheVariants.{Estimate, Proposal, Ack, Decision, Request, Nack, Suspects, Ask}
+use Rattle.rr_text.specs.Reading.{◌>>=◌, cut_at, find_by, number_at, small_at, node_at, set_at, op_at, message_kind_at, keyword_at, fields_at}
 use Rattle.rr_tape.specs.declared.tape_event.TapeEvent.{TapeEvent}
 use Rattle.rr_tape.specs.declared.tape_event.TapeEvent.TheVariants as tapes
 
@@ -66,36 +67,22 @@ round_of_at text = both_at instance_at round_at text
 abbrev pub decided_at : List ℕ → Option (ℕ × Command)
 decided_at text = both_at instance_at command_at text
 
--- the word of each kind of message that says something behind it
-abbrev pub kind_text : Kind → List ℕ
-kind_text Estimate = codes "estimate"
-kind_text Proposal = codes "proposal"
-kind_text Ack = codes "ack"
-kind_text Decision = codes "decision"
-kind_text Request = codes "request"
-kind_text Nack = codes "nack"
-kind_text Suspects = codes "suspects"
-kind_text Ask = codes "ask"
-
--- the kind of message that a word stands for
-abbrev pub kind_at : List ℕ → Option Kind
-kind_at w = find_by kind_text w (Estimate ∷ Proposal ∷ Ack ∷ Decision ∷ Request ∷ Nack ∷ Suspects ∷ Ask ∷ [])
-
--- what a message of this kind says, among n nodes
-abbrev pub body_fields_at : ℕ → Kind → List ℕ → Option Body
+-- what a message of this kind says, with this behind its word, among n nodes
+abbrev pub body_fields_at : ℕ → MessageKind → List ℕ → Option Body
 body_fields_at n Estimate text = estimated_at text >>= λ x. Some (bodies.Estimate x.0 x.1)
 body_fields_at n Proposal text = proposed_at text >>= λ x. Some (bodies.Proposal x.0 x.1 x.2)
 body_fields_at n Ack text = round_of_at text >>= λ x. Some (bodies.Ack x.0 x.1)
 body_fields_at n Decision text = decided_at text >>= λ x. Some (bodies.Decision x.0 x.1)
 body_fields_at n Request text = command_at text >>= λ c. Some (bodies.Request c)
 body_fields_at n Nack text = round_of_at text >>= λ x. Some (bodies.Nack x.0 x.1)
+body_fields_at n Beat text = None
 body_fields_at n Suspects text = set_at n text >>= λ s. Some (bodies.Suspects s)
 body_fields_at n Ask text = instance_at text >>= λ i. Some (bodies.Ask i)
 
 -- what a message says, from the whole text or from its parts at the first space
 abbrev pub body_from : ℕ → List ℕ → Option (List ℕ × List ℕ) → Option Body
-body_from n text None = if bytes_eq text (codes "beat") then Some bodies.Beat else None
-body_from n text (Some w) = kind_at w.0 >>= λ k. body_fields_at n k w.1
+body_from n text None = if bytes_eq text (message_word Beat) then Some bodies.Beat else None
+body_from n text (Some w) = message_kind_at w.0 >>= λ k. body_fields_at n k w.1
 
 -- what a message among n nodes says
 abbrev pub body_at : ℕ → List ℕ → Option Body

@@ -1,23 +1,12 @@
 //! Reading the words of messages and of replies.
 
 ghost use Rattle.std.specs.Prelude.{◌≡◌, None, Some, MatchOption};
-ghost use Rattle.rr_tape.specs.Reading.{instance_at, round_at, request_at, command_at, estimate_at, estimated_at, proposed_at, round_of_at, decided_at, kind_at, body_fields_at, body_at, plain_reply_at, reply_at};
+ghost use Rattle.rr_tape.specs.Reading.{instance_at, round_at, request_at, command_at, estimate_at, estimated_at, proposed_at, round_of_at, decided_at, body_fields_at, body_at, plain_reply_at, reply_at};
 
-use rr_text::text_read::{cut, number, op, set, small_number};
-use rr_types::{Body, Command, Estimate, Instance, Nodes, Op, Reply, RequestNo, Round, made_of};
-
-/// What a message says, where it says something behind its word.
-#[derive(Clone, Copy, Debug)]
-pub enum Kind {
-    Estimate,
-    Proposal,
-    Ack,
-    Decision,
-    Request,
-    Nack,
-    Suspects,
-    Ask,
-}
+use rr_text::text_read::{cut, message_kind, number, op, set, small_number};
+use rr_types::{
+    Body, Command, Estimate, Instance, MessageKind, Nodes, Op, Reply, RequestNo, Round, made_of,
+};
 
 fn instance(word: &[u8]) -> Option<Instance>
     ensures { result ≡ instance_at word.now }
@@ -95,57 +84,34 @@ fn decided(text: &[u8]) -> Option<(Instance, Command)>
     Some((instance, command(rest)?))
 }
 
-fn kind_named(word: &[u8]) -> Option<Kind>
-    ensures { result ≡ kind_at word.now }
-{
-    if word == b"estimate".as_slice() {
-        Some(Kind::Estimate)
-    } else if word == b"proposal".as_slice() {
-        Some(Kind::Proposal)
-    } else if word == b"ack".as_slice() {
-        Some(Kind::Ack)
-    } else if word == b"decision".as_slice() {
-        Some(Kind::Decision)
-    } else if word == b"request".as_slice() {
-        Some(Kind::Request)
-    } else if word == b"nack".as_slice() {
-        Some(Kind::Nack)
-    } else if word == b"suspects".as_slice() {
-        Some(Kind::Suspects)
-    } else if word == b"ask".as_slice() {
-        Some(Kind::Ask)
-    } else {
-        None
-    }
-}
-
-fn body_fields(nodes: Nodes, kind: Kind, text: &[u8]) -> Option<Body>
+fn body_fields(nodes: Nodes, kind: MessageKind, text: &[u8]) -> Option<Body>
     ensures { result ≡ body_fields_at nodes kind text.now }
 {
     match kind {
-        Kind::Estimate => {
+        MessageKind::Estimate => {
             let (instance, estimate) = estimated(text)?;
             Some(Body::Estimate(instance, estimate))
         }
-        Kind::Proposal => {
+        MessageKind::Proposal => {
             let (instance, round, command) = proposed(text)?;
             Some(Body::Proposal(instance, round, command))
         }
-        Kind::Ack => {
+        MessageKind::Ack => {
             let (instance, round) = round_of(text)?;
             Some(Body::Ack(instance, round))
         }
-        Kind::Decision => {
+        MessageKind::Decision => {
             let (instance, command) = decided(text)?;
             Some(Body::Decision(instance, command))
         }
-        Kind::Request => Some(Body::Request(command(text)?)),
-        Kind::Nack => {
+        MessageKind::Request => Some(Body::Request(command(text)?)),
+        MessageKind::Nack => {
             let (instance, round) = round_of(text)?;
             Some(Body::Nack(instance, round))
         }
-        Kind::Suspects => Some(Body::Suspects(set(nodes, text)?)),
-        Kind::Ask => Some(Body::Ask(instance(text)?)),
+        MessageKind::Beat => None,
+        MessageKind::Suspects => Some(Body::Suspects(set(nodes, text)?)),
+        MessageKind::Ask => Some(Body::Ask(instance(text)?)),
     }
 }
 
@@ -154,9 +120,9 @@ pub fn body(nodes: Nodes, text: &[u8]) -> Option<Body>
     ensures { result ≡ body_at nodes text.now }
 {
     match cut(text, b' ') {
-        Some((word, rest)) => body_fields(nodes, kind_named(word)?, rest),
+        Some((word, rest)) => body_fields(nodes, message_kind(word)?, rest),
         None => {
-            if text == b"beat".as_slice() {
+            if text == MessageKind::Beat.word().as_bytes() {
                 Some(Body::Beat)
             } else {
                 None

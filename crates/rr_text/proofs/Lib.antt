@@ -7,7 +7,6 @@ pub mod LineReading
 pub mod LineSearch
 pub mod NumberLemmas
 pub mod OpReading
-pub mod RefusalTails
 pub mod ScheduleReading
 pub mod TextReading
 pub mod WordLemmas

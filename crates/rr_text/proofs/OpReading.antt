@@ -5,11 +5,12 @@ use Rattle.std.proofs.lemmas.Option.{same_Some}
 use Rattle.rr_types.specs.Names.{IsName, IsValue}
 use Rattle.rr_types.specs.declared.command.Op.{Op}
 use Rattle.rr_types.specs.declared.command.Op.TheVariants as ops
+use Rattle.rr_types.specs.declared.command.OpKind.{OpKind}
+use Rattle.rr_types.specs.declared.command.OpKind.TheVariants.{Claim, Update, Release, Transfer}
 use Rattle.rr_types.specs.declared.command.Command.{Command}
-use Rattle.rr_text.specs.declared.keyword.Verb.{Verb}
-use Rattle.rr_text.specs.declared.keyword.Verb.TheVariants.{Claim, Update, Release, Transfer}
+use Rattle.rr_types.specs.Commands.{op_word}
 use Rattle.rr_text.specs.Words.{spaced, value_words, op_words, IsOp, IsCommand}
-use Rattle.rr_text.specs.Reading.{◌>>=◌, cut_at, find_by, name_at, small_at, number_at, filled_value_at, verb_text, verb_at, named_from, named_at, target_at, op_at, submitted_at}
+use Rattle.rr_text.specs.Reading.{◌>>=◌, cut_at, find_by, name_at, small_at, number_at, filled_value_at, op_kind_at, named_from, named_at, target_at, op_at, submitted_at}
 use Rattle.rr_text.proofs.CutLemmas.{AtLeast, bind_some, cut_again, cut_takes, cut_nowhere, plain_by_test}
 use Rattle.rr_text.proofs.NumberLemmas.{number_again, number_takes, small_again, small_takes, decimal_plain}
 use Rattle.rr_text.proofs.WordReading.{chosen, same_text, name_again, name_takes, name_plain, value_again, value_takes}
@@ -60,7 +61,7 @@ named_again : (x v : List ℕ) → IsName x → IsValue v → named_at (spaced (
 named_again x [] name value = rw (cut_nowhere 32 33 x (omega arith) (name_plain x name), name_again x name) refl
 named_again x (b ∷ v) name value = rw (cut_again 32 33 x (b ∷ v) (omega arith) (name_plain x name), name_again x name, value_again b v value) refl
 
-target_takes : (v : Verb) (text : List ℕ) (op : Op) → target_at v text ≡ Some op → (spaced (op_words op) ≡ verb_text v ++ 32 ∷ text) × IsOp op
+target_takes : (k : OpKind) (text : List ℕ) (op : Op) → target_at k text ≡ Some op → (spaced (op_words op) ≡ op_word k ++ 32 ∷ text) × IsOp op
 target_takes Claim text op e =
     let r = bind_some (named_at text) (λ x. Some (ops.Claim x.0 x.1)) op e in
     let t = named_takes text r.0 r.1 in
@@ -86,27 +87,27 @@ target_takes Transfer text op e =
 -- what is read as an operation is printed so
 pub op_takes : (text : List ℕ) (op : Op) → op_at text ≡ Some op → (spaced (op_words op) ≡ text) × IsOp op
 op_takes text op e =
-    let w = bind_some (cut_at 32 text) (λ w. verb_at w.0 >>= λ v. target_at v w.1) op e in
-    let v = bind_some (verb_at w.0.0) (λ v. target_at v w.0.1) op w.2 in
+    let w = bind_some (cut_at 32 text) (λ w. op_kind_at w.0 >>= λ k. target_at k w.1) op e in
+    let k = bind_some (op_kind_at w.0.0) (λ k. target_at k w.0.1) op w.2 in
     let cut : text ≡ w.0.0 ++ 32 ∷ w.0.1 = cut_takes 32 text w.0.0 w.0.1 w.1 in
-    let verb : w.0.0 ≡ verb_text v.0 = find_takes verb_text w.0.0 (Claim ∷ Update ∷ Release ∷ Transfer ∷ []) v.0 v.1 in
-    let t = target_takes v.0 w.0.1 op v.2 in
-    (t.0 ∙ ap (λ (y : List ℕ). y ++ 32 ∷ w.0.1) (sym verb) ∙ sym cut, t.1)
+    let word : w.0.0 ≡ op_word k.0 = find_takes op_word w.0.0 (Claim ∷ Update ∷ Release ∷ Transfer ∷ []) k.0 k.1 in
+    let t = target_takes k.0 w.0.1 op k.2 in
+    (t.0 ∙ ap (λ (y : List ℕ). y ++ 32 ∷ w.0.1) (sym word) ∙ sym cut, t.1)
 
-verb_plain : (v : Verb) → AtLeast 33 (verb_text v)
-verb_plain Claim = plain_by_test (codes "claim") refl
-verb_plain Update = plain_by_test (codes "update") refl
-verb_plain Release = plain_by_test (codes "release") refl
-verb_plain Transfer = plain_by_test (codes "transfer") refl
+word_plain : (k : OpKind) → AtLeast 33 (op_word k)
+word_plain Claim = plain_by_test (codes "claim") refl
+word_plain Update = plain_by_test (codes "update") refl
+word_plain Release = plain_by_test (codes "release") refl
+word_plain Transfer = plain_by_test (codes "transfer") refl
 
-verb_again : (v : Verb) → verb_at (verb_text v) ≡ Some v
-verb_again Claim = refl
-verb_again Update = refl
-verb_again Release = refl
-verb_again Transfer = refl
+word_again : (k : OpKind) → op_kind_at (op_word k) ≡ Some k
+word_again Claim = refl
+word_again Update = refl
+word_again Release = refl
+word_again Transfer = refl
 
-op_from : (v : Verb) (text : List ℕ) (op : Op) → target_at v text ≡ Some op → op_at (verb_text v ++ 32 ∷ text) ≡ Some op
-op_from v text op e = rw (cut_again 32 33 (verb_text v) text (omega arith) (verb_plain v), verb_again v) e
+op_from : (k : OpKind) (text : List ℕ) (op : Op) → target_at k text ≡ Some op → op_at (op_word k ++ 32 ∷ text) ≡ Some op
+op_from k text op e = rw (cut_again 32 33 (op_word k) text (omega arith) (word_plain k), word_again k) e
 
 -- an operation that is printed is read again
 pub op_again : (op : Op) → IsOp op → op_at (spaced (op_words op)) ≡ Some op

@@ -3,7 +3,7 @@ use Rattle.std.proofs.Common.{decimal, map, ◌≡◌, ℕ, suc, ◌+◌, ◌-�
 use Rattle.std.specs.List.{flat_map}
 use Rattle.std.proofs.lemmas.List.{at_drop_more, at_drop_all, append_assoc, append-nil}
 use Rattle.rr_types.specs.declared.command.Command.{Command}
-use Rattle.rr_text.specs.declared.report.Binding.{Binding}
+use Rattle.rr_types.specs.declared.binding.Binding.{Binding}
 use Rattle.rr_text.specs.Words.{spaced, member_digits, hex_pair}
 use Rattle.rr_text.specs.ReportTexts.{binding_text, line, command_words, decided_lines}
 

@@ -5,14 +5,18 @@ use Rattle.std.specs.Str.{bytes_eq}
 use Rattle.std.specs.Str.Parse.{digits_value}
 use Rattle.rr_types.specs.declared.command.Op.{Op}
 use Rattle.rr_types.specs.declared.command.Op.TheVariants as ops
+use Rattle.rr_types.specs.declared.command.OpKind.{OpKind}
+use Rattle.rr_types.specs.declared.command.OpKind.TheVariants.{Claim, Update, Release, Transfer}
 use Rattle.rr_types.specs.declared.command.Command.{Command}
+use Rattle.rr_types.specs.declared.message.MessageKind.{MessageKind}
+use Rattle.rr_types.specs.declared.message.MessageKind.TheVariants as messages
+use Rattle.rr_types.specs.Commands.{op_word}
+use Rattle.rr_types.specs.Messages.{message_word}
 use Rattle.rr_types.specs.Names.{is_name_byte, is_value_byte}
 use Rattle.rr_text.specs.declared.event.Event.{Event}
 use Rattle.rr_text.specs.declared.event.Event.TheVariants as events
 use Rattle.rr_text.specs.declared.keyword.Keyword.{Keyword}
 use Rattle.rr_text.specs.declared.keyword.Keyword.TheVariants.{Submit, Hear, Suspect, Tick, Advance, Take, Device, Fail, Mark, Send, Ack, Snap, Crash, Restart}
-use Rattle.rr_text.specs.declared.keyword.Verb.{Verb}
-use Rattle.rr_text.specs.declared.keyword.Verb.TheVariants.{Claim, Update, Release, Transfer}
 use Rattle.rr_text.specs.Numbers.{is_number}
 
 infixl 10 ◌>>=◌
@@ -87,16 +91,13 @@ abbrev pub fill_at : List ℕ → Option (List ℕ)
 fill_at [] = None
 fill_at (b ∷ w) = if bytes_eq (b ∷ w) (codes "-") then Some [] else pairs_at (b ∷ w)
 
--- the word of each operation
-abbrev pub verb_text : Verb → List ℕ
-verb_text Claim = codes "claim"
-verb_text Update = codes "update"
-verb_text Release = codes "release"
-verb_text Transfer = codes "transfer"
+-- the kind of operations that a word stands for
+abbrev pub op_kind_at : List ℕ → Option OpKind
+op_kind_at w = find_by op_word w (Claim ∷ Update ∷ Release ∷ Transfer ∷ [])
 
--- the operation that a word stands for
-abbrev pub verb_at : List ℕ → Option Verb
-verb_at w = find_by verb_text w (Claim ∷ Update ∷ Release ∷ Transfer ∷ [])
+-- the kind of messages that a word stands for
+abbrev pub message_kind_at : List ℕ → Option MessageKind
+message_kind_at w = find_by message_word w (messages.Estimate ∷ messages.Proposal ∷ messages.Ack ∷ messages.Decision ∷ messages.Request ∷ messages.Nack ∷ messages.Beat ∷ messages.Suspects ∷ messages.Ask ∷ [])
 
 -- a name and a value, where both are there
 abbrev pub name_and_value : Option (List ℕ) → Option (List ℕ) → Option (List ℕ × List ℕ)
@@ -115,8 +116,8 @@ named_at text = named_from text (cut_at 32 text)
 abbrev pub transferred_at : List ℕ → Option Op
 transferred_at text = cut_at 32 text >>= λ w. name_at w.0 >>= λ x. small_at w.1 >>= λ o. Some (ops.Transfer x o)
 
--- an operation of this verb
-abbrev pub target_at : Verb → List ℕ → Option Op
+-- an operation of this kind
+abbrev pub target_at : OpKind → List ℕ → Option Op
 target_at Claim text = named_at text >>= λ x. Some (ops.Claim x.0 x.1)
 target_at Update text = named_at text >>= λ x. Some (ops.Update x.0 x.1)
 target_at Release text = name_at text >>= λ x. Some (ops.Release x)
@@ -124,7 +125,7 @@ target_at Transfer text = transferred_at text
 
 -- an operation
 abbrev pub op_at : List ℕ → Option Op
-op_at text = cut_at 32 text >>= λ w. verb_at w.0 >>= λ v. target_at v w.1
+op_at text = cut_at 32 text >>= λ w. op_kind_at w.0 >>= λ k. target_at k w.1
 
 -- a command as the words of a submit have it
 abbrev pub submitted_at : List ℕ → Option Command

@@ -1,6 +1,7 @@
 -- The text of a report.
 use Rattle.std.specs.Prelude.{ℕ, ◌+◌, List, [], ◌∷◌, ◌++◌, length, map, codes, decimal}
 use Rattle.std.specs.List.{flat_map}
+use Rattle.rr_types.specs.declared.binding.Binding.{Binding}
 use Rattle.rr_types.specs.declared.command.RequestNo.{RequestNo}
 use Rattle.rr_types.specs.declared.command.Command.{Command}
 use Rattle.rr_types.specs.declared.command.Reply.{Reply}
@@ -8,12 +9,11 @@ use Rattle.rr_types.specs.declared.command.Reply.TheVariants.{Claimed, Updated, 
 use Rattle.rr_types.specs.declared.message.Body.{Body}
 use Rattle.rr_types.specs.declared.message.Body.TheVariants as bodies
 use Rattle.rr_types.specs.declared.message.Message.{Message}
-use Rattle.rr_types.specs.declared.refusal.Refusal.{Refusal}
-use Rattle.rr_types.specs.declared.refusal.Refusal.TheVariants as refusals
-use Rattle.rr_types.specs.Refusal.{number_of}
-use Rattle.rr_text.specs.declared.report.Binding.{Binding}
+use Rattle.rr_types.specs.declared.message.MessageKind.TheVariants.{Estimate, Proposal, Ack, Decision, Request, Nack, Beat, Suspects, Ask}
+use Rattle.rr_types.specs.Messages.{message_word}
+use Rattle.rr_types.specs.Refusal.{number_of, name_of}
 use Rattle.rr_text.specs.declared.report.ReportLine.{ReportLine}
-use Rattle.rr_text.specs.declared.report.ReportLine.TheVariants.{Send, Ack, Restart, Refuse}
+use Rattle.rr_text.specs.declared.report.ReportLine.TheVariants as lines
 use Rattle.rr_text.specs.Words.{spaced, op_words, set_text}
 use Rattle.rr_text.specs.Reported.{Reported}
 
@@ -27,15 +27,15 @@ command_words c = request_text c.request ∷ op_words c.op
 
 -- what a message says: its kind, instance, round and stamp, and the command
 abbrev pub body_words : Body → List (List ℕ)
-body_words (bodies.Estimate i e) = codes "estimate" ∷ decimal i ∷ decimal e.round ∷ decimal e.stamp ∷ command_words e.command
-body_words (bodies.Proposal i r c) = codes "proposal" ∷ decimal i ∷ decimal r ∷ command_words c
-body_words (bodies.Ack i r) = codes "ack" ∷ decimal i ∷ decimal r ∷ []
-body_words (bodies.Decision i c) = codes "decision" ∷ decimal i ∷ command_words c
-body_words (bodies.Request c) = codes "request" ∷ command_words c
-body_words (bodies.Nack i r) = codes "nack" ∷ decimal i ∷ decimal r ∷ []
-body_words bodies.Beat = codes "beat" ∷ []
-body_words (bodies.Suspects s) = codes "suspects" ∷ set_text s ∷ []
-body_words (bodies.Ask i) = codes "ask" ∷ decimal i ∷ []
+body_words (bodies.Estimate i e) = message_word Estimate ∷ decimal i ∷ decimal e.round ∷ decimal e.stamp ∷ command_words e.command
+body_words (bodies.Proposal i r c) = message_word Proposal ∷ decimal i ∷ decimal r ∷ command_words c
+body_words (bodies.Ack i r) = message_word Ack ∷ decimal i ∷ decimal r ∷ []
+body_words (bodies.Decision i c) = message_word Decision ∷ decimal i ∷ command_words c
+body_words (bodies.Request c) = message_word Request ∷ command_words c
+body_words (bodies.Nack i r) = message_word Nack ∷ decimal i ∷ decimal r ∷ []
+body_words bodies.Beat = message_word Beat ∷ []
+body_words (bodies.Suspects s) = message_word Suspects ∷ set_text s ∷ []
+body_words (bodies.Ask i) = message_word Ask ∷ decimal i ∷ []
 
 -- a message: its sender, the node it is for, and what it says
 abbrev pub message_words : Message → List (List ℕ)
@@ -56,33 +56,12 @@ reply_words Full = codes "full" ∷ []
 abbrev pub binding_text : Binding → List ℕ
 binding_text b = b.name ++ 61 ∷ decimal b.owner ++ 58 ∷ b.value
 
--- the name of a refusal
-abbrev pub refusal_name : Refusal → List ℕ
-refusal_name refusals.OutOfMemory = codes "OutOfMemory"
-refusal_name refusals.Device = codes "Device"
-refusal_name (refusals.Damaged area offset) = codes "Damaged"
-refusal_name refusals.Failed = codes "Failed"
-refusal_name refusals.Down = codes "Down"
-refusal_name refusals.BadNodes = codes "BadNodes"
-refusal_name refusals.BadName = codes "BadName"
-refusal_name refusals.BadValue = codes "BadValue"
-refusal_name refusals.ListFull = codes "ListFull"
-refusal_name refusals.RoundsOut = codes "RoundsOut"
-refusal_name (refusals.Malformed offset) = codes "Malformed"
-refusal_name refusals.StrangeMark = codes "StrangeMark"
-refusal_name refusals.Busy = codes "Busy"
-refusal_name (refusals.BadEvent line) = codes "BadEvent"
-refusal_name refusals.SeatsTaken = codes "SeatsTaken"
-refusal_name refusals.TooLarge = codes "TooLarge"
-refusal_name (refusals.AuditNo index) = codes "AuditNo"
-refusal_name refusals.NoGuard = codes "NoGuard"
-
 -- a line of a report as words
 abbrev pub report_words : ReportLine → List (List ℕ)
-report_words (Send k m) = codes "send" ∷ decimal k ∷ message_words m
-report_words (Ack p q r) = codes "ack" ∷ decimal p ∷ request_text q ∷ reply_words r
-report_words (Restart p facts decided bindings) = codes "restart" ∷ decimal p ∷ decimal facts ∷ decimal decided ∷ map binding_text bindings
-report_words (Refuse line r) = codes "refuse" ∷ decimal line ∷ decimal (number_of r) ∷ refusal_name r ∷ []
+report_words (lines.Send k m) = codes "send" ∷ decimal k ∷ message_words m
+report_words (lines.Ack p q r) = codes "ack" ∷ decimal p ∷ request_text q ∷ reply_words r
+report_words (lines.Restart p facts decided bindings) = codes "restart" ∷ decimal p ∷ decimal facts ∷ decimal decided ∷ map binding_text bindings
+report_words (lines.Refuse line r) = codes "refuse" ∷ decimal line ∷ decimal (number_of r) ∷ name_of r ∷ []
 
 -- words as a line
 abbrev pub line : List (List ℕ) → List ℕ

@@ -3,7 +3,9 @@ use Rattle.std.specs.Prelude.{ℕ, ◌+◌, ◌/◌, ◌%◌, ◌^◌, ◌<◌, 
 use Rattle.std.specs.List.{flat_map, AllByRecursion}
 use Rattle.rr_types.specs.declared.command.Op.{Op}
 use Rattle.rr_types.specs.declared.command.Op.TheVariants.{Claim, Update, Release, Transfer}
+use Rattle.rr_types.specs.declared.command.OpKind.TheVariants as kinds
 use Rattle.rr_types.specs.declared.command.Command.{Command}
+use Rattle.rr_types.specs.Commands.{op_word}
 use Rattle.rr_types.specs.Names.{IsName, IsValue}
 
 -- words, divided by one space
@@ -17,12 +19,12 @@ abbrev pub value_words : List ℕ → List (List ℕ)
 value_words [] = []
 value_words (b ∷ bs) = (b ∷ bs) ∷ []
 
--- an operation: its verb, the name, then a value or the new owner
+-- an operation: its word, the name, then a value or the new owner
 abbrev pub op_words : Op → List (List ℕ)
-op_words (Claim name value) = codes "claim" ∷ name ∷ value_words value
-op_words (Update name value) = codes "update" ∷ name ∷ value_words value
-op_words (Release name) = codes "release" ∷ name ∷ []
-op_words (Transfer name owner) = codes "transfer" ∷ name ∷ decimal owner ∷ []
+op_words (Claim name value) = op_word kinds.Claim ∷ name ∷ value_words value
+op_words (Update name value) = op_word kinds.Update ∷ name ∷ value_words value
+op_words (Release name) = op_word kinds.Release ∷ name ∷ []
+op_words (Transfer name owner) = op_word kinds.Transfer ∷ name ∷ decimal owner ∷ []
 
 -- the members of a set among k nodes from p on, each as its digit, ascending; bit 0 of the set is node p
 abbrev pub member_digits : ℕ → ℕ → ℕ → List ℕ

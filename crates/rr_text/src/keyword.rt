@@ -1,4 +1,4 @@
-//! The words that say what an event or an operation does.
+//! The words that say what an event does.
 
 /// What an event does.
 #[derive(Clone, Copy, Debug)]
@@ -17,13 +17,4 @@ pub enum Keyword {
     Snap,
     Crash,
     Restart,
-}
-
-/// What an operation does with a name.
-#[derive(Clone, Copy, Debug)]
-pub enum Verb {
-    Claim,
-    Update,
-    Release,
-    Transfer,
 }

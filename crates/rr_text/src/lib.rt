@@ -16,6 +16,6 @@ pub mod text_word;
 
 pub use command_laws::command_law;
 pub use event::{Event, Fill};
-pub use report::{Binding, BoundNames, Report, ReportLine};
+pub use report::{BoundNames, Report, ReportLine};
 pub use schedule::{MAX_EVENTS, Schedule};
 pub use text_law::one_fault;

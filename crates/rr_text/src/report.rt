@@ -2,16 +2,8 @@
 
 ghost use Rattle.std.specs.Prelude.{◌≡◌};
 
-use rr_types::{Command, Message, Name, NodeId, Refusal, Reply, RequestNo, Value};
+use rr_types::{Binding, Command, Message, NodeId, Refusal, Reply, RequestNo};
 use std::marker::Model;
-
-/// A bound name: who has it, and its value.
-#[derive(Clone, Copy, Debug)]
-pub struct Binding {
-    pub name: Name,
-    pub owner: u32,
-    pub value: Value,
-}
 
 /// The bound names that a node reports, in byte order.
 #[derive(Debug, Drop)]
@@ -21,7 +13,7 @@ pub struct BoundNames {
 
 impl Model for BoundNames {
     ghost use Rattle.std.specs.Prelude.{List};
-    ghost use Rattle.rr_text.specs.declared.report.Binding.{Binding};
+    ghost use Rattle.rr_types.specs.declared.binding.Binding.{Binding};
 
     ghost Value = { List Binding };
 

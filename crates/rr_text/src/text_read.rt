@@ -4,11 +4,13 @@ ghost use Rattle.std.specs.Prelude.{true, [], ◌∷◌, unwrap_or, IfSome, ◌�
 ghost use Rattle.std.specs.List.{list_all, position};
 ghost use Rattle.std.specs.Str.Parse.{digits_value};
 ghost use Rattle.rr_text.specs.Numbers.{is_digit, is_number};
-ghost use Rattle.rr_text.specs.Reading.{find_by, keyword_text, cut_at, number_at, small_at, node_at, name_at, filled_value_at, members_at, set_at, hex_value, hex_byte, pairs_at, fill_at, submitted_at, first_node_at, cuts_at, fields_at, event_at, target_at, keyword_at, verb_at, name_and_value, named_at, transferred_at, op_at};
+ghost use Rattle.rr_text.specs.Reading.{find_by, keyword_text, cut_at, number_at, small_at, node_at, name_at, filled_value_at, members_at, set_at, hex_value, hex_byte, pairs_at, fill_at, submitted_at, first_node_at, cuts_at, fields_at, event_at, target_at, keyword_at, op_kind_at, message_kind_at, name_and_value, named_at, transferred_at, op_at};
 
-use crate::keyword::{Keyword, Verb};
+use crate::keyword::Keyword;
 use memchr::memchr;
-use rr_types::{Command, Name, NodeId, NodeSet, Nodes, Op, Refusal, RequestNo, Value};
+use rr_types::{
+    Command, MessageKind, Name, NodeId, NodeSet, Nodes, Op, OpKind, Refusal, RequestNo, Value,
+};
 
 fn place_of(text: &[u8], at: u8) -> Option<usize>
     ensures { result ≡ position (λ b. b == at) text.now }
@@ -188,17 +190,45 @@ pub fn hex_byte(high: u8, low: u8) -> Option<u8>
     }
 }
 
-fn verb(word: &[u8]) -> Option<Verb>
-    ensures { result ≡ verb_at word.now }
+/// The kind of operations that a word stands for.
+pub fn op_kind(word: &[u8]) -> Option<OpKind>
+    ensures { result ≡ op_kind_at word.now }
 {
-    if word == b"claim".as_slice() {
-        Some(Verb::Claim)
-    } else if word == b"update".as_slice() {
-        Some(Verb::Update)
-    } else if word == b"release".as_slice() {
-        Some(Verb::Release)
-    } else if word == b"transfer".as_slice() {
-        Some(Verb::Transfer)
+    if word == OpKind::Claim.word().as_bytes() {
+        Some(OpKind::Claim)
+    } else if word == OpKind::Update.word().as_bytes() {
+        Some(OpKind::Update)
+    } else if word == OpKind::Release.word().as_bytes() {
+        Some(OpKind::Release)
+    } else if word == OpKind::Transfer.word().as_bytes() {
+        Some(OpKind::Transfer)
+    } else {
+        None
+    }
+}
+
+/// The kind of messages that a word stands for.
+pub fn message_kind(word: &[u8]) -> Option<MessageKind>
+    ensures { result ≡ message_kind_at word.now }
+{
+    if word == MessageKind::Estimate.word().as_bytes() {
+        Some(MessageKind::Estimate)
+    } else if word == MessageKind::Proposal.word().as_bytes() {
+        Some(MessageKind::Proposal)
+    } else if word == MessageKind::Ack.word().as_bytes() {
+        Some(MessageKind::Ack)
+    } else if word == MessageKind::Decision.word().as_bytes() {
+        Some(MessageKind::Decision)
+    } else if word == MessageKind::Request.word().as_bytes() {
+        Some(MessageKind::Request)
+    } else if word == MessageKind::Nack.word().as_bytes() {
+        Some(MessageKind::Nack)
+    } else if word == MessageKind::Beat.word().as_bytes() {
+        Some(MessageKind::Beat)
+    } else if word == MessageKind::Suspects.word().as_bytes() {
+        Some(MessageKind::Suspects)
+    } else if word == MessageKind::Ask.word().as_bytes() {
+        Some(MessageKind::Ask)
     } else {
         None
     }
@@ -237,20 +267,20 @@ fn transferred(text: &[u8]) -> Option<Op>
     Some(Op::Transfer(name, owner))
 }
 
-fn target(verb: Verb, text: &[u8]) -> Option<Op>
-    ensures { result ≡ target_at verb text.now }
+fn target(kind: OpKind, text: &[u8]) -> Option<Op>
+    ensures { result ≡ target_at kind text.now }
 {
-    match verb {
-        Verb::Claim => {
+    match kind {
+        OpKind::Claim => {
             let (name, value) = named(text)?;
             Some(Op::Claim(name, value))
         }
-        Verb::Update => {
+        OpKind::Update => {
             let (name, value) = named(text)?;
             Some(Op::Update(name, value))
         }
-        Verb::Release => Some(Op::Release(name(text)?)),
-        Verb::Transfer => transferred(text),
+        OpKind::Release => Some(Op::Release(name(text)?)),
+        OpKind::Transfer => transferred(text),
     }
 }
 
@@ -259,7 +289,7 @@ pub fn op(text: &[u8]) -> Option<Op>
     ensures { result ≡ op_at text.now }
 {
     let (word, rest) = cut(text, b' ')?;
-    target(verb(word)?, rest)
+    target(op_kind(word)?, rest)
 }
 
 /// The command that the words of a submit behind the node are.

@@ -2,15 +2,18 @@
 
 ghost use Rattle.std.specs.Prelude.{◌≡◌, ◌+◌, ◌<◌, ◌^◌, [], ◌∷◌, ◌++◌, map, length, OnOk, IfOk, IfErr, codes, decimal};
 ghost use Rattle.std.specs.List.{flat_map};
-ghost use Rattle.rr_types.specs.Refusal.{number_of};
+ghost use Rattle.rr_types.specs.Messages.{message_word};
 ghost use Rattle.rr_text.specs.Words.{spaced, op_words};
-ghost use Rattle.rr_text.specs.ReportTexts.{request_text, command_words, body_words, message_words, reply_words, binding_text, refusal_name, report_words, line, decided_lines, report_text};
+ghost use Rattle.rr_text.specs.ReportTexts.{request_text, command_words, body_words, message_words, reply_words, binding_text, report_words, line, decided_lines, report_text};
 
-use crate::report::{Binding, Report, ReportLine};
+use crate::report::{Report, ReportLine};
 use crate::text_word::{
     push_byte, push_bytes, push_number, push_number_word, push_op, push_set, push_word,
 };
-use rr_types::{Body, Command, Instance, Message, NodeId, Refusal, Reply, RequestNo, Round};
+use rr_types::{
+    Binding, Body, Command, Instance, Message, MessageKind, NodeId, Refusal, Reply, RequestNo,
+    Round,
+};
 use std::alloc::Global;
 
 /// Appends a space and a request number.
@@ -34,21 +37,30 @@ fn push_command(out: &mut Vec<u8>, command: &Command) -> Result<(), Refusal>
     push_op(out, &command.op)
 }
 
-fn push_instance(out: &mut Vec<u8>, kind: &[u8], instance: Instance) -> Result<(), Refusal>
-    ensures ok { OnOk result (out.new.items ≡ out.old.items ++ 32 ∷ spaced (kind.now ∷ decimal instance ∷ [])) }
+// Appends a space and the word of a kind of messages.
+#[inline]
+fn push_kind(out: &mut Vec<u8>, kind: MessageKind) -> Result<(), Refusal>
+    ensures ok { OnOk result (out.new.items ≡ out.old.items ++ 32 ∷ message_word kind) }
     ensures err { IfErr result (λ e. e ≡ Refusal.OutOfMemory) }
 {
-    push_word(out, kind)?;
+    push_word(out, kind.word().as_bytes())
+}
+
+fn push_instance(out: &mut Vec<u8>, kind: MessageKind, instance: Instance) -> Result<(), Refusal>
+    ensures ok { OnOk result (out.new.items ≡ out.old.items ++ 32 ∷ spaced (message_word kind ∷ decimal instance ∷ [])) }
+    ensures err { IfErr result (λ e. e ≡ Refusal.OutOfMemory) }
+{
+    push_kind(out, kind)?;
     push_number_word(out, u64::from(instance.number()))
 }
 
 fn push_round(
     out: &mut Vec<u8>,
-    kind: &[u8],
+    kind: MessageKind,
     instance: Instance,
     round: Round,
 ) -> Result<(), Refusal>
-    ensures ok { OnOk result (out.new.items ≡ out.old.items ++ 32 ∷ spaced (kind.now ∷ decimal instance ∷ decimal round ∷ [])) }
+    ensures ok { OnOk result (out.new.items ≡ out.old.items ++ 32 ∷ spaced (message_word kind ∷ decimal instance ∷ decimal round ∷ [])) }
     ensures err { IfErr result (λ e. e ≡ Refusal.OutOfMemory) }
 {
     push_instance(out, kind, instance)?;
@@ -61,30 +73,30 @@ fn push_body(out: &mut Vec<u8>, body: &Body) -> Result<(), Refusal>
 {
     match body {
         Body::Estimate(instance, estimate) => {
-            push_round(out, b"estimate", *instance, estimate.round())?;
+            push_round(out, MessageKind::Estimate, *instance, estimate.round())?;
             push_number_word(out, u64::from(estimate.stamp()))?;
             push_command(out, estimate.command_ref())
         }
         Body::Proposal(instance, round, command) => {
-            push_round(out, b"proposal", *instance, *round)?;
+            push_round(out, MessageKind::Proposal, *instance, *round)?;
             push_command(out, command)
         }
-        Body::Ack(instance, round) => push_round(out, b"ack", *instance, *round),
+        Body::Ack(instance, round) => push_round(out, MessageKind::Ack, *instance, *round),
         Body::Decision(instance, command) => {
-            push_instance(out, b"decision", *instance)?;
+            push_instance(out, MessageKind::Decision, *instance)?;
             push_command(out, command)
         }
         Body::Request(command) => {
-            push_word(out, b"request")?;
+            push_kind(out, MessageKind::Request)?;
             push_command(out, command)
         }
-        Body::Nack(instance, round) => push_round(out, b"nack", *instance, *round),
-        Body::Beat => push_word(out, b"beat"),
+        Body::Nack(instance, round) => push_round(out, MessageKind::Nack, *instance, *round),
+        Body::Beat => push_kind(out, MessageKind::Beat),
         Body::Suspects(set) => {
-            push_word(out, b"suspects")?;
+            push_kind(out, MessageKind::Suspects)?;
             push_set(out, *set)
         }
-        Body::Ask(instance) => push_instance(out, b"ask", *instance),
+        Body::Ask(instance) => push_instance(out, MessageKind::Ask, *instance),
     }
 }
 
@@ -156,58 +168,6 @@ fn push_registry(out: &mut Vec<u8>, decided: u64, bindings: &[Binding]) -> Resul
     push_bindings(out, bindings)
 }
 
-/// The name of a refusal, without what it says beside.
-pub fn refusal_name(refusal: &Refusal) -> &'static str
-    ensures { result.now ≡ refusal_name refusal.now }
-{
-    match refusal {
-        Refusal::OutOfMemory => "OutOfMemory",
-        Refusal::Device => "Device",
-        Refusal::Damaged { .. } => "Damaged",
-        Refusal::Failed => "Failed",
-        Refusal::Down => "Down",
-        Refusal::BadNodes => "BadNodes",
-        Refusal::BadName => "BadName",
-        Refusal::BadValue => "BadValue",
-        Refusal::ListFull => "ListFull",
-        Refusal::RoundsOut => "RoundsOut",
-        Refusal::Malformed(_) => "Malformed",
-        Refusal::StrangeMark => "StrangeMark",
-        Refusal::Busy => "Busy",
-        Refusal::BadEvent(_) => "BadEvent",
-        Refusal::SeatsTaken => "SeatsTaken",
-        Refusal::TooLarge => "TooLarge",
-        Refusal::AuditNo(_) => "AuditNo",
-        Refusal::NoGuard => "NoGuard",
-    }
-}
-
-// What a line of a report says behind the number of a line that was refused: the number and the name of the refusal.
-fn refusal_tail(refusal: &Refusal) -> &'static str
-    ensures { result.now ≡ 32 ∷ decimal (number_of refusal.now) ++ 32 ∷ refusal_name refusal.now }
-{
-    match refusal {
-        Refusal::OutOfMemory => " 1 OutOfMemory",
-        Refusal::Device => " 2 Device",
-        Refusal::Damaged { .. } => " 3 Damaged",
-        Refusal::Failed => " 4 Failed",
-        Refusal::Down => " 5 Down",
-        Refusal::BadNodes => " 6 BadNodes",
-        Refusal::BadName => " 7 BadName",
-        Refusal::BadValue => " 8 BadValue",
-        Refusal::ListFull => " 9 ListFull",
-        Refusal::RoundsOut => " 10 RoundsOut",
-        Refusal::Malformed(_) => " 11 Malformed",
-        Refusal::StrangeMark => " 12 StrangeMark",
-        Refusal::Busy => " 13 Busy",
-        Refusal::BadEvent(_) => " 14 BadEvent",
-        Refusal::SeatsTaken => " 15 SeatsTaken",
-        Refusal::TooLarge => " 16 TooLarge",
-        Refusal::AuditNo(_) => " 17 AuditNo",
-        Refusal::NoGuard => " 18 NoGuard",
-    }
-}
-
 /// Appends the words of a line of a report.
 ///
 /// # Errors
@@ -244,9 +204,10 @@ pub fn push_report_words(out: &mut Vec<u8>, report_line: &ReportLine) -> Result<
             push_registry(out, *decided, bindings.as_slice())
         }
         ReportLine::Refuse { line, refusal } => {
-            push_bytes(out, b"refuse ")?;
-            push_number(out, *line)?;
-            push_bytes(out, refusal_tail(refusal).as_bytes())
+            push_bytes(out, b"refuse")?;
+            push_number_word(out, *line)?;
+            push_number_word(out, u64::from(refusal.number()))?;
+            push_word(out, refusal.name().as_bytes())
         }
     }
 }

@@ -3,10 +3,11 @@
 ghost use Rattle.std.specs.Prelude.{◌≡◌, ◌∷◌, ◌++◌, OnOk, IfErr, decimal};
 ghost use Rattle.std.specs.List.{flat_map};
 ghost use Rattle.std.specs.Prelude.{[], ◌-◌, ◌≤◌, ◌<◌};
+ghost use Rattle.rr_types.specs.Commands.{op_word};
 ghost use Rattle.rr_text.specs.Words.{spaced, op_words, set_text, fill_text, hex_pair, hex_digit, member_digits, value_words};
 
 use itoa::Buffer;
-use rr_types::{Name, NodeSet, Op, Refusal, Value};
+use rr_types::{Name, NodeSet, Op, OpKind, Refusal, Value};
 
 /// Appends bytes.
 pub fn push_bytes(out: &mut Vec<u8>, bytes: &[u8]) -> Result<(), Refusal>
@@ -59,14 +60,14 @@ pub fn push_number_word(out: &mut Vec<u8>, number: u64) -> Result<(), Refusal>
 
 fn push_binding_op(
     out: &mut Vec<u8>,
-    verb: &[u8],
+    kind: OpKind,
     name: &Name,
     value: &Value,
 ) -> Result<(), Refusal>
-    ensures ok { OnOk result (out.new.items ≡ out.old.items ++ 32 ∷ spaced (verb.now ∷ name.now ∷ value_words value.now)) }
+    ensures ok { OnOk result (out.new.items ≡ out.old.items ++ 32 ∷ spaced (op_word kind ∷ name.now ∷ value_words value.now)) }
     ensures err { IfErr result (λ e. e ≡ Refusal.OutOfMemory) }
 {
-    push_word(out, verb)?;
+    push_word(out, kind.word().as_bytes())?;
     push_word(out, name.as_bytes())?;
     let value = value.as_bytes();
     match value {
@@ -81,14 +82,14 @@ pub fn push_op(out: &mut Vec<u8>, op: &Op) -> Result<(), Refusal>
     ensures err { IfErr result (λ e. e ≡ Refusal.OutOfMemory) }
 {
     match op {
-        Op::Claim(name, value) => push_binding_op(out, b"claim", name, value),
-        Op::Update(name, value) => push_binding_op(out, b"update", name, value),
+        Op::Claim(name, value) => push_binding_op(out, OpKind::Claim, name, value),
+        Op::Update(name, value) => push_binding_op(out, OpKind::Update, name, value),
         Op::Release(name) => {
-            push_word(out, b"release")?;
+            push_word(out, OpKind::Release.word().as_bytes())?;
             push_word(out, name.as_bytes())
         }
         Op::Transfer(name, owner) => {
-            push_word(out, b"transfer")?;
+            push_word(out, OpKind::Transfer.word().as_bytes())?;
             push_word(out, name.as_bytes())?;
             push_number_word(out, u64::from(*owner))
         }

@@ -4,7 +4,7 @@ ghost use Rattle.std.specs.Prelude.{◌≡◌, ◌⊎◌, IfSome, IfOk, OnErr, I
 ghost use mathlib.Core.List.{IsPrefix};
 ghost use Rattle.rr_types.specs.declared.refusal.Refusal.TheVariants.{NoGuard, OutOfMemory};
 ghost use Rattle.rr_types.specs.Registry.{registry_of};
-ghost use Rattle.rr_window.specs.Sights.{entries_of};
+ghost use Rattle.rr_window.specs.Sights.{bindings_with};
 ghost use Rattle.rr_threads.specs.Asking.{IsAnswered, IsSeen, IsAnswerTo};
 
 use crate::desk::{Counter, Desk};
@@ -15,26 +15,16 @@ use crate::shared::Shared;
 use rr_locked::{Place, Turnstile};
 use rr_script::{Answer, ScriptLine};
 use rr_types::{
-    Command, Input, Name, NodeId, NodeSet, Op, Refusal, Reply, RequestNo, Value, made_of,
+    Binding, Command, Input, Name, NodeId, NodeSummary, Op, Refusal, Reply, RequestNo, Value,
+    made_of,
 };
-use rr_window::{Entry, Receipt, Seat, Sight, WindowName};
+use rr_window::{Receipt, Seat, Sight, WindowName};
 use std::alloc::Global;
 use std::marker::Model;
 use std::sync::Wait;
 
 /// How many times a client looks for its receipt before it gives up: for some days.
 const POLLS: u32 = 10_000_000;
-
-/// What a node that is up knows.
-#[derive(Clone, Copy, Debug)]
-pub struct Standing {
-    /// How many facts its disk has that it knows to be there.
-    pub facts: u64,
-    /// How many commands of the list it knows to be decided, from the first on.
-    pub decided: u64,
-    /// The nodes that it suspects to be down.
-    pub suspects: NodeSet,
-}
 
 /// Someone who asks one node, in a thread of its own and with a seat of its own.
 pub trait Client {
@@ -172,11 +162,11 @@ impl<'d, 'x, W: WindowName, T: Turnstile, R: Wait> Handle<'d, 'x, W, T, R> {
         self.desk.is_ending(self.shared)
     }
 
-    /// What the node knows.
-    pub fn standing(&self) -> Standing {
+    /// The node in brief.
+    pub fn summary(&self) -> NodeSummary {
         let locked = self.desk.locked.lock(self.rt);
         let core = locked.core();
-        Standing {
+        NodeSummary {
             facts: core.facts(),
             decided: core.decided_count() as u64,
             suspects: core.suspects(),
@@ -265,12 +255,12 @@ impl<'d, 'x, W: WindowName, T: Turnstile, R: Wait> Handle<'d, 'x, W, T, R> {
         }
     }
 
-    /// Lists the entries whose names begin with these bytes, in byte order, without waiting.
+    /// Lists the bindings whose names begin with these bytes, in byte order, without waiting.
     ///
     /// # Errors
     /// `OutOfMemory`. `NoGuard`, where the window gave no guard. Then the client knows what it knew.
-    pub fn list(&mut self, alloc: Global, prefix: &[u8]) -> Result<Vec<Entry>, Refusal>
-        ensures entries { IfOk result (λ entries. entries.items ≡ entries_of prefix.now (registry_of self.new.known)) }
+    pub fn list(&mut self, alloc: Global, prefix: &[u8]) -> Result<Vec<Binding>, Refusal>
+        ensures bindings { IfOk result (λ bindings. bindings.items ≡ bindings_with prefix.now (registry_of self.new.known)) }
         ensures later { IsPrefix self.old.known self.new.known }
         ensures kept { OnErr result (self.new ≡ self.old) }
         ensures same { self.new.node ≡ self.old.node }

@@ -69,7 +69,7 @@ mod shared;
 mod snapshotting;
 mod switches;
 
-pub use client::{Client, Handle, Standing};
+pub use client::{Client, Handle};
 pub use recorder::Recorder;
 pub use run::{run_clients, run_switched};
 pub use script_run::run_script;

@@ -1,9 +1,25 @@
-use Rattle.std.specs.Prelude.{Bool, false, ◌&&◌, ◌==◌}
+use Rattle.std.specs.Prelude.{ℕ, List, Bool, false, ◌&&◌, ◌==◌, codes}
 use Rattle.std.specs.Str.{bytes_eq}
 use Rattle.rr_types.specs.declared.command.Op.{Op}
 use Rattle.rr_types.specs.declared.command.Op.TheVariants.{Claim, Update, Release, Transfer}
+use Rattle.rr_types.specs.declared.command.OpKind.{OpKind}
+use Rattle.rr_types.specs.declared.command.OpKind.TheVariants as kinds
 use Rattle.rr_types.specs.declared.command.Command.{Command}
 use Rattle.rr_types.specs.Registry.{is_same_request}
+
+-- the word of a kind of operations
+abbrev pub op_word : OpKind → List ℕ
+op_word kinds.Claim = codes "claim"
+op_word kinds.Update = codes "update"
+op_word kinds.Release = codes "release"
+op_word kinds.Transfer = codes "transfer"
+
+-- the kind of an operation
+abbrev pub op_kind : Op → OpKind
+op_kind (Claim name value) = kinds.Claim
+op_kind (Update name value) = kinds.Update
+op_kind (Release name) = kinds.Release
+op_kind (Transfer name owner) = kinds.Transfer
 
 -- whether two operations are one, with name, value and new owner
 abbrev pub is_same_op : Op → Op → Bool

@@ -2,6 +2,7 @@ pub mod Commands
 pub mod Facts
 pub mod Groups
 pub mod Limits
+pub mod Messages
 pub mod Names
 pub mod Nodes
 pub mod Promises

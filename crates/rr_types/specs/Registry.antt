@@ -5,6 +5,7 @@ use Rattle.std.specs.Str.{bytes_eq}
 use Rattle.std.specs.List.{fold}
 use Rattle.std.specs.BTreeMap.{insert_entry}
 use Rattle.std.specs.Map.{lookup, remove_entry}
+use Rattle.rr_types.specs.declared.binding.Binding.{Binding}
 use Rattle.rr_types.specs.declared.command.RequestNo.{RequestNo}
 use Rattle.rr_types.specs.declared.command.Op.{Op}
 use Rattle.rr_types.specs.declared.command.Op.TheVariants.{Claim, Update, Release, Transfer}
@@ -21,6 +22,10 @@ pub record Holding : Type 0 where
 -- the bound names in byte order, each with its holding
 abbrev pub Bindings : Type 0
 Bindings = List (List ℕ × Holding)
+
+-- a bound name with its holding, in one
+abbrev pub binding_of : List ℕ × Holding → Binding
+binding_of bound = record { name = bound.0; owner = bound.1.owner; value = bound.1.value }
 
 -- who has this name
 abbrev pub holding_of : Bindings → List ℕ → Option Holding

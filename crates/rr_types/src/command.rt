@@ -2,7 +2,7 @@
 
 ghost use Rattle.std.specs.Prelude.{◌≡◌};
 ghost use Rattle.rr_types.specs.Registry.{is_same_request};
-ghost use Rattle.rr_types.specs.Commands.{is_same_op, is_same_command};
+ghost use Rattle.rr_types.specs.Commands.{op_word, op_kind, is_same_op, is_same_command};
 
 use crate::name::{Name, Value};
 
@@ -22,6 +22,30 @@ impl RequestNo {
     }
 }
 
+/// What an operation does with a name, whichever name it is.
+#[derive(Clone, Copy, Debug)]
+pub enum OpKind {
+    Claim,
+    Update,
+    Release,
+    Transfer,
+}
+
+impl OpKind {
+    /// Its word in texts.
+    #[inline]
+    pub fn word(self) -> &'static str
+        ensures { result.now ≡ op_word self }
+    {
+        match self {
+            OpKind::Claim => "claim",
+            OpKind::Update => "update",
+            OpKind::Release => "release",
+            OpKind::Transfer => "transfer",
+        }
+    }
+}
+
 /// What a command does with a name.
 #[derive(Clone, Copy, Debug)]
 pub enum Op {
@@ -36,6 +60,19 @@ pub enum Op {
 }
 
 impl Op {
+    /// What it does with its name.
+    #[inline]
+    pub fn kind(&self) -> OpKind
+        ensures { result ≡ op_kind self.now }
+    {
+        match self {
+            Op::Claim(_, _) => OpKind::Claim,
+            Op::Update(_, _) => OpKind::Update,
+            Op::Release(_) => OpKind::Release,
+            Op::Transfer(_, _) => OpKind::Transfer,
+        }
+    }
+
     /// Whether two operations are one, with name, value and new owner.
     pub fn is_same(&self, other: &Op) -> bool
         ensures { result ≡ is_same_op self.now other.now }

@@ -1,10 +1,11 @@
 //! The vocabulary of a replicated name registry: nodes, rounds and instances, names and values,
-//! commands and replies, facts, promises, messages and inputs, and the refusals of every call.
+//! bindings, commands and replies, facts, promises, messages and inputs, and the refusals of every call.
 //!
 //! Each type keeps its range: a `Round` is always a number from 1 to 2,147,483,647. Contracts
 //! see numbers as numbers, names and values as lists of bytes, and the rest as the record or the variant.
 #![tactic(auto)]
 
+mod binding;
 mod command;
 mod fact;
 mod input;
@@ -18,14 +19,17 @@ mod refusal;
 mod round;
 mod short;
 mod standing;
+mod summary;
 
-pub use command::{Command, Op, Reply, RequestNo};
+pub use binding::Binding;
+pub use command::{Command, Op, OpKind, Reply, RequestNo};
 pub use fact::{Estimate, Fact, GROUP, Group};
 pub use input::Input;
 pub use limit_law::limits;
-pub use message::{Body, Message};
+pub use message::{Body, Message, MessageKind};
 pub use name::{MAX_NAME, MAX_VALUE, Name, Value, is_name_byte, is_value_byte};
 pub use node::{MAX_NODES, NodeId, NodeSet, Nodes, coordinator, majority};
 pub use promise::{Entry, OpenStanding, Promise, Standing};
 pub use refusal::Refusal;
-pub use round::{INSTANCES, Instance, MAX_ROUND, Round, WINDOW};
+pub use round::{INSTANCES, Instance, MAX_ROUND, OPEN_INSTANCES, Round};
+pub use summary::NodeSummary;

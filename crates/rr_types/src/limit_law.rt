@@ -6,13 +6,13 @@ ghost use Rattle.rr_types.specs.Limits.{max_nodes, instance_count, open_count, l
 use crate::fact::GROUP;
 use crate::name::{MAX_NAME, MAX_VALUE};
 use crate::node::MAX_NODES;
-use crate::round::{INSTANCES, MAX_ROUND, WINDOW};
+use crate::round::{INSTANCES, MAX_ROUND, OPEN_INSTANCES};
 
 /// The limits of the code are those of the definitions. It does nothing when it runs.
 pub fn limits()
     ensures nodes { MAX_NODES ≡ max_nodes }
     ensures instances { INSTANCES ≡ instance_count }
-    ensures open { WINDOW ≡ open_count }
+    ensures open { OPEN_INSTANCES ≡ open_count }
     ensures rounds { MAX_ROUND ≡ last_round }
     ensures groups { GROUP ≡ max_group }
     ensures names { MAX_NAME ≡ max_text }

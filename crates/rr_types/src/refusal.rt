@@ -2,67 +2,50 @@
 
 ghost use Rattle.std.specs.Prelude.{◌≡◌};
 ghost use Rattle.rr_types.specs.declared.refusal.Refusal.TheVariants.{OutOfMemory};
-ghost use Rattle.rr_types.specs.Refusal.{number_of};
+ghost use Rattle.rr_types.specs.Refusal.{number_of, name_of};
 
 use std::alloc::{AllocError, AllocFailed};
-use thiserror::Error;
+use std::error::Error;
+use std::fmt;
 
 /// Why a call was refused. Each has a number and a name that programs may rely on.
-#[derive(Clone, Copy, Debug, PartialEq, Eq, Error)]
+#[derive(Clone, Copy, Debug, PartialEq, Eq)]
 pub enum Refusal {
     /// A growth was really refused.
-    #[error("OutOfMemory")]
     OutOfMemory,
     /// The disk's count of faults grew in this call, or a folder or file couldn't be opened or made.
-    #[error("Device")]
     Device,
     /// An open gate stands at this offset of the area before bytes that are no lawful frame there.
-    #[error("Damaged {area} {offset}")]
     Damaged { area: u8, offset: u64 },
     /// An earlier call was refused with `Device`: open again.
-    #[error("Failed")]
     Failed,
     /// The node is down or still opening.
-    #[error("Down")]
     Down,
     /// A number of nodes outside 1 to 7.
-    #[error("BadNodes")]
     BadNodes,
     /// Bytes that are no name.
-    #[error("BadName")]
     BadName,
     /// Bytes that are no value.
-    #[error("BadValue")]
     BadValue,
     /// All instances are decided here, and the request number isn't among them.
-    #[error("ListFull")]
     ListFull,
     /// The round is the last one already.
-    #[error("RoundsOut")]
     RoundsOut,
     /// Bytes that are no spelling: the offset of the first field that is cut short or unlawful.
-    #[error("Malformed {0}")]
     Malformed(u64),
     /// A synced group, or a group put back, that isn't the running one.
-    #[error("StrangeMark")]
     StrangeMark,
     /// A job runs, its synced group isn't marked yet, or the node needs no restart.
-    #[error("Busy")]
     Busy,
     /// A line, from 1, that is outside its grammar or names a node that isn't there.
-    #[error("BadEvent {0}")]
     BadEvent(u64),
     /// No reader's place was got.
-    #[error("SeatsTaken")]
     SeatsTaken,
     /// An area, an epoch or the next fact number would pass its greatest value.
-    #[error("TooLarge")]
     TooLarge,
     /// The event with this index, from 1, isn't what the world gives.
-    #[error("AuditNo {0}")]
     AuditNo(u64),
     /// The window gave this look no guard.
-    #[error("NoGuard")]
     NoGuard,
 }
 
@@ -92,7 +75,53 @@ impl Refusal {
             Refusal::NoGuard => 18,
         }
     }
+
+    /// Its name, without the numbers that it says beside.
+    pub fn name(&self) -> &'static str
+        ensures { result.now ≡ name_of self.now }
+    {
+        match self {
+            Refusal::OutOfMemory => "OutOfMemory",
+            Refusal::Device => "Device",
+            Refusal::Damaged { .. } => "Damaged",
+            Refusal::Failed => "Failed",
+            Refusal::Down => "Down",
+            Refusal::BadNodes => "BadNodes",
+            Refusal::BadName => "BadName",
+            Refusal::BadValue => "BadValue",
+            Refusal::ListFull => "ListFull",
+            Refusal::RoundsOut => "RoundsOut",
+            Refusal::Malformed(_) => "Malformed",
+            Refusal::StrangeMark => "StrangeMark",
+            Refusal::Busy => "Busy",
+            Refusal::BadEvent(_) => "BadEvent",
+            Refusal::SeatsTaken => "SeatsTaken",
+            Refusal::TooLarge => "TooLarge",
+            Refusal::AuditNo(_) => "AuditNo",
+            Refusal::NoGuard => "NoGuard",
+        }
+    }
 }
+
+impl fmt::Display for Refusal {
+    ghost use Rattle.std.specs.Prelude.{Some};
+    ghost use Rattle.rr_types.specs.Refusal.{refusal_text};
+
+    ghost output = { λ r. Some (refusal_text r) };
+
+    fn fmt<W: fmt::Write>(&self, f: &mut fmt::Formatter<W>) -> fmt::Result {
+        let name = self.name();
+        match self {
+            Refusal::Damaged { area, offset } => write!(f, "{name} {area} {offset}"),
+            Refusal::Malformed(number) | Refusal::BadEvent(number) | Refusal::AuditNo(number) => {
+                write!(f, "{name} {number}")
+            }
+            _ => write!(f, "{name}"),
+        }
+    }
+}
+
+impl Error for Refusal {}
 
 impl From<AllocError> for Refusal {
     ghost from_gives = { λ _ e. e ≡ OutOfMemory };

@@ -9,7 +9,7 @@ use std::marker::Model;
 pub const INSTANCES: u32 = 1_048_576;
 
 /// How many undecided instances, the lowest ones, are open at once.
-pub const WINDOW: usize = 8;
+pub const OPEN_INSTANCES: usize = 8;
 
 /// The last round of an instance.
 pub const MAX_ROUND: u32 = 2_147_483_647;

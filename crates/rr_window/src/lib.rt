@@ -10,15 +10,14 @@
 #![tactic(auto)]
 
 mod addition;
-mod entry;
 mod list;
+mod listing;
 mod publisher;
 mod receipt;
 mod seat;
 mod served;
 mod sight;
 
-pub use entry::Entry;
 pub use list::{NewList, WindowName};
 pub use publisher::{Publisher, SEATS, Window, open};
 pub use receipt::{Receipt, Told};

@@ -6,16 +6,15 @@ ghost use Rattle.rr_types.specs.declared.refusal.Refusal.TheVariants.{NoGuard, O
 ghost use Rattle.rr_types.specs.Registry.{registry_of, holding_of};
 ghost use Rattle.rr_window.specs.Lists.{beginning};
 ghost use Rattle.rr_window.specs.Windows.{IsServed};
-ghost use Rattle.rr_window.specs.Sights.{sight_of, entries_of};
+ghost use Rattle.rr_window.specs.Sights.{sight_of, bindings_with};
 
-use crate::entry::Entry;
 use crate::list::{Beginning, WindowName};
 use crate::receipt::Receipt;
 use crate::served::{Served, WindowRule};
 use crate::sight::Sight;
 use core::mem::replace_with;
 use left_right::reader::{Factory, Reader};
-use rr_types::{Name, Refusal};
+use rr_types::{Binding, Name, Refusal};
 use std::alloc::Global;
 use std::marker::Model;
 
@@ -140,7 +139,7 @@ fn look_in(served: &Served, name: &Name, known: &Beginning) -> Result<(Sight, Be
     Ok((sight, seen.again()))
 }
 
-// Lists entries of what is served now.
+// Lists bindings of what is served now.
 fn list_at<W: WindowName>(
     reader: Reader<Served, (), WindowRule<W>>,
     alloc: Global,
@@ -148,11 +147,11 @@ fn list_at<W: WindowName>(
     known: &Beginning,
 ) -> (
     Reader<Served, (), WindowRule<W>>,
-    Result<(Vec<Entry>, Beginning), Refusal>,
+    Result<(Vec<Binding>, Beginning), Refusal>,
 )
     requires { known.now.book ≡ W.book }
     ensures own { IfOk result.1 (λ r. r.1.book ≡ W.book) }
-    ensures entries { IfOk result.1 (λ r. r.0.items ≡ entries_of prefix.now (registry_of r.1.list)) }
+    ensures bindings { IfOk result.1 (λ r. r.0.items ≡ bindings_with prefix.now (registry_of r.1.list)) }
     ensures later { IfOk result.1 (λ r. IsPrefix known.now.list r.1.list) }
     ensures err { IfErr result.1 (λ e. (e ≡ OutOfMemory) ⊎ (e ≡ NoGuard)) }
 {
@@ -164,22 +163,22 @@ fn list_at<W: WindowName>(
     (reading.leave(), seen)
 }
 
-// Lists entries of what is served, where that is no shorter than what is known.
+// Lists bindings of what is served, where that is no shorter than what is known.
 fn list_in(
     alloc: Global,
     served: &Served,
     prefix: &[u8],
     known: &Beginning,
-) -> Result<(Vec<Entry>, Beginning), Refusal>
+) -> Result<(Vec<Binding>, Beginning), Refusal>
     requires { IsServed known.now.book served.now }
     ensures own { IfOk result (λ r. r.1.book ≡ known.now.book) }
-    ensures entries { IfOk result (λ r. r.0.items ≡ entries_of prefix.now (registry_of r.1.list)) }
+    ensures bindings { IfOk result (λ r. r.0.items ≡ bindings_with prefix.now (registry_of r.1.list)) }
     ensures later { IfOk result (λ r. IsPrefix known.now.list r.1.list) }
     ensures err { IfErr result (λ e. (e ≡ OutOfMemory) ⊎ (e ≡ NoGuard)) }
 {
     let seen = seen_in(served, known)?;
-    let entries = served.entries_with(alloc, prefix)?;
-    Ok((entries, seen.again()))
+    let bindings = served.bindings_with(alloc, prefix)?;
+    Ok((bindings, seen.again()))
 }
 
 impl<W: WindowName> Seat<W> {
@@ -201,13 +200,13 @@ impl<W: WindowName> Seat<W> {
         Ok(sight)
     }
 
-    /// The entries whose names begin with these bytes, in byte order. They are those of a beginning of the published list that
+    /// The bindings whose names begin with these bytes, in byte order. They are those of a beginning of the published list that
     /// begins with all that this seat has seen and learned. That beginning is then what it has seen. It waits for nobody.
     ///
     /// # Errors
     /// `OutOfMemory`. `NoGuard`, where the window gave no guard, as after its end. Then the seat knows what it knew.
-    pub fn list(&mut self, alloc: Global, prefix: &[u8]) -> Result<Vec<Entry>, Refusal>
-        ensures entries { IfOk result (λ entries. entries.items ≡ entries_of prefix.now (registry_of self.new)) }
+    pub fn list(&mut self, alloc: Global, prefix: &[u8]) -> Result<Vec<Binding>, Refusal>
+        ensures bindings { IfOk result (λ bindings. bindings.items ≡ bindings_with prefix.now (registry_of self.new)) }
         ensures later { OnOk result (IsPrefix self.old self.new) }
         ensures kept { OnErr result (self.new ≡ self.old) }
         ensures err { IfErr result (λ e. (e ≡ OutOfMemory) ⊎ (e ≡ NoGuard)) }
@@ -216,9 +215,9 @@ impl<W: WindowName> Seat<W> {
         let listed = replace_with(&mut self.reader, (prefix, known), |reader, with| {
             list_at(reader, alloc, with.0, &with.1)
         });
-        let (entries, seen) = listed?;
+        let (bindings, seen) = listed?;
         self.known = seen;
-        Ok(entries)
+        Ok(bindings)
     }
 
     /// From now on this seat sees no less than the receipt's list. It waits for nobody and takes no memory.

@@ -5,16 +5,16 @@ ghost use Rattle.rr_types.specs.Registry.{holding_of, registry_of, reply_of};
 ghost use Rattle.rr_types.specs.declared.command.Command.{Command};
 ghost use Rattle.rr_types.specs.declared.refusal.Refusal.TheVariants.{OutOfMemory};
 ghost use Rattle.rr_registry.specs.Kept.{kept_of};
-ghost use Rattle.rr_window.specs.Sights.{entries_of};
+ghost use Rattle.rr_window.specs.Sights.{bindings_with};
 ghost use Rattle.rr_window.specs.Windows.{with_addition};
 
 use crate::addition::Addition;
-use crate::entry::{Entry, entries_with};
 use crate::list::{Beginning, WindowName};
+use crate::listing::bindings_with;
 use crossbeam_utils::rule::{Outcome, Protocol};
 use left_right::Absorb;
 use rr_registry::{Holding, Registry};
-use rr_types::{Name, Refusal, Reply, RequestNo};
+use rr_types::{Binding, Name, Refusal, Reply, RequestNo};
 use std::alloc::{AllocError, Global};
 use std::marker::{Model, PhantomData};
 
@@ -58,15 +58,15 @@ impl Served {
         self.registry.entry(name)
     }
 
-    /// The entries whose names begin with these bytes, in byte order.
+    /// The bindings whose names begin with these bytes, in byte order.
     ///
     /// # Errors
     /// `OutOfMemory`.
-    pub fn entries_with(&self, alloc: Global, prefix: &[u8]) -> Result<Vec<Entry>, Refusal>
-        ensures ok { (list : List Command) → self.now.kept ≡ kept_of list → IfOk result (λ v. v.items ≡ entries_of prefix.now (registry_of list)) }
+    pub fn bindings_with(&self, alloc: Global, prefix: &[u8]) -> Result<Vec<Binding>, Refusal>
+        ensures ok { (list : List Command) → self.now.kept ≡ kept_of list → IfOk result (λ v. v.items ≡ bindings_with prefix.now (registry_of list)) }
         ensures err { IfErr result (λ e. e ≡ OutOfMemory) }
     {
-        entries_with(alloc, prefix, self.registry.entries())
+        bindings_with(alloc, prefix, self.registry.entries())
     }
 
     /// The reply to a request. It takes no memory.

@@ -1,10 +1,10 @@
 use super::event_texts::{
     assert_a_million_at_most, assert_each_byte, assert_each_cut, is_reprinted,
 };
-use rr_text::{Binding, BoundNames, Event, Report, ReportLine, Schedule};
+use rr_text::{BoundNames, Event, Report, ReportLine, Schedule};
 use rr_types::{
-    Body, Command, Estimate, Instance, Message, Name, NodeId, NodeSet, Nodes, Op, Refusal, Reply,
-    RequestNo, Round, Value,
+    Binding, Body, Command, Estimate, Instance, Message, Name, NodeId, NodeSet, Nodes, Op, Refusal,
+    Reply, RequestNo, Round, Value,
 };
 use std::alloc::Global;
 use std::process::Abort;

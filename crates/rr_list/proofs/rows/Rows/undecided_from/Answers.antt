@@ -3,7 +3,7 @@ use Rattle.std.proofs.lemmas.List.{drop_all}
 use Rattle.rr_model.specs.NodeState.{undecided_from, lowest_undecided}
 use Rattle.rr_list.proofs.OpenLemmas.{open_here, open_from, open_is, none_left}
 use Rattle.rr_list.proofs.rows.Rows.undecided_from.Goals as goal
-use Rattle.rr_list.proofs.rows.Rows.undecided_from.Goals.{then-instances-lt-WINDOW, else-instances-lt-WINDOW}
+use Rattle.rr_list.proofs.rows.Rows.undecided_from.Goals.{then-instances-lt-OPEN_INSTANCES, else-instances-lt-OPEN_INSTANCES}
 
 pub returns-then-from-number-clause-value : goal.returns-then-from-number-clause-value
 returns-then-from-number-clause-value c =
@@ -29,13 +29,13 @@ returns-clause-value c =
     let inv = c.loop-instance.invariant in
     let over = c.loop-instance-test.false in
     let value = c.search.ensures.value in
-    elim c.if-instances-lt-WINDOW.branch [
-      | then-instances-lt-WINDOW w ↦
-          let few = w.if-instances-lt-WINDOW in
+    elim c.if-instances-lt-OPEN_INSTANCES.branch [
+      | then-instances-lt-OPEN_INSTANCES w ↦
+          let few = w.if-instances-lt-OPEN_INSTANCES in
           let end = drop_all c.loop-instance.instance-index c.as_slice-instances.result.now over in
           let there = c.loop-instance.auto.instance-index-end in
           value
           ∙ ap (λ f. undecided_from f c.args.self.now) w.from-is
           ∙ none_left c.args.self.now inv.0 c.args.from c.loop-instance.instance-index c.requires.ascend inv.1 c.requires.range (omega (arith, few, there)) (sym end ∙ inv.2)
-      | else-instances-lt-WINDOW w ↦ value ∙ ap (λ f. undecided_from f c.args.self.now) w.from-is
+      | else-instances-lt-OPEN_INSTANCES w ↦ value ∙ ap (λ f. undecided_from f c.args.self.now) w.from-is
     ]

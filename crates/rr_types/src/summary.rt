@@ -1,18 +1,10 @@
 //! What a node tells of itself.
 
-use rr_types::{NodeId, NodeSet};
+use crate::node::NodeSet;
 
-/// Whether a node is up, and what it knows.
+/// A node that is up, in brief.
 #[derive(Clone, Copy, Debug)]
-pub struct Standing {
-    pub node: NodeId,
-    /// None: the node is down.
-    pub known: Option<Known>,
-}
-
-/// What a node that is up knows.
-#[derive(Clone, Copy, Debug)]
-pub struct Known {
+pub struct NodeSummary {
     /// How many facts its disk has that it knows to be there.
     pub facts: u64,
     /// How many commands of the list it knows to be decided, from the first on.
