@@ -1,15 +1,11 @@
-use Rattle.std.proofs.Common.{◌≡◌, ◌⊎◌, inl, inr, ◌+◌, ◌<◌, ◌≤◌, ℕ, suc, arith, Bool, true, false, cond, List, [], ◌∷◌, ◌++◌, length, get_or, take, drop, ap, sym, subst, ◌∙◌, refl, append_assoc, Option, Some, None}
+use Rattle.std.proofs.Common.{◌≡◌, ◌+◌, ◌<◌, ◌≤◌, ℕ, suc, arith, Bool, true, false, cond, List, [], ◌∷◌, ◌++◌, length, get_or, take, drop, ap, sym, subst, ◌∙◌, append_assoc, Some, None}
 use Rattle.std.specs.Prelude.{find}
 use Rattle.std.specs.List.{remove}
 use Rattle.std.proofs.lemmas.List.{drop_all, drop_more, take_more}
-use Rattle.std.specs.Prelude.{All, Contains, IsTrue, nat_lt}
-use Rattle.std.specs.Option.{option_map_or}
-use Rattle.std.proofs.lemmas.Bool.{ltb-true}
-use Rattle.std.proofs.lemmas.List.Elements.{All-get_or, All-append, All-take, All-drop, Contains-get_or}
-use Rattle.rr_types.specs.declared.message.Message.{Message}
+use Rattle.std.specs.Prelude.{All}
+use Rattle.std.proofs.lemmas.List.Elements.{All-get_or, All-append, All-take, All-drop}
 use Rattle.rr_model.specs.NodeState.{Owed}
-use Rattle.rr_model.specs.NodeStep.{may_leave}
-use Rattle.rr_outbox.specs.Marks.{Marked, is_free, without_first, IsOwn, IsFreeOrBacked}
+use Rattle.rr_outbox.specs.Owing.{without_first, IsOwn}
 
 module _ {X : Type 0} (p : X → Bool) where
   at_place : (xs : List X) (k : ℕ) (x : X) → k < length xs → x ≡ get_or xs k x → drop k xs ≡ x ∷ drop (k + 1) xs
@@ -41,20 +37,6 @@ module _ {X : Type 0} (p : X → Bool) where
 -- one of the messages is the node's own
 pub own_at : (p : ℕ) (os : List Owed) (k : ℕ) (o : Owed) → k < length os → o ≡ get_or os k o → All (IsOwn p) os → IsOwn p o
 own_at p os k o l g a = subst (IsOwn p) (sym g) (All-get_or (IsOwn p) os k o l a)
-
--- one that may leave is free, or backed by a fact that the mark covers
-pub backed_at : (m : Marked) (os : List Owed) (k : ℕ) (o : Owed) (said : Message) → All (IsOwn m.node) os → k < length os → o ≡ get_or os k o → may_leave m.end o ≡ true → said ≡ o.message → IsFreeOrBacked m os said
-backed_at m os k o said all l g leaves e = rw e record { own = own.0; backed = by o.backing refl }
-  where
-    own : IsOwn m.node o
-    own = own_at m.node os k o l g all
-
-    by : (b : Option ℕ) → o.backing ≡ b → IsTrue (is_free o.message.body) ⊎ ((j : ℕ) × (j < m.end) × Contains os (record { message = o.message; backing = Some j }))
-    by None f = inl (own.1 f)
-    by (Some j) f =
-        let there : Contains os o = subst (Contains os) (sym g) (Contains-get_or os k o l) in
-        let is : o ≡ record { message = o.message; backing = Some j } = ap (λ (b : Option ℕ). record { message = o.message; backing = b }) f in
-        inr (j, ltb-true _ _ (ap (λ (b : Option ℕ). option_map_or (λ i. nat_lt i m.end) b true) (sym f) ∙ leaves), subst (Contains os) is there)
 
 -- without one of them they still are
 pub own_without : (p : ℕ) (os : List Owed) (k : ℕ) → All (IsOwn p) os → All (IsOwn p) (remove os k)

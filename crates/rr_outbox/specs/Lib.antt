@@ -1,3 +1,3 @@
-pub mod Marks
+pub mod Owing
 pub mod Same
 pub mod Staging

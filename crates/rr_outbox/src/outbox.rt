@@ -1,11 +1,9 @@
 //! What a node owes, in order.
 
-ghost use Rattle.std.specs.Prelude.{◌≡◌, ◌≤◌, ◌-◌, ◌++◌, take, [], ◌∷◌, None, Some, true, false, All, IsTrue, length, find, option_map, MatchOption, IfSome, IfErr, OnOk, OnErr};
+ghost use Rattle.std.specs.Prelude.{◌≡◌, ◌≤◌, ◌-◌, ◌++◌, ℕ, take, [], None, Some, All, length, find, MatchOption, IfSome, IfErr, OnOk, OnErr};
 ghost use Rattle.rr_model.specs.NodeStep.{may_leave};
-ghost use Rattle.rr_outbox.specs.Marks.{is_free, without_first, IsOwn, IsFreeOrBacked};
+ghost use Rattle.rr_outbox.specs.Owing.{without_first, IsOwn};
 
-use crate::cleared::{Cleared, Draft};
-use crate::mark::Mark;
 use crate::owed::Owed;
 use rr_types::{Body, Command, Message, NodeId, Op, Refusal, made_of};
 use std::alloc::Global;
@@ -21,7 +19,7 @@ pub struct Outbox {
 
 impl Model for Outbox {
     ghost use Rattle.std.specs.Prelude.{All};
-    ghost use Rattle.rr_outbox.specs.Marks.{Owing, IsOwn};
+    ghost use Rattle.rr_outbox.specs.Owing.{Owing, IsOwn};
 
     ghost Value = { Owing };
 
@@ -30,20 +28,19 @@ impl Model for Outbox {
     ghost invariant = { λ b. All (IsOwn b.node) b.owed.items };
 }
 
-/// The oldest that may leave is taken. It is copied once, since a message is large.
+/// The oldest that may leave is taken.
 #[inline(never)]
-#[tactic(auto, using(crate::proofs::OutboxLemmas::find_more, crate::proofs::OutboxLemmas::find_here, crate::proofs::OutboxLemmas::without_more, crate::proofs::OutboxLemmas::without_here, crate::proofs::OutboxLemmas::find_end, crate::proofs::OutboxLemmas::own_at, crate::proofs::OutboxLemmas::own_without, crate::proofs::OutboxLemmas::backed_at))]
-fn take_leaving(owed: &mut VecDeque<Owed>, mark: &Mark) -> Option<Cleared>
-    requires { All (IsOwn mark.now.node) owed.old.items }
-    ensures own { All (IsOwn mark.now.node) owed.new.items }
+#[tactic(auto, using(crate::proofs::OutboxLemmas::find_more, crate::proofs::OutboxLemmas::find_here, crate::proofs::OutboxLemmas::without_more, crate::proofs::OutboxLemmas::without_here, crate::proofs::OutboxLemmas::find_end, crate::proofs::OutboxLemmas::own_at, crate::proofs::OutboxLemmas::own_without))]
+fn take_leaving(owed: &mut VecDeque<Owed>, end: u64) -> Option<Owed>
+    ensures own { (p : ℕ) → All (IsOwn p) owed.old.items → All (IsOwn p) owed.new.items × IfSome result (IsOwn p) }
     ensures taken { MatchOption result
-        ((find (may_leave mark.now.end) owed.old.items ≡ None) × (owed.new.items ≡ owed.old.items))
-        (λ m. (option_map (λ o. o.message) (find (may_leave mark.now.end) owed.old.items) ≡ Some m) × (owed.new.items ≡ without_first (may_leave mark.now.end) owed.old.items)) }
-    ensures backed { IfSome result (IsFreeOrBacked mark.now owed.old.items) }
+        ((find (may_leave end) owed.old.items ≡ None) × (owed.new.items ≡ owed.old.items))
+        (λ o. (find (may_leave end) owed.old.items ≡ Some o) × (owed.new.items ≡ without_first (may_leave end) owed.old.items)) }
 {
+    made_of!(Body, Command, Message, Op);
     for at in 0..owed.len() {
-        if is_leaving(&owed[at], mark) {
-            let first = cleared(&owed[at], mark);
+        if is_leaving(&owed[at], end) {
+            let first = owed[at];
             owed.remove(at);
             return Some(first);
         }
@@ -52,28 +49,12 @@ fn take_leaving(owed: &mut VecDeque<Owed>, mark: &Mark) -> Option<Cleared>
 }
 
 /// Whether a message may leave: it is free, or the fact that backs it is marked.
-fn is_leaving(owed: &Owed, mark: &Mark) -> bool
-    ensures { result ≡ may_leave mark.now.end owed.now }
+fn is_leaving(owed: &Owed, end: u64) -> bool
+    ensures { result ≡ may_leave end owed.now }
 {
     match owed.backing {
-        Some(number) => number < u128::from(mark.end()),
+        Some(number) => number < u128::from(end),
         None => true,
-    }
-}
-
-/// The message of one that may leave: a free one at once, another one by its draft.
-fn cleared(owed: &Owed, mark: &Mark) -> Cleared
-    requires own { IsOwn mark.now.node owed.now }
-    requires leaving { may_leave mark.now.end owed.now ≡ true }
-    ensures { result ≡ owed.now.message }
-{
-    let cleared = match owed.backing {
-        Some(number) => Draft::new(&owed.message, number).clear(mark),
-        None => Cleared::free(&owed.message),
-    };
-    match cleared {
-        Some(cleared) => cleared,
-        None => unreachable!(),
     }
 }
 
@@ -137,18 +118,17 @@ impl Outbox {
         self.owed.truncate(self.owed.len() - count);
     }
 
-    /// Takes the oldest message that may leave by a mark of this node: it is free, or the mark covers the fact that
+    /// Takes the oldest message that may leave where the facts below `end` are marked: it is free, or one of them
     /// backs it. It needs no memory.
-    pub fn take_leaving(&mut self, mark: &Mark) -> Option<Cleared>
-        requires { mark.now.node ≡ self.old.node }
+    pub fn take_leaving(&mut self, end: u64) -> Option<Owed>
         ensures taken { MatchOption result
-            ((find (may_leave mark.now.end) self.old.owed ≡ None) × (self.new ≡ self.old))
-            (λ m. (option_map (λ o. o.message) (find (may_leave mark.now.end) self.old.owed) ≡ Some m) × (self.new ≡ record self.old { owed = without_first (may_leave mark.now.end) self.old.owed })) }
-        ensures backed { IfSome result (IsFreeOrBacked mark.now self.old.owed) }
+            ((find (may_leave end) self.old.owed ≡ None) × (self.new ≡ self.old))
+            (λ o. (find (may_leave end) self.old.owed ≡ Some o) × (self.new ≡ record self.old { owed = without_first (may_leave end) self.old.owed })) }
+        ensures own { IfSome result (IsOwn self.old.node) }
     {
         if self.owed.is_empty() {
             return None;
         }
-        take_leaving(&mut self.owed, mark)
+        take_leaving(&mut self.owed, end)
     }
 }

@@ -21,7 +21,7 @@ impl State {
         ensures value { result ≡ next_number self.now }
         ensures room { result < 2 ^ 65 }
     {
-        self.mark.end() as u128 + self.unmarked.count() as u128
+        self.marked_end as u128 + self.unmarked.count() as u128
     }
 
     /// The row of an instance; the rows ascend.

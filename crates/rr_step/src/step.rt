@@ -10,7 +10,7 @@ ghost use Rattle.rr_model.specs.NodeDetector.{all_ticked, heard_beat, late_nodes
 ghost use Rattle.rr_model.specs.NodeParts.{owe, pool_add, stage, rows_after, pool_after};
 ghost use Rattle.rr_model.specs.NodeDue.{due};
 ghost use Rattle.rr_model.specs.NodeStep.{wait_for, is_waiting, lowest_in_round};
-ghost use Rattle.rr_outbox.specs.Marks.{is_free};
+ghost use Rattle.rr_outbox.specs.Owing.{is_free};
 ghost use Rattle.rr_step.specs.Places.{first_free, reached};
 ghost use Rattle.rr_step.specs.Steps.{stepped, combined, KeepsDecision, KeepsStanding, IsFitting, IsDecidedFact, IsSpent};
 

@@ -2,7 +2,8 @@
 //! covers, or a free message, can be cleared.
 
 ghost use Rattle.std.specs.Prelude.{◌≡◌, ◌↔◌, IsTrue, IsSome, IfSome};
-ghost use Rattle.rr_outbox.specs.Marks.{is_free, clears};
+ghost use Rattle.rr_outbox.specs.Owing.{is_free};
+ghost use Rattle.rr_core.specs.Marks.{clears};
 
 use crate::mark::Mark;
 use rr_types::{Body, Command, Message, Op, made_of};
@@ -16,7 +17,7 @@ pub struct Draft<'a> {
 }
 
 impl<'a> Model for Draft<'a> {
-    ghost use Rattle.rr_outbox.specs.Marks.{Drafted};
+    ghost use Rattle.rr_core.specs.Marks.{Drafted};
 
     ghost Value = { Drafted };
 

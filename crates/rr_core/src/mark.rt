@@ -14,7 +14,7 @@ pub struct Mark {
 }
 
 impl Model for Mark {
-    ghost use Rattle.rr_outbox.specs.Marks.{Marked};
+    ghost use Rattle.rr_core.specs.Marks.{Marked};
 
     ghost Value = { Marked };
 
