@@ -16,6 +16,6 @@ mod mark;
 mod node_core;
 mod prefix;
 
-pub use cleared::{Cleared, Draft};
+pub use cleared::Cleared;
 pub use mark::Mark;
 pub use node_core::Core;
