@@ -2,7 +2,7 @@
 //! covers, or a free message, can be cleared.
 
 ghost use Rattle.std.specs.Prelude.{◌≡◌, ◌↔◌, IsTrue, IsSome, IfSome};
-ghost use Rattle.rr_outbox.specs.Owing.{is_free};
+ghost use Rattle.rr_parts.specs.Owing.{is_free};
 ghost use Rattle.rr_core.specs.Marks.{clears};
 
 use crate::mark::Mark;

@@ -10,7 +10,7 @@ ghost use Rattle.rr_core.specs.Marks.{mark_of};
 
 use crate::mark::Mark;
 use rr_journal::Synced;
-use rr_outbox::are_same_facts;
+use rr_parts::are_same_facts;
 use rr_step::State;
 use rr_types::{Command, GROUP, Group, Refusal};
 use std::alloc::Global;

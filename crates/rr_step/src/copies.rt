@@ -4,9 +4,8 @@ ghost use Rattle.std.specs.Prelude.{◌≡◌, IfOk, IfErr};
 ghost use Rattle.rr_model.specs.NodeStep.{restored};
 
 use crate::state::State;
-use rr_detector::{Heartbeat, Suspects};
 use rr_list::{Instances, Pool, Waiting};
-use rr_outbox::{Outbox, Unmarked};
+use rr_parts::{Heartbeat, Outbox, Suspects, Unmarked};
 use rr_types::{NodeId, NodeSet, Nodes, Promise, Refusal};
 use std::alloc::Global;
 

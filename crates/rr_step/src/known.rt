@@ -12,7 +12,7 @@ ghost use Rattle.rr_list.specs.Opened.{open_in};
 use crate::over::lowest_in_round_over;
 use crate::state::State;
 use rr_list::Window;
-use rr_round::Row;
+use rr_parts::Row;
 use rr_types::{INSTANCES, Instance, RequestNo, WINDOW};
 
 impl State {

@@ -1,8 +1,7 @@
 //! What a node that is up knows, as plain data.
 
-use rr_detector::{Heartbeat, Suspects};
 use rr_list::{Instances, Pool, Waiting};
-use rr_outbox::{Outbox, Unmarked};
+use rr_parts::{Heartbeat, Outbox, Suspects, Unmarked};
 use rr_types::{NodeId, Nodes};
 use std::marker::Model;
 

@@ -1,3 +1,0 @@
-pub mod Owing
-pub mod Same
-pub mod Staging
