@@ -10,7 +10,7 @@ ghost use Rattle.rr_behaviour.specs.Dues.{meaning_of, MovesBelowLast, CanBeCarri
 use crate::decisions::conclude;
 use crate::entering::{begin, enter};
 use crate::proposing::propose;
-use rr_round::Tally;
+use rr_parts::Tally;
 use rr_step::Step;
 use rr_types::{
     Command, Instance, Op, OpenStanding, Refusal, Round, Standing, coordinator, made_of,
@@ -32,7 +32,7 @@ pub enum Due {
     MoveOn(Instance),
 }
 
-#[tactic(auto, using(rr_round::proofs::TallyLemmas::joined_empty))]
+#[tactic(auto, using(rr_parts::proofs::TallyLemmas::joined_empty))]
 fn due_of_coordinator(
     step: &Step<'_>,
     instance: Instance,

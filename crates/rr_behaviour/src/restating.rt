@@ -7,7 +7,7 @@ ghost use Rattle.rr_step.specs.Steps.{stepped};
 ghost use Rattle.rr_behaviour.specs.Rounds.{owe_coordinator};
 ghost use Rattle.rr_types.specs.declared.promise.Standing.TheVariants as stands;
 
-use rr_round::Backing;
+use rr_parts::Backing;
 use rr_step::Step;
 use rr_types::{Body, Estimate, Instance, OpenStanding, Refusal, Standing, coordinator};
 

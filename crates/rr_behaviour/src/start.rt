@@ -7,18 +7,24 @@ ghost use Rattle.rr_step.specs.Steps.{combined, IsFitting};
 ghost use Rattle.rr_model.specs.NodeStep.{started};
 
 use crate::restating::restate_all;
-use rr_journal::Opened;
 use rr_step::{Changes, State, Step};
-use rr_types::Refusal;
+use rr_types::{NodeId, Nodes, Promise, Refusal};
 use std::alloc::Global;
 
-/// A node after its opening: it owes the restatement of its open instances.
+/// A node after its opening, of what its facts promise and the number of the next one: it owes the restatement of its open
+/// instances.
 #[tactic(auto, unfolding(rr_model::specs::NodeStep::started))]
-pub fn started(alloc: Global, opened: &Opened) -> Result<State, Refusal>
-    ensures ok { IfOk result (λ s. s ≡ started opened.now.nodes opened.now.node opened.now.promise opened.now.next) }
+pub fn started(
+    alloc: Global,
+    nodes: Nodes,
+    node: NodeId,
+    promise: &Promise,
+    next: u64,
+) -> Result<State, Refusal>
+    ensures ok { IfOk result (λ s. s ≡ started nodes node promise.now next) }
     ensures err { IfErr result (λ e. e ≡ Refusal.OutOfMemory) }
 {
-    let mut state = State::restored(alloc, opened)?;
+    let mut state = State::restored(alloc, nodes, node, promise, next)?;
     let mut changes = restatement(&state, alloc)?;
     state.absorb(alloc, &mut changes)?;
     Ok(state)

@@ -31,7 +31,7 @@ use Rattle.rr_list.specs.Listed.{AllInRound, KeepsPromised, HaveRows}
 use Rattle.rr_list.proofs.MarkLemmas.{ascend_all, none_before}
 use Rattle.rr_core.specs.Lawful.{IsLawful, unmarked_facts}
 use Rattle.rr_core.specs.Kept.{IsKept}
-use Rattle.rr_outbox.proofs.SameLemmas.{and_left, and_right, request_is}
+use Rattle.rr_parts.proofs.SameLemmas.{and_left, and_right, request_is}
 use Rattle.rr_core.proofs.LeavingLemmas.{find_same, without_held}
 
 -- facts that moved between the running group and those staged are the same facts

@@ -1,3 +1,4 @@
+pub mod Marks
 pub mod Lawful
 pub mod Kept
 pub mod Searched

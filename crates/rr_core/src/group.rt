@@ -6,9 +6,11 @@ ghost use Rattle.rr_types.specs.Promises.{take_on_all};
 ghost use Rattle.rr_model.specs.NodeState.{next_number, decided_from, decided_prefix};
 ghost use Rattle.rr_model.specs.NodeStep.{group_taken, running_group, group_put_back, marked_running};
 ghost use Rattle.rr_core.specs.Lawful.{IsLawful};
+ghost use Rattle.rr_core.specs.Marks.{mark_of};
 
+use crate::mark::Mark;
 use rr_journal::Synced;
-use rr_outbox::{Mark, are_same_facts};
+use rr_parts::are_same_facts;
 use rr_step::State;
 use rr_types::{Command, GROUP, Group, Refusal};
 use std::alloc::Global;
@@ -31,7 +33,7 @@ pub fn take_group(state: &mut State, alloc: Global) -> Result<Option<Group>, Ref
         return Ok(None);
     }
     let facts = state.unmarked.front(alloc, GROUP)?;
-    match Group::new(state.mark.end(), facts) {
+    match Group::new(state.marked_end, facts) {
         Ok(group) => {
             state.unmarked.run(GROUP);
             Ok(Some(group))
@@ -45,7 +47,7 @@ pub fn is_running_group(state: &State, group: &Group) -> bool
     ensures { IsTrue result ↔ (running_group state.now ≡ Some group.now) }
 {
     state.unmarked.is_running()
-        && group.serial() == state.mark.end()
+        && group.serial() == state.marked_end
         && are_same_facts(state.unmarked.running(), group.facts())
 }
 
@@ -69,16 +71,19 @@ pub fn commands_after(state: &State, alloc: Global) -> Result<Vec<Command>, Refu
         .commands_after(alloc, state.unmarked.running())
 }
 
-/// The running group is marked, since it is synced. It needs no memory.
+/// The running group is marked, since it is synced: the mark behind it. It needs no memory.
 #[tactic(auto, using(crate::proofs::GroupLemmas::marked_by, crate::proofs::MarkLemmas::in_round, crate::proofs::MarkLemmas::decisions_stay, crate::proofs::MarkLemmas::have_rows), unfolding(rr_model::specs::NodeStep::marked_running))]
-pub fn mark_running(state: &mut State, synced: &Synced)
+pub fn mark_running(state: &mut State, synced: &Synced) -> Mark
     requires lawful { IsLawful state.old }
     requires own { synced.now.node ≡ state.old.node }
     requires runs { running_group state.old ≡ Some synced.now.group }
-    ensures { state.new ≡ marked_running state.old }
+    ensures marked { state.new ≡ marked_running state.old }
+    ensures mark { result ≡ mark_of state.new }
 {
+    let mark = Mark::synced(synced);
     let facts = state.unmarked.running();
     state.instances.mark(facts);
-    state.mark = Mark::synced(synced);
+    state.marked_end = mark.end();
     state.unmarked.drop_running();
+    mark
 }

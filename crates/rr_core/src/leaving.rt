@@ -1,16 +1,19 @@
 //! What leaves a node: the oldest message that may, and the oldest acknowledgement.
 
-ghost use Rattle.std.specs.Prelude.{◌≡◌, None, Some, is_some, find, MatchOption, IfSome};
+ghost use Rattle.std.specs.Prelude.{◌≡◌, true, None, Some, is_some, find, MatchOption, IfSome};
 ghost use Rattle.std.specs.List.{list_any};
-ghost use Rattle.rr_model.specs.NodeStep.{next_leaving, message_left};
+ghost use Rattle.rr_model.specs.NodeStep.{may_leave, next_leaving, message_left};
 ghost use Rattle.rr_registry.specs.Kept.{kept_reply};
 ghost use Rattle.rr_list.specs.Arrived.{without_first};
-ghost use Rattle.rr_outbox.specs.Marks.{IsFreeOrBacked};
+ghost use Rattle.rr_parts.specs.Owing.{IsOwn};
 ghost use Rattle.rr_core.specs.Kept.{IsKept};
+ghost use Rattle.rr_core.specs.Marks.{IsFreeOrBacked, mark_of};
 ghost use Rattle.rr_core.specs.Searched.{IsSearched};
 
+use crate::cleared::{Cleared, Draft};
+use crate::mark::Mark;
 use rr_list::Waiting;
-use rr_outbox::Cleared;
+use rr_parts::Owed;
 use rr_registry::Registry;
 use rr_step::State;
 use rr_types::{Reply, RequestNo};
@@ -79,15 +82,35 @@ fn take_answered(waiting: &mut Waiting, registry: &Registry) -> Option<(RequestN
     }
 }
 
-/// Takes the oldest owed message that may leave. It needs no memory.
-#[tactic(auto, using(crate::proofs::LeavingLemmas::without_leaving))]
-pub fn take_leaving(state: &mut State) -> Option<Cleared>
+/// The message of one that may leave: a free one at once, another one by its draft.
+fn cleared(owed: &Owed, mark: &Mark) -> Cleared
+    requires own { IsOwn mark.now.node owed.now }
+    requires leaving { may_leave mark.now.end owed.now ≡ true }
+    ensures { result ≡ owed.now.message }
+{
+    let cleared = match owed.backing {
+        Some(number) => Draft::new(&owed.message, number).clear(mark),
+        None => Cleared::free(&owed.message),
+    };
+    match cleared {
+        Some(cleared) => cleared,
+        None => unreachable!(),
+    }
+}
+
+/// Takes the oldest owed message that may leave by the node's mark. It needs no memory.
+#[tactic(auto, using(crate::proofs::LeavingLemmas::without_leaving, crate::proofs::CoveredLemmas::found_leaves, crate::proofs::CoveredLemmas::found_backed))]
+pub fn take_leaving(state: &mut State, mark: &Mark) -> Option<Cleared>
+    requires { mark.now ≡ mark_of state.old }
     ensures taken { MatchOption result
         ((next_leaving state.old ≡ None) × (state.new ≡ state.old))
         (λ m. (next_leaving state.old ≡ Some m) × (state.new ≡ message_left state.old)) }
-    ensures backed { IfSome result (IsFreeOrBacked (record { node = state.old.node; end = state.old.marked_end }) state.old.owed) }
+    ensures backed { IfSome result (IsFreeOrBacked (mark_of state.old) state.old.owed) }
 {
-    state.owed.take_leaving(&state.mark)
+    match state.owed.take_leaving(mark.end()) {
+        Some(owed) => Some(cleared(&owed, mark)),
+        None => None,
+    }
 }
 
 /// Takes the oldest waiting request that has a reply. Where all of the decided prefix was searched, there is none.

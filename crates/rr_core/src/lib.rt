@@ -9,10 +9,13 @@
 //! `rr_behaviour`, from `input.rt` on: for a message in `hear.rt`, for Ask and Decision in `decisions.rt`.
 #![tactic(auto)]
 
+mod cleared;
 mod group;
 mod leaving;
+mod mark;
 mod node_core;
 mod prefix;
 
+pub use cleared::Cleared;
+pub use mark::Mark;
 pub use node_core::Core;
-pub use rr_outbox::{Cleared, Mark};

@@ -6,18 +6,19 @@ ghost use Rattle.rr_model.specs.NodeStep.{node_step, input_refusal, refusal_of, 
 ghost use Rattle.rr_types.specs.declared.refusal.Refusal.{Refusal};
 ghost use Rattle.rr_types.specs.Promises.{all_fit};
 ghost use Rattle.rr_types.specs.Registry.{registry_of, reply_of};
-ghost use Rattle.rr_outbox.specs.Marks.{IsFreeOrBacked};
 ghost use Rattle.rr_step.specs.Steps.{combined};
 ghost use Rattle.rr_behaviour.specs.Changes.{is_repeated};
 ghost use Rattle.rr_core.specs.Taken.{CanBeTaken};
 ghost use Rattle.rr_core.specs.Covered.{LeavesCovered};
+ghost use Rattle.rr_core.specs.Marks.{IsFreeOrBacked, mark_of};
 
+use crate::cleared::Cleared;
 use crate::group::{commands_after, is_running_group, mark_running, put_back, take_group};
 use crate::leaving::{Searched, is_any_answered, take_acknowledged, take_leaving};
+use crate::mark::Mark;
 use crate::prefix::registry_of_prefix;
 use rr_behaviour::{input_refusal, input_step, started};
 use rr_journal::{Opened, Synced};
-use rr_outbox::Cleared;
 use rr_registry::{Entries, Registry};
 use rr_step::{Changes, State};
 use rr_types::{
@@ -32,6 +33,8 @@ use std::marker::Model;
 pub struct Core {
     alloc: Global,
     state: Box<State>,
+    // behind the marked facts
+    mark: Mark,
     // what the last step changed, whose memory the next one takes; none where that step was refused
     room: Option<Box<Changes>>,
     registry: Registry,
@@ -42,13 +45,14 @@ impl Model for Core {
     ghost use Rattle.rr_model.specs.NodeState.{NodeState};
     ghost use Rattle.std.specs.Prelude.{◌≡◌};
     ghost use Rattle.rr_core.specs.Kept.{IsKept};
+    ghost use Rattle.rr_core.specs.Marks.{mark_of};
     ghost use Rattle.rr_core.specs.Searched.{IsSearched};
 
     ghost Value = { NodeState };
 
     ghost view = { λ c. c.state.value };
 
-    ghost invariant = { λ c. IsKept c.state.value c.registry × IsSearched c.searched.count c.searched.is_stale c.state.value };
+    ghost invariant = { λ c. IsKept c.state.value c.registry × IsSearched c.searched.count c.searched.is_stale c.state.value × (c.mark ≡ mark_of c.state.value) };
 }
 
 impl Core {
@@ -61,11 +65,18 @@ impl Core {
         // That a promise ascends and that a fact's number has 64 bits is told by these calls alone.
         let _entries = opened.promise().entries();
         let _next = opened.next();
-        let state = started(alloc, opened)?;
+        let state = started(
+            alloc,
+            opened.nodes(),
+            opened.node(),
+            opened.promise(),
+            opened.next(),
+        )?;
         match registry_of_prefix(&state, alloc) {
             Ok(registry) => Ok(Core {
                 alloc,
                 state: Box::new(alloc, state)?,
+                mark: Mark::opened(opened),
                 room: None,
                 registry,
                 searched: Searched {
@@ -185,7 +196,7 @@ impl Core {
         let more = commands_after(&self.state, self.alloc)?;
         match self.registry.apply_all(&more) {
             Ok(()) => {
-                mark_running(&mut self.state, synced);
+                self.mark = mark_running(&mut self.state, synced);
                 Ok(())
             }
             Err(refusal) => Err(refusal),
@@ -230,9 +241,9 @@ impl Core {
         ensures taken { MatchOption result
             ((next_leaving self.old ≡ None) × (self.new ≡ self.old))
             (λ m. (next_leaving self.old ≡ Some m) × (self.new ≡ message_left self.old)) }
-        ensures backed { IfSome result (IsFreeOrBacked (record { node = self.old.node; end = self.old.marked_end }) self.old.owed) }
+        ensures backed { IfSome result (IsFreeOrBacked (mark_of self.old) self.old.owed) }
     {
-        take_leaving(&mut self.state)
+        take_leaving(&mut self.state, &self.mark)
     }
 
     /// The oldest waiting request that the decided prefix holds, with its reply there. It takes no memory.
@@ -279,7 +290,7 @@ impl Core {
     pub fn facts(&self) -> u64
         ensures { result ≡ self.now.marked_end }
     {
-        self.state.mark.end()
+        self.mark.end()
     }
 
     /// The nodes that it suspects to be down.

@@ -13,7 +13,7 @@ ghost use Rattle.rr_list.specs.Opened.{open_in};
 use crate::marks::Marks;
 use crate::rows::{Rows, is_any_decided};
 use crate::window::Window;
-use rr_round::Row;
+use rr_parts::Row;
 use rr_types::{Command, Entry, Fact, Instance, Op, Refusal, RequestNo, Standing};
 use std::alloc::Global;
 use std::marker::Model;

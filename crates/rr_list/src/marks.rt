@@ -11,8 +11,8 @@ ghost use Rattle.rr_types.specs.Limits.{instance_count};
 ghost use Rattle.rr_list.specs.Listed.{KeepsPromised, AllInRound};
 ghost use Rattle.rr_list.specs.Marked.{marked_in, decided_entries, has_mark_place, AreMarks, IsNext, IsBegun, IsCounted, HaveMarkPlaces, facts_from, decision_after, decided_by};
 
+use rr_parts::Row;
 use rr_places::{insert, make_place, value_of};
-use rr_round::Row;
 use rr_types::{Command, Entry, Fact, INSTANCES, Instance, Op, Refusal, Standing, made_of};
 use std::alloc::Global;
 use std::collections::BTreeMap;

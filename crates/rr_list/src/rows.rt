@@ -13,8 +13,8 @@ ghost use Rattle.rr_places.specs.Places.{filled, has_place};
 ghost use Rattle.rr_list.specs.Listed.{put_rows, decision_at, KeepsDecisions};
 ghost use Rattle.rr_list.specs.Rowed.{EachKeeps, rows_in, AreKeyed, AscendFrom, AreInstances, has_decided, has_request_place, HavePlaces, IsNoted};
 
+use rr_parts::Row;
 use rr_places::{Numbered, drop_free_place, make_place, put, value_at};
-use rr_round::Row;
 use rr_types::{Command, Entry, Instance, Op, Refusal, RequestNo, Standing};
 use std::alloc::Global;
 use std::collections::BTreeMap;

@@ -5,7 +5,7 @@ ghost use Rattle.rr_model.specs.NodeState.{decided_prefix};
 ghost use Rattle.rr_model.specs.NodeStep.{node_step, input_refusal, refusal_of, group_taken, running_group, group_put_back, marked_running, next_leaving, message_left, next_acknowledged, acknowledged};
 ghost use Rattle.rr_types.specs.Promises.{all_fit};
 ghost use Rattle.rr_types.specs.Registry.{reply_of};
-ghost use Rattle.rr_outbox.specs.Marks.{IsFreeOrBacked};
+ghost use Rattle.rr_core.specs.Marks.{IsFreeOrBacked};
 ghost use Rattle.rr_core.specs.Covered.{LeavesCovered};
 
 use rr_core::{Cleared, Core};

@@ -4,7 +4,7 @@ ghost use Rattle.std.specs.Prelude.{◌≡◌, None, Some, MatchOption};
 ghost use Rattle.rr_model.specs.NodeStep.{next_leaving, message_left};
 
 use crate::locked::Locked;
-use rr_outbox::Cleared;
+use rr_core::Cleared;
 use rr_types::Message;
 use std::marker::Model;
 

@@ -10,7 +10,7 @@ use Rattle.rr_types.specs.Registry.{is_same_request, has_request}
 use Rattle.rr_types.specs.Limits.{open_count}
 use Rattle.rr_model.specs.NodeState.{NodeState, Row, Watch, Owed, row_of, put_row, lowest_undecided}
 use Rattle.rr_model.specs.NodeDue.{due}
-use Rattle.rr_outbox.specs.Marks.{IsOwn}
+use Rattle.rr_parts.specs.Owing.{IsOwn}
 use Rattle.rr_list.specs.Rowed.{has_decided}
 use Rattle.rr_step.specs.Places.{first_free}
 

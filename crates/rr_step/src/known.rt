@@ -13,7 +13,7 @@ ghost use Rattle.rr_list.specs.Opened.{open_in};
 use crate::over::lowest_in_round_over;
 use crate::state::State;
 use rr_list::Window;
-use rr_round::Row;
+use rr_parts::Row;
 use rr_types::{INSTANCES, Instance, OPEN_INSTANCES, RequestNo};
 
 impl State {
@@ -22,7 +22,7 @@ impl State {
         ensures value { result ≡ next_number self.now }
         ensures room { result < 2 ^ 65 }
     {
-        self.mark.end() as u128 + self.unmarked.count() as u128
+        self.marked_end as u128 + self.unmarked.count() as u128
     }
 
     /// The row of an instance; the rows ascend.

@@ -12,7 +12,7 @@ ghost use Rattle.rr_step.specs.Steps.{put_rows, KeepsDecision, KeepDecisions};
 use crate::rows::{find_row, has_decided_request};
 use crate::state::State;
 use rr_list::{Window, is_any_decided};
-use rr_round::Row;
+use rr_parts::Row;
 use rr_types::{Instance, OPEN_INSTANCES, Refusal, RequestNo};
 
 /// The row of an instance.

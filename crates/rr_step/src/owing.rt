@@ -3,10 +3,10 @@
 ghost use Rattle.std.specs.Prelude.{◌≡◌, ◌++◌, [], ◌∷◌, None, not, filter, All, IsTrue, IfErr, OnOk};
 ghost use Rattle.rr_types.specs.Registry.{is_same_request, has_request};
 ghost use Rattle.rr_model.specs.NodeParts.{messages_to};
-ghost use Rattle.rr_outbox.specs.Marks.{is_free, IsOwn};
+ghost use Rattle.rr_parts.specs.Owing.{is_free, IsOwn};
 ghost use Rattle.rr_step.specs.Places.{message_to, reached, is_reached};
 
-use rr_outbox::Owed;
+use rr_parts::Owed;
 use rr_types::{Body, Command, Message, NodeId, Nodes, Refusal, RequestNo};
 
 /// How far a body goes that a node owes.

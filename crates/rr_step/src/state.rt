@@ -1,12 +1,11 @@
 //! What a node that is up knows, as plain data.
 
-use rr_detector::{Heartbeat, Suspects};
 use rr_list::{Instances, Pool, Waiting};
-use rr_outbox::{Mark, Outbox, Unmarked};
+use rr_parts::{Heartbeat, Outbox, Suspects, Unmarked};
 use rr_types::{NodeId, Nodes};
 use std::marker::Model;
 
-/// A node that is up. Its mark and the messages that it owes are its own. It may know that the pool has no command for
+/// A node that is up. The messages that it owes are its own. It may know that the pool has no command for
 /// an instance that no fact names (`is_spent`), and that nothing is due (`is_settled`). So no step looks
 /// for either in vain.
 #[derive(Drop)]
@@ -14,7 +13,7 @@ pub struct State {
     pub nodes: Nodes,
     pub node: NodeId,
     pub instances: Instances,
-    pub mark: Mark,
+    pub marked_end: u64,
     pub unmarked: Unmarked,
     pub pool: Pool,
     pub suspects: Suspects,
@@ -38,7 +37,7 @@ impl Model for State {
       node = s.node;
       rows = s.instances.rows;
       marked = s.instances.marked;
-      marked_end = s.mark.end;
+      marked_end = s.marked_end;
       running = s.unmarked.running;
       staged = s.unmarked.staged;
       pool = s.pool;
@@ -48,5 +47,5 @@ impl Model for State {
       owed = s.owed.owed;
     } };
 
-    ghost invariant = { λ s. (s.mark.node ≡ s.node) × (s.owed.node ≡ s.node) × (IsTrue s.is_spent → IsSpent s.instances.rows s.pool) × (IsTrue s.is_settled → NothingIsDue s.nodes s.node s.instances.rows s.pool s.suspects) };
+    ghost invariant = { λ s. (s.owed.node ≡ s.node) × (IsTrue s.is_spent → IsSpent s.instances.rows s.pool) × (IsTrue s.is_settled → NothingIsDue s.nodes s.node s.instances.rows s.pool s.suspects) };
 }

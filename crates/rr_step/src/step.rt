@@ -10,7 +10,7 @@ ghost use Rattle.rr_model.specs.NodeDetector.{all_ticked, heard_beat, late_nodes
 ghost use Rattle.rr_model.specs.NodeParts.{owe, pool_add, stage, rows_after, pool_after};
 ghost use Rattle.rr_model.specs.NodeDue.{due};
 ghost use Rattle.rr_model.specs.NodeStep.{wait_for, is_waiting, lowest_in_round};
-ghost use Rattle.rr_outbox.specs.Marks.{is_free};
+ghost use Rattle.rr_parts.specs.Owing.{is_free};
 ghost use Rattle.rr_step.specs.Places.{first_free, reached};
 ghost use Rattle.rr_step.specs.Steps.{stepped, combined, KeepsDecision, KeepsStanding, IsFitting, IsDecidedFact, IsSpent};
 
@@ -18,10 +18,8 @@ use crate::known::is_among;
 use crate::owing::Reach;
 use crate::state::State;
 use crate::{estimates, over, owing};
-use rr_detector::{Heartbeat, Suspects};
 use rr_list::Window;
-use rr_outbox::Owed;
-use rr_round::{Backing, Row};
+use rr_parts::{Backing, Heartbeat, Owed, Row, Suspects};
 use rr_types::{
     Body, Command, Fact, Instance, NodeId, NodeSet, Nodes, OPEN_INSTANCES, Op, Refusal, RequestNo,
     Standing, made_of,
@@ -173,7 +171,7 @@ impl<'a> Step<'a> {
     }
 
     /// The nodes that the heartbeat detector suspects; a node disregards itself.
-    #[tactic(auto, using(rr_detector::proofs::BitLemmas::late_beside))]
+    #[tactic(auto, using(rr_parts::proofs::BitLemmas::late_beside))]
     pub fn late_nodes(&self) -> NodeSet
         ensures { result ≡ late_nodes self.now.state.node self.now.state.watches }
     {

@@ -1,7 +1,7 @@
 //! The tables in use, with ample memory. What is expected follows from the definitions.
 
 use rr_list::{Instances, Pool, Waiting};
-use rr_round::Row;
+use rr_parts::Row;
 use rr_types::{
     Command, Entry, Fact, Instance, Name, Op, Refusal, RequestNo, Standing, Value, made_of,
 };

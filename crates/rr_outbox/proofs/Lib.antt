@@ -1,3 +1,0 @@
-pub mod OutboxLemmas
-pub mod SameLemmas
-pub mod TailLemmas

@@ -1,0 +1,10 @@
+pub mod WatchLemmas
+pub mod BitLemmas
+pub mod RuleLemmas
+pub mod SetLemmas
+pub mod ReceiptLemmas
+pub mod TallyLemmas
+pub mod VoteLemmas
+pub mod OutboxLemmas
+pub mod SameLemmas
+pub mod TailLemmas

@@ -1,2 +1,0 @@
-pub mod Majorities
-pub mod Votes
