@@ -1,8 +1,8 @@
 //! An opening, call by call.
 
 use crate::seat::Seat;
+use rr_core::{Opening, Progress};
 use rr_disk::MemDisk;
-use rr_recover::{Opening, Progress};
 use rr_types::Refusal;
 use std::alloc::Global;
 

@@ -1,10 +1,9 @@
 //! What a node knows once it has opened its disk.
 
 use crate::seat::Seat;
-use rr_core::Core;
+use rr_core::{Core, recover};
 use rr_disk::MemDisk;
 use rr_frame::{Snapshot, encode_snapshot};
-use rr_recover::recover;
 use rr_text::text_report::push_report_words;
 use rr_text::{BoundNames, ReportLine};
 use rr_types::{Binding, Refusal};

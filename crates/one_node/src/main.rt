@@ -3,10 +3,9 @@
 #![tactic(auto)]
 
 use anyhow::Result;
-use rr_core::Core;
+use rr_core::{Core, recover};
 use rr_disk::{Disk, FileDisk};
 use rr_journal::Journal;
-use rr_recover::recover;
 use rr_types::{Command, Input, Name, NodeId, Nodes, Op, Refusal, RequestNo, Value};
 use std::alloc::Global;
 use std::io::Write;

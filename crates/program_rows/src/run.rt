@@ -92,7 +92,7 @@ fn run<
     let mut err = Vec::new(rt.alloc());
     let status = match library {
         Library::Cli => rr_cli::execute(rt, words, &mut input, &mut out, &mut err),
-        Library::View => rr_view::execute(rt, words, &mut input, &mut out, &mut err),
+        Library::View => rr_cli::execute_with_views(rt, words, &mut input, &mut out, &mut err),
         Library::Run => rr_run::execute(rt, words, &mut input, &mut out, &mut err),
     };
     Ok(Outcome {

@@ -3,3 +3,4 @@ pub mod ShowLemmas
 pub mod TapeLemmas
 pub mod SweepLemmas
 pub mod MigrateLemmas
+mod WordLaws

@@ -7,7 +7,7 @@ use Rattle.std.proofs.lemmas.List.{take-append-drop, take_more, drop_more, lengt
 use Rattle.std.proofs.lemmas.List.Concat.{flat_map-append}
 use Rattle.std.proofs.lemmas.List.Elements.{All-from_recursion}
 use Rattle.rr_types.specs.declared.refusal.Refusal.{Refusal}
-use Rattle.rr_disk.specs.Counts.{Grew}
+use Rattle.rr_types.specs.Counts.{Grew}
 use Rattle.rr_text.specs.declared.event.Event.{Event}
 use Rattle.rr_text.specs.Scheduled.{Scheduled, IsEvent, IsSchedule}
 use Rattle.rr_text.specs.ScheduleTexts.{schedule_text}

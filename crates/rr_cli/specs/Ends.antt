@@ -21,7 +21,7 @@ use Rattle.rr_sweep.specs.Sweeps.{IsSweep}
 use Rattle.rr_sweep.specs.SweepTexts.{sweep_line}
 use Rattle.rr_draw.specs.declared.cut.Cut.{Cut}
 use Rattle.rr_draw.specs.Pictures.{IsPictureOf}
-use Rattle.rr_disk.specs.Counts.{Grew}
+use Rattle.rr_types.specs.Counts.{Grew}
 use Rattle.rr_disk.specs.declared.area.Area.{Area}
 use Rattle.rr_stream.specs.Streams.{Printing, Reading, IsPrinted, IsFrontPrinted, AreAllOf}
 use Rattle.rr_image.specs.declared.inspection.AreaReport.{AreaReport}

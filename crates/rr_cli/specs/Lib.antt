@@ -6,3 +6,4 @@ pub mod Cuts
 pub mod Tapes
 pub mod Sweeping
 pub mod Migrations
+pub mod Views

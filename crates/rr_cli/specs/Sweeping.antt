@@ -2,7 +2,7 @@
 use Rattle.std.specs.Prelude.{◌≡◌, ◌≤◌, ℕ, List, ◌++◌}
 use Rattle.std.specs.Io.KnownBytes.{Appends}
 use Rattle.rr_types.specs.declared.refusal.Refusal.TheVariants.{OutOfMemory}
-use Rattle.rr_disk.specs.Counts.{Grew}
+use Rattle.rr_types.specs.Counts.{Grew}
 use Rattle.rr_text.specs.declared.event.Event.{Event}
 use Rattle.rr_stream.specs.Streams.{Printing, IsFrontPrinted}
 use Rattle.rr_sweep.specs.declared.sweeping.SweepLine.{SweepLine}

@@ -1,11 +1,12 @@
-//! The commands of `rr`, except views (`rr_view`) and `rr run` (`rr_run`). `run` takes the words and the streams of a program,
-//! and gives its exit status. `execute` does it for words that could be read: `read_words` names the task, and a module here
-//! does it.
+//! The commands of `rr`, except `rr run` and `rr shell` (`rr_run`). `run` takes the words and the streams of a program, and gives
+//! its exit status. `execute` does it for words that could be read: `read_words` names the task, and a module here does it.
+//! `execute_with_views` does so with views of the run of a schedule too: `rr sim --explain` and `--json`, `rr stats`, `rr check`.
 #![tactic(auto)]
 
 mod audit;
 mod draw;
 mod folder_faults;
+mod input;
 mod migrate;
 mod picture;
 mod program;
@@ -13,6 +14,8 @@ mod refusals;
 mod show;
 mod streams;
 mod sweep;
+mod viewing;
+mod views;
 mod words;
 
 pub use draw::{nodes_of, number_in};
@@ -25,4 +28,5 @@ pub use rr_sim::{random_run, report_on};
 pub use rr_words::{CutWords, DrawWords, Form, Task, View, read_words};
 pub use show::show_disk;
 pub use streams::{end_by_stream, end_by_text, end_by_unprinted, end_without_words};
+pub use viewing::execute_with_views;
 pub use words::end_by_words;

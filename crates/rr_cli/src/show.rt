@@ -5,7 +5,7 @@ ghost use Rattle.std.specs.Io.KnownBytes.{Appends, Keeps};
 ghost use Rattle.rr_types.specs.declared.refusal.Refusal.TheVariants.{Device};
 ghost use Rattle.rr_text.specs.ReportTexts.{line};
 ghost use Rattle.rr_disk.specs.Areas.{bytes_of};
-ghost use Rattle.rr_disk.specs.Counts.{counted, Grew};
+ghost use Rattle.rr_types.specs.Counts.{counted, Grew};
 ghost use Rattle.rr_image.specs.Inspect.{inspected};
 ghost use Rattle.rr_cli.specs.Areas.{area_words, areas_text, IsShown};
 ghost use Rattle.rr_cli.specs.Ends.{EndsOnFolder};

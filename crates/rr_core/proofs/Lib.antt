@@ -9,3 +9,5 @@ pub mod PartLaws
 pub mod DueLaws
 pub mod TakenLemmas
 pub mod CoveredLemmas
+mod KnowingLaws
+mod OpeningLaws

@@ -17,12 +17,12 @@ use Rattle.rr_types.specs.declared.refusal.Refusal.{Refusal}
 use Rattle.rr_types.specs.Registry.{has_request, is_same_request, Bindings, apply, firsts, firsts_beside, reply_after, registry_of, reply_of}
 use Rattle.rr_types.specs.Groups.{Grouped}
 use Rattle.rr_types.specs.Facts.{instance_of, after_fact, decision_of}
-use Rattle.rr_types.specs.Promises.{standing_in, take_on, take_on_all, all_fit}
+use Rattle.rr_types.specs.Promises.{standing_in, take_on, take_on_all, all_fit, decided_from}
 use Rattle.rr_types.specs.Standings.{fits, is_undecided}
 use Rattle.rr_types.proofs.StandingLemmas.{fits_in_round}
 use Rattle.rr_registry.specs.Kept.{Kept, kept_of, kept_reply}
 use Rattle.rr_registry.proofs.KeptLemmas.{reply-kept_of, bindings-kept_of}
-use Rattle.rr_model.specs.NodeState.{NodeState, Row, decided_prefix, decided_from, standing_at}
+use Rattle.rr_model.specs.NodeState.{NodeState, Row, decided_prefix, standing_at}
 use Rattle.rr_model.specs.NodeStep.{group_taken, group_put_back, marked_running, running_group, message_left, next_acknowledged, acknowledged}
 use Rattle.rr_model.proofs.Fits.{take_both, fit_first, fit_later}
 use Rattle.rr_model.proofs.Promised.{standing_in-take_on}

@@ -13,10 +13,10 @@ use Rattle.rr_types.specs.declared.command.RequestNo.{RequestNo}
 use Rattle.rr_types.specs.declared.fact.Fact.{Fact}
 use Rattle.rr_types.specs.declared.refusal.Refusal.{Refusal}
 use Rattle.rr_types.specs.Groups.{Grouped}
-use Rattle.rr_types.specs.Promises.{take_on_all}
+use Rattle.rr_types.specs.Promises.{take_on_all, decided_from}
 use Rattle.rr_types.specs.Registry.{has_request, is_same_request}
 use Rattle.rr_registry.specs.Kept.{Kept, kept_reply}
-use Rattle.rr_model.specs.NodeState.{NodeState, decided_prefix, decided_from}
+use Rattle.rr_model.specs.NodeState.{NodeState, decided_prefix}
 use Rattle.rr_model.specs.NodeStep.{group_taken, group_put_back, marked_running, running_group}
 use Rattle.rr_list.specs.Arrived.{without_first}
 use Rattle.rr_parts.proofs.SameLemmas.{request_is}

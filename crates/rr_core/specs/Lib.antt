@@ -4,3 +4,5 @@ pub mod Kept
 pub mod Searched
 pub mod Taken
 pub mod Covered
+pub mod Known
+pub mod Recoveries

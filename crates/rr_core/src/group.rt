@@ -2,8 +2,8 @@
 
 ghost use Rattle.std.specs.Prelude.{◌≡◌, ◌≢◌, ◌+◌, ◌^◌, ◌<◌, ◌≤◌, ◌++◌, ◌↔◌, ◌⊎◌, [], None, Some, length, IsTrue, IsSome, IfOk, IfErr, OnOk, OnErr, MatchOption};
 ghost use Rattle.std.specs.Option.{option_map_or};
-ghost use Rattle.rr_types.specs.Promises.{take_on_all};
-ghost use Rattle.rr_model.specs.NodeState.{next_number, decided_from, decided_prefix};
+ghost use Rattle.rr_types.specs.Promises.{take_on_all, decided_from};
+ghost use Rattle.rr_model.specs.NodeState.{next_number, decided_prefix};
 ghost use Rattle.rr_model.specs.NodeStep.{group_taken, running_group, group_put_back, marked_running};
 ghost use Rattle.rr_core.specs.Lawful.{IsLawful};
 ghost use Rattle.rr_core.specs.Marks.{mark_of};

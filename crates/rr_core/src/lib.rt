@@ -1,12 +1,16 @@
-//! The pure core of a node: a state machine without input and output. A program that runs it does four things:
+//! The core of a node, a state machine without input and output, and its recovery. A program that runs it does five things:
 //!
-//! 1. tells it what happened: `step` takes an `Input`. It stages facts and owes messages;
-//! 2. flushes what is staged: `take_group`, a flush of `rr_journal`, and `mark`;
-//! 3. carries each message that may leave by then (`next_message`) to its addressee, which hears it (`Input::Hear`);
-//! 4. tells clients the replies (`next_ack`).
+//! 1. recovers it: an opening reads what a crash left of its disk, formats a fresh one, or brings one of version 1 up to
+//!    version 2, and a core starts from the promise of what it found. `recover` does all of this; `Opening::start` and `step`
+//!    make one device call at a time;
+//! 2. tells it what happened, by `submit`, `hear`, `tick`, `suspect` or `advance`. It stages facts and owes messages;
+//! 3. flushes what is staged: `take_group`, a flush of `rr_journal`, and `mark`;
+//! 4. carries each message that may leave by then (`next_message`) to its addressee, which hears it. It comes as a `Cleared`:
+//!    only `Draft::clear`, by a `Mark`, and `Cleared::free` make one;
+//! 5. tells clients the replies (`next_ack`).
 //!
-//! `crates/one_node` is such a program, and README shows its middle. `rr_recover` makes a core. What an input does is in
-//! `rr_behaviour`, from `input.rt` on: for a message in `hear.rt`, for Ask and Decision in `decisions.rt`.
+//! `crates/one_node` is such a program, and README shows its middle. What an input does is in `rr_behaviour`: for a message in
+//! `hear.rt`, for Ask and Decision in `decisions.rt`.
 #![tactic(auto)]
 
 mod cleared;
@@ -14,8 +18,14 @@ mod group;
 mod leaving;
 mod mark;
 mod node_core;
+mod opening;
 mod prefix;
+mod recovery;
+mod steps;
 
 pub use cleared::Cleared;
 pub use mark::Mark;
 pub use node_core::Core;
+pub use opening::Opening;
+pub use recovery::recover;
+pub use steps::Progress;

@@ -4,7 +4,7 @@ use Rattle.std.specs.declared.alloc.Global.{Global}
 use Rattle.rr_types.specs.declared.refusal.Refusal.{Refusal}
 use Rattle.rr_types.specs.declared.refusal.Refusal.TheVariants.{Device, OutOfMemory}
 use Rattle.rr_disk.specs.declared.area.Area.{Area}
-use Rattle.rr_disk.specs.Counts.{counted}
+use Rattle.rr_types.specs.Counts.{counted}
 use Rattle.rr_disk.specs.Crash.{filled}
 
 -- a disk whose calls fail on demand: the disk below, the fill of a failure that is due, and counts of its own

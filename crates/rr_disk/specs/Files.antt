@@ -6,7 +6,7 @@ use Rattle.rr_types.specs.declared.refusal.Refusal.TheVariants.{Device, OutOfMem
 use Rattle.rr_disk.specs.declared.area.Area.{Area}
 use Rattle.rr_disk.specs.declared.area.Area.TheVariants.{First, Second}
 use Rattle.rr_disk.specs.Asked.{Call, reads, writes, syncs, WritesBack}
-use Rattle.rr_disk.specs.Counts.{counted}
+use Rattle.rr_types.specs.Counts.{counted}
 
 -- an area in a file: its length, and whether something was written since its last sync
 pub record Held (F : Type 0) : Type 0 where

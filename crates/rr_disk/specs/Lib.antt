@@ -1,6 +1,5 @@
 pub mod Areas
 pub mod Asked
-pub mod Counts
 pub mod Crash
 pub mod Failing
 pub mod Files

@@ -5,7 +5,7 @@ use Rattle.rr_types.specs.declared.refusal.Refusal.{Refusal}
 use Rattle.rr_types.specs.declared.refusal.Refusal.TheVariants.{Device, OutOfMemory}
 use Rattle.rr_disk.specs.declared.area.Area.{Area}
 use Rattle.rr_disk.specs.Areas.{Areas, extent_of, replaced, read_of, written, loosened, synced}
-use Rattle.rr_disk.specs.Counts.{counted}
+use Rattle.rr_types.specs.Counts.{counted}
 
 -- a disk in memory: its areas, and how many device calls were made and failed
 pub record MemoryState : Type 0 where

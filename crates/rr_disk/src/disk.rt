@@ -6,7 +6,7 @@ ghost use Rattle.rr_types.specs.declared.refusal.Refusal.{Refusal};
 ghost use Rattle.rr_types.specs.declared.refusal.Refusal.TheVariants.{Device, OutOfMemory};
 ghost use Rattle.rr_disk.specs.declared.area.Area.{Area};
 ghost use Rattle.rr_disk.specs.Areas.{Areas, IsTorn, extent_of, replaced, read_of, written, synced};
-ghost use Rattle.rr_disk.specs.Counts.{counted, Grew};
+ghost use Rattle.rr_types.specs.Counts.{counted, Grew};
 
 use crate::area::Area;
 use rr_types::Refusal;

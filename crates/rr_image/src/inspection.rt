@@ -2,9 +2,9 @@
 
 ghost use Rattle.std.specs.Prelude.{◌≡◌, ◌⊎◌, ◌^◌, ◌<◌, ◌≤◌, length, drop, Err, IfOk, IfErr, OnOk};
 ghost use Rattle.rr_types.specs.declared.refusal.Refusal.TheVariants.{OutOfMemory, Device};
-ghost use Rattle.rr_model.specs.NodeState.{decided_from};
+ghost use Rattle.rr_types.specs.Promises.{decided_from};
 ghost use Rattle.rr_disk.specs.Areas.{bytes_of};
-ghost use Rattle.rr_disk.specs.Counts.{counted, Grew};
+ghost use Rattle.rr_types.specs.Counts.{counted, Grew};
 ghost use Rattle.rr_image.specs.Image.{Begins};
 ghost use Rattle.rr_image.specs.Inspect.{told, active, inspected_by, inspected, IsOwnFront, IsTold, IsDamage, Inspects};
 

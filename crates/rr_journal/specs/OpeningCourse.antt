@@ -5,7 +5,7 @@ use Rattle.rr_types.specs.declared.refusal.Refusal.TheVariants.{OutOfMemory, Dev
 use Rattle.rr_disk.specs.declared.area.Area.{Area}
 use Rattle.rr_disk.specs.declared.area.Area.TheVariants.{First, Second}
 use Rattle.rr_disk.specs.Areas.{Extent, Areas, extent_of, read_of, settled, synced}
-use Rattle.rr_disk.specs.Counts.{Grew}
+use Rattle.rr_types.specs.Counts.{Grew}
 use Rattle.rr_journal.specs.declared.journal.Journal.{Journal}
 use Rattle.rr_journal.specs.declared.opened.Opened.{Opened}
 use Rattle.rr_journal.specs.declared.opening.Progress as code_2

@@ -3,7 +3,7 @@
 ghost use Rattle.std.specs.Prelude.{◌≡◌, ◌⊎◌, ℕ, ◌≤◌, true, false, length, IfErr, OnOk, OnErr};
 ghost use Rattle.rr_types.specs.declared.refusal.Refusal.TheVariants.{Device, Failed};
 ghost use Rattle.rr_disk.specs.Areas.{Torn, extent_of, replaced, written, synced};
-ghost use Rattle.rr_disk.specs.Counts.{counted, Grew};
+ghost use Rattle.rr_types.specs.Counts.{counted, Grew};
 
 use crate::journal::Journal;
 use rr_disk::{Area, Disk};

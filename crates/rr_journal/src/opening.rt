@@ -4,7 +4,7 @@ ghost use Rattle.std.specs.Prelude.{◌≡◌, ◌⊎◌, ℕ, ◌+◌, ◌<◌,
 ghost use Rattle.rr_types.specs.declared.fact.Fact.{Fact};
 ghost use Rattle.rr_types.specs.declared.refusal.Refusal.TheVariants.{OutOfMemory, Device};
 ghost use Rattle.rr_disk.specs.Areas.{Areas, extent_of};
-ghost use Rattle.rr_disk.specs.Counts.{counted, Grew};
+ghost use Rattle.rr_types.specs.Counts.{counted, Grew};
 ghost use Rattle.rr_disk.specs.Failing.{FailingRead, FailingWrite, FailingSync};
 ghost use Rattle.rr_frame.specs.Snapshots.{IsSnapshot};
 ghost use Rattle.rr_journal.specs.Calls.{must_close, after_call};

@@ -3,7 +3,7 @@
 
 ghost use Rattle.std.specs.Prelude.{◌≡◌, ◌≤◌, OnOk, OnErr, IfErr};
 ghost use Rattle.rr_types.specs.declared.refusal.Refusal.TheVariants.{Device};
-ghost use Rattle.rr_disk.specs.Counts.{counted, Grew};
+ghost use Rattle.rr_types.specs.Counts.{counted, Grew};
 ghost use Rattle.rr_journal.specs.Calls.{after_call};
 ghost use Rattle.rr_journal.specs.OpeningTable.{IsLeftBy};
 ghost use Rattle.rr_journal.specs.Stages.{first_stage, stage_behind, call_at, Gave};

@@ -3,7 +3,7 @@
 ghost use Rattle.std.specs.Prelude.{◌≡◌, ◌⊎◌, ℕ, ◌+◌, ◌≤◌, List, true, false, Some, IfOk, IfErr, OnOk, Ok, Err};
 ghost use Rattle.rr_types.specs.declared.fact.Fact.{Fact};
 ghost use Rattle.rr_types.specs.declared.refusal.Refusal.TheVariants.{Device, Failed};
-ghost use Rattle.rr_disk.specs.Counts.{counted, Grew};
+ghost use Rattle.rr_types.specs.Counts.{counted, Grew};
 ghost use Rattle.rr_journal.specs.Moments.{EachHolds};
 ghost use Rattle.rr_image.specs.Held.{Holds};
 ghost use Rattle.rr_journal.specs.Stages.{first_stage, stage_behind, Gave};

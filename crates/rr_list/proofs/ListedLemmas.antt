@@ -5,8 +5,8 @@ use Rattle.std.proofs.lemmas.List.Elements.{All-head, All-tail}
 use Rattle.std.proofs.lemmas.Option.{none-some}
 use Rattle.rr_types.specs.declared.promise.Entry.{Entry}
 use Rattle.rr_types.specs.declared.fact.Fact.{Fact}
-use Rattle.rr_types.specs.Promises.{take_on_all}
-use Rattle.rr_model.specs.NodeState.{Row, row_of, decided_from}
+use Rattle.rr_types.specs.Promises.{take_on_all, decided_from}
+use Rattle.rr_model.specs.NodeState.{Row, row_of}
 use Rattle.rr_list.specs.declared.marks.Marks.{Marks}
 use Rattle.rr_list.specs.Listed.{Listed, put_rows, KeepsDecisions, HaveRows}
 use Rattle.rr_list.specs.Rowed.{AscendFrom, AreInstances}

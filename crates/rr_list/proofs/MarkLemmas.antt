@@ -15,8 +15,7 @@ use Rattle.rr_types.specs.declared.promise.Standing.TheVariants.{Decided, Open}
 use Rattle.rr_types.specs.declared.promise.Entry.{Entry}
 use Rattle.rr_types.specs.Facts.{instance_of, after_fact, decision_of}
 use Rattle.rr_types.specs.Standings.{standing_from}
-use Rattle.rr_types.specs.Promises.{AscendsFrom, standing_in, set_entry, take_on, take_on_all}
-use Rattle.rr_model.specs.NodeState.{decided_from}
+use Rattle.rr_types.specs.Promises.{AscendsFrom, standing_in, set_entry, take_on, take_on_all, decided_from}
 use Rattle.rr_model.proofs.Promised.{standing_in-set_entry, standing_in-take_on_all}
 use Rattle.rr_list.specs.Listed.{KeepsPromised}
 use Rattle.rr_list.specs.Marked.{entries_in, AreEntered, decision_after, decided_by}

@@ -7,9 +7,8 @@ use Rattle.rr_types.specs.declared.fact.Fact.TheVariants.{Enter, Propose, Adopt,
 use Rattle.rr_types.specs.Facts.{instance_of, decision_of}
 use Rattle.rr_types.specs.declared.promise.Entry.{Entry}
 use Rattle.rr_types.specs.declared.promise.Standing.TheVariants.{Decided}
-use Rattle.rr_types.specs.Promises.{AscendsFrom, standing_in, take_on_all}
+use Rattle.rr_types.specs.Promises.{AscendsFrom, standing_in, take_on_all, decided_from}
 use Rattle.rr_types.specs.Limits.{instance_count}
-use Rattle.rr_model.specs.NodeState.{decided_from}
 use Rattle.rr_places.specs.Places.{filled, has_place}
 use Rattle.rr_list.specs.declared.marks.Marks.{Marks}
 

@@ -2,9 +2,9 @@
 
 ghost use Rattle.std.specs.Prelude.{◌≡◌, ◌≤◌, ◌&&◌, ◌++◌, [], None, Some, map, length, slice_get, nat_lt, IfOk, IfErr, OnOk, OnErr, MatchOption};
 ghost use Rattle.std.specs.List.{list_any};
-ghost use Rattle.rr_types.specs.Promises.{IsAscending, take_on_all};
+ghost use Rattle.rr_types.specs.Promises.{IsAscending, take_on_all, decided_from};
 ghost use Rattle.rr_types.specs.Limits.{instance_count};
-ghost use Rattle.rr_model.specs.NodeState.{row_of, is_decided, undecided_from, decided_from};
+ghost use Rattle.rr_model.specs.NodeState.{row_of, is_decided, undecided_from};
 ghost use Rattle.rr_model.specs.NodeStep.{promised_row};
 ghost use Rattle.rr_list.specs.Listed.{put_rows, KeepsDecisions, KeepsPromised, HaveRows, AllInRound};
 ghost use Rattle.rr_list.specs.Rowed.{AscendFrom, has_decided};

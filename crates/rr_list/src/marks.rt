@@ -4,8 +4,7 @@ ghost use Rattle.std.specs.Prelude.{◌≡◌, ◌<◌, ◌≤◌, ◌++◌, ℕ
 ghost use Rattle.std.specs.List.{All};
 ghost use Rattle.rr_types.specs.declared.promise.Standing.TheVariants as stands;
 ghost use Rattle.rr_types.specs.Facts.{instance_of, decision_of, after_fact};
-ghost use Rattle.rr_types.specs.Promises.{standing_in, set_entry, take_on, take_on_all, IsAscending};
-ghost use Rattle.rr_model.specs.NodeState.{decided_from};
+ghost use Rattle.rr_types.specs.Promises.{standing_in, set_entry, take_on, take_on_all, IsAscending, decided_from};
 ghost use Rattle.rr_types.specs.Standings.{IsInRound};
 ghost use Rattle.rr_types.specs.Limits.{instance_count};
 ghost use Rattle.rr_list.specs.Listed.{KeepsPromised, AllInRound};

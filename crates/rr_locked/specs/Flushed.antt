@@ -6,7 +6,7 @@ use Rattle.rr_types.specs.Groups.{Grouped}
 use Rattle.rr_disk.specs.Areas.{Areas}
 use Rattle.rr_disk.specs.Crash.{Images, restarted}
 use Rattle.rr_frame.specs.GroupFormat.{group_bytes}
-use Rattle.rr_disk.specs.Counts.{Grew}
+use Rattle.rr_types.specs.Counts.{Grew}
 use Rattle.rr_journal.specs.Calls.{frame_bytes}
 use Rattle.rr_journal.specs.Journals.{IsOver}
 use Rattle.rr_journal.specs.declared.journal.Journal.{Journal}

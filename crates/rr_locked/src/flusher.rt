@@ -7,7 +7,7 @@ ghost use Rattle.rr_disk.specs.Crash.{Images, restarted};
 ghost use Rattle.rr_image.specs.Held.{Holds};
 ghost use Rattle.rr_journal.specs.Moments.{IsAt, EachHolds, EachHoldsEither, body_due, group_safe};
 ghost use Rattle.rr_journal.specs.Journals.{IsOver, once_flushed};
-ghost use Rattle.rr_disk.specs.Counts.{counted};
+ghost use Rattle.rr_types.specs.Counts.{counted};
 ghost use Rattle.rr_types.specs.declared.refusal.Refusal.TheVariants.{OutOfMemory, Device, Failed, Busy, TooLarge};
 ghost use Rattle.rr_locked.specs.Flushed.{HasFailed, HasMore, IsBehind, IfRefused, IfFailed};
 

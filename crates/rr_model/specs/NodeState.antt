@@ -12,6 +12,7 @@ use Rattle.rr_types.specs.Standings.{is_undecided}
 use Rattle.rr_types.specs.Facts.{decision_of}
 use Rattle.rr_types.specs.Nodes.{has_member}
 use Rattle.rr_types.specs.Limits.{instance_count, open_count}
+use Rattle.rr_types.specs.Promises.{decided_from}
 
 -- an estimate that the coordinator of a round has heard: from whom, with its stamp
 pub record Vote : Type 0 where
@@ -148,15 +149,6 @@ decided_command r = decision_of (Some r.standing)
 -- whether some instance has decided a command with this request number
 abbrev pub is_decided_request : NodeState → RequestNo → Bool
 is_decided_request s q = list_any (λ r. option_map_or (λ v. is_same_request v.request q) (decided_command r) false) s.rows
-
--- the commands decided without a gap from instance i on by the entries of a promise
-abbrev pub decided_from : ℕ → List Entry → List Command
-decided_from i [] = []
-decided_from i (e ∷ es) = if e.instance == i then decided_first (decision_of (Some e.standing)) (decided_from (i + 1) es) else []
-  where
-    decided_first : Option Command → List Command → List Command
-    decided_first None rest = []
-    decided_first (Some v) rest = v ∷ rest
 
 -- the decided prefix: the commands that the marked facts decide without a gap from instance 0 on
 abbrev pub decided_prefix : NodeState → List Command

@@ -6,7 +6,7 @@ use Rattle.rr_types.specs.declared.refusal.Refusal.{Refusal}
 use Rattle.rr_types.specs.declared.refusal.Refusal.TheVariants as because
 use Rattle.rr_disk.specs.declared.area.Area.{Area}
 use Rattle.rr_disk.specs.Areas.{extent_of, replaced, written, loosened, synced}
-use Rattle.rr_disk.specs.Counts.{counted}
+use Rattle.rr_types.specs.Counts.{counted}
 use Rattle.rr_disk.specs.Failing.{FailingRead, FailingWrite, FailingSync, failing_bytes}
 use Rattle.rr_disk.specs.Memory.{MemoryState, MemoryRead, MemoryWrite, MemorySync}
 use Rattle.rr_disk.proofs.OverMemory.{failing_in_memory}

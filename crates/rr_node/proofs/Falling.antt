@@ -12,7 +12,7 @@ use Rattle.rr_model.specs.NodeState.{NodeState}
 use Rattle.rr_model.proofs.NodeInWorld.{goes_down_in_world}
 use Rattle.rr_disk.specs.declared.area.Area.{Area}
 use Rattle.rr_disk.specs.Areas.{Areas}
-use Rattle.rr_disk.specs.Counts.{counted}
+use Rattle.rr_types.specs.Counts.{counted}
 use Rattle.rr_disk.specs.Crash.{Images, IsCrashImage, restarted, crash_images}
 use Rattle.rr_frame.specs.GroupFormat.{group_bytes, IsLawfulGroup}
 use Rattle.rr_frame.specs.SnapshotFormat.{snapshot_bytes, IsLawfulSnapshot}

@@ -14,7 +14,7 @@ use Rattle.rr_model.specs.NodeInWorld.{IsInWorld, group_of}
 use Rattle.rr_model.proofs.NodeInWorld.{reached_in_world, reached_marks, settles_in_world}
 use Rattle.rr_model.proofs.NodeReached.{reached_still}
 use Rattle.rr_disk.specs.Areas.{Areas, synced}
-use Rattle.rr_disk.specs.Counts.{counted}
+use Rattle.rr_types.specs.Counts.{counted}
 use Rattle.rr_disk.specs.Crash.{Images}
 use Rattle.rr_frame.specs.GroupFormat.{group_bytes, IsLawfulGroup}
 use Rattle.rr_journal.specs.Flushes as gate

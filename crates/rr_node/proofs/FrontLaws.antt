@@ -15,7 +15,7 @@ use Rattle.rr_journal.specs.OtherAreas.{other_area, closes_in, IsOtherKnown}
 use Rattle.rr_journal.proofs.FoundLaws.{is_found}
 use Rattle.rr_journal.proofs.OtherLaws.{settled_closes}
 use Rattle.rr_journal.proofs.BesideLaws.{active_closes}
-use Rattle.rr_recover.specs.Recoveries.{StandsFor}
+use Rattle.rr_core.specs.Recoveries.{StandsFor}
 use Rattle.rr_node.specs.Views.{NodeDisk, areas_in, IsAppending}
 
 -- a write behind the first byte leaves it

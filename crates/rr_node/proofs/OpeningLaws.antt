@@ -8,7 +8,7 @@ use Rattle.rr_model.specs.NodeState.{NodeState}
 use Rattle.rr_model.specs.NodeStep.{started}
 use Rattle.rr_disk.specs.declared.area.Area.{Area}
 use Rattle.rr_disk.specs.Areas.{Areas, synced}
-use Rattle.rr_disk.specs.Counts.{counted}
+use Rattle.rr_types.specs.Counts.{counted}
 use Rattle.rr_disk.specs.Failing.{FailingRead, FailingWrite, FailingSync, passed, fell}
 use Rattle.rr_disk.specs.Memory.{MemoryState, MemoryRead, MemoryWrite, MemorySync}
 use Rattle.rr_frame.specs.Snapshots.{IsSnapshot}
@@ -31,9 +31,9 @@ use Rattle.rr_journal.specs.OpeningTable.{OpensAny}
 use Rattle.rr_journal.specs.Stages.{calls_from}
 use Rattle.rr_journal.specs.OtherAreas.{other_area, IsOtherKnown}
 use Rattle.rr_journal.specs.Rewrites.{area_anew}
-use Rattle.rr_recover.specs.declared.steps.Progress as progress_of
-use Rattle.rr_recover.specs.declared.steps.Progress.TheVariants as progress
-use Rattle.rr_recover.specs.Recoveries.{end_of, as_step, IsStarted, StandsFor, Recovers}
+use Rattle.rr_core.specs.declared.steps.Progress as progress_of
+use Rattle.rr_core.specs.declared.steps.Progress.TheVariants as progress
+use Rattle.rr_core.specs.Recoveries.{end_of, as_step, IsStarted, StandsFor, Recovers}
 use Rattle.rr_node.specs.declared.doing.Doing as doing
 use Rattle.rr_node.specs.declared.doing.Doing.TheVariants as does
 use Rattle.rr_node.specs.declared.event.NodeEvent.TheVariants as at

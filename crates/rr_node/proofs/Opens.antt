@@ -15,7 +15,7 @@ use Rattle.rr_disk.specs.declared.area.Area.{Area}
 use Rattle.rr_disk.specs.declared.area.Area.TheVariants.{First, Second}
 use Rattle.rr_disk.specs.declared.cell.Cell.{Cell}
 use Rattle.rr_disk.specs.Areas.{Areas, extent_of, read_of, synced}
-use Rattle.rr_disk.specs.Counts.{counted}
+use Rattle.rr_types.specs.Counts.{counted}
 use Rattle.rr_disk.specs.Crash.{Images, restarted}
 use Rattle.rr_frame.specs.declared.version.Version.TheVariants.{One}
 use Rattle.rr_frame.specs.SnapshotFormat.{snapshot_bytes, IsLawfulSnapshot}

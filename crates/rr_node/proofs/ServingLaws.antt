@@ -18,7 +18,7 @@ use Rattle.rr_model.specs.NodeStays.{StaysMarked}
 use Rattle.rr_model.proofs.NodeSteady.{input_stays, started_stays}
 use Rattle.rr_disk.specs.declared.area.Area.{Area}
 use Rattle.rr_disk.specs.Areas.{Areas, synced}
-use Rattle.rr_disk.specs.Counts.{counted, Grew}
+use Rattle.rr_types.specs.Counts.{counted, Grew}
 use Rattle.rr_disk.specs.Failing.{FailingWrite, FailingSync}
 use Rattle.rr_disk.specs.Memory.{MemoryWrite, MemorySync}
 use Rattle.rr_frame.specs.Numbers.{number_bytes}

@@ -5,7 +5,7 @@ use Rattle.rr_types.specs.declared.refusal.Refusal.{Refusal}
 use Rattle.rr_types.specs.declared.refusal.Refusal.TheVariants as because
 use Rattle.rr_model.specs.World.{World}
 use Rattle.rr_disk.specs.Areas.{Areas, synced}
-use Rattle.rr_disk.specs.Counts.{counted}
+use Rattle.rr_types.specs.Counts.{counted}
 use Rattle.rr_disk.specs.Crash.{Images}
 use Rattle.rr_journal.specs.Calls.{Call, Read, Write, Sync, after_call, after_starved}
 use Rattle.rr_journal.specs.Openings as opening

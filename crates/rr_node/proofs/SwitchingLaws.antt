@@ -7,7 +7,7 @@ use Rattle.rr_types.specs.declared.promise.Entry.{Entry}
 use Rattle.rr_model.specs.NodeState.{NodeState}
 use Rattle.rr_disk.specs.declared.area.Area.{Area}
 use Rattle.rr_disk.specs.Areas.{Areas, synced}
-use Rattle.rr_disk.specs.Counts.{counted, Grew}
+use Rattle.rr_types.specs.Counts.{counted, Grew}
 use Rattle.rr_disk.specs.Failing.{FailingWrite, FailingSync}
 use Rattle.rr_disk.specs.Memory.{MemoryWrite, MemorySync}
 use Rattle.rr_frame.specs.Snapshots.{Snapped, IsSnapshot}

@@ -9,7 +9,7 @@ use Rattle.rr_types.specs.declared.input.Input.{Input}
 use Rattle.rr_model.specs.NodeStep.{node_step, input_refusal, refusal_of, group_taken, marked_running, running_group, next_leaving, message_left, next_acknowledged, acknowledged, started}
 use Rattle.rr_disk.specs.declared.area.Area.{Area}
 use Rattle.rr_disk.specs.Areas.{Areas, extent_of, read_of, at_rest, synced}
-use Rattle.rr_disk.specs.Counts.{counted}
+use Rattle.rr_types.specs.Counts.{counted}
 use Rattle.rr_disk.specs.Crash.{crash_images, restarted}
 use Rattle.rr_frame.specs.GroupFormat.{group_bytes}
 use Rattle.rr_frame.specs.Snapshots.{Snapped}

@@ -14,10 +14,9 @@ ghost use Rattle.rr_node.specs.Views.{Carries, CarriesFailing, CarriesQuietly, S
 
 use crate::event::{BoundNames, NodeEvent, Outcome};
 use crate::serving::Serving;
-use rr_core::Core;
+use rr_core::{Core, Opening, Progress};
 use rr_disk::{FailingDisk, MemDisk};
 use rr_journal::Journal;
-use rr_recover::{Opening, Progress};
 use rr_types::{NodeId, Nodes, Refusal};
 use std::alloc::Global;
 use std::mem;

@@ -11,7 +11,7 @@ use Rattle.rr_script.specs.AnswerTexts.{answer_text}
 use Rattle.rr_script.specs.Faults.{IsScriptFault}
 use Rattle.rr_cli.specs.Draws.{IsNumberIn}
 use Rattle.rr_cli.specs.Ends.{EndsOnFile, IsStreamStatus, Prints}
-use Rattle.rr_view.specs.Views.{EndsWithViews}
+use Rattle.rr_cli.specs.Views.{EndsWithViews}
 use Rattle.rr_words.specs.Tasks.{Task, Run, Shell}
 use Rattle.rr_cli.specs.Refusals.{status_of}
 use Rattle.rr_run.specs.Shells.{EndsOnShellWords}

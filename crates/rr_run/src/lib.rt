@@ -1,6 +1,5 @@
 //! `rr run` and `rr shell`: nodes in threads, over the files of folders, by a script or by lines as they come. This crate alone
-//! brings threads to the program. `run` takes the words and streams of `main`. It passes every other command to `rr_view`,
-//! which passes all but views to `rr_cli`.
+//! brings threads to the program. `run` takes the words and streams of `main`. It passes every other command to `rr_cli`.
 #![tactic(auto)]
 
 mod folder;

@@ -22,7 +22,7 @@ use std::sync::Wait;
 use std::thread::Threads;
 
 /// Runs the program `rr` by these words, the first of which is its name, and gives its exit status. It is
-/// `rr_view::execute` with two more commands.
+/// `rr_cli::execute_with_views` with two more commands.
 ///
 /// `rr run --nodes NODES --dir DIR --script SCRIPT [--tape TAPE]` reads a script from the file SCRIPT, runs that many
 /// nodes in threads, node P over the disk in the folder DIR/P, and prints the answers to the script. Folders and files
@@ -49,22 +49,22 @@ pub fn execute<
         Ok(Task::Run(Some(nodes), Some(dir), Some(script), tape)) => {
             run_by_words(rt, nodes, dir, tape, script, out, err)
         }
-        Ok(Task::Run(None, _, _, _)) => rr_view::execute(rt, words, input, out, err),
-        Ok(Task::Run(_, None, _, _)) => rr_view::execute(rt, words, input, out, err),
-        Ok(Task::Run(_, _, None, _)) => rr_view::execute(rt, words, input, out, err),
+        Ok(Task::Run(None, _, _, _)) => rr_cli::execute_with_views(rt, words, input, out, err),
+        Ok(Task::Run(_, None, _, _)) => rr_cli::execute_with_views(rt, words, input, out, err),
+        Ok(Task::Run(_, _, None, _)) => rr_cli::execute_with_views(rt, words, input, out, err),
         Ok(Task::Shell(Some(nodes), Some(dir), client, json)) => {
             shell_by_words(rt, nodes, dir, client, json, input, out, err)
         }
-        Ok(Task::Shell(None, _, _, _)) => rr_view::execute(rt, words, input, out, err),
-        Ok(Task::Shell(_, None, _, _)) => rr_view::execute(rt, words, input, out, err),
-        Ok(Task::View(_)) => rr_view::execute(rt, words, input, out, err),
-        Ok(Task::Simulate(_)) => rr_view::execute(rt, words, input, out, err),
-        Ok(Task::Show(_)) => rr_view::execute(rt, words, input, out, err),
-        Ok(Task::Draw(_)) => rr_view::execute(rt, words, input, out, err),
-        Ok(Task::Audit(_)) => rr_view::execute(rt, words, input, out, err),
-        Ok(Task::Sweep(_, _)) => rr_view::execute(rt, words, input, out, err),
-        Ok(Task::Picture(_, _)) => rr_view::execute(rt, words, input, out, err),
-        Ok(Task::Migrate(_, _, _)) => rr_view::execute(rt, words, input, out, err),
+        Ok(Task::Shell(None, _, _, _)) => rr_cli::execute_with_views(rt, words, input, out, err),
+        Ok(Task::Shell(_, None, _, _)) => rr_cli::execute_with_views(rt, words, input, out, err),
+        Ok(Task::View(_)) => rr_cli::execute_with_views(rt, words, input, out, err),
+        Ok(Task::Simulate(_)) => rr_cli::execute_with_views(rt, words, input, out, err),
+        Ok(Task::Show(_)) => rr_cli::execute_with_views(rt, words, input, out, err),
+        Ok(Task::Draw(_)) => rr_cli::execute_with_views(rt, words, input, out, err),
+        Ok(Task::Audit(_)) => rr_cli::execute_with_views(rt, words, input, out, err),
+        Ok(Task::Sweep(_, _)) => rr_cli::execute_with_views(rt, words, input, out, err),
+        Ok(Task::Picture(_, _)) => rr_cli::execute_with_views(rt, words, input, out, err),
+        Ok(Task::Migrate(_, _, _)) => rr_cli::execute_with_views(rt, words, input, out, err),
         Err(error) => end_by_words(rt.alloc(), out, err, &error),
     }
 }

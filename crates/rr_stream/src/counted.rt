@@ -2,7 +2,7 @@
 
 ghost use Rattle.std.specs.Prelude.{◌≡◌, ◌≢◌, true, OnOk, OnErr, IfErr};
 ghost use Rattle.std.specs.IoError.{error_kind};
-ghost use Rattle.rr_disk.specs.Counts.{counted};
+ghost use Rattle.rr_types.specs.Counts.{counted};
 
 use crate::stream::{Sink, Source};
 use std::io;

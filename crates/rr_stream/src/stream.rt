@@ -4,7 +4,7 @@ ghost use Rattle.std.specs.Prelude.{◌≡◌, ◌≢◌, ℕ, ◌<◌, ◌≤�
 ghost use Rattle.std.specs.Io.{ReadsAtMost, WritesAtMost};
 ghost use Rattle.std.specs.Io.KnownBytes.{Keeps, ReadConsumes, WriteAppends};
 ghost use Rattle.std.specs.IoError.{error_kind};
-ghost use Rattle.rr_disk.specs.Counts.{Grew};
+ghost use Rattle.rr_types.specs.Counts.{Grew};
 ghost use Rattle.rr_stream.specs.Streams.{Printing, Reading};
 
 use std::io;

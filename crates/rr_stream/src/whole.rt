@@ -3,7 +3,7 @@
 ghost use Rattle.std.specs.Prelude.{◌≡◌, ◌⊎◌, ℕ, ◌<◌, ◌≤◌, false, IsTrue, List, ◌++◌, length, vec_len, IfOk, IfErr, OnOk, OnErr};
 ghost use Rattle.std.specs.Io.KnownBytes.{Consumes, IsAtEnd};
 ghost use Rattle.std.specs.IoError.{error_kind};
-ghost use Rattle.rr_disk.specs.Counts.{Grew};
+ghost use Rattle.rr_types.specs.Counts.{Grew};
 ghost use Rattle.rr_stream.specs.Streams.{IsPrinted, IsFrontPrinted, AreAllOf};
 
 use crate::stream::{Sink, Source};

@@ -1,4 +1,5 @@
 pub mod Commands
+pub mod Counts
 pub mod Facts
 pub mod Groups
 pub mod Limits

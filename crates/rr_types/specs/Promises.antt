@@ -2,8 +2,9 @@ use Rattle.std.specs.Prelude.{ℕ, ◌+◌, ◌<◌, Bool, true, ◌&&◌, ◌==
 use Rattle.rr_types.specs.declared.fact.Fact.{Fact}
 use Rattle.rr_types.specs.declared.promise.Standing.{Standing}
 use Rattle.rr_types.specs.declared.promise.Entry.{Entry}
-use Rattle.rr_types.specs.Facts.{instance_of, after_fact}
+use Rattle.rr_types.specs.Facts.{instance_of, after_fact, decision_of}
 use Rattle.rr_types.specs.Standings.{fits}
+use Rattle.rr_types.specs.declared.command.Command.{Command}
 
 -- each instance lies above the one before it, the first above or at the bound
 abbrev pub AscendsFrom : ℕ → List Entry → Type 0
@@ -49,3 +50,12 @@ promise_of facts = take_on_all [] facts
 abbrev pub all_fit : ℕ → ℕ → List Entry → List Fact → Bool
 all_fit n p es [] = true
 all_fit n p es (f ∷ fs) = fits n p (standing_in es (instance_of f)) f && all_fit n p (take_on es f) fs
+
+-- the commands decided without a gap from instance i on by the entries of a promise
+abbrev pub decided_from : ℕ → List Entry → List Command
+decided_from i [] = []
+decided_from i (e ∷ es) = if e.instance == i then decided_first (decision_of (Some e.standing)) (decided_from (i + 1) es) else []
+  where
+    decided_first : Option Command → List Command → List Command
+    decided_first None rest = []
+    decided_first (Some v) rest = v ∷ rest

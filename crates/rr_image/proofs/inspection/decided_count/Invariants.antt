@@ -1,5 +1,5 @@
 use Rattle.std.proofs.Common.{◌≡◌, ◌+◌, length, drop}
-use Rattle.rr_model.specs.NodeState.{decided_from}
+use Rattle.rr_types.specs.Promises.{decided_from}
 use Rattle.rr_image.proofs.inspection.decided_count.Given as goal
 
 abbrev pub invariant-loop-place : goal.invariant-loop-place

@@ -1,12 +1,12 @@
 use Rattle.std.proofs.Common.{◌≡◌, true, false, Ok, sym, subst, ◌∙◌}
 use Rattle.std.specs.Prelude.{IfOk}
-use Rattle.rr_disk.specs.Counts.{counted}
+use Rattle.rr_types.specs.Counts.{counted}
 use Rattle.rr_journal.specs.declared.opening.Progress as journal
 use Rattle.rr_journal.specs.OpeningSteps.{MaySnap}
 use Rattle.rr_journal.specs.Fronts.{KnowsOther}
 use Rattle.rr_journal.specs.OpeningTable.{ComesToAny, disk_after}
-use Rattle.rr_recover.specs.declared.steps.Progress.{Progress}
-use Rattle.rr_recover.specs.Recoveries.{as_step, StartsAtEnd, RestsAtEnd}
+use Rattle.rr_core.specs.declared.steps.Progress.{Progress}
+use Rattle.rr_core.specs.Recoveries.{as_step, StartsAtEnd, RestsAtEnd}
 use Rattle.rr_node.specs.Views.{NodeDisk, areas_in}
 use Rattle.rr_node.proofs.OpeningLaws.{Recovered, opens_more, opens_done, opens_fallen, opens_stopped}
 use Rattle.rr_node.proofs.doing.open_on.Goals as goal

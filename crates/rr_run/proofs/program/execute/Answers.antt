@@ -6,7 +6,7 @@ use Rattle.rr_words.specs.declared.tasks.Task.TheVariants as read
 use Rattle.rr_words.specs.Tasks.{Simulate, Viewing, Show, Draw, Audit, Run, Shell, Sweep, Picture, Migrate, cut_words_in, draw_words_in, view_in, task_of, task_in}
 use Rattle.rr_cli.specs.Ends.{mistaken, by_help, by_version}
 use Rattle.rr_cli.proofs.EndLemmas.{kind_cases}
-use Rattle.rr_view.specs.Views as views
+use Rattle.rr_cli.specs.Views as views
 use Rattle.rr_run.specs.Runs.{AsksForThreads, by_script, by_shell, by_others, out_of_memory}
 use Rattle.rr_run.proofs.program.execute.Goals as goal
 

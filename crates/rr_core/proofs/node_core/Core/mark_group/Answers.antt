@@ -2,9 +2,9 @@ use Rattle.std.proofs.Common.{◌≡◌, ◌∙◌, ◌++◌, [], true, ap, sym,
 use Rattle.std.specs.Option.{option_map_or, IsSome}
 use Rattle.rr_types.specs.declared.command.Command.{Command}
 use Rattle.rr_types.specs.Groups.{Grouped}
-use Rattle.rr_types.specs.Promises.{all_fit, take_on_all}
+use Rattle.rr_types.specs.Promises.{all_fit, take_on_all, decided_from}
 use Rattle.rr_registry.specs.Kept.{kept_of}
-use Rattle.rr_model.specs.NodeState.{NodeState, decided_from, decided_prefix}
+use Rattle.rr_model.specs.NodeState.{NodeState, decided_prefix}
 use Rattle.rr_core.specs.Kept.{IsKept}
 use Rattle.rr_core.specs.Searched.{IsSearched}
 use Rattle.rr_core.proofs.MarkLemmas.{fit_if, marked_kept, runs_if}

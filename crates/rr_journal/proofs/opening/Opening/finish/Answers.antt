@@ -2,7 +2,7 @@ use Rattle.std.proofs.Common.{◌≡◌, ◌≤◌, ℕ, ◌+◌, inl, Ok, refl,
 use Rattle.rr_journal.specs.declared.opening.Progress.{Progress}
 use Rattle.rr_image.specs.Held.{Holds}
 use Rattle.rr_journal.specs.Phases.{phase_of}
-use Rattle.rr_disk.specs.Counts.{counted}
+use Rattle.rr_types.specs.Counts.{counted}
 use Rattle.rr_image.specs.Image.{Found}
 use Rattle.rr_journal.specs.Openings.{end_by}
 use Rattle.rr_journal.specs.OpeningCourse.{StaysOnCourse, IsUntouched}

@@ -1,6 +1,5 @@
 use Rattle.std.proofs.Common.{◌≡◌, ap, sym, ◌∙◌, arith, ◌++◌, ◌+◌}
-use Rattle.rr_types.specs.Promises.{take_on_all}
-use Rattle.rr_model.specs.NodeState.{decided_from}
+use Rattle.rr_types.specs.Promises.{take_on_all, decided_from}
 use Rattle.rr_list.specs.Marked.{marked_in}
 use Rattle.rr_list.proofs.PrefixLemmas.{ascending}
 use Rattle.rr_list.proofs.MarkLemmas.{run_from, decided_in, prefix_grows, found_more, found_all, ascend_all}

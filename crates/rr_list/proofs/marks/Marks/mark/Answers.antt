@@ -1,6 +1,5 @@
 use Rattle.std.proofs.Common.{ap, sym, ◌∙◌, arith, is_some, length}
-use Rattle.rr_types.specs.Promises.{standing_in, take_on_all}
-use Rattle.rr_model.specs.NodeState.{decided_from}
+use Rattle.rr_types.specs.Promises.{standing_in, take_on_all, decided_from}
 use Rattle.rr_list.specs.Marked.{marked_in}
 use Rattle.rr_list.proofs.PrefixLemmas.{ascending, in_round_from, skipped}
 use Rattle.rr_list.proofs.MarkLemmas.{decided_in, decided_after, prefix_stays, prefix_open, prefix_is, ascend_all, undecided_none}

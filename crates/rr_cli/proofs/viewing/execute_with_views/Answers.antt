@@ -1,0 +1,84 @@
+use Rattle.std.proofs.Common.{◌≡◌, ◌∙◌, ℕ, List, Option, option_map, Bor, refl, sym, ap, map, inl, inr}
+use Rattle.clap.specs.Words.{Text, kind_of}
+use Rattle.rr_words.specs.Tasks.{Simulate, Viewing, Show, Draw, Audit, Run, Shell, Sweep, Picture, Migrate, cut_words_in, draw_words_in, task_of, task_in, view_in}
+use Rattle.rr_cli.specs.Ends.{mistaken, by_help, by_version}
+use Rattle.rr_cli.proofs.EndLemmas.{kind_cases}
+use Rattle.rr_cli.specs.Views.{by_view, by_others, out_of_memory}
+use Rattle.rr_cli.proofs.WordLaws.{none_among, no_simulate, no_show, no_draw, no_audit, no_run, no_shell, no_sweep, no_picture, no_migrate}
+use Rattle.rr_cli.proofs.viewing.execute_with_views.Goals as goal
+
+-- the text of a word
+abbrev text_of : Option (Bor (List ℕ)) → Option Text
+text_of word = option_map (λ s. s.now) word
+
+pub returns-in-Ok-View-clause-ends : goal.returns-in-Ok-View-clause-ends
+returns-in-Ok-View-clause-ends g c =
+    let w = c.in-Ok-View in
+    let task : task_of (map g.S.AsStr.text c.args.words.now) ≡ Viewing (view_in w.view) = sym w.ensures.task ∙ ap task_in w.field-0-is in
+    by_view (view_in w.view) w.ensures.faults task c.show_view.ensures.ends
+
+pub returns-in-Err-clause-ends : goal.returns-in-Err-clause-ends
+returns-in-Err-clause-ends g c =
+    elim (c.in-Err.ensures.faults) [
+      | inl memory ↦ let end = c.end_by_words.ensures.memory memory in out_of_memory end.0 end.1
+      | inr among ↦ elim (kind_cases (kind_of c.in-Err.error)) [
+        | inl memory ↦ let end = c.end_by_words.ensures.memory memory in out_of_memory end.0 end.1
+        | inr (inl help) ↦ by_others (λ none view task. none_among (kind_of c.in-Err.error) _ among none) (by_help (kind_of c.in-Err.error) among help (c.end_by_words.ensures.help help))
+        | inr (inr (inl version)) ↦ by_others (λ none view task. none_among (kind_of c.in-Err.error) _ among none) (by_version (kind_of c.in-Err.error) among version (c.end_by_words.ensures.version version))
+        | inr (inr (inr mistake)) ↦ let end = c.end_by_words.ensures.mistake mistake.0 mistake.1 in by_others (λ none view task. none_among (kind_of c.in-Err.error) _ among none) (mistaken (kind_of c.in-Err.error) among mistake.1 end.0 end.1)
+      ]
+    ]
+
+pub returns-in-Ok-Simulate-clause-ends : goal.returns-in-Ok-Simulate-clause-ends
+returns-in-Ok-Simulate-clause-ends g c =
+    let w = c.in-Ok-Simulate in
+    let task : task_of (map g.S.AsStr.text c.args.words.now) ≡ Simulate (text_of w.field-0-0) = sym w.ensures.task ∙ ap task_in w.field-0-is in
+    by_others (λ none view is. no_simulate (text_of w.field-0-0) view (sym task ∙ is)) c.execute.ensures.ends
+
+pub returns-in-Ok-Show-clause-ends : goal.returns-in-Ok-Show-clause-ends
+returns-in-Ok-Show-clause-ends g c =
+    let w = c.in-Ok-Show in
+    let task : task_of (map g.S.AsStr.text c.args.words.now) ≡ Show (text_of w.field-0-0) = sym w.ensures.task ∙ ap task_in w.field-0-is in
+    by_others (λ none view is. no_show (text_of w.field-0-0) view (sym task ∙ is)) c.execute-in-Ok-Show.ensures.ends
+
+pub returns-in-Ok-Draw-clause-ends : goal.returns-in-Ok-Draw-clause-ends
+returns-in-Ok-Draw-clause-ends g c =
+    let w = c.in-Ok-Draw in
+    let task : task_of (map g.S.AsStr.text c.args.words.now) ≡ Draw (draw_words_in w.field-0-0) = sym w.ensures.task ∙ ap task_in w.field-0-is in
+    by_others (λ none view is. no_draw (draw_words_in w.field-0-0) view (sym task ∙ is)) c.execute-in-Ok-Draw.ensures.ends
+
+pub returns-in-Ok-Audit-clause-ends : goal.returns-in-Ok-Audit-clause-ends
+returns-in-Ok-Audit-clause-ends g c =
+    let w = c.in-Ok-Audit in
+    let task : task_of (map g.S.AsStr.text c.args.words.now) ≡ Audit (text_of w.field-0-0) = sym w.ensures.task ∙ ap task_in w.field-0-is in
+    by_others (λ none view is. no_audit (text_of w.field-0-0) view (sym task ∙ is)) c.execute-in-Ok-Audit.ensures.ends
+
+pub returns-in-Ok-Run-clause-ends : goal.returns-in-Ok-Run-clause-ends
+returns-in-Ok-Run-clause-ends g c =
+    let w = c.in-Ok-Run in
+    let task : task_of (map g.S.AsStr.text c.args.words.now) ≡ Run (text_of w.field-0-0) (text_of w.field-0-1) (text_of w.field-0-2) (text_of w.field-0-3) = sym w.ensures.task ∙ ap task_in w.field-0-is in
+    by_others (λ none view is. no_run (text_of w.field-0-0) (text_of w.field-0-1) (text_of w.field-0-2) (text_of w.field-0-3) view (sym task ∙ is)) c.execute-in-Ok-Run.ensures.ends
+
+pub returns-in-Ok-Shell-clause-ends : goal.returns-in-Ok-Shell-clause-ends
+returns-in-Ok-Shell-clause-ends g c =
+    let w = c.in-Ok-Shell in
+    let task : task_of (map g.S.AsStr.text c.args.words.now) ≡ Shell (text_of w.field-0-0) (text_of w.field-0-1) (text_of w.field-0-2) w.field-0-3 = sym w.ensures.task ∙ ap task_in w.field-0-is in
+    by_others (λ none view is. no_shell (text_of w.field-0-0) (text_of w.field-0-1) (text_of w.field-0-2) w.field-0-3 view (sym task ∙ is)) c.execute-in-Ok-Shell.ensures.ends
+
+pub returns-in-Ok-Sweep-clause-ends : goal.returns-in-Ok-Sweep-clause-ends
+returns-in-Ok-Sweep-clause-ends g c =
+    let w = c.in-Ok-Sweep in
+    let task : task_of (map g.S.AsStr.text c.args.words.now) ≡ Sweep (text_of w.field-0-0) (text_of w.field-0-1) = sym w.ensures.task ∙ ap task_in w.field-0-is in
+    by_others (λ none view is. no_sweep (text_of w.field-0-0) (text_of w.field-0-1) view (sym task ∙ is)) c.execute-in-Ok-Sweep.ensures.ends
+
+pub returns-in-Ok-Picture-clause-ends : goal.returns-in-Ok-Picture-clause-ends
+returns-in-Ok-Picture-clause-ends g c =
+    let w = c.in-Ok-Picture in
+    let task : task_of (map g.S.AsStr.text c.args.words.now) ≡ Picture (text_of w.field-0-0) (cut_words_in w.field-0-1) = sym w.ensures.task ∙ ap task_in w.field-0-is in
+    by_others (λ none view is. no_picture (text_of w.field-0-0) (cut_words_in w.field-0-1) view (sym task ∙ is)) c.execute-in-Ok-Picture.ensures.ends
+
+pub returns-in-Ok-Migrate-clause-ends : goal.returns-in-Ok-Migrate-clause-ends
+returns-in-Ok-Migrate-clause-ends g c =
+    let w = c.in-Ok-Migrate in
+    let task : task_of (map g.S.AsStr.text c.args.words.now) ≡ Migrate (text_of w.field-0-0) (text_of w.field-0-1) (text_of w.field-0-2) = sym w.ensures.task ∙ ap task_in w.field-0-is in
+    by_others (λ none view is. no_migrate (text_of w.field-0-0) (text_of w.field-0-1) (text_of w.field-0-2) view (sym task ∙ is)) c.execute-in-Ok-Migrate.ensures.ends

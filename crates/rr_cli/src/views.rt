@@ -1,0 +1,200 @@
+//! The commands that show a run.
+
+ghost use Rattle.std.specs.Prelude.{◌≡◌, option_map, IfOk, IfErr};
+ghost use Rattle.std.specs.Io.KnownBytes.{Keeps};
+ghost use Rattle.rr_words.specs.Tasks.{view_in};
+ghost use Rattle.rr_cli.specs.Views.{Shows, EndsOnShown, EndsOnCompared, EndsOnRead, EndsOnView, different};
+
+use crate::input::{name_of, read_file};
+use crate::refusals::{TextKind, end_by_fault, end_by_refusal};
+use crate::streams::end_by_text;
+use rr_account::{
+    Account, Difference, account_on, difference_of, explanation, json_explanation, json_report,
+    json_statistics, push_difference, statistics_of, statistics_table,
+};
+use rr_stream::{Sink, Source};
+use rr_types::Refusal;
+use rr_words::{Form, View};
+use std::alloc::Global;
+use std::io::Write;
+use std::rt::Files;
+
+/// What a text shows of an account.
+#[derive(Clone, Copy)]
+pub(crate) enum Shown {
+    /// The report, as JSON.
+    Report,
+    /// The report with events and reasons.
+    Explanation(Form),
+    /// Statistics.
+    Statistics(Form),
+}
+
+// The text that shows an account.
+fn shown_text(alloc: Global, how: Shown, account: &Account) -> Result<Vec<u8>, Refusal>
+    ensures ok { IfOk result (λ text. Shows how account.now text.items) }
+    ensures err { IfErr result (λ e. e ≡ Refusal.OutOfMemory) }
+{
+    match how {
+        Shown::Report => json_report(alloc, account),
+        Shown::Explanation(Form::Plain) => explanation(alloc, account),
+        Shown::Explanation(Form::Json) => json_explanation(alloc, account),
+        Shown::Statistics(form) => statistics_text(alloc, form, account),
+    }
+}
+
+// The text on the statistics of an account.
+fn statistics_text(alloc: Global, form: Form, account: &Account) -> Result<Vec<u8>, Refusal>
+    ensures ok { IfOk result (λ text. Shows (Shown.Statistics form) account.now text.items) }
+    ensures err { IfErr result (λ e. e ≡ Refusal.OutOfMemory) }
+{
+    let statistics = statistics_of(alloc, account)?;
+    match form {
+        Form::Plain => statistics_table(alloc, &statistics),
+        Form::Json => json_statistics(alloc, &statistics),
+    }
+}
+
+// Shows the run of the schedule that the bytes of this name are.
+fn show_bytes<O: Sink, E: Write>(
+    alloc: Global,
+    how: Shown,
+    name: &str,
+    bytes: &[u8],
+    out: &mut O,
+    err: &mut E,
+) -> u8
+    ensures ends { EndsOnShown how bytes.now result (O.printing out.old) (O.printing out.new) }
+    ensures quiet { result ≡ 0 → Keeps (E.contents err.old) (E.contents err.new) }
+{
+    let account = match account_on(alloc, bytes, out) {
+        Ok(account) => account,
+        Err(refusal) => return end_by_fault(err, TextKind::Schedule, name, bytes, &refusal),
+    };
+    match shown_text(alloc, how, &account) {
+        Ok(text) => end_by_text(out, err, text.as_slice()),
+        Err(refusal) => end_by_refusal(err, &refusal),
+    }
+}
+
+// Shows the run of the schedule in a file.
+fn show_file<R: Files + AllocGlobal, I: Source, O: Sink, E: Write>(
+    rt: &R,
+    how: Shown,
+    file: Option<&str>,
+    input: &mut I,
+    out: &mut O,
+    err: &mut E,
+) -> u8
+    ensures ends { EndsOnRead (λ bytes between. EndsOnShown how bytes) (option_map (λ s. s.now) file.entry) (I.reading input.old) (I.reading input.new) result (O.printing out.old) (O.printing out.new) }
+    ensures quiet { result ≡ 0 → Keeps (E.contents err.old) (E.contents err.new) }
+{
+    match read_file(rt, file, input, err) {
+        Ok(bytes) => show_bytes(rt.alloc(), how, name_of(file), bytes.as_slice(), out, err),
+        Err(status) => status,
+    }
+}
+
+// The text on where the report of an account differs from the text of this name.
+fn difference_text(
+    alloc: Global,
+    account: &Account,
+    name: &str,
+    difference: &Difference<'_>,
+) -> Result<Vec<u8>, Refusal>
+    ensures { IfErr result (λ e. e ≡ Refusal.OutOfMemory) }
+{
+    let mut text = Vec::new(alloc);
+    match push_difference(&mut text, account, name, difference) {
+        Ok(()) => Ok(text),
+        Err(_) => Err(Refusal::OutOfMemory),
+    }
+}
+
+// The status of a difference that was to be printed, by the status of its printing.
+fn different(printing: u8) -> u8
+    ensures { result ≡ different printing }
+{
+    if printing == 0 { 1 } else { printing }
+}
+
+// Compares the report of the schedule that the bytes of the first name are with the text of the second.
+fn compare_bytes<O: Sink, E: Write>(
+    alloc: Global,
+    names: (&str, &str),
+    bytes: &[u8],
+    text: &[u8],
+    out: &mut O,
+    err: &mut E,
+) -> u8
+    ensures ends { EndsOnCompared bytes.now text.now result (O.printing out.old) (O.printing out.new) }
+    ensures quiet { result ≡ 0 → Keeps (E.contents err.old) (E.contents err.new) }
+{
+    let account = match account_on(alloc, bytes, out) {
+        Ok(account) => account,
+        Err(refusal) => return end_by_fault(err, TextKind::Schedule, names.0, bytes, &refusal),
+    };
+    let report = match account.report().text(alloc) {
+        Ok(report) => report,
+        Err(refusal) => return end_by_refusal(err, &refusal),
+    };
+    match difference_of(report.as_slice(), text) {
+        None => 0,
+        Some(difference) => match difference_text(alloc, &account, names.1, &difference) {
+            Ok(told) => different(end_by_text(out, err, told.as_slice())),
+            Err(refusal) => end_by_refusal(err, &refusal),
+        },
+    }
+}
+
+// Compares the report of the schedule in a file with the text in another.
+fn compare_files<R: Files + AllocGlobal, I: Source, O: Sink, E: Write>(
+    rt: &R,
+    file: Option<&str>,
+    report: Option<&str>,
+    input: &mut I,
+    out: &mut O,
+    err: &mut E,
+) -> u8
+    ensures ends { EndsOnRead (λ bytes between. EndsOnRead (λ text last. EndsOnCompared bytes text) (option_map (λ s. s.now) report.entry) between (I.reading input.new)) (option_map (λ s. s.now) file.entry) (I.reading input.old) (I.reading input.new) result (O.printing out.old) (O.printing out.new) }
+    ensures quiet { result ≡ 0 → Keeps (E.contents err.old) (E.contents err.new) }
+{
+    let bytes = match read_file(rt, file, input, err) {
+        Ok(bytes) => bytes,
+        Err(status) => return status,
+    };
+    match read_file(rt, report, input, err) {
+        Ok(text) => compare_bytes(
+            rt.alloc(),
+            (name_of(file), name_of(report)),
+            bytes.as_slice(),
+            text.as_slice(),
+            out,
+            err,
+        ),
+        Err(status) => status,
+    }
+}
+
+/// Shows a run as a view asks for it.
+pub(crate) fn show_view<R: Files + AllocGlobal, I: Source, O: Sink, E: Write>(
+    rt: &R,
+    view: View<'_>,
+    input: &mut I,
+    out: &mut O,
+    err: &mut E,
+) -> u8
+    ensures ends { EndsOnView (view_in view.entry) (I.reading input.old) (I.reading input.new) result (O.printing out.old) (O.printing out.new) }
+    ensures quiet { result ≡ 0 → Keeps (E.contents err.old) (E.contents err.new) }
+{
+    match view {
+        View::Report(file) => show_file(rt, Shown::Report, file, input, out, err),
+        View::Explanation(form, file) => {
+            show_file(rt, Shown::Explanation(form), file, input, out, err)
+        }
+        View::Statistics(form, file) => {
+            show_file(rt, Shown::Statistics(form), file, input, out, err)
+        }
+        View::Comparison(file, report) => compare_files(rt, file, report, input, out, err),
+    }
+}

@@ -1,2 +1,0 @@
-mod KnowingLaws
-mod StepLaws
