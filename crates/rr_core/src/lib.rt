@@ -3,14 +3,14 @@
 //! 1. recovers it: an opening reads what a crash left of its disk, formats a fresh one, or brings one of version 1 up to
 //!    version 2, and a core starts from the promise of what it found. `recover` does all of this; `Opening::start` and `step`
 //!    make one device call at a time;
-//! 2. tells it what happened, by `submit`, `hear`, `tick`, `suspect` or `advance`. It stages facts and owes messages;
+//! 2. tells it what happened: `step` takes an `Input`. It stages facts and owes messages;
 //! 3. flushes what is staged: `take_group`, a flush of `rr_journal`, and `mark`;
-//! 4. carries each message that may leave by then (`next_message`) to its addressee, which hears it. It comes as a `Cleared`:
-//!    only `Draft::clear`, by a `Mark`, and `Cleared::free` make one;
+//! 4. carries each message that may leave by then (`next_message`) to its addressee, which hears it (`Input::Hear`). It comes as
+//!    a `Cleared`, which nothing else makes;
 //! 5. tells clients the replies (`next_ack`).
 //!
-//! `crates/one_node` is such a program, and README shows its middle. What an input does is in `rr_behaviour`: for a message in
-//! `hear.rt`, for Ask and Decision in `decisions.rt`.
+//! `crates/one_node` is such a program, and README shows its middle. What an input does is in `rr_behaviour`, from `input.rt` on:
+//! for a message in `hear.rt`, for Ask and Decision in `decisions.rt`.
 #![tactic(auto)]
 
 mod cleared;
