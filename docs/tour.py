@@ -159,14 +159,6 @@ def page(program, room):
     return "".join(parts)
 
 
-def check_version(program):
-    """The version names the logic of the kit that is here: machines have kits of several names, with one logic."""
-    kit = subprocess.run(["rt", "version"], capture_output=True, text=True, check=True).stdout.strip()
-    said = subprocess.run([program, "--version"], capture_output=True, text=True, check=True).stdout.strip()
-    if kit.partition(" ")[2] != said.partition("rattle ")[2]:
-        sys.exit(f"docs/tour.py: rr --version says {said!r}, but the kit is {kit!r}")
-
-
 def main():
     words = argparse.ArgumentParser(description=__doc__, formatter_class=argparse.RawDescriptionHelpFormatter)
     words.add_argument("--write", action="store_true")
@@ -174,7 +166,6 @@ def main():
     asked = words.parse_args()
     with tempfile.TemporaryDirectory() as room:
         program = asked.rr or build(room)
-        check_version(program)
         made = page(program, room)
     if asked.write:
         PAGE.write_text(made)
