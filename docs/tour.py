@@ -4,8 +4,9 @@
     docs/tour.py [--rr RR]            runs them, and compares with docs/TOUR.md; the status is 1 where something differs
     docs/tour.py --write [--rr RR]    writes docs/TOUR.md
 
-Without --rr the program is built here without proofs, by hostile/unproved. The commands run in a fresh folder, in which
-examples and bench are the repository's. Standard output and standard error are shown in the order in which they come."""
+RR is a program without proofs, as `./build` makes it: its --version says so, and the page shows that. If it's left out, it is
+built here. The commands run in a fresh folder, in which examples and bench are the repository's. Standard output and
+standard error are shown in the order in which they come."""
 import argparse
 import difflib
 import os
@@ -18,11 +19,32 @@ TOP = pathlib.Path(__file__).resolve().parent.parent
 PAGE = TOP / "docs" / "TOUR.md"
 HEAD = """# A tour
 
-What a new user does, with what `rr` prints. `docs/tour.py` runs these commands and makes this page, and the gate compares it with what they
-print then. A line `status N` is the exit status, if it isn't 0. [FORMATS.md](FORMATS.md) has the texts and the bytes.
+What a new user does, with what `rr` prints. A line `status N` is the exit status, if it isn't 0. [FORMATS.md](FORMATS.md) has the texts and
+the bytes. `docs/tour.py` runs these commands and makes this page, and the gate compares it with what they print then.
+
+To follow it by hand, run `./build` at the top of the repository. Then begin in an empty folder, with the repository's folder for REPO:
+
+    ln -s REPO/examples REPO/bench .
+    mkdir bin; ln -s REPO/rr-unproved bin/rr; PATH=$PWD/bin:$PATH
 """
 
 TOUR = [
+    (
+        "A registry to talk to",
+        "`rr shell` answers line by line, to a person or through a pipe. What it answered holds after a restart, and request numbers continue. "
+        "A node that is stopped goes down as by a crash, and opens its folder when it is started. Without a majority nothing is decided: the "
+        "command `claim bell` may count later, or not.",
+        [
+            "printf 'claim printer room-4\\nlook printer\\nupdate printer room-5\\nat 1\\nclaim printer\\nclaim A\\n' | rr shell --nodes 3 --dir talk --client 7",
+            "printf 'look printer\\ntransfer printer 9\\nrelease printer\\n' | rr shell --nodes 3 --dir talk --client 7; cat talk/requests",
+            "printf 'claim room-5 desk\\nclaim room-12\\nlist room-\\nlist\\n' | rr shell --nodes 3 --dir talk --client 7",
+            "printf 'stop 2\\nclaim lamp hall\\nat 2\\nlook lamp\\nstart 2\\nclaim desk\\nlook lamp\\n' | rr shell --nodes 3 --dir talk --client 7",
+            "printf 'stop 1\\nstop 2\\nstatus\\nclaim bell\\nlook lamp\\nstart 1\\nclaim clock\\n' | rr shell --nodes 3 --dir talk --client 7 | sed 's/ facts.*//'",
+            "printf 'look lamp\\nclaim lamp\\nclaim LAMP\\n' | rr shell --nodes 3 --dir talk --client 8 --json",
+            "echo 'snapshot 0' | rr shell --nodes 3 --dir talk; rr show talk/0 | sed 's/ facts.*//'",
+            "printf 104857 > talk/requests; echo 'look printer' | rr shell --nodes 3 --dir talk",
+        ],
+    ),
     (
         "Help",
         "`-h` is short, and `--help` also has the format and two examples.",
@@ -31,6 +53,19 @@ TOUR = [
             "rr sim -h",
             "rr check --help",
             "rr simulate examples/one_command.schedule",
+        ],
+    ),
+    (
+        "Nodes in threads, disks and tapes",
+        "`rr run` runs nodes in threads. `rr show` reads the two files of a node's disk, `rr migrate` opens one of version 1, and `rr audit` reads a record of what nodes did.",
+        [
+            "rr run --nodes 3 --dir nodes --script examples/three_clients.script",
+            "mkdir node; bench/areas.py node 64; rr show node",
+            "printf '\\377' | dd of=node/a0 bs=1 seek=7 conv=notrunc status=none; rr show node",
+            "cp -r examples/version_1 v1; rr show v1",
+            "rr migrate v1 --node 0 --nodes 1",
+            "rr audit examples/one_command.tape",
+            "sed 3d examples/one_command.tape | rr audit",
         ],
     ),
     (
@@ -82,35 +117,6 @@ TOUR = [
             "rr draw examples/suspected_coordinator.schedule | grep -o '<title>[^<]*' | head -2",
         ],
     ),
-    (
-        "A registry to talk to",
-        "`rr shell` answers line by line, to a person or through a pipe. What it answered holds after a restart, and request numbers continue. "
-        "A node that is stopped goes down as by a crash, and opens its folder when it is started. Without a majority nothing is decided: the "
-        "command `claim bell` may count later, or not.",
-        [
-            "printf 'claim printer room-4\\nlook printer\\nupdate printer room-5\\nat 1\\nclaim printer\\nclaim A\\n' | rr shell --nodes 3 --dir talk --client 7",
-            "printf 'look printer\\ntransfer printer 9\\nrelease printer\\n' | rr shell --nodes 3 --dir talk --client 7; cat talk/requests",
-            "printf 'claim room-5 desk\\nclaim room-12\\nlist room-\\nlist\\n' | rr shell --nodes 3 --dir talk --client 7",
-            "printf 'stop 2\\nclaim lamp hall\\nat 2\\nlook lamp\\nstart 2\\nclaim desk\\nlook lamp\\n' | rr shell --nodes 3 --dir talk --client 7",
-            "printf 'stop 1\\nstop 2\\nstatus\\nclaim bell\\nlook lamp\\nstart 1\\nclaim clock\\n' | rr shell --nodes 3 --dir talk --client 7 | sed 's/ facts.*//'",
-            "printf 'look lamp\\nclaim lamp\\nclaim LAMP\\n' | rr shell --nodes 3 --dir talk --client 8 --json",
-            "echo 'snapshot 0' | rr shell --nodes 3 --dir talk; rr show talk/0 | sed 's/ facts.*//'",
-            "printf 104857 > talk/requests; echo 'look printer' | rr shell --nodes 3 --dir talk",
-        ],
-    ),
-    (
-        "Nodes in threads, disks and tapes",
-        "`rr run` runs nodes in threads. `rr show` reads the two files of a node's disk, `rr migrate` opens one of version 1, and `rr audit` reads a record of what nodes did.",
-        [
-            "rr run --nodes 3 --dir nodes --script examples/three_clients.script",
-            "mkdir node; bench/areas.py node 64; rr show node",
-            "printf '\\377' | dd of=node/a0 bs=1 seek=7 conv=notrunc status=none; rr show node",
-            "cp -r examples/version_1 v1; rr show v1",
-            "rr migrate v1 --node 0 --nodes 1",
-            "rr audit one_command.tape",
-            "sed 3d one_command.tape | rr audit",
-        ],
-    ),
 ]
 
 
@@ -127,7 +133,6 @@ def lay_out(room, program):
     (place / "bin" / "rr").symlink_to(program.resolve())
     for name in ("examples", "bench"):
         (place / name).symlink_to(TOP / name)
-    (place / "one_command.tape").symlink_to(TOP / "crates" / "worked_rows" / "data" / "tapes-one_command.tape")
     return place
 
 
@@ -159,14 +164,6 @@ def page(program, room):
     return "".join(parts)
 
 
-def check_version(program):
-    """The version names the logic of the kit that is here: machines have kits of several names, with one logic."""
-    kit = subprocess.run(["rt", "version"], capture_output=True, text=True, check=True).stdout.strip()
-    said = subprocess.run([program, "--version"], capture_output=True, text=True, check=True).stdout.strip()
-    if kit.partition(" ")[2] != said.partition("rattle ")[2]:
-        sys.exit(f"docs/tour.py: rr --version says {said!r}, but the kit is {kit!r}")
-
-
 def main():
     words = argparse.ArgumentParser(description=__doc__, formatter_class=argparse.RawDescriptionHelpFormatter)
     words.add_argument("--write", action="store_true")
@@ -174,7 +171,6 @@ def main():
     asked = words.parse_args()
     with tempfile.TemporaryDirectory() as room:
         program = asked.rr or build(room)
-        check_version(program)
         made = page(program, room)
     if asked.write:
         PAGE.write_text(made)

@@ -16,8 +16,10 @@ use std::marker::Model;
 
 /// What has a request number.
 pub trait Requested: Copy + Drop {
+    /// The request number that it has.
     ghost request_of: { Self → RequestNo };
 
+    /// Its request number.
     fn request(&self) -> RequestNo
         ensures { result ≡ request_of self.now };
 }

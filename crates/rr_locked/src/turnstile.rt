@@ -13,6 +13,7 @@ pub enum Place {
 
 /// What is passed at each place of each node. It may hold up the thread that passes.
 pub trait Turnstile {
+    /// Called as a node comes to a place. The thread that calls it goes on once this returns.
     fn pass(&self, node: NodeId, place: Place);
 }
 

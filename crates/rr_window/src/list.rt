@@ -60,6 +60,7 @@ impl Plain<Command, Command, u64> for Add {
 pub trait WindowName {
     ghost use Rattle.logbook.specs.Pages.{Book};
 
+    /// The log that the window with this name keeps its list by.
     ghost book: { Book };
 }
 

@@ -1,0 +1,44 @@
+# Made by share/completions.py from the help of rr.
+_rr() {
+  local current=$2 before=$3 words takes=nothing
+  if [ "$COMP_CWORD" = 1 ]; then
+    COMPREPLY=($(compgen -W 'sim stats check random sweep draw run shell audit show migrate help -h --help -V --version' -- "$current"))
+    return
+  fi
+  case ${COMP_WORDS[1]} in
+    sim) words='--explain --json -h --help'; takes=files ;;
+    stats) words='--json -h --help'; takes=files ;;
+    check) words='-h --help'; takes=files ;;
+    random) words='--seed --steps --nodes --lively --faults --schedule-only -h --help'; takes=nothing ;;
+    sweep) words='--seed -h --help'; takes=files ;;
+    draw) words='--from --to --node --instance -h --help'; takes=files ;;
+    run) words='--nodes --dir --script --tape -h --help'; takes=nothing ;;
+    shell) words='--nodes --dir --client --json -h --help'; takes=nothing ;;
+    audit) words='-h --help'; takes=files ;;
+    show) words='-h --help'; takes=folders ;;
+    migrate) words='--node --nodes -h --help'; takes=folders ;;
+    help) words=''; takes=commands ;;
+  esac
+  case $before in
+    --client) takes=nothing; words= ;;
+    --dir) takes=folders; words= ;;
+    --faults) takes=nothing; words= ;;
+    --from) takes=nothing; words= ;;
+    --instance) takes=nothing; words= ;;
+    --node) takes=nothing; words= ;;
+    --nodes) takes=nothing; words= ;;
+    --script) takes=files; words= ;;
+    --seed) takes=nothing; words= ;;
+    --steps) takes=nothing; words= ;;
+    --tape) takes=files; words= ;;
+    --to) takes=nothing; words= ;;
+  esac
+  [ $takes != commands ] || words='sim stats check random sweep draw run shell audit show migrate help'
+  COMPREPLY=($(compgen -W "$words" -- "$current"))
+  case $current:$takes in
+    -*) ;;
+    *:files) compopt -o filenames; COMPREPLY+=($(compgen -f -- "$current")) ;;
+    *:folders) compopt -o filenames; COMPREPLY+=($(compgen -d -- "$current")) ;;
+  esac
+}
+complete -F _rr rr rr-unproved
