@@ -10,6 +10,7 @@ use Rattle.rr_types.specs.declared.promise.Standing.{Standing}
 use Rattle.rr_types.specs.declared.promise.Standing.TheVariants.{Decided, Open}
 use Rattle.rr_types.specs.Registry.{is_same_request, has_request, Bindings, apply, firsts_beside, reply_after, reply_of}
 use Rattle.rr_types.specs.Facts.{instance_of, after_fact, standing_of}
+use Rattle.rr_types.specs.Promises as promises
 use Rattle.rr_types.specs.Promises.{AscendsFrom, standing_in, set_entry, set_standing, take_on, take_on_all, promise_of, decided_from}
 use Rattle.rr_model.proofs.Prefixes.{decided_from, prefix_is as prefix_by_places}
 use Rattle.rr_model.specs.World as world

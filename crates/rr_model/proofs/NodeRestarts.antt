@@ -5,6 +5,7 @@ use Rattle.std.proofs.lemmas.Bool.{false≢true}
 use Rattle.std.proofs.lemmas.List.{take_at}
 use Rattle.rr_types.specs.declared.fact.Fact.{Fact}
 use Rattle.rr_types.specs.declared.command.Command.{Command}
+use Rattle.rr_types.specs.Promises as promises
 use Rattle.rr_types.specs.Promises.{promise_of, decided_from}
 use Rattle.rr_types.specs.Registry.{registry_of}
 use Rattle.rr_model.specs.World as world

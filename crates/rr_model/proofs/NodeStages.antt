@@ -8,6 +8,7 @@ use Rattle.rr_types.specs.declared.fact.Fact.{Fact}
 use Rattle.rr_types.specs.declared.promise.Entry.{Entry}
 use Rattle.rr_types.specs.declared.message.Body.{Body}
 use Rattle.rr_types.specs.declared.message.Message.{Message}
+use Rattle.rr_types.specs.Promises as promises
 use Rattle.rr_types.specs.Promises.{promise_of, take_on, take_on_all, all_fit, decided_from}
 use Rattle.rr_types.specs.Standings.{round_of}
 use Rattle.rr_types.specs.Registry.{has_request, reply_of}
