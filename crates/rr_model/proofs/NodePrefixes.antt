@@ -11,7 +11,7 @@ use Rattle.rr_types.specs.declared.promise.Standing.TheVariants.{Decided, Open}
 use Rattle.rr_types.specs.Registry.{is_same_request, has_request, Bindings, apply, firsts_beside, reply_after, reply_of}
 use Rattle.rr_types.specs.Facts.{instance_of, after_fact, standing_of}
 use Rattle.rr_types.specs.Promises as promises
-use Rattle.rr_types.specs.Promises.{AscendsFrom, standing_in, set_entry, set_standing, take_on, take_on_all, promise_of, decided_from}
+use Rattle.rr_types.specs.Promises.{AscendsFrom, standing_in, set_entry, set_standing, take_on, take_on_all, promise_of}
 use Rattle.rr_model.proofs.Prefixes.{decided_from, prefix_is as prefix_by_places}
 use Rattle.rr_model.specs.World as world
 use Rattle.rr_model.specs.NodeState as node
@@ -69,18 +69,18 @@ none_below i low (e ∷ es) a l =
 said_later : (i j : ℕ) (e : Entry) (es : List Entry) → e.instance ≡ i → i + 1 ≤ j → standing_in es j ≡ standing_in (e ∷ es) j
 said_later i j e es x l = sym (ap (λ t. if t then Some e.standing else standing_in es j) (ne_eqb e.instance j (λ y. omega arith)))
 
-decided_one : (m i : ℕ) (facts : List Fact) (e : Entry) (es : List Entry) (t : Standing) → (e.instance == i) ≡ true → e.standing ≡ t → standing_of i facts ≡ Some t → decided_from (i + 1) es ≡ decided_from m (i + 1) facts → decided_from i (e ∷ es) ≡ decided_from (suc m) i facts
+decided_one : (m i : ℕ) (facts : List Fact) (e : Entry) (es : List Entry) (t : Standing) → (e.instance == i) ≡ true → e.standing ≡ t → standing_of i facts ≡ Some t → promises.decided_from (i + 1) es ≡ decided_from m (i + 1) facts → promises.decided_from i (e ∷ es) ≡ decided_from (suc m) i facts
 decided_one m i facts e es (Decided v) x y z ih = rw (x, y, z) (ap (λ w. v ∷ w) ih)
 decided_one m i facts e es (Open o) x y z ih = rw (x, y, z)
 
 -- the contiguous decided commands of ascending entries are those of the facts
-same_from : (most i : ℕ) (facts : List Fact) (es : List Entry) → AscendsFrom i es → length es ≤ most → ((j : ℕ) → i ≤ j → standing_in es j ≡ standing_of j facts) → decided_from i es ≡ decided_from most i facts
+same_from : (most i : ℕ) (facts : List Fact) (es : List Entry) → AscendsFrom i es → length es ≤ most → ((j : ℕ) → i ≤ j → standing_in es j ≡ standing_of j facts) → promises.decided_from i es ≡ decided_from most i facts
 same_from zero i facts [] a l s = refl
 same_from (suc m) i facts [] a l s = rw (sym (s i (le_refl i)))
 same_from zero i facts (e ∷ es) a l s = absurd (omega arith)
 same_from (suc m) i facts (e ∷ es) a l s = at (λ b s2. same_from m (i + 1) facts es b (le_of_suc-le-suc l) s2) (e.instance == i) refl
   where
-    at : (AscendsFrom (i + 1) es → ((j : ℕ) → i + 1 ≤ j → standing_in es j ≡ standing_of j facts) → decided_from (i + 1) es ≡ decided_from m (i + 1) facts) → (t : Bool) → (e.instance == i) ≡ t → decided_from i (e ∷ es) ≡ decided_from (suc m) i facts
+    at : (AscendsFrom (i + 1) es → ((j : ℕ) → i + 1 ≤ j → standing_in es j ≡ standing_of j facts) → promises.decided_from (i + 1) es ≡ decided_from m (i + 1) facts) → (t : Bool) → (e.instance == i) ≡ t → promises.decided_from i (e ∷ es) ≡ decided_from (suc m) i facts
     at ih true x =
         let same : e.instance ≡ i = eqb-true _ _ x in
         decided_one m i facts e es e.standing x refl (sym (s i (le_refl i)) ∙ ap (λ t. if t then Some e.standing else standing_in es i) x)
@@ -91,7 +91,7 @@ same_from (suc m) i facts (e ∷ es) a l s = at (λ b s2. same_from m (i + 1) fa
         rw (x, none)
 
 -- a node's decided prefix is that of the facts of which it knows the promise
-pub same_prefix : (facts : List Fact) → decided_from 0 (promise_of facts) ≡ world.decided_prefix facts
+pub same_prefix : (facts : List Fact) → promises.decided_from 0 (promise_of facts) ≡ world.decided_prefix facts
 same_prefix facts = same_from (length facts) 0 facts (promise_of facts) (ascends_all [] facts tt) (let l : length (take_on_all [] facts) ≤ length {A = Entry} [] + length facts = length_all [] facts in omega arith) (λ j l. standing_in-promise_of facts j) ∙ sym (prefix_by_places facts)
 
 same_number : (p q : RequestNo) → is_same_request p q ≡ true → p ≡ q

@@ -6,7 +6,7 @@ use Rattle.std.proofs.lemmas.List.{take_at}
 use Rattle.rr_types.specs.declared.fact.Fact.{Fact}
 use Rattle.rr_types.specs.declared.command.Command.{Command}
 use Rattle.rr_types.specs.Promises as promises
-use Rattle.rr_types.specs.Promises.{promise_of, decided_from}
+use Rattle.rr_types.specs.Promises.{promise_of}
 use Rattle.rr_types.specs.Registry.{registry_of}
 use Rattle.rr_model.specs.World as world
 use Rattle.rr_model.specs.World.{World, Reported, nothing_heard}
@@ -28,7 +28,7 @@ opened_alike n p facts = let s : NodeState = restored n p (promise_of facts) (le
 
 -- an opened node has the decided prefix of its facts
 pub opened_prefix : (n p : ℕ) (facts : List Fact) → node.decided_prefix (opened_over n p facts) ≡ world.decided_prefix facts
-opened_prefix n p facts = ap (decided_from 0) (opened_alike n p facts).marked ∙ same_prefix facts
+opened_prefix n p facts = ap (promises.decided_from 0) (opened_alike n p facts).marked ∙ same_prefix facts
 
 -- all its facts are marked
 pub opened_marked : (n p : ℕ) (facts : List Fact) → take (opened_over n p facts).marked_end facts ≡ facts

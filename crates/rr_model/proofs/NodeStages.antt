@@ -9,7 +9,7 @@ use Rattle.rr_types.specs.declared.promise.Entry.{Entry}
 use Rattle.rr_types.specs.declared.message.Body.{Body}
 use Rattle.rr_types.specs.declared.message.Message.{Message}
 use Rattle.rr_types.specs.Promises as promises
-use Rattle.rr_types.specs.Promises.{promise_of, take_on, take_on_all, all_fit, decided_from}
+use Rattle.rr_types.specs.Promises.{promise_of, take_on, take_on_all, all_fit}
 use Rattle.rr_types.specs.Standings.{round_of}
 use Rattle.rr_types.specs.Registry.{has_request, reply_of}
 use Rattle.rr_model.specs.World as world
@@ -217,7 +217,7 @@ module _ (X : Type 0) (known : X) (n p : ℕ) where
   owed_backed facts k b backing e r x = backed_below facts k (k + 1) b (omega arith) (λ i j y. subst HasRound y r) (subst (λ z. IsBackedAt facts z b) e x)
 
   prefix_is : (facts : List Fact) (h : Heard) (s : NodeState) → (K : Knows X n p facts h s) → node.decided_prefix s ≡ world.decided_prefix K.kept
-  prefix_is facts h s K = ap (decided_from 0) K.promise ∙ same_prefix K.kept
+  prefix_is facts h s K = ap (promises.decided_from 0) K.promise ∙ same_prefix K.kept
 
   pub moment : (facts : List Fact) (h : Heard) (s : NodeState) → Knows X n p facts h s → IsTruthful p facts h s
   moment facts h s K =
