@@ -390,6 +390,10 @@ module _ (n p : ℕ) (facts : List Fact) (h : Heard) (s : NodeState) (R : IsReac
   pub reached_owes_rounds : (o : Owed) → Contains s.owed o → NamesRounds o.message.body
   reached_owes_rounds o c = (reached_in n p facts h s R).owed o c
 
+  -- its open instances are in rounds above 0
+  pub reached_round_above : (i : ℕ) (o : OpenAt) → standing_at s i ≡ Some (Open o) → 0 < o.round
+  reached_round_above i o e = (reached_in n p facts h s R).standing i o e
+
   leaving_names : (m : Message) (o : Option Owed) → find (may_leave s.marked_end) s.owed ≡ o → option_map (λ (z : Owed). z.message) o ≡ Some m → NamesRounds m.body
   leaving_names m None e x = absurd (none-some m x)
   leaving_names m (Some o) e x = subst (λ (z : Message). NamesRounds z.body) (same_Some o.message m x) (reached_owes_rounds o (found_passes (may_leave s.marked_end) s.owed o e).0)
