@@ -1,8 +1,9 @@
 -- A client submits a command to a node: it waits, and where the lowest undecided instance has no round the node enters round 1.
-use Rattle.std.proofs.Common.{◌≡◌, ℕ, ◌+◌, ◌<◌, false, ◌==◌, ◌&&◌, ◌||◌, not, nat_lt, nat_le, find, is_some, if◌then◌else◌, List, [], ◌∷◌, ◌++◌, None, Some, option_map, refl, ap, sym, ◌∙◌, subst}
+use Rattle.std.proofs.Common.{◌≡◌, ℕ, ◌+◌, ◌<◌, false, ◌==◌, ◌&&◌, ◌||◌, not, nat_lt, nat_le, find, is_some, if◌then◌else◌, List, [], ◌∷◌, ◌++◌, Contains, None, Some, option_map, refl, ap, sym, ◌∙◌, subst}
 use Rattle.std.specs.Option.{option_map_or}
 use Rattle.std.specs.List.{list_any}
 use Rattle.std.proofs.lemmas.Bool.{lt-ltb}
+use Rattle.std.proofs.lemmas.List.Elements.{Contains-append_left}
 use Rattle.rr_types.specs.declared.command.Command.{Command}
 use Rattle.rr_types.specs.declared.fact.Fact.TheVariants.{Enter}
 use Rattle.rr_types.specs.declared.message.Body.TheVariants.{Request}
@@ -12,13 +13,13 @@ use Rattle.rr_types.specs.Commands.{is_same_command}
 use Rattle.rr_types.specs.Registry.{is_same_request, has_request}
 use Rattle.rr_types.specs.Rounds.{Estimated, OpenAt}
 use Rattle.rr_types.specs.Standings.{estimate_of}
-use Rattle.rr_model.specs.NodeState.{NodeState, Row, no_votes, row_of, put_row, standing_at, undecided_from, lowest_undecided, open_instances, others, is_decided_request, decided_prefix, next_number}
+use Rattle.rr_model.specs.NodeState.{NodeState, Row, Owed, no_votes, row_of, put_row, standing_at, undecided_from, lowest_undecided, open_instances, others, is_decided_request, decided_prefix, next_number}
 use Rattle.rr_model.specs.NodeParts.{owe, pool_add, stage, rows_after, is_estimate_beside, free_command, leave_round, enter_with, entering_estimate, enter}
 use Rattle.rr_model.specs.NodeDue.{Begin, first_due, due_at, due, carry_out, settle}
 use Rattle.rr_model.specs.NodeStep.{Submit, is_waiting, wait_for, submitted, taken_in, node_step, input_refusal}
 use Rattle.rr_model.proofs.NodeEnds.{settles_on}
 use Rattle.rr_model.proofs.NodeFirsts.{row_for, AreDecidedUpTo, IsBeyond, First, first_undecided_is, undecided_between, put_between, Onward, either, owe_rows, leave_rows, stage_rows, stage_owe_onward, leave_onward, settle_onward, onward_on}
-use Rattle.rr_model.proofs.NodeMoves.{if_true, if_false, no_le, Sits, settles, quiet_new}
+use Rattle.rr_model.proofs.NodeMoves.{if_true, if_false, no_le, IsBelow, Owes, owes_on, Sits, settles, quiet_new}
 use Rattle.rr_model.proofs.NodeAlone.{Comes, no_event, and_then, Flushed, takes}
 use Rattle.rr_model.proofs.NodePhases.{flushed_sits}
 
@@ -29,19 +30,21 @@ record Waits (c : Command) (s u : NodeState) : Type 0 where
   suspects : u.suspects ≡ s.suspects
   rows : u.rows ≡ s.rows
   waiting : u.waiting ≡ c.request ∷ []
+  owed : (o : Owed) → Contains s.owed o → Contains u.owed o
+  number : next_number u ≡ next_number s
 
 waits_now : (c : Command) (s : NodeState) → s.waiting ≡ [] → Waits c s (wait_for c.request s)
 unfolding wait_for
 waits_now c s e = subst (Waits c s) (sym (if_false (is_waiting s c.request) s (record s { waiting = s.waiting ++ c.request ∷ [] }) (ap (list_any (λ w. is_same_request w c.request)) e)))
-    (record { nodes = refl; node = refl; suspects = refl; rows = refl; waiting = ap (λ z. z ++ c.request ∷ []) e })
+    (record { nodes = refl; node = refl; suspects = refl; rows = refl; waiting = ap (λ z. z ++ c.request ∷ []) e; owed = λ o x. x; number = refl })
 
 waits_pooled : (c : Command) (s u : NodeState) → Waits c s u → Waits c s (pool_add c u)
 unfolding pool_add
-waits_pooled c s u W = either (Waits c s) u (record u { pool = u.pool ++ c ∷ [] }) _ W (record { nodes = W.nodes; node = W.node; suspects = W.suspects; rows = W.rows; waiting = W.waiting })
+waits_pooled c s u W = either (Waits c s) u (record u { pool = u.pool ++ c ∷ [] }) _ W (record { nodes = W.nodes; node = W.node; suspects = W.suspects; rows = W.rows; waiting = W.waiting; owed = W.owed; number = W.number })
 
 waits_owing : (c : Command) (s u : NodeState) (to : List ℕ) → Waits c s u → Waits c s (owe (Request c) None to u)
 unfolding owe
-waits_owing c s u to W = record { nodes = W.nodes; node = W.node; suspects = W.suspects; rows = W.rows; waiting = W.waiting }
+waits_owing c s u to W = record { nodes = W.nodes; node = W.node; suspects = W.suspects; rows = W.rows; waiting = W.waiting; owed = λ o x. Contains-append_left u.owed _ o (W.owed o x); number = W.number }
 
 waits_submitted : (c : Command) (s : NodeState) → s.waiting ≡ [] → Waits c s (taken_in (Submit c) s)
 unfolding taken_in submitted
@@ -73,9 +76,23 @@ stepped : (i p n : ℕ) (c : Command) (o : OpenAt) (s : NodeState) → OpenAndWa
 unfolding node_step
 stepped i p n c o s A = A
 
+step_owes : (c : Command) (s : NodeState) (m : Message) → Owes (settle (taken_in (Submit c) s)) m → Owes (node_step (Submit c) s) m
+unfolding node_step
+step_owes c s m O = O
+
 -- where it is open already, it stays as it was
 pub submits_open : (i p n : ℕ) (c : Command) (o : OpenAt) (s : NodeState) (w : List Message) → i < 1048576 → Sits i p n (Open o) no_votes s → s.waiting ≡ [] → Comes n p c s w (λ t v. OpenAndWaiting i p n c o t)
 submits_open i p n c o s w l S e = after_submit i p n c o s w (first_undecided_is i (Open o) no_votes s.rows S.row refl) l (stepped i p n c o s (open_waiting i p n c o s (taken_in (Submit c) s) S (waits_submitted c s e)))
+
+-- and what it owed is sent
+pub submits_owing : (i p n : ℕ) (c : Command) (o : OpenAt) (s : NodeState) (w : List Message) (m : Message) → i < 1048576 → Sits i p n (Open o) no_votes s → s.waiting ≡ [] → Owes s m → Comes n p c s w (λ t v. OpenAndWaiting i p n c o t × Contains v m)
+submits_owing i p n c o s w m l S e O =
+    let u : NodeState = taken_in (Submit c) s in
+    let W : Waits c s u = waits_submitted c s e in
+    let A : OpenAndWaiting i p n c o (node_step (Submit c) s) = stepped i p n c o s (open_waiting i p n c o s u S W) in
+    let owes : Owes (node_step (Submit c) s) m = step_owes c s m (owes_on u (settle u) m (settle_onward u) (record { backing = O.backing; below = subst (λ z. IsBelow z O.backing) (sym W.number) O.below; owed = W.owed _ O.owed })) in
+    and_then n p c s w (Flushed (node_step (Submit c) s)) (λ t v. OpenAndWaiting i p n c o t × Contains v m) (takes n p c s w (Submit c) (refl, not_full i c s (first_undecided_is i (Open o) no_votes s.rows S.row refl) l) tt) (λ t v a F.
+    no_event n p c t v (λ t2 v2. OpenAndWaiting i p n c o t2 × Contains v2 m) (flushed_open i p n c o (node_step (Submit c) s) t v A F, F.sent m owes))
 
 -- a node that has no row for its lowest undecided instance, and would take the command for it
 pub record IsBlank (i p n : ℕ) (c : Command) (s : NodeState) : Type 0 where
@@ -110,7 +127,7 @@ pools i p n c s B =
     let took : taken_in (Submit c) s ≡ owe (Request c) None (others s) u =
     if_false _ _ _ (ap (λ z. z || is_waiting s c.request) B.unheld ∙ idle) ∙ ap (λ z. owe (Request c) None (others s) (pool_add c z)) waited ∙ ap (owe (Request c) None (others s)) pooled in
     subst (Pools c s) (sym took) (record {
-      waits = record { nodes = refl; node = refl; suspects = refl; rows = refl; waiting = ap (λ z. z ++ c.request ∷ []) B.waiting };
+      waits = record { nodes = refl; node = refl; suspects = refl; rows = refl; waiting = ap (λ z. z ++ c.request ∷ []) B.waiting; owed = λ o x. Contains-append_left s.owed _ o x; number = refl };
       pool = ap (λ z. z ++ c ∷ []) B.pool;
     })
 

@@ -85,7 +85,7 @@ sits_on i p n st t s u st2 t2 S a F = record { row = F; nodes = a.nodes ∙ S.no
 pub standing_first : (i : ℕ) (st : Standing) (t : Tally) (s : NodeState) → First i st t s.rows → standing_at s i ≡ Some st
 standing_first i st t s F = ap (option_map (λ (r : Row). r.standing)) (first_row i st t s.rows F)
 
-open_first : (i : ℕ) (o : OpenAt) (t : Tally) (s : NodeState) → First i (Open o) t s.rows → i < 1048576 → (rest : List ℕ) × (open_instances s ≡ i ∷ rest)
+pub open_first : (i : ℕ) (o : OpenAt) (t : Tally) (s : NodeState) → First i (Open o) t s.rows → i < 1048576 → (rest : List ℕ) × (open_instances s ≡ i ∷ rest)
 unfolding open_instances
 open_first i o t s F l =
     let e : undecided_from 0 s.rows ≡ i = first_undecided_is i (Open o) t s.rows F refl in

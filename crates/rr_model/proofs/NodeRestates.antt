@@ -1,27 +1,28 @@
 -- A node behind its restart: its rows are those of its promise, and the lowest instance that it has not decided comes first.
-use Rattle.std.proofs.Common.{◌≡◌, ℕ, ◌+◌, ◌≤◌, ◌<◌, inl, inr, Bool, true, false, ◌==◌, nat_lt, not, ◌||◌, if◌then◌else◌, List, [], ◌∷◌, ◌++◌, map, Option, None, Some, refl, ap, sym, ◌∙◌, subst, arith, eqb-true, eq-eqb, le_refl}
+use Rattle.std.proofs.Common.{◌≡◌, ℕ, ◌+◌, ◌-◌, ◌≤◌, ◌<◌, inl, inr, Bool, true, false, ◌==◌, nat_lt, not, ◌||◌, if◌then◌else◌, List, [], ◌∷◌, ◌++◌, map, Option, None, Some, refl, ap, sym, ◌∙◌, subst, arith, eqb-true, eq-eqb, le_refl}
 use Rattle.std.specs.Option.{option_map_or}
 use Rattle.std.specs.List.{list_any}
-use Rattle.std.proofs.lemmas.Bool.{false≢true, eqb-false, ne_eqb, cases_lt, cases_order, and_from}
+use Rattle.std.proofs.lemmas.Bool.{lt-ltb, false≢true, eqb-false, ne_eqb, cases_lt, cases_order, and_from}
 use Rattle.std.proofs.lemmas.Option.{none-some, same_Some}
 use Rattle.rr_types.specs.declared.command.Command.{Command}
 use Rattle.rr_types.specs.declared.command.RequestNo.{RequestNo}
 use Rattle.rr_types.specs.declared.message.Body.{Body}
+use Rattle.rr_types.specs.declared.message.Body.TheVariants as say
 use Rattle.rr_types.specs.declared.promise.Entry.{Entry}
 use Rattle.rr_types.specs.declared.promise.Standing.{Standing}
 use Rattle.rr_types.specs.declared.promise.Standing.TheVariants.{Decided, Open}
 use Rattle.rr_types.specs.Facts.{decision_of}
 use Rattle.rr_types.specs.Promises.{AscendsFrom, standing_in}
 use Rattle.rr_types.specs.Registry.{is_same_request, has_request}
-use Rattle.rr_types.specs.Rounds.{OpenAt}
+use Rattle.rr_types.specs.Rounds.{OpenAt, coordinator_of}
 use Rattle.rr_types.specs.Standings.{is_undecided}
-use Rattle.rr_model.specs.NodeState.{NodeState, Row, standing_at, decided_command, decided_from, open_instances}
-use Rattle.rr_model.specs.NodeParts.{owe, restate, restate_all}
+use Rattle.rr_model.specs.NodeState.{NodeState, Row, no_votes, row_of, standing_at, decided_command, decided_from, open_instances}
+use Rattle.rr_model.specs.NodeParts.{owe, backing_at, restate, restate_all}
 use Rattle.rr_model.specs.NodeStep.{promised_row, restored, started}
 use Rattle.rr_model.proofs.NodePrefixes.{none_below}
-use Rattle.rr_model.proofs.NodeMoves.{if_true, if_false}
+use Rattle.rr_model.proofs.NodeMoves.{if_true, if_false, Owes, owes_on, owes_new, from_to, estimated, open_first, standing_first}
 use Rattle.rr_model.proofs.NodeCounts.{or_there}
-use Rattle.rr_model.proofs.NodeFirsts.{AreDecidedUpTo, Onward, onward_not, onward_on, either, owe_onward, owe_rows, owe_pool, IsBeyond}
+use Rattle.rr_model.proofs.NodeFirsts.{AreDecidedUpTo, First, first_row, Onward, onward_not, onward_on, either, owe_onward, owe_rows, owe_pool, IsBeyond}
 
 -- rows and pool are the same, and the node goes on from what it was
 abbrev pub SameRows : NodeState → NodeState → Type 0
@@ -182,3 +183,34 @@ holds low i c (x ∷ es) a l d e = elim (cases_lt low i) [
       held_one low c.request x es c f.0 is (if_true (is_same_request c.request c.request) true _ (same_request c.request))
       )
 ]
+
+promised_backing : (next i : ℕ) (es : List Entry) (row : Row) → row_of (map (promised_row next) es) i ≡ Some row → row.backing.entered ≡ next - 1
+promised_backing next i [] row e = absurd (none-some row e)
+promised_backing next i (x ∷ es) row e = by (x.instance == i) (promised_backing next i es row) e
+  where
+    by : (b : Bool) → (row_of (map (promised_row next) es) i ≡ Some row → row.backing.entered ≡ next - 1) → (if b then Some (promised_row next x) else row_of (map (promised_row next) es) i) ≡ Some row → row.backing.entered ≡ next - 1
+    by true ih y = ap (λ (z : Row). z.backing.entered) (sym (same_Some _ row y))
+    by false ih y = ih y
+
+restates_estimate : (i : ℕ) (s : NodeState) (o : OpenAt) → standing_at s i ≡ Some (Open o) → o.stamp < o.round → o.proposal ≡ None → restate i s ≡ owe (say.Estimate i (estimated o.round o)) (Some (backing_at (λ b. b.entered) s i)) (coordinator_of o.round s.nodes ∷ []) s
+unfolding restate
+restates_estimate i s o e l none = let t : nat_lt o.stamp o.round ≡ true = lt-ltb o.stamp o.round l in rw (e, none, t) refl
+
+starts_with : (n p : ℕ) (promise : List Entry) (next i : ℕ) (rest : List ℕ) → open_instances (restored n p promise next) ≡ i ∷ rest → started n p promise next ≡ restate_all rest (restate i (restored n p promise next))
+unfolding started
+starts_with n p promise next i rest e = ap (λ z. restate_all z (restored n p promise next)) e
+
+-- a restarted node owes the coordinator of its round the estimate with which it had entered it
+pub opened_owes : (n p i next : ℕ) (promise : List Entry) (o : OpenAt) → First i (Open o) no_votes (restored n p promise next).rows → i < 1048576 → 0 < next → o.stamp < o.round → o.proposal ≡ None → Owes (started n p promise next) (from_to p (coordinator_of o.round n) (say.Estimate i (estimated o.round o)))
+opened_owes n p i next promise o F small some l none =
+    let s : NodeState = restored n p promise next in
+    let x : (rest : List ℕ) × (open_instances s ≡ i ∷ rest) = open_first i o no_votes s F small in
+    let e : standing_at s i ≡ Some (Open o) = standing_first i (Open o) no_votes s F in
+    let at : backing_at (λ b. b.entered) s i ≡ next - 1 = ap (λ z. option_map_or (λ (r : Row). r.backing.entered) z 0) (first_row i (Open o) no_votes s.rows F) ∙ promised_backing next i promise _ (first_row i (Open o) no_votes s.rows F) in
+    let t : NodeState = owe (say.Estimate i (estimated o.round o)) (Some (backing_at (λ b. b.entered) s i)) (coordinator_of o.round n ∷ []) s in
+    let owes : Owes t (from_to p (coordinator_of o.round n) (say.Estimate i (estimated o.round o))) = owes_new (say.Estimate i (estimated o.round o)) (backing_at (λ b. b.entered) s i) (coordinator_of o.round n ∷ []) s (coordinator_of o.round n) (0, omega arith, refl) (below_end (backing_at (λ b. b.entered) s i) next at some) in
+    let all : started n p promise next ≡ restate_all x.0 t = starts_with n p promise next i x.0 x.1 ∙ ap (restate_all x.0) (restates_estimate i s o e l none) in
+    subst (λ z. Owes z (from_to p (coordinator_of o.round n) (say.Estimate i (estimated o.round o)))) (sym all) (owes_on t (restate_all x.0 t) _ (restate_all_same x.0 t).2 owes)
+  where
+    below_end : (a next : ℕ) → a ≡ next - 1 → 0 < next → a < next + 0 + 0
+    below_end a next e l = omega arith

@@ -134,7 +134,7 @@ conclude_in i v s I = owe_in (say.Decision i v) (Some (next_number s)) (others s
 
 propose_in : (i r : ℕ) (v : Command) (s : NodeState) → 0 < r → IsInRounds s → IsInRounds (propose i r v s)
 unfolding propose
-propose_in i r v s l I = owe_in (say.Proposal i r v) (Some (next_number s)) (everyone s) (stage (Propose i r v) s) l (stage_in (Propose i r v) s tt I)
+propose_in i r v s l I = owe_in (say.Proposal i r v) (Some (next_number s)) _ (stage (Propose i r v) s) l (stage_in (Propose i r v) s tt I)
 
 leave_in : (i : ℕ) (s : NodeState) → IsInRounds s → IsInRounds (leave_round i s)
 leave_in i s I = either _ s (nat_lt (stamp_of (standing_at s i)) (round_of (standing_at s i)) && not (coordinator_of (round_of (standing_at s i)) s.nodes == s.node))

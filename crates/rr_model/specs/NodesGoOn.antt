@@ -6,7 +6,7 @@ use Rattle.rr_types.specs.declared.message.Message.{Message}
 use Rattle.rr_types.specs.declared.promise.Standing.TheVariants.{Decided, Open}
 use Rattle.rr_types.specs.Facts.{standing_of}
 use Rattle.rr_types.specs.Promises.{standing_in, all_fit}
-use Rattle.rr_types.specs.Rounds.{OpenAt, majority_of}
+use Rattle.rr_types.specs.Rounds.{OpenAt, coordinator_of, majority_of}
 use Rattle.rr_types.specs.Standings.{is_undecided}
 use Rattle.rr_model.specs.Lawful.{count_below}
 use Rattle.rr_model.specs.World.{with_at}
@@ -82,3 +82,19 @@ pub record CanDecideNext (n : ℕ) (set : ℕ → Bool) (facts : ℕ → List Fa
 -- where their rounds of it leave room for n more
 abbrev pub NodesCanGoOn : Type 0
 NodesCanGoOn = (n : ℕ) (set : ℕ → Bool) (facts : ℕ → List Fact) (c : Command) (i bound : ℕ) → majority_of n ≤ count_below set n → i < 1048576 → 1 ≤ bound → bound + n ≤ 2147483647 → ((q : ℕ) → q < n → set q ≡ true → IsReadyFor n bound i c q (facts q)) → CanDecideNext n set facts c i
+
+-- node q of n stands in round r of instance i: its facts fit, and decide each instance below i. They leave i in that round, in
+-- which the node has neither adopted nor proposed
+pub record StandsIn (n r i q : ℕ) (facts : List Fact) : Type 0 where
+  pub fit : all_fit n q [] facts ≡ true
+  pub below : (j : ℕ) → j < i → is_undecided (standing_of j facts) ≡ false
+  pub open : OpenAt
+  pub here : standing_of i facts ≡ Some (Open open)
+  pub round : open.round ≡ r
+  pub stamp : open.stamp < r
+  pub none : open.proposal ≡ None
+
+-- where the nodes of a majority stand in one round, which one of them coordinates, they can decide in it, be it the last one:
+-- behind a restart each says again what its facts back
+abbrev pub RoundsCanEnd : Type 0
+RoundsCanEnd = (n : ℕ) (set : ℕ → Bool) (facts : ℕ → List Fact) (c : Command) (i r : ℕ) → majority_of n ≤ count_below set n → i < 1048576 → r ≤ 2147483647 → set (coordinator_of r n) ≡ true → ((q : ℕ) → q < n → set q ≡ true → StandsIn n r i q (facts q)) → CanDecideNext n set facts c i
