@@ -46,3 +46,13 @@ pub mod Phases
 pub mod Majorities
 pub mod PrefixHolds
 pub mod Served
+pub mod NodeFirsts
+pub mod NodeMoves
+pub mod NodeAnswers
+pub mod NodeAlone
+pub mod NodeCounts
+pub mod NodePhases
+pub mod NodesTogether
+pub mod NodeRestates
+pub mod NodeBegins
+pub mod NodesDecide

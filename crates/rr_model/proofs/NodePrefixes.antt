@@ -35,7 +35,7 @@ ascends_standing : (i : ℕ) (s : Option Standing) (es : List Entry) → Ascends
 ascends_standing i None es a = a
 ascends_standing i (Some s) es a = ascends_set 0 i s es (omega arith) a
 
-ascends_all : (es : List Entry) (facts : List Fact) → AscendsFrom 0 es → AscendsFrom 0 (take_on_all es facts)
+pub ascends_all : (es : List Entry) (facts : List Fact) → AscendsFrom 0 es → AscendsFrom 0 (take_on_all es facts)
 ascends_all es [] a = a
 ascends_all es (f ∷ facts) a = ascends_all (take_on es f) facts (ascends_standing (instance_of f) (after_fact (standing_in es (instance_of f)) f) es a)
 
@@ -59,7 +59,7 @@ length_all es (f ∷ facts) =
     let b : length (take_on es f) ≤ suc (length es) = length_standing (instance_of f) (after_fact (standing_in es (instance_of f)) f) es in
     omega arith
 
-none_below : (i low : ℕ) (es : List Entry) → AscendsFrom low es → i < low → standing_in es i ≡ None
+pub none_below : (i low : ℕ) (es : List Entry) → AscendsFrom low es → i < low → standing_in es i ≡ None
 none_below i low [] a l = refl
 none_below i low (e ∷ es) a l =
     let m : low < e.instance + 1 = a.0 in

@@ -136,7 +136,7 @@ conclude_in i v s I = owe_in (say.Decision i v) (Some (next_number s)) (others s
 
 propose_in : (i r : ℕ) (v : Command) (s : NodeState) → 0 < r → IsInRounds s → IsInRounds (propose i r v s)
 unfolding propose
-propose_in i r v s l I = owe_in (say.Proposal i r v) (Some (next_number s)) (everyone s) (stage (Propose i r v) s) l (stage_in (Propose i r v) s tt I)
+propose_in i r v s l I = owe_in (say.Proposal i r v) (Some (next_number s)) _ (stage (Propose i r v) s) l (stage_in (Propose i r v) s tt I)
 
 leave_in : (i : ℕ) (s : NodeState) → IsInRounds s → IsInRounds (leave_round i s)
 leave_in i s I = either _ s (nat_lt (stamp_of (standing_at s i)) (round_of (standing_at s i)) && not (coordinator_of (round_of (standing_at s i)) s.nodes == s.node))
@@ -391,6 +391,10 @@ module _ (n p : ℕ) (facts : List Fact) (h : Heard) (s : NodeState) (R : IsReac
   -- what a node that was reached owes names rounds above 0
   pub reached_owes_rounds : (o : Owed) → Contains s.owed o → NamesRounds o.message.body
   reached_owes_rounds o c = (reached_in n p facts h s R).owed o c
+
+  -- its open instances are in rounds above 0
+  pub reached_round_above : (i : ℕ) (o : OpenAt) → standing_at s i ≡ Some (Open o) → 0 < o.round
+  reached_round_above i o e = (reached_in n p facts h s R).standing i o e
 
   leaving_names : (m : Message) (o : Option Owed) → find (may_leave s.marked_end) s.owed ≡ o → option_map (λ (z : Owed). z.message) o ≡ Some m → NamesRounds m.body
   leaving_names m None e x = absurd (none-some m x)

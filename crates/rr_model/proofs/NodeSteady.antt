@@ -62,7 +62,7 @@ conclude_stays i v s = further s (stage (Decide i v) s) _ (stage_stays (Decide i
 
 propose_stays : (i r : ℕ) (v : Command) (s : NodeState) → StaysMarked s (propose i r v s)
 unfolding propose
-propose_stays i r v s = further s (stage (Propose i r v) s) _ (stage_stays (Propose i r v) s) (owe_stays (say.Proposal i r v) (Some (next_number s)) (everyone s) (stage (Propose i r v) s))
+propose_stays i r v s = further s (stage (Propose i r v) s) _ (stage_stays (Propose i r v) s) (owe_stays (say.Proposal i r v) (Some (next_number s)) _ (stage (Propose i r v) s))
 
 leave_stays : (i : ℕ) (s : NodeState) → StaysMarked s (leave_round i s)
 leave_stays i s = either s _ s (nat_lt (stamp_of (standing_at s i)) (round_of (standing_at s i)) && not (coordinator_of (round_of (standing_at s i)) s.nodes == s.node)) (owe_stays (say.Nack i (round_of (standing_at s i))) None (coordinator_of (round_of (standing_at s i)) s.nodes ∷ []) s) (itself s)

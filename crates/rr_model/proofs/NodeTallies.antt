@@ -42,7 +42,7 @@ votes_more n ms i r low v (w ∷ ws) l b s a = at (λ above. votes_more n ms i r
         (a.0, a.1, a.2, ih above)
 
 -- whether a node is among the senders
-abbrev is_sender : List Vote → ℕ → Bool
+abbrev pub is_sender : List Vote → ℕ → Bool
 is_sender [] q = false
 is_sender (v ∷ vs) q = if v.sender == q then true else is_sender vs q
 
@@ -168,7 +168,7 @@ pick_largest n ms i r t v H e = at (nat_le (majority_of n) (length t.estimates))
     at true l y = picked n ms i r t.estimates v (best_vote t.estimates) refl y H.votes (leb-true _ _ l)
     at false l y = absurd (none-some v y)
 
-count_range : (f : ℕ → Bool) (a k : ℕ) → count_below f a + length (filter f (range_with_len a k)) ≡ count_below f (a + k)
+pub count_range : (f : ℕ → Bool) (a k : ℕ) → count_below f a + length (filter f (range_with_len a k)) ≡ count_below f (a + k)
 count_range f a zero = ap (λ z. z) (let e : a + 0 ≡ a = omega arith in (omega arith) ∙ ap (count_below f) (sym e))
 count_range f a (suc k) =
     let ih : count_below f (a + 1) + length (filter f (range_with_len (a + 1) k)) ≡ count_below f ((a + 1) + k) = count_range f (a + 1) k in

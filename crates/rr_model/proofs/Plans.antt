@@ -68,7 +68,7 @@ largest_or : (n : ℕ) (set : ℕ → Bool) (t : ℕ → ℕ) → Largest n set 
 largest_or zero set t = inr (λ k m. let l : k < 0 = m.0 in omega arith)
 largest_or (suc n) set t = largest_by n set t (largest_or n set t) (set n) refl
 
-some_member : (n : ℕ) (set : ℕ → Bool) → majority_of n ≤ count_below set n → (q : ℕ) × In n set q
+pub some_member : (n : ℕ) (set : ℕ → Bool) → majority_of n ≤ count_below set n → (q : ℕ) × In n set q
 some_member n set enough =
     let all : HasMajority n (λ q. set q ≡ true) = record { members = set; enough = enough; each = λ q l m. m } in
     let x : (q : ℕ) × (q < n) × (set q ≡ true) × (set q ≡ true) = majorities_meet n (λ q. set q ≡ true) (λ q. set q ≡ true) all all in

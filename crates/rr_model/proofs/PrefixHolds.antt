@@ -30,11 +30,11 @@ count_by g i k false e ih at false = ih
 count_by g i k false e ih at true = omega arith
 
 -- one member more, at most
-one_more : (g : ℕ → Bool) (i k : ℕ) → count_below (λ q. if i == q then true else g q) k ≤ suc (count_below g k)
+pub one_more : (g : ℕ → Bool) (i k : ℕ) → count_below (λ q. if i == q then true else g q) k ≤ suc (count_below g k)
 one_more g i zero = omega arith
 one_more g i (suc k) = count_by g i k (i == k) refl (one_more g i k) (λ e. counts_no_fewer (λ q. if i == q then true else g q) g k (no_others g i k (omega arith))) (g k)
 
-none_counted : (k : ℕ) → count_below (λ q. false) k ≤ 0
+pub none_counted : (k : ℕ) → count_below (λ q. false) k ≤ 0
 none_counted zero = omega arith
 none_counted (suc k) = none_counted k
 

@@ -16,3 +16,4 @@ pub mod NodeStays
 pub mod NodeReached
 pub mod NodeInWorld
 pub mod NoDeadEnd
+pub mod NodesGoOn

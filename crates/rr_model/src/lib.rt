@@ -29,6 +29,7 @@ ghost use Rattle.rr_model.specs.Examples.{first_request, claim_a_x, to_itself, f
 ghost use Rattle.rr_model.specs.ClusterExamples.{claim_a_y, first_round, two_rounds, IsDecideUnheardUnlawful, IsProposeOfAnotherCommandUnlawful, kept_over_two_rounds, decides_by_the_others, kept_by_it, crashes_before_it_tells, enters_anew, tells_it_now, IsLostEstimateUnlawful, decides_instance_1, decides_out_of_order, decides_twice, registry_of_one_claim};
 ghost use Rattle.rr_model.specs.Sound.{IsSound, IsChosen, IsDecidedList};
 ghost use Rattle.rr_model.specs.NoDeadEnd.{NoDeadEnd, EachCanBeServed};
+ghost use Rattle.rr_model.specs.NodesGoOn.{NodesCanGoOn, RoundsCanEnd};
 ghost use Rattle.rr_model.specs.Laws.{after_steps, AreBeginningsRuns, StaysChosen, DoesListGrow, AreKeptFactsNeverLost, DoRoundsRise, DoAcksBind, AreProposalsLocked, KeepsRealTime, DoLaterCommandsStandBehind, DoesWhatIsLeftFit, DoesPromiseStand, DoLawfulFactsFit};
 
 /// Agreement and durability: every run of any number of nodes is sound, whatever is lost, repeated, reordered,
@@ -42,6 +43,14 @@ pub fn agreement()
 pub fn no_dead_end()
     ensures a_majority_can_decide { NoDeadEnd }
     ensures each_request_can_be_served { EachCanBeServed }
+{}
+
+/// Nodes as they are defined can go on. Behind a restart of all, whatever they keep, a majority can decide the lowest
+/// instance that none of them has decided. Where none knows of it, its command is the client's, and the reply is due.
+/// Where they stand in one round, which one of them coordinates, they need no later round, and it may be the last.
+pub fn nodes_can_go_on()
+    ensures a_majority_can_decide_next { NodesCanGoOn }
+    ensures a_round_can_be_ended { RoundsCanEnd }
 {}
 
 /// Laws of runs, of which agreement is made: rounds rise, an acknowledgement binds what its sender says
