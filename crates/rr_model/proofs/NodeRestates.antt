@@ -12,11 +12,11 @@ use Rattle.rr_types.specs.declared.promise.Entry.{Entry}
 use Rattle.rr_types.specs.declared.promise.Standing.{Standing}
 use Rattle.rr_types.specs.declared.promise.Standing.TheVariants.{Decided, Open}
 use Rattle.rr_types.specs.Facts.{decision_of}
-use Rattle.rr_types.specs.Promises.{AscendsFrom, standing_in}
+use Rattle.rr_types.specs.Promises.{AscendsFrom, standing_in, decided_from}
 use Rattle.rr_types.specs.Registry.{is_same_request, has_request}
 use Rattle.rr_types.specs.Rounds.{OpenAt, coordinator_of}
 use Rattle.rr_types.specs.Standings.{is_undecided}
-use Rattle.rr_model.specs.NodeState.{NodeState, Row, no_votes, row_of, standing_at, decided_command, decided_from, open_instances}
+use Rattle.rr_model.specs.NodeState.{NodeState, Row, no_votes, row_of, standing_at, decided_command, open_instances}
 use Rattle.rr_model.specs.NodeParts.{owe, backing_at, restate, restate_all}
 use Rattle.rr_model.specs.NodeStep.{promised_row, restored, started}
 use Rattle.rr_model.proofs.NodePrefixes.{none_below}

@@ -10,13 +10,13 @@ use Rattle.rr_types.specs.declared.message.Body.TheVariants as say
 use Rattle.rr_types.specs.declared.message.Message.{Message}
 use Rattle.rr_types.specs.declared.promise.Standing.TheVariants.{Decided, Open}
 use Rattle.rr_types.specs.Facts.{standing_of}
-use Rattle.rr_types.specs.Promises.{AscendsFrom, standing_in, promise_of, all_fit}
+use Rattle.rr_types.specs.Promises.{AscendsFrom, standing_in, promise_of, all_fit, decided_from}
 use Rattle.rr_types.specs.Registry.{has_request}
 use Rattle.rr_types.specs.Rounds.{OpenAt, coordinator_of, majority_of}
 use Rattle.rr_types.specs.Standings.{is_undecided}
 use Rattle.rr_model.specs.Lawful.{count_below}
 use Rattle.rr_model.specs.World.{nothing_heard}
-use Rattle.rr_model.specs.NodeState.{NodeState, Row, no_votes, row_of, standing_at, decided_prefix, decided_from}
+use Rattle.rr_model.specs.NodeState.{NodeState, Row, no_votes, row_of, standing_at, decided_prefix}
 use Rattle.rr_model.specs.NodeStep.{promised_row, restored, next_acknowledged}
 use Rattle.rr_model.specs.NodeReached.{IsReached, Opened, opened_over}
 use Rattle.rr_model.specs.NodesGoOn.{restarted, IsFreeAt, IsReadyFor, NodesCanGoOn, StandsIn, RoundsCanEnd, CanDecideNext}
@@ -170,7 +170,7 @@ module _ (n : ℕ) (set : ℕ → Bool) (facts : ℕ → List Fact) (c : Command
     stands_there : (q : ℕ) → q < n → set q ≡ true → StandsIn n r i q (facts q) → (w : List Message) → Comes n q c (opened_over n q (facts q)) w (Enters q)
     stands_there q l y R w =
         let s : NodeState = opened_over n q (facts q) in
-        let o : OpenAt = R.open in
+        let o : OpenAt = R.present in
         let S : Sits i q n (Open o) no_votes s = opened_open n q (facts q) i o R.below R.here in
         let F : First i (Open o) no_votes (restored n q (promise_of (facts q)) (length (facts q))).rows = subst (First i (Open o) no_votes) (same_opened n q (facts q)).0 S.row in
         let O : Owes s (from_to q (coordinator_of o.round n) (say.Estimate i (estimated o.round o))) = opened_owes n q i (length (facts q)) (promise_of (facts q)) o F small (some_facts i (facts q) o R.here) (subst (λ z. o.stamp < z) (sym R.round) R.stamp) R.none in
@@ -213,13 +213,20 @@ module _ (n : ℕ) (set : ℕ → Bool) (facts : ℕ → List Fact) (c : Command
           is_due = λ same q l y. is_answered v q (L.end.state q) (L.up q l y) (L.goal.2 q l y) same;
         }
 
+-- in such a round, where each is ready
+ready_decide : (n : ℕ) (set : ℕ → Bool) (facts : ℕ → List Fact) (c : Command) (i bound : ℕ) → majority_of n ≤ count_below set n → i < 1048576 → 1 ≤ bound → ((q : ℕ) → q < n → set q ≡ true → IsReadyFor n bound i c q (facts q)) → (k r : ℕ) → k < n → set k ≡ true → bound < r → 0 < r → r ≤ 2147483647 → coordinator_of r n ≡ k → CanDecideNext n set facts c i
+ready_decide n set facts c i bound enough small one ready k r exists member above positive within coordinates =
+    decides_in n set facts c i enough small (λ q l y. (ready q l y).fit) k r exists member positive within coordinates
+    (λ q l y w. ready_enters n set facts c i enough small (λ q2 l2 y2. (ready q2 l2 y2).fit) k r exists member positive within coordinates bound above one q l y (ready q l y) w)
+
 -- the nodes of a majority can decide their lowest undecided instance, and answer the client
 pub decide_next : NodesCanGoOn
 decide_next n set facts c i bound enough small one most ready =
     let k : (q : ℕ) × In n set q = some_member n set enough in
     let r : RoundFor n bound k.0 = round_for n bound k.0 k.1.0 in
-    decides_in n set facts c i enough small (λ q l y. (ready q l y).fit) k.0 r.0 k.1.0 k.1.1 (let x : bound < r.0 = r.1 in omega arith) (let x : r.0 ≤ bound + n = r.2 in omega arith) r.3
-    (λ q l y w. ready_enters n set facts c i enough small (λ q2 l2 y2. (ready q2 l2 y2).fit) k.0 r.0 k.1.0 k.1.1 (let x : bound < r.0 = r.1 in omega arith) (let x : r.0 ≤ bound + n = r.2 in omega arith) r.3 bound r.1 one q l y (ready q l y) w)
+    let above : bound < r.0 = r.1 in
+    let within : r.0 ≤ bound + n = r.2 in
+    ready_decide n set facts c i bound enough small one ready k.0 r.0 k.1.0 k.1.1 above (omega arith) (omega arith) r.3
 
 below_n : (r n : ℕ) → 0 < n → r % n < n
 below_n r n l = omega arith
@@ -229,7 +236,7 @@ pub end_round : RoundsCanEnd
 end_round n set facts c i r enough small within member stands =
     let q : (q : ℕ) × In n set q = some_member n set enough in
     let R : StandsIn n r i q.0 (facts q.0) = stands q.0 q.1.0 q.1.1 in
-    let positive : 0 < r = (let x : R.open.stamp < r = R.stamp in omega arith) in
+    let positive : 0 < r = (let x : R.present.stamp < r = R.stamp in omega arith) in
     let exists : coordinator_of r n < n = below_n r n (let x : q.0 < n = q.1.0 in omega arith) in
     decides_in n set facts c i enough small (λ q2 l y. (stands q2 l y).fit) (coordinator_of r n) r exists member positive within refl
     (λ q2 l y w. stands_there n set facts c i enough small (λ q3 l3 y3. (stands q3 l3 y3).fit) (coordinator_of r n) r exists member positive within refl q2 l y (stands q2 l y) w)

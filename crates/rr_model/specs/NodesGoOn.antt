@@ -91,11 +91,11 @@ NodesCanGoOn = (n : ℕ) (set : ℕ → Bool) (facts : ℕ → List Fact) (c : C
 pub record StandsIn (n r i q : ℕ) (facts : List Fact) : Type 0 where
   pub fit : all_fit n q [] facts ≡ true
   pub below : (j : ℕ) → j < i → is_undecided (standing_of j facts) ≡ false
-  pub open : OpenAt
-  pub here : standing_of i facts ≡ Some (Open open)
-  pub round : open.round ≡ r
-  pub stamp : open.stamp < r
-  pub none : open.proposal ≡ None
+  pub present : OpenAt
+  pub here : standing_of i facts ≡ Some (Open present)
+  pub round : present.round ≡ r
+  pub stamp : present.stamp < r
+  pub none : present.proposal ≡ None
 
 -- where the nodes of a majority stand in one round, which one of them coordinates, they can decide in it, be it the last one:
 -- behind a restart each says again what its facts back
