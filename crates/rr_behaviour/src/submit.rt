@@ -27,7 +27,7 @@ pub fn submit_refusal(state: &State, command: &Command) -> Option<Refusal>
 /// the decided prefix holds it.
 #[tactic(auto, using(crate::proofs::InputLemmas::others_after_pool_add, crate::proofs::InputLemmas::others_after_wait_for), unfolding(rr_model::specs::NodeStep::submitted))]
 pub fn submitted(step: &mut Step<'_>, command: &Command, is_held: bool) -> Result<(), Refusal>
-    requires { is_held ≡ has_request (decided_prefix step.old.state) command.request }
+    requires { is_held ≡ has_request (decided_prefix step.old.state) command.now.request }
     ensures ok { OnOk result (step.new ≡ stepped (submitted command.now) step.old) }
     ensures err { IfErr result (λ e. e ≡ Refusal.OutOfMemory) }
 {
