@@ -19,7 +19,7 @@ use crate::owing::Reach;
 use crate::state::State;
 use crate::{estimates, over, owing};
 use rr_detector::{Heartbeat, Suspects};
-use rr_list::Window;
+use rr_list::OpenInstances;
 use rr_outbox::Owed;
 use rr_round::{Backing, Row};
 use rr_types::{
@@ -229,7 +229,7 @@ impl<'a> Step<'a> {
 
     /// The open instances, ascending. It takes no memory.
     #[tactic(auto, unfolding(rr_model::specs::NodeState::open_instances))]
-    pub fn open_instances(&self) -> Window
+    pub fn open_instances(&self) -> OpenInstances
         ensures { result ≡ open_instances self.now.state }
     {
         over::open_over(self.base, &self.changes.rows)
