@@ -3,7 +3,7 @@ use Rattle.std.proofs.Common.{◌≡◌, Bool, List, [], Option, subst}
 use Rattle.clap.specs.Words.{Text}
 use Rattle.clap.specs.Kinds.{Kinds, IsAmong}
 use Rattle.clap.specs.declared.error.kind.ErrorKind.{ErrorKind}
-use Rattle.rr_words.specs.Tasks.{CutWords, DrawWords, View, Simulate, Viewing, Show, Draw, Audit, Run, Shell, Sweep, Picture, Migrate}
+use Rattle.rr_words.specs.Tasks.{CutWords, RandomWords, View, Simulate, Viewing, Show, Random, Audit, Run, Shell, Sweep, Draw, Migrate}
 
 -- no kind is among none
 pub none_among : (kind : ErrorKind) (kinds : Kinds) → IsAmong kind kinds → kinds ≡ [] → ⊥
@@ -15,8 +15,8 @@ no_simulate file view is = absurd cc
 pub no_show : (folder : Option Text) (view : View) → Show folder ≡ Viewing view → ⊥
 no_show folder view is = absurd cc
 
-pub no_draw : (words : DrawWords) (view : View) → Draw words ≡ Viewing view → ⊥
-no_draw words view is = absurd cc
+pub no_random : (words : RandomWords) (view : View) → Random words ≡ Viewing view → ⊥
+no_random words view is = absurd cc
 
 pub no_audit : (file : Option Text) (view : View) → Audit file ≡ Viewing view → ⊥
 no_audit file view is = absurd cc
@@ -30,8 +30,8 @@ no_shell nodes dir client json view is = absurd cc
 pub no_sweep : (file seed : Option Text) (view : View) → Sweep file seed ≡ Viewing view → ⊥
 no_sweep file seed view is = absurd cc
 
-pub no_picture : (file : Option Text) (words : CutWords) (view : View) → Picture file words ≡ Viewing view → ⊥
-no_picture file words view is = absurd cc
+pub no_draw : (file : Option Text) (words : CutWords) (view : View) → Draw file words ≡ Viewing view → ⊥
+no_draw file words view is = absurd cc
 
 pub no_migrate : (folder node nodes : Option Text) (view : View) → Migrate folder node nodes ≡ Viewing view → ⊥
 no_migrate folder node nodes view is = absurd cc

@@ -2,7 +2,7 @@
 use Rattle.std.specs.Prelude.{◌≡◌, ℕ, ◌-◌, ◌^◌, Option, None, Some}
 use Rattle.clap.specs.Words.{Text}
 use Rattle.rr_draw.specs.declared.cut.Cut.{Cut}
-use Rattle.rr_cli.specs.Draws.{IsNumberIn}
+use Rattle.rr_cli.specs.Randoms.{IsNumberIn}
 use Rattle.rr_words.specs.Tasks.{CutWords}
 
 -- the number in this range that a word writes, or this other one where there is no word

@@ -27,9 +27,9 @@ use Rattle.rr_stream.specs.Streams.{Printing, Reading, IsPrinted, IsFrontPrinted
 use Rattle.rr_image.specs.declared.inspection.AreaReport.{AreaReport}
 use Rattle.rr_image.specs.Inspect.{Tells, Breaks, inspected}
 use Rattle.rr_cli.specs.Areas.{areas_text}
-use Rattle.rr_cli.specs.Draws.{IsNumberIn, IsNumberOf, AreNumbers, IsDrawnText}
+use Rattle.rr_cli.specs.Randoms.{IsNumberIn, IsNumberOf, AreNumbers, IsDrawnText}
 use Rattle.rr_cli.specs.Cuts.{IsCutBy}
-use Rattle.rr_words.specs.Tasks.{CutWords, DrawWords, View, Task, Simulate, Viewing, Show, Draw, Audit, Run, Shell, Sweep, Picture, Migrate}
+use Rattle.rr_words.specs.Tasks.{CutWords, RandomWords, View, Task, Simulate, Viewing, Show, Random, Audit, Run, Shell, Sweep, Draw, Migrate}
 use Rattle.rr_cli.specs.Migrations.{IsUnmigrated}
 use Rattle.rr_cli.specs.Refusals.{status_of}
 use Rattle.rr_cli.specs.Tapes.{yes_text}
@@ -112,16 +112,16 @@ pub data EndsOnSeat (folder of_node of_nodes : Option Text) (status : ℕ) (old 
 
 -- a run on the numbers of a random schedule, which has faults if it is lively, and is printed alone or with the report of its
 -- run; or memory was wanting, and standard output is as it was
-pub data EndsOnDraw (alone : Bool) (faults : Option ℕ) (n seed steps : ℕ) (status : ℕ) (old new : Printing) : Type 0 where
+pub data EndsOnRandom (alone : Bool) (faults : Option ℕ) (n seed steps : ℕ) (status : ℕ) (old new : Printing) : Type 0 where
   drawn : (text : List ℕ) → IsDrawnText alone faults n seed steps text → Prints text status old new
-      → EndsOnDraw alone faults n seed steps status old new
-  cut_off : status ≡ 6 → new ≡ old → EndsOnDraw alone faults n seed steps status old new
+      → EndsOnRandom alone faults n seed steps status old new
+  cut_off : status ≡ 6 → new ≡ old → EndsOnRandom alone faults n seed steps status old new
 
 -- a run on the words of a random schedule: by the numbers that they write, or they write none and standard output is as
 -- it was
-pub data EndsOnWords (words : DrawWords) (status : ℕ) (old new : Printing) : Type 0 where
+pub data EndsOnWords (words : RandomWords) (status : ℕ) (old new : Printing) : Type 0 where
   numbered : (seed steps nodes : ℕ) (faults : Option ℕ) → AreNumbers words seed steps nodes faults
-      → EndsOnDraw words.alone faults nodes seed steps status old new
+      → EndsOnRandom words.alone faults nodes seed steps status old new
       → EndsOnWords words status old new
   unnumbered : ((seed steps nodes : ℕ) (faults : Option ℕ) → AreNumbers words seed steps nodes faults → ⊥)
       → status ≡ 2 → new ≡ old
@@ -207,7 +207,7 @@ pub data EndsBy (faults : Kinds) (task : Task) (from to : Reading) (status : ℕ
   by_folder : (path : Text) → faults ≡ [] → task ≡ Show (Some path) → EndsOnFolder status old new
       → EndsBy faults task from to status old new
   without_folder : faults ≡ [] → task ≡ Show None → status ≡ 2 → new ≡ old → EndsBy faults task from to status old new
-  by_numbers : (words : DrawWords) → faults ≡ [] → task ≡ Draw words → EndsOnWords words status old new
+  by_numbers : (words : RandomWords) → faults ≡ [] → task ≡ Random words → EndsOnWords words status old new
       → EndsBy faults task from to status old new
   by_tape_in_standard_input : faults ≡ [] → task ≡ Audit None → EndsOnInput EndsOnTape from to status old new
       → EndsBy faults task from to status old new
@@ -222,10 +222,10 @@ pub data EndsBy (faults : Kinds) (task : Task) (from to : Reading) (status : ℕ
       → EndsBy faults task from to status old new
   without_seed : (file : Option Text) → faults ≡ [] → task ≡ Sweep file None → status ≡ 2 → new ≡ old
       → EndsBy faults task from to status old new
-  by_picture_of_standard_input : (words : CutWords) → faults ≡ [] → task ≡ Picture None words
+  by_picture_of_standard_input : (words : CutWords) → faults ≡ [] → task ≡ Draw None words
       → EndsOnCut (λ on. EndsOnInput on from to) words status old new
       → EndsBy faults task from to status old new
-  by_picture_of_a_file : (path : Text) (words : CutWords) → faults ≡ [] → task ≡ Picture (Some path) words
+  by_picture_of_a_file : (path : Text) (words : CutWords) → faults ≡ [] → task ≡ Draw (Some path) words
       → EndsOnCut EndsOnFile words status old new
       → EndsBy faults task from to status old new
   by_migration : (folder of_node of_nodes : Option Text) → faults ≡ [] → task ≡ Migrate folder of_node of_nodes

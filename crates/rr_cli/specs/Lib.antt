@@ -1,7 +1,7 @@
 pub mod Areas
 pub mod Ends
 pub mod Refusals
-pub mod Draws
+pub mod Randoms
 pub mod Cuts
 pub mod Tapes
 pub mod Sweeping

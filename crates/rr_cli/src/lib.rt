@@ -4,12 +4,12 @@
 #![tactic(auto)]
 
 mod audit;
-mod draw;
 mod folder_faults;
 mod input;
 mod migrate;
 mod picture;
 mod program;
+mod random_schedule;
 mod refusals;
 mod show;
 mod streams;
@@ -18,14 +18,14 @@ mod viewing;
 mod views;
 mod words;
 
-pub use draw::{nodes_of, number_in};
 pub use folder_faults::print_folder_fault;
 pub use migrate::migrate_disk;
 pub use program::{execute, run};
+pub use random_schedule::{nodes_of, number_in};
 pub use refusals::{TextKind, end_by_fault, end_by_refusal, print_refusal, status};
 pub use rr_audit::audit_on;
 pub use rr_sim::{random_run, report_on};
-pub use rr_words::{CutWords, DrawWords, Form, Task, View, read_words};
+pub use rr_words::{CutWords, Form, RandomWords, Task, View, read_words};
 pub use show::show_disk;
 pub use streams::{end_by_stream, end_by_text, end_by_unprinted, end_without_words};
 pub use viewing::execute_with_views;

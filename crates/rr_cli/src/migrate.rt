@@ -11,8 +11,8 @@ ghost use Rattle.rr_cli.specs.Areas.{IsShown};
 ghost use Rattle.rr_cli.specs.Ends.{EndsOnMigration, EndsOnSeat, AreSeat};
 ghost use Rattle.rr_cli.specs.Migrations.{opened_areas, TellsSome, IsUnmigrated};
 
-use crate::draw::{nodes_of, number_of};
 use crate::folder_faults::end_by_folder_fault;
+use crate::random_schedule::{nodes_of, number_of};
 use crate::show::show_disk;
 use crate::streams::end_by_text;
 use rr_disk::{Area, Disk, FileDisk};

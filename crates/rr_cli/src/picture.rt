@@ -7,7 +7,7 @@ ghost use Rattle.rr_cli.specs.Cuts.{IsNumberOr, IsNumberIfAny, IsCutBy};
 ghost use Rattle.rr_cli.specs.Ends.{EndsOnPicture, EndsOnCut, EndsOnInput, EndsOnFile};
 ghost use Rattle.rr_words.specs.Tasks.{cut_words_in};
 
-use crate::draw::number_in;
+use crate::random_schedule::number_in;
 use crate::refusals::{TextKind, end_by_fault};
 use crate::streams::{end_by_stream, end_by_text};
 use rr_draw::{Cut, picture_of};

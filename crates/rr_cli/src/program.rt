@@ -4,13 +4,13 @@ ghost use Rattle.std.specs.Prelude.{◌≡◌, ◌≢◌, Option, IfOk, IfErr, O
 ghost use Rattle.std.specs.Io.KnownBytes.{Keeps};
 ghost use Rattle.std.specs.IoError.{error_kind};
 ghost use Rattle.clap.specs.Words.{Text};
-ghost use Rattle.rr_words.specs.Tasks.{CutWords, Simulate, Audit, Sweep, Picture, faults_of, task_of};
+ghost use Rattle.rr_words.specs.Tasks.{CutWords, Simulate, Audit, Sweep, Draw, faults_of, task_of};
 ghost use Rattle.rr_cli.specs.Ends.{EndsOn, EndsOnInput, EndsBy};
 
 use crate::audit::{audit_file, audit_input};
-use crate::draw::draw_by_words;
 use crate::migrate::migrate_by_words;
 use crate::picture::{picture_file, picture_input};
+use crate::random_schedule::random_by_words;
 use crate::refusals::{TextKind, end_by_fault};
 use crate::show::{end_without_folder, show_folder};
 use crate::streams::{
@@ -80,7 +80,7 @@ where
     ensures quiet { result ≡ 0 → Keeps (E.contents err.old) (E.contents err.new) }
     ensures untouched { task_of (map S.text words.now) ≢ Simulate None → task_of (map S.text words.now) ≢ Audit None
         → ((seed : Option Text) → task_of (map S.text words.now) ≢ Sweep None seed)
-        → ((cut : CutWords) → task_of (map S.text words.now) ≢ Picture None cut) → I.reading input.new ≡ I.reading input.old }
+        → ((cut : CutWords) → task_of (map S.text words.now) ≢ Draw None cut) → I.reading input.new ≡ I.reading input.old }
 {
     match read_words(rt.alloc(), words) {
         Ok(Task::Simulate(None)) => {
@@ -92,7 +92,7 @@ where
         },
         Ok(Task::Show(Some(folder))) => show_folder(rt, folder, out, err),
         Ok(Task::Show(None)) => end_without_folder(err),
-        Ok(Task::Draw(words)) => draw_by_words(rt.alloc(), &words, out, err),
+        Ok(Task::Random(words)) => random_by_words(rt.alloc(), &words, out, err),
         Ok(Task::Audit(None)) => audit_input(rt.alloc(), "standard input", input, out, err),
         Ok(Task::Audit(Some(path))) => audit_file(rt, path, out, err),
         Ok(Task::View(_)) => end_without_views(err),
@@ -103,10 +103,10 @@ where
             sweep_by_word(rt.alloc(), "standard input", seed, input, out, err)
         }
         Ok(Task::Sweep(Some(path), Some(seed))) => sweep_file(rt, path, seed, out, err),
-        Ok(Task::Picture(None, cut)) => {
+        Ok(Task::Draw(None, cut)) => {
             picture_input(rt.alloc(), "standard input", &cut, input, out, err)
         }
-        Ok(Task::Picture(Some(path), cut)) => picture_file(rt, path, &cut, out, err),
+        Ok(Task::Draw(Some(path), cut)) => picture_file(rt, path, &cut, out, err),
         Ok(Task::Migrate(folder, node, nodes)) => {
             migrate_by_words(rt, folder, node, nodes, out, err)
         }

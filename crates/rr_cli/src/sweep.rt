@@ -11,7 +11,7 @@ ghost use Rattle.rr_cli.specs.Ends.{sweep_text, EndsOnSweep, EndsOnSeed, EndsOnI
 ghost use Rattle.rr_cli.specs.Refusals.{status_of};
 ghost use Rattle.rr_cli.specs.Sweeping.{IsPrintedBy, StopsSweep, StopsAtEvent, StopsPrinting};
 
-use crate::draw::number_in;
+use crate::random_schedule::number_in;
 use crate::refusals::{TextKind, end_by_fault, end_by_refusal};
 use crate::streams::{end_by_stream, end_by_text, end_by_unprinted};
 use rr_stream::{Counted, Sink, Source, print_all, read_all};

@@ -11,8 +11,8 @@ ghost use Rattle.rr_list.specs.Rowed.{AscendFrom, has_decided};
 ghost use Rattle.rr_list.specs.Opened.{open_in};
 
 use crate::marks::Marks;
+use crate::open_instances::OpenInstances;
 use crate::rows::{Rows, is_any_decided};
-use crate::window::Window;
 use rr_parts::Row;
 use rr_types::{Command, Entry, Fact, Instance, Op, Refusal, RequestNo, Standing};
 use std::alloc::Global;
@@ -24,7 +24,7 @@ use std::marker::Model;
 #[derive(Drop)]
 pub struct Instances {
     rows: Rows,
-    window: Window,
+    window: OpenInstances,
     marks: Marks,
 }
 
@@ -52,7 +52,7 @@ impl Instances {
         let mut rows = Rows::new(alloc);
         match rows.restore(alloc, promise, next) {
             Ok(()) => {
-                let window = rows.fill(Window::new(), 0);
+                let window = rows.fill(OpenInstances::new(), 0);
                 Ok(Instances {
                     rows,
                     window,
@@ -84,7 +84,7 @@ impl Instances {
     }
 
     /// The open instances as a value of their own.
-    pub fn window(&self) -> Window
+    pub fn window(&self) -> OpenInstances
         ensures value { result ≡ open_in self.now.rows }
         ensures ascend { AscendFrom 0 self.now.rows }
     {

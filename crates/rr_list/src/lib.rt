@@ -6,15 +6,15 @@
 mod arrivals;
 mod instances;
 mod marks;
+mod open_instances;
 mod opening;
 mod pool;
 mod rows;
 mod waiting;
-mod window;
 
 pub use arrivals::{Requested, Values};
 pub use instances::Instances;
+pub use open_instances::OpenInstances;
 pub use pool::Pool;
 pub use rows::is_any_decided;
 pub use waiting::Waiting;
-pub use window::Window;

@@ -9,8 +9,8 @@ ghost use Rattle.rr_list.specs.Listed.{decision_at, put_rows, KeepsDecisions};
 ghost use Rattle.rr_list.specs.Rowed.{AscendFrom, is_undecided};
 ghost use Rattle.rr_list.specs.Opened.{open_in};
 
+use crate::open_instances::OpenInstances;
 use crate::rows::Rows;
-use crate::window::Window;
 use rr_types::{INSTANCES, Instance, OPEN_INSTANCES, Standing};
 
 impl Rows {
@@ -45,10 +45,10 @@ impl Rows {
     }
 
     /// Those of the instances that are undecided.
-    fn kept(&self, window: &Window) -> Window
+    fn kept(&self, window: &OpenInstances) -> OpenInstances
         ensures { result ≡ filter (is_undecided self.now) window.now }
     {
-        let mut kept = Window::new();
+        let mut kept = OpenInstances::new();
         for instance in window.as_slice() {
             if !self.is_decided(instance.number()) {
                 kept.push(*instance);
@@ -59,7 +59,7 @@ impl Rows {
 
     /// The instances, and behind them the lowest undecided ones from this one on, eight in all.
     #[tactic(auto, using(crate::proofs::OpenLemmas::lowest_next, crate::proofs::OpenLemmas::lowest_done, crate::proofs::OpenLemmas::push_next))]
-    pub(crate) fn fill(&self, kept: Window, from: u32) -> Window
+    pub(crate) fn fill(&self, kept: OpenInstances, from: u32) -> OpenInstances
         requires { from ≤ instance_count }
         ensures { result ≡ kept ++ lowest_undecided (8 - length kept) from self.now }
     {
@@ -79,7 +79,7 @@ impl Rows {
     }
 
     /// The open instances, where these were open before some more had decided.
-    pub(crate) fn slide(&self, window: &Window) -> Window
+    pub(crate) fn slide(&self, window: &OpenInstances) -> OpenInstances
         requires { AscendFrom 0 self.now }
         ensures { (before : List model.Row) → AscendFrom 0 before → KeepsDecisions before self.now → window.now ≡ open_in before → result ≡ open_in self.now }
     {
@@ -93,7 +93,11 @@ impl Rows {
 
     /// The open instances behind rows that were put, where these were open before. They are the same unless a row has
     /// decided.
-    pub(crate) fn slide_behind(&self, window: &Window, is_decision_new: bool) -> Window
+    pub(crate) fn slide_behind(
+        &self,
+        window: &OpenInstances,
+        is_decision_new: bool,
+    ) -> OpenInstances
         requires { AscendFrom 0 self.now }
         ensures { (before changes : List model.Row) → AscendFrom 0 before → KeepsDecisions before self.now → self.now ≡ put_rows before changes → is_decision_new ≡ list_any (λ r. is_decided r) changes → window.now ≡ open_in before → result ≡ open_in self.now }
     {
@@ -106,7 +110,7 @@ impl Rows {
 
     /// The lowest undecided instance from this one on. As long as it isn't above all these open instances, it is
     /// one of them.
-    pub(crate) fn undecided_from(&self, window: &Window, from: u32) -> u32
+    pub(crate) fn undecided_from(&self, window: &OpenInstances, from: u32) -> u32
         requires range { from ≤ instance_count }
         requires shown { window.now ≡ open_in self.now }
         requires ascend { AscendFrom 0 self.now }

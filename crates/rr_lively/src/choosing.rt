@@ -2,8 +2,8 @@
 
 ghost use Rattle.std.specs.Prelude.{◌≡◌, IfErr};
 
-use crate::drawing::Drawing;
 use crate::memory::Memory;
+use crate::random_run::RandomRun;
 use crate::stances::{Kind, node_at, stance_of};
 use rr_sim::{Cluster, Stance};
 use rr_text::Event;
@@ -50,7 +50,7 @@ fn chosen(choices: &[(Choice, u32); 9], word: u32) -> Option<Choice> {
     None
 }
 
-impl Drawing {
+impl RandomRun {
     /// What a node that is up does next, by weights, if there is something.
     pub(crate) fn choose(
         &mut self,

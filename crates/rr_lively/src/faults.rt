@@ -2,7 +2,7 @@
 
 ghost use Rattle.std.specs.Prelude.{◌≡◌, IfErr};
 
-use crate::drawing::Drawing;
+use crate::random_run::RandomRun;
 use crate::stances::{Kind, first_from, node_at};
 use rr_sim::Cluster;
 use rr_text::{Event, Fill};
@@ -65,7 +65,7 @@ fn fill_of(alloc: Global, detail: u32) -> Result<Fill, Refusal>
     Ok(Fill::new(Vec::from_slice(alloc, &[(detail % 256) as u8])?))
 }
 
-impl Drawing {
+impl RandomRun {
     /// An event with a fault, at the first node for it, counted from this one on. `None` where there is no such event,
     /// or where a message is lost.
     pub(crate) fn fault(

@@ -4,10 +4,10 @@
 #![tactic(auto)]
 
 mod choosing;
-mod drawing;
 mod faults;
 mod lively;
 mod memory;
+mod random_run;
 mod run;
 mod stances;
 

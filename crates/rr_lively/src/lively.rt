@@ -3,7 +3,7 @@
 ghost use Rattle.std.specs.Prelude.{◌≡◌, ◌≤◌, ◌+◌, ◌*◌, false, Ok, OnOk, IfOk, IfErr};
 ghost use Rattle.rr_lively.specs.Lively.{IsSoFar, IsLively, IsLivelySchedule};
 
-use crate::drawing::Drawing;
+use crate::random_run::RandomRun;
 use crate::run::Run;
 use crate::stances::node_at;
 use rand_core::SeedableRng;
@@ -68,7 +68,7 @@ fn make(
     alloc: Global,
     nodes: Nodes,
     event: &Event,
-    drawing: &mut Drawing,
+    drawing: &mut RandomRun,
     run: &mut Run,
 ) -> Result<bool, Refusal>
     requires so_far { IsSoFar nodes run.old.line run.old.cluster run.old.schedule.items run.old.report.items }
@@ -89,7 +89,7 @@ fn go_on(
     nodes: Nodes,
     faults: u32,
     words: (u32, u32),
-    drawing: &mut Drawing,
+    drawing: &mut RandomRun,
     run: &mut Run,
 ) -> Result<(), Refusal>
     requires so_far { IsSoFar nodes run.old.line run.old.cluster run.old.schedule.items run.old.report.items }
@@ -131,7 +131,7 @@ fn drawn_run<O: Sink>(alloc: Global, recipe: Recipe, out: &mut O) -> Result<Run,
     } = recipe;
     let mut run = Run::new(alloc, nodes)?;
     open_all(alloc, nodes, &mut run)?;
-    let mut drawing = Drawing::new(alloc, nodes)?;
+    let mut drawing = RandomRun::new(alloc, nodes)?;
     let mut generator = Pcg32::seed_from_u64(seed);
     for step in 0..steps {
         tell_step(u64::from(step), u64::from(step), u64::from(steps), out);

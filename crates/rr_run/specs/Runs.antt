@@ -9,7 +9,7 @@ use Rattle.rr_script.specs.Scripted.{Scripted, IsScript}
 use Rattle.rr_script.specs.ScriptTexts.{script_text}
 use Rattle.rr_script.specs.AnswerTexts.{answer_text}
 use Rattle.rr_script.specs.Faults.{IsScriptFault}
-use Rattle.rr_cli.specs.Draws.{IsNumberIn}
+use Rattle.rr_cli.specs.Randoms.{IsNumberIn}
 use Rattle.rr_cli.specs.Ends.{EndsOnFile, IsStreamStatus, Prints}
 use Rattle.rr_cli.specs.Views.{EndsWithViews}
 use Rattle.rr_words.specs.Tasks.{Task, Run, Shell}

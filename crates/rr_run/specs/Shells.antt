@@ -5,7 +5,7 @@ use Rattle.rr_types.specs.declared.refusal.Refusal.{Refusal}
 use Rattle.rr_stream.specs.Streams.{Printing, Reading}
 use Rattle.rr_talk.specs.declared.talking.Stop.{Stop}
 use Rattle.rr_talk.specs.Talks.{HasTalked, BreaksOff}
-use Rattle.rr_cli.specs.Draws.{IsNumberIn}
+use Rattle.rr_cli.specs.Randoms.{IsNumberIn}
 use Rattle.rr_cli.specs.Refusals.{status_of}
 
 -- the client that a word names; client 0 where there is no word

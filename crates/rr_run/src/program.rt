@@ -60,10 +60,10 @@ pub fn execute<
         Ok(Task::View(_)) => rr_cli::execute_with_views(rt, words, input, out, err),
         Ok(Task::Simulate(_)) => rr_cli::execute_with_views(rt, words, input, out, err),
         Ok(Task::Show(_)) => rr_cli::execute_with_views(rt, words, input, out, err),
-        Ok(Task::Draw(_)) => rr_cli::execute_with_views(rt, words, input, out, err),
+        Ok(Task::Random(_)) => rr_cli::execute_with_views(rt, words, input, out, err),
         Ok(Task::Audit(_)) => rr_cli::execute_with_views(rt, words, input, out, err),
         Ok(Task::Sweep(_, _)) => rr_cli::execute_with_views(rt, words, input, out, err),
-        Ok(Task::Picture(_, _)) => rr_cli::execute_with_views(rt, words, input, out, err),
+        Ok(Task::Draw(_, _)) => rr_cli::execute_with_views(rt, words, input, out, err),
         Ok(Task::Migrate(_, _, _)) => rr_cli::execute_with_views(rt, words, input, out, err),
         Err(error) => end_by_words(rt.alloc(), out, err, &error),
     }

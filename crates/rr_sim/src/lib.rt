@@ -4,14 +4,14 @@
 
 mod chosen;
 mod cluster;
-mod drawing;
+mod random_events;
 mod random_text;
 mod simulator;
 mod telling;
 
 pub use chosen::decided_list;
 pub use cluster::{Cluster, shown};
-pub use drawing::{MAX_STEPS, random};
+pub use random_events::{MAX_STEPS, random};
 pub use random_text::random_run;
 pub use rr_node::Stance;
 pub use rr_text::{BoundNames, Event, Fill, MAX_EVENTS, Report, ReportLine, Schedule};

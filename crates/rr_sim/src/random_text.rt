@@ -9,7 +9,7 @@ ghost use Rattle.rr_sim.specs.Told.{told, DrawsAll, IsRandomRun};
 
 use crate::chosen::decided_list;
 use crate::cluster::Cluster;
-use crate::drawing::{draw, opened, openings};
+use crate::random_events::{draw, opened, openings};
 use rand_core::SeedableRng;
 use rand_pcg::Pcg32;
 use rr_stream::{Sink, tell_step};

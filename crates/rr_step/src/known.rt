@@ -12,7 +12,7 @@ ghost use Rattle.rr_list.specs.Opened.{open_in};
 
 use crate::over::lowest_in_round_over;
 use crate::state::State;
-use rr_list::Window;
+use rr_list::OpenInstances;
 use rr_parts::Row;
 use rr_types::{INSTANCES, Instance, OPEN_INSTANCES, RequestNo};
 
@@ -34,7 +34,7 @@ impl State {
     }
 
     /// The open instances; the rows ascend.
-    pub(crate) fn window(&self) -> Window
+    pub(crate) fn window(&self) -> OpenInstances
         ensures value { result ≡ open_in self.now.rows }
         ensures ascend { AscendFrom 0 self.now.rows }
     {

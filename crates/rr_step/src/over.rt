@@ -11,7 +11,7 @@ ghost use Rattle.rr_step.specs.Steps.{put_rows, KeepsDecision, KeepDecisions};
 
 use crate::rows::{find_row, has_decided_request};
 use crate::state::State;
-use rr_list::{Window, is_any_decided};
+use rr_list::{OpenInstances, is_any_decided};
 use rr_parts::Row;
 use rr_types::{Instance, OPEN_INSTANCES, Refusal, RequestNo};
 
@@ -76,7 +76,7 @@ pub fn undecided_over(base: &State, changed: &[Row], from: u32) -> u32
 }
 
 /// The open instances, ascending: those of the state, where no changed row has decided.
-pub fn open_over(base: &State, changed: &[Row]) -> Window
+pub fn open_over(base: &State, changed: &[Row]) -> OpenInstances
     requires { KeepDecisions changed.now base.now.rows }
     ensures { result ≡ lowest_undecided 8 0 (put_rows changed.now base.now.rows) }
 {
@@ -89,11 +89,11 @@ pub fn open_over(base: &State, changed: &[Row]) -> Window
 
 /// The eight lowest undecided instances, ascending.
 #[tactic(auto, using(crate::proofs::RowLemmas::lowest_next, crate::proofs::RowLemmas::lowest_done, crate::proofs::RowLemmas::push_next))]
-fn lowest_over(base: &State, changed: &[Row]) -> Window
+fn lowest_over(base: &State, changed: &[Row]) -> OpenInstances
     requires { KeepDecisions changed.now base.now.rows }
     ensures { result ≡ lowest_undecided 8 0 (put_rows changed.now base.now.rows) }
 {
-    let mut found = Window::new();
+    let mut found = OpenInstances::new();
     let mut from = 0;
     for _turn in 0..OPEN_INSTANCES {
         match Instance::new(undecided_over(base, changed, from)) {

@@ -18,7 +18,7 @@ use crate::known::is_among;
 use crate::owing::Reach;
 use crate::state::State;
 use crate::{estimates, over, owing};
-use rr_list::Window;
+use rr_list::OpenInstances;
 use rr_parts::{Backing, Heartbeat, Owed, Row, Suspects};
 use rr_types::{
     Body, Command, Fact, Instance, NodeId, NodeSet, Nodes, OPEN_INSTANCES, Op, Refusal, RequestNo,
@@ -227,7 +227,7 @@ impl<'a> Step<'a> {
 
     /// The open instances, ascending. It takes no memory.
     #[tactic(auto, unfolding(rr_model::specs::NodeState::open_instances))]
-    pub fn open_instances(&self) -> Window
+    pub fn open_instances(&self) -> OpenInstances
         ensures { result ≡ open_instances self.now.state }
     {
         over::open_over(self.base, &self.changes.rows)

@@ -7,7 +7,7 @@ use Rattle.clap.specs.Kinds.{Kinds}
 use Rattle.clap.specs.Faults.{fault_of}
 use Rattle.rr_words.specs.Lines.{rr_line}
 use Rattle.rr_words.specs.declared.tasks.CutWords as code_words
-use Rattle.rr_words.specs.declared.tasks.DrawWords as code_draws
+use Rattle.rr_words.specs.declared.tasks.RandomWords as code_randoms
 use Rattle.rr_words.specs.declared.tasks.Form.{Form}
 use Rattle.rr_words.specs.declared.tasks.Form.TheVariants.{Plain, Json}
 use Rattle.rr_words.specs.declared.tasks.Task as code
@@ -32,7 +32,7 @@ pub record CutWords : Type 0 where
 
 -- the words of a random schedule: a seed, a number of steps and a number of nodes, which only wrong words leave out; whether
 -- it is lively, and a number of faults, which may be left out; and whether it is printed alone
-pub record DrawWords : Type 0 where
+pub record RandomWords : Type 0 where
   pub seed : Option Text
   pub steps : Option Text
   pub nodes : Option Text
@@ -60,12 +60,12 @@ pub data Task : Type 0 where
   Simulate : Option Text → Task
   Viewing : View → Task
   Show : Option Text → Task
-  Draw : DrawWords → Task
+  Random : RandomWords → Task
   Audit : Option Text → Task
   Run : Option Text → Option Text → Option Text → Option Text → Task
   Shell : Option Text → Option Text → Option Text → Bool → Task
   Sweep : Option Text → Option Text → Task
-  Picture : Option Text → CutWords → Task
+  Draw : Option Text → CutWords → Task
   Migrate : Option Text → Option Text → Option Text → Task
 
 -- the file that a word names; none, which stands for standard input, where the word is a hyphen or isn't there
@@ -110,7 +110,7 @@ check_task rows = Viewing (Comparison (file_of (first_of (codes "FILE") rows)) (
 
 abbrev pub random_task : List Row → Task
 random_task rows =
-    Draw (record {
+    Random (record {
       seed = first_of (codes "SEED") rows;
       steps = first_of (codes "STEPS") rows;
       nodes = first_of (codes "NODES") rows;
@@ -128,8 +128,8 @@ shell_task rows = Shell (first_of (codes "NODES") rows) (first_of (codes "DIR") 
 abbrev pub sweep_task : List Row → Task
 sweep_task rows = Sweep (file_of (first_of (codes "FILE") rows)) (first_of (codes "SEED") rows)
 
-abbrev pub picture_task : List Row → Task
-picture_task rows = Picture (file_of (first_of (codes "FILE") rows)) (cut_words_of rows)
+abbrev pub draw_task : List Row → Task
+draw_task rows = Draw (file_of (first_of (codes "FILE") rows)) (cut_words_of rows)
 
 abbrev pub migrate_task : List Row → Task
 migrate_task rows = Migrate (first_of (codes "DIR") rows) (first_of (codes "NODE") rows) (first_of (codes "NODES") rows)
@@ -145,7 +145,7 @@ task_by p =
     else (if bytes_eq p.0 (codes "run") then run_task p.1
     else (if bytes_eq p.0 (codes "shell") then shell_task p.1
     else (if bytes_eq p.0 (codes "sweep") then sweep_task p.1
-    else (if bytes_eq p.0 (codes "draw") then picture_task p.1
+    else (if bytes_eq p.0 (codes "draw") then draw_task p.1
     else (if bytes_eq p.0 (codes "migrate") then migrate_task p.1
     else simulate_task p.1)))))))))
 
@@ -164,8 +164,8 @@ cut_words_in words =
     }
 
 -- the words of a random schedule that were read so
-abbrev pub draw_words_in : code_draws.DrawWords → DrawWords
-draw_words_in words =
+abbrev pub random_words_in : code_randoms.RandomWords → RandomWords
+random_words_in words =
     record {
       seed = option_map (λ s. s.now) words.seed;
       steps = option_map (λ s. s.now) words.steps;
@@ -187,12 +187,12 @@ abbrev pub task_in : code.Task → Task
 task_in (read.Simulate file) = Simulate (option_map (λ s. s.now) file)
 task_in (read.View v) = Viewing (view_in v)
 task_in (read.Show folder) = Show (option_map (λ s. s.now) folder)
-task_in (read.Draw words) = Draw (draw_words_in words)
+task_in (read.Random words) = Random (random_words_in words)
 task_in (read.Audit file) = Audit (option_map (λ s. s.now) file)
 task_in (read.Run nodes dir script tape) =
     Run (option_map (λ s. s.now) nodes) (option_map (λ s. s.now) dir) (option_map (λ s. s.now) script)
     (option_map (λ s. s.now) tape)
 task_in (read.Shell nodes dir client json) = Shell (option_map (λ s. s.now) nodes) (option_map (λ s. s.now) dir) (option_map (λ s. s.now) client) json
 task_in (read.Sweep file seed) = Sweep (option_map (λ s. s.now) file) (option_map (λ s. s.now) seed)
-task_in (read.Picture file words) = Picture (option_map (λ s. s.now) file) (cut_words_in words)
+task_in (read.Draw file words) = Draw (option_map (λ s. s.now) file) (cut_words_in words)
 task_in (read.Migrate folder node nodes) = Migrate (option_map (λ s. s.now) folder) (option_map (λ s. s.now) node) (option_map (λ s. s.now) nodes)

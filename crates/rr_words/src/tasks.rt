@@ -2,7 +2,7 @@
 
 ghost use Rattle.std.specs.Prelude.{◌≡◌, option_map};
 ghost use Rattle.clap.specs.Words.{first_of, found_of, rows_of};
-ghost use Rattle.rr_words.specs.Tasks.{file_of, is_set, form_of, cut_words_of, cut_words_in, simulate_task, stats_task, check_task, random_task, run_task, shell_task, sweep_task, picture_task, migrate_task, task_by, task_in};
+ghost use Rattle.rr_words.specs.Tasks.{file_of, is_set, form_of, cut_words_of, cut_words_in, simulate_task, stats_task, check_task, random_task, run_task, shell_task, sweep_task, draw_task, migrate_task, task_by, task_in};
 
 use clap::ArgMatches;
 
@@ -21,7 +21,7 @@ pub struct CutWords<'a> {
 
 /// The words of a random schedule.
 #[derive(Clone, Copy, Debug, PartialEq, Eq)]
-pub struct DrawWords<'a> {
+pub struct RandomWords<'a> {
     /// The seed of the generator.
     pub seed: Option<&'a str>,
     /// How many steps follow the openings.
@@ -69,7 +69,7 @@ pub enum Task<'a> {
     Show(Option<&'a str>),
     /// `rr random --seed SEED --steps STEPS --nodes NODES [--lively [--faults FAULTS]] [--schedule-only]`: a random schedule,
     /// and the report of its run unless the schedule is printed alone.
-    Draw(DrawWords<'a>),
+    Random(RandomWords<'a>),
     /// `rr audit [FILE]`: whether the events are what nodes do of the tape in this file, or else in standard input.
     Audit(Option<&'a str>),
     /// `rr run --nodes NODES --dir DIR --script SCRIPT [--tape TAPE]`: a run of nodes in threads by the script in this
@@ -83,7 +83,7 @@ pub enum Task<'a> {
     Sweep(Option<&'a str>, Option<&'a str>),
     /// `rr draw [FILE] [--from FROM] [--to TO] [--node NODE] [--instance INSTANCE]`: the picture of the schedule in this
     /// file, or else in standard input, of the cut that these words write.
-    Picture(Option<&'a str>, CutWords<'a>),
+    Draw(Option<&'a str>, CutWords<'a>),
     /// `rr migrate DIR --node NODE --nodes NODES`: an opening of the disk in this folder, and what its areas hold then.
     /// The disk is that of node NODE of NODES nodes.
     Migrate(Option<&'a str>, Option<&'a str>, Option<&'a str>),
@@ -175,7 +175,7 @@ fn check_task<'a>(matches: &ArgMatches<'a>) -> Task<'a>
 fn random_task<'a>(matches: &ArgMatches<'a>) -> Task<'a>
     ensures { task_in result ≡ random_task (rows_of (found_of matches.now)) }
 {
-    Task::Draw(DrawWords {
+    Task::Random(RandomWords {
         seed: word_of(matches, "SEED"),
         steps: word_of(matches, "STEPS"),
         nodes: word_of(matches, "NODES"),
@@ -217,10 +217,10 @@ fn sweep_task<'a>(matches: &ArgMatches<'a>) -> Task<'a>
 }
 
 // What `rr draw` is asked for.
-fn picture_task<'a>(matches: &ArgMatches<'a>) -> Task<'a>
-    ensures { task_in result ≡ picture_task (rows_of (found_of matches.now)) }
+fn draw_task<'a>(matches: &ArgMatches<'a>) -> Task<'a>
+    ensures { task_in result ≡ draw_task (rows_of (found_of matches.now)) }
 {
-    Task::Picture(file_of(word_of(matches, "FILE")), cut_words(matches))
+    Task::Draw(file_of(word_of(matches, "FILE")), cut_words(matches))
 }
 
 // What `rr migrate` is asked for.
@@ -255,7 +255,7 @@ pub(crate) fn task_by<'a>(name: &str, matches: &ArgMatches<'a>) -> Task<'a>
     } else if name == "sweep" {
         sweep_task(matches)
     } else if name == "draw" {
-        picture_task(matches)
+        draw_task(matches)
     } else if name == "migrate" {
         migrate_task(matches)
     } else {

@@ -1,7 +1,7 @@
 use Rattle.std.proofs.Common.{◌≡◌, ◌∙◌, ℕ, List, Option, option_map, Bor, refl, sym, ap, map, None, Some, inl, inr}
 use Rattle.clap.specs.Words.{Text, kind_of}
 use Rattle.rr_words.specs.declared.tasks.Task.TheVariants as read
-use Rattle.rr_words.specs.Tasks.{Simulate, Viewing, Show, Draw, Audit, Run, Shell, Sweep, Picture, Migrate, cut_words_in, draw_words_in, view_in, task_of, task_in}
+use Rattle.rr_words.specs.Tasks.{Simulate, Viewing, Show, Random, Audit, Run, Shell, Sweep, Draw, Migrate, cut_words_in, random_words_in, view_in, task_of, task_in}
 use Rattle.rr_cli.specs.Ends.{opened, unopened, mistaken, by_help, by_version, out_of_memory, by_standard_input, by_file, by_folder, by_numbers, by_migration, by_tape_in_standard_input, by_tape_in_a_file, by_sweep_of_standard_input, by_sweep_of_a_file, by_picture_of_standard_input, by_picture_of_a_file, without_seed, without_views, without_threads, without_shell}
 use Rattle.rr_cli.proofs.EndLemmas.{kind_cases}
 use Rattle.rr_cli.proofs.program.execute.Goals as goal
@@ -54,11 +54,11 @@ returns-in-Err-clause-ends g c =
       ]
     ]
 
-pub returns-in-Ok-Draw-clause-ends : goal.returns-in-Ok-Draw-clause-ends
-returns-in-Ok-Draw-clause-ends g c =
-    let w = c.in-Ok-Draw in
-    let task : task_of (map g.S.AsStr.text c.args.words.now) ≡ Draw (draw_words_in w.words) = sym w.ensures.task ∙ ap task_in w.field-0-is in
-    by_numbers (draw_words_in w.words) w.ensures.faults task c.draw_by_words.ensures.ends
+pub returns-in-Ok-Random-clause-ends : goal.returns-in-Ok-Random-clause-ends
+returns-in-Ok-Random-clause-ends g c =
+    let w = c.in-Ok-Random in
+    let task : task_of (map g.S.AsStr.text c.args.words.now) ≡ Random (random_words_in w.words) = sym w.ensures.task ∙ ap task_in w.field-0-is in
+    by_numbers (random_words_in w.words) w.ensures.faults task c.random_by_words.ensures.ends
 
 -- the text of a word
 abbrev text_of : Option (Bor (List ℕ)) → Option Text
@@ -110,14 +110,14 @@ returns-in-Ok-Sweep-default-None-clause-ends g c =
     let task : task_of (map g.S.AsStr.text c.args.words.now) ≡ Sweep (text_of w.field-0-0) None = sym w.ensures.task ∙ ap task_in w.field-0-is ∙ swept_from _ _ _ _ refl w.field-0-1-is in
     without_seed (text_of w.field-0-0) w.ensures.faults task c.end_without_seed.ensures refl
 
-pub returns-in-Ok-Picture-None-default-clause-ends : goal.returns-in-Ok-Picture-None-default-clause-ends
-returns-in-Ok-Picture-None-default-clause-ends g c =
-    let w = c.in-Ok-Picture-None-default in
-    let task : task_of (map g.S.AsStr.text c.args.words.now) ≡ Picture None (cut_words_in w.cut) = sym w.ensures.task ∙ ap task_in w.field-0-is ∙ ap (λ file. task_in (read.Picture file w.cut)) w.field-0-0-is in
+pub returns-in-Ok-Draw-None-default-clause-ends : goal.returns-in-Ok-Draw-None-default-clause-ends
+returns-in-Ok-Draw-None-default-clause-ends g c =
+    let w = c.in-Ok-Draw-None-default in
+    let task : task_of (map g.S.AsStr.text c.args.words.now) ≡ Draw None (cut_words_in w.cut) = sym w.ensures.task ∙ ap task_in w.field-0-is ∙ ap (λ file. task_in (read.Draw file w.cut)) w.field-0-0-is in
     by_picture_of_standard_input (cut_words_in w.cut) w.ensures.faults task c.picture_input.ensures.ends
 
-pub returns-in-Ok-Picture-Some-default-clause-ends : goal.returns-in-Ok-Picture-Some-default-clause-ends
-returns-in-Ok-Picture-Some-default-clause-ends g c =
-    let w = c.in-Ok-Picture-Some-default in
-    let task : task_of (map g.S.AsStr.text c.args.words.now) ≡ Picture (Some w.path.now) (cut_words_in w.cut) = sym w.ensures.task ∙ ap task_in w.field-0-is ∙ ap (λ file. task_in (read.Picture file w.cut)) w.field-0-0-is in
+pub returns-in-Ok-Draw-Some-default-clause-ends : goal.returns-in-Ok-Draw-Some-default-clause-ends
+returns-in-Ok-Draw-Some-default-clause-ends g c =
+    let w = c.in-Ok-Draw-Some-default in
+    let task : task_of (map g.S.AsStr.text c.args.words.now) ≡ Draw (Some w.path.now) (cut_words_in w.cut) = sym w.ensures.task ∙ ap task_in w.field-0-is ∙ ap (λ file. task_in (read.Draw file w.cut)) w.field-0-0-is in
     by_picture_of_a_file w.path.now (cut_words_in w.cut) w.ensures.faults task c.picture_file.ensures.ends

@@ -1,10 +1,10 @@
 use Rattle.std.proofs.Common.{◌≡◌, ◌∙◌, ℕ, List, Option, option_map, Bor, refl, sym, ap, map, inl, inr}
 use Rattle.clap.specs.Words.{Text, kind_of}
-use Rattle.rr_words.specs.Tasks.{Simulate, Viewing, Show, Draw, Audit, Run, Shell, Sweep, Picture, Migrate, cut_words_in, draw_words_in, task_of, task_in, view_in}
+use Rattle.rr_words.specs.Tasks.{Simulate, Viewing, Show, Random, Audit, Run, Shell, Sweep, Draw, Migrate, cut_words_in, random_words_in, task_of, task_in, view_in}
 use Rattle.rr_cli.specs.Ends.{mistaken, by_help, by_version}
 use Rattle.rr_cli.proofs.EndLemmas.{kind_cases}
 use Rattle.rr_cli.specs.Views.{by_view, by_others, out_of_memory}
-use Rattle.rr_cli.proofs.WordLaws.{none_among, no_simulate, no_show, no_draw, no_audit, no_run, no_shell, no_sweep, no_picture, no_migrate}
+use Rattle.rr_cli.proofs.WordLaws.{none_among, no_simulate, no_show, no_random, no_audit, no_run, no_shell, no_sweep, no_draw, no_migrate}
 use Rattle.rr_cli.proofs.viewing.execute_with_views.Goals as goal
 
 -- the text of a word
@@ -41,11 +41,11 @@ returns-in-Ok-Show-clause-ends g c =
     let task : task_of (map g.S.AsStr.text c.args.words.now) ≡ Show (text_of w.field-0-0) = sym w.ensures.task ∙ ap task_in w.field-0-is in
     by_others (λ none view is. no_show (text_of w.field-0-0) view (sym task ∙ is)) c.execute-in-Ok-Show.ensures.ends
 
-pub returns-in-Ok-Draw-clause-ends : goal.returns-in-Ok-Draw-clause-ends
-returns-in-Ok-Draw-clause-ends g c =
-    let w = c.in-Ok-Draw in
-    let task : task_of (map g.S.AsStr.text c.args.words.now) ≡ Draw (draw_words_in w.field-0-0) = sym w.ensures.task ∙ ap task_in w.field-0-is in
-    by_others (λ none view is. no_draw (draw_words_in w.field-0-0) view (sym task ∙ is)) c.execute-in-Ok-Draw.ensures.ends
+pub returns-in-Ok-Random-clause-ends : goal.returns-in-Ok-Random-clause-ends
+returns-in-Ok-Random-clause-ends g c =
+    let w = c.in-Ok-Random in
+    let task : task_of (map g.S.AsStr.text c.args.words.now) ≡ Random (random_words_in w.field-0-0) = sym w.ensures.task ∙ ap task_in w.field-0-is in
+    by_others (λ none view is. no_random (random_words_in w.field-0-0) view (sym task ∙ is)) c.execute-in-Ok-Random.ensures.ends
 
 pub returns-in-Ok-Audit-clause-ends : goal.returns-in-Ok-Audit-clause-ends
 returns-in-Ok-Audit-clause-ends g c =
@@ -71,11 +71,11 @@ returns-in-Ok-Sweep-clause-ends g c =
     let task : task_of (map g.S.AsStr.text c.args.words.now) ≡ Sweep (text_of w.field-0-0) (text_of w.field-0-1) = sym w.ensures.task ∙ ap task_in w.field-0-is in
     by_others (λ none view is. no_sweep (text_of w.field-0-0) (text_of w.field-0-1) view (sym task ∙ is)) c.execute-in-Ok-Sweep.ensures.ends
 
-pub returns-in-Ok-Picture-clause-ends : goal.returns-in-Ok-Picture-clause-ends
-returns-in-Ok-Picture-clause-ends g c =
-    let w = c.in-Ok-Picture in
-    let task : task_of (map g.S.AsStr.text c.args.words.now) ≡ Picture (text_of w.field-0-0) (cut_words_in w.field-0-1) = sym w.ensures.task ∙ ap task_in w.field-0-is in
-    by_others (λ none view is. no_picture (text_of w.field-0-0) (cut_words_in w.field-0-1) view (sym task ∙ is)) c.execute-in-Ok-Picture.ensures.ends
+pub returns-in-Ok-Draw-clause-ends : goal.returns-in-Ok-Draw-clause-ends
+returns-in-Ok-Draw-clause-ends g c =
+    let w = c.in-Ok-Draw in
+    let task : task_of (map g.S.AsStr.text c.args.words.now) ≡ Draw (text_of w.field-0-0) (cut_words_in w.field-0-1) = sym w.ensures.task ∙ ap task_in w.field-0-is in
+    by_others (λ none view is. no_draw (text_of w.field-0-0) (cut_words_in w.field-0-1) view (sym task ∙ is)) c.execute-in-Ok-Draw.ensures.ends
 
 pub returns-in-Ok-Migrate-clause-ends : goal.returns-in-Ok-Migrate-clause-ends
 returns-in-Ok-Migrate-clause-ends g c =

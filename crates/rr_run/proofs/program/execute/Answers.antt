@@ -3,7 +3,7 @@ use Rattle.clap.specs.Words.{Text, kind_of}
 use Rattle.clap.specs.Kinds.{Kinds, IsAmong}
 use Rattle.clap.specs.declared.error.kind.ErrorKind.{ErrorKind}
 use Rattle.rr_words.specs.declared.tasks.Task.TheVariants as read
-use Rattle.rr_words.specs.Tasks.{Simulate, Viewing, Show, Draw, Audit, Run, Shell, Sweep, Picture, Migrate, cut_words_in, draw_words_in, view_in, task_of, task_in}
+use Rattle.rr_words.specs.Tasks.{Simulate, Viewing, Show, Random, Audit, Run, Shell, Sweep, Draw, Migrate, cut_words_in, random_words_in, view_in, task_of, task_in}
 use Rattle.rr_cli.specs.Ends.{mistaken, by_help, by_version}
 use Rattle.rr_cli.proofs.EndLemmas.{kind_cases}
 use Rattle.rr_cli.specs.Views as views
@@ -112,11 +112,11 @@ returns-in-Ok-Show-clause-ends g c =
     let task : task_of (map g.S.AsStr.text c.args.words.now) ≡ Show (text_of w.field-0-0) = sym w.ensures.task ∙ ap task_in w.field-0-is in
     by_others (λ none asks. subst (λ t. AsksForThreads t) task asks) c.execute-in-Ok-Show.ensures.ends
 
-pub returns-in-Ok-Draw-clause-ends : goal.returns-in-Ok-Draw-clause-ends
-returns-in-Ok-Draw-clause-ends g c =
-    let w = c.in-Ok-Draw in
-    let task : task_of (map g.S.AsStr.text c.args.words.now) ≡ Draw (draw_words_in w.field-0-0) = sym w.ensures.task ∙ ap task_in w.field-0-is in
-    by_others (λ none asks. subst (λ t. AsksForThreads t) task asks) c.execute-in-Ok-Draw.ensures.ends
+pub returns-in-Ok-Random-clause-ends : goal.returns-in-Ok-Random-clause-ends
+returns-in-Ok-Random-clause-ends g c =
+    let w = c.in-Ok-Random in
+    let task : task_of (map g.S.AsStr.text c.args.words.now) ≡ Random (random_words_in w.field-0-0) = sym w.ensures.task ∙ ap task_in w.field-0-is in
+    by_others (λ none asks. subst (λ t. AsksForThreads t) task asks) c.execute-in-Ok-Random.ensures.ends
 
 pub returns-in-Ok-Audit-clause-ends : goal.returns-in-Ok-Audit-clause-ends
 returns-in-Ok-Audit-clause-ends g c =
@@ -130,11 +130,11 @@ returns-in-Ok-Sweep-clause-ends g c =
     let task : task_of (map g.S.AsStr.text c.args.words.now) ≡ Sweep (text_of w.field-0-0) (text_of w.field-0-1) = sym w.ensures.task ∙ ap task_in w.field-0-is in
     by_others (λ none asks. subst (λ t. AsksForThreads t) task asks) c.execute-in-Ok-Sweep.ensures.ends
 
-pub returns-in-Ok-Picture-clause-ends : goal.returns-in-Ok-Picture-clause-ends
-returns-in-Ok-Picture-clause-ends g c =
-    let w = c.in-Ok-Picture in
-    let task : task_of (map g.S.AsStr.text c.args.words.now) ≡ Picture (text_of w.field-0-0) (cut_words_in w.field-0-1) = sym w.ensures.task ∙ ap task_in w.field-0-is in
-    by_others (λ none asks. subst (λ t. AsksForThreads t) task asks) c.execute-in-Ok-Picture.ensures.ends
+pub returns-in-Ok-Draw-clause-ends : goal.returns-in-Ok-Draw-clause-ends
+returns-in-Ok-Draw-clause-ends g c =
+    let w = c.in-Ok-Draw in
+    let task : task_of (map g.S.AsStr.text c.args.words.now) ≡ Draw (text_of w.field-0-0) (cut_words_in w.field-0-1) = sym w.ensures.task ∙ ap task_in w.field-0-is in
+    by_others (λ none asks. subst (λ t. AsksForThreads t) task asks) c.execute-in-Ok-Draw.ensures.ends
 
 pub returns-in-Ok-Migrate-clause-ends : goal.returns-in-Ok-Migrate-clause-ends
 returns-in-Ok-Migrate-clause-ends g c =

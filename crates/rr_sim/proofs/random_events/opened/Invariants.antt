@@ -1,7 +1,7 @@
 use Rattle.std.proofs.Common.{◌≡◌, ◌+◌, drop}
 use Rattle.rr_sim.specs.Clusters.{Cluster, new_cluster, LeadsSpelt}
 use Rattle.rr_sim.specs.Random.{LeadsInMemory}
-use Rattle.rr_sim.proofs.drawing.opened.Given as goal
+use Rattle.rr_sim.proofs.random_events.opened.Given as goal
 
 -- the event at index i stands on line i + 2, and where the events from it on lead, all of them lead
 abbrev pub invariant-loop-event : goal.invariant-loop-event

@@ -1,6 +1,6 @@
 use Rattle.std.proofs.Common.{rules, refl, ◌+◌, ◌∙◌}
 use Rattle.rr_sim.proofs.DrawingLemmas.{drawing_none, drawing_on, drawing_all}
-use Rattle.rr_sim.proofs.drawing.draw_all.Goals as goal
+use Rattle.rr_sim.proofs.random_events.draw_all.Goals as goal
 
 pub loop-step-init : goal.loop-step-init
 loop-step-init g c =

@@ -1,6 +1,6 @@
 use Rattle.std.proofs.Common.{◌≡◌}
 use Rattle.rr_sim.proofs.DrawingLemmas.{Drawing}
-use Rattle.rr_sim.proofs.drawing.draw_all.Given as goal
+use Rattle.rr_sim.proofs.random_events.draw_all.Given as goal
 
 -- so many events are drawn
 abbrev pub invariant-loop-step : goal.invariant-loop-step

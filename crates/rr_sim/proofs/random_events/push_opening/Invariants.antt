@@ -1,6 +1,6 @@
 use Rattle.std.proofs.Common.{◌≡◌, ◌++◌, replicate}
 use Rattle.rr_text.specs.declared.event.Event.TheVariants.{Device}
-use Rattle.rr_sim.proofs.drawing.push_opening.Given as goal
+use Rattle.rr_sim.proofs.random_events.push_opening.Given as goal
 
 -- so many device calls stand behind the restart
 abbrev pub invariant-loop-call : goal.invariant-loop-call

@@ -1,7 +1,7 @@
 use Rattle.std.proofs.Common.{List, ℕ, subst, ap, ◌∙◌}
 use Rattle.rr_cli.specs.Refusals.{status_of}
 use Rattle.rr_cli.specs.Ends.{Prints, drawn, cut_off}
-use Rattle.rr_cli.proofs.draw.print_draw.Goals as goal
+use Rattle.rr_cli.proofs.random_schedule.print_random.Goals as goal
 
 pub returns-in-Ok-clause-ends : goal.returns-in-Ok-clause-ends
 returns-in-Ok-clause-ends g c =

@@ -4,7 +4,7 @@ use Rattle.rr_text.specs.declared.event.Event.{Event}
 use Rattle.rr_sim.specs.Clusters.{LeadsSpelt}
 use Rattle.rr_sim.specs.Random.{LeadsInMemory}
 use Rattle.rr_sim.proofs.OpenedLaws.{opened_so}
-use Rattle.rr_sim.proofs.drawing.opened.Goals as goal
+use Rattle.rr_sim.proofs.random_events.opened.Goals as goal
 
 pub returns-clause-ok : goal.returns-clause-ok
 returns-clause-ok c =

@@ -1,6 +1,6 @@
 use Rattle.std.proofs.Common.{rules}
 use Rattle.rr_sim.proofs.DrawingLemmas.{is_a_schedule}
-use Rattle.rr_sim.proofs.drawing.random.Goals as goal
+use Rattle.rr_sim.proofs.random_events.random.Goals as goal
 
 pub of_parts-requires : goal.of_parts-requires
 of_parts-requires g c =

@@ -10,9 +10,9 @@ use rr_types::{Command, Fact, Name, NodeId, Nodes, Op, Refusal, RequestNo, Value
 use std::alloc::Global;
 use std::collections::BTreeSet;
 
-/// What is remembered of a run: of each node, and of what clients asked.
+/// What is remembered of a random run: of each node, and of what clients asked.
 #[derive(Drop)]
-pub(crate) struct Drawing {
+pub(crate) struct RandomRun {
     pub(crate) nodes: Nodes,
     pub(crate) memories: Vec<Memory>,
     /// The instances that some node has decided, and how many of them there are from 0 on without a gap.
@@ -24,16 +24,16 @@ pub(crate) struct Drawing {
     quiet: u32,
 }
 
-impl Drawing {
+impl RandomRun {
     /// Nothing was drawn yet.
-    pub(crate) fn new(alloc: Global, nodes: Nodes) -> Result<Drawing, Refusal>
+    pub(crate) fn new(alloc: Global, nodes: Nodes) -> Result<RandomRun, Refusal>
         ensures { IfErr result (λ e. e ≡ Refusal.OutOfMemory) }
     {
         let mut memories = Vec::new(alloc);
         for _node in 0..nodes.count() {
             memories.push(Memory::new(alloc))?;
         }
-        Ok(Drawing {
+        Ok(RandomRun {
             nodes,
             memories,
             decided: BTreeSet::new(alloc),

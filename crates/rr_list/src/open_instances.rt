@@ -7,12 +7,12 @@ use std::marker::Model;
 
 /// Up to eight instances, in order. No call needs memory.
 #[derive(Drop)]
-pub struct Window {
+pub struct OpenInstances {
     places: [Instance; 8],
     count: usize,
 }
 
-impl Model for Window {
+impl Model for OpenInstances {
     ghost use Rattle.std.specs.Prelude.{ℕ, List, take, ◌≤◌};
 
     ghost Value = { List ℕ };
@@ -22,13 +22,13 @@ impl Model for Window {
     ghost invariant = { λ w. w.count ≤ 8 };
 }
 
-impl Window {
+impl OpenInstances {
     /// No instance.
-    pub fn new() -> Window
+    pub fn new() -> OpenInstances
         ensures { result ≡ [] }
     {
         match Instance::new(0) {
-            Some(first) => Window {
+            Some(first) => OpenInstances {
                 places: [first; OPEN_INSTANCES],
                 count: 0,
             },
@@ -45,10 +45,10 @@ impl Window {
     }
 
     /// A copy.
-    pub fn copied(&self) -> Window
+    pub fn copied(&self) -> OpenInstances
         ensures { result ≡ self.now }
     {
-        Window {
+        OpenInstances {
             places: self.places,
             count: self.count,
         }

@@ -2,9 +2,9 @@
 
 ghost use Rattle.std.specs.Prelude.{◌≡◌, ◌≤◌, ℕ, List, Option, None, Some, true, IfOk, IfErr, IfSome, option_map};
 ghost use Rattle.std.specs.Io.KnownBytes.{Keeps};
-ghost use Rattle.rr_words.specs.Tasks.{draw_words_in};
-ghost use Rattle.rr_cli.specs.Draws.{IsNumberIn, IsNumberOf, AreFaults, AreNumbers, IsDrawnText};
-ghost use Rattle.rr_cli.specs.Ends.{EndsOnDraw, EndsOnWords};
+ghost use Rattle.rr_words.specs.Tasks.{random_words_in};
+ghost use Rattle.rr_cli.specs.Randoms.{IsNumberIn, IsNumberOf, AreFaults, AreNumbers, IsDrawnText};
+ghost use Rattle.rr_cli.specs.Ends.{EndsOnRandom, EndsOnWords};
 
 use crate::refusals::end_by_refusal;
 use crate::streams::end_by_text;
@@ -12,7 +12,7 @@ use rr_lively::{DEFAULT_FAULTS, Recipe, lively_run, lively_schedule};
 use rr_sim::{MAX_STEPS, random, random_run};
 use rr_stream::Sink;
 use rr_types::{Nodes, Refusal};
-use rr_words::{DrawWords, MAX_FAULTS};
+use rr_words::{MAX_FAULTS, RandomWords};
 use std::alloc::Global;
 use std::io::Write;
 
@@ -22,7 +22,7 @@ const _: () = prove!(rr_words::MAX_STEPS == MAX_STEPS as u64);
 /// The numbers of a random schedule: how many nodes it has, the seed of its words, how many steps it has, and if it is
 /// lively, how many steps in a thousand have a fault; and whether it is printed alone.
 #[derive(Clone, Copy, Debug)]
-pub(crate) struct Draw {
+pub(crate) struct RandomNumbers {
     nodes: Nodes,
     seed: u64,
     steps: u32,
@@ -92,11 +92,11 @@ fn faults_of(lively: bool, word: Option<&str>) -> Option<Option<u32>>
 }
 
 // The numbers that words name.
-fn numbers_of(words: &DrawWords) -> Option<Draw>
-    ensures some { IfSome result (λ d. AreNumbers (draw_words_in words.now) d.seed d.steps d.nodes d.faults) }
+fn numbers_of(words: &RandomWords) -> Option<RandomNumbers>
+    ensures some { IfSome result (λ d. AreNumbers (random_words_in words.now) d.seed d.steps d.nodes d.faults) }
     ensures few { IfSome result (λ d. d.steps ≤ 999930) }
     ensures alone { IfSome result (λ d. d.alone ≡ words.now.alone) }
-    ensures none { result ≡ None → (s k n : ℕ) (f : Option ℕ) → AreNumbers (draw_words_in words.now) s k n f → ⊥ }
+    ensures none { result ≡ None → (s k n : ℕ) (f : Option ℕ) → AreNumbers (random_words_in words.now) s k n f → ⊥ }
 {
     let seed = number_of(words.seed, 0, u64::MAX)?;
     let steps = number_of(words.steps, 0, u64::from(MAX_STEPS))?;
@@ -104,7 +104,7 @@ fn numbers_of(words: &DrawWords) -> Option<Draw>
     let faults = faults_of(words.lively, words.faults)?;
     let steps = steps as u32;
     let alone = words.alone;
-    Some(Draw {
+    Some(RandomNumbers {
         nodes,
         seed,
         steps,
@@ -114,27 +114,35 @@ fn numbers_of(words: &DrawWords) -> Option<Draw>
 }
 
 // The text of a random schedule.
-fn lone_schedule<O: Sink>(alloc: Global, draw: Draw, out: &mut O) -> Result<Vec<u8>, Refusal>
-    requires { draw.steps ≤ 999930 }
-    ensures ok { IfOk result (λ text. IsDrawnText true None draw.nodes draw.seed draw.steps text.items) }
+fn lone_schedule<O: Sink>(
+    alloc: Global,
+    numbers: RandomNumbers,
+    out: &mut O,
+) -> Result<Vec<u8>, Refusal>
+    requires { numbers.steps ≤ 999930 }
+    ensures ok { IfOk result (λ text. IsDrawnText true None numbers.nodes numbers.seed numbers.steps text.items) }
     ensures err { IfErr result (λ e. e ≡ Refusal.OutOfMemory) }
     ensures unprinted { O.printing out.new ≡ O.printing out.old }
 {
-    let schedule = random(alloc, draw.nodes, draw.seed, draw.steps, out)?;
+    let schedule = random(alloc, numbers.nodes, numbers.seed, numbers.steps, out)?;
     schedule.text(alloc)
 }
 
 // The text of a random schedule that isn't lively: alone, or with a line `report` and the report of its run.
-fn random_text<O: Sink>(alloc: Global, draw: Draw, out: &mut O) -> Result<Vec<u8>, Refusal>
-    requires { draw.steps ≤ 999930 }
-    ensures ok { IfOk result (λ text. IsDrawnText draw.alone None draw.nodes draw.seed draw.steps text.items) }
+fn random_text<O: Sink>(
+    alloc: Global,
+    numbers: RandomNumbers,
+    out: &mut O,
+) -> Result<Vec<u8>, Refusal>
+    requires { numbers.steps ≤ 999930 }
+    ensures ok { IfOk result (λ text. IsDrawnText numbers.alone None numbers.nodes numbers.seed numbers.steps text.items) }
     ensures err { IfErr result (λ e. e ≡ Refusal.OutOfMemory) }
     ensures unprinted { O.printing out.new ≡ O.printing out.old }
 {
-    if draw.alone {
-        lone_schedule(alloc, draw, out)
+    if numbers.alone {
+        lone_schedule(alloc, numbers, out)
     } else {
-        random_run(alloc, draw.nodes, draw.seed, draw.steps, out)
+        random_run(alloc, numbers.nodes, numbers.seed, numbers.steps, out)
     }
 }
 
@@ -142,22 +150,22 @@ fn random_text<O: Sink>(alloc: Global, draw: Draw, out: &mut O) -> Result<Vec<u8
 // draw a fault.
 fn lively_text<O: Sink>(
     alloc: Global,
-    draw: Draw,
+    numbers: RandomNumbers,
     faults: u32,
     out: &mut O,
 ) -> Result<Vec<u8>, Refusal>
-    requires { draw.steps ≤ 999930 }
-    ensures ok { IfOk result (λ text. IsDrawnText draw.alone (Some faults) draw.nodes draw.seed draw.steps text.items) }
+    requires { numbers.steps ≤ 999930 }
+    ensures ok { IfOk result (λ text. IsDrawnText numbers.alone (Some faults) numbers.nodes numbers.seed numbers.steps text.items) }
     ensures err { IfErr result (λ e. e ≡ Refusal.OutOfMemory) }
     ensures unprinted { O.printing out.new ≡ O.printing out.old }
 {
     let recipe = Recipe {
-        nodes: draw.nodes,
-        seed: draw.seed,
-        steps: draw.steps,
+        nodes: numbers.nodes,
+        seed: numbers.seed,
+        steps: numbers.steps,
         faults,
     };
-    if draw.alone {
+    if numbers.alone {
         lively_schedule(alloc, recipe, out)
     } else {
         lively_run(alloc, recipe, out)
@@ -165,32 +173,41 @@ fn lively_text<O: Sink>(
 }
 
 // The text of a random schedule: alone, or with a line `report` and the report of its run.
-fn drawn_text<O: Sink>(alloc: Global, draw: Draw, out: &mut O) -> Result<Vec<u8>, Refusal>
-    requires { draw.steps ≤ 999930 }
-    ensures ok { IfOk result (λ text. IsDrawnText draw.alone draw.faults draw.nodes draw.seed draw.steps text.items) }
+fn drawn_text<O: Sink>(
+    alloc: Global,
+    numbers: RandomNumbers,
+    out: &mut O,
+) -> Result<Vec<u8>, Refusal>
+    requires { numbers.steps ≤ 999930 }
+    ensures ok { IfOk result (λ text. IsDrawnText numbers.alone numbers.faults numbers.nodes numbers.seed numbers.steps text.items) }
     ensures err { IfErr result (λ e. e ≡ Refusal.OutOfMemory) }
     ensures unprinted { O.printing out.new ≡ O.printing out.old }
 {
-    match draw.faults {
-        None => random_text(alloc, draw, out),
-        Some(faults) => lively_text(alloc, draw, faults, out),
+    match numbers.faults {
+        None => random_text(alloc, numbers, out),
+        Some(faults) => lively_text(alloc, numbers, faults, out),
     }
 }
 
 // Prints a random schedule, alone or with the report of its run.
-fn print_draw<O: Sink, E: Write>(alloc: Global, draw: Draw, out: &mut O, err: &mut E) -> u8
-    requires { draw.steps ≤ 999930 }
-    ensures ends { EndsOnDraw draw.alone draw.faults draw.nodes draw.seed draw.steps result (O.printing out.old) (O.printing out.new) }
+fn print_random<O: Sink, E: Write>(
+    alloc: Global,
+    numbers: RandomNumbers,
+    out: &mut O,
+    err: &mut E,
+) -> u8
+    requires { numbers.steps ≤ 999930 }
+    ensures ends { EndsOnRandom numbers.alone numbers.faults numbers.nodes numbers.seed numbers.steps result (O.printing out.old) (O.printing out.new) }
     ensures quiet { result ≡ 0 → Keeps (E.contents err.old) (E.contents err.new) }
 {
-    match drawn_text(alloc, draw, out) {
+    match drawn_text(alloc, numbers, out) {
         Ok(text) => end_by_text(out, err, text.as_slice()),
         Err(refusal) => end_by_refusal(err, &refusal),
     }
 }
 
 // What is wrong with the words of a random schedule that name no numbers.
-fn fault_of(words: &DrawWords) -> &'static str {
+fn fault_of(words: &RandomWords) -> &'static str {
     if words.faults.is_some() && !words.lively {
         "--faults wants --lively"
     } else {
@@ -200,17 +217,17 @@ fn fault_of(words: &DrawWords) -> &'static str {
 
 /// Prints the random schedule that words name by their numbers, alone or with the report of its run. Words that are no
 /// such numbers, which the command line doesn't let through, end with 2.
-pub(crate) fn draw_by_words<O: Sink, E: Write>(
+pub(crate) fn random_by_words<O: Sink, E: Write>(
     alloc: Global,
-    words: &DrawWords,
+    words: &RandomWords,
     out: &mut O,
     err: &mut E,
 ) -> u8
-    ensures ends { EndsOnWords (draw_words_in words.now) result (O.printing out.old) (O.printing out.new) }
+    ensures ends { EndsOnWords (random_words_in words.now) result (O.printing out.old) (O.printing out.new) }
     ensures quiet { result ≡ 0 → Keeps (E.contents err.old) (E.contents err.new) }
 {
     match numbers_of(words) {
-        Some(draw) => print_draw(alloc, draw, out, err),
+        Some(numbers) => print_random(alloc, numbers, out, err),
         None => {
             let _ = writeln!(err, "rr: random: {}", fault_of(words));
             2

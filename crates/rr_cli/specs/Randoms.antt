@@ -7,7 +7,7 @@ use Rattle.rr_text.specs.ScheduleTexts.{schedule_text}
 use Rattle.rr_sim.specs.Random.{IsRandom}
 use Rattle.rr_sim.specs.Told.{IsRandomRun}
 use Rattle.rr_lively.specs.Lively.{IsLively, IsLivelySchedule}
-use Rattle.rr_words.specs.Tasks.{DrawWords}
+use Rattle.rr_words.specs.Tasks.{RandomWords}
 
 -- the text writes this number, which lies in the range; a plus may stand before it
 abbrev pub IsNumberIn : ℕ → ℕ → Text → ℕ → Type 0
@@ -28,7 +28,7 @@ AreFaults true (Some word) None = ⊥
 AreFaults true (Some word) (Some faults) = IsNumberIn 0 1000 word faults
 
 -- the words write a seed, a number of steps, a number of nodes, and the faults of a lively schedule
-abbrev pub AreNumbers : DrawWords → ℕ → ℕ → ℕ → Option ℕ → Type 0
+abbrev pub AreNumbers : RandomWords → ℕ → ℕ → ℕ → Option ℕ → Type 0
 AreNumbers words seed steps nodes faults =
     IsNumberOf 0 (2 ^ 64 - 1) words.seed seed × IsNumberOf 0 999930 words.steps steps
     × IsNumberOf 1 7 words.nodes nodes × AreFaults words.lively words.faults faults
