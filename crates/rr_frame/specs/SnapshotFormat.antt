@@ -112,8 +112,8 @@ standing_at version n p bytes = do
   kind ← number_at 1 bytes
   kind ← if_lawful (kind.0 == 1 || kind.0 == 2) bytes kind
   if kind.0 == 1
-  then (command_at version kind.1 >>= λ (v : Command × List ℕ). Ok (Decided v.0, v.1))
-  else (open_at version n p kind.1 >>= λ (o : OpenAt × List ℕ). Ok (Open o.0, o.1))
+      then (command_at version kind.1 >>= λ (v : Command × List ℕ). Ok (Decided v.0, v.1))
+      else (open_at version n p kind.1 >>= λ (o : OpenAt × List ℕ). Ok (Open o.0, o.1))
 
 -- an entry of node p of n at the front, whose instance is low or above
 unfoldable pub entry_at : Version → ℕ → ℕ → ℕ → List ℕ → Reading Entry
