@@ -98,6 +98,7 @@ def split_head(lines, indent):
 
 
 def name_in(kind, head):
+    """The name of an item; of an impl block, what it is for."""
     if kind == "impl":
         return re.sub(r"^impl(<.*?>(?= ))? ", "", " ".join(head.split())).partition(" where ")[0]
     return re.search(r"\b(?:fn|struct|enum|trait|const|type|ghost) (\w+)", head).group(1)
@@ -141,13 +142,12 @@ class Crate:
         root = (CRATES / name / "src" / "lib.rt").read_text().splitlines()
         self.docs = [line[3:].removeprefix(" ") for line in root if line.startswith("//!")]
         self.root = root
-        self.modules, self.module_docs = {}, {}
+        self.modules = {}
         for page in sorted((CRATES / name / "src").glob("*.rt")):
             lines = page.read_text().splitlines()
             text = "\n".join(line.removeprefix("    ") for line in lines)
             scope, used = scope_of(text), used_of(text)
             self.modules[page.stem] = items_of(lines)
-            self.module_docs[page.stem] = [line[3:].removeprefix(" ") for line in lines if line.startswith("//!")]
             for item in self.modules[page.stem]:
                 for one in (item, *item.members):
                     one.scope, one.used = scope, used
@@ -173,6 +173,8 @@ class Crate:
         items = [item for item in self.modules.get(module.rpartition("::")[2], []) if item.name == name and item.kind != "impl"]
         if items:
             self.public[name] = items[0]
+        elif module.partition("::")[0] in self.modules:
+            sys.exit(f"docs/api.py: {self.name}: no item {name} is read in {module}")
         else:
             self.elsewhere.append((module.partition("::")[0], name))
 
