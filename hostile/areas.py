@@ -1,8 +1,8 @@
 """Each byte of the areas that worked schedules leave takes each of its 256 values, and each area is cut at each place.
 
 What rr's libraries show is what the plain Rust program does, in the form that docs/FORMATS.md gives. One folder of some is
-given to `rr` itself. Of an area above 512 bytes the bytes in the middle, which are those of facts like the ones before,
-have one bit turned each, unless --all is given.
+given to `rr` itself. Some folders are taken once more, as version 1 wrote them. Of an area above 512 bytes the bytes in the
+middle, which are those of facts like the ones before, have one bit turned each, unless --all is given.
 """
 import re
 
