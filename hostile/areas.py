@@ -1,8 +1,8 @@
 """Each byte of the areas that worked schedules leave takes each of its 256 values, and each area is cut at each place.
 
 What rr's libraries show is what the plain Rust program does, in the form that docs/FORMATS.md gives. One folder of some is
-given to `rr` itself. Of an area above 512 bytes the bytes in the middle, which are those of facts like the ones before,
-have one bit turned each, unless --all is given.
+given to `rr` itself. Some folders are taken once more, as version 1 wrote them. Of an area above 512 bytes the bytes in the
+middle, which are those of facts like the ones before, have one bit turned each, unless --all is given.
 """
 import re
 
@@ -25,9 +25,12 @@ FOLDERS = (
     "torn_formatting_opened",
 )
 SHORT = ("group_of_two-flushed", "torn_formatting")
-LINE = rb"(?:unformatted|epoch [1-9]\d* node [0-6] of [1-7] facts (?:0|[1-9]\d*) decided (?:0|[1-9]\d*))\n"
+# Of these the areas are taken as version 1 wrote them too.
+OLD = ("group_of_two-flushed", "one_command", "snapshot_of_an_open_instance")
+LINE = rb"(?:unformatted|epoch [1-9]\d* node [0-6] of [1-7] facts (?:0|[1-9]\d*) decided (?:0|[1-9]\d*)( version 1)?)\n"
 SHOWN = re.compile(rb"area 0 " + LINE + rb"area 1 " + LINE)
 DAMAGED = re.compile(rb"rr: 3 Damaged [01] (?:0|[1-9]\d*)\n")
+OPEN = b"\xa5"
 STRETCH = 16
 # One folder of so many is given to rr itself.
 SHARE = 64
@@ -40,10 +43,18 @@ def tasks(options):
     texts = schedules(SHORT if options.short else FOLDERS)
     first = {}
     for name, text in texts.items():
-        first.setdefault(plain.areas(text), name)
+        areas = plain.areas(text)
+        first.setdefault(areas, name)
+        if name in OLD:
+            first.setdefault(tuple(map(of_version_1, areas)), f"{name} of version 1")
     plain.child.stdin.close()
     plain.child.wait()
     return [task for areas, name in first.items() for task in stretches(name, areas)]
+
+
+def of_version_1(area):
+    """Behind an open gate and the length of its frame a snapshot begins with its version. All other bytes are the same."""
+    return area[:5] + b"\x01" + area[6:] if area[:1] == OPEN else area
 
 
 def stretches(name, areas):
@@ -64,7 +75,7 @@ def work(rig, options, task):
     for number, ((what, both), ending) in enumerate(zip(cases, endings)):
         first, why = first_line(ending)
         judge(rig, tally, what, both, first, why)
-        if rig.many and (number % SHARE == 0 or area is None):
+        if number % SHARE == 0 or area is None:
             by_program(rig, tally, what, both, first)
     return tally
 
@@ -85,8 +96,6 @@ def changed(areas, area, data):
 
 
 def values_at(options, data, at):
-    if not options.many_answers:
-        return [value for value in range(at % 8, 256, 8) if value != data[at]]
     if options.all or len(data) <= LONG or at < FRONT or at >= len(data) - BACK:
         return [value for value in range(256) if value != data[at]]
     return [data[at] ^ 1 << bit for bit in range(8)]
@@ -108,11 +117,16 @@ def what_stands_there(areas, refusal):
     return f": the file a{area} is damaged at byte {offset}, where it {has}\n".encode()
 
 
+def tells_versions(areas, lines):
+    """Whether there are lines, of which that of an area of version 1 says so, and no other."""
+    return lines and all(bool(told) == (area[:1] == OPEN and area[5:6] == b"\x01") for told, area in zip(lines.groups(), areas))
+
+
 def judge(rig, tally, what, areas, ending, why):
     wanted = rig.plain.show(areas)
     tally.counts[{0: "shown", 4: "damaged"}.get(wanted.status, "other")] += 1
     if tally.check(ending, f"{what}: no answer") and compare(tally, what, ending, wanted):
-        shown = SHOWN.fullmatch(ending.out) and ending.status == 0 and not ending.err
+        shown = tells_versions(areas, SHOWN.fullmatch(ending.out)) and ending.status == 0 and not ending.err
         damaged = DAMAGED.fullmatch(ending.err) and ending.status == 4 and not ending.out
         tally.check(shown or damaged, lambda: f"{what}: {tell(ending)}")
         if damaged:

@@ -99,7 +99,7 @@ def hang(number, frame):
 class Rig:
     """A process's own folder, the program rr in it, and a plain Rust program to ask."""
 
-    def __init__(self, rr, plain, many=None):
+    def __init__(self, rr, plain, many):
         memory = "/dev/shm" if os.path.isdir("/dev/shm") else None
         self.rr, self.many = rr, many
         self.plain = Plain(plain)
@@ -139,31 +139,12 @@ class Rig:
 
     def ask_many(self, questions):
         """What rr's libraries answer to questions, each its line and the bytes behind it, in one process for all of them.
-        Answers the endings; of one that ended before its time those that it gave, and None behind them. Without the program
-        many_answers rr itself is asked, each time anew."""
-        if not self.many:
-            return [self.ask_itself(*question) for question in questions]
+        Answers the endings; of one that ended before its time those that it gave, and None behind them."""
         path = self.write("questions", b"".join(line.encode() + b"\n" + b"".join(parts) for line, *parts in questions))
         with open(path, "rb") as file:
             ran = subprocess.run([self.many], cwd=self.folder, stdin=file, stdout=subprocess.PIPE, env={}, check=False)
         endings = list(answers_of(ran.stdout))
         return endings + [None] * (len(questions) - len(endings))
-
-    def ask_itself(self, line, *parts):
-        """What rr itself answers to a question. A script that it can read is one for which it can't make a folder."""
-        verb, *words = line.split()
-        if verb == "show":
-            for number in (0, 1):
-                self.write(f"node/a{number}", parts[number])
-            ending = self.run("show", self.path("node"))
-            return ending._replace(err=ending.err + self.why)
-        path = self.write("text", parts[0])
-        if verb != "script":
-            ending = self.run(verb, path)
-            return ending._replace(err=ending.err + self.why)
-        ending = self.run("run", "--nodes", words[0], "--dir", "/proc/nowhere", "--script", path)
-        is_read = ending == (5, b"", b"rr: 2 Device\n")
-        return Ending(0, b"%d lines\n" % parts[0].count(b"\n"), b"") if is_read else ending
 
     @staticmethod
     def end_of(child, limit):

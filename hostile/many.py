@@ -12,13 +12,10 @@ from harness import DATA, TREE, Tally
 SHARE = 10000
 MUCH = 50
 LINE = re.compile(r"(\w+) status (\d+): (\d+)")
-ENDINGS = {"0": "read", "3": "faults", "4": "damaged", "5": "malformed", "7": "refused"}
+ENDINGS = {"0": "read", "1": "read, and written otherwise", "3": "faults", "4": "damaged", "5": "malformed", "7": "refused"}
 
 
 def tasks(options):
-    if not options.many_answers:
-        print("many: left out, for want of the program many_answers")
-        return []
     first, last = options.seed, options.seed + options.count * MUCH
     print(f"many: seeds {first} to {last - 1}", flush=True)
     return [(start, min(SHARE, last - start)) for start in range(first, last, SHARE)]

@@ -305,4 +305,5 @@ def main():
         print(", ".join(f"{count} {what}" for what, count in sorted(counts.items())))
 
 
-main()
+if __name__ == "__main__":
+    main()

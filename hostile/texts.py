@@ -16,12 +16,16 @@ FAULT = re.compile(rb"rr: (?:6 BadNodes|14 BadEvent ([1-9]\d*))\n")
 NO = re.compile(rb"rr: 17 AuditNo ([1-9]\d*)\n")
 WHY = re.compile(rb"[^:\n]*:([1-9]\d*):[1-9]\d*: [ -~]+\n")
 WHY_NO = re.compile(rb"event ([1-9]\d*) \(line [1-9]\d*\): [ -~]+\n")
+# A folder that can't be made, and the line that names it or that of a node in it.
+NOWHERE = "/proc/nowhere"
+NO_FOLDER = re.compile(rb"/proc/nowhere(?:/[01])?: [ -~]+\n")
 STRETCH = 4
 # One text of so many is given to rr itself.
 SHARE = 16
 QUESTIONS = {"schedule": "sim", "tape": "audit", "script": f"script {NODES}", "message": "message"}
 MALFORMED = re.compile(rb"rr: 11 Malformed (?:0|[1-9]\d*)\n")
-# A message of each kind, from node 0 or 1 of 7: version, sender, addressee, kind, and the body.
+# A message of each kind: the kind and the body. Version, sender and addressee stand before them.
+VERSIONS = (1, 2)
 COMMANDS = {"claim": "00000007 0000000000000001 01 01 61 01 78", "transfer": "FFFFFFFF FFFFFFFFFFFFFFFF 04 02 612D 00000008"}
 BODIES = {
     "estimate": "01 00000000 00000003 00000002 " + COMMANDS["claim"],
@@ -40,8 +44,8 @@ def tasks(options):
     texts = [("schedule", name, DATA / f"{name}.schedule") for name in SCHEDULES] + [("tape", name, DATA / f"{name}.tape") for name in TAPES]
     each = [(kind, "each_kind", TREE / f"hostile/each_kind.{kind}") for kind in QUESTIONS if kind != "message"]
     texts = [(kind, name, path.read_bytes()) for kind, name, path in (each if options.short else texts + each)]
-    if options.many_answers:
-        texts += [("message", name, bytes.fromhex(f"02 00 01 {body}")) for name, body in BODIES.items()]
+    both = [(name, version) for name in BODIES for version in VERSIONS]
+    texts += [("message", f"{name} of version {version}", bytes.fromhex(f"0{version} 00 01 {BODIES[name]}")) for name, version in both]
     return [(kind, name, text, at) for kind, name, text in texts for at in range(0, len(text), STRETCH)]
 
 
@@ -52,14 +56,14 @@ def work(rig, options, task):
     endings = rig.ask_many([(f"{QUESTIONS[kind]} {len(text)}", text) for _, text in cases])
     for number, ((what, text), ending) in enumerate(zip(cases, endings)):
         judge(rig, tally, kind, what, text, ending)
-        if rig.many and number % SHARE == 0 and kind != "message":
+        if number % SHARE == 0 and kind != "message":
             by_program(rig, tally, kind, what, text, ending)
     return tally
 
 
 def altered(options, tally, kind, name, text, start):
     """What was done to the text, and the text."""
-    stride = 1 if not options.short else 4 if options.many_answers else 32
+    stride = 4 if options.short else 1
     for at in range(start, min(start + STRETCH, len(text))):
         tally.counts[f"{kind}s: cuts"] += 1
         yield f"{name}.{kind} cut to {at} bytes", text[:at]
@@ -82,7 +86,13 @@ def judge(rig, tally, kind, what, text, ending):
         return
     fault, no = FAULT.fullmatch(line + feed), NO.fullmatch(line + feed)
     malformed = kind == "message" and MALFORMED.fullmatch(ending.err)
-    is_lawful = {0: not ending.err, 3: fault and not ending.out, 5: malformed and not ending.out, 7: kind == "tape" and no and not ending.out}
+    is_lawful = {
+        0: not ending.err and (kind != "message" or text[:1] == b"\x02"),
+        1: not ending.err and kind == "message" and text[:1] == b"\x01",
+        3: fault and not ending.out,
+        5: malformed and not ending.out,
+        7: kind == "tape" and no and not ending.out,
+    }
     tally.check(is_lawful.get(ending.status), lambda: f"{what}: {tell(ending)}")
     if kind != "script" and (fault or no):
         told = WHY.fullmatch(why) if fault else WHY_NO.fullmatch(why)
@@ -90,9 +100,10 @@ def judge(rig, tally, kind, what, text, ending):
 
 
 def by_program(rig, tally, kind, what, text, ending):
-    """`rr` itself ends as its libraries say. Of a script that is one it then wants to make a folder where none can be."""
+    """`rr` itself ends as its libraries say. Of a script that is one it then wants to make a folder where none can be, and a
+    second line names that."""
     path = rig.write("text", text)
-    words = {"schedule": ["sim", path], "tape": ["audit", path], "script": ["run", "--nodes", str(NODES), "--dir", "/proc/nowhere", "--script", path]}[kind]
+    words = {"schedule": ["sim", path], "tape": ["audit", path], "script": ["run", "--nodes", str(NODES), "--dir", NOWHERE, "--script", path]}[kind]
     got = rig.run_all([rig.rr, *words])
     line, feed, _ = ending.err.partition(b"\n") if ending else (b"", b"", b"")
     wanted = (ending.status, ending.out, line + feed) if ending else None
@@ -100,4 +111,5 @@ def by_program(rig, tally, kind, what, text, ending):
         wanted = (5, b"", b"rr: 2 Device\n")
     tally.counts["texts given to rr itself"] += 1
     tally.check(got == wanted, lambda: f"{what}: by rr itself {tell(got)}; wanted {wanted}")
-    tally.check(bool(rig.why) == (got.status in (3, 7)), lambda: f"{what}: by rr itself {tell(got)}, {rig.why!r}")
+    is_told = NO_FOLDER.fullmatch(rig.why) if got.status == 5 else bool(rig.why) == (got.status in (3, 7))
+    tally.check(is_told, lambda: f"{what}: by rr itself {tell(got)}, {rig.why!r}")

@@ -225,10 +225,14 @@ fn read_script(nodes: u8, text: &[u8]) -> Ending {
     }
 }
 
-/// What is read of a message.
+/// What is read of a message; status 1 where it is written as other bytes, as
+/// one of version 1 is.
 fn read_message(bytes: &[u8]) -> Ending {
     match messages::read(bytes) {
-        Ok(line) => printed(line),
+        Ok((line, is_written_so)) => Ending {
+            status: u8::from(!is_written_so),
+            ..printed(line)
+        },
         Err(place) => failed(5, format!("11 Malformed {place}")),
     }
 }

@@ -16,15 +16,15 @@ use types::{Body, Command, Message, Op, Refusal};
 
 const NODES: u8 = 7;
 
-/// The line of a report that has the message which bytes spell; where they
-/// spell none, the place of the fault.
-pub fn read(bytes: &[u8]) -> Result<Vec<u8>, u64> {
+/// The line of a report that has the message which bytes spell, and whether it
+/// is written as these bytes; where they spell none, the place of the fault.
+pub fn read(bytes: &[u8]) -> Result<(Vec<u8>, bool), u64> {
     match wire::decode(NODES, bytes) {
         Ok(message) => {
             let mut report = Report::default();
             report.send(0, &to_tell(&message));
             report.decided(&[]);
-            Ok(report.into_text())
+            Ok((report.into_text(), wire::encode(&message) == bytes))
         }
         Err(Refusal::Malformed(place)) => Err(place),
         Err(_) => unreachable!("a reader knows one fault"),

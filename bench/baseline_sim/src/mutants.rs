@@ -75,9 +75,12 @@ pub fn mutant(stock: &Stock, seed: u64) -> Mutant {
     }
 }
 
-/// A message, of which half are altered.
+/// A message, of which a fifth have the byte of version 1, and half are altered.
 fn message(draw: &mut Draw) -> Vec<u8> {
     let mut bytes = wire::encode(&lawful_message(draw).expect("its parts are in their ranges"));
+    if draw.happens(20) {
+        bytes[0] = 1;
+    }
     if draw.happens(50) {
         for _ in 0..1 + draw.below(3) {
             bytes::alter(draw, &mut bytes);
@@ -88,7 +91,7 @@ fn message(draw: &mut Draw) -> Vec<u8> {
 
 fn lawful_message(draw: &mut Draw) -> Option<types::Message> {
     use types::{Body, Estimate, Instance, NodeId, NodeSet, Round};
-    let instance = Instance::new(*draw.of(&[0, 1, 255, 65_536, 1_048_575]))?;
+    let instance = Instance::new(*draw.of(&[0, 1, 255, 65_535, 65_536, 1_048_575]))?;
     let number = *draw.of(&[1, 2, 3, 256, 2_147_483_647]);
     let round = Round::new(number)?;
     let command = command(draw)?;
@@ -113,7 +116,7 @@ fn lawful_message(draw: &mut Draw) -> Option<types::Message> {
 
 fn command(draw: &mut Draw) -> Option<types::Command> {
     use types::{Command, Name, Op, RequestNo, Value};
-    let lengths = [1, 2, 63, 64];
+    let lengths = [1, 2, 32, 33, 63, 64];
     let name = Name::new(&vec![*draw.of(b"az09-"); *draw.of(&lengths)]).ok()?;
     let value = Value::new(&vec![*draw.of(b"!~a:"); *draw.of(&[0, 1, 63, 64])]).ok()?;
     let client = *draw.of(&[0, 7, 4_294_967_295]);

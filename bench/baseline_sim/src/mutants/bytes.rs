@@ -50,7 +50,8 @@ pub fn altered_areas(draw: &mut Draw, stock: &[[Vec<u8>; 2]]) -> [Vec<u8>; 2] {
 }
 
 /// A snapshot and groups of a node that have the right numbers. Their facts
-/// mostly fit, since there are few instances, rounds and commands.
+/// mostly fit, since there are few instances, rounds and commands. A fifth of
+/// the snapshots have the byte of version 1.
 fn drawn_areas(draw: &mut Draw) -> [Vec<u8>; 2] {
     let nodes = 1 + draw.below(3) as u8;
     let place = Place {
@@ -62,6 +63,7 @@ fn drawn_areas(draw: &mut Draw) -> [Vec<u8>; 2] {
     let mut promise = Promise::default();
     let mut head = Vec::new();
     put_snapshot(&mut head, place, epoch, next, &promise);
+    age(draw, &mut head);
     put_frame(&mut area, &head);
     for _ in 0..draw.below(8) {
         let facts = facts(draw, place, &mut promise);
@@ -75,11 +77,19 @@ fn drawn_areas(draw: &mut Draw) -> [Vec<u8>; 2] {
     if draw.happens(50) {
         let mut snapshot = Vec::new();
         put_snapshot(&mut snapshot, place, epoch + 1, next, &promise);
+        age(draw, &mut snapshot);
         other.push(OPEN);
         put_frame(&mut other, &snapshot);
         *other.last_mut().expect("a gate") = 0;
     }
     [area, other]
+}
+
+/// Says of one snapshot in five that it is of version 1.
+fn age(draw: &mut Draw, snapshot: &mut [u8]) {
+    if draw.happens(20) {
+        snapshot[0] = 1;
+    }
 }
 
 /// Length and payload behind a gate, and the next gate, which is open.
