@@ -228,7 +228,7 @@ def names_in(code):
     """The names that lines define, and those of the fields and constructors below them."""
     names, inner = [], []
     for line in code:
-        if re.match(r"\s*(abbrev|unfoldable|(pub )?(record|data)) [^{]", line):
+        if re.match(r"\s*(abbrev|unfoldable|(pub )?(record|data)) [^{]|pub \S+ :", line):
             names.append(DEFINED.match(line.strip()).group(1))
         elif part := re.match(r"\s+(?:pub )?([\w◌'-]+) :", line):
             inner.append(part.group(1))
@@ -279,7 +279,7 @@ class Site:
         """A piece of a contract, a definition or a signature, with its names as links."""
         out, last = [], 0
         for word in WORD.finditer(text):
-            name, before = word.group(), text[: word.start()].rstrip(" ")[-1:]
+            name, before = word.group(), text[: word.start()][-1:]
             path = scope.get(name) or scope.get(f"◌{name}◌") or scope.get(f"◌{name}")
             inner = re.match(r"\.([A-Za-z_][\w'-]*)", text[word.end() :])
             if path and inner and len(path) == 3:
@@ -456,9 +456,8 @@ def model_html(site, crate, item):
     parts = []
     for impl in crate.impls(item.name)[1]:
         if impl.name.startswith("Model for"):
-            lines = [line.strip() for line in impl.body.splitlines()]
-            shown = "\n".join(line for line in lines if line.startswith("ghost ") and not line.startswith("ghost use"))
-            scope = {**impl.scope, **scope_of("\n".join(lines))}
+            shown = "\n".join(member.head for member in impl.members if member.kind == "ghost")
+            scope = {**impl.scope, **scope_of("\n".join(line.strip() for line in impl.body.splitlines()))}
             parts.append(f"<p class=dim>Contracts see it so:</p><pre>{site.linked(shown, scope)}</pre>")
     return "".join(parts)
 
