@@ -9,5 +9,6 @@ pub mod PartLaws
 pub mod DueLaws
 pub mod TakenLemmas
 pub mod CoveredLemmas
+pub mod MarkOfLemmas
 mod KnowingLaws
 mod OpeningLaws

@@ -72,7 +72,7 @@ pub fn commands_after(state: &State, alloc: Global) -> Result<Vec<Command>, Refu
 }
 
 /// The running group is marked, since it is synced: the mark behind it. It needs no memory.
-#[tactic(auto, using(crate::proofs::GroupLemmas::marked_by, crate::proofs::MarkLemmas::in_round, crate::proofs::MarkLemmas::decisions_stay, crate::proofs::MarkLemmas::have_rows), unfolding(rr_model::specs::NodeStep::marked_running))]
+#[tactic(auto, using(crate::proofs::GroupLemmas::marked_by, crate::proofs::MarkOfLemmas::marked_mark, crate::proofs::MarkLemmas::in_round, crate::proofs::MarkLemmas::decisions_stay, crate::proofs::MarkLemmas::have_rows), unfolding(rr_model::specs::NodeStep::marked_running))]
 pub fn mark_running(state: &mut State, synced: &Synced) -> Mark
     requires lawful { IsLawful state.old }
     requires own { synced.now.node ≡ state.old.node }

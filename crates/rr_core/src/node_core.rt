@@ -55,6 +55,22 @@ impl Model for Core {
     ghost invariant = { λ c. IsKept c.state.value c.registry × IsSearched c.searched.count c.searched.is_stale c.state.value × (c.mark ≡ mark_of c.state.value) };
 }
 
+/// The state of a node after its opening.
+#[tactic(auto, using(crate::proofs::MarkOfLemmas::started_mark))]
+fn start_state(alloc: Global, opened: &Opened) -> Result<State, Refusal>
+    ensures ok { IfOk result (λ s. s ≡ started opened.now.nodes opened.now.node opened.now.promise opened.now.next) }
+    ensures mark { IfOk result (λ s. mark_of s ≡ record { node = opened.now.node; end = opened.now.next }) }
+    ensures err { IfErr result (λ e. e ≡ Refusal.OutOfMemory) }
+{
+    started(
+        alloc,
+        opened.nodes(),
+        opened.node(),
+        opened.promise(),
+        opened.next(),
+    )
+}
+
 impl Core {
     /// A node after its opening, with the promise that this opening found, and the number of the next fact: it owes
     /// the restatement of its open instances.
@@ -65,13 +81,7 @@ impl Core {
         // That a promise ascends and that a fact's number has 64 bits is told by these calls alone.
         let _entries = opened.promise().entries();
         let _next = opened.next();
-        let state = started(
-            alloc,
-            opened.nodes(),
-            opened.node(),
-            opened.promise(),
-            opened.next(),
-        )?;
+        let state = start_state(alloc, opened)?;
         match registry_of_prefix(&state, alloc) {
             Ok(registry) => Ok(Core {
                 alloc,
@@ -290,7 +300,7 @@ impl Core {
     pub fn facts(&self) -> u64
         ensures { result ≡ self.now.marked_end }
     {
-        self.mark.end()
+        self.state.marked_end
     }
 
     /// The nodes that it suspects to be down.

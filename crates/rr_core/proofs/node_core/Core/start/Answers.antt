@@ -1,8 +1,9 @@
-use Rattle.std.proofs.Common.{false, sym, subst, List, arith, ◌∙◌}
+use Rattle.std.proofs.Common.{◌≡◌, false, sym, subst, List, arith, ◌∙◌}
 use Rattle.rr_types.specs.declared.promise.Entry.{Entry}
 use Rattle.rr_types.specs.Promises.{IsAscending}
 use Rattle.rr_model.specs.NodeState.{NodeState}
 use Rattle.rr_core.specs.Kept.{IsKept}
+use Rattle.rr_core.specs.Marks.{mark_of}
 use Rattle.rr_core.specs.Searched.{IsSearched}
 use Rattle.rr_core.proofs.SearchLemmas.{not_searched}
 use Rattle.rr_core.proofs.TakenLemmas.{started_kept}
@@ -18,4 +19,5 @@ invariant_of-result c =
           (started_kept opened.nodes opened.node opened.next opened.promise registry c.in_ok-state.state
           (subst P (c.entries-entries.ensures.value ∙ c.promise.ensures) c.entries-entries.ensures.ascending) (omega arith) c.in-Ok.ensures.ok c.in_ok-state.ensures.ok),
       subst (λ (x : NodeState). IsSearched 0 false x) own (not_searched c.in_ok-state.state),
+      subst (λ (x : NodeState). c.opened.result ≡ mark_of x) own (c.opened.ensures ∙ sym c.in_ok-state.ensures.mark),
     )

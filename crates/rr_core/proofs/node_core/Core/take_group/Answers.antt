@@ -1,8 +1,10 @@
-use Rattle.std.proofs.Common.{sym, subst}
+use Rattle.std.proofs.Common.{◌≡◌, sym, subst}
 use Rattle.rr_model.specs.NodeState.{NodeState}
 use Rattle.rr_core.specs.Kept.{IsKept}
+use Rattle.rr_core.specs.Marks.{mark_of}
 use Rattle.rr_core.specs.Searched.{IsSearched}
 use Rattle.rr_core.proofs.MarkLemmas.{taken_any}
+use Rattle.rr_core.proofs.MarkOfLemmas.{taken_mark}
 use Rattle.rr_core.proofs.SearchLemmas.{take_searched}
 use Rattle.rr_core.proofs.node_core.Core.take_group.Goals as goal
 
@@ -17,4 +19,5 @@ invariant_of-self c =
     let t = c.take_group.new.state in (
       taken_any s t core.registry c.take_group.result said.none said.some said.there said.free said.err kept,
       take_searched core.searched.count core.searched.is_stale s t c.take_group.result said.none said.some said.err searched,
+      taken_mark core.mark s t c.take_group.result said.none said.some said.err (subst (λ (x : NodeState). core.mark ≡ mark_of x) own c.self.invariant.2),
     )
