@@ -6,6 +6,8 @@ KINDS = {1: "enter", 2: "propose", 3: "adopt", 4: "decide"}
 OPERATIONS = {1: "claim", 2: "update", 3: "release", 4: "transfer"}
 
 Fact = collections.namedtuple("Fact", "kind instance round stamp request words")
+# How a node stands in an instance that it hasn't decided.
+Open = collections.namedtuple("Open", "round stamp estimate proposal")
 
 
 class Unreadable(Exception):
@@ -73,13 +75,14 @@ def facts_of(payload):
 
 
 class Disk:
-    """What a node's two areas hold: the epoch, the number of the next fact, its facts and what it has decided.
+    """What a node's two areas hold: the epoch, the number of the next fact, its facts, what it has decided, and how it stands
+    in the other instances.
 
-    Facts that a snapshot has taken the place of are not among `facts`, but what they decided is in `decided`. `shown` is what
-    is to be shown of each area: epoch, node, nodes, facts and decided, of the area that isn't active its snapshot's."""
+    Facts that a snapshot has taken the place of are not among `facts`, but what they said is in `decided` and `open`. `shown` is
+    what is to be shown of each area: epoch, node, nodes, facts and decided, of the area that isn't active its snapshot's."""
 
     def __init__(self, areas):
-        self.epoch, self.next, self.facts, self.decided, self.shown = 0, 0, [], {}, [None, None]
+        self.epoch, self.next, self.facts, self.decided, self.open, self.shown = 0, 0, [], {}, {}, [None, None]
         heads = []
         for area, payloads in enumerate(map(frames, areas)):
             if payloads:
@@ -105,17 +108,15 @@ class Disk:
     def read_snapshot(self, payload):
         fields = Fields(payload)
         fields.bytes(1)
-        self.owner, self.facts, self.decided = (fields.number(1), fields.number(1)), [], {}
+        self.owner, self.facts, self.decided, self.open = (fields.number(1), fields.number(1)), [], {}, {}
         self.epoch, self.next = fields.number(8), fields.number(8)
         for _ in range(fields.number(4)):
             instance, kind = fields.number(4), fields.number(1)
             if kind == 1:
                 self.decided[instance] = fields.command()
                 continue
-            fields.bytes(8)
-            fields.command()
-            if fields.number(1):
-                fields.command()
+            standing = Open(fields.number(4), fields.number(4), fields.command(), None)
+            self.open[instance] = standing._replace(proposal=fields.command()) if fields.number(1) else standing
 
     def read_group(self, payload):
         first, facts = facts_of(payload)
@@ -123,7 +124,20 @@ class Disk:
             raise Unreadable(f"a group from {first} on where {self.next} is next")
         self.next += len(facts)
         self.facts += facts
-        self.decided.update((fact.instance, (fact.request, fact.words)) for fact in facts if fact.kind == "decide")
+        for fact in facts:
+            self.take_on(fact, (fact.request, fact.words))
+
+    def take_on(self, fact, command):
+        """How the node stands behind a fact."""
+        if fact.kind == "enter":
+            self.open[fact.instance] = Open(fact.round, fact.stamp, command, None)
+        elif fact.kind == "propose":
+            self.open[fact.instance] = self.open[fact.instance]._replace(proposal=command)
+        elif fact.kind == "adopt":
+            self.open[fact.instance] = self.open[fact.instance]._replace(stamp=fact.round, estimate=command)
+        else:
+            self.decided[fact.instance] = command
+            self.open.pop(fact.instance, None)
 
     def prefix(self):
         """What is decided from instance 0 on without a gap."""

@@ -1,9 +1,9 @@
 """Snapshots of nodes of `rr shell` that are busy. Behind each the shell is killed, and the node loses its other area.
 
 Between two snapshots names are claimed and updated at all nodes. A snapshot has all facts of the area that the node leaves. So
-behind the kill it has, by docs/FORMATS.md, the same next fact number and the same decisions. Then the area that isn't active
-is filled with zeros, or its file is removed. The shell is started again, and each answer that was read holds: at once at the
-node that gave it, and at every node behind a later command.
+behind the kill it has, by docs/FORMATS.md, the same next fact number, decisions and open instances. Then the area that isn't
+active is filled with zeros, or its file is removed. The shell is started again, and each answer that was read holds: at once at
+the node that gave it, and at every node behind a later command.
 """
 import os
 import random
@@ -16,7 +16,7 @@ from scripts import bytes_of
 
 NODES = 3
 RUNS, ROUNDS = 40, 5
-COMMANDS = (1, 12)
+COMMANDS = (0, 11)
 
 
 def tasks(options):
@@ -46,7 +46,9 @@ def killed(rig, folder, names, rng, counts):
         nodes = rng.sample(range(NODES), rng.randint(1, NODES))
         for node in nodes:
             for _ in range(rng.randint(*COMMANDS)):
-                command(shell, names, rng, counts)
+                command(shell, names, rng, counts, rng.randrange(NODES))
+            # (of a command that another node answered, this one may still have to hear)
+            command(shell, names, rng, counts, rng.choice([other for other in range(NODES) if other != node]))
             answer = shell.ask(f"snapshot {node}")
             shell_kills.need(answer == f"snapshot {node}", f"snapshot {node}: {answer!r}")
             counts["snapshots"] += 1
@@ -56,9 +58,8 @@ def killed(rig, folder, names, rng, counts):
     return nodes
 
 
-def command(shell, names, rng, counts):
-    """A claim or an update at any node."""
-    node = rng.randrange(NODES)
+def command(shell, names, rng, counts, node):
+    """A claim or an update at a node."""
     shell_kills.need(shell.ask(f"at {node}") == f"at {node}", f"at {node}")
     verb, name, value = names.draw(rng, node)
     answer = shell.ask(f"{verb} {name} {value}")
@@ -80,6 +81,8 @@ def lose(tally, what, folder, rng):
     head = heads[active]
     tally.check(head.next == left.next, f"{what}: a snapshot before fact {head.next} follows an area with {left.next} facts")
     tally.check(head.decided == left.decided, f"{what}: a snapshot has {len(head.decided)} decisions of {len(left.decided)}")
+    tally.check(head.open == left.open, f"{what}: a snapshot has {head.open}, and the facts before it say {left.open}")
+    tally.counts["open instances in snapshots"] += len(left.open)
     if rng.random() < 0.5:
         os.remove(f"{folder}/a{1 - active}")
         tally.counts["areas removed"] += 1
