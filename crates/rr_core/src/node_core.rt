@@ -142,7 +142,6 @@ impl Core {
     /// The node is told this. It is refused for what it is even where memory runs out: a new command while all instances
     /// are decided here is `ListFull`, and an advance out of the last round `RoundsOut`. It is `TooLarge` where a fact
     /// would have no number.
-    #[tactic(auto, using(rr_behaviour::proofs::InputSteps::refused))]
     pub fn step(&mut self, input: &Input) -> Result<(), Refusal>
         ensures ok { OnOk result (self.new ≡ node_step input.now self.old) }
         ensures allowed { OnOk result (refusal_of input.now self.old ≡ None) }
