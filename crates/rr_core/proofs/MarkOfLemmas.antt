@@ -15,7 +15,7 @@ use Rattle.rr_core.specs.Marks.{Marked, mark_of}
 use Rattle.rr_core.proofs.GroupLemmas.{runs_is}
 use Rattle.rr_core.proofs.MarkLemmas.{IsAcked}
 
-marked : ℕ → ℕ → Marked
+abbrev marked : ℕ → ℕ → Marked
 marked p k = record { node = p; end = k }
 
 -- a node that has just started, by the opening that it started from
@@ -23,6 +23,10 @@ pub started_mark : (n p : ℕ) (promise : List Entry) (next : ℕ) (s : NodeStat
 started_mark n p promise next s is =
     let stays = started_stays n p promise next in
     ap mark_of is ∙ ap (λ (q : ℕ). marked q (started n p promise next).marked_end) stays.node ∙ ap (marked p) stays.marked_end
+
+pub started_marks : (n p : ℕ) (promise : List Entry) (next q end : ℕ) (r : Result NodeState Refusal) → p ≡ q → next ≡ end → IfOk r (λ s. s ≡ started n p promise next) → IfOk r (λ s. mark_of s ≡ record { node = q; end = end })
+started_marks n p promise next q end (Ok s) own there is = started_mark n p promise next s is ∙ ap (λ (k : ℕ). marked k next) own ∙ ap (marked q) there
+started_marks n p promise next q end (Err e) own there is = tt
 
 -- a step that was taken on, or not
 pub commit_mark : (m : Marked) (s t : NodeState) (c : Changed) (r : Result (Unit {0}) Refusal) → OnOk r (t ≡ combined s c) → OnErr r (t ≡ s) → m ≡ mark_of s → m ≡ mark_of t

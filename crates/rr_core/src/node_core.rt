@@ -56,7 +56,6 @@ impl Model for Core {
 }
 
 /// The state of a node after its opening.
-#[tactic(auto, using(crate::proofs::MarkOfLemmas::started_mark))]
 fn start_state(alloc: Global, opened: &Opened) -> Result<State, Refusal>
     ensures ok { IfOk result (λ s. s ≡ started opened.now.nodes opened.now.node opened.now.promise opened.now.next) }
     ensures mark { IfOk result (λ s. mark_of s ≡ record { node = opened.now.node; end = opened.now.next }) }

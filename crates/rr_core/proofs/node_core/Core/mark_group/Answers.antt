@@ -20,12 +20,12 @@ invariant_of-self c =
     let kept = subst (λ (x : NodeState). IsKept x core.registry) own c.self.invariant.0 in
     let run = subst (λ (x : NodeState). IsSome x.running) (c.deref.ensures ∙ own) (runs_if c.is_running_group.result c.deref.result.now c.group.result.now c.is_running_group.ensures c.if-not-is_running_group.false) in
     let longer = subst (λ (x : NodeState). decided_from 0 (take_on_all x.marked (option_map_or (λ facts. facts) x.running [])) ≡ decided_prefix x ++ more) (c.deref-2.ensures ∙ own) c.in_ok-more.ensures.ok in (
-      marked_kept s c.mark_running.new.state core.registry c.apply_all.new.self more kept run longer
+      marked_kept s c.mark_running-self-inside.new.state core.registry c.apply_all.new.self more kept run longer
           (c.in-Ok.ensures.of_list (decided_prefix s) kept.kept ∙ ap (λ (commands : List Command). kept_of (decided_prefix s ++ commands)) c.deref-3.ensures.value)
-          c.mark_running.ensures.marked,
-      marked_searched core.searched.count core.searched.is_stale s c.mark_running.new.state more longer c.mark_running.ensures.marked run
+          c.mark_running-self-inside.ensures.marked,
+      marked_searched core.searched.count core.searched.is_stale s c.mark_running-self-inside.new.state more longer c.mark_running-self-inside.ensures.marked run
           (subst (λ (x : NodeState). IsSearched core.searched.count core.searched.is_stale x) own c.self.invariant.1),
-      c.mark_running.ensures.mark,
+      c.mark_running-self-inside.ensures.mark,
     )
 
 pub returns-in-Ok-clause-fits : goal.returns-in-Ok-clause-fits
