@@ -56,3 +56,5 @@ pub mod NodesTogether
 pub mod NodeRestates
 pub mod NodeBegins
 pub mod NodesDecide
+pub mod NodesLearn
+pub mod NodesPassOn

@@ -199,9 +199,10 @@ record Talks (s t : NodeState) : Type 0 where
   waiting : t.waiting ≡ s.waiting
   running : t.running ≡ s.running
   staged : t.staged ≡ s.staged
+  number : next_number t ≡ next_number s
 
 talks_not : (s : NodeState) → Talks s s
-talks_not s = record { nodes = refl; node = refl; rows = refl; suspects = refl; waiting = refl; running = refl; staged = refl }
+talks_not s = record { nodes = refl; node = refl; rows = refl; suspects = refl; waiting = refl; running = refl; staged = refl; number = refl }
 
 -- the node has talked, and sent what may leave
 abbrev HasSent : NodeState → NodeState → List Message → Type 0
@@ -231,7 +232,7 @@ module _ (n p : ℕ) (c : Command) where
             sent = r.sent;
             alone = all;
             goal = (
-              record { nodes = r.goal.0.nodes; node = r.goal.0.node; rows = r.goal.0.rows; suspects = r.goal.0.suspects; waiting = r.goal.0.waiting; running = r.goal.0.running; staged = r.goal.0.staged },
+              record { nodes = r.goal.0.nodes; node = r.goal.0.node; rows = r.goal.0.rows; suspects = r.goal.0.suspects; waiting = r.goal.0.waiting; running = r.goal.0.running; staged = r.goal.0.staged; number = r.goal.0.number },
               λ o y z. elim (F.others o y z) [
                 | inl i ↦ subst (λ q. Contains r.sent q) (sym i) (alone_sent n p c (message_left s) x r.to r.sent r.alone m said)
                 | inr i ↦ r.goal.1 o i z
@@ -248,6 +249,7 @@ pub record Flushed (s t : NodeState) (v : List Message) : Type 0 where
   pub waiting : t.waiting ≡ s.waiting
   pub running : t.running ≡ None
   pub staged : t.staged ≡ []
+  pub number : next_number t ≡ next_number s
   pub sent : (m : Message) → Owes s m → Contains v m
 
 leaves_by : (marked_end : ℕ) (k : Option ℕ) → IsBelow marked_end k → option_map_or (λ j. nat_lt j marked_end) k true ≡ true
@@ -269,6 +271,7 @@ flush n p c s w = and_then n p c s w (λ t v. AllMarked s t) (Flushed s) (mark_a
       waiting = T.0.waiting ∙ A.marks.waiting;
       running = T.0.running ∙ A.running;
       staged = T.0.staged ∙ A.staged;
+      number = T.0.number ∙ A.marks.number;
       sent = λ m o. T.1 (record { message = m; backing = o.backing }) (subst (λ z. Contains z (record { message = m; backing = o.backing })) (sym A.marks.owed) o.owed) (leaves_by t.marked_end o.backing (subst (λ z. IsBelow z o.backing) same o.below));
     })))
 

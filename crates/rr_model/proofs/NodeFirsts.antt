@@ -17,7 +17,7 @@ use Rattle.rr_types.specs.Standings.{is_undecided}
 use Rattle.rr_model.specs.NodeState.{NodeState, Row, Tally, Backing, Owed, row_of, put_row, is_decided, undecided_from, lowest_undecided, open_instances, next_number}
 use Rattle.rr_model.specs.NodeParts.{owe, messages_to, stage, free_command, rows_after, row_after, fresh_row, tally_after, backing_after, leave_round, enter_with, entering_estimate, enter, conclude, propose}
 use Rattle.rr_model.specs.NodeDue.{Due, Begin, Offer, Conclude, MoveOn, pick, is_majority, due_of_coordinator, due_of_row, due_at, first_due, due, carry_out, settle_within, settle}
-use Rattle.rr_model.proofs.NodeRows.{row_of_instance}
+use Rattle.rr_model.proofs.NodeRows.{row_of_instance, stands, row_then, row_of-rows_after}
 
 -- a row
 abbrev pub row_for : ℕ → Standing → Backing → Tally → Row
@@ -377,3 +377,32 @@ settle_onward s = settle_keeps (Onward s) (λ u d e x. onward_on s u (carry_out 
 -- where nothing is due for i, settling leaves its row alone
 pub settle_still : (i : ℕ) (st : Standing) (t : Tally) (s : NodeState) → First i st t s.rows → due_of_row s i t st ≡ None → First i st t (settle s).rows
 settle_still i st t s F q = (settle_keeps (IsStill i st t s) (still_goes i st t s) s (record { row = F; still = q; onward = onward_not s })).row
+
+stage_row : (i : ℕ) (f : Fact) (b : Body) (k : Option ℕ) (to : List ℕ) (s : NodeState) → i < instance_of f → row_of (owe b k to (stage f s)).rows i ≡ row_of s.rows i
+stage_row i f b k to s l =
+    ap (λ z. row_of z i) (owe_rows b k to (stage f s) ∙ stage_rows f s) ∙ row_of-rows_after (next_number s) f s.rows i
+    ∙ ap (λ z. if z then row_then (next_number s) f (after_fact (stands (row_of s.rows (instance_of f))) f) (row_of s.rows (instance_of f)) else row_of s.rows i) (ne_eqb (instance_of f) i (λ e. omega arith))
+
+enter_row : (i j r : ℕ) (said : Option Command) (s : NodeState) → i < j → row_of (enter j r said s).rows i ≡ row_of s.rows i
+unfolding enter
+enter_row i j r said s l = by (entering_estimate j r said s)
+  where
+    by : (o : Option Estimated) → row_of (option_map_or (λ e. enter_with j e (leave_round j s)) o s).rows i ≡ row_of s.rows i
+    by None = refl
+    by (Some e) = stage_row i (Enter j e) _ _ _ (leave_round j s) l ∙ ap (λ z. row_of z i) (leave_rows j s)
+
+carry_row : (i : ℕ) (d : Due) (s : NodeState) → i < place_of d → row_of (carry_out d s).rows i ≡ row_of s.rows i
+unfolding carry_out propose conclude
+carry_row i (Begin j) s l = enter_row i j 1 None s l
+carry_row i (Offer j r v) s l = stage_row i (Propose j r v) _ _ _ s l
+carry_row i (Conclude j v) s l = stage_row i (Decide j v) _ _ _ s l
+carry_row i (MoveOn j) s l = enter_row i j _ None s l
+
+due_beyond : (i : ℕ) (st : Standing) (t : Tally) (s u : NodeState) (d : Due) → due u ≡ Some d → IsStill i st t s u → i < place_of d
+unfolding due open_instances
+due_beyond i st t s u d x S = due_later u i (open_instances u) d (lowest_from 8 i 0 u.rows (first_beyond i st t u.rows S.row)) (row_due_at i st t u S.row ∙ S.still) x
+
+-- and so the row itself, with what backs it
+pub settle_row : (i : ℕ) (st : Standing) (t : Tally) (s : NodeState) → First i st t s.rows → due_of_row s i t st ≡ None → row_of (settle s).rows i ≡ row_of s.rows i
+settle_row i st t s F q =
+    (settle_keeps (λ u. IsStill i st t s u × (row_of u.rows i ≡ row_of s.rows i)) (λ u d x K. (still_goes i st t s u d x K.0, carry_row i d u (due_beyond i st t s u d x K.0) ∙ K.1)) s (record { row = F; still = q; onward = onward_not s }, refl)).1

@@ -184,12 +184,13 @@ holds low i c (x ∷ es) a l d e = elim (cases_lt low i) [
       )
 ]
 
-promised_backing : (next i : ℕ) (es : List Entry) (row : Row) → row_of (map (promised_row next) es) i ≡ Some row → row.backing.entered ≡ next - 1
+-- what backs a promised row counts as the last fact of the promise
+pub promised_backing : (next i : ℕ) (es : List Entry) (row : Row) → row_of (map (promised_row next) es) i ≡ Some row → (row.backing.entered ≡ next - 1) × (row.backing.decided ≡ next - 1)
 promised_backing next i [] row e = absurd (none-some row e)
 promised_backing next i (x ∷ es) row e = by (x.instance == i) (promised_backing next i es row) e
   where
-    by : (b : Bool) → (row_of (map (promised_row next) es) i ≡ Some row → row.backing.entered ≡ next - 1) → (if b then Some (promised_row next x) else row_of (map (promised_row next) es) i) ≡ Some row → row.backing.entered ≡ next - 1
-    by true ih y = ap (λ (z : Row). z.backing.entered) (sym (same_Some _ row y))
+    by : (b : Bool) → (row_of (map (promised_row next) es) i ≡ Some row → (row.backing.entered ≡ next - 1) × (row.backing.decided ≡ next - 1)) → (if b then Some (promised_row next x) else row_of (map (promised_row next) es) i) ≡ Some row → (row.backing.entered ≡ next - 1) × (row.backing.decided ≡ next - 1)
+    by true ih y = (ap (λ (z : Row). z.backing.entered) (sym (same_Some _ row y)), ap (λ (z : Row). z.backing.decided) (sym (same_Some _ row y)))
     by false ih y = ih y
 
 restates_estimate : (i : ℕ) (s : NodeState) (o : OpenAt) → standing_at s i ≡ Some (Open o) → o.stamp < o.round → o.proposal ≡ None → restate i s ≡ owe (say.Estimate i (estimated o.round o)) (Some (backing_at (λ b. b.entered) s i)) (coordinator_of o.round s.nodes ∷ []) s
@@ -206,7 +207,7 @@ opened_owes n p i next promise o F small some l none =
     let s : NodeState = restored n p promise next in
     let x : (rest : List ℕ) × (open_instances s ≡ i ∷ rest) = open_first i o no_votes s F small in
     let e : standing_at s i ≡ Some (Open o) = standing_first i (Open o) no_votes s F in
-    let at : backing_at (λ b. b.entered) s i ≡ next - 1 = ap (λ z. option_map_or (λ (r : Row). r.backing.entered) z 0) (first_row i (Open o) no_votes s.rows F) ∙ promised_backing next i promise _ (first_row i (Open o) no_votes s.rows F) in
+    let at : backing_at (λ b. b.entered) s i ≡ next - 1 = ap (λ z. option_map_or (λ (r : Row). r.backing.entered) z 0) (first_row i (Open o) no_votes s.rows F) ∙ (promised_backing next i promise _ (first_row i (Open o) no_votes s.rows F)).0 in
     let t : NodeState = owe (say.Estimate i (estimated o.round o)) (Some (backing_at (λ b. b.entered) s i)) (coordinator_of o.round n ∷ []) s in
     let owes : Owes t (from_to p (coordinator_of o.round n) (say.Estimate i (estimated o.round o))) = owes_new (say.Estimate i (estimated o.round o)) (backing_at (λ b. b.entered) s i) (coordinator_of o.round n ∷ []) s (coordinator_of o.round n) (0, omega arith, refl) (below_end (backing_at (λ b. b.entered) s i) next at some) in
     let all : started n p promise next ≡ restate_all x.0 t = starts_with n p promise next i x.0 x.1 ∙ ap (restate_all x.0) (restates_estimate i s o e l none) in

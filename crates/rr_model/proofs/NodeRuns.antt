@@ -3,7 +3,8 @@ use Rattle.std.proofs.Common.{◌≡◌, [], ◌∷◌, None, Some, refl}
 use Rattle.rr_types.specs.declared.fact.Fact.TheVariants.{Enter, Propose, Adopt, Decide}
 use Rattle.rr_types.specs.declared.message.Body.TheVariants.{Estimate}
 use Rattle.rr_model.specs.Examples.{claim_a_x, first_request, first_estimate, to_itself}
-use Rattle.rr_model.specs.NodeExamples.{told_alone, decided_alone, marked_alone}
+use Rattle.rr_model.specs.ClusterExamples.{claim_a_y, round_stamp}
+use Rattle.rr_model.specs.NodeExamples.{told_alone, decided_alone, marked_alone, asked_again, asked_by_another}
 use Rattle.rr_model.specs.NodeState.{open_instances}
 use Rattle.rr_types.specs.Nodes.{joined}
 use Rattle.rr_model.specs.NodeParts.{owe, pool_add, stage, free_command, enter, restate, conclude, propose}
@@ -33,3 +34,12 @@ leaves_alone = refl
 pub acknowledges_alone : next_acknowledged marked_alone ≡ Some first_request
 unfolding told_alone decided_alone marked_alone group_taken marked_running open_instances joined owe pool_add stage free_command enter restate conclude propose due carry_out settle_within settle wait_for submitted count_estimate count_ack take_proposal heard_body taken_in node_step started
 acknowledges_alone = refl
+
+-- a node that has decided the only command it knows for a later instance has none for the gap below
+pub gap_stays : asked_again.staged ≡ []
+unfolding asked_again open_instances joined owe pool_add stage free_command enter restate conclude propose due carry_out settle_within settle wait_for submitted count_estimate count_ack take_proposal heard_body taken_in node_step started
+gap_stays = refl
+
+pub gap_is_filled : asked_by_another.staged ≡ Enter 0 (round_stamp 1 0 claim_a_y) ∷ []
+unfolding asked_again asked_by_another open_instances joined owe pool_add stage free_command enter restate conclude propose due carry_out settle_within settle wait_for submitted count_estimate count_ack take_proposal heard_body taken_in node_step started
+gap_is_filled = refl

@@ -1,6 +1,7 @@
 -- Behind a restart the nodes of a majority can decide the lowest undecided instance, and serve the client of a new command.
 use Rattle.std.proofs.Common.{◌≡◌, ℕ, ◌+◌, ◌-◌, ◌*◌, ◌/◌, ◌%◌, ◌≤◌, ◌<◌, ◌⊎◌, inl, inr, Bool, true, false, find, List, [], ◌∷◌, ◌++◌, length, map, Contains, Option, None, Some, option_map, refl, ap, sym, ◌∙◌, subst, arith, append-nil}
 use Rattle.std.specs.List.{list_any}
+use Rattle.std.specs.Option.{option_map_or}
 use Rattle.std.proofs.lemmas.Bool.{cases_lt}
 use Rattle.std.proofs.lemmas.Nat.{mod-mul-add}
 use Rattle.std.proofs.lemmas.Option.{none-some}
@@ -8,6 +9,7 @@ use Rattle.rr_types.specs.declared.command.Command.{Command}
 use Rattle.rr_types.specs.declared.fact.Fact.{Fact}
 use Rattle.rr_types.specs.declared.message.Body.TheVariants as say
 use Rattle.rr_types.specs.declared.message.Message.{Message}
+use Rattle.rr_types.specs.declared.promise.Standing.{Standing}
 use Rattle.rr_types.specs.declared.promise.Standing.TheVariants.{Decided, Open}
 use Rattle.rr_types.specs.Facts.{standing_of}
 use Rattle.rr_types.specs.Promises.{AscendsFrom, standing_in, promise_of, all_fit, decided_from}
@@ -16,7 +18,8 @@ use Rattle.rr_types.specs.Rounds.{OpenAt, coordinator_of, majority_of}
 use Rattle.rr_types.specs.Standings.{is_undecided}
 use Rattle.rr_model.specs.Lawful.{count_below}
 use Rattle.rr_model.specs.World.{nothing_heard}
-use Rattle.rr_model.specs.NodeState.{NodeState, Row, no_votes, row_of, standing_at, decided_prefix}
+use Rattle.rr_model.specs.NodeState.{NodeState, Row, next_number, no_votes, row_of, standing_at, decided_prefix}
+use Rattle.rr_model.specs.NodeParts.{backing_at}
 use Rattle.rr_model.specs.NodeStep.{promised_row, restored, next_acknowledged}
 use Rattle.rr_model.specs.NodeReached.{IsReached, Opened, opened_over}
 use Rattle.rr_model.specs.NodesGoOn.{restarted, IsFreeAt, IsReadyFor, NodesCanGoOn, StandsIn, RoundsCanEnd, CanDecideNext}
@@ -31,22 +34,23 @@ use Rattle.rr_model.proofs.NodeSteady.{started_stays}
 use Rattle.rr_model.proofs.Plans.{some_member}
 use Rattle.rr_model.proofs.Promised.{standing_in-promise_of}
 use Rattle.rr_model.proofs.Reaches.{In}
-use Rattle.rr_model.proofs.NodeFirsts.{row_for, First, decided_among}
+use Rattle.rr_model.proofs.NodeFirsts.{row_for, First, first_row, decided_among}
 use Rattle.rr_model.proofs.NodeMoves.{if_true, Owes, Sits, standing_first, from_to, estimated}
 use Rattle.rr_model.proofs.NodeAlone.{IsUp, Comes, no_event, and_then}
 use Rattle.rr_model.proofs.NodePhases.{InRound, Ended, enters_round}
-use Rattle.rr_model.proofs.NodeRestates.{SameRows, started_same, Parted, parted, Leading, leading, lie_beyond, decides_request, unheld, holds, opened_owes}
+use Rattle.rr_model.proofs.NodesLearn.{Knowing}
+use Rattle.rr_model.proofs.NodeRestates.{SameRows, started_same, Parted, parted, Leading, leading, lie_beyond, decides_request, unheld, holds, opened_owes, promised_backing}
 use Rattle.rr_model.proofs.NodeBegins.{OpenAndWaiting, submits_open, submits_owing, IsBlank, at_first, submits_blank}
 use Rattle.rr_model.proofs.NodesTogether.{AreUp, Leads, from_before}
 
 -- a round above the bound, and at most n above it, that node k coordinates
-abbrev RoundFor : ℕ → ℕ → ℕ → Type 0
+abbrev pub RoundFor : ℕ → ℕ → ℕ → Type 0
 RoundFor n bound k = (r : ℕ) × (bound < r) × (r ≤ bound + n) × (coordinator_of r n ≡ k)
 
 times_more : (a n : ℕ) → (a + 1) * n ≡ a * n + n
 times_more a n = grind arith
 
-round_for : (n bound k : ℕ) → k < n → RoundFor n bound k
+pub round_for : (n bound k : ℕ) → k < n → RoundFor n bound k
 round_for n bound k l =
     let whole : (bound / n) * n + bound % n ≡ bound = parts bound n (omega arith) in
     let small : bound % n < n = omega arith in
@@ -57,11 +61,11 @@ round_for n bound k l =
     ]
 
 -- a node that has marked all knows of each instance what its promise says
-record AllKnown (n p : ℕ) (s : NodeState) : Type 0 where
-  ascends : AscendsFrom 0 s.marked
-  says : (j : ℕ) → standing_in s.marked j ≡ standing_at s j
+pub record AllKnown (n p : ℕ) (s : NodeState) : Type 0 where
+  pub ascends : AscendsFrom 0 s.marked
+  pub says : (j : ℕ) → standing_in s.marked j ≡ standing_at s j
 
-all_known : (n p : ℕ) (s : NodeState) → IsUp n p s → s.running ≡ None → s.staged ≡ [] → AllKnown n p s
+pub all_known : (n p : ℕ) (s : NodeState) → IsUp n p s → s.running ≡ None → s.staged ≡ [] → AllKnown n p s
 all_known n p s U a b =
     let facts : List Fact = U.0 in
     let K : Knows (Unit {0}) n p facts U.1 s = reached_knows n p facts U.1 s U.2 in
@@ -71,9 +75,9 @@ all_known n p s U a b =
       says = λ j. ap (λ z. standing_in z j) K.promise ∙ standing_in-promise_of K.kept j ∙ ap (standing_of j) (sym whole) ∙ sym (K.standings j);
     }
 
-some_facts : (i : ℕ) (facts : List Fact) (o : OpenAt) → standing_of i facts ≡ Some (Open o) → 0 < length facts
-some_facts i [] o e = absurd (none-some (Open o) e)
-some_facts i (f ∷ fs) o e = omega arith
+some_facts : (i : ℕ) (facts : List Fact) (st : Standing) → standing_of i facts ≡ Some st → 0 < length facts
+some_facts i [] st e = absurd (none-some st e)
+some_facts i (f ∷ fs) st e = omega arith
 
 -- what a restarted node is
 module _ (n q : ℕ) (facts : List Fact) where
@@ -83,11 +87,11 @@ module _ (n q : ℕ) (facts : List Fact) where
   opened_parted : (i : ℕ) → ((j : ℕ) → j < i → is_undecided (standing_of j facts) ≡ false) → Parted (length facts) 0 i (promise_of facts)
   opened_parted i d = parted (length facts) 0 i (promise_of facts) (ascends_all [] facts tt) (omega arith) (λ j l m. ap is_undecided (standing_in-promise_of facts j) ∙ d j m)
 
-  opened_open : (i : ℕ) (o : OpenAt) → ((j : ℕ) → j < i → is_undecided (standing_of j facts) ≡ false) → standing_of i facts ≡ Some (Open o) → Sits i q n (Open o) no_votes (opened_over n q facts)
-  opened_open i o d e =
+  opened_at : (i : ℕ) (st : Standing) → ((j : ℕ) → j < i → is_undecided (standing_of j facts) ≡ false) → standing_of i facts ≡ Some st → Sits i q n st no_votes (opened_over n q facts)
+  opened_at i st d e =
       let P : Parted (length facts) 0 i (promise_of facts) = opened_parted i d in
-      let L : Leading i (Open o) P.later = leading i (Open o) P.later P.ascends (P.same ∙ standing_in-promise_of facts i ∙ e) in
-      let row : promised_row (length facts) L.entry ≡ row_for i (Open o) (promised_row (length facts) L.entry).backing no_votes =
+      let L : Leading i st P.later = leading i st P.later P.ascends (P.same ∙ standing_in-promise_of facts i ∙ e) in
+      let row : promised_row (length facts) L.entry ≡ row_for i st (promised_row (length facts) L.entry).backing no_votes =
       ap (λ z. row_for z L.entry.standing (promised_row (length facts) L.entry).backing no_votes) L.instance ∙ ap (λ z. row_for i z (promised_row (length facts) L.entry).backing no_votes) L.standing in
       record {
         row = record {
@@ -101,6 +105,18 @@ module _ (n q : ℕ) (facts : List Fact) where
         node = same_opened.2.node;
         trusts = same_opened.2.suspects;
       }
+
+  -- where it has decided the instance, it knows which fact backs that
+  pub opened_knowing : (i : ℕ) (v : Command) → ((j : ℕ) → j < i → is_undecided (standing_of j facts) ≡ false) → standing_of i facts ≡ Some (Decided v) → Knowing i q n v (opened_over n q facts)
+  opened_knowing i v d e =
+      let s : NodeState = opened_over n q facts in
+      let S : Sits i q n (Decided v) no_votes s = opened_at i (Decided v) d e in
+      let row : row_of s.rows i ≡ Some (row_for i (Decided v) S.row.backing no_votes) = first_row i (Decided v) no_votes s.rows S.row in
+      let back : backing_at (λ b. b.decided) s i ≡ length facts - 1 =
+      ap (λ z. option_map_or (λ (r : Row). r.backing.decided) z 0) row ∙ (promised_backing (length facts) i (promise_of facts) _ (ap (λ z. row_of z i) (sym same_opened.0) ∙ row)).1 in
+      let some : 0 < length facts = some_facts i facts (Decided v) e in
+      let more : length facts + 0 + 0 ≤ next_number s = same_opened.2.number in
+      record { t = no_votes; sits = S; backed = omega arith }
 
   row_none : (o : Option Row) → stands o ≡ None → o ≡ None
   row_none None e = refl
@@ -134,6 +150,22 @@ module _ (n q : ℕ) (facts : List Fact) where
       let B : IsBackedOpen facts i (backs s i) o = stood_backed (Unit {0}) n q facts nothing_heard s (reached_knows n q facts nothing_heard s R) tt i (Open o) e in
       (B.below, reached_round_above n q facts nothing_heard s R i o e)
 
+-- a node that is ready enters a round above the bound
+pub ready_enters : (n i k r : ℕ) (c : Command) (Ok : Command → Type 0) (small : i < 1048576) (positive : 0 < r) (coordinates : coordinator_of r n ≡ k) → r ≤ 2147483647 → (q bound : ℕ) (facts : List Fact) → bound < r → 1 ≤ bound → IsReadyFor n bound i c q facts → ((o : OpenAt) → standing_of i facts ≡ Some (Open o) → Ok o.estimate) → (standing_of i facts ≡ None → Ok c) → (w : List Message) → Comes n q c (opened_over n q facts) w (InRound n i k r c Ok small positive coordinates q)
+ready_enters n i k r c Ok small positive coordinates within q bound facts above one R old new w = by R.here
+  where
+    goes_from : (o : OpenAt) → o.stamp ≤ o.round → 0 < o.round → o.round ≤ bound → Ok o.estimate → Comes n q c (opened_over n q facts) w (λ t v. OpenAndWaiting i q n c o t) → Comes n q c (opened_over n q facts) w (InRound n i k r c Ok small positive coordinates q)
+    goes_from o a b l ok C =
+        and_then n q c (opened_over n q facts) w (λ t v. OpenAndWaiting i q n c o t) (InRound n i k r c Ok small positive coordinates q) C (λ u x z A.
+        enters_round n i k r c Ok small positive coordinates q (r - o.round - 1) o no_votes u x A.sits a b (omega arith) within ok A.waiting)
+
+    by : ((o : OpenAt) × (standing_of i facts ≡ Some (Open o)) × (o.round ≤ bound)) ⊎ ((standing_of i facts ≡ None) × IsFreeAt n q i c facts) → Comes n q c (opened_over n q facts) w (InRound n i k r c Ok small positive coordinates q)
+    by (inl (o, e, m)) =
+        let S : Sits i q n (Open o) no_votes (opened_over n q facts) = opened_at n q facts i (Open o) R.below e in
+        let x : (o.stamp ≤ o.round) × (0 < o.round) = opened_round n q facts i o (Opened facts R.fit) (standing_first i (Open o) no_votes (opened_over n q facts) S.row) in
+        goes_from o x.0 x.1 m (old o e) (submits_open i q n c o (opened_over n q facts) w small S (same_opened n q facts).2.waiting)
+    by (inr (e, free)) = goes_from (at_first c) (omega arith) (omega arith) one (new e) (submits_blank i q n c (opened_over n q facts) w small (opened_blank n q facts i c R.below e free))
+
 -- the nodes of a majority over facts that fit
 module _ (n : ℕ) (set : ℕ → Bool) (facts : ℕ → List Fact) (c : Command) (i : ℕ) (enough : majority_of n ≤ count_below set n) (small : i < 1048576) (fit : (q : ℕ) → q < n → set q ≡ true → all_fit n q [] (facts q) ≡ true) where
   -- no node of them has a fact of the instance
@@ -149,31 +181,14 @@ module _ (n : ℕ) (set : ℕ → Bool) (facts : ℕ → List Fact) (c : Command
     abbrev Enters : ℕ → NodeState → List Message → Type 0
     Enters q s w = InRound n i k r c Fits small positive coordinates q s w
 
-    -- from where it is open the node enters the round
-    goes_from : (q bound : ℕ) (o : OpenAt) (s : NodeState) (w : List Message) → bound < r → o.stamp ≤ o.round → 0 < o.round → o.round ≤ bound → Fits o.estimate → Comes n q c s w (λ t v. OpenAndWaiting i q n c o t) → Comes n q c s w (Enters q)
-    goes_from q bound o s w above a b l ok C =
-        and_then n q c s w (λ t v. OpenAndWaiting i q n c o t) (Enters q) C (λ u x z A.
-        enters_round n i k r c Fits small positive coordinates q (r - o.round - 1) o no_votes u x A.sits a b (omega arith) within ok A.waiting)
-
-    -- a node that is ready enters it
-    ready_enters : (bound : ℕ) → bound < r → 1 ≤ bound → (q : ℕ) → q < n → set q ≡ true → IsReadyFor n bound i c q (facts q) → (w : List Message) → Comes n q c (opened_over n q (facts q)) w (Enters q)
-    ready_enters bound above one q l y R w = by R.here
-      where
-        by : ((o : OpenAt) × (standing_of i (facts q) ≡ Some (Open o)) × (o.round ≤ bound)) ⊎ ((standing_of i (facts q) ≡ None) × IsFreeAt n q i c (facts q)) → Comes n q c (opened_over n q (facts q)) w (Enters q)
-        by (inl (o, e, m)) =
-            let S : Sits i q n (Open o) no_votes (opened_over n q (facts q)) = opened_open n q (facts q) i o R.below e in
-            let x : (o.stamp ≤ o.round) × (0 < o.round) = opened_round n q (facts q) i o (Opened (facts q) R.fit) (standing_first i (Open o) no_votes (opened_over n q (facts q)) S.row) in
-            goes_from q bound o (opened_over n q (facts q)) w above x.0 x.1 m (λ new. absurd (none-some (Open o) (sym (new q l y) ∙ e))) (submits_open i q n c o (opened_over n q (facts q)) w small S (same_opened n q (facts q)).2.waiting)
-        by (inr (e, free)) = goes_from q bound (at_first c) (opened_over n q (facts q)) w above (omega arith) (omega arith) one (λ new. refl) (submits_blank i q n c (opened_over n q (facts q)) w small (opened_blank n q (facts q) i c R.below e free))
-
     -- a node that stands in it is there
     stands_there : (q : ℕ) → q < n → set q ≡ true → StandsIn n r i q (facts q) → (w : List Message) → Comes n q c (opened_over n q (facts q)) w (Enters q)
     stands_there q l y R w =
         let s : NodeState = opened_over n q (facts q) in
         let o : OpenAt = R.present in
-        let S : Sits i q n (Open o) no_votes s = opened_open n q (facts q) i o R.below R.here in
+        let S : Sits i q n (Open o) no_votes s = opened_at n q (facts q) i (Open o) R.below R.here in
         let F : First i (Open o) no_votes (restored n q (promise_of (facts q)) (length (facts q))).rows = subst (First i (Open o) no_votes) (same_opened n q (facts q)).0 S.row in
-        let O : Owes s (from_to q (coordinator_of o.round n) (say.Estimate i (estimated o.round o))) = opened_owes n q i (length (facts q)) (promise_of (facts q)) o F small (some_facts i (facts q) o R.here) (subst (λ z. o.stamp < z) (sym R.round) R.stamp) R.none in
+        let O : Owes s (from_to q (coordinator_of o.round n) (say.Estimate i (estimated o.round o))) = opened_owes n q i (length (facts q)) (promise_of (facts q)) o F small (some_facts i (facts q) (Open o) R.here) (subst (λ z. o.stamp < z) (sym R.round) R.stamp) R.none in
         and_then n q c s w (λ t v. OpenAndWaiting i q n c o t × Contains v (from_to q (coordinator_of o.round n) (say.Estimate i (estimated o.round o)))) (Enters q) (submits_owing i q n c o s w _ small S (same_opened n q (facts q)).2.waiting O) (λ u x a A.
         no_event n q c u x (Enters q) (record {
           o = o;
@@ -217,7 +232,7 @@ module _ (n : ℕ) (set : ℕ → Bool) (facts : ℕ → List Fact) (c : Command
 ready_decide : (n : ℕ) (set : ℕ → Bool) (facts : ℕ → List Fact) (c : Command) (i bound : ℕ) → majority_of n ≤ count_below set n → i < 1048576 → 1 ≤ bound → ((q : ℕ) → q < n → set q ≡ true → IsReadyFor n bound i c q (facts q)) → (k r : ℕ) → k < n → set k ≡ true → bound < r → 0 < r → r ≤ 2147483647 → coordinator_of r n ≡ k → CanDecideNext n set facts c i
 ready_decide n set facts c i bound enough small one ready k r exists member above positive within coordinates =
     decides_in n set facts c i enough small (λ q l y. (ready q l y).fit) k r exists member positive within coordinates
-    (λ q l y w. ready_enters n set facts c i enough small (λ q2 l2 y2. (ready q2 l2 y2).fit) k r exists member positive within coordinates bound above one q l y (ready q l y) w)
+    (λ q l y w. ready_enters n i k r c (λ v. ((j : ℕ) → j < n → set j ≡ true → standing_of i (facts j) ≡ None) → v ≡ c) small positive coordinates within q bound (facts q) above one (ready q l y) (λ o e new. absurd (none-some (Open o) (sym (new q l y) ∙ e))) (λ e new. refl) w)
 
 -- the nodes of a majority can decide their lowest undecided instance, and answer the client
 pub decide_next : NodesCanGoOn

@@ -21,7 +21,7 @@ goes_both n set c g h _ a NotAtAll = a
 goes_both n set c g h _ a (ByOneMore j p e b l y m) = ByOneMore j p e (goes_both n set c g h j a b) l y m
 
 -- the others stay as they were
-abbrev Beside : ℕ → Cluster → Cluster → Type 0
+abbrev pub Beside : ℕ → Cluster → Cluster → Type 0
 Beside p g h = (q : ℕ) → (q ≡ p → ⊥) → h.state q ≡ g.state q
 
 -- what a node does alone, the nodes do
@@ -46,11 +46,11 @@ lift n set c g p l y _ _ (Does t v e a m r) =
     }
 
 -- what holds of a node and the messages sent holds still when more were sent
-abbrev Lasts : (ℕ → NodeState → List Message → Type 0) → Type 0
+abbrev pub Lasts : (ℕ → NodeState → List Message → Type 0) → Type 0
 Lasts P = (q : ℕ) (s : NodeState) (w v : List Message) → ((m : Message) → Contains w m → Contains v m) → P q s w → P q s v
 
 -- each node of the set is of a kind
-abbrev Each : ℕ → (ℕ → Bool) → (ℕ → NodeState → List Message → Type 0) → Cluster → Type 0
+abbrev pub Each : ℕ → (ℕ → Bool) → (ℕ → NodeState → List Message → Type 0) → Cluster → Type 0
 Each n set P g = (q : ℕ) → q < n → set q ≡ true → P q (g.state q) g.sent
 
 -- each was reached over facts that fit
@@ -64,14 +64,14 @@ pub record Leads (n : ℕ) (set : ℕ → Bool) (c : Command) (g : Cluster) (Goa
   pub up : AreUp n set end
   pub goal : Goal end
 
-and_so : (n : ℕ) (set : ℕ → Bool) (c : Command) (g : Cluster) (P Q : Cluster → Type 0) → Leads n set c g P → ((h : Cluster) → AreUp n set h → P h → Leads n set c h Q) → Leads n set c g Q
+pub and_so : (n : ℕ) (set : ℕ → Bool) (c : Command) (g : Cluster) (P Q : Cluster → Type 0) → Leads n set c g P → ((h : Cluster) → AreUp n set h → P h → Leads n set c h Q) → Leads n set c g Q
 and_so n set c g P Q a f =
     let b : Leads n set c a.end Q = f a.end a.up a.goal in
     record { end = b.end; goes = goes_both n set c g a.end b.end a.goes b.goes; up = b.up; goal = b.goal }
 
 module _ (n : ℕ) (set : ℕ → Bool) (c : Command) where
   -- one node goes on alone
-  at_one : (g : Cluster) (p : ℕ) (Goal : NodeState → List Message → Type 0) → p < n → set p ≡ true → AreUp n set g → Comes n p c (g.state p) g.sent Goal → Leads n set c g (λ h. Goal (h.state p) h.sent × Beside p g h × ((m : Message) → Contains g.sent m → Contains h.sent m))
+  pub at_one : (g : Cluster) (p : ℕ) (Goal : NodeState → List Message → Type 0) → p < n → set p ≡ true → AreUp n set g → Comes n p c (g.state p) g.sent Goal → Leads n set c g (λ h. Goal (h.state p) h.sent × Beside p g h × ((m : Message) → Contains g.sent m → Contains h.sent m))
   at_one g p Goal l y U C =
       let L : Lifted n set c g p C.to C.sent = lift n set c g p l y C.to C.sent C.alone in
       let up : IsUp n p C.to = alone_up n p c (g.state p) g.sent C.to C.sent C.alone (U p l y) in
@@ -131,7 +131,7 @@ module _ (n : ℕ) (set : ℕ → Bool) (c : Command) where
     all_gone (suc m) l g U E = and_so n set c g (GoneBelow m) (GoneBelow (suc m)) (all_gone m (omega arith) g U E) (λ h V G. one_more_gone m (omega arith) h V G)
 
     -- each can go on, one after another
-    phase : (g : Cluster) → AreUp n set g → Each n set P g → Leads n set c g (Each n set Q)
+    pub phase : (g : Cluster) → AreUp n set g → Each n set P g → Leads n set c g (Each n set Q)
     phase g U E = let A : Leads n set c g (GoneBelow n) = all_gone n (le_refl n) g U E in record { end = A.end; goes = A.goes; up = A.up; goal = λ q k y. A.goal.0 q k k y }
 
 -- a round in which instance i can be decided by the nodes of a majority, of which k is its coordinator

@@ -49,7 +49,8 @@ after_at p e g = record { state = with_at g.state p (after_event (g.state p) e);
 -- by events at nodes of the set alone these nodes can go on to those
 pub data CanGoOn (n : ℕ) (set : ℕ → Bool) (c : Command) (g : Cluster) : Cluster → Type 0 where
   NotAtAll : CanGoOn n set c g g
-  ByOneMore : (h : Cluster) (p : ℕ) (e : NodeEvent) → CanGoOn n set c g h → p < n → set p ≡ true → MayHappenAt h.sent c (h.state p) e → CanGoOn n set c g (after_at p e h)
+  ByOneMore : (h : Cluster) (p : ℕ) (e : NodeEvent) → CanGoOn n set c g h → p < n → set p ≡ true
+      → MayHappenAt h.sent c (h.state p) e → CanGoOn n set c g (after_at p e h)
 
 -- each node has restarted over its facts, and whatever was on the wire is lost
 abbrev pub restarted : ℕ → (ℕ → List Fact) → Cluster
@@ -84,7 +85,10 @@ pub record CanDecideNext (n : ℕ) (set : ℕ → Bool) (facts : ℕ → List Fa
 -- whatever the nodes of a majority keep, behind a restart they can decide the lowest instance that none of them has decided,
 -- where their rounds of it leave room for n more
 abbrev pub NodesCanGoOn : Type 0
-NodesCanGoOn = (n : ℕ) (set : ℕ → Bool) (facts : ℕ → List Fact) (c : Command) (i bound : ℕ) → majority_of n ≤ count_below set n → i < instance_count → 1 ≤ bound → bound + n ≤ last_round → ((q : ℕ) → q < n → set q ≡ true → IsReadyFor n bound i c q (facts q)) → CanDecideNext n set facts c i
+NodesCanGoOn =
+    (n : ℕ) (set : ℕ → Bool) (facts : ℕ → List Fact) (c : Command) (i bound : ℕ) → majority_of n ≤ count_below set n
+    → i < instance_count → 1 ≤ bound → bound + n ≤ last_round
+    → ((q : ℕ) → q < n → set q ≡ true → IsReadyFor n bound i c q (facts q)) → CanDecideNext n set facts c i
 
 -- node q of n stands in round r of instance i: its facts fit, and decide each instance below i. They leave i in that round, in
 -- which the node has neither adopted nor proposed
@@ -100,4 +104,22 @@ pub record StandsIn (n r i q : ℕ) (facts : List Fact) : Type 0 where
 -- where the nodes of a majority stand in one round, which one of them coordinates, they can decide in it, be it the last one:
 -- behind a restart each says again what its facts back
 abbrev pub RoundsCanEnd : Type 0
-RoundsCanEnd = (n : ℕ) (set : ℕ → Bool) (facts : ℕ → List Fact) (c : Command) (i r : ℕ) → majority_of n ≤ count_below set n → i < instance_count → r ≤ last_round → set (coordinator_of r n) ≡ true → ((q : ℕ) → q < n → set q ≡ true → StandsIn n r i q (facts q)) → CanDecideNext n set facts c i
+RoundsCanEnd =
+    (n : ℕ) (set : ℕ → Bool) (facts : ℕ → List Fact) (c : Command) (i r : ℕ) → majority_of n ≤ count_below set n
+    → i < instance_count → r ≤ last_round → set (coordinator_of r n) ≡ true
+    → ((q : ℕ) → q < n → set q ≡ true → StandsIn n r i q (facts q)) → CanDecideNext n set facts c i
+
+-- the nodes of the set, restarted over their facts, can go on until each has decided this command for instance i and marked it
+pub record CanLearn (n : ℕ) (set : ℕ → Bool) (facts : ℕ → List Fact) (c : Command) (i : ℕ) (v : Command) : Type 0 where
+  pub end : Cluster
+  pub goes_on : CanGoOn n set c (restarted n facts) end
+  pub is_decided : (q : ℕ) → q < n → set q ≡ true → standing_in (end.state q).marked i ≡ Some (Decided v)
+
+-- a node has decided instance i and each below it: the others of the set, of however many nodes, can decide so too
+abbrev pub DecisionsCanBeLearned : Type 0
+DecisionsCanBeLearned =
+    (n : ℕ) (set : ℕ → Bool) (facts : ℕ → List Fact) (c : Command) (i bound : ℕ) → i < instance_count → 1 ≤ bound
+    → bound + n ≤ last_round → (k : ℕ) → k < n → set k ≡ true → all_fit n k [] (facts k) ≡ true
+    → ((j : ℕ) → j < i → is_undecided (standing_of j (facts k)) ≡ false) → (v : Command)
+    → standing_of i (facts k) ≡ Some (Decided v)
+    → ((q : ℕ) → q < n → set q ≡ true → (q ≡ k → ⊥) → IsReadyFor n bound i c q (facts q)) → CanLearn n set facts c i v

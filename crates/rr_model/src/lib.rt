@@ -18,7 +18,7 @@ ghost use Rattle.rr_model.specs.NodeDue.{Due, due, carry_out, settle};
 ghost use Rattle.rr_model.specs.NodeStays.{StaysMarked};
 ghost use Rattle.rr_types.specs.declared.input.Input.{Input};
 ghost use Rattle.rr_model.specs.NodeStep.{node_step, next_leaving, next_acknowledged};
-ghost use Rattle.rr_model.specs.NodeExamples.{told_alone, decided_alone, marked_alone};
+ghost use Rattle.rr_model.specs.NodeExamples.{told_alone, decided_alone, marked_alone, asked_again, asked_by_another};
 ghost use Rattle.rr_model.specs.NodeLaws.{NodeEvent, IsTruthful, IsLawfulNode, IsTruthfulNode};
 ghost use Rattle.rr_model.specs.NodeWorld.{IsWorldlyNode, steps_of_event};
 ghost use Rattle.rr_model.specs.NodeReached.{IsProperEvent, IsReached, StagesLawfully, IsItself, NamesRounds};
@@ -26,10 +26,10 @@ ghost use Rattle.rr_model.specs.NodeInWorld.{IsInWorld, LeavesTheGroup, IsRunInW
 ghost use Rattle.rr_model.specs.Lawful.{Heard};
 ghost use Rattle.rr_model.specs.World.{World, Step, Acknowledged, Reported, decided_prefix, IsRun, end_of};
 ghost use Rattle.rr_model.specs.Examples.{first_request, claim_a_x, to_itself, first_estimate, decides_and_acknowledges, told_by_it, stages_and_crashes, goes_on, IsProposeOfAnotherUnlawful, IsAdoptBelowTheStampUnlawful, IsDecideWithoutMajorityUnlawful, IsEnterWithMadeUpCommandUnlawful};
-ghost use Rattle.rr_model.specs.ClusterExamples.{claim_a_y, first_round, two_rounds, IsDecideUnheardUnlawful, IsProposeOfAnotherCommandUnlawful, kept_over_two_rounds, decides_by_the_others, kept_by_it, crashes_before_it_tells, enters_anew, tells_it_now, IsLostEstimateUnlawful, decides_instance_1, decides_out_of_order, decides_twice, registry_of_one_claim};
+ghost use Rattle.rr_model.specs.ClusterExamples.{claim_a_y, round_stamp, first_round, two_rounds, IsDecideUnheardUnlawful, IsProposeOfAnotherCommandUnlawful, kept_over_two_rounds, decides_by_the_others, kept_by_it, crashes_before_it_tells, enters_anew, tells_it_now, IsLostEstimateUnlawful, decides_instance_1, decides_out_of_order, decides_twice, registry_of_one_claim};
 ghost use Rattle.rr_model.specs.Sound.{IsSound, IsChosen, IsDecidedList};
 ghost use Rattle.rr_model.specs.NoDeadEnd.{NoDeadEnd, EachCanBeServed};
-ghost use Rattle.rr_model.specs.NodesGoOn.{NodesCanGoOn, RoundsCanEnd};
+ghost use Rattle.rr_model.specs.NodesGoOn.{NodesCanGoOn, RoundsCanEnd, DecisionsCanBeLearned};
 ghost use Rattle.rr_model.specs.Laws.{after_steps, AreBeginningsRuns, StaysChosen, DoesListGrow, AreKeptFactsNeverLost, DoRoundsRise, DoAcksBind, AreProposalsLocked, KeepsRealTime, DoLaterCommandsStandBehind, DoesWhatIsLeftFit, DoesPromiseStand, DoLawfulFactsFit};
 
 /// Agreement and durability: every run of any number of nodes is sound, whatever is lost, repeated, reordered,
@@ -45,12 +45,14 @@ pub fn no_dead_end()
     ensures each_request_can_be_served { EachCanBeServed }
 {}
 
-/// Nodes as they are defined can go on. Behind a restart of all, whatever they keep, a majority can decide the lowest
-/// instance that none of them has decided. Where none knows of it, its command is the client's, and the reply is due.
-/// Where they stand in one round, which one of them coordinates, they need no later round, and it may be the last.
+/// Nodes as they are defined can go on, with no tick and no suspicion. Behind a restart a majority can decide the
+/// instance below which each of them has decided all. Where none has a fact of it, it is the client's command, and the
+/// reply is due at each. Where they stand in one round that one of them coordinates, what each restates is enough, and
+/// the round may be the last. What one node has decided, others can learn of it.
 pub fn nodes_can_go_on()
     ensures a_majority_can_decide_next { NodesCanGoOn }
     ensures a_round_can_be_ended { RoundsCanEnd }
+    ensures a_decision_can_be_learned { DecisionsCanBeLearned }
 {}
 
 /// Laws of runs, of which agreement is made: rounds rise, an acknowledgement binds what its sender says
@@ -174,11 +176,14 @@ pub fn examples_of_two_instances()
 {}
 
 /// The node's definitions mean what they say: a node alone takes a command through the four phases, its
-/// estimate waits until its Enter is marked, and then it acknowledges the request.
+/// estimate waits until its Enter is marked, and then it acknowledges the request. A node that has decided its client's
+/// command for a later instance, and knows no other, leaves a gap below it open until another command comes.
 pub fn examples_of_nodes()
     ensures it_enters_the_first_round { told_alone.staged ≡ Enter 0 first_estimate ∷ [] }
     ensures its_estimate_waits { next_leaving told_alone ≡ None }
     ensures it_goes_through_the_phases { decided_alone.staged ≡ Enter 0 first_estimate ∷ Propose 0 1 claim_a_x ∷ Adopt 0 1 claim_a_x ∷ Decide 0 claim_a_x ∷ [] }
     ensures its_estimate_leaves_once_marked { next_leaving marked_alone ≡ Some (to_itself (Estimate 0 first_estimate)) }
     ensures it_acknowledges_once_marked { next_acknowledged marked_alone ≡ Some first_request }
+    ensures a_gap_stays_where_only_its_command_comes { asked_again.staged ≡ [] }
+    ensures another_command_fills_it { asked_by_another.staged ≡ Enter 0 (round_stamp 1 0 claim_a_y) ∷ [] }
 {}
