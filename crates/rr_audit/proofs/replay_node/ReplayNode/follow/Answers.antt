@@ -14,15 +14,15 @@ returns-in-Submit c =
 
 pub returns-in-Suspect : goal.returns-in-Suspect
 returns-in-Suspect c =
-    subst (λ (e : TapeEvent). FollowsAt c.args.wire.now e c.args.self.now c.tell-2.new.self c.tell-2.result) (sym c.in-Suspect.is)
-    (follows_input c.args.wire.now (Suspect c.in-Suspect.node c.in-Suspect.set) (node.Suspect c.in-Suspect.set) c.args.self.now c.tell-2.new.self c.tell-2.result c.tell-2.ensures (λ ok. (refl, ok)) (λ does is. is.1))
+    subst (λ (e : TapeEvent). FollowsAt c.args.wire.now e c.args.self.now c.tell-in-Suspect.new.self c.tell-in-Suspect.result) (sym c.in-Suspect.is)
+    (follows_input c.args.wire.now (Suspect c.in-Suspect.node c.in-Suspect.set) (node.Suspect c.in-Suspect.set) c.args.self.now c.tell-in-Suspect.new.self c.tell-in-Suspect.result c.tell-in-Suspect.ensures (λ ok. (refl, ok)) (λ does is. is.1))
 
 pub returns-in-Tick : goal.returns-in-Tick
 returns-in-Tick c =
-    subst (λ (e : TapeEvent). FollowsAt c.args.wire.now e c.args.self.now c.tell-3.new.self c.tell-3.result) (sym c.in-Tick.is)
-    (follows_input c.args.wire.now (Tick c.in-Tick.node) node.Tick c.args.self.now c.tell-3.new.self c.tell-3.result c.tell-3.ensures (λ ok. (refl, ok)) (λ does is. is.1))
+    subst (λ (e : TapeEvent). FollowsAt c.args.wire.now e c.args.self.now c.tell-in-Tick.new.self c.tell-in-Tick.result) (sym c.in-Tick.is)
+    (follows_input c.args.wire.now (Tick c.in-Tick.node) node.Tick c.args.self.now c.tell-in-Tick.new.self c.tell-in-Tick.result c.tell-in-Tick.ensures (λ ok. (refl, ok)) (λ does is. is.1))
 
 pub returns-in-Advance : goal.returns-in-Advance
 returns-in-Advance c =
-    subst (λ (e : TapeEvent). FollowsAt c.args.wire.now e c.args.self.now c.tell-4.new.self c.tell-4.result) (sym c.in-Advance.is)
-    (follows_input c.args.wire.now (Advance c.in-Advance.node) node.Advance c.args.self.now c.tell-4.new.self c.tell-4.result c.tell-4.ensures (λ ok. (refl, ok)) (λ does is. is.1))
+    subst (λ (e : TapeEvent). FollowsAt c.args.wire.now e c.args.self.now c.tell-in-Advance.new.self c.tell-in-Advance.result) (sym c.in-Advance.is)
+    (follows_input c.args.wire.now (Advance c.in-Advance.node) node.Advance c.args.self.now c.tell-in-Advance.new.self c.tell-in-Advance.result c.tell-in-Advance.ensures (λ ok. (refl, ok)) (λ does is. is.1))
