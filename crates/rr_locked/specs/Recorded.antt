@@ -24,6 +24,14 @@ event_of p k (told.Suspect set) = Suspect p set
 event_of p k told.Tick = Tick p
 event_of p k told.Advance = Advance p
 
+-- an input is no message that comes
+abbrev pub IsNoMessage : Input → Type 0
+IsNoMessage (told.Submit c) = Unit {0}
+IsNoMessage (told.Hear m) = ⊥
+IsNoMessage (told.Suspect set) = Unit {0}
+IsNoMessage told.Tick = Unit {0}
+IsNoMessage told.Advance = Unit {0}
+
 -- whether a message is sent by the event
 abbrev pub is_send : TapeEvent → Bool
 is_send (Submit p c) = false

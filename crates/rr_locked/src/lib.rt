@@ -19,7 +19,7 @@ pub use ending::{Ending, Failure};
 pub use flusher::{Unflushed, carry, flush};
 pub use following::follow;
 pub use locked::Locked;
-pub use recorded::{ack_on, input_on, mark_on, send_on, take_on};
+pub use recorded::{ack_on, hear_on, input_on, mark_on, send_on, take_on};
 pub use recording::Recording;
 pub use sent::{Sent, send};
 pub use standstill::Standstill;

@@ -6,9 +6,10 @@
 ghost use Rattle.std.specs.Prelude.{◌≡◌, ◌≢◌, ◌⊎◌, [], None, Some, IfOk, IfErr, IfNone, IfSome, IsSome, OnOk, OnErr};
 ghost use Rattle.rr_model.specs.NodeState.{decided_prefix};
 ghost use Rattle.rr_model.specs.NodeStep.{node_step, refusal_of, group_taken, running_group, marked_running, next_leaving, message_left, next_acknowledged, acknowledged};
+ghost use Rattle.rr_types.specs.declared.input.Input.TheVariants as told;
 ghost use Rattle.rr_types.specs.Registry.{reply_of};
 ghost use Rattle.rr_tape.specs.declared.tape_event.TapeEvent.TheVariants as tape;
-ghost use Rattle.rr_locked.specs.Recorded.{event_of, sent_on, with_event, HasNoPlace};
+ghost use Rattle.rr_locked.specs.Recorded.{event_of, sent_on, with_event, HasNoPlace, IsNoMessage};
 
 use crate::locked::Locked;
 use crate::recording::Recording;
@@ -39,8 +40,8 @@ fn event_of(node: NodeId, number: u32, input: &Input) -> TapeEvent
     }
 }
 
-/// A node is told this. A message that it hears has this number on the tape.
-pub fn input_on(
+// A node is told this. A message that it hears has this number on the tape.
+fn told_on(
     locked: &mut Locked,
     recording: &mut Recording,
     input: &Input,
@@ -55,6 +56,33 @@ pub fn input_on(
     let event = event_of(locked.node(), number, input);
     locked.step(input)?;
     recording.note(&event)
+}
+
+/// A node is told this, which is no message: a message comes with its number, by `hear_on`.
+pub fn input_on(
+    locked: &mut Locked,
+    recording: &mut Recording,
+    input: &Input,
+) -> Result<(), Refusal>
+    requires { IsNoMessage input.now }
+    ensures step { OnOk result ((locked.new ≡ node_step input.now locked.old) × (refusal_of input.now locked.old ≡ None)) }
+    ensures event { OnOk result (recording.new ≡ with_event recording.old (event_of locked.old.node 0 input.now)) }
+    ensures kept { OnErr result (recording.new ≡ recording.old) }
+    ensures cause { IfErr result (λ e. ((locked.new ≡ locked.old) × ((e ≡ Refusal.OutOfMemory) ⊎ (refusal_of input.now locked.old ≡ Some e)))
+        ⊎ ((locked.new ≡ node_step input.now locked.old) × HasNoPlace recording.old (event_of locked.old.node 0 input.now) e)) }
+{
+    told_on(locked, recording, input, 0)
+}
+
+/// A node hears a message, under the number that it was sent with.
+pub fn hear_on(locked: &mut Locked, recording: &mut Recording, sent: &Sent) -> Result<(), Refusal>
+    ensures step { OnOk result ((locked.new ≡ node_step (told.Hear sent.now.message) locked.old) × (refusal_of (told.Hear sent.now.message) locked.old ≡ None)) }
+    ensures event { OnOk result (recording.new ≡ with_event recording.old (tape.Hear locked.old.node sent.now.number)) }
+    ensures kept { OnErr result (recording.new ≡ recording.old) }
+    ensures cause { IfErr result (λ e. ((locked.new ≡ locked.old) × ((e ≡ Refusal.OutOfMemory) ⊎ (refusal_of (told.Hear sent.now.message) locked.old ≡ Some e)))
+        ⊎ ((locked.new ≡ node_step (told.Hear sent.now.message) locked.old) × HasNoPlace recording.old (tape.Hear locked.old.node sent.now.number) e)) }
+{
+    told_on(locked, recording, &sent.input(), sent.number())
 }
 
 /// The oldest staged facts of a node become its running group. `None`: nothing is staged, and nothing is recorded.

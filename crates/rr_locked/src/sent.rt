@@ -2,10 +2,11 @@
 
 ghost use Rattle.std.specs.Prelude.{◌≡◌, None, Some, MatchOption};
 ghost use Rattle.rr_model.specs.NodeStep.{next_leaving, message_left};
+ghost use Rattle.rr_types.specs.declared.input.Input.TheVariants as told;
 
 use crate::locked::Locked;
 use rr_core::Cleared;
-use rr_types::Message;
+use rr_types::{Input, Message};
 use std::marker::Model;
 
 /// A message on its way, and its number on the tape; 0 where nothing is recorded. Only what leaves a node becomes one: by
@@ -43,6 +44,13 @@ impl Sent {
         ensures { result.now ≡ self.now.message }
     {
         self.cleared.as_message()
+    }
+
+    /// What a node is told that hears it.
+    pub fn input(&self) -> Input
+        ensures { result ≡ told.Hear self.now.message }
+    {
+        Input::Hear(self.cleared.message())
     }
 }
 

@@ -63,7 +63,7 @@ fn submit_in<W: WindowName, R: Wait>(
     command: &Command,
 ) -> Result<bool, Refusal> {
     let mut locked = desk.locked.lock(rt);
-    tell(rt, &mut locked, recorder, &Input::Submit(*command), 0)?;
+    tell(rt, &mut locked, recorder, &Input::Submit(*command))?;
     Ok(locked.reply(command.request).is_some())
 }
 

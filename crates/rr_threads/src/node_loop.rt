@@ -1,5 +1,7 @@
 //! The loop of a node.
 
+ghost use Rattle.rr_locked.specs.Recorded.{IsNoMessage};
+
 use crate::desk::Desk;
 use crate::recorder::Recorder;
 use crate::rest::{Rest, SHORT};
@@ -8,7 +10,7 @@ use crate::shared::Shared;
 use rr_inbox::{Giver, Outlet, Port, Taker, TrySendError};
 use rr_journal::Synced;
 use rr_locked::{
-    Locked, Sent, Standstill, Turns, Unflushed, input_on, mark_on, send, send_on, take_on,
+    Locked, Sent, Standstill, Turns, Unflushed, hear_on, input_on, mark_on, send, send_on, take_on,
 };
 use rr_types::{Group, Input, NodeId, NodeSet, Refusal};
 use rr_window::WindowName;
@@ -32,17 +34,18 @@ pub struct Runner {
     pub backs: Taker<Result<Synced, Unflushed>>,
 }
 
-/// The node is told this. A message that it hears has this number on the tape.
+/// The node is told this, which is no message.
 pub fn tell<R: Wait>(
     rt: &R,
     locked: &mut Locked,
     recorder: Option<&Recorder>,
     input: &Input,
-    number: u32,
-) -> Result<(), Refusal> {
+) -> Result<(), Refusal>
+    requires { IsNoMessage input.now }
+{
     match recorder {
         None => locked.step(input),
-        Some(recorder) => input_on(locked, &mut recorder.recording().lock(rt), input, number),
+        Some(recorder) => input_on(locked, &mut recorder.recording().lock(rt), input),
     }
 }
 
@@ -53,8 +56,10 @@ fn hear<R: Wait>(
     recorder: Option<&Recorder>,
     sent: &Sent,
 ) -> Result<(), Refusal> {
-    let input = Input::Hear(*sent.message());
-    tell(rt, locked, recorder, &input, sent.number())
+    match recorder {
+        None => locked.step(&sent.input()),
+        Some(recorder) => hear_on(locked, &mut recorder.recording().lock(rt), sent),
+    }
 }
 
 /// The messages of the inbox are heard, of many the first. Answers whether there was one.
@@ -224,7 +229,7 @@ fn send_all<R: Wait>(
 
 /// The node ticks.
 fn tick<R: Wait>(rt: &R, node: &Mutex<Locked>, recorder: Option<&Recorder>) -> Result<(), Refusal> {
-    tell(rt, &mut node.lock(rt), recorder, &Input::Tick, 0)
+    tell(rt, &mut node.lock(rt), recorder, &Input::Tick)
 }
 
 /// The node enters the next round of its lowest open instance, if that has one.
@@ -233,7 +238,7 @@ fn advance<R: Wait>(
     node: &Mutex<Locked>,
     recorder: Option<&Recorder>,
 ) -> Result<(), Refusal> {
-    match tell(rt, &mut node.lock(rt), recorder, &Input::Advance, 0) {
+    match tell(rt, &mut node.lock(rt), recorder, &Input::Advance) {
         Err(Refusal::RoundsOut) => Ok(()),
         advanced => advanced,
     }
