@@ -62,19 +62,19 @@ pub returns-in-Ok-Run-None-default-default-default-clause-ends : goal.returns-in
 returns-in-Ok-Run-None-default-default-default-clause-ends g c =
     let w = c.in-Ok-Run-None-default-default-default in
     let task : task_of (map g.S.AsStr.text c.args.words.now) ≡ Run None (text_of w.field-0-1) (text_of w.field-0-2) (text_of w.field-0-3) = sym w.ensures.task ∙ ap task_in w.field-0-is ∙ run_from _ _ _ _ _ _ _ w.field-0-0-is refl refl in
-    by_others (λ none asks. subst (λ t. AsksForThreads t) task asks) c.execute-in-Ok-Run-None-default-default-default.ensures.ends
+    by_others (λ none asks. subst (λ t. AsksForThreads t) task asks) c.execute_with_views-in-Ok-Run-None-default-default-default.ensures.ends
 
 pub returns-in-Ok-Run-default-None-default-default-clause-ends : goal.returns-in-Ok-Run-default-None-default-default-clause-ends
 returns-in-Ok-Run-default-None-default-default-clause-ends g c =
     let w = c.in-Ok-Run-default-None-default-default in
     let task : task_of (map g.S.AsStr.text c.args.words.now) ≡ Run (text_of w.field-0-0) None (text_of w.field-0-2) (text_of w.field-0-3) = sym w.ensures.task ∙ ap task_in w.field-0-is ∙ run_from _ _ _ _ _ _ _ refl w.field-0-1-is refl in
-    by_others (λ none asks. without_dir (text_of w.field-0-0) (text_of w.field-0-2) (text_of w.field-0-3) (subst (λ t. AsksForThreads t) task asks)) c.execute-in-Ok-Run-default-None-default-default.ensures.ends
+    by_others (λ none asks. without_dir (text_of w.field-0-0) (text_of w.field-0-2) (text_of w.field-0-3) (subst (λ t. AsksForThreads t) task asks)) c.execute_with_views-in-Ok-Run-default-None-default-default.ensures.ends
 
 pub returns-in-Ok-Run-default-default-None-default-clause-ends : goal.returns-in-Ok-Run-default-default-None-default-clause-ends
 returns-in-Ok-Run-default-default-None-default-clause-ends g c =
     let w = c.in-Ok-Run-default-default-None-default in
     let task : task_of (map g.S.AsStr.text c.args.words.now) ≡ Run (text_of w.field-0-0) (text_of w.field-0-1) None (text_of w.field-0-3) = sym w.ensures.task ∙ ap task_in w.field-0-is ∙ run_from _ _ _ _ _ _ _ refl refl w.field-0-2-is in
-    by_others (λ none asks. without_script (text_of w.field-0-0) (text_of w.field-0-1) (text_of w.field-0-3) (subst (λ t. AsksForThreads t) task asks)) c.execute.ensures.ends
+    by_others (λ none asks. without_script (text_of w.field-0-0) (text_of w.field-0-1) (text_of w.field-0-3) (subst (λ t. AsksForThreads t) task asks)) c.execute_with_views.ensures.ends
 
 pub returns-in-Ok-Shell-Some-Some-default-default-clause-ends : goal.returns-in-Ok-Shell-Some-Some-default-default-clause-ends
 returns-in-Ok-Shell-Some-Some-default-default-clause-ends g c =
@@ -86,58 +86,58 @@ pub returns-in-Ok-Shell-None-default-default-default-clause-ends : goal.returns-
 returns-in-Ok-Shell-None-default-default-default-clause-ends g c =
     let w = c.in-Ok-Shell-None-default-default-default in
     let task : task_of (map g.S.AsStr.text c.args.words.now) ≡ Shell None (text_of w.field-0-1) (text_of w.field-0-2) w.field-0-3 = sym w.ensures.task ∙ ap task_in w.field-0-is ∙ shell_from _ _ _ _ _ _ w.field-0-0-is refl in
-    by_others (λ none asks. subst (λ t. AsksForThreads t) task asks) c.execute-in-Ok-Shell-None-default-default-default.ensures.ends
+    by_others (λ none asks. subst (λ t. AsksForThreads t) task asks) c.execute_with_views-in-Ok-Shell-None-default-default-default.ensures.ends
 
 pub returns-in-Ok-Shell-default-None-default-default-clause-ends : goal.returns-in-Ok-Shell-default-None-default-default-clause-ends
 returns-in-Ok-Shell-default-None-default-default-clause-ends g c =
     let w = c.in-Ok-Shell-default-None-default-default in
     let task : task_of (map g.S.AsStr.text c.args.words.now) ≡ Shell (text_of w.field-0-0) None (text_of w.field-0-2) w.field-0-3 = sym w.ensures.task ∙ ap task_in w.field-0-is ∙ shell_from _ _ _ _ _ _ refl w.field-0-1-is in
-    by_others (λ none asks. without_folder (text_of w.field-0-0) (text_of w.field-0-2) w.field-0-3 (subst (λ t. AsksForThreads t) task asks)) c.execute-in-Ok-Shell-default-None-default-default.ensures.ends
+    by_others (λ none asks. without_folder (text_of w.field-0-0) (text_of w.field-0-2) w.field-0-3 (subst (λ t. AsksForThreads t) task asks)) c.execute_with_views-in-Ok-Shell-default-None-default-default.ensures.ends
 
 pub returns-in-Ok-Simulate-clause-ends : goal.returns-in-Ok-Simulate-clause-ends
 returns-in-Ok-Simulate-clause-ends g c =
     let w = c.in-Ok-Simulate in
     let task : task_of (map g.S.AsStr.text c.args.words.now) ≡ Simulate (text_of w.field-0-0) = sym w.ensures.task ∙ ap task_in w.field-0-is in
-    by_others (λ none asks. subst (λ t. AsksForThreads t) task asks) c.execute-in-Ok-Simulate.ensures.ends
+    by_others (λ none asks. subst (λ t. AsksForThreads t) task asks) c.execute_with_views-in-Ok-Simulate.ensures.ends
 
 pub returns-in-Ok-View-clause-ends : goal.returns-in-Ok-View-clause-ends
 returns-in-Ok-View-clause-ends g c =
     let w = c.in-Ok-View in
     let task : task_of (map g.S.AsStr.text c.args.words.now) ≡ Viewing (view_in w.field-0-0) = sym w.ensures.task ∙ ap task_in w.field-0-is in
-    by_others (λ none asks. subst (λ t. AsksForThreads t) task asks) c.execute-in-Ok-View.ensures.ends
+    by_others (λ none asks. subst (λ t. AsksForThreads t) task asks) c.execute_with_views-in-Ok-View.ensures.ends
 
 pub returns-in-Ok-Show-clause-ends : goal.returns-in-Ok-Show-clause-ends
 returns-in-Ok-Show-clause-ends g c =
     let w = c.in-Ok-Show in
     let task : task_of (map g.S.AsStr.text c.args.words.now) ≡ Show (text_of w.field-0-0) = sym w.ensures.task ∙ ap task_in w.field-0-is in
-    by_others (λ none asks. subst (λ t. AsksForThreads t) task asks) c.execute-in-Ok-Show.ensures.ends
+    by_others (λ none asks. subst (λ t. AsksForThreads t) task asks) c.execute_with_views-in-Ok-Show.ensures.ends
 
 pub returns-in-Ok-Random-clause-ends : goal.returns-in-Ok-Random-clause-ends
 returns-in-Ok-Random-clause-ends g c =
     let w = c.in-Ok-Random in
     let task : task_of (map g.S.AsStr.text c.args.words.now) ≡ Random (random_words_in w.field-0-0) = sym w.ensures.task ∙ ap task_in w.field-0-is in
-    by_others (λ none asks. subst (λ t. AsksForThreads t) task asks) c.execute-in-Ok-Random.ensures.ends
+    by_others (λ none asks. subst (λ t. AsksForThreads t) task asks) c.execute_with_views-in-Ok-Random.ensures.ends
 
 pub returns-in-Ok-Audit-clause-ends : goal.returns-in-Ok-Audit-clause-ends
 returns-in-Ok-Audit-clause-ends g c =
     let w = c.in-Ok-Audit in
     let task : task_of (map g.S.AsStr.text c.args.words.now) ≡ Audit (text_of w.field-0-0) = sym w.ensures.task ∙ ap task_in w.field-0-is in
-    by_others (λ none asks. subst (λ t. AsksForThreads t) task asks) c.execute-in-Ok-Audit.ensures.ends
+    by_others (λ none asks. subst (λ t. AsksForThreads t) task asks) c.execute_with_views-in-Ok-Audit.ensures.ends
 
 pub returns-in-Ok-Sweep-clause-ends : goal.returns-in-Ok-Sweep-clause-ends
 returns-in-Ok-Sweep-clause-ends g c =
     let w = c.in-Ok-Sweep in
     let task : task_of (map g.S.AsStr.text c.args.words.now) ≡ Sweep (text_of w.field-0-0) (text_of w.field-0-1) = sym w.ensures.task ∙ ap task_in w.field-0-is in
-    by_others (λ none asks. subst (λ t. AsksForThreads t) task asks) c.execute-in-Ok-Sweep.ensures.ends
+    by_others (λ none asks. subst (λ t. AsksForThreads t) task asks) c.execute_with_views-in-Ok-Sweep.ensures.ends
 
 pub returns-in-Ok-Draw-clause-ends : goal.returns-in-Ok-Draw-clause-ends
 returns-in-Ok-Draw-clause-ends g c =
     let w = c.in-Ok-Draw in
     let task : task_of (map g.S.AsStr.text c.args.words.now) ≡ Draw (text_of w.field-0-0) (cut_words_in w.field-0-1) = sym w.ensures.task ∙ ap task_in w.field-0-is in
-    by_others (λ none asks. subst (λ t. AsksForThreads t) task asks) c.execute-in-Ok-Draw.ensures.ends
+    by_others (λ none asks. subst (λ t. AsksForThreads t) task asks) c.execute_with_views-in-Ok-Draw.ensures.ends
 
 pub returns-in-Ok-Migrate-clause-ends : goal.returns-in-Ok-Migrate-clause-ends
 returns-in-Ok-Migrate-clause-ends g c =
     let w = c.in-Ok-Migrate in
     let task : task_of (map g.S.AsStr.text c.args.words.now) ≡ Migrate (text_of w.field-0-0) (text_of w.field-0-1) (text_of w.field-0-2) = sym w.ensures.task ∙ ap task_in w.field-0-is in
-    by_others (λ none asks. subst (λ t. AsksForThreads t) task asks) c.execute-in-Ok-Migrate.ensures.ends
+    by_others (λ none asks. subst (λ t. AsksForThreads t) task asks) c.execute_with_views-in-Ok-Migrate.ensures.ends
