@@ -194,7 +194,7 @@ module _ (n i k r : ℕ) (c : Command) (Ok : Command → Type 0) (small : i < 10
         } in
         and_then n k c s w (CountingOrMade n) Made (count_all n s w (le_refl n) V C) (λ u x a D.
         no_event n k c u x Made (elim D [
-          | inl D2 ↦ absurd (something_picked n D2.t (votes_suffice n set D2.t.estimates enough D2.votes) D2.lacks)
+          | inl still ↦ absurd (something_picked n still.t (votes_suffice n set still.t.estimates enough still.votes) still.lacks)
           | inr M ↦ M
         ]))
 
@@ -332,7 +332,7 @@ module _ (n i k r : ℕ) (c : Command) (Ok : Command → Type 0) (small : i < 10
         } in
         and_then n k c s w (CollectingOrTold n) (Told v) (collect_all n s w (le_refl n) V C) (λ u x a D.
         no_event n k c u x (Told v) (elim D [
-          | inl D2 ↦ absurd (false≢true (sym D2.few ∙ acks_suffice n set D2.t.acks enough D2.acks))
+          | inl still ↦ absurd (false≢true (sym still.few ∙ acks_suffice n set still.t.acks enough still.acks))
           | inr T ↦ T
         ]))
 
