@@ -1,13 +1,13 @@
 //! The drawing of events: what is remembered of the run, and what the next event is.
 
-ghost use Rattle.std.specs.Prelude.{◌≡◌, IfErr};
+ghost use Rattle.std.specs.Prelude.{◌≡◌};
 
 use crate::memory::Memory;
 use crate::stances::{Kind, count_of, first_from, node_at, node_behind, stance_of};
 use rr_sim::{Cluster, Stance};
 use rr_text::Event;
-use rr_types::{Command, Fact, Name, NodeId, Nodes, Op, Refusal, RequestNo, Value};
-use std::alloc::Global;
+use rr_types::{Command, Fact, Name, NodeId, Nodes, Op, RequestNo, Value};
+use std::alloc::{AllocError, Global};
 use std::collections::BTreeSet;
 
 /// What is remembered of a random run: of each node, and of what clients asked.
@@ -26,8 +26,7 @@ pub(crate) struct RandomRun {
 
 impl RandomRun {
     /// Nothing was drawn yet.
-    pub(crate) fn new(alloc: Global, nodes: Nodes) -> Result<RandomRun, Refusal>
-        ensures { IfErr result (λ e. e ≡ Refusal.OutOfMemory) }
+    pub(crate) fn new(alloc: Global, nodes: Nodes) -> Result<RandomRun, AllocError>
     {
         let mut memories = Vec::new(alloc);
         for _node in 0..nodes.count() {
@@ -49,8 +48,7 @@ impl RandomRun {
         cluster: &Cluster,
         event: &Event,
         is_kept: bool,
-    ) -> Result<(), Refusal>
-        ensures { IfErr result (λ e. e ≡ Refusal.OutOfMemory) }
+    ) -> Result<(), AllocError>
     {
         let node = rr_sim::node_of(event);
         if let Some(memory) = self.memories.get_mut(usize::from(node.index())) {
@@ -71,8 +69,7 @@ impl RandomRun {
     }
 
     /// The last message on the wire was sent, and may be heard from now on.
-    fn carry_last(&mut self, cluster: &Cluster) -> Result<(), Refusal>
-        ensures { IfErr result (λ e. e ≡ Refusal.OutOfMemory) }
+    fn carry_last(&mut self, cluster: &Cluster) -> Result<(), AllocError>
     {
         let Some(message) = cluster.wire().last() else {
             return Ok(());
@@ -94,8 +91,7 @@ impl RandomRun {
         cluster: &Cluster,
         from: NodeId,
         word: u32,
-    ) -> Result<Event, Refusal>
-        ensures { IfErr result (λ e. e ≡ Refusal.OutOfMemory) }
+    ) -> Result<Event, AllocError>
     {
         for count in 0..self.nodes.count() {
             let node = node_behind(self.nodes, from, count);
@@ -107,8 +103,7 @@ impl RandomRun {
     }
 
     /// What a node does next, if there is something.
-    fn act(&mut self, cluster: &Cluster, node: NodeId, word: u32) -> Result<Option<Event>, Refusal>
-        ensures { IfErr result (λ e. e ≡ Refusal.OutOfMemory) }
+    fn act(&mut self, cluster: &Cluster, node: NodeId, word: u32) -> Result<Option<Event>, AllocError>
     {
         let stance = stance_of(cluster, node);
         match stance {
@@ -136,8 +131,7 @@ impl RandomRun {
     }
 
     /// The synced group of a node is marked.
-    pub(crate) fn mark(&mut self, cluster: &Cluster, node: NodeId) -> Result<(), Refusal>
-        ensures { IfErr result (λ e. e ≡ Refusal.OutOfMemory) }
+    pub(crate) fn mark(&mut self, cluster: &Cluster, node: NodeId) -> Result<(), AllocError>
     {
         let (Some(seat), Some(memory)) = (
             cluster.node(node),
@@ -184,8 +178,7 @@ impl RandomRun {
     }
 
     /// A client asks a node for a new command, or again for one of the last eight.
-    pub(crate) fn submit(&mut self, node: NodeId, detail: u32) -> Result<Event, Refusal>
-        ensures { IfErr result (λ e. e ≡ Refusal.OutOfMemory) }
+    pub(crate) fn submit(&mut self, node: NodeId, detail: u32) -> Result<Event, AllocError>
     {
         let is_again = detail % 8 == 0 && self.requests > 0;
         let number = if is_again {
@@ -210,8 +203,7 @@ impl RandomRun {
 
     /// Nobody has anything to do: a node is restarted, or a client asks for a new command, or a node whose round is
     /// behind another's enters the next round, or all nodes tick in turn.
-    fn stir(&mut self, cluster: &Cluster, from: NodeId, word: u32) -> Result<Event, Refusal>
-        ensures { IfErr result (λ e. e ≡ Refusal.OutOfMemory) }
+    fn stir(&mut self, cluster: &Cluster, from: NodeId, word: u32) -> Result<Event, AllocError>
     {
         if let Some(node) = first_from(self.nodes, cluster, from, Kind::Down) {
             return Ok(Event::Restart { node });
@@ -232,8 +224,7 @@ impl RandomRun {
 
     /// The first node, counted from this one on, whose round of the first undecided instance is behind another's enters
     /// the next one.
-    fn advance_behind(&mut self, from: NodeId) -> Result<Option<NodeId>, Refusal>
-        ensures { IfErr result (λ e. e ≡ Refusal.OutOfMemory) }
+    fn advance_behind(&mut self, from: NodeId) -> Result<Option<NodeId>, AllocError>
     {
         let instance = self.prefix.min(4_294_967_295) as u32;
         let last = self.last_round(instance);

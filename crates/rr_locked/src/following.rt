@@ -9,6 +9,7 @@ ghost use Rattle.rr_locked.specs.Listed.{listed};
 use rr_core::Core;
 use rr_types::{Op, Refusal, made_of};
 use rr_window::{Publisher, WindowName};
+use std::alloc::AllocError;
 
 /// Appends the commands of the marked prefix that aren't appended yet. Where what is published and appended is a
 /// beginning of that prefix, it is then all of it. After an error, which is `OutOfMemory`, it is a beginning still.
@@ -31,7 +32,7 @@ pub fn follow<W: WindowName>(core: &Core, publisher: &mut Publisher<W>) -> Resul
         };
         match publisher.append(command) {
             Ok(()) => {}
-            Err(refusal) => return Err(refusal),
+            Err(AllocError) => return Err(Refusal::OutOfMemory),
         }
     }
     Ok(())
