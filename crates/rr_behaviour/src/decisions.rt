@@ -13,7 +13,11 @@ use rr_types::{Body, Command, Fact, Instance, NodeId};
 use std::alloc::AllocError;
 
 /// Decides on a command, and owes the decision to each other node.
-pub fn conclude(step: &mut Step<'_>, instance: Instance, command: &Command) -> Result<(), AllocError>
+pub fn conclude(
+    step: &mut Step<'_>,
+    instance: Instance,
+    command: &Command,
+) -> Result<(), AllocError>
     requires undecided { is_undecided (standing_at step.old.state instance) ≡ true }
     ensures ok { OnOk result (step.new ≡ stepped (conclude instance command.now) step.old) }
 {

@@ -12,10 +12,10 @@ use crate::entering::{begin, enter};
 use crate::proposing::propose;
 use rr_parts::Tally;
 use rr_step::Step;
-use std::alloc::AllocError;
 use rr_types::{
     Command, Instance, Op, OpenStanding, Refusal, Round, Standing, coordinator, made_of,
 };
+use std::alloc::AllocError;
 
 /// The most turns until nothing is due.
 const TURNS: u64 = 1 << 54;

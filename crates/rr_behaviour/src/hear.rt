@@ -177,7 +177,12 @@ fn hear_nack(
 
 /// What a message says.
 #[tactic(auto, unfolding(rr_model::specs::NodeStep::heard_body))]
-fn hear_body(step: &mut Step<'_>, alloc: Global, from: NodeId, body: &Body) -> Result<(), AllocError>
+fn hear_body(
+    step: &mut Step<'_>,
+    alloc: Global,
+    from: NodeId,
+    body: &Body,
+) -> Result<(), AllocError>
     ensures ok { OnOk result (step.new ≡ stepped (heard_body from body.now) step.old) }
 {
     match body {

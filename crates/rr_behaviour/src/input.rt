@@ -28,7 +28,12 @@ pub fn input_refusal(state: &State, input: &Input) -> Option<Refusal>
 
 /// What an input does at once.
 #[tactic(auto, unfolding(rr_model::specs::NodeStep::taken_in))]
-fn take_in(step: &mut Step<'_>, alloc: Global, input: &Input, is_held: bool) -> Result<(), AllocError>
+fn take_in(
+    step: &mut Step<'_>,
+    alloc: Global,
+    input: &Input,
+    is_held: bool,
+) -> Result<(), AllocError>
     requires allowed { input_refusal input.now step.old.state ≡ None }
     requires held { is_held ≡ is_repeated input.now step.old.state }
     ensures ok { OnOk result (step.new ≡ stepped (taken_in input.now) step.old) }

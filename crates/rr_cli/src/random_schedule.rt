@@ -125,7 +125,8 @@ fn lone_schedule<O: Sink>(
     ensures unprinted { O.printing out.new ≡ O.printing out.old }
 {
     let schedule = random(alloc, numbers.nodes, numbers.seed, numbers.steps, out)?;
-    Ok(schedule.text(alloc)?)
+    let text = schedule.text(alloc)?;
+    Ok(text)
 }
 
 // The text of a random schedule that isn't lively: alone, or with a line `report` and the report of its run.

@@ -154,7 +154,7 @@ fn print_sweep<O: Sink>(
 {
     let mut sweeping = match Sweeping::new(alloc, schedule.nodes(), seed) {
         Ok(sweeping) => sweeping,
-        Err(AllocError) => return Err(Stop::Refused(Refusal::OutOfMemory)),
+        Err(_) => return Err(Stop::Refused(Refusal::OutOfMemory)),
     };
     let mut line = 2u64;
     let last = (schedule.events().len() as u64).saturating_add(1);
@@ -184,7 +184,7 @@ fn print_event<O: Sink>(
 {
     let lines = match sweeping.step(alloc, line, event) {
         Ok(lines) => lines,
-        Err(AllocError) => return Err(Stop::Refused(Refusal::OutOfMemory)),
+        Err(_) => return Err(Stop::Refused(Refusal::OutOfMemory)),
     };
     if lines.is_empty() {
         return Ok(());
@@ -205,7 +205,7 @@ fn print_lines<O: Sink>(
     ensures faults { (O.printing out.old).faults ≤ (O.printing out.new).faults }
 {
     let mut text = Vec::new(alloc);
-    if let Err(AllocError) = push_sweep_lines(&mut text, lines) {
+    if let Err(_) = push_sweep_lines(&mut text, lines) {
         return Err(Stop::Refused(Refusal::OutOfMemory));
     }
     match print_all(out, text.as_slice()) {

@@ -136,7 +136,7 @@ fn compare_bytes<O: Sink, E: Write>(
     };
     let report = match account.report().text(alloc) {
         Ok(report) => report,
-        Err(AllocError) => return end_by_refusal(err, &Refusal::OutOfMemory),
+        Err(_) => return end_by_refusal(err, &Refusal::OutOfMemory),
     };
     match difference_of(report.as_slice(), text) {
         None => 0,

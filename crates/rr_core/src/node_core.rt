@@ -203,7 +203,7 @@ impl Core {
                 self.mark = mark_running(&mut self.state, synced);
                 Ok(())
             }
-            Err(AllocError) => Err(Refusal::OutOfMemory),
+            Err(_) => Err(Refusal::OutOfMemory),
         }
     }
 

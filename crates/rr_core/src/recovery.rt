@@ -91,6 +91,6 @@ pub(crate) fn start_core<D: Disk>(
     drop(opened);
     match started {
         Ok(core) => Ok((core, journal)),
-        Err(AllocError) => Err((Refusal::OutOfMemory, journal.into_disk())),
+        Err(_) => Err((Refusal::OutOfMemory, journal.into_disk())),
     }
 }

@@ -56,7 +56,10 @@ fn make_row_places(map: &mut Numbered<Row>, rows: &[Row]) -> Result<(), AllocErr
 }
 
 /// Makes a place for the request that a row has decided.
-fn make_request_place(map: &mut BTreeMap<RequestNo, Option<()>>, row: &Row) -> Result<(), AllocError>
+fn make_request_place(
+    map: &mut BTreeMap<RequestNo, Option<()>>,
+    row: &Row,
+) -> Result<(), AllocError>
     ensures filled { filled map.new.entries ≡ filled map.old.entries }
     ensures made { OnOk result (IsTrue (has_request_place map.new.entries row.now)) }
     ensures stay { (q : RequestNo) → IsTrue (has_place request_cmp map.old.entries q) → IsTrue (has_place request_cmp map.new.entries q) }

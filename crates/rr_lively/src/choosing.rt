@@ -59,8 +59,7 @@ impl RandomRun {
         node: NodeId,
         stance: Stance,
         word: u32,
-    ) -> Result<Option<Event>, AllocError>
-    {
+    ) -> Result<Option<Event>, AllocError> {
         let choices = match self.memories.get(usize::from(node.index())) {
             Some(memory) => self.choices(memory, stance, !self.is_busy(cluster), word / 256),
             None => return Ok(None),
@@ -125,8 +124,7 @@ impl RandomRun {
         node: NodeId,
         choice: Choice,
         detail: u32,
-    ) -> Result<Option<Event>, AllocError>
-    {
+    ) -> Result<Option<Event>, AllocError> {
         match choice {
             Choice::Hear => self.hear(cluster, node, detail),
             Choice::Send => Ok(Some(Event::Send { node })),
@@ -152,8 +150,7 @@ impl RandomRun {
         cluster: &Cluster,
         node: NodeId,
         detail: u32,
-    ) -> Result<Option<Event>, AllocError>
-    {
+    ) -> Result<Option<Event>, AllocError> {
         let Some(memory) = self.memories.get_mut(usize::from(node.index())) else {
             return Ok(None);
         };

@@ -59,8 +59,7 @@ fn cut_of(detail: u32) -> u32 {
 }
 
 /// A fill of one byte.
-fn fill_of(alloc: Global, detail: u32) -> Result<Fill, AllocError>
-{
+fn fill_of(alloc: Global, detail: u32) -> Result<Fill, AllocError> {
     Ok(Fill::new(Vec::from_slice(alloc, &[(detail % 256) as u8])?))
 }
 
@@ -73,8 +72,7 @@ impl RandomRun {
         cluster: &Cluster,
         from: NodeId,
         word: u32,
-    ) -> Result<Option<Event>, AllocError>
-    {
+    ) -> Result<Option<Event>, AllocError> {
         let fault = fault_of(word % 64);
         let detail = word / 64;
         let Some(node) = first_from(self.nodes, cluster, from, kind_of(fault)) else {

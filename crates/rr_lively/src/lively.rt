@@ -143,7 +143,11 @@ fn drawn_run<O: Sink>(alloc: Global, recipe: Recipe, out: &mut O) -> Result<Run,
 ///
 /// # Errors
 /// `OutOfMemory`, also where memory runs out for an event of the run.
-pub fn lively_run<O: Sink>(alloc: Global, recipe: Recipe, out: &mut O) -> Result<Vec<u8>, AllocError>
+pub fn lively_run<O: Sink>(
+    alloc: Global,
+    recipe: Recipe,
+    out: &mut O,
+) -> Result<Vec<u8>, AllocError>
     requires { recipe.steps ≤ 999930 }
     ensures ok { IfOk result (λ text. IsLively recipe.nodes recipe.steps text.items) }
     ensures unprinted { O.printing out.new ≡ O.printing out.old }

@@ -68,8 +68,7 @@ impl Memory {
     }
 
     /// It isn't up: what it had heard and not kept, it may hear again, and what it was asked for may be lost.
-    pub(crate) fn stop(&mut self) -> Result<(), AllocError>
-    {
+    pub(crate) fn stop(&mut self) -> Result<(), AllocError> {
         self.may_take = false;
         self.may_send = true;
         self.may_ack = false;
@@ -82,8 +81,7 @@ impl Memory {
     }
 
     /// A message for it was sent, with this number.
-    pub(crate) fn expect(&mut self, number: u32, body: &Body) -> Result<(), AllocError>
-    {
+    pub(crate) fn expect(&mut self, number: u32, body: &Body) -> Result<(), AllocError> {
         match body {
             Body::Decision(instance, _) => {
                 let instance = instance.number();
@@ -97,8 +95,7 @@ impl Memory {
     }
 
     /// It has sent a message, which may tell its round of an instance.
-    pub(crate) fn tell(&mut self, body: &Body) -> Result<(), AllocError>
-    {
+    pub(crate) fn tell(&mut self, body: &Body) -> Result<(), AllocError> {
         match body {
             Body::Estimate(instance, estimate) => {
                 self.rounds
@@ -151,8 +148,7 @@ impl Memory {
 
     /// The message that it hears next: the Decision of the lowest instance, or else one of the others, which is kept to
     /// be heard again where a sixteenth of the words says so.
-    pub(crate) fn next_heard(&mut self, detail: u32) -> Result<Option<u32>, AllocError>
-    {
+    pub(crate) fn next_heard(&mut self, detail: u32) -> Result<Option<u32>, AllocError> {
         if let Some((instance, number)) = self.decisions.pop_first() {
             self.heard.insert(instance, number)?;
             return Ok(Some(number));
@@ -169,8 +165,7 @@ impl Memory {
     }
 
     /// It hears a message.
-    pub(crate) fn hear(&mut self, message: &Message) -> Result<(), AllocError>
-    {
+    pub(crate) fn hear(&mut self, message: &Message) -> Result<(), AllocError> {
         match &message.body {
             Body::Estimate(instance, estimate) => {
                 self.may_send = true;
@@ -199,8 +194,7 @@ impl Memory {
     }
 
     /// Its marked facts decide an instance.
-    pub(crate) fn decide(&mut self, instance: u32) -> Result<(), AllocError>
-    {
+    pub(crate) fn decide(&mut self, instance: u32) -> Result<(), AllocError> {
         self.may_ack = true;
         let _ = self.decisions.remove(&instance);
         let _ = self.heard.remove(&instance);
@@ -229,16 +223,14 @@ impl Memory {
     }
 
     /// It enters the round behind this one of an instance.
-    pub(crate) fn advance(&mut self, instance: u32, round: u32) -> Result<(), AllocError>
-    {
+    pub(crate) fn advance(&mut self, instance: u32, round: u32) -> Result<(), AllocError> {
         self.rounds.insert(instance, round.saturating_add(1))?;
         self.stir();
         Ok(())
     }
 
     /// A client asks it for a new command.
-    pub(crate) fn ask(&mut self, request: RequestNo) -> Result<(), AllocError>
-    {
+    pub(crate) fn ask(&mut self, request: RequestNo) -> Result<(), AllocError> {
         self.asked.insert(request)?;
         Ok(())
     }
@@ -278,8 +270,7 @@ fn note(
     instance: Instance,
     round: Round,
     sender: NodeId,
-) -> Result<(), AllocError>
-{
+) -> Result<(), AllocError> {
     let place = (instance.number(), round.number());
     let senders = match said.get(&place) {
         Some(senders) => *senders,

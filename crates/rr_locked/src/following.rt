@@ -32,7 +32,7 @@ pub fn follow<W: WindowName>(core: &Core, publisher: &mut Publisher<W>) -> Resul
         };
         match publisher.append(command) {
             Ok(()) => {}
-            Err(AllocError) => return Err(Refusal::OutOfMemory),
+            Err(_) => return Err(Refusal::OutOfMemory),
         }
     }
     Ok(())

@@ -302,9 +302,7 @@ fn serve(alloc: Global, core: Core, slots: Journal<NodeDisk>) -> (Doing, Result<
                 Ok(Outcome::Opened(number, decided, names)),
             )
         }
-        Err(AllocError) => {
-            (Doing::Stopped(slots.into_disk()), Err(Refusal::OutOfMemory))
-        }
+        Err(_) => { (Doing::Stopped(slots.into_disk()), Err(Refusal::OutOfMemory)) }
     }
 }
 

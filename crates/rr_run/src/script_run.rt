@@ -116,7 +116,7 @@ fn end_by_answers<O: Sink, E: Write>(
 {
     match answers.text(alloc) {
         Ok(text) => end_by_text(out, err, text.as_slice()),
-        Err(AllocError) => end_by_refusal(err, &Refusal::OutOfMemory),
+        Err(_) => end_by_refusal(err, &Refusal::OutOfMemory),
     }
 }
 
@@ -148,7 +148,7 @@ fn end_by_tape<R: Files + AllocGlobal, O: Sink, E: Write>(
 {
     let text = match tape.text(rt.alloc()) {
         Ok(text) => text,
-        Err(AllocError) => return end_by_refusal(err, &Refusal::OutOfMemory),
+        Err(_) => return end_by_refusal(err, &Refusal::OutOfMemory),
     };
     match fs::write(rt, path, text.as_slice()) {
         Ok(()) => end_by_answers(rt.alloc(), answers, out, err),

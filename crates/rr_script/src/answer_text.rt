@@ -30,7 +30,11 @@ fn push_acknowledged(
     )
 }
 
-fn push_unacknowledged(out: &mut Vec<u8>, node: NodeId, request: RequestNo) -> Result<(), AllocError>
+fn push_unacknowledged(
+    out: &mut Vec<u8>,
+    node: NodeId,
+    request: RequestNo,
+) -> Result<(), AllocError>
     ensures ok { OnOk result (out.new.items ≡ out.old.items ++ spaced (answer_words (Answer.Unacknowledged node request))) }
 {
     push_bytes(out, b"none")?;

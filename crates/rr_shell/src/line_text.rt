@@ -313,7 +313,10 @@ pub(crate) fn push_fault_text(
             out,
             b"no value: 1 to 64 bytes from ! to ~ are expected, and no space",
         )?),
-        LineFault::BadOwner => Ok(push_bytes(out, b"no owner: a number below 4294967296 is expected")?),
+        LineFault::BadOwner => Ok(push_bytes(
+            out,
+            b"no owner: a number below 4294967296 is expected",
+        )?),
         LineFault::NoNode => push_no_node(out, nodes),
         LineFault::TooLong => {
             Ok(push_bytes(out, b"too long a line: at most 4096 bytes are expected")?)

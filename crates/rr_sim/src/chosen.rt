@@ -78,7 +78,11 @@ fn chosen_on(
 }
 
 /// The longest list whose place i holds a command chosen for instance i.
-pub fn decided_list(alloc: Global, nodes: Nodes, wire: &[Message]) -> Result<Vec<Command>, AllocError>
+pub fn decided_list(
+    alloc: Global,
+    nodes: Nodes,
+    wire: &[Message],
+) -> Result<Vec<Command>, AllocError>
     ensures list { IfOk result (λ list. IsDecidedList nodes wire.now list.items) }
 {
     let found = chosen_on(alloc, nodes, wire)?;

@@ -424,7 +424,12 @@ impl Cluster {
     /// What the event of a line does where memory suffices; `OutOfMemory` where the answer tells that memory ran out. A
     /// failing device call answers the same in both cases.
     #[tactic(auto, using(crate::proofs::WantLaws::failing_in_memory))]
-    pub fn step_in_memory(&mut self, alloc: Global, line: u64, event: &Event) -> Result<(), AllocError>
+    pub fn step_in_memory(
+        &mut self,
+        alloc: Global,
+        line: u64,
+        event: &Event,
+    ) -> Result<(), AllocError>
         ensures ok { OnOk result (StepsInMemory line event.now self.old self.new) }
         ensures spelt { OnOk result (IsSpeltBehind event.now self.old self.new) }
     {

@@ -33,7 +33,8 @@ pub fn simulate(alloc: Global, nodes: u8, schedule: &Schedule) -> Result<Report,
     ensures else_memory { IfErr result (λ e. (e ≡ Refusal.OutOfMemory) ⊎ (e ≡ Refusal.BadNodes) ⊎ ((line : ℕ) × (e ≡ Refusal.BadEvent line))) }
 {
     let count = accepted(nodes, schedule)?;
-    Ok(run(alloc, count, schedule.events())?)
+    let report = run(alloc, count, schedule.events())?;
+    Ok(report)
 }
 
 /// Runs a schedule as `simulate` does, and gives the nodes after its last event, with their disks.

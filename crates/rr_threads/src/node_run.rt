@@ -64,7 +64,7 @@ fn open_hand_overs(alloc: Global) -> Result<HandOvers, Refusal> {
     let groups = hand_over(alloc)?;
     match hand_over(alloc) {
         Ok(backs) => Ok(HandOvers { groups, backs }),
-        Err(AllocError) => Err(Refusal::OutOfMemory),
+        Err(_) => Err(Refusal::OutOfMemory),
     }
 }
 
