@@ -84,7 +84,7 @@ fn line_of(alloc: Global, message: Message) -> Result<Vec<u8>, Refusal> {
     made_of!(Body, Command, Op);
     let mut lines = Vec::new(alloc);
     lines.push(ReportLine::Send { number: 0, message })?;
-    Report::new(lines, Vec::new(alloc)).text(alloc)
+    Ok(Report::new(lines, Vec::new(alloc)).text(alloc)?)
 }
 
 /// The message that bytes spell, in a report.

@@ -34,7 +34,7 @@ pub(crate) fn push_note(text: &mut Vec<u8>, words: &[u8]) -> Result<(), Refusal>
 {
     push_bytes(text, b"    ")?;
     push_unbroken(text, words)?;
-    push_byte(text, b'\n')
+    Ok(push_byte(text, b'\n')?)
 }
 
 // Appends a line.
@@ -43,7 +43,7 @@ fn push_line(text: &mut Vec<u8>, words: &[u8]) -> Result<(), Refusal>
     ensures err { IfErr result (λ e. e ≡ Refusal.OutOfMemory) }
 {
     push_unbroken(text, words)?;
-    push_byte(text, b'\n')
+    Ok(push_byte(text, b'\n')?)
 }
 
 /// Appends a line with the JSON of a value.

@@ -10,7 +10,7 @@ use crate::given::Given;
 use crate::replay::{Replay, node_of};
 use rr_tape::TapeEvent;
 use rr_types::{NodeId, Nodes, Refusal};
-use std::alloc::Global;
+use std::alloc::{AllocError, Global};
 
 /// The nodes behind the events so far, up to the first that isn't next.
 #[derive(Drop)]
@@ -22,9 +22,8 @@ pub struct Progress {
 
 impl Progress {
     /// The progress before the first event of `nodes` nodes.
-    pub fn new(alloc: Global, nodes: Nodes) -> Result<Progress, Refusal>
+    pub fn new(alloc: Global, nodes: Nodes) -> Result<Progress, AllocError>
         ensures ok { IfOk result (λ progress. IsUnderWay nodes [] progress) }
-        ensures err { IfErr result (λ e. e ≡ Refusal.OutOfMemory) }
     {
         Ok(Progress {
             replay: Replay::new(alloc, nodes)?,

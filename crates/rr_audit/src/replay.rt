@@ -1,6 +1,6 @@
 //! The nodes of a tape and their wire, and what each event does to them.
 
-ghost use Rattle.std.specs.Prelude.{◌≡◌, ◌++◌, [], map, OnOk, IfOk, IfErr};
+ghost use Rattle.std.specs.Prelude.{◌≡◌, ◌++◌, [], map, OnOk, IfOk};
 ghost use Rattle.std.specs.List.{range_with_len};
 ghost use Rattle.rr_model.specs.NodeStep.{started};
 ghost use Rattle.rr_audit.specs.Audits.{node_of, sent_by, new_replay};
@@ -11,7 +11,7 @@ use crate::replay_node::ReplayNode;
 use rr_tape::TapeEvent;
 use rr_types::{NodeId, Nodes, Refusal};
 use rr_wire::MessageLog;
-use std::alloc::Global;
+use std::alloc::{AllocError, Global};
 use std::marker::Model;
 
 /// The nodes of a tape, all up, by their numbers, and all messages ever sent.
@@ -47,9 +47,8 @@ pub fn node_of(event: &TapeEvent) -> NodeId
 }
 
 // All nodes, each over no facts.
-fn all_nodes(alloc: Global, nodes: Nodes) -> Result<Vec<ReplayNode>, Refusal>
+fn all_nodes(alloc: Global, nodes: Nodes) -> Result<Vec<ReplayNode>, AllocError>
     ensures ok { IfOk result (λ v. v.items ≡ map (λ p. started nodes p [] 0) (range_with_len 0 nodes)) }
-    ensures err { IfErr result (λ e. e ≡ Refusal.OutOfMemory) }
 {
     let mut all = Vec::new(alloc);
     for index in 0..nodes.count() {
@@ -63,12 +62,8 @@ fn all_nodes(alloc: Global, nodes: Nodes) -> Result<Vec<ReplayNode>, Refusal>
 
 impl Replay {
     /// A replay of `nodes` nodes, all up and without facts, with nothing sent.
-    ///
-    /// # Errors
-    /// `OutOfMemory`.
-    pub fn new(alloc: Global, nodes: Nodes) -> Result<Replay, Refusal>
+    pub fn new(alloc: Global, nodes: Nodes) -> Result<Replay, AllocError>
         ensures ok { IfOk result (λ r. r ≡ new_replay nodes) }
-        ensures err { IfErr result (λ e. e ≡ Refusal.OutOfMemory) }
     {
         Ok(Replay {
             nodes: all_nodes(alloc, nodes)?,
@@ -77,9 +72,8 @@ impl Replay {
     }
 
     // A message that was sent joins the wire.
-    fn carry(&mut self, event: &TapeEvent) -> Result<(), Refusal>
+    fn carry(&mut self, event: &TapeEvent) -> Result<(), AllocError>
         ensures ok { OnOk result (self.new ≡ record self.old { wire = self.old.wire ++ sent_by event.now }) }
-        ensures err { IfErr result (λ e. e ≡ Refusal.OutOfMemory) }
     {
         match event {
             TapeEvent::Send { message, .. } => self.wire.push(message)?,

@@ -13,7 +13,7 @@ use rr_core::Core;
 use rr_tape::TapeEvent;
 use rr_types::{Group, Input, Message, NodeId, Nodes, Refusal, Reply, RequestNo};
 use rr_wire::MessageLog;
-use std::alloc::Global;
+use std::alloc::{AllocError, Global};
 use std::marker::Model;
 
 /// A node that is up and keeps everything: its core, and the group that it flushes.
@@ -49,9 +49,8 @@ fn refused(refusal: Refusal) -> Result<Option<Given>, Refusal>
 
 impl ReplayNode {
     /// A node that has opened over no facts.
-    pub fn new(alloc: Global, nodes: Nodes, node: NodeId) -> Result<ReplayNode, Refusal>
+    pub fn new(alloc: Global, nodes: Nodes, node: NodeId) -> Result<ReplayNode, AllocError>
         ensures ok { IfOk result (λ n. n ≡ started nodes node [] 0) }
-        ensures err { IfErr result (λ e. e ≡ Refusal.OutOfMemory) }
     {
         let opened = opened(alloc, nodes, node);
         match Core::start(alloc, &opened) {

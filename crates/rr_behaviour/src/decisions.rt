@@ -1,6 +1,6 @@
 //! Decisions: the node takes one and owes it to each other node; where it has one, it owes it to a node that needs it.
 
-ghost use Rattle.std.specs.Prelude.{◌≡◌, true, IfErr, OnOk};
+ghost use Rattle.std.specs.Prelude.{◌≡◌, true, OnOk};
 ghost use Rattle.rr_types.specs.declared.message.Body.TheVariants as say;
 ghost use Rattle.rr_types.specs.Standings.{is_undecided};
 ghost use Rattle.rr_model.specs.NodeState.{standing_at};
@@ -9,13 +9,17 @@ ghost use Rattle.rr_model.specs.NodeStep.{answer, heard_body};
 ghost use Rattle.rr_step.specs.Steps.{stepped};
 
 use rr_step::Step;
-use rr_types::{Body, Command, Fact, Instance, NodeId, Refusal};
+use rr_types::{Body, Command, Fact, Instance, NodeId};
+use std::alloc::AllocError;
 
 /// Decides on a command, and owes the decision to each other node.
-pub fn conclude(step: &mut Step<'_>, instance: Instance, command: &Command) -> Result<(), Refusal>
+pub fn conclude(
+    step: &mut Step<'_>,
+    instance: Instance,
+    command: &Command,
+) -> Result<(), AllocError>
     requires undecided { is_undecided (standing_at step.old.state instance) ≡ true }
     ensures ok { OnOk result (step.new ≡ stepped (conclude instance command.now) step.old) }
-    ensures err { IfErr result (λ e. e ≡ Refusal.OutOfMemory) }
 {
     let number = step.next_number();
     step.stage(Fact::Decide(instance, *command))?;
@@ -27,9 +31,8 @@ pub fn conclude(step: &mut Step<'_>, instance: Instance, command: &Command) -> R
 }
 
 /// A node that has decided the instance owes the decision.
-pub fn answer(step: &mut Step<'_>, instance: Instance, to: NodeId) -> Result<(), Refusal>
+pub fn answer(step: &mut Step<'_>, instance: Instance, to: NodeId) -> Result<(), AllocError>
     ensures ok { OnOk result (step.new ≡ stepped (answer instance to) step.old) }
-    ensures err { IfErr result (λ e. e ≡ Refusal.OutOfMemory) }
 {
     match step.decision(instance) {
         None => Ok(()),
@@ -50,9 +53,8 @@ pub fn hear_decision(
     from: NodeId,
     instance: Instance,
     command: &Command,
-) -> Result<(), Refusal>
+) -> Result<(), AllocError>
     ensures ok { OnOk result (step.new ≡ stepped (heard_body from (say.Decision instance command.now)) step.old) }
-    ensures err { IfErr result (λ e. e ≡ Refusal.OutOfMemory) }
 {
     if step.is_undecided(instance) {
         conclude(step, instance, command)
@@ -63,9 +65,8 @@ pub fn hear_decision(
 
 /// A question that is heard is answered where its instance has decided.
 #[tactic(auto, unfolding(rr_model::specs::NodeStep::heard_body))]
-pub fn hear_ask(step: &mut Step<'_>, from: NodeId, instance: Instance) -> Result<(), Refusal>
+pub fn hear_ask(step: &mut Step<'_>, from: NodeId, instance: Instance) -> Result<(), AllocError>
     ensures ok { OnOk result (step.new ≡ stepped (heard_body from (say.Ask instance)) step.old) }
-    ensures err { IfErr result (λ e. e ≡ Refusal.OutOfMemory) }
 {
     answer(step, instance, from)
 }

@@ -1,6 +1,6 @@
 //! What a node does of its own accord, one thing after another until nothing is due.
 
-ghost use Rattle.std.specs.Prelude.{◌≡◌, ◌<◌, false, length, IsTrue, IfErr, IfSome, OnOk, option_map, Some};
+ghost use Rattle.std.specs.Prelude.{◌≡◌, ◌<◌, false, length, IsTrue, IfSome, OnOk, option_map, Some};
 ghost use Rattle.rr_types.specs.Standings.{round_of};
 ghost use Rattle.rr_model.specs.NodeState.{open_instances};
 ghost use Rattle.rr_model.specs.NodeDue.{due_of_coordinator, due_of_participant, due_of_row, first_due, due, carry_out, settle};
@@ -15,6 +15,7 @@ use rr_step::Step;
 use rr_types::{
     Command, Instance, Op, OpenStanding, Refusal, Round, Standing, coordinator, made_of,
 };
+use std::alloc::AllocError;
 
 /// The most turns until nothing is due.
 const TURNS: u64 = 1 << 54;
@@ -161,10 +162,9 @@ fn find_due(step: &Step<'_>) -> (Option<Due>, bool)
 
 /// The node does what is due.
 #[tactic(auto, unfolding(rr_model::specs::NodeDue::carry_out))]
-fn carry_out(step: &mut Step<'_>, due: Due) -> Result<(), Refusal>
+fn carry_out(step: &mut Step<'_>, due: Due) -> Result<(), AllocError>
     requires { CanBeCarriedOut step.old.state due }
     ensures ok { OnOk result (step.new ≡ stepped (carry_out (meaning_of due)) step.old) }
-    ensures err { IfErr result (λ e. e ≡ Refusal.OutOfMemory) }
 {
     match due {
         Due::Begin(instance, command) => begin(step, instance, &command),
@@ -179,9 +179,8 @@ fn carry_out(step: &mut Step<'_>, due: Due) -> Result<(), Refusal>
 
 /// The node does what is due until nothing is.
 #[tactic(auto, using(crate::proofs::DueLemmas::settled, crate::proofs::DueLemmas::settle_more, crate::proofs::DueLemmas::settle_none), unfolding(rr_model::specs::NodeDue::settle))]
-pub fn settle(step: &mut Step<'_>) -> Result<(), Refusal>
+pub fn settle(step: &mut Step<'_>) -> Result<(), AllocError>
     ensures ok { OnOk result (step.new ≡ stepped settle step.old) }
-    ensures err { IfErr result (λ e. e ≡ Refusal.OutOfMemory) }
 {
     // A turn uses up one of an instance's steps, at most two a round. All instances together have at most 2^53, so the
     // turns suffice.

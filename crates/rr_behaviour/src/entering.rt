@@ -1,13 +1,14 @@
 //! Entering a round: with which estimate, and what becomes of the round before.
 
-ghost use Rattle.std.specs.Prelude.{◌≡◌, ◌<◌, true, None, Some, IfErr, OnOk};
+ghost use Rattle.std.specs.Prelude.{◌≡◌, ◌<◌, true, None, Some, OnOk};
 ghost use Rattle.rr_types.specs.Standings.{round_of, is_undecided};
 ghost use Rattle.rr_model.specs.NodeState.{standing_at};
 ghost use Rattle.rr_model.specs.NodeParts.{free_command, enter, leave_round, enter_with, entering_estimate};
 ghost use Rattle.rr_step.specs.Steps.{stepped};
 
 use rr_step::Step;
-use rr_types::{Body, Command, Estimate, Fact, Instance, Refusal, Round, Standing, coordinator};
+use rr_types::{Body, Command, Estimate, Fact, Instance, Round, Standing, coordinator};
+use std::alloc::AllocError;
 
 /// The first pool command that is no estimate of an open instance but this one.
 #[tactic(auto, using(crate::proofs::RoundLemmas::first_free_is))]
@@ -45,9 +46,8 @@ fn entering_estimate(
 }
 
 /// Owes the coordinator of the present round a refusal, where the node leaves that round without adoption.
-fn leave_round(step: &mut Step<'_>, instance: Instance) -> Result<(), Refusal>
+fn leave_round(step: &mut Step<'_>, instance: Instance) -> Result<(), AllocError>
     ensures ok { OnOk result (step.new ≡ stepped (leave_round instance) step.old) }
-    ensures err { IfErr result (λ e. e ≡ Refusal.OutOfMemory) }
 {
     match step.row(instance) {
         None => Ok(()),
@@ -70,10 +70,9 @@ fn leave_round(step: &mut Step<'_>, instance: Instance) -> Result<(), Refusal>
 }
 
 /// Stages the entering of a round with this estimate, and owes the estimate to the round's coordinator.
-fn enter_with(step: &mut Step<'_>, instance: Instance, estimate: Estimate) -> Result<(), Refusal>
+fn enter_with(step: &mut Step<'_>, instance: Instance, estimate: Estimate) -> Result<(), AllocError>
     requires undecided { is_undecided (standing_at step.old.state instance) ≡ true }
     ensures ok { OnOk result (step.new ≡ stepped (enter_with instance estimate) step.old) }
-    ensures err { IfErr result (λ e. e ≡ Refusal.OutOfMemory) }
 {
     let number = step.next_number();
     let to = coordinator(estimate.round(), step.nodes());
@@ -85,11 +84,10 @@ fn enter_with(step: &mut Step<'_>, instance: Instance, estimate: Estimate) -> Re
 
 /// An instance that no fact names enters round 1 with the command that the pool has for it.
 #[tactic(auto, using(crate::proofs::RoundLemmas::unnamed_undecided))]
-pub fn begin(step: &mut Step<'_>, instance: Instance, command: &Command) -> Result<(), Refusal>
+pub fn begin(step: &mut Step<'_>, instance: Instance, command: &Command) -> Result<(), AllocError>
     requires unnamed { standing_at step.old.state instance ≡ None }
     requires free { free_command step.old.state instance ≡ Some command.now }
     ensures ok { OnOk result (step.new ≡ stepped (enter instance 1 None) step.old) }
-    ensures err { IfErr result (λ e. e ≡ Refusal.OutOfMemory) }
 {
     let estimate = Estimate::at(Round::at(1), 0, *command);
     enter_with(step, instance, estimate)?;
@@ -103,11 +101,10 @@ pub fn enter(
     instance: Instance,
     round: Round,
     heard: Option<Command>,
-) -> Result<(), Refusal>
+) -> Result<(), AllocError>
     requires above { round_of (standing_at step.old.state instance) < round }
     requires undecided { is_undecided (standing_at step.old.state instance) ≡ true }
     ensures ok { OnOk result (step.new ≡ stepped (enter instance round heard) step.old) }
-    ensures err { IfErr result (λ e. e ≡ Refusal.OutOfMemory) }
 {
     match entering_estimate(step, instance, round, heard) {
         None => Ok(()),

@@ -1,6 +1,6 @@
 //! A message: what each kind of it does.
 
-ghost use Rattle.std.specs.Prelude.{◌≡◌, true, IfErr, OnOk};
+ghost use Rattle.std.specs.Prelude.{◌≡◌, true, OnOk};
 ghost use Rattle.rr_types.specs.Standings.{is_undecided};
 ghost use Rattle.rr_model.specs.NodeState.{standing_at};
 ghost use Rattle.rr_step.specs.Steps.{stepped};
@@ -14,7 +14,7 @@ use rr_step::Step;
 use rr_types::{
     Body, Command, Estimate, Fact, Instance, Message, NodeId, Refusal, Round, coordinator,
 };
-use std::alloc::Global;
+use std::alloc::{AllocError, Global};
 
 /// Where a round lies above the instance's, the instance enters it.
 fn catch_up(
@@ -22,10 +22,9 @@ fn catch_up(
     instance: Instance,
     round: Round,
     command: &Command,
-) -> Result<(), Refusal>
+) -> Result<(), AllocError>
     requires { is_undecided (standing_at step.old.state instance) ≡ true }
     ensures ok { OnOk result (step.new ≡ stepped (catch_up instance round command.now) step.old) }
-    ensures err { IfErr result (λ e. e ≡ Refusal.OutOfMemory) }
 {
     if step.round(instance) < round.number() {
         enter(step, instance, round, Some(*command))
@@ -39,9 +38,8 @@ fn acknowledge(
     instance: Instance,
     round: Round,
     to: NodeId,
-) -> Result<(), Refusal>
+) -> Result<(), AllocError>
     ensures ok { OnOk result (step.new ≡ stepped (acknowledge instance round to) step.old) }
-    ensures err { IfErr result (λ e. e ≡ Refusal.OutOfMemory) }
 {
     let adopted = match step.backing(instance) {
         Some(backing) => backing.adopted,
@@ -60,9 +58,8 @@ fn take_proposal(
     round: Round,
     command: &Command,
     from: NodeId,
-) -> Result<(), Refusal>
+) -> Result<(), AllocError>
     ensures ok { OnOk result (step.new ≡ stepped (take_proposal instance round command.now from) step.old) }
-    ensures err { IfErr result (λ e. e ≡ Refusal.OutOfMemory) }
 {
     if step.round(instance) != round.number() {
         return Ok(());
@@ -83,9 +80,8 @@ fn take_estimate(
     instance: Instance,
     from: NodeId,
     estimate: &Estimate,
-) -> Result<(), Refusal>
+) -> Result<(), AllocError>
     ensures ok { OnOk result (step.new ≡ stepped (take_estimate instance from estimate.now) step.old) }
-    ensures err { IfErr result (λ e. e ≡ Refusal.OutOfMemory) }
 {
     if step.round(instance) == estimate.round().number() {
         step.count_estimate(alloc, instance, from, estimate)
@@ -101,9 +97,8 @@ fn hear_estimate(
     from: NodeId,
     instance: Instance,
     estimate: &Estimate,
-) -> Result<(), Refusal>
+) -> Result<(), AllocError>
     ensures ok { OnOk result (step.new ≡ stepped (heard_body from (say.Estimate instance estimate.now)) step.old) }
-    ensures err { IfErr result (λ e. e ≡ Refusal.OutOfMemory) }
 {
     if !step.is_undecided(instance) {
         return answer(step, instance, from);
@@ -128,9 +123,8 @@ fn hear_proposal(
     instance: Instance,
     round: Round,
     command: &Command,
-) -> Result<(), Refusal>
+) -> Result<(), AllocError>
     ensures ok { OnOk result (step.new ≡ stepped (heard_body from (say.Proposal instance round command.now)) step.old) }
-    ensures err { IfErr result (λ e. e ≡ Refusal.OutOfMemory) }
 {
     if !step.is_undecided(instance) {
         return Ok(());
@@ -154,9 +148,8 @@ fn hear_ack(
     from: NodeId,
     instance: Instance,
     round: Round,
-) -> Result<(), Refusal>
+) -> Result<(), AllocError>
     ensures ok { OnOk result (step.new ≡ stepped (heard_body from (say.Ack instance round)) step.old) }
-    ensures err { IfErr result (λ e. e ≡ Refusal.OutOfMemory) }
 {
     if step.is_open(instance) && step.has_proposed(instance, round) {
         step.count_ack(alloc, instance, from)
@@ -172,9 +165,8 @@ fn hear_nack(
     from: NodeId,
     instance: Instance,
     round: Round,
-) -> Result<(), Refusal>
+) -> Result<(), AllocError>
     ensures ok { OnOk result (step.new ≡ stepped (heard_body from (say.Nack instance round)) step.old) }
-    ensures err { IfErr result (λ e. e ≡ Refusal.OutOfMemory) }
 {
     if step.is_open(instance) && step.has_proposed(instance, round) {
         step.count_nack(alloc, instance, from)
@@ -185,9 +177,13 @@ fn hear_nack(
 
 /// What a message says.
 #[tactic(auto, unfolding(rr_model::specs::NodeStep::heard_body))]
-fn hear_body(step: &mut Step<'_>, alloc: Global, from: NodeId, body: &Body) -> Result<(), Refusal>
+fn hear_body(
+    step: &mut Step<'_>,
+    alloc: Global,
+    from: NodeId,
+    body: &Body,
+) -> Result<(), AllocError>
     ensures ok { OnOk result (step.new ≡ stepped (heard_body from body.now) step.old) }
-    ensures err { IfErr result (λ e. e ≡ Refusal.OutOfMemory) }
 {
     match body {
         Body::Estimate(instance, estimate) => {
@@ -213,9 +209,8 @@ fn hear_body(step: &mut Step<'_>, alloc: Global, from: NodeId, body: &Body) -> R
 }
 
 /// A message; one for another node is dropped.
-pub fn heard(step: &mut Step<'_>, alloc: Global, message: &Message) -> Result<(), Refusal>
+pub fn heard(step: &mut Step<'_>, alloc: Global, message: &Message) -> Result<(), AllocError>
     ensures ok { OnOk result (step.new ≡ stepped (heard message.now) step.old) }
-    ensures err { IfErr result (λ e. e ≡ Refusal.OutOfMemory) }
 {
     if message.to.index() == step.node().index() {
         hear_body(step, alloc, message.from, &message.body)

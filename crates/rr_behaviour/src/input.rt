@@ -13,7 +13,7 @@ use crate::submit::{submit_refusal, submitted};
 use crate::tick::{advance_refusal, advanced, ticked_on};
 use rr_step::{Changes, State, Step};
 use rr_types::{Input, Refusal};
-use std::alloc::Global;
+use std::alloc::{AllocError, Global};
 
 /// Why an input is refused for what it is. It takes no memory.
 pub fn input_refusal(state: &State, input: &Input) -> Option<Refusal>
@@ -28,11 +28,15 @@ pub fn input_refusal(state: &State, input: &Input) -> Option<Refusal>
 
 /// What an input does at once.
 #[tactic(auto, unfolding(rr_model::specs::NodeStep::taken_in))]
-fn take_in(step: &mut Step<'_>, alloc: Global, input: &Input, is_held: bool) -> Result<(), Refusal>
+fn take_in(
+    step: &mut Step<'_>,
+    alloc: Global,
+    input: &Input,
+    is_held: bool,
+) -> Result<(), AllocError>
     requires allowed { input_refusal input.now step.old.state ≡ None }
     requires held { is_held ≡ is_repeated input.now step.old.state }
     ensures ok { OnOk result (step.new ≡ stepped (taken_in input.now) step.old) }
-    ensures err { IfErr result (λ e. e ≡ Refusal.OutOfMemory) }
 {
     match input {
         Input::Submit(command) => submitted(step, command, is_held),

@@ -1,11 +1,12 @@
 //! Proposing a command in a round.
 
-ghost use Rattle.std.specs.Prelude.{◌≡◌, IfErr, OnOk};
+ghost use Rattle.std.specs.Prelude.{◌≡◌, OnOk};
 ghost use Rattle.rr_model.specs.NodeParts.{propose};
 ghost use Rattle.rr_step.specs.Steps.{stepped};
 
 use rr_step::Step;
-use rr_types::{Body, Command, Fact, Instance, Refusal, Round};
+use rr_types::{Body, Command, Fact, Instance, Round};
+use std::alloc::AllocError;
 
 /// Proposes a command in a round, to every node.
 pub fn propose(
@@ -13,9 +14,8 @@ pub fn propose(
     instance: Instance,
     round: Round,
     command: &Command,
-) -> Result<(), Refusal>
+) -> Result<(), AllocError>
     ensures ok { OnOk result (step.new ≡ stepped (propose instance round command.now) step.old) }
-    ensures err { IfErr result (λ e. e ≡ Refusal.OutOfMemory) }
 {
     let number = step.next_number();
     step.stage(Fact::Propose(instance, round, *command))?;

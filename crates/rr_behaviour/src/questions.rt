@@ -1,19 +1,19 @@
 //! Questions: what the first undecided instance has decided elsewhere.
 
-ghost use Rattle.std.specs.Prelude.{◌≡◌, ◌<◌, ◌&&◌, not, [], ◌∷◌, None, IfErr, OnOk, if◌then◌else◌};
+ghost use Rattle.std.specs.Prelude.{◌≡◌, ◌<◌, ◌&&◌, not, [], ◌∷◌, None, OnOk, if◌then◌else◌};
 ghost use Rattle.rr_types.specs.Limits.{instance_count};
 ghost use Rattle.rr_model.specs.NodeState.{first_undecided, others};
 ghost use Rattle.rr_model.specs.NodeStep.{is_list_full, is_behind, ask};
 ghost use Rattle.rr_step.specs.Steps.{stepped};
 
 use rr_step::Step;
-use rr_types::{Body, Instance, NodeId, Refusal};
+use rr_types::{Body, Instance, NodeId};
+use std::alloc::AllocError;
 
 /// The node asks another what the first undecided instance has decided.
-pub fn ask(step: &mut Step<'_>, to: NodeId) -> Result<(), Refusal>
+pub fn ask(step: &mut Step<'_>, to: NodeId) -> Result<(), AllocError>
     requires { first_undecided step.old.state < instance_count }
     ensures ok { OnOk result (step.new ≡ stepped (ask (to ∷ [])) step.old) }
-    ensures err { IfErr result (λ e. e ≡ Refusal.OutOfMemory) }
 {
     match Instance::new(step.first_undecided()) {
         Some(first) => step.owe(Body::Ask(first), None, to),
@@ -22,9 +22,8 @@ pub fn ask(step: &mut Step<'_>, to: NodeId) -> Result<(), Refusal>
 }
 
 /// Where the node is behind, it asks every other node.
-pub fn ask_if_behind(step: &mut Step<'_>) -> Result<(), Refusal>
+pub fn ask_if_behind(step: &mut Step<'_>) -> Result<(), AllocError>
     ensures ok { OnOk result (step.new ≡ stepped (λ s. if not (is_list_full s) && is_behind s then ask (others s) s else s) step.old) }
-    ensures err { IfErr result (λ e. e ≡ Refusal.OutOfMemory) }
 {
     match Instance::new(step.first_undecided()) {
         None => Ok(()),

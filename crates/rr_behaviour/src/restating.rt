@@ -1,6 +1,6 @@
 //! Restating where open instances stand: the estimate or the acknowledgement, and the proposal.
 
-ghost use Rattle.std.specs.Prelude.{◌≡◌, IfErr, OnOk, Some};
+ghost use Rattle.std.specs.Prelude.{◌≡◌, OnOk, Some};
 ghost use Rattle.rr_model.specs.NodeState.{standing_at};
 ghost use Rattle.rr_model.specs.NodeParts.{restate, restate_all, backing_at};
 ghost use Rattle.rr_step.specs.Steps.{stepped};
@@ -9,7 +9,8 @@ ghost use Rattle.rr_types.specs.declared.promise.Standing.TheVariants as stands;
 
 use rr_parts::Backing;
 use rr_step::Step;
-use rr_types::{Body, Estimate, Instance, OpenStanding, Refusal, Standing, coordinator};
+use rr_types::{Body, Estimate, Instance, OpenStanding, Standing, coordinator};
+use std::alloc::AllocError;
 
 /// The numbers that back the messages of an instance; 0 where no fact names it.
 fn backing_or_none(step: &Step<'_>, instance: Instance) -> Backing
@@ -38,9 +39,8 @@ fn owe_coordinator(
     step: &mut Step<'_>,
     instance: Instance,
     at: &OpenStanding,
-) -> Result<(), Refusal>
+) -> Result<(), AllocError>
     ensures ok { OnOk result (step.new ≡ stepped (owe_coordinator instance at.now) step.old) }
-    ensures err { IfErr result (λ e. e ≡ Refusal.OutOfMemory) }
 {
     let backing = backing_or_none(step, instance);
     let round = at.round();
@@ -59,10 +59,9 @@ fn owe_coordinator(
 
 /// Restates where an open instance stands.
 #[tactic(auto, using(crate::proofs::RoundLemmas::restate_silent))]
-fn restate_open(step: &mut Step<'_>, instance: Instance, at: OpenStanding) -> Result<(), Refusal>
+fn restate_open(step: &mut Step<'_>, instance: Instance, at: OpenStanding) -> Result<(), AllocError>
     requires { standing_at step.old.state instance ≡ Some (stands.Open at) }
     ensures ok { OnOk result (step.new ≡ stepped (restate instance) step.old) }
-    ensures err { IfErr result (λ e. e ≡ Refusal.OutOfMemory) }
 {
     let number = proposal_number(step, instance);
     owe_coordinator(step, instance, &at)?;
@@ -78,9 +77,8 @@ fn restate_open(step: &mut Step<'_>, instance: Instance, at: OpenStanding) -> Re
 
 /// Restates where an open instance stands.
 #[tactic(auto, unfolding(rr_model::specs::NodeParts::restate))]
-fn restate(step: &mut Step<'_>, instance: Instance) -> Result<(), Refusal>
+fn restate(step: &mut Step<'_>, instance: Instance) -> Result<(), AllocError>
     ensures ok { OnOk result (step.new ≡ stepped (restate instance) step.old) }
-    ensures err { IfErr result (λ e. e ≡ Refusal.OutOfMemory) }
 {
     match step.standing(instance) {
         None => Ok(()),
@@ -92,9 +90,8 @@ fn restate(step: &mut Step<'_>, instance: Instance) -> Result<(), Refusal>
 }
 
 /// Restates where these instances stand, in order.
-pub fn restate_all(step: &mut Step<'_>, instances: &[Instance]) -> Result<(), Refusal>
+pub fn restate_all(step: &mut Step<'_>, instances: &[Instance]) -> Result<(), AllocError>
     ensures ok { OnOk result (step.new ≡ stepped (restate_all instances.now) step.old) }
-    ensures err { IfErr result (λ e. e ≡ Refusal.OutOfMemory) }
 {
     // Messages get lost, and a crash loses those that were owed. So an estimate, an Ack or a proposal is owed again at
     // each tick and after an opening, while its instance is open (after the retransmission of Aguilera, Chen and Toueg

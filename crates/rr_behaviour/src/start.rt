@@ -1,6 +1,6 @@
 //! What a node owes after its opening.
 
-ghost use Rattle.std.specs.Prelude.{◌≡◌, IfErr, IfOk};
+ghost use Rattle.std.specs.Prelude.{◌≡◌, IfOk};
 ghost use Rattle.rr_model.specs.NodeState.{open_instances};
 ghost use Rattle.rr_model.specs.NodeParts.{restate_all};
 ghost use Rattle.rr_step.specs.Steps.{combined, IsFitting};
@@ -8,8 +8,8 @@ ghost use Rattle.rr_model.specs.NodeStep.{started};
 
 use crate::restating::restate_all;
 use rr_step::{Changes, State, Step};
-use rr_types::{NodeId, Nodes, Promise, Refusal};
-use std::alloc::Global;
+use rr_types::{NodeId, Nodes, Promise};
+use std::alloc::{AllocError, Global};
 
 /// A node after its opening, of what its facts promise and the number of the next one: it owes the restatement of its open
 /// instances.
@@ -20,9 +20,8 @@ pub fn started(
     node: NodeId,
     promise: &Promise,
     next: u64,
-) -> Result<State, Refusal>
+) -> Result<State, AllocError>
     ensures ok { IfOk result (λ s. s ≡ started nodes node promise.now next) }
-    ensures err { IfErr result (λ e. e ≡ Refusal.OutOfMemory) }
 {
     let mut state = State::restored(alloc, nodes, node, promise, next)?;
     let mut changes = restatement(&state, alloc)?;
@@ -31,10 +30,9 @@ pub fn started(
 }
 
 /// What the restatement of the open instances changes.
-fn restatement(state: &State, alloc: Global) -> Result<Box<Changes>, Refusal>
+fn restatement(state: &State, alloc: Global) -> Result<Box<Changes>, AllocError>
     ensures ok { IfOk result (λ c. combined state.now c.value ≡ restate_all (open_instances state.now) state.now) }
     ensures fits { IfOk result (λ c. IsFitting state.now c.value) }
-    ensures err { IfErr result (λ e. e ≡ Refusal.OutOfMemory) }
 {
     let mut step = Step::new(Box::new(alloc, Changes::none(alloc, state))?, state);
     let open = step.open_instances();

@@ -1,6 +1,6 @@
 //! A tick and an advance.
 
-ghost use Rattle.std.specs.Prelude.{◌≡◌, None, IfErr, OnOk};
+ghost use Rattle.std.specs.Prelude.{◌≡◌, None, OnOk};
 ghost use Rattle.rr_step.specs.Steps.{stepped};
 ghost use Rattle.rr_model.specs.NodeStep.{ticked_on, advanced, advance_refusal};
 
@@ -9,13 +9,13 @@ use crate::questions::ask_if_behind;
 use crate::restating::restate_all;
 use rr_step::{State, Step};
 use rr_types::{Body, Refusal, Round};
+use std::alloc::AllocError;
 
 /// A tick: a beat, the detector's suspects, the restatement of the open instances, and where the node is
 /// behind a question.
 #[tactic(auto, using(crate::proofs::InputLemmas::everyone_after_owe), unfolding(rr_model::specs::NodeStep::ticked_on))]
-pub fn ticked_on(step: &mut Step<'_>) -> Result<(), Refusal>
+pub fn ticked_on(step: &mut Step<'_>) -> Result<(), AllocError>
     ensures ok { OnOk result (step.new ≡ stepped ticked_on step.old) }
-    ensures err { IfErr result (λ e. e ≡ Refusal.OutOfMemory) }
 {
     step.tick_watches();
     let late = step.late_nodes();
@@ -28,10 +28,9 @@ pub fn ticked_on(step: &mut Step<'_>) -> Result<(), Refusal>
 
 /// The lowest open instance that has a round enters the next one.
 #[tactic(auto, using(crate::proofs::InputLemmas::below_last_round), unfolding(rr_model::specs::NodeStep::advanced))]
-pub fn advanced(step: &mut Step<'_>) -> Result<(), Refusal>
+pub fn advanced(step: &mut Step<'_>) -> Result<(), AllocError>
     requires { advance_refusal step.old.state ≡ None }
     ensures ok { OnOk result (step.new ≡ stepped advanced step.old) }
-    ensures err { IfErr result (λ e. e ≡ Refusal.OutOfMemory) }
 {
     match step.lowest_in_round() {
         None => Ok(()),

@@ -125,7 +125,8 @@ fn lone_schedule<O: Sink>(
     ensures unprinted { O.printing out.new ≡ O.printing out.old }
 {
     let schedule = random(alloc, numbers.nodes, numbers.seed, numbers.steps, out)?;
-    schedule.text(alloc)
+    let text = schedule.text(alloc)?;
+    Ok(text)
 }
 
 // The text of a random schedule that isn't lively: alone, or with a line `report` and the report of its run.
@@ -142,7 +143,7 @@ fn random_text<O: Sink>(
     if numbers.alone {
         lone_schedule(alloc, numbers, out)
     } else {
-        random_run(alloc, numbers.nodes, numbers.seed, numbers.steps, out)
+        Ok(random_run(alloc, numbers.nodes, numbers.seed, numbers.steps, out)?)
     }
 }
 
@@ -166,9 +167,9 @@ fn lively_text<O: Sink>(
         faults,
     };
     if numbers.alone {
-        lively_schedule(alloc, recipe, out)
+        Ok(lively_schedule(alloc, recipe, out)?)
     } else {
-        lively_run(alloc, recipe, out)
+        Ok(lively_run(alloc, recipe, out)?)
     }
 }
 

@@ -18,7 +18,7 @@ use rr_stream::{Counted, Sink, Source, print_all, read_all};
 use rr_sweep::{MAX_SWEPT_EVENTS, SweepLine, Sweeping, push_sweep_lines, swept_too_far};
 use rr_text::{Event, Schedule};
 use rr_types::Refusal;
-use std::alloc::Global;
+use std::alloc::{AllocError, Global};
 use std::io::Write;
 use std::rt::Files;
 use std::{fs, io};
@@ -154,7 +154,7 @@ fn print_sweep<O: Sink>(
 {
     let mut sweeping = match Sweeping::new(alloc, schedule.nodes(), seed) {
         Ok(sweeping) => sweeping,
-        Err(refusal) => return Err(Stop::Refused(refusal)),
+        Err(_) => return Err(Stop::Refused(Refusal::OutOfMemory)),
     };
     let mut line = 2u64;
     let last = (schedule.events().len() as u64).saturating_add(1);
@@ -184,7 +184,7 @@ fn print_event<O: Sink>(
 {
     let lines = match sweeping.step(alloc, line, event) {
         Ok(lines) => lines,
-        Err(refusal) => return Err(Stop::Refused(refusal)),
+        Err(_) => return Err(Stop::Refused(Refusal::OutOfMemory)),
     };
     if lines.is_empty() {
         return Ok(());
@@ -205,8 +205,8 @@ fn print_lines<O: Sink>(
     ensures faults { (O.printing out.old).faults ≤ (O.printing out.new).faults }
 {
     let mut text = Vec::new(alloc);
-    if let Err(refusal) = push_sweep_lines(&mut text, lines) {
-        return Err(Stop::Refused(refusal));
+    if let Err(_) = push_sweep_lines(&mut text, lines) {
+        return Err(Stop::Refused(Refusal::OutOfMemory));
     }
     match print_all(out, text.as_slice()) {
         Ok(()) => {

@@ -15,7 +15,7 @@ use rr_account::{
 use rr_stream::{Sink, Source};
 use rr_types::Refusal;
 use rr_words::{Form, View};
-use std::alloc::Global;
+use std::alloc::{AllocError, Global};
 use std::io::Write;
 use std::rt::Files;
 
@@ -136,7 +136,7 @@ fn compare_bytes<O: Sink, E: Write>(
     };
     let report = match account.report().text(alloc) {
         Ok(report) => report,
-        Err(refusal) => return end_by_refusal(err, &refusal),
+        Err(_) => return end_by_refusal(err, &Refusal::OutOfMemory),
     };
     match difference_of(report.as_slice(), text) {
         None => 0,

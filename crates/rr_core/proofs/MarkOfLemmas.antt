@@ -1,6 +1,7 @@
 -- The mark behind a node's marked facts stays there as the node goes on.
 use Rattle.std.proofs.Common.{◌≡◌, ◌+◌, ℕ, List, length, ap, sym, ◌∙◌, refl, Option, Some, None, Result, Ok, Err}
 use Rattle.std.specs.Prelude.{IfOk, IsSome, OnOk, OnErr, []}
+use Rattle.std.specs.declared.alloc.AllocError.{AllocError}
 use Rattle.rr_types.specs.declared.refusal.Refusal.{Refusal}
 use Rattle.rr_types.specs.declared.command.RequestNo.{RequestNo}
 use Rattle.rr_types.specs.declared.command.Reply.{Reply}
@@ -24,12 +25,12 @@ started_mark n p promise next s is =
     let stays = started_stays n p promise next in
     ap mark_of is ∙ ap (λ (q : ℕ). marked q (started n p promise next).marked_end) stays.node ∙ ap (marked p) stays.marked_end
 
-pub started_marks : (n p : ℕ) (promise : List Entry) (next q end : ℕ) (r : Result NodeState Refusal) → p ≡ q → next ≡ end → IfOk r (λ s. s ≡ started n p promise next) → IfOk r (λ s. mark_of s ≡ record { node = q; end = end })
+pub started_marks : (n p : ℕ) (promise : List Entry) (next q end : ℕ) (r : Result NodeState AllocError) → p ≡ q → next ≡ end → IfOk r (λ s. s ≡ started n p promise next) → IfOk r (λ s. mark_of s ≡ record { node = q; end = end })
 started_marks n p promise next q end (Ok s) own there is = started_mark n p promise next s is ∙ ap (λ (k : ℕ). marked k next) own ∙ ap (marked q) there
 started_marks n p promise next q end (Err e) own there is = tt
 
 -- a step that was taken on, or not
-pub commit_mark : (m : Marked) (s t : NodeState) (c : Changed) (r : Result (Unit {0}) Refusal) → OnOk r (t ≡ combined s c) → OnErr r (t ≡ s) → m ≡ mark_of s → m ≡ mark_of t
+pub commit_mark : (m : Marked) (s t : NodeState) (c : Changed) (r : Result (Unit {0}) AllocError) → OnOk r (t ≡ combined s c) → OnErr r (t ≡ s) → m ≡ mark_of s → m ≡ mark_of t
 commit_mark m s t c (Ok u) ok err h = h ∙ ap mark_of (sym ok)
 commit_mark m s t c (Err e) ok err h = h ∙ ap mark_of (sym err)
 

@@ -8,6 +8,7 @@ use Rattle.std.proofs.lemmas.List.{take-append-drop, take-append-le, length-appe
 use Rattle.std.proofs.lemmas.List.Folds.{list_any-append}
 use Rattle.std.proofs.lemmas.Option.{none-some, slice_get_within}
 use Rattle.std.proofs.Math.Seq.{take-length}
+use Rattle.std.specs.declared.alloc.AllocError.{AllocError}
 use Rattle.rr_types.specs.declared.command.Command.{Command}
 use Rattle.rr_types.specs.declared.command.RequestNo.{RequestNo}
 use Rattle.rr_types.specs.declared.fact.Fact.{Fact}
@@ -150,7 +151,7 @@ committed n b s c k kept new h = record {
     front : List Command
     front = take n (decided_prefix s)
 
-pub commit_searched : (n : ℕ) (b : Bool) (s t : NodeState) (c : Changed) (k : Kept) (r : Result (Unit {0}) Refusal) → IsKept s k → OnOk r (t ≡ combined s c) → OnErr r (t ≡ s) → (b ≡ false → list_any (λ q. is_some (kept_reply k q)) c.waiting ≡ false) → IsSearched n b s → IsSearched n b t
+pub commit_searched : (n : ℕ) (b : Bool) (s t : NodeState) (c : Changed) (k : Kept) (r : Result (Unit {0}) AllocError) → IsKept s k → OnOk r (t ≡ combined s c) → OnErr r (t ≡ s) → (b ≡ false → list_any (λ q. is_some (kept_reply k q)) c.waiting ≡ false) → IsSearched n b s → IsSearched n b t
 commit_searched n b s t c k (Ok u) kept ok err new h = rw ok (committed n b s c k kept new h)
 commit_searched n b s t c k (Err e) kept ok err new h = rw err h
 

@@ -1,6 +1,7 @@
 -- What an input changes can be taken on, and the state with it is kept.
 use Rattle.std.proofs.Common.{◌≡◌, ◌^◌, ◌<◌, ℕ, Bool, true, false, ltb, List, ap, sym, ◌∙◌, refl, subst, Option, Some, None, is_some, Result, Ok, Err, OnOk, OnErr}
 use Rattle.std.proofs.lemmas.Bool.{ltb-true}
+use Rattle.std.specs.declared.alloc.AllocError.{AllocError}
 use Rattle.rr_types.specs.declared.refusal.Refusal.{Refusal}
 use Rattle.rr_types.specs.declared.command.RequestNo.{RequestNo}
 use Rattle.rr_types.specs.declared.command.Reply.{Reply}
@@ -69,6 +70,6 @@ pub taken_at : (input : Input) (s t : NodeState) (c : Changed) → s ≡ t → I
 taken_at input s t c e d = subst (λ (u : NodeState). CanBeTaken u c) e (taken_on input s c d)
 
 -- the state is kept, whether memory was there or wanting
-pub commit_kept : (s t : NodeState) (k : Kept) (c : Changed) (r : Result (Unit {0}) Refusal) → CanBeTaken s c → OnOk r (t ≡ combined s c) → OnErr r (t ≡ s) → IsKept s k → IsKept t k
+pub commit_kept : (s t : NodeState) (k : Kept) (c : Changed) (r : Result (Unit {0}) AllocError) → CanBeTaken s c → OnOk r (t ≡ combined s c) → OnErr r (t ≡ s) → IsKept s k → IsKept t k
 commit_kept s t k c (Ok u) d ok err kept = taken_kept s t k c d ok kept
 commit_kept s t k c (Err e) d ok err kept = rw err kept

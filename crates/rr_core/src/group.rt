@@ -13,7 +13,7 @@ use rr_journal::Synced;
 use rr_parts::are_same_facts;
 use rr_step::State;
 use rr_types::{Command, GROUP, Group, Refusal};
-use std::alloc::Global;
+use std::alloc::{AllocError, Global};
 
 /// The oldest staged facts, at most 64, become the running group. While one runs it is `Busy`.
 #[tactic(auto, unfolding(rr_model::specs::NodeStep::group_taken))]
@@ -61,10 +61,9 @@ pub fn put_back(state: &mut State)
 
 /// The commands that come behind the decided prefix once the running group is marked.
 #[tactic(auto, using(crate::proofs::MarkLemmas::decisions_stay))]
-pub fn commands_after(state: &State, alloc: Global) -> Result<Vec<Command>, Refusal>
+pub fn commands_after(state: &State, alloc: Global) -> Result<Vec<Command>, AllocError>
     requires { IsLawful state.now }
     ensures ok { IfOk result (λ more. decided_from 0 (take_on_all state.now.marked (option_map_or (λ facts. facts) state.now.running [])) ≡ decided_prefix state.now ++ more.items) }
-    ensures err { IfErr result (λ e. e ≡ Refusal.OutOfMemory) }
 {
     state
         .instances

@@ -24,7 +24,7 @@ use rr_step::{Changes, State};
 use rr_types::{
     Command, Group, Input, Instance, NodeId, NodeSet, Nodes, Promise, Refusal, Reply, RequestNo,
 };
-use std::alloc::Global;
+use std::alloc::{AllocError, Global};
 use std::marker::Model;
 
 /// A node that is up, as a value: it is told what happens, stages facts, and owes messages and
@@ -56,10 +56,9 @@ impl Model for Core {
 }
 
 /// The state of a node after its opening.
-fn start_state(alloc: Global, opened: &Opened) -> Result<State, Refusal>
+fn start_state(alloc: Global, opened: &Opened) -> Result<State, AllocError>
     ensures ok { IfOk result (λ s. s ≡ started opened.now.nodes opened.now.node opened.now.promise opened.now.next) }
     ensures mark { IfOk result (λ s. mark_of s ≡ record { node = opened.now.node; end = opened.now.next }) }
-    ensures err { IfErr result (λ e. e ≡ Refusal.OutOfMemory) }
 {
     started(
         alloc,
@@ -73,9 +72,8 @@ fn start_state(alloc: Global, opened: &Opened) -> Result<State, Refusal>
 impl Core {
     /// A node after its opening, with the promise that this opening found, and the number of the next fact: it owes
     /// the restatement of its open instances.
-    pub fn start(alloc: Global, opened: &Opened) -> Result<Core, Refusal>
+    pub fn start(alloc: Global, opened: &Opened) -> Result<Core, AllocError>
         ensures ok { IfOk result (λ core. core ≡ started opened.now.nodes opened.now.node opened.now.promise opened.now.next) }
-        ensures err { IfErr result (λ e. e ≡ Refusal.OutOfMemory) }
     {
         // That a promise ascends and that a fact's number has 64 bits is told by these calls alone.
         let _entries = opened.promise().entries();
@@ -98,9 +96,8 @@ impl Core {
     }
 
     /// The room of the last step, for another.
-    fn take_room(&mut self) -> Result<Box<Changes>, Refusal>
+    fn take_room(&mut self) -> Result<Box<Changes>, AllocError>
         ensures same { self.new ≡ self.old }
-        ensures err { IfErr result (λ e. e ≡ Refusal.OutOfMemory) }
     {
         match self.room.take() {
             Some(room) => Ok(room),
@@ -112,10 +109,9 @@ impl Core {
     }
 
     /// The core takes on what a step has changed.
-    fn commit(&mut self, changes: Box<Changes>) -> Result<(), Refusal>
+    fn commit(&mut self, changes: Box<Changes>) -> Result<(), AllocError>
         requires { CanBeTaken self.old changes.value }
         ensures ok { OnOk result (self.new ≡ combined self.old changes.value) }
-        ensures refused { IfErr result (λ e. e ≡ Refusal.OutOfMemory) }
         ensures err { OnErr result (self.new ≡ self.old) }
     {
         if is_any_answered(&changes.waiting, &self.registry) {
@@ -154,7 +150,7 @@ impl Core {
         let is_held = self.is_repeated(input);
         let room = self.take_room()?;
         match input_step(&self.state, room, self.alloc, input, is_held) {
-            Ok(changes) => self.commit(changes),
+            Ok(changes) => Ok(self.commit(changes)?),
             Err(refusal) => Err(refusal),
         }
     }
@@ -207,7 +203,7 @@ impl Core {
                 self.mark = mark_running(&mut self.state, synced);
                 Ok(())
             }
-            Err(refusal) => Err(refusal),
+            Err(_) => Err(Refusal::OutOfMemory),
         }
     }
 
@@ -234,9 +230,8 @@ impl Core {
     }
 
     /// The promise of the marked facts.
-    pub fn marked_promise(&self, alloc: Global) -> Result<Promise, Refusal>
+    pub fn marked_promise(&self, alloc: Global) -> Result<Promise, AllocError>
         ensures ok { IfOk result (λ promise. promise ≡ self.now.marked) }
-        ensures err { IfErr result (λ e. e ≡ Refusal.OutOfMemory) }
     {
         let entries = self.state.instances.marked_entries(alloc)?;
         Ok(Promise::new(entries))

@@ -1,18 +1,16 @@
 //! The registry of the decided prefix.
 
-ghost use Rattle.std.specs.Prelude.{◌≡◌, IfOk, IfErr};
+ghost use Rattle.std.specs.Prelude.{◌≡◌, IfOk};
 ghost use Rattle.rr_model.specs.NodeState.{decided_prefix};
 ghost use Rattle.rr_registry.specs.Kept.{kept_of};
 
 use rr_registry::Registry;
 use rr_step::State;
-use rr_types::Refusal;
-use std::alloc::Global;
+use std::alloc::{AllocError, Global};
 
 /// The registry of the decided prefix, made from nothing.
-pub fn registry_of_prefix(state: &State, alloc: Global) -> Result<Registry, Refusal>
+pub fn registry_of_prefix(state: &State, alloc: Global) -> Result<Registry, AllocError>
     ensures ok { IfOk result (λ r. r ≡ kept_of (decided_prefix state.now)) }
-    ensures err { IfErr result (λ e. e ≡ Refusal.OutOfMemory) }
 {
     let mut registry = Registry::new(alloc);
     for place in 0..state.instances.prefix_len() {

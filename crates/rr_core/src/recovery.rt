@@ -20,7 +20,7 @@ use crate::node_core::Core;
 use rr_disk::{Area, Disk};
 use rr_journal::{Journal, Opened};
 use rr_types::{NodeId, Nodes, Refusal};
-use std::alloc::Global;
+use std::alloc::{AllocError, Global};
 
 /// Opens one of the nodes by all steps of an opening, over a kind of disk that tells its bytes always or never: its core, and the
 /// areas of its disk. A refused opening hands its disk back.
@@ -91,6 +91,6 @@ pub(crate) fn start_core<D: Disk>(
     drop(opened);
     match started {
         Ok(core) => Ok((core, journal)),
-        Err(refusal) => Err((refusal, journal.into_disk())),
+        Err(_) => Err((Refusal::OutOfMemory, journal.into_disk())),
     }
 }

@@ -13,11 +13,11 @@ fn push_escaped_byte(out: &mut Vec<u8>, byte: u8) -> Result<(), Refusal>
     ensures err { IfErr result (λ e. e ≡ Refusal.OutOfMemory) }
 {
     match byte {
-        b'&' => push_bytes(out, b"&amp;"),
-        b'<' => push_bytes(out, b"&lt;"),
-        b'>' => push_bytes(out, b"&gt;"),
-        b'"' => push_bytes(out, b"&quot;"),
-        _ => push_byte(out, byte),
+        b'&' => Ok(push_bytes(out, b"&amp;")?),
+        b'<' => Ok(push_bytes(out, b"&lt;")?),
+        b'>' => Ok(push_bytes(out, b"&gt;")?),
+        b'"' => Ok(push_bytes(out, b"&quot;")?),
+        _ => Ok(push_byte(out, byte)?),
     }
 }
 

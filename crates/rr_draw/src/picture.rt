@@ -55,7 +55,7 @@ fn push_element(out: &mut Vec<u8>, title: &[u8], art: &Art) -> Result<(), Refusa
     push_bytes(out, art.more.as_slice())?;
     push_bytes(out, b"</title>")?;
     push_bytes(out, art.shapes.as_slice())?;
-    push_bytes(out, b"</g>\n")
+    Ok(push_bytes(out, b"</g>\n")?)
 }
 
 /// What the title of the event of a line begins with.

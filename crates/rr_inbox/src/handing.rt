@@ -2,14 +2,12 @@
 
 ghost use Rattle.std.specs.Prelude.{◌≡◌, IfOk, IfErr, OnOk, MatchOption};
 ghost use Rattle.crossbeam_channel.specs.Err.{IsFull, IsOutOfMemory, try_send_message};
-ghost use Rattle.rr_types.specs.declared.refusal.Refusal.TheVariants.{OutOfMemory};
 ghost use Rattle.rr_inbox.specs.InOrder.{Puts, Takes, HasHeld, OneQueue, end_of, first_taker, one_more, new_end};
 
 use crate::rule::{FirstInFirstOut, Meeting, Put, Putter, Take};
 use crate::view::Views;
 use crossbeam_channel::{Pass, RuledReceiver, RuledSender, TrySendError, bounded_with};
-use rr_types::Refusal;
-use std::alloc::Global;
+use std::alloc::{AllocError, Global};
 use std::marker::Model;
 use std::sync::Wait;
 
@@ -54,11 +52,10 @@ impl<T: Drop> Model for Taker<T> {
 }
 
 /// The two ends of a hand-over of one value at a time. It is `OutOfMemory`.
-pub fn hand_over<T: Drop>(alloc: Global) -> Result<(Giver<T>, Taker<T>), Refusal>
+pub fn hand_over<T: Drop>(alloc: Global) -> Result<(Giver<T>, Taker<T>), AllocError>
     ensures one { IfOk result (λ ends. ends.0.queue ≡ ends.1.queue) }
     ensures giver { IfOk result (λ ends. ends.0.view ≡ new_end first_taker) }
     ensures taker { IfOk result (λ ends. ends.1.view ≡ one_more first_taker) }
-    ensures err { IfErr result (λ e. e ≡ OutOfMemory) }
 {
     let (sender, receiver, mut pass) = bounded_with(alloc, 1)?;
     let giving = sender.another::<Putter>(&mut pass);

@@ -1,15 +1,13 @@
 //! An inbox of 256 messages.
 
 ghost use Rattle.std.specs.Prelude.{◌≡◌, IsTrue, IfOk, IfErr, OnOk, OnErr, MatchOption};
-ghost use Rattle.rr_types.specs.declared.refusal.Refusal.TheVariants.{OutOfMemory};
 ghost use Rattle.rr_inbox.specs.InOrder.{Puts, Takes, HasHeld, OneQueue, one_more, new_end, end_of, first_taker};
 ghost use Rattle.crossbeam_queue.specs.Passes.{ruled_capacity};
 
 use crate::rule::{FirstInFirstOut, Meeting, Put, Putter, Take};
 use crate::view::Views;
 use crossbeam_queue::{Pass, RuledArrayQueue};
-use rr_types::Refusal;
-use std::alloc::Global;
+use std::alloc::{AllocError, Global};
 use std::marker::Model;
 use std::sync::{Arc, Wait};
 
@@ -65,9 +63,8 @@ impl<T> Model for Outlet<T> {
 
 impl<T: Drop> Outlet<T> {
     /// An empty inbox: the end that takes. It is `OutOfMemory`.
-    pub fn new(alloc: Global) -> Result<Outlet<T>, Refusal>
+    pub fn new(alloc: Global) -> Result<Outlet<T>, AllocError>
         ensures ok { IfOk result (λ outlet. outlet.view ≡ first_taker) }
-        ensures err { IfErr result (λ e. e ≡ OutOfMemory) }
     {
         let (queue, pass) = RuledArrayQueue::ruled(alloc, ROOM)?;
         let inbox = Arc::new(alloc, Inbox { queue })?;
@@ -75,10 +72,9 @@ impl<T: Drop> Outlet<T> {
     }
 
     /// One more end that puts into this inbox, and has put nothing yet. It is `OutOfMemory`.
-    pub fn port(&mut self) -> Result<Port<T>, Refusal>
+    pub fn port(&mut self) -> Result<Port<T>, AllocError>
         ensures ok { IfOk result (λ port. (port ≡ end_of self.old.queue (new_end self.old.view)) × (self.new ≡ end_of self.old.queue (one_more self.old.view))) }
         ensures same { OnErr result (self.new ≡ self.old) }
-        ensures err { IfErr result (λ e. e ≡ OutOfMemory) }
     {
         let inbox = Arc::try_clone(&self.inbox)?;
         let pass = self.inbox.queue.another::<Putter>(&mut self.pass);

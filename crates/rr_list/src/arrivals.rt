@@ -1,6 +1,6 @@
 //! Values in order of arrival, found by their request numbers.
 
-ghost use Rattle.std.specs.Prelude.{◌≡◌, ◌∷◌, ◌++◌, [], List, length, false, not, filter, IfErr, OnOk, OnErr, MatchOption};
+ghost use Rattle.std.specs.Prelude.{◌≡◌, ◌∷◌, ◌++◌, [], List, length, false, not, filter, OnOk, OnErr, MatchOption};
 ghost use Rattle.std.specs.List.{list_any};
 ghost use Rattle.std.specs.Iterator.{at_most};
 ghost use Rattle.std.specs.Map.Iter.{TakesFirst};
@@ -9,7 +9,7 @@ ghost use Rattle.rr_types.specs.Registry.{is_same_request};
 ghost use Rattle.rr_list.specs.Arrived.{without_first, seconds};
 
 use rr_types::{Command, Refusal, RequestNo};
-use std::alloc::Global;
+use std::alloc::{AllocError, Global};
 use std::collections::BTreeMap;
 use std::collections::btree_map::Iter;
 use std::marker::Model;
@@ -79,19 +79,18 @@ impl<V: Requested> Arrivals<V> {
     }
 
     /// Puts a value last. After an error nothing has changed.
-    pub(crate) fn push(&mut self, value: V) -> Result<(), Refusal>
+    pub(crate) fn push(&mut self, value: V) -> Result<(), AllocError>
         requires { list_any (λ v. is_same_request (V.request_of v) (V.request_of value)) self.old ≡ false }
         ensures ok { OnOk result (self.new ≡ self.old ++ value ∷ []) }
         ensures kept { OnErr result (self.new ≡ self.old) }
-        ensures err { IfErr result (λ e. e ≡ Refusal.OutOfMemory) }
     {
         let request = value.request();
         let number = self.next;
         if number == u64::MAX {
-            return Err(Refusal::OutOfMemory);
+            return Err(AllocError);
         }
         if let Err(_) = self.arrivals.insert(request, number) {
-            return Err(Refusal::OutOfMemory);
+            return Err(AllocError);
         }
         match self.order.insert(number, value) {
             Ok(_) => {
@@ -100,7 +99,7 @@ impl<V: Requested> Arrivals<V> {
             }
             Err(_) => {
                 self.arrivals.remove(&request);
-                Err(Refusal::OutOfMemory)
+                Err(AllocError)
             }
         }
     }

@@ -1,6 +1,6 @@
 //! The table of instances.
 
-ghost use Rattle.std.specs.Prelude.{◌≡◌, ◌≤◌, ◌&&◌, ◌++◌, [], None, Some, map, length, slice_get, nat_lt, IfOk, IfErr, OnOk, OnErr, MatchOption};
+ghost use Rattle.std.specs.Prelude.{◌≡◌, ◌≤◌, ◌&&◌, ◌++◌, [], None, Some, map, length, slice_get, nat_lt, IfOk, OnOk, OnErr, MatchOption};
 ghost use Rattle.std.specs.List.{list_any};
 ghost use Rattle.rr_types.specs.Promises.{IsAscending, take_on_all, decided_from};
 ghost use Rattle.rr_types.specs.Limits.{instance_count};
@@ -14,8 +14,8 @@ use crate::marks::Marks;
 use crate::open_instances::OpenInstances;
 use crate::rows::{Rows, is_any_decided};
 use rr_parts::Row;
-use rr_types::{Command, Entry, Fact, Instance, Op, Refusal, RequestNo, Standing};
-use std::alloc::Global;
+use rr_types::{Command, Entry, Fact, Instance, Op, RequestNo, Standing};
+use std::alloc::{AllocError, Global};
 use std::marker::Model;
 
 /// The instances that the facts name, each by its row, and the promise of the marked facts. A look-up costs the
@@ -42,10 +42,9 @@ impl Model for Instances {
 
 impl Instances {
     /// The table of a node that knows its promise and nothing else; `next` is the number of its next fact.
-    pub fn restored(alloc: Global, promise: &[Entry], next: u64) -> Result<Instances, Refusal>
+    pub fn restored(alloc: Global, promise: &[Entry], next: u64) -> Result<Instances, AllocError>
         requires { IsAscending promise.now }
         ensures ok { IfOk result (λ t. t ≡ record { rows = map (promised_row next) promise.now; marked = promise.now }) }
-        ensures err { IfErr result (λ e. e ≡ Refusal.OutOfMemory) }
     {
         let mut marks = Marks::new(alloc);
         marks.restore(promise)?;
@@ -119,12 +118,11 @@ impl Instances {
 
     /// Puts these rows, all of them or, after an error, none. No decision may change. The rows leave the vector, unless
     /// an error comes.
-    pub fn absorb(&mut self, alloc: Global, rows: &mut Vec<Row>) -> Result<(), Refusal>
+    pub fn absorb(&mut self, alloc: Global, rows: &mut Vec<Row>) -> Result<(), AllocError>
         requires { KeepsDecisions self.old.rows (put_rows self.old.rows rows.old.items) }
         ensures ok { OnOk result (self.new ≡ record self.old { rows = put_rows self.old.rows rows.old.items }) }
         ensures taken { OnOk result (rows.new.items ≡ []) }
         ensures kept { OnErr result (self.new ≡ self.old) }
-        ensures err { IfErr result (λ e. e ≡ Refusal.OutOfMemory) }
     {
         if rows.is_empty() {
             return Ok(());
@@ -155,10 +153,9 @@ impl Instances {
     }
 
     /// The commands that come behind the decided prefix once these facts are marked. No decision may change.
-    pub fn commands_after(&self, alloc: Global, facts: &[Fact]) -> Result<Vec<Command>, Refusal>
+    pub fn commands_after(&self, alloc: Global, facts: &[Fact]) -> Result<Vec<Command>, AllocError>
         requires { KeepsPromised self.now.marked (take_on_all self.now.marked facts.now) }
         ensures ok { IfOk result (λ more. decided_from 0 (take_on_all self.now.marked facts.now) ≡ decided_from 0 self.now.marked ++ more.items) }
-        ensures err { IfErr result (λ e. e ≡ Refusal.OutOfMemory) }
     {
         self.marks.commands_after(alloc, facts)
     }
@@ -174,10 +171,9 @@ impl Instances {
     }
 
     /// The promise of the marked facts.
-    pub fn marked_entries(&self, alloc: Global) -> Result<Vec<Entry>, Refusal>
+    pub fn marked_entries(&self, alloc: Global) -> Result<Vec<Entry>, AllocError>
         ensures ok { IfOk result (λ entries. entries.items ≡ self.now.marked) }
         ensures ascending { IfOk result (λ entries. IsAscending entries.items) }
-        ensures err { IfErr result (λ e. e ≡ Refusal.OutOfMemory) }
     {
         self.marks.promise(alloc)
     }

@@ -1,6 +1,6 @@
 //! The promise of the marked facts, and its decided prefix.
 
-ghost use Rattle.std.specs.Prelude.{◌≡◌, ◌<◌, ◌≤◌, ◌++◌, ℕ, [], Some, None, length, slice_get, false, is_some, IsTrue, IfSome, IfOk, IfErr, OnOk, MatchOption};
+ghost use Rattle.std.specs.Prelude.{◌≡◌, ◌<◌, ◌≤◌, ◌++◌, ℕ, [], Some, None, length, slice_get, false, is_some, IsTrue, IfSome, IfOk, OnOk, MatchOption};
 ghost use Rattle.std.specs.List.{All};
 ghost use Rattle.rr_types.specs.declared.promise.Standing.TheVariants as stands;
 ghost use Rattle.rr_types.specs.Facts.{instance_of, decision_of, after_fact};
@@ -12,8 +12,8 @@ ghost use Rattle.rr_list.specs.Marked.{marked_in, decided_entries, has_mark_plac
 
 use rr_parts::Row;
 use rr_places::{insert, make_place, value_of};
-use rr_types::{Command, Entry, Fact, INSTANCES, Instance, Op, Refusal, Standing, made_of};
-use std::alloc::Global;
+use rr_types::{Command, Entry, Fact, INSTANCES, Instance, Op, Standing, made_of};
+use std::alloc::{AllocError, Global};
 use std::collections::BTreeMap;
 
 /// Where each instance stands by the marked facts, and how many commands the decided prefix has. An entry takes twice the room
@@ -65,13 +65,12 @@ impl Marks {
     }
 
     /// Makes a place for an instance.
-    pub(crate) fn make_place(&mut self, instance: Instance) -> Result<(), Refusal>
+    pub(crate) fn make_place(&mut self, instance: Instance) -> Result<(), AllocError>
         ensures value { marked_in self.new ≡ marked_in self.old }
         ensures marks { AreMarks self.old → AreMarks self.new }
         ensures prefix { self.new.prefix ≡ self.old.prefix }
         ensures made { OnOk result (IsTrue (has_mark_place self.new instance)) }
         ensures stay { (i : ℕ) → IsTrue (has_mark_place self.old i) → IsTrue (has_mark_place self.new i) }
-        ensures err { IfErr result (λ e. e ≡ Refusal.OutOfMemory) }
     {
         made_of!(Command, Op, Standing);
         let number = instance.number();
@@ -82,13 +81,12 @@ impl Marks {
     }
 
     /// The same for the instance of each of these rows.
-    pub(crate) fn make_places(&mut self, rows: &[Row]) -> Result<(), Refusal>
+    pub(crate) fn make_places(&mut self, rows: &[Row]) -> Result<(), AllocError>
         ensures value { marked_in self.new ≡ marked_in self.old }
         ensures marks { AreMarks self.old → AreMarks self.new }
         ensures prefix { self.new.prefix ≡ self.old.prefix }
         ensures made { OnOk result (All (λ r. IsTrue (has_mark_place self.new r.instance)) rows.now) }
         ensures stay { (i : ℕ) → IsTrue (has_mark_place self.old i) → IsTrue (has_mark_place self.new i) }
-        ensures err { IfErr result (λ e. e ≡ Refusal.OutOfMemory) }
     {
         for row in rows {
             self.make_place(row.instance)?;
@@ -97,7 +95,7 @@ impl Marks {
     }
 
     /// Sets where an instance of the tree stands, and makes a place for it where it has none.
-    fn insert(&mut self, entry: &Entry) -> Result<(), Refusal>
+    fn insert(&mut self, entry: &Entry) -> Result<(), AllocError>
         requires marks { AreMarks self.old }
         requires behind { length self.old.commands.items ≤ entry.now.instance }
         ensures value { OnOk result (marked_in self.new ≡ set_entry entry.now.instance entry.now.standing (marked_in self.old)) }
@@ -105,7 +103,6 @@ impl Marks {
         ensures prefix { self.new.prefix ≡ self.old.prefix }
         ensures made { OnOk result (IsTrue (has_mark_place self.new entry.now.instance)) }
         ensures stay { (i : ℕ) → IsTrue (has_mark_place self.old i) → IsTrue (has_mark_place self.new i) }
-        ensures err { IfErr result (λ e. e ≡ Refusal.OutOfMemory) }
     {
         made_of!(Command, Op, Standing);
         insert(&mut self.entries, entry.instance.number(), *entry)?;
@@ -268,7 +265,7 @@ impl Marks {
     }
 
     /// Marks the entries of a promise where nothing is marked. Where memory is refused, some are marked.
-    pub(crate) fn restore(&mut self, promise: &[Entry]) -> Result<(), Refusal>
+    pub(crate) fn restore(&mut self, promise: &[Entry]) -> Result<(), AllocError>
         requires marks { AreMarks self.old }
         requires counted { IsCounted self.old }
         requires empty { marked_in self.old ≡ [] }
@@ -277,7 +274,6 @@ impl Marks {
         ensures marks { AreMarks self.new }
         ensures counted { OnOk result (IsCounted self.new) }
         ensures made { OnOk result (All (λ e. IsTrue (has_mark_place self.new e.instance)) promise.now) }
-        ensures err { IfErr result (λ e. e ≡ Refusal.OutOfMemory) }
     {
         for entry in promise {
             // A command moves before the next entry comes, so that the tree stays small.
@@ -329,12 +325,11 @@ impl Marks {
         &self,
         alloc: Global,
         facts: &[Fact],
-    ) -> Result<Vec<Command>, Refusal>
+    ) -> Result<Vec<Command>, AllocError>
         requires marks { AreMarks self.now }
         requires counted { IsCounted self.now }
         requires keeps { KeepsPromised (marked_in self.now) (take_on_all (marked_in self.now) facts.now) }
         ensures ok { IfOk result (λ more. decided_from 0 (take_on_all (marked_in self.now) facts.now) ≡ decided_from 0 (marked_in self.now) ++ more.items) }
-        ensures err { IfErr result (λ e. e ≡ Refusal.OutOfMemory) }
     {
         made_of!(Op);
         let mut found = Vec::new(alloc);
@@ -351,10 +346,9 @@ impl Marks {
     }
 
     /// The entries of the commands in the vector.
-    fn moved_entries(&self, alloc: Global) -> Result<Vec<Entry>, Refusal>
+    fn moved_entries(&self, alloc: Global) -> Result<Vec<Entry>, AllocError>
         requires { AreMarks self.now }
         ensures ok { IfOk result (λ entries. entries.items ≡ decided_entries 0 self.now.commands.items) }
-        ensures err { IfErr result (λ e. e ≡ Refusal.OutOfMemory) }
     {
         made_of!(Command, Op, Standing);
         let mut entries = Vec::new(alloc);
@@ -369,11 +363,10 @@ impl Marks {
     }
 
     /// The promise of the marked facts.
-    pub(crate) fn promise(&self, alloc: Global) -> Result<Vec<Entry>, Refusal>
+    pub(crate) fn promise(&self, alloc: Global) -> Result<Vec<Entry>, AllocError>
         requires { AreMarks self.now }
         ensures ok { IfOk result (λ entries. entries.items ≡ marked_in self.now) }
         ensures ascending { IfOk result (λ entries. IsAscending entries.items) }
-        ensures err { IfErr result (λ e. e ≡ Refusal.OutOfMemory) }
     {
         made_of!(Command, Op, Standing);
         let mut promise = self.moved_entries(alloc)?;

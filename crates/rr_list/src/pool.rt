@@ -1,12 +1,12 @@
 //! The commands that wait for an instance.
 
-ghost use Rattle.std.specs.Prelude.{◌≡◌, ◌∷◌, ◌++◌, [], List, false, not, filter, IfErr, OnOk, OnErr};
+ghost use Rattle.std.specs.Prelude.{◌≡◌, ◌∷◌, ◌++◌, [], List, false, not, filter, OnOk, OnErr};
 ghost use Rattle.rr_types.specs.declared.command.Command.{Command};
 ghost use Rattle.rr_types.specs.Registry.{is_same_request, has_request};
 
 use crate::arrivals::{Arrivals, Values};
-use rr_types::{Command, Op, Refusal, RequestNo, made_of};
-use std::alloc::Global;
+use rr_types::{Command, Op, RequestNo, made_of};
+use std::alloc::{AllocError, Global};
 use std::marker::Model;
 
 /// Commands in order of arrival, one a request number. Each call costs the logarithm of how many there are.
@@ -44,13 +44,12 @@ impl Pool {
         self.commands.has(request)
     }
 
-    /// Puts a command last. After an error, which is `OutOfMemory`, nothing has changed.
+    /// Puts a command last. After an error nothing has changed.
     #[tactic(auto, using(crate::proofs::PoolLemmas::has_one))]
-    pub fn push(&mut self, command: &Command) -> Result<(), Refusal>
+    pub fn push(&mut self, command: &Command) -> Result<(), AllocError>
         requires { has_request self.old command.now.request ≡ false }
         ensures ok { OnOk result (self.new ≡ self.old ++ command.now ∷ []) }
         ensures kept { OnErr result (self.new ≡ self.old) }
-        ensures err { IfErr result (λ e. e ≡ Refusal.OutOfMemory) }
     {
         made_of!(Command, Op);
         self.commands.push(*command)

@@ -1,6 +1,6 @@
 //! The rows of the instances that the facts name, and what these have decided.
 
-ghost use Rattle.std.specs.Prelude.{◌≡◌, ◌<◌, ◌≤◌, ◌&&◌, ℕ, List, [], ◌∷◌, map, option_map, Some, None, nat_lt, IsTrue, IfSome, IfOk, IfErr, OnOk, OnErr, MatchOption};
+ghost use Rattle.std.specs.Prelude.{◌≡◌, ◌<◌, ◌≤◌, ◌&&◌, ℕ, List, [], ◌∷◌, map, option_map, Some, None, nat_lt, IsTrue, IfSome, IfOk, OnOk, OnErr, MatchOption};
 ghost use Rattle.std.specs.List.{list_any, All};
 ghost use Rattle.std.specs.Ordering.{nat_cmp};
 ghost use Rattle.rr_types.specs.declared.command.RequestNo.{RequestNo};
@@ -16,7 +16,7 @@ ghost use Rattle.rr_list.specs.Rowed.{EachKeeps, rows_in, AreKeyed, AscendFrom, 
 use rr_parts::Row;
 use rr_places::{Numbered, drop_free_place, make_place, put, value_at};
 use rr_types::{Command, Entry, Instance, Op, Refusal, RequestNo, Standing};
-use std::alloc::Global;
+use std::alloc::{AllocError, Global};
 use std::collections::BTreeMap;
 use std::marker::Model;
 use std::mem;
@@ -44,11 +44,10 @@ impl Model for Rows {
 }
 
 /// Makes a place for the row of each of these instances.
-fn make_row_places(map: &mut Numbered<Row>, rows: &[Row]) -> Result<(), Refusal>
+fn make_row_places(map: &mut Numbered<Row>, rows: &[Row]) -> Result<(), AllocError>
     ensures filled { filled map.new ≡ filled map.old }
     ensures made { OnOk result (All (λ r. IsTrue (has_place nat_cmp map.new r.instance)) rows.now) }
     ensures instances { OnOk result (All (λ r. r.instance < instance_count) rows.now) }
-    ensures err { IfErr result (λ e. e ≡ Refusal.OutOfMemory) }
 {
     for row in rows {
         map.make_place(row.instance.number())?;
@@ -57,11 +56,13 @@ fn make_row_places(map: &mut Numbered<Row>, rows: &[Row]) -> Result<(), Refusal>
 }
 
 /// Makes a place for the request that a row has decided.
-fn make_request_place(map: &mut BTreeMap<RequestNo, Option<()>>, row: &Row) -> Result<(), Refusal>
+fn make_request_place(
+    map: &mut BTreeMap<RequestNo, Option<()>>,
+    row: &Row,
+) -> Result<(), AllocError>
     ensures filled { filled map.new.entries ≡ filled map.old.entries }
     ensures made { OnOk result (IsTrue (has_request_place map.new.entries row.now)) }
     ensures stay { (q : RequestNo) → IsTrue (has_place request_cmp map.old.entries q) → IsTrue (has_place request_cmp map.new.entries q) }
-    ensures err { IfErr result (λ e. e ≡ Refusal.OutOfMemory) }
 {
     match &row.standing {
         Standing::Decided(command) => {
@@ -76,11 +77,10 @@ fn make_request_place(map: &mut BTreeMap<RequestNo, Option<()>>, row: &Row) -> R
 fn make_request_places(
     map: &mut BTreeMap<RequestNo, Option<()>>,
     rows: &[Row],
-) -> Result<(), Refusal>
+) -> Result<(), AllocError>
     ensures filled { filled map.new.entries ≡ filled map.old.entries }
     ensures made { OnOk result (All (λ r. IsTrue (has_request_place map.new.entries r)) rows.now) }
     ensures stay { (q : RequestNo) → IsTrue (has_place request_cmp map.old.entries q) → IsTrue (has_place request_cmp map.new.entries q) }
-    ensures err { IfErr result (λ e. e ≡ Refusal.OutOfMemory) }
 {
     for row in rows {
         make_request_place(map, row)?;
@@ -93,13 +93,12 @@ fn make_places(
     map: &mut Numbered<Row>,
     requests: &mut BTreeMap<RequestNo, Option<()>>,
     rows: &[Row],
-) -> Result<(), Refusal>
+) -> Result<(), AllocError>
     ensures rows { filled map.new ≡ filled map.old }
     ensures requests { filled requests.new.entries ≡ filled requests.old.entries }
     ensures row_places { OnOk result (All (λ r. IsTrue (has_place nat_cmp map.new r.instance)) rows.now) }
     ensures request_places { OnOk result (All (λ r. IsTrue (has_request_place requests.new.entries r)) rows.now) }
     ensures instances { OnOk result (All (λ r. r.instance < instance_count) rows.now) }
-    ensures err { IfErr result (λ e. e ≡ Refusal.OutOfMemory) }
 {
     make_row_places(map, rows)?;
     make_request_places(requests, rows)
@@ -139,9 +138,8 @@ fn put_all(map: &mut Numbered<Row>, rows: Vec<Row>)
 }
 
 /// The instances of these rows.
-fn instances_of(alloc: Global, rows: &[Row]) -> Result<Vec<Instance>, Refusal>
+fn instances_of(alloc: Global, rows: &[Row]) -> Result<Vec<Instance>, AllocError>
     ensures ok { IfOk result (λ instances. instances.items ≡ map (λ r. r.instance) rows.now) }
-    ensures err { IfErr result (λ e. e ≡ Refusal.OutOfMemory) }
 {
     let mut instances = Vec::new(alloc);
     for row in rows {
@@ -211,10 +209,9 @@ fn insert_request(
     end: u32,
     instance: Instance,
     request: Option<RequestNo>,
-) -> Result<u32, Refusal>
+) -> Result<u32, AllocError>
     ensures noted { IfOk result (λ higher. (rows : List model.Row) → option_map (λ v. v.request) (decision_at rows instance) ≡ request → IsNoted rows (instance ∷ []) (filled requests.old.entries) (filled requests.new.entries) end higher) }
     ensures kept { OnErr result (requests.new.entries ≡ requests.old.entries) }
-    ensures err { IfErr result (λ e. e ≡ Refusal.OutOfMemory) }
 {
     match request {
         None => Ok(end),
@@ -222,7 +219,7 @@ fn insert_request(
             let number = instance.number();
             match requests.insert(request, Some(())) {
                 Ok(_) => Ok(if end <= number { number + 1 } else { end }),
-                Err(_) => Err(Refusal::OutOfMemory),
+                Err(_) => Err(AllocError),
             }
         }
     }
@@ -307,13 +304,12 @@ impl Rows {
     }
 
     /// Puts a row, or after an error none. No decision may change.
-    fn put(&mut self, row: Row) -> Result<(), Refusal>
+    fn put(&mut self, row: Row) -> Result<(), AllocError>
         requires { KeepsDecisions self.old (put_rows self.old (row ∷ [])) }
         ensures ok { OnOk result (self.new ≡ put_rows self.old (row ∷ [])) }
         ensures kept { OnErr result (self.new ≡ self.old) }
         ensures ascend { OnOk result (AscendFrom 0 self.new) }
         ensures instances { OnOk result (AreInstances self.new) }
-        ensures err { IfErr result (λ e. e ≡ Refusal.OutOfMemory) }
     {
         let instance = row.instance;
         let request = decided_request(&row);
@@ -331,14 +327,13 @@ impl Rows {
         alloc: Global,
         promise: &[Entry],
         next: u64,
-    ) -> Result<(), Refusal>
+    ) -> Result<(), AllocError>
         requires keeps { EachKeeps self.old (map (promised_row next) promise.now) }
         requires ascend { AscendFrom 0 self.old }
         requires instances { AreInstances self.old }
         ensures ok { OnOk result (self.new ≡ put_rows self.old (map (promised_row next) promise.now)) }
         ensures ascend { OnOk result (AscendFrom 0 self.new) }
         ensures instances { OnOk result (AreInstances self.new) }
-        ensures err { IfErr result (λ e. e ≡ Refusal.OutOfMemory) }
     {
         for entry in promise {
             self.put(Row::promised(alloc, next, entry))?;
@@ -347,14 +342,13 @@ impl Rows {
     }
 
     /// Puts these rows, all of them or, after an error, none, and leaves the vector empty. No decision may change.
-    pub(crate) fn absorb(&mut self, alloc: Global, rows: &mut Vec<Row>) -> Result<(), Refusal>
+    pub(crate) fn absorb(&mut self, alloc: Global, rows: &mut Vec<Row>) -> Result<(), AllocError>
         requires { KeepsDecisions self.old (put_rows self.old rows.old.items) }
         ensures ok { OnOk result (self.new ≡ put_rows self.old rows.old.items) }
         ensures taken { rows.new.items ≡ [] }
         ensures kept { OnErr result (self.new ≡ self.old) }
         ensures ascend { OnOk result (AscendFrom 0 self.new) }
         ensures instances { OnOk result (AreInstances self.new) }
-        ensures err { IfErr result (λ e. e ≡ Refusal.OutOfMemory) }
     {
         if rows.len() == 1 {
             let row = rows.swap_remove(0);
@@ -366,13 +360,12 @@ impl Rows {
 
     /// The same of any number of rows.
     #[inline(never)]
-    fn absorb_all(&mut self, alloc: Global, rows: Vec<Row>) -> Result<(), Refusal>
+    fn absorb_all(&mut self, alloc: Global, rows: Vec<Row>) -> Result<(), AllocError>
         requires { KeepsDecisions self.old (put_rows self.old rows.items) }
         ensures ok { OnOk result (self.new ≡ put_rows self.old rows.items) }
         ensures kept { OnErr result (self.new ≡ self.old) }
         ensures ascend { OnOk result (AscendFrom 0 self.new) }
         ensures instances { OnOk result (AreInstances self.new) }
-        ensures err { IfErr result (λ e. e ≡ Refusal.OutOfMemory) }
     {
         let instances = instances_of(alloc, &rows)?;
         match make_places(&mut self.rows, &mut self.requests, &rows) {

@@ -1,14 +1,14 @@
 //! The requests that wait for their acknowledgement.
 
-ghost use Rattle.std.specs.Prelude.{◌≡◌, ◌∷◌, ◌++◌, [], List, false, IfErr, OnOk, OnErr};
+ghost use Rattle.std.specs.Prelude.{◌≡◌, ◌∷◌, ◌++◌, [], List, false, OnOk, OnErr};
 ghost use Rattle.std.specs.List.{list_any};
 ghost use Rattle.rr_types.specs.declared.command.RequestNo.{RequestNo};
 ghost use Rattle.rr_types.specs.Registry.{is_same_request};
 ghost use Rattle.rr_list.specs.Arrived.{without_first};
 
 use crate::arrivals::{Arrivals, Values};
-use rr_types::{Refusal, RequestNo};
-use std::alloc::Global;
+use rr_types::RequestNo;
+use std::alloc::{AllocError, Global};
 use std::marker::Model;
 
 /// Request numbers in order, each once. Each call costs the logarithm of how many there are.
@@ -43,12 +43,11 @@ impl Waiting {
         self.requests.has(request)
     }
 
-    /// Puts a request last. After an error, which is `OutOfMemory`, nothing has changed.
-    pub fn push(&mut self, request: RequestNo) -> Result<(), Refusal>
+    /// Puts a request last. After an error nothing has changed.
+    pub fn push(&mut self, request: RequestNo) -> Result<(), AllocError>
         requires { list_any (λ w. is_same_request w request) self.old ≡ false }
         ensures ok { OnOk result (self.new ≡ self.old ++ request ∷ []) }
         ensures kept { OnErr result (self.new ≡ self.old) }
-        ensures err { IfErr result (λ e. e ≡ Refusal.OutOfMemory) }
     {
         self.requests.push(request)
     }

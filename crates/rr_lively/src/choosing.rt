@@ -1,13 +1,14 @@
 //! What a node that is up does next.
 
-ghost use Rattle.std.specs.Prelude.{◌≡◌, IfErr};
+ghost use Rattle.std.specs.Prelude.{◌≡◌};
 
 use crate::memory::Memory;
 use crate::random_run::RandomRun;
 use crate::stances::{Kind, node_at, stance_of};
 use rr_sim::{Cluster, Stance};
 use rr_text::Event;
-use rr_types::{NodeId, NodeSet, Refusal};
+use rr_types::{NodeId, NodeSet};
+use std::alloc::AllocError;
 
 /// How many requests may be undecided before clients ask for no more.
 const UNDECIDED: usize = 16;
@@ -58,9 +59,7 @@ impl RandomRun {
         node: NodeId,
         stance: Stance,
         word: u32,
-    ) -> Result<Option<Event>, Refusal>
-        ensures { IfErr result (λ e. e ≡ Refusal.OutOfMemory) }
-    {
+    ) -> Result<Option<Event>, AllocError> {
         let choices = match self.memories.get(usize::from(node.index())) {
             Some(memory) => self.choices(memory, stance, !self.is_busy(cluster), word / 256),
             None => return Ok(None),
@@ -125,9 +124,7 @@ impl RandomRun {
         node: NodeId,
         choice: Choice,
         detail: u32,
-    ) -> Result<Option<Event>, Refusal>
-        ensures { IfErr result (λ e. e ≡ Refusal.OutOfMemory) }
-    {
+    ) -> Result<Option<Event>, AllocError> {
         match choice {
             Choice::Hear => self.hear(cluster, node, detail),
             Choice::Send => Ok(Some(Event::Send { node })),
@@ -153,9 +150,7 @@ impl RandomRun {
         cluster: &Cluster,
         node: NodeId,
         detail: u32,
-    ) -> Result<Option<Event>, Refusal>
-        ensures { IfErr result (λ e. e ≡ Refusal.OutOfMemory) }
-    {
+    ) -> Result<Option<Event>, AllocError> {
         let Some(memory) = self.memories.get_mut(usize::from(node.index())) else {
             return Ok(None);
         };

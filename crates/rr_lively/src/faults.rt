@@ -1,13 +1,13 @@
 //! Events with a fault.
 
-ghost use Rattle.std.specs.Prelude.{◌≡◌, IfErr};
+ghost use Rattle.std.specs.Prelude.{◌≡◌};
 
 use crate::random_run::RandomRun;
 use crate::stances::{Kind, first_from, node_at};
 use rr_sim::Cluster;
 use rr_text::{Event, Fill};
-use rr_types::{NodeId, NodeSet, Refusal};
-use std::alloc::Global;
+use rr_types::{NodeId, NodeSet};
+use std::alloc::{AllocError, Global};
 
 /// A fault.
 #[derive(Clone, Copy)]
@@ -59,9 +59,7 @@ fn cut_of(detail: u32) -> u32 {
 }
 
 /// A fill of one byte.
-fn fill_of(alloc: Global, detail: u32) -> Result<Fill, Refusal>
-    ensures { IfErr result (λ e. e ≡ Refusal.OutOfMemory) }
-{
+fn fill_of(alloc: Global, detail: u32) -> Result<Fill, AllocError> {
     Ok(Fill::new(Vec::from_slice(alloc, &[(detail % 256) as u8])?))
 }
 
@@ -74,9 +72,7 @@ impl RandomRun {
         cluster: &Cluster,
         from: NodeId,
         word: u32,
-    ) -> Result<Option<Event>, Refusal>
-        ensures { IfErr result (λ e. e ≡ Refusal.OutOfMemory) }
-    {
+    ) -> Result<Option<Event>, AllocError> {
         let fault = fault_of(word % 64);
         let detail = word / 64;
         let Some(node) = first_from(self.nodes, cluster, from, kind_of(fault)) else {

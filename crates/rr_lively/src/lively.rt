@@ -1,6 +1,6 @@
 //! A lively schedule told as text, with the report of its run.
 
-ghost use Rattle.std.specs.Prelude.{◌≡◌, ◌≤◌, ◌+◌, ◌*◌, false, Ok, OnOk, IfOk, IfErr};
+ghost use Rattle.std.specs.Prelude.{◌≡◌, ◌≤◌, ◌+◌, ◌*◌, false, Ok, OnOk, IfOk};
 ghost use Rattle.rr_lively.specs.Lively.{IsSoFar, IsLively, IsLivelySchedule};
 
 use crate::random_run::RandomRun;
@@ -11,8 +11,8 @@ use rand_core::utils::NextWord;
 use rand_pcg::Pcg32;
 use rr_stream::{Sink, tell_step};
 use rr_text::Event;
-use rr_types::{NodeId, Nodes, Refusal};
-use std::alloc::Global;
+use rr_types::{NodeId, Nodes};
+use std::alloc::{AllocError, Global};
 
 /// How many steps in a thousand have a fault where nothing else is asked for.
 pub const DEFAULT_FAULTS: u32 = 10;
@@ -34,13 +34,12 @@ const CALLS_OF_AN_OPENING: u32 = 9;
 const DRAWS: u32 = 22;
 
 /// Each node opens its disk.
-fn open_all(alloc: Global, nodes: Nodes, run: &mut Run) -> Result<(), Refusal>
+fn open_all(alloc: Global, nodes: Nodes, run: &mut Run) -> Result<(), AllocError>
     requires so_far { IsSoFar nodes run.old.line run.old.cluster run.old.schedule.items run.old.report.items }
     requires line { run.old.line ≡ 2 }
     requires few { nodes ≤ 7 }
     ensures so_far { OnOk result (IsSoFar nodes run.new.line run.new.cluster run.new.schedule.items run.new.report.items) }
     ensures line { OnOk result (run.new.line ≤ 2 + 10 * nodes) }
-    ensures err { IfErr result (λ e. e ≡ Refusal.OutOfMemory) }
 {
     for index in 0..nodes.count() {
         open(alloc, nodes, node_at(nodes, u32::from(index)), run)?;
@@ -49,12 +48,11 @@ fn open_all(alloc: Global, nodes: Nodes, run: &mut Run) -> Result<(), Refusal>
 }
 
 /// A node opens its disk.
-fn open(alloc: Global, nodes: Nodes, node: NodeId, run: &mut Run) -> Result<(), Refusal>
+fn open(alloc: Global, nodes: Nodes, node: NodeId, run: &mut Run) -> Result<(), AllocError>
     requires so_far { IsSoFar nodes run.old.line run.old.cluster run.old.schedule.items run.old.report.items }
     requires line { run.old.line ≤ 100 }
     ensures so_far { OnOk result (IsSoFar nodes run.new.line run.new.cluster run.new.schedule.items run.new.report.items) }
     ensures line { OnOk result (run.new.line ≤ run.old.line + 10) }
-    ensures err { IfErr result (λ e. e ≡ Refusal.OutOfMemory) }
 {
     run.happen(alloc, nodes, &Event::Restart { node })?;
     for _call in 0..CALLS_OF_AN_OPENING {
@@ -70,13 +68,12 @@ fn make(
     event: &Event,
     drawing: &mut RandomRun,
     run: &mut Run,
-) -> Result<bool, Refusal>
+) -> Result<bool, AllocError>
     requires so_far { IsSoFar nodes run.old.line run.old.cluster run.old.schedule.items run.old.report.items }
     requires line { run.old.line ≤ 1000001 }
     ensures so_far { OnOk result (IsSoFar nodes run.new.line run.new.cluster run.new.schedule.items run.new.report.items) }
     ensures line { OnOk result (run.new.line ≤ run.old.line + 1) }
     ensures none { result ≡ Ok false → run.new.line ≡ run.old.line }
-    ensures err { IfErr result (λ e. e ≡ Refusal.OutOfMemory) }
 {
     let is_kept = run.happen(alloc, nodes, event)?;
     drawing.learn(run.cluster(), event, is_kept)?;
@@ -91,12 +88,11 @@ fn go_on(
     words: (u32, u32),
     drawing: &mut RandomRun,
     run: &mut Run,
-) -> Result<(), Refusal>
+) -> Result<(), AllocError>
     requires so_far { IsSoFar nodes run.old.line run.old.cluster run.old.schedule.items run.old.report.items }
     requires line { run.old.line ≤ 1000001 }
     ensures so_far { OnOk result (IsSoFar nodes run.new.line run.new.cluster run.new.schedule.items run.new.report.items) }
     ensures line { OnOk result (run.new.line ≤ run.old.line + 1) }
-    ensures err { IfErr result (λ e. e ≡ Refusal.OutOfMemory) }
 {
     let (first, second) = words;
     let from = node_at(nodes, first / 1000);
@@ -116,11 +112,10 @@ fn go_on(
 }
 
 /// A lively schedule as it is drawn, with its run. The sink is told how far it is.
-fn drawn_run<O: Sink>(alloc: Global, recipe: Recipe, out: &mut O) -> Result<Run, Refusal>
+fn drawn_run<O: Sink>(alloc: Global, recipe: Recipe, out: &mut O) -> Result<Run, AllocError>
     requires { recipe.steps ≤ 999930 }
     ensures so_far { IfOk result (λ run. IsSoFar recipe.nodes run.line run.cluster run.schedule.items run.report.items) }
     ensures line { IfOk result (λ run. run.line ≤ 2 + 10 * recipe.nodes + recipe.steps) }
-    ensures err { IfErr result (λ e. e ≡ Refusal.OutOfMemory) }
     ensures unprinted { O.printing out.new ≡ O.printing out.old }
 {
     let Recipe {
@@ -148,10 +143,13 @@ fn drawn_run<O: Sink>(alloc: Global, recipe: Recipe, out: &mut O) -> Result<Run,
 ///
 /// # Errors
 /// `OutOfMemory`, also where memory runs out for an event of the run.
-pub fn lively_run<O: Sink>(alloc: Global, recipe: Recipe, out: &mut O) -> Result<Vec<u8>, Refusal>
+pub fn lively_run<O: Sink>(
+    alloc: Global,
+    recipe: Recipe,
+    out: &mut O,
+) -> Result<Vec<u8>, AllocError>
     requires { recipe.steps ≤ 999930 }
     ensures ok { IfOk result (λ text. IsLively recipe.nodes recipe.steps text.items) }
-    ensures err { IfErr result (λ e. e ≡ Refusal.OutOfMemory) }
     ensures unprinted { O.printing out.new ≡ O.printing out.old }
 {
     let run = drawn_run(alloc, recipe, out);
@@ -168,10 +166,9 @@ pub fn lively_schedule<O: Sink>(
     alloc: Global,
     recipe: Recipe,
     out: &mut O,
-) -> Result<Vec<u8>, Refusal>
+) -> Result<Vec<u8>, AllocError>
     requires { recipe.steps ≤ 999930 }
     ensures ok { IfOk result (λ text. IsLivelySchedule recipe.nodes recipe.steps text.items) }
-    ensures err { IfErr result (λ e. e ≡ Refusal.OutOfMemory) }
     ensures unprinted { O.printing out.new ≡ O.printing out.old }
 {
     let run = drawn_run(alloc, recipe, out);

@@ -1,11 +1,11 @@
 //! What the drawing remembers of a node.
 
-ghost use Rattle.std.specs.Prelude.{◌≡◌, IfErr};
+ghost use Rattle.std.specs.Prelude.{◌≡◌};
 
 use rr_types::{
     Body, Instance, Message, NodeId, NodeSet, Nodes, Refusal, RequestNo, Round, majority,
 };
-use std::alloc::Global;
+use std::alloc::{AllocError, Global};
 use std::collections::{BTreeMap, BTreeSet};
 
 /// What the drawing remembers of a node.
@@ -68,9 +68,7 @@ impl Memory {
     }
 
     /// It isn't up: what it had heard and not kept, it may hear again, and what it was asked for may be lost.
-    pub(crate) fn stop(&mut self) -> Result<(), Refusal>
-        ensures { IfErr result (λ e. e ≡ Refusal.OutOfMemory) }
-    {
+    pub(crate) fn stop(&mut self) -> Result<(), AllocError> {
         self.may_take = false;
         self.may_send = true;
         self.may_ack = false;
@@ -83,9 +81,7 @@ impl Memory {
     }
 
     /// A message for it was sent, with this number.
-    pub(crate) fn expect(&mut self, number: u32, body: &Body) -> Result<(), Refusal>
-        ensures { IfErr result (λ e. e ≡ Refusal.OutOfMemory) }
-    {
+    pub(crate) fn expect(&mut self, number: u32, body: &Body) -> Result<(), AllocError> {
         match body {
             Body::Decision(instance, _) => {
                 let instance = instance.number();
@@ -99,9 +95,7 @@ impl Memory {
     }
 
     /// It has sent a message, which may tell its round of an instance.
-    pub(crate) fn tell(&mut self, body: &Body) -> Result<(), Refusal>
-        ensures { IfErr result (λ e. e ≡ Refusal.OutOfMemory) }
-    {
+    pub(crate) fn tell(&mut self, body: &Body) -> Result<(), AllocError> {
         match body {
             Body::Estimate(instance, estimate) => {
                 self.rounds
@@ -154,9 +148,7 @@ impl Memory {
 
     /// The message that it hears next: the Decision of the lowest instance, or else one of the others, which is kept to
     /// be heard again where a sixteenth of the words says so.
-    pub(crate) fn next_heard(&mut self, detail: u32) -> Result<Option<u32>, Refusal>
-        ensures { IfErr result (λ e. e ≡ Refusal.OutOfMemory) }
-    {
+    pub(crate) fn next_heard(&mut self, detail: u32) -> Result<Option<u32>, AllocError> {
         if let Some((instance, number)) = self.decisions.pop_first() {
             self.heard.insert(instance, number)?;
             return Ok(Some(number));
@@ -173,9 +165,7 @@ impl Memory {
     }
 
     /// It hears a message.
-    pub(crate) fn hear(&mut self, message: &Message) -> Result<(), Refusal>
-        ensures { IfErr result (λ e. e ≡ Refusal.OutOfMemory) }
-    {
+    pub(crate) fn hear(&mut self, message: &Message) -> Result<(), AllocError> {
         match &message.body {
             Body::Estimate(instance, estimate) => {
                 self.may_send = true;
@@ -204,9 +194,7 @@ impl Memory {
     }
 
     /// Its marked facts decide an instance.
-    pub(crate) fn decide(&mut self, instance: u32) -> Result<(), Refusal>
-        ensures { IfErr result (λ e. e ≡ Refusal.OutOfMemory) }
-    {
+    pub(crate) fn decide(&mut self, instance: u32) -> Result<(), AllocError> {
         self.may_ack = true;
         let _ = self.decisions.remove(&instance);
         let _ = self.heard.remove(&instance);
@@ -235,18 +223,14 @@ impl Memory {
     }
 
     /// It enters the round behind this one of an instance.
-    pub(crate) fn advance(&mut self, instance: u32, round: u32) -> Result<(), Refusal>
-        ensures { IfErr result (λ e. e ≡ Refusal.OutOfMemory) }
-    {
+    pub(crate) fn advance(&mut self, instance: u32, round: u32) -> Result<(), AllocError> {
         self.rounds.insert(instance, round.saturating_add(1))?;
         self.stir();
         Ok(())
     }
 
     /// A client asks it for a new command.
-    pub(crate) fn ask(&mut self, request: RequestNo) -> Result<(), Refusal>
-        ensures { IfErr result (λ e. e ≡ Refusal.OutOfMemory) }
-    {
+    pub(crate) fn ask(&mut self, request: RequestNo) -> Result<(), AllocError> {
         self.asked.insert(request)?;
         Ok(())
     }
@@ -286,9 +270,7 @@ fn note(
     instance: Instance,
     round: Round,
     sender: NodeId,
-) -> Result<(), Refusal>
-    ensures { IfErr result (λ e. e ≡ Refusal.OutOfMemory) }
-{
+) -> Result<(), AllocError> {
     let place = (instance.number(), round.number());
     let senders = match said.get(&place) {
         Some(senders) => *senders,

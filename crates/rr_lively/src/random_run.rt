@@ -1,13 +1,13 @@
 //! The drawing of events: what is remembered of the run, and what the next event is.
 
-ghost use Rattle.std.specs.Prelude.{◌≡◌, IfErr};
+ghost use Rattle.std.specs.Prelude.{◌≡◌};
 
 use crate::memory::Memory;
 use crate::stances::{Kind, count_of, first_from, node_at, node_behind, stance_of};
 use rr_sim::{Cluster, Stance};
 use rr_text::Event;
-use rr_types::{Command, Fact, Name, NodeId, Nodes, Op, Refusal, RequestNo, Value};
-use std::alloc::Global;
+use rr_types::{Command, Fact, Name, NodeId, Nodes, Op, RequestNo, Value};
+use std::alloc::{AllocError, Global};
 use std::collections::BTreeSet;
 
 /// What is remembered of a random run: of each node, and of what clients asked.
@@ -26,9 +26,7 @@ pub(crate) struct RandomRun {
 
 impl RandomRun {
     /// Nothing was drawn yet.
-    pub(crate) fn new(alloc: Global, nodes: Nodes) -> Result<RandomRun, Refusal>
-        ensures { IfErr result (λ e. e ≡ Refusal.OutOfMemory) }
-    {
+    pub(crate) fn new(alloc: Global, nodes: Nodes) -> Result<RandomRun, AllocError> {
         let mut memories = Vec::new(alloc);
         for _node in 0..nodes.count() {
             memories.push(Memory::new(alloc))?;
@@ -49,9 +47,7 @@ impl RandomRun {
         cluster: &Cluster,
         event: &Event,
         is_kept: bool,
-    ) -> Result<(), Refusal>
-        ensures { IfErr result (λ e. e ≡ Refusal.OutOfMemory) }
-    {
+    ) -> Result<(), AllocError> {
         let node = rr_sim::node_of(event);
         if let Some(memory) = self.memories.get_mut(usize::from(node.index())) {
             match event {
@@ -71,9 +67,7 @@ impl RandomRun {
     }
 
     /// The last message on the wire was sent, and may be heard from now on.
-    fn carry_last(&mut self, cluster: &Cluster) -> Result<(), Refusal>
-        ensures { IfErr result (λ e. e ≡ Refusal.OutOfMemory) }
-    {
+    fn carry_last(&mut self, cluster: &Cluster) -> Result<(), AllocError> {
         let Some(message) = cluster.wire().last() else {
             return Ok(());
         };
@@ -94,9 +88,7 @@ impl RandomRun {
         cluster: &Cluster,
         from: NodeId,
         word: u32,
-    ) -> Result<Event, Refusal>
-        ensures { IfErr result (λ e. e ≡ Refusal.OutOfMemory) }
-    {
+    ) -> Result<Event, AllocError> {
         for count in 0..self.nodes.count() {
             let node = node_behind(self.nodes, from, count);
             if let Some(event) = self.act(cluster, node, word)? {
@@ -107,9 +99,12 @@ impl RandomRun {
     }
 
     /// What a node does next, if there is something.
-    fn act(&mut self, cluster: &Cluster, node: NodeId, word: u32) -> Result<Option<Event>, Refusal>
-        ensures { IfErr result (λ e. e ≡ Refusal.OutOfMemory) }
-    {
+    fn act(
+        &mut self,
+        cluster: &Cluster,
+        node: NodeId,
+        word: u32,
+    ) -> Result<Option<Event>, AllocError> {
         let stance = stance_of(cluster, node);
         match stance {
             Stance::Down | Stance::Failed => Ok(self.restart(cluster, node, word)),
@@ -136,9 +131,7 @@ impl RandomRun {
     }
 
     /// The synced group of a node is marked.
-    pub(crate) fn mark(&mut self, cluster: &Cluster, node: NodeId) -> Result<(), Refusal>
-        ensures { IfErr result (λ e. e ≡ Refusal.OutOfMemory) }
-    {
+    pub(crate) fn mark(&mut self, cluster: &Cluster, node: NodeId) -> Result<(), AllocError> {
         let (Some(seat), Some(memory)) = (
             cluster.node(node),
             self.memories.get_mut(usize::from(node.index())),
@@ -184,9 +177,7 @@ impl RandomRun {
     }
 
     /// A client asks a node for a new command, or again for one of the last eight.
-    pub(crate) fn submit(&mut self, node: NodeId, detail: u32) -> Result<Event, Refusal>
-        ensures { IfErr result (λ e. e ≡ Refusal.OutOfMemory) }
-    {
+    pub(crate) fn submit(&mut self, node: NodeId, detail: u32) -> Result<Event, AllocError> {
         let is_again = detail % 8 == 0 && self.requests > 0;
         let number = if is_again {
             let back = u64::from(detail / 8) % self.requests.min(8);
@@ -210,9 +201,7 @@ impl RandomRun {
 
     /// Nobody has anything to do: a node is restarted, or a client asks for a new command, or a node whose round is
     /// behind another's enters the next round, or all nodes tick in turn.
-    fn stir(&mut self, cluster: &Cluster, from: NodeId, word: u32) -> Result<Event, Refusal>
-        ensures { IfErr result (λ e. e ≡ Refusal.OutOfMemory) }
-    {
+    fn stir(&mut self, cluster: &Cluster, from: NodeId, word: u32) -> Result<Event, AllocError> {
         if let Some(node) = first_from(self.nodes, cluster, from, Kind::Down) {
             return Ok(Event::Restart { node });
         }
@@ -232,9 +221,7 @@ impl RandomRun {
 
     /// The first node, counted from this one on, whose round of the first undecided instance is behind another's enters
     /// the next one.
-    fn advance_behind(&mut self, from: NodeId) -> Result<Option<NodeId>, Refusal>
-        ensures { IfErr result (λ e. e ≡ Refusal.OutOfMemory) }
-    {
+    fn advance_behind(&mut self, from: NodeId) -> Result<Option<NodeId>, AllocError> {
         let instance = self.prefix.min(4_294_967_295) as u32;
         let last = self.last_round(instance);
         for count in 0..self.nodes.count() {

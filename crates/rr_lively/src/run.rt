@@ -1,6 +1,6 @@
 //! A schedule as it is drawn, with its run: each event is made and told before the next is drawn.
 
-ghost use Rattle.std.specs.Prelude.{◌≡◌, ◌≤◌, ◌+◌, ◌^◌, ◌<◌, false, IsTrue, Ok, OnOk, IfOk, IfErr};
+ghost use Rattle.std.specs.Prelude.{◌≡◌, ◌≤◌, ◌+◌, ◌^◌, ◌<◌, false, IsTrue, Ok, OnOk, IfOk};
 ghost use Rattle.rr_text.specs.Scheduled.{IsEvent};
 ghost use Rattle.rr_text.specs.Words.{IsFill};
 ghost use Rattle.rr_lively.specs.Lively.{IsSoFar, MayStay, IsLivelyRun, IsScheduleTo};
@@ -9,8 +9,8 @@ use rr_sim::{Cluster, Stance, decided_list, node_of};
 use rr_text::text_report::push_decided_list;
 use rr_text::text_schedule::{push_event_line, push_nodes_line};
 use rr_text::{Event, Fill, command_law};
-use rr_types::{Nodes, Refusal};
-use std::alloc::Global;
+use rr_types::Nodes;
+use std::alloc::{AllocError, Global};
 
 /// The nodes behind the events so far, the line of the next event, and the texts of the schedule and of its report.
 #[derive(Drop)]
@@ -89,10 +89,9 @@ fn may_stay(cluster: &Cluster, event: &Event) -> bool
 
 impl Run {
     /// A run of `nodes` nodes, all down, over empty disks.
-    pub(crate) fn new(alloc: Global, nodes: Nodes) -> Result<Run, Refusal>
+    pub(crate) fn new(alloc: Global, nodes: Nodes) -> Result<Run, AllocError>
         ensures so_far { IfOk result (λ run. IsSoFar nodes run.line run.cluster run.schedule.items run.report.items) }
         ensures line { IfOk result (λ run. run.line ≡ 2) }
-        ensures err { IfErr result (λ e. e ≡ Refusal.OutOfMemory) }
     {
         let mut schedule = Vec::new(alloc);
         push_nodes_line(&mut schedule, nodes)?;
@@ -111,21 +110,17 @@ impl Run {
 
     /// Makes an event happen, and adds it to the schedule unless it is no event of these nodes, or changes nothing.
     /// Answers whether it was added.
-    ///
-    /// # Errors
-    /// `OutOfMemory`.
     pub(crate) fn happen(
         &mut self,
         alloc: Global,
         nodes: Nodes,
         event: &Event,
-    ) -> Result<bool, Refusal>
+    ) -> Result<bool, AllocError>
         requires so_far { IsSoFar nodes self.old.line self.old.cluster self.old.schedule.items self.old.report.items }
         requires line { self.old.line < 1000002 }
         ensures so_far { OnOk result (IsSoFar nodes self.new.line self.new.cluster self.new.schedule.items self.new.report.items) }
         ensures line { OnOk result (self.new.line ≤ self.old.line + 1) }
         ensures none { result ≡ Ok false → self.new.line ≡ self.old.line }
-        ensures err { IfErr result (λ e. e ≡ Refusal.OutOfMemory) }
     {
         if !is_event(nodes, event) {
             return Ok(false);
@@ -142,16 +137,12 @@ impl Run {
     }
 
     /// The text of the schedule, a line `report`, and the text of the report of its run.
-    ///
-    /// # Errors
-    /// `OutOfMemory`.
-    pub(crate) fn into_text(self, alloc: Global, nodes: Nodes) -> Result<Vec<u8>, Refusal>
+    pub(crate) fn into_text(self, alloc: Global, nodes: Nodes) -> Result<Vec<u8>, AllocError>
         requires so_far { IsSoFar nodes self.line self.cluster self.schedule.items self.report.items }
         requires line { self.line ≤ 1000002 }
         requires some { 1 ≤ nodes }
         requires few { nodes ≤ 7 }
         ensures ok { IfOk result (λ text. IsLivelyRun nodes self.line text.items) }
-        ensures err { IfErr result (λ e. e ≡ Refusal.OutOfMemory) }
     {
         let Run {
             cluster,

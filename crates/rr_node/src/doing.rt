@@ -1,9 +1,9 @@
 //! What a node does: nothing, an opening, or its service.
 
-ghost use Rattle.std.specs.Prelude.{◌≡◌, ◌≢◌, ◌<◌, ◌↔◌, ℕ, None, Err, is_some, IsTrue, IfSome, IfOk, IfErr};
+ghost use Rattle.std.specs.Prelude.{◌≡◌, ◌≢◌, ◌<◌, ◌↔◌, ℕ, None, Err, is_some, IsTrue, IfSome, IfOk};
 ghost use Rattle.rr_types.specs.Registry.{registry_of};
 ghost use Rattle.rr_model.specs.NodeState.{decided_prefix};
-ghost use Rattle.rr_types.specs.declared.refusal.Refusal.TheVariants.{OutOfMemory, Device};
+ghost use Rattle.rr_types.specs.declared.refusal.Refusal.TheVariants.{Device};
 ghost use Rattle.rr_journal.specs.Openings.{Settling};
 ghost use Rattle.rr_node.specs.Seats as seats;
 ghost use Rattle.rr_node.specs.Seats.{crashed, seat_step};
@@ -18,7 +18,7 @@ use rr_core::{Core, Opening, Progress};
 use rr_disk::{FailingDisk, MemDisk};
 use rr_journal::Journal;
 use rr_types::{NodeId, Nodes, Refusal};
-use std::alloc::Global;
+use std::alloc::{AllocError, Global};
 use std::mem;
 
 /// A node's disk: in memory, with calls that fail on demand.
@@ -302,14 +302,13 @@ fn serve(alloc: Global, core: Core, slots: Journal<NodeDisk>) -> (Doing, Result<
                 Ok(Outcome::Opened(number, decided, names)),
             )
         }
-        Err(refusal) => (Doing::Stopped(slots.into_disk()), Err(refusal)),
+        Err(_) => { (Doing::Stopped(slots.into_disk()), Err(Refusal::OutOfMemory)) }
     }
 }
 
 /// The registry of the node's decided prefix.
-fn bound_names(alloc: Global, core: &Core) -> Result<BoundNames, Refusal>
+fn bound_names(alloc: Global, core: &Core) -> Result<BoundNames, AllocError>
     ensures ok { IfOk result (λ names. names ≡ registry_of (decided_prefix core.now)) }
-    ensures err { IfErr result (λ e. e ≡ OutOfMemory) }
 {
     let mut entries = Vec::new(alloc);
     for entry in core.bindings() {

@@ -1,6 +1,6 @@
 //! A node over its disk.
 
-ghost use Rattle.std.specs.Prelude.{◌≡◌, ◌≢◌, ◌<◌, None, Err, is_some, IfSome, IfOk, IfErr};
+ghost use Rattle.std.specs.Prelude.{◌≡◌, ◌≢◌, ◌<◌, None, Err, is_some, IfSome, IfOk};
 ghost use Rattle.rr_node.specs.declared.event.NodeEvent.{NodeEvent};
 ghost use Rattle.rr_node.specs.Runs.{IsSpelt};
 ghost use Rattle.rr_node.specs.Seats.{Stopped, Gives, Fails, AtMostOneCall, crashed, seat_step};
@@ -11,7 +11,7 @@ use crate::doing::{Doing, crash, fail, go_on, go_on_quietly};
 use crate::event::{NodeEvent, Outcome, Stance};
 use rr_disk::{FailingDisk, MemDisk};
 use rr_types::{Fact, NodeId, Nodes, Refusal};
-use std::alloc::Global;
+use std::alloc::{AllocError, Global};
 use std::marker::Model;
 use std::mem;
 
@@ -154,18 +154,14 @@ impl Node {
     }
 
     /// The node as this crash would leave it, over a copy of its disk. The node itself goes on.
-    ///
-    /// # Errors
-    /// `OutOfMemory`.
     pub fn after_crash(
         &self,
         alloc: Global,
         cut_first: u32,
         cut_second: u32,
         fill: &[u8],
-    ) -> Result<Node, Refusal>
+    ) -> Result<Node, AllocError>
         ensures left { IfOk result (λ node. node ≡ crashed cut_first cut_second fill.now self.now) }
-        ensures err { IfErr result (λ e. e ≡ Refusal.OutOfMemory) }
     {
         let mut disk = self.doing.disk().copied(alloc)?;
         disk.crash(u64::from(cut_first), u64::from(cut_second), fill);

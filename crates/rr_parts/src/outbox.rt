@@ -1,12 +1,12 @@
 //! What a node owes, in order.
 
-ghost use Rattle.std.specs.Prelude.{◌≡◌, ◌≤◌, ◌-◌, ◌++◌, ℕ, take, [], None, Some, All, length, find, MatchOption, IfSome, IfErr, OnOk, OnErr};
+ghost use Rattle.std.specs.Prelude.{◌≡◌, ◌≤◌, ◌-◌, ◌++◌, ℕ, take, [], None, Some, All, length, find, MatchOption, IfSome, OnOk, OnErr};
 ghost use Rattle.rr_model.specs.NodeStep.{may_leave};
 ghost use Rattle.rr_parts.specs.Owing.{without_first, IsOwn};
 
 use crate::owed::Owed;
 use rr_types::{Body, Command, Message, NodeId, Op, Refusal, made_of};
-use std::alloc::Global;
+use std::alloc::{AllocError, Global};
 use std::collections::VecDeque;
 use std::marker::Model;
 
@@ -60,10 +60,9 @@ fn is_leaving(owed: &Owed, end: u64) -> bool
 
 /// Messages come last, all of them or, after an error, none.
 #[tactic(auto, using(crate::proofs::OutboxLemmas::more_owed))]
-fn extend(owed: &mut VecDeque<Owed>, more: &[Owed]) -> Result<(), Refusal>
+fn extend(owed: &mut VecDeque<Owed>, more: &[Owed]) -> Result<(), AllocError>
     ensures ok { OnOk result (owed.new.items ≡ owed.old.items ++ more.now) }
     ensures kept { OnErr result (owed.new.items ≡ owed.old.items) }
-    ensures err { IfErr result (λ e. e ≡ Refusal.OutOfMemory) }
 {
     made_of!(Body, Command, Message, Op);
     let before = owed.len();
@@ -72,7 +71,7 @@ fn extend(owed: &mut VecDeque<Owed>, more: &[Owed]) -> Result<(), Refusal>
             Ok(()) => (),
             Err(_) => {
                 owed.truncate(before);
-                return Err(Refusal::OutOfMemory);
+                return Err(AllocError);
             }
         }
     }
@@ -92,11 +91,10 @@ impl Outbox {
 
     /// The node owes these messages, all of them or, after an error, none.
     #[tactic(auto, using(crate::proofs::OutboxLemmas::own_both))]
-    pub fn owe_all(&mut self, more: &[Owed]) -> Result<(), Refusal>
+    pub fn owe_all(&mut self, more: &[Owed]) -> Result<(), AllocError>
         requires { All (IsOwn self.old.node) more.now }
         ensures ok { OnOk result (self.new ≡ record self.old { owed = self.old.owed ++ more.now }) }
         ensures kept { OnErr result (self.new ≡ self.old) }
-        ensures err { IfErr result (λ e. e ≡ Refusal.OutOfMemory) }
     {
         extend(&mut self.owed, more)
     }

@@ -1,6 +1,6 @@
 //! The row of an instance.
 
-ghost use Rattle.std.specs.Prelude.{◌≡◌, None, Some, MatchOption, IfOk, IfErr};
+ghost use Rattle.std.specs.Prelude.{◌≡◌, None, Some, MatchOption, IfOk};
 ghost use Rattle.rr_types.specs.Facts.{instance_of, after_fact};
 ghost use Rattle.rr_types.specs.Standings.{IsInRound};
 ghost use Rattle.rr_model.specs.NodeState.{is_decided};
@@ -8,8 +8,8 @@ ghost use Rattle.rr_model.specs.NodeParts.{backing_after, row_after, fresh_row};
 ghost use Rattle.rr_model.specs.NodeStep.{promised_row};
 
 use crate::tally::Tally;
-use rr_types::{Entry, Fact, Instance, Refusal, Standing};
-use std::alloc::Global;
+use rr_types::{Entry, Fact, Instance, Standing};
+use std::alloc::{AllocError, Global};
 use std::marker::Model;
 
 /// The numbers of the facts that back an instance's messages.
@@ -123,9 +123,8 @@ impl Row {
     }
 
     /// A copy.
-    pub fn try_clone(&self, alloc: Global) -> Result<Row, Refusal>
+    pub fn try_clone(&self, alloc: Global) -> Result<Row, AllocError>
         ensures ok { IfOk result (λ r. r ≡ self.now) }
-        ensures err { IfErr result (λ e. e ≡ Refusal.OutOfMemory) }
     {
         let tally = self.tally.try_clone(alloc)?;
         Ok(Row {
@@ -144,13 +143,9 @@ impl Row {
     }
 
     /// The row after a fact about its instance, which has this number. A tally that the fact drops isn't copied.
-    ///
-    /// # Errors
-    /// `OutOfMemory`.
-    pub fn after(&self, alloc: Global, number: u128, fact: &Fact) -> Result<Row, Refusal>
+    pub fn after(&self, alloc: Global, number: u128, fact: &Fact) -> Result<Row, AllocError>
         requires { IsInRound (Some self.now.standing) fact.now }
         ensures ok { IfOk result (λ r. (after_fact (Some self.now.standing) fact.now ≡ Some r.standing) × (r ≡ row_after number fact.now r.standing self.now)) }
-        ensures err { IfErr result (λ e. e ≡ Refusal.OutOfMemory) }
     {
         let tally = match fact {
             // The answers to a round don't count in the next one, and a decided instance needs none.

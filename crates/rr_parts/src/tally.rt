@@ -1,6 +1,6 @@
 //! What a coordinator keeps of the answers to its round.
 
-ghost use Rattle.std.specs.Prelude.{◌≡◌, ◌<◌, ◌≤◌, length, filter, MatchOption, IfOk, IfErr, OnOk, OnErr};
+ghost use Rattle.std.specs.Prelude.{◌≡◌, ◌<◌, ◌≤◌, length, filter, MatchOption, IfOk, OnOk, OnErr};
 ghost use Rattle.std.specs.List.{insert, range_with_len};
 ghost use Rattle.rr_types.specs.Nodes.{has_member, with_member, joined};
 ghost use Rattle.rr_model.specs.NodeState.{no_votes};
@@ -8,8 +8,8 @@ ghost use Rattle.rr_model.specs.NodeStep.{with_vote};
 ghost use Rattle.rr_model.specs.NodeDue.{better, best_vote, pick};
 ghost use Rattle.rr_parts.specs.Majorities.{has_majority};
 
-use rr_types::{Command, Estimate, NodeId, NodeSet, Nodes, Op, Refusal, made_of, majority};
-use std::alloc::Global;
+use rr_types::{Command, Estimate, NodeId, NodeSet, Nodes, Op, made_of, majority};
+use std::alloc::{AllocError, Global};
 use std::marker::Model;
 
 /// An estimate that the coordinator of a round has heard.
@@ -65,10 +65,9 @@ fn vote_place(votes: &[Vote], vote: Vote) -> Option<usize>
 }
 
 /// Keeps a vote, in the order of senders; of each sender the first is kept.
-fn put_vote(votes: &mut Vec<Vote>, vote: Vote) -> Result<(), Refusal>
+fn put_vote(votes: &mut Vec<Vote>, vote: Vote) -> Result<(), AllocError>
     ensures ok { OnOk result (votes.new.items ≡ with_vote vote votes.old.items) }
     ensures kept { OnErr result (votes.new.items ≡ votes.old.items) }
-    ensures err { IfErr result (λ e. e ≡ Refusal.OutOfMemory) }
 {
     if let Some(at) = vote_place(votes, vote) {
         votes.insert(at, vote)?;
@@ -113,9 +112,8 @@ impl Tally {
     }
 
     /// A copy. One that has estimates has room for one more: it is made to keep what was heard.
-    pub fn try_clone(&self, alloc: Global) -> Result<Tally, Refusal>
+    pub fn try_clone(&self, alloc: Global) -> Result<Tally, AllocError>
         ensures ok { IfOk result (λ t. t ≡ self.now) }
-        ensures err { IfErr result (λ e. e ≡ Refusal.OutOfMemory) }
     {
         made_of!(Command, Op);
         let mut estimates = Vec::new(alloc);
@@ -131,10 +129,9 @@ impl Tally {
     }
 
     /// Keeps an estimate; the first of a sender is kept.
-    pub fn keep_estimate(&mut self, sender: NodeId, estimate: &Estimate) -> Result<(), Refusal>
+    pub fn keep_estimate(&mut self, sender: NodeId, estimate: &Estimate) -> Result<(), AllocError>
         ensures ok { OnOk result (self.new ≡ record self.old { estimates = with_vote (record { sender = sender; stamp = estimate.now.stamp; command = estimate.now.command }) self.old.estimates }) }
         ensures kept { OnErr result (self.new ≡ self.old) }
-        ensures err { IfErr result (λ e. e ≡ Refusal.OutOfMemory) }
     {
         let vote = Vote {
             sender,

@@ -1,11 +1,11 @@
 //! The facts that aren't marked yet. Those of the running group keep their places, so that it can be put back
 //! without memory.
 
-ghost use Rattle.std.specs.Prelude.{◌≡◌, ◌+◌, ◌-◌, ◌≤◌, ◌++◌, [], ◌∷◌, None, Some, length, take, drop, is_some, IfOk, IfErr, OnOk, OnErr};
+ghost use Rattle.std.specs.Prelude.{◌≡◌, ◌+◌, ◌-◌, ◌≤◌, ◌++◌, [], ◌∷◌, None, Some, length, take, drop, is_some, IfOk, OnOk, OnErr};
 ghost use Rattle.std.specs.Option.{option_map_or};
 
-use rr_types::{Command, Fact, Op, Refusal, made_of};
-use std::alloc::Global;
+use rr_types::{Command, Fact, Op, made_of};
+use std::alloc::{AllocError, Global};
 use std::marker::Model;
 
 /// The facts that aren't marked yet, oldest first, and how many of them the running group has.
@@ -57,10 +57,9 @@ impl Unmarked {
     }
 
     /// Stages facts last, all of them or, after an error, none.
-    pub fn push_all(&mut self, facts: &[Fact]) -> Result<(), Refusal>
+    pub fn push_all(&mut self, facts: &[Fact]) -> Result<(), AllocError>
         ensures ok { OnOk result (self.new ≡ record self.old { staged = self.old.staged ++ facts.now }) }
         ensures kept { OnErr result (self.new ≡ self.old) }
-        ensures err { IfErr result (λ e. e ≡ Refusal.OutOfMemory) }
     {
         made_of!(Command, Op);
         self.facts.extend_from_slice(facts)?;
@@ -97,10 +96,9 @@ impl Unmarked {
     }
 
     /// A copy of the oldest staged facts, at most `limit`, where no group runs.
-    pub fn front(&self, alloc: Global, limit: usize) -> Result<Vec<Fact>, Refusal>
+    pub fn front(&self, alloc: Global, limit: usize) -> Result<Vec<Fact>, AllocError>
         requires { self.now.running ≡ None }
         ensures ok { IfOk result (λ facts. facts.items ≡ take limit self.now.staged) }
-        ensures err { IfErr result (λ e. e ≡ Refusal.OutOfMemory) }
     {
         let front = front_of(&self.facts, limit);
         let front = Vec::from_slice(alloc, front)?;

@@ -1,6 +1,6 @@
 //! The registry.
 
-ghost use Rattle.std.specs.Prelude.{◌≡◌, List, [], ◌∷◌, ◌++◌, OnOk, OnErr, IfOk, IfErr};
+ghost use Rattle.std.specs.Prelude.{◌≡◌, List, [], ◌∷◌, ◌++◌, OnOk, OnErr, IfOk};
 ghost use Rattle.rr_types.specs.declared.command.Command.{Command};
 ghost use Rattle.rr_types.specs.Registry.{holding_of, registry_of, reply_of};
 ghost use Rattle.rr_registry.specs.Kept.{kept_reply, applied, applied_all, kept_of};
@@ -8,8 +8,8 @@ ghost use Rattle.rr_registry.specs.Kept.{kept_reply, applied, applied_all, kept_
 use crate::entries::Entries;
 use crate::holding::Holding;
 use crate::tables::Tables;
-use rr_types::{Command, Name, Refusal, Reply, RequestNo};
-use std::alloc::Global;
+use rr_types::{Command, Name, Reply, RequestNo};
+use std::alloc::{AllocError, Global};
 use std::marker::Model;
 
 /// The names that are bound, and the reply to each request. It is the registry of a list of commands, in
@@ -43,12 +43,11 @@ impl Registry {
     }
 
     /// Applies a command, and gives the reply to its request: the kept one if the request was applied before.
-    /// After an error, which is `OutOfMemory`, the registry is as it was.
-    pub fn apply(&mut self, command: &Command) -> Result<Reply, Refusal>
+    /// After an error the registry is as it was.
+    pub fn apply(&mut self, command: &Command) -> Result<Reply, AllocError>
         ensures ok { OnOk result (self.new ≡ applied self.old command.now) }
         ensures reply { IfOk result (λ reply. kept_reply self.new command.now.request ≡ Some reply) }
         ensures err { OnErr result (self.new ≡ self.old) }
-        ensures refused { IfErr result (λ e. e ≡ Refusal.OutOfMemory) }
         ensures of_list { (L : List Command) → self.old ≡ kept_of L →
             IfOk result (λ reply. (self.new ≡ kept_of (L ++ command.now ∷ [])) × (reply_of (L ++ command.now ∷ []) command.now.request ≡ Some reply)) }
     {
@@ -59,11 +58,10 @@ impl Registry {
         }
     }
 
-    /// Applies commands in their order, all of them or, after an error, which is `OutOfMemory`, none.
-    pub fn apply_all(&mut self, commands: &[Command]) -> Result<(), Refusal>
+    /// Applies commands in their order, all of them or, after an error, none.
+    pub fn apply_all(&mut self, commands: &[Command]) -> Result<(), AllocError>
         ensures ok { OnOk result (self.new ≡ applied_all self.old commands.now) }
         ensures err { OnErr result (self.new ≡ self.old) }
-        ensures refused { IfErr result (λ e. e ≡ Refusal.OutOfMemory) }
         ensures of_list { (L : List Command) → self.old ≡ kept_of L → OnOk result (self.new ≡ kept_of (L ++ commands.now)) }
     {
         self.tables.apply_all(commands)

@@ -1,7 +1,7 @@
 //! The two tables of a registry: the bound names, and the kept replies. A list of commands is first given its
 //! places, which may need memory, and then applied, which needs none.
 
-ghost use Rattle.std.specs.Prelude.{◌≡◌, List, [], ◌∷◌, IsTrue, OnOk, OnErr, IfErr};
+ghost use Rattle.std.specs.Prelude.{◌≡◌, List, [], ◌∷◌, IsTrue, OnOk, OnErr};
 ghost use Rattle.std.specs.List.{All};
 ghost use Rattle.rr_types.specs.declared.command.Command.{Command};
 ghost use Rattle.rr_types.specs.Registry.{holding_of};
@@ -12,8 +12,8 @@ use crate::entries::Entries;
 use crate::holding::Holding;
 use crate::names::Names;
 use rr_places::{drop_free_place, make_place, value_at};
-use rr_types::{Command, Name, Refusal, Reply, RequestNo};
-use std::alloc::Global;
+use rr_types::{Command, Name, Reply, RequestNo};
+use std::alloc::{AllocError, Global};
 use std::collections::BTreeMap;
 use std::collections::btree_map::Entry;
 
@@ -57,12 +57,11 @@ impl Tables {
 
     /// Applies commands in their order, or, where memory is refused, none of them. One alone needs no places made
     /// before.
-    pub(crate) fn apply_all(&mut self, commands: &[Command]) -> Result<(), Refusal>
+    pub(crate) fn apply_all(&mut self, commands: &[Command]) -> Result<(), AllocError>
         requires sound { IsSound self.old }
         ensures kept { OnOk result (kept_in self.new ≡ applied_all (kept_in self.old) commands.now) }
         ensures err { OnErr result (kept_in self.new ≡ kept_in self.old) }
         ensures sound { IsSound self.new }
-        ensures refused { IfErr result (λ e. e ≡ Refusal.OutOfMemory) }
     {
         match commands {
             [] => Ok(()),
@@ -72,12 +71,11 @@ impl Tables {
     }
 
     /// Applies one command. The request's place is found once, and filled only when the names are done.
-    fn apply_one(&mut self, command: &Command) -> Result<(), Refusal>
+    fn apply_one(&mut self, command: &Command) -> Result<(), AllocError>
         requires sound { IsSound self.old }
         ensures kept { OnOk result (kept_in self.new ≡ applied (kept_in self.old) command.now) }
         ensures err { OnErr result (kept_in self.new ≡ kept_in self.old) }
         ensures sound { IsSound self.new }
-        ensures refused { IfErr result (λ e. e ≡ Refusal.OutOfMemory) }
     {
         match self.replies.entry(command.request)? {
             // No place is free, so this one has the reply.
@@ -92,12 +90,11 @@ impl Tables {
     }
 
     /// Applies commands that first get their places, all of them. Whatever comes, no place is left free.
-    fn apply_several(&mut self, commands: &[Command]) -> Result<(), Refusal>
+    fn apply_several(&mut self, commands: &[Command]) -> Result<(), AllocError>
         requires sound { IsSound self.old }
         ensures kept { OnOk result (kept_in self.new ≡ applied_all (kept_in self.old) commands.now) }
         ensures err { OnErr result (kept_in self.new ≡ kept_in self.old) }
         ensures sound { IsSound self.new }
-        ensures refused { IfErr result (λ e. e ≡ Refusal.OutOfMemory) }
     {
         match self.make_all_places(commands) {
             Ok(()) => {
@@ -149,13 +146,12 @@ impl Tables {
     }
 
     /// Makes the places that a command needs. Where memory is refused, those that it made stay.
-    fn make_places(&mut self, command: &Command) -> Result<(), Refusal>
+    fn make_places(&mut self, command: &Command) -> Result<(), AllocError>
         ensures kept { kept_in self.new ≡ kept_in self.old }
         ensures count { self.new.names.bound ≡ self.old.names.bound }
         ensures made { OnOk result (IsTrue (has_places self.new command.now)) }
         ensures stay { (c : Command) → IsTrue (has_places self.old c) → IsTrue (has_places self.new c) }
         ensures free { (cs : List Command) → HasFreeOnlyFor self.old cs → HasFreeOnlyFor self.new (command.now ∷ cs) }
-        ensures refused { IfErr result (λ e. e ≡ Refusal.OutOfMemory) }
     {
         make_place(&mut self.replies, command.request)?;
         self.names.make_place(&command.op)?;
@@ -164,13 +160,12 @@ impl Tables {
 
     /// The same for each of the commands.
     #[tactic(auto, using(crate::proofs::FreeLemmas::free_all, crate::proofs::FreeLemmas::free_known))]
-    fn make_all_places(&mut self, commands: &[Command]) -> Result<(), Refusal>
+    fn make_all_places(&mut self, commands: &[Command]) -> Result<(), AllocError>
         requires free { HasNoFree self.old }
         ensures kept { kept_in self.new ≡ kept_in self.old }
         ensures count { self.new.names.bound ≡ self.old.names.bound }
         ensures made { OnOk result (All (λ c. IsTrue (has_places self.new c)) commands.now) }
         ensures free { HasFreeOnlyFor self.new commands.now }
-        ensures refused { IfErr result (λ e. e ≡ Refusal.OutOfMemory) }
     {
         for command in commands {
             self.make_places(command)?;

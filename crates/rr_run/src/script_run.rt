@@ -20,7 +20,7 @@ use rr_stream::{Counted, Sink, Source, read_all};
 use rr_tape::Tape;
 use rr_threads::{Recorder, run_script};
 use rr_types::{Nodes, Refusal};
-use std::alloc::Global;
+use std::alloc::{AllocError, Global};
 use std::fs::OpenFile;
 use std::io::{Read, Seek, Write};
 use std::os::unix::fs::FileExt;
@@ -116,7 +116,7 @@ fn end_by_answers<O: Sink, E: Write>(
 {
     match answers.text(alloc) {
         Ok(text) => end_by_text(out, err, text.as_slice()),
-        Err(refusal) => end_by_refusal(err, &refusal),
+        Err(_) => end_by_refusal(err, &Refusal::OutOfMemory),
     }
 }
 
@@ -148,7 +148,7 @@ fn end_by_tape<R: Files + AllocGlobal, O: Sink, E: Write>(
 {
     let text = match tape.text(rt.alloc()) {
         Ok(text) => text,
-        Err(refusal) => return end_by_refusal(err, &refusal),
+        Err(_) => return end_by_refusal(err, &Refusal::OutOfMemory),
     };
     match fs::write(rt, path, text.as_slice()) {
         Ok(()) => end_by_answers(rt.alloc(), answers, out, err),

@@ -1,6 +1,6 @@
 //! Printing answers.
 
-ghost use Rattle.std.specs.Prelude.{◌≡◌, ◌++◌, ◌∷◌, [], OnOk, IfOk, IfErr, codes, decimal};
+ghost use Rattle.std.specs.Prelude.{◌≡◌, ◌++◌, ◌∷◌, [], OnOk, IfOk, codes, decimal};
 ghost use Rattle.std.specs.List.{flat_map};
 ghost use Rattle.rr_text.specs.Words.{spaced};
 ghost use Rattle.rr_script.specs.AnswerTexts.{look_words, holding_text, answer_words, answer_line, answer_text};
@@ -9,17 +9,16 @@ use crate::answer::{Answer, Answers};
 use rr_text::ReportLine;
 use rr_text::text_report::{push_report_words, push_request};
 use rr_text::text_word::{push_byte, push_bytes, push_number, push_number_word, push_word};
-use rr_types::{Name, NodeId, Refusal, Reply, RequestNo, Value};
-use std::alloc::Global;
+use rr_types::{Name, NodeId, Reply, RequestNo, Value};
+use std::alloc::{AllocError, Global};
 
 fn push_acknowledged(
     out: &mut Vec<u8>,
     node: NodeId,
     request: RequestNo,
     reply: Reply,
-) -> Result<(), Refusal>
+) -> Result<(), AllocError>
     ensures ok { OnOk result (out.new.items ≡ out.old.items ++ spaced (answer_words (Answer.Acknowledged node request reply))) }
-    ensures err { IfErr result (λ e. e ≡ Refusal.OutOfMemory) }
 {
     push_report_words(
         out,
@@ -31,36 +30,36 @@ fn push_acknowledged(
     )
 }
 
-fn push_unacknowledged(out: &mut Vec<u8>, node: NodeId, request: RequestNo) -> Result<(), Refusal>
+fn push_unacknowledged(
+    out: &mut Vec<u8>,
+    node: NodeId,
+    request: RequestNo,
+) -> Result<(), AllocError>
     ensures ok { OnOk result (out.new.items ≡ out.old.items ++ spaced (answer_words (Answer.Unacknowledged node request))) }
-    ensures err { IfErr result (λ e. e ≡ Refusal.OutOfMemory) }
 {
     push_bytes(out, b"none")?;
     push_number_word(out, u64::from(node.index()))?;
     push_request(out, request)
 }
 
-fn push_look(out: &mut Vec<u8>, node: NodeId, name: &Name) -> Result<(), Refusal>
+fn push_look(out: &mut Vec<u8>, node: NodeId, name: &Name) -> Result<(), AllocError>
     ensures ok { OnOk result (out.new.items ≡ out.old.items ++ spaced (codes "look" ∷ decimal node ∷ name.now ∷ [])) }
-    ensures err { IfErr result (λ e. e ≡ Refusal.OutOfMemory) }
 {
     push_bytes(out, b"look")?;
     push_number_word(out, u64::from(node.index()))?;
     push_word(out, name.as_bytes())
 }
 
-fn push_holding(out: &mut Vec<u8>, owner: u32, value: &Value) -> Result<(), Refusal>
+fn push_holding(out: &mut Vec<u8>, owner: u32, value: &Value) -> Result<(), AllocError>
     ensures ok { OnOk result (out.new.items ≡ out.old.items ++ 32 ∷ holding_text owner value.now) }
-    ensures err { IfErr result (λ e. e ≡ Refusal.OutOfMemory) }
 {
     push_number_word(out, u64::from(owner))?;
     push_byte(out, b':')?;
     push_bytes(out, value.as_bytes())
 }
 
-fn push_answer_words(out: &mut Vec<u8>, answer: &Answer) -> Result<(), Refusal>
+fn push_answer_words(out: &mut Vec<u8>, answer: &Answer) -> Result<(), AllocError>
     ensures ok { OnOk result (out.new.items ≡ out.old.items ++ spaced (answer_words answer.now)) }
-    ensures err { IfErr result (λ e. e ≡ Refusal.OutOfMemory) }
 {
     match answer {
         Answer::Acknowledged {
@@ -89,17 +88,15 @@ fn push_answer_words(out: &mut Vec<u8>, answer: &Answer) -> Result<(), Refusal>
     }
 }
 
-fn push_answer_line(out: &mut Vec<u8>, answer: &Answer) -> Result<(), Refusal>
+fn push_answer_line(out: &mut Vec<u8>, answer: &Answer) -> Result<(), AllocError>
     ensures ok { OnOk result (out.new.items ≡ out.old.items ++ answer_line answer.now) }
-    ensures err { IfErr result (λ e. e ≡ Refusal.OutOfMemory) }
 {
     push_answer_words(out, answer)?;
     push_byte(out, b'\n')
 }
 
-fn push_answer_lines(out: &mut Vec<u8>, answers: &[Answer]) -> Result<(), Refusal>
+fn push_answer_lines(out: &mut Vec<u8>, answers: &[Answer]) -> Result<(), AllocError>
     ensures ok { OnOk result (out.new.items ≡ out.old.items ++ flat_map answer_line answers.now) }
-    ensures err { IfErr result (λ e. e ≡ Refusal.OutOfMemory) }
 {
     for answer in answers {
         push_answer_line(out, answer)?;
@@ -109,12 +106,8 @@ fn push_answer_lines(out: &mut Vec<u8>, answers: &[Answer]) -> Result<(), Refusa
 
 impl Answers {
     /// The text of the answers: a line each.
-    ///
-    /// # Errors
-    /// `OutOfMemory`.
-    pub fn text(&self, alloc: Global) -> Result<Vec<u8>, Refusal>
+    pub fn text(&self, alloc: Global) -> Result<Vec<u8>, AllocError>
         ensures ok { IfOk result (λ v. v.items ≡ answer_text self.now) }
-        ensures err { IfErr result (λ e. e ≡ Refusal.OutOfMemory) }
     {
         let mut out = Vec::new(alloc);
         push_answer_lines(&mut out, self.as_slice())?;

@@ -1,6 +1,6 @@
 //! Printing scripts.
 
-ghost use Rattle.std.specs.Prelude.{◌≡◌, ◌++◌, OnOk, IfOk, IfErr};
+ghost use Rattle.std.specs.Prelude.{◌≡◌, ◌++◌, OnOk, IfOk};
 ghost use Rattle.std.specs.List.{flat_map};
 ghost use Rattle.rr_text.specs.Words.{spaced};
 ghost use Rattle.rr_script.specs.ScriptTexts.{script_words, script_line, script_text};
@@ -10,12 +10,10 @@ use crate::script_line::ScriptLine;
 use rr_text::Event;
 use rr_text::text_schedule::push_event;
 use rr_text::text_word::{push_byte, push_bytes, push_number_word, push_word};
-use rr_types::Refusal;
-use std::alloc::Global;
+use std::alloc::{AllocError, Global};
 
-fn push_script_words(out: &mut Vec<u8>, line: &ScriptLine) -> Result<(), Refusal>
+fn push_script_words(out: &mut Vec<u8>, line: &ScriptLine) -> Result<(), AllocError>
     ensures ok { OnOk result (out.new.items ≡ out.old.items ++ spaced (script_words line.now)) }
-    ensures err { IfErr result (λ e. e ≡ Refusal.OutOfMemory) }
 {
     let line = *line;
     match line {
@@ -28,17 +26,15 @@ fn push_script_words(out: &mut Vec<u8>, line: &ScriptLine) -> Result<(), Refusal
     }
 }
 
-fn push_script_line(out: &mut Vec<u8>, line: &ScriptLine) -> Result<(), Refusal>
+fn push_script_line(out: &mut Vec<u8>, line: &ScriptLine) -> Result<(), AllocError>
     ensures ok { OnOk result (out.new.items ≡ out.old.items ++ script_line line.now) }
-    ensures err { IfErr result (λ e. e ≡ Refusal.OutOfMemory) }
 {
     push_script_words(out, line)?;
     push_byte(out, b'\n')
 }
 
-fn push_script_lines(out: &mut Vec<u8>, lines: &[ScriptLine]) -> Result<(), Refusal>
+fn push_script_lines(out: &mut Vec<u8>, lines: &[ScriptLine]) -> Result<(), AllocError>
     ensures ok { OnOk result (out.new.items ≡ out.old.items ++ flat_map script_line lines.now) }
-    ensures err { IfErr result (λ e. e ≡ Refusal.OutOfMemory) }
 {
     for line in lines {
         push_script_line(out, line)?;
@@ -48,12 +44,8 @@ fn push_script_lines(out: &mut Vec<u8>, lines: &[ScriptLine]) -> Result<(), Refu
 
 impl Script {
     /// The text of the script.
-    ///
-    /// # Errors
-    /// `OutOfMemory`.
-    pub fn text(&self, alloc: Global) -> Result<Vec<u8>, Refusal>
+    pub fn text(&self, alloc: Global) -> Result<Vec<u8>, AllocError>
         ensures ok { IfOk result (λ v. v.items ≡ script_text self.now.lines) }
-        ensures err { IfErr result (λ e. e ≡ Refusal.OutOfMemory) }
     {
         let mut out = Vec::new(alloc);
         push_script_lines(&mut out, self.lines())?;

@@ -23,17 +23,17 @@ fn push_reply(out: &mut Vec<u8>, reply: Reply) -> Result<(), Refusal>
     ensures err { IfErr result (λ e. e ≡ Refusal.OutOfMemory) }
 {
     match reply {
-        Reply::Claimed => push_bytes(out, b"claimed"),
-        Reply::Updated => push_bytes(out, b"updated"),
-        Reply::Released => push_bytes(out, b"released"),
-        Reply::Transferred => push_bytes(out, b"transferred"),
+        Reply::Claimed => Ok(push_bytes(out, b"claimed")?),
+        Reply::Updated => Ok(push_bytes(out, b"updated")?),
+        Reply::Released => Ok(push_bytes(out, b"released")?),
+        Reply::Transferred => Ok(push_bytes(out, b"transferred")?),
         Reply::Taken(owner) => {
             push_bytes(out, b"taken")?;
-            push_number_word(out, u64::from(owner))
+            Ok(push_number_word(out, u64::from(owner))?)
         }
-        Reply::Unknown => push_bytes(out, b"unknown"),
-        Reply::NotOwner => push_bytes(out, b"notowner"),
-        Reply::Full => push_bytes(out, b"full"),
+        Reply::Unknown => Ok(push_bytes(out, b"unknown")?),
+        Reply::NotOwner => Ok(push_bytes(out, b"notowner")?),
+        Reply::Full => Ok(push_bytes(out, b"full")?),
     }
 }
 
@@ -48,7 +48,7 @@ fn push_bound(out: &mut Vec<u8>, name: &Name, owner: u32, value: &Value) -> Resu
     let value = value.as_bytes();
     match value {
         [] => Ok(()),
-        [_, ..] => push_word(out, value),
+        [_, ..] => Ok(push_word(out, value)?),
     }
 }
 
@@ -58,10 +58,10 @@ fn push_answer_words(out: &mut Vec<u8>, answer: &Answer) -> Result<(), Refusal>
 {
     match answer {
         Answer::Acknowledged { reply, .. } => push_reply(out, *reply),
-        Answer::Unacknowledged { .. } => push_bytes(out, b"unacknowledged"),
+        Answer::Unacknowledged { .. } => Ok(push_bytes(out, b"unacknowledged")?),
         Answer::Free { name, .. } => {
             push_bytes(out, name.as_bytes())?;
-            push_word(out, b"free")
+            Ok(push_word(out, b"free")?)
         }
         Answer::Bound {
             name,
@@ -71,7 +71,7 @@ fn push_answer_words(out: &mut Vec<u8>, answer: &Answer) -> Result<(), Refusal>
         } => push_bound(out, name, *owner, value),
         Answer::Unseen { name, .. } => {
             push_bytes(out, name.as_bytes())?;
-            push_word(out, b"unseen")
+            Ok(push_word(out, b"unseen")?)
         }
     }
 }
@@ -85,7 +85,7 @@ pub fn push_answer(out: &mut Vec<u8>, answer: &Answer) -> Result<(), Refusal>
     ensures err { IfErr result (λ e. e ≡ Refusal.OutOfMemory) }
 {
     push_answer_words(out, answer)?;
-    push_byte(out, b'\n')
+    Ok(push_byte(out, b'\n')?)
 }
 
 fn push_bound_lines(out: &mut Vec<u8>, names: &[Binding]) -> Result<(), Refusal>
@@ -119,7 +119,7 @@ pub fn push_listing(out: &mut Vec<u8>, listing: &Listing) -> Result<(), Refusal>
     ensures err { IfErr result (λ e. e ≡ Refusal.OutOfMemory) }
 {
     match &listing.names {
-        None => push_bytes(out, b"list unseen\n"),
+        None => Ok(push_bytes(out, b"list unseen\n")?),
         Some(names) => push_bound_names(out, names.as_slice()),
     }
 }
@@ -134,7 +134,7 @@ pub fn push_move(out: &mut Vec<u8>, node: NodeId) -> Result<(), Refusal>
 {
     push_bytes(out, b"at")?;
     push_number_word(out, u64::from(node.index()))?;
-    push_byte(out, b'\n')
+    Ok(push_byte(out, b'\n')?)
 }
 
 /// Appends the line that this node is down from now on.
@@ -147,7 +147,7 @@ pub fn push_stop(out: &mut Vec<u8>, node: NodeId) -> Result<(), Refusal>
 {
     push_bytes(out, b"stopped")?;
     push_number_word(out, u64::from(node.index()))?;
-    push_byte(out, b'\n')
+    Ok(push_byte(out, b'\n')?)
 }
 
 /// Appends the line that this node is up from now on.
@@ -160,7 +160,7 @@ pub fn push_start(out: &mut Vec<u8>, node: NodeId) -> Result<(), Refusal>
 {
     push_bytes(out, b"started")?;
     push_number_word(out, u64::from(node.index()))?;
-    push_byte(out, b'\n')
+    Ok(push_byte(out, b'\n')?)
 }
 
 /// Appends the line that this node has written a snapshot.
@@ -173,7 +173,7 @@ pub fn push_snapshot(out: &mut Vec<u8>, node: NodeId) -> Result<(), Refusal>
 {
     push_bytes(out, b"snapshot")?;
     push_number_word(out, u64::from(node.index()))?;
-    push_byte(out, b'\n')
+    Ok(push_byte(out, b'\n')?)
 }
 
 #[tactic(auto, unfolding(crate::specs::Texts::node_text))]
@@ -182,7 +182,7 @@ fn push_node(out: &mut Vec<u8>, node: NodeId) -> Result<(), Refusal>
     ensures err { IfErr result (λ e. e ≡ Refusal.OutOfMemory) }
 {
     push_bytes(out, b"node")?;
-    push_number_word(out, u64::from(node.index()))
+    Ok(push_number_word(out, u64::from(node.index()))?)
 }
 
 /// Appends that this node has written no snapshot.
@@ -191,7 +191,7 @@ pub(crate) fn push_no_snapshot_text(out: &mut Vec<u8>, node: NodeId) -> Result<(
     ensures err { IfErr result (λ e. e ≡ Refusal.OutOfMemory) }
 {
     push_node(out, node)?;
-    push_bytes(out, b" wrote no snapshot: down or busy")
+    Ok(push_bytes(out, b" wrote no snapshot: down or busy")?)
 }
 
 /// Appends the line that this node has written no snapshot.
@@ -204,7 +204,7 @@ pub fn push_no_snapshot(out: &mut Vec<u8>, node: NodeId) -> Result<(), Refusal>
 {
     push_bytes(out, b"error: ")?;
     push_no_snapshot_text(out, node)?;
-    push_byte(out, b'\n')
+    Ok(push_byte(out, b'\n')?)
 }
 
 /// Appends that this node, which is asked, is down.
@@ -213,7 +213,7 @@ pub(crate) fn push_down_text(out: &mut Vec<u8>, node: NodeId) -> Result<(), Refu
     ensures err { IfErr result (λ e. e ≡ Refusal.OutOfMemory) }
 {
     push_node(out, node)?;
-    push_bytes(out, b" is down: start it, or ask another")
+    Ok(push_bytes(out, b" is down: start it, or ask another")?)
 }
 
 /// Appends the line that this node, which is asked, is down.
@@ -226,7 +226,7 @@ pub fn push_down(out: &mut Vec<u8>, node: NodeId) -> Result<(), Refusal>
 {
     push_bytes(out, b"error: ")?;
     push_down_text(out, node)?;
-    push_byte(out, b'\n')
+    Ok(push_byte(out, b'\n')?)
 }
 
 // A space, that a node is up, and what it knows.
@@ -240,7 +240,7 @@ fn push_summary(out: &mut Vec<u8>, summary: &NodeSummary) -> Result<(), Refusal>
     push_word(out, b"decided")?;
     push_number_word(out, summary.decided)?;
     push_word(out, b"suspects")?;
-    push_set(out, summary.suspects)
+    Ok(push_set(out, summary.suspects)?)
 }
 
 /// Appends the line of what a node tells of itself.
@@ -257,7 +257,7 @@ pub fn push_status(out: &mut Vec<u8>, status: &NodeStatus) -> Result<(), Refusal
         None => push_word(out, b"down")?,
         Some(summary) => push_summary(out, summary)?,
     }
-    push_byte(out, b'\n')
+    Ok(push_byte(out, b'\n')?)
 }
 
 /// Appends the commands.
@@ -265,10 +265,10 @@ pub(crate) fn push_help_text(out: &mut Vec<u8>) -> Result<(), Refusal>
     ensures ok { OnOk result (out.new.items ≡ out.old.items ++ help_text) }
     ensures err { IfErr result (λ e. e ≡ Refusal.OutOfMemory) }
 {
-    push_bytes(
+    Ok(push_bytes(
         out,
         b"claim NAME [VALUE], update NAME [VALUE], release NAME, transfer NAME OWNER, look NAME, list [PREFIX], at NODE, stop NODE, start NODE, snapshot NODE, status, help or quit",
-    )
+    )?)
 }
 
 /// Appends the line that names the commands.
@@ -280,7 +280,7 @@ pub fn push_help(out: &mut Vec<u8>) -> Result<(), Refusal>
     ensures err { IfErr result (λ e. e ≡ Refusal.OutOfMemory) }
 {
     push_help_text(out)?;
-    push_byte(out, b'\n')
+    Ok(push_byte(out, b'\n')?)
 }
 
 fn push_no_node(out: &mut Vec<u8>, nodes: Nodes) -> Result<(), Refusal>
@@ -288,7 +288,7 @@ fn push_no_node(out: &mut Vec<u8>, nodes: Nodes) -> Result<(), Refusal>
     ensures err { IfErr result (λ e. e ≡ Refusal.OutOfMemory) }
 {
     push_bytes(out, b"no such node: a number is expected that is below")?;
-    push_number_word(out, u64::from(nodes.count()))
+    Ok(push_number_word(out, u64::from(nodes.count()))?)
 }
 
 /// Appends what is wrong with a line, and what is expected.
@@ -301,22 +301,25 @@ pub(crate) fn push_fault_text(
     ensures err { IfErr result (λ e. e ≡ Refusal.OutOfMemory) }
 {
     match fault {
-        LineFault::NoCommand => push_bytes(
+        LineFault::NoCommand => Ok(push_bytes(
             out,
             b"no such command: claim, update, release, transfer, look, list, at, stop, start, snapshot, status, help or quit is expected",
-        ),
-        LineFault::BadName => push_bytes(
+        )?),
+        LineFault::BadName => Ok(push_bytes(
             out,
             b"no name: 1 to 64 bytes of a to z, 0 to 9 and - are expected",
-        ),
-        LineFault::BadValue => push_bytes(
+        )?),
+        LineFault::BadValue => Ok(push_bytes(
             out,
             b"no value: 1 to 64 bytes from ! to ~ are expected, and no space",
-        ),
-        LineFault::BadOwner => push_bytes(out, b"no owner: a number below 4294967296 is expected"),
+        )?),
+        LineFault::BadOwner => Ok(push_bytes(
+            out,
+            b"no owner: a number below 4294967296 is expected",
+        )?),
         LineFault::NoNode => push_no_node(out, nodes),
         LineFault::TooLong => {
-            push_bytes(out, b"too long a line: at most 4096 bytes are expected")
+            Ok(push_bytes(out, b"too long a line: at most 4096 bytes are expected")?)
         }
     }
 }
@@ -331,5 +334,5 @@ pub fn push_fault(out: &mut Vec<u8>, nodes: Nodes, fault: LineFault) -> Result<(
 {
     push_bytes(out, b"error: ")?;
     push_fault_text(out, nodes, fault)?;
-    push_byte(out, b'\n')
+    Ok(push_byte(out, b'\n')?)
 }

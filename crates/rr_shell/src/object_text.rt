@@ -21,7 +21,7 @@ fn push_quoted(out: &mut Vec<u8>, text: &[u8]) -> Result<(), Refusal>
 {
     push_byte(out, b'"')?;
     push_bytes(out, text)?;
-    push_byte(out, b'"')
+    Ok(push_byte(out, b'"')?)
 }
 
 fn push_escaped_byte(out: &mut Vec<u8>, byte: u8) -> Result<(), Refusal>
@@ -29,9 +29,9 @@ fn push_escaped_byte(out: &mut Vec<u8>, byte: u8) -> Result<(), Refusal>
     ensures err { IfErr result (λ e. e ≡ Refusal.OutOfMemory) }
 {
     if byte == b'"' || byte == b'\\' {
-        push_bytes(out, &[b'\\', byte])
+        Ok(push_bytes(out, &[b'\\', byte])?)
     } else {
-        push_byte(out, byte)
+        Ok(push_byte(out, byte)?)
     }
 }
 
@@ -53,7 +53,7 @@ fn push_label(out: &mut Vec<u8>, name: &[u8]) -> Result<(), Refusal>
 {
     push_byte(out, b',')?;
     push_quoted(out, name)?;
-    push_byte(out, b':')
+    Ok(push_byte(out, b':')?)
 }
 
 #[tactic(auto, unfolding(crate::specs::Objects::text_member))]
@@ -71,7 +71,7 @@ fn push_number_member(out: &mut Vec<u8>, name: &[u8], number: u64) -> Result<(),
     ensures err { IfErr result (λ e. e ≡ Refusal.OutOfMemory) }
 {
     push_label(out, name)?;
-    push_number(out, number)
+    Ok(push_number(out, number)?)
 }
 
 // The beginning of an object, with its kind.
@@ -91,7 +91,7 @@ fn push_end(out: &mut Vec<u8>) -> Result<(), Refusal>
     ensures ok { OnOk result (out.new.items ≡ out.old.items ++ 125 ∷ 10 ∷ []) }
     ensures err { IfErr result (λ e. e ≡ Refusal.OutOfMemory) }
 {
-    push_bytes(out, b"}\n")
+    Ok(push_bytes(out, b"}\n")?)
 }
 
 #[tactic(auto, unfolding(crate::specs::Objects::number_member))]
@@ -142,7 +142,7 @@ fn push_value(out: &mut Vec<u8>, value: &Value) -> Result<(), Refusal>
     push_label(out, b"value")?;
     push_byte(out, b'"')?;
     push_escaped(out, value.as_bytes())?;
-    push_byte(out, b'"')
+    Ok(push_byte(out, b'"')?)
 }
 
 fn push_bound_members(
@@ -253,7 +253,7 @@ fn push_up(out: &mut Vec<u8>) -> Result<(), Refusal>
     ensures err { IfErr result (λ e. e ≡ Refusal.OutOfMemory) }
 {
     push_label(out, b"up")?;
-    push_bytes(out, b"true")
+    Ok(push_bytes(out, b"true")?)
 }
 
 // That a node is up, and what it knows.
@@ -273,7 +273,7 @@ fn push_no_summary(out: &mut Vec<u8>) -> Result<(), Refusal>
     ensures err { IfErr result (λ e. e ≡ Refusal.OutOfMemory) }
 {
     push_label(out, b"up")?;
-    push_bytes(out, b"false")
+    Ok(push_bytes(out, b"false")?)
 }
 
 /// Appends what a node tells of itself as an object.
@@ -300,7 +300,7 @@ fn push_text_open(out: &mut Vec<u8>, kind: &[u8]) -> Result<(), Refusal>
 {
     push_open(out, kind)?;
     push_label(out, b"text")?;
-    push_byte(out, b'"')
+    Ok(push_byte(out, b'"')?)
 }
 
 // The end of an object that has a text, and of its line.
@@ -308,7 +308,7 @@ fn push_text_close(out: &mut Vec<u8>) -> Result<(), Refusal>
     ensures ok { OnOk result (out.new.items ≡ out.old.items ++ text_closed) }
     ensures err { IfErr result (λ e. e ≡ Refusal.OutOfMemory) }
 {
-    push_bytes(out, b"\"}\n")
+    Ok(push_bytes(out, b"\"}\n")?)
 }
 
 /// Appends that this node, which is asked, is down, as an object.

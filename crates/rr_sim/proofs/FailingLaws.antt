@@ -4,6 +4,7 @@ use Rattle.std.specs.Prelude.{OnOk, Option, slice_get, slice_set}
 use Rattle.std.specs.Option.{option_map_or}
 use Rattle.std.proofs.lemmas.List.{append-nil}
 use Rattle.std.proofs.lemmas.Option.{slice_get_read}
+use Rattle.std.specs.declared.alloc.AllocError.{AllocError}
 use Rattle.rr_types.specs.declared.refusal.Refusal.{Refusal}
 use Rattle.rr_node.specs.declared.event.NodeEvent.{NodeEvent}
 use Rattle.rr_node.specs.declared.event.Outcome.{Outcome}
@@ -14,7 +15,7 @@ use Rattle.rr_text.specs.declared.report.ReportLine.TheVariants as line
 use Rattle.rr_sim.specs.Clusters.{Cluster, note_of, with_answer, at_node, fail_at, IsEither, IsSpeltAt}
 use Rattle.rr_sim.proofs.ClusterLaws.{get_here}
 
-on_ok : (r : Result (Unit {0}) Refusal) (P Q : Type 0) → (P → Q) → OnOk r P → OnOk r Q
+on_ok : (r : Result (Unit {0}) AllocError) (P Q : Type 0) → (P → Q) → OnOk r P → OnOk r Q
 on_ok (Ok x) P Q f h = f h
 on_ok (Err e) P Q f h = tt
 
@@ -27,14 +28,14 @@ pub placed_quietly : (k p at : ℕ) (c : Cluster) (next : Seat) → record c { s
 placed_quietly k p at c next = λ i. record { seats = slice_set c.seats k next; wire = sym (append-nil c.wire) i; lines = sym (append-nil c.lines) i }
 
 -- a refusal sends nothing
-pub placed_refused : (r : Result (Unit {0}) Refusal) (k p at : ℕ) (c new : Cluster) (next : Seat) (e : Refusal) → OnOk r (new ≡ record c { seats = slice_set c.seats k next; lines = c.lines ++ line.Refuse at e ∷ [] }) → OnOk r (new ≡ placed k p at c (Err e) next)
+pub placed_refused : (r : Result (Unit {0}) AllocError) (k p at : ℕ) (c new : Cluster) (next : Seat) (e : Refusal) → OnOk r (new ≡ record c { seats = slice_set c.seats k next; lines = c.lines ++ line.Refuse at e ∷ [] }) → OnOk r (new ≡ placed k p at c (Err e) next)
 placed_refused r k p at c new next e left =
     on_ok r (new ≡ record c { seats = slice_set c.seats k next; lines = c.lines ++ line.Refuse at e ∷ [] }) (new ≡ placed k p at c (Err e) next) (λ h. h ∙ same) left
   where
     same : record c { seats = slice_set c.seats k next; lines = c.lines ++ line.Refuse at e ∷ [] } ≡ placed k p at c (Err e) next
     same = λ i. record { seats = slice_set c.seats k next; wire = sym (append-nil c.wire) i; lines = c.lines ++ line.Refuse at e ∷ [] }
 
-module _ (r : Result (Unit {0}) Refusal) (k p at : ℕ) (c new : Cluster) (seat next : Seat) (answer : Result Outcome Refusal) (is : k ≡ p) (there : k < length c.seats) (own : seat ≡ get_or c.seats k seat)
+module _ (r : Result (Unit {0}) AllocError) (k p at : ℕ) (c new : Cluster) (seat next : Seat) (answer : Result Outcome Refusal) (is : k ≡ p) (there : k < length c.seats) (own : seat ≡ get_or c.seats k seat)
     (left : OnOk r (new ≡ placed k p at c answer next)) where
   here : slice_get c.seats p ≡ Some seat
   here = subst (λ (i : ℕ). slice_get c.seats i ≡ Some seat) is (slice_get_read c.seats (length c.seats) k seat refl there own)

@@ -3,6 +3,7 @@ use Rattle.std.proofs.Common.{◌≡◌, ◌≢◌, inl, inr, ℕ, zero, suc, Li
 use Rattle.std.specs.Prelude.{Option, OnOk, IfSome, slice_get, slice_set, if◌then◌else◌, ◌==◌}
 use Rattle.std.specs.Option.{option_map_or}
 use Rattle.std.proofs.lemmas.List.{append-nil}
+use Rattle.std.specs.declared.alloc.AllocError.{AllocError}
 use Rattle.rr_types.specs.declared.message.Message.{Message}
 use Rattle.rr_types.specs.declared.refusal.Refusal.{Refusal}
 use Rattle.rr_node.specs.declared.event.NodeEvent.{NodeEvent}
@@ -67,18 +68,18 @@ events_where None p event c own r d same w = tt
 events_where (Some e) p event c own r d same w = event_waits event e c own r d (subst (λ (q : ℕ). Waits q e c) same w)
 
 -- a refused event steps, and its node is as it was
-pub steps_refused : (r : Result (Unit {0}) Refusal) (at : ℕ) (event : Event) (e : Refusal) (old new : Cluster) → event_step at false event old ≡ refused at e old
+pub steps_refused : (r : Result (Unit {0}) AllocError) (at : ℕ) (event : Event) (e : Refusal) (old new : Cluster) → event_step at false event old ≡ refused at e old
     → OnOk r (new ≡ refused at e old) → OnOk r (Steps at event old new)
 steps_refused (Err why) at event e old new same is = tt
 steps_refused (Ok x) at event e old new same is = inl (is ∙ sym same)
 
-pub spelt_refused : (r : Result (Unit {0}) Refusal) (at : ℕ) (event : Event) (e : Refusal) (old new : Cluster) → IsSpeltAt (node_of event) old
+pub spelt_refused : (r : Result (Unit {0}) AllocError) (at : ℕ) (event : Event) (e : Refusal) (old new : Cluster) → IsSpeltAt (node_of event) old
     → OnOk r (new ≡ refused at e old) → OnOk r (IsSpeltBehind event old new)
 spelt_refused (Err why) at event e old new spelt is = tt
 spelt_refused (Ok x) at event e old new spelt is = inr (subst (IsSpeltAt (node_of event)) (sym is) spelt)
 
 -- the same of a message that is for the node
-pub hear_refused : (r : Result (Unit {0}) Refusal) (p at k : ℕ) (m : Message) (e : Refusal) (old new : Cluster) → slice_get old.wire k ≡ Some m → (m.to == p) ≡ true → Waits p e old
+pub hear_refused : (r : Result (Unit {0}) AllocError) (p at k : ℕ) (m : Message) (e : Refusal) (old new : Cluster) → slice_get old.wire k ≡ Some m → (m.to == p) ≡ true → Waits p e old
     → OnOk r (new ≡ refused at e old) → OnOk r (IsEither (λ starved. new ≡ hear_at p at starved k old))
 hear_refused (Err why) p at k m e old new found own w is = tt
 hear_refused (Ok x) p at k m e old new found own w is =

@@ -3,21 +3,20 @@
 //! Two passes go over the wire, one for who acknowledged what and one for the proposals. A message costs a few look-ups
 //! in a tree, and an instance one more.
 
-ghost use Rattle.std.specs.Prelude.{◌≡◌, ℕ, IfSome, IsSome, IfOk, IfErr};
+ghost use Rattle.std.specs.Prelude.{◌≡◌, ℕ, IfSome, IsSome, IfOk};
 ghost use Rattle.std.specs.Ordering.{nat_cmp};
 ghost use Rattle.std.specs.BTreeMap.{get};
 ghost use Rattle.rr_model.specs.Sound.{IsChosen, IsDecidedList};
 ghost use Rattle.rr_types.specs.declared.command.Command.{Command};
 ghost use Rattle.rr_sim.specs.Chosen.{has_ack, has_acked, is_majority, chosen_by};
 
-use rr_types::{Body, Command, Message, Nodes, Refusal, majority};
-use std::alloc::Global;
+use rr_types::{Body, Command, Message, Nodes, majority};
+use std::alloc::{AllocError, Global};
 use std::collections::{BTreeMap, BTreeSet};
 
 /// Who acknowledged what: instance, round and node.
-fn acks_on(alloc: Global, wire: &[Message]) -> Result<BTreeSet<(u64, u32, u8)>, Refusal>
+fn acks_on(alloc: Global, wire: &[Message]) -> Result<BTreeSet<(u64, u32, u8)>, AllocError>
     ensures acks { IfOk result (λ acks. (i r q : ℕ) → has_ack acks i r q ≡ has_acked wire.now i r q) }
-    ensures err { IfErr result (λ e. e ≡ Refusal.OutOfMemory) }
 {
     let mut acks = BTreeSet::new(alloc);
     for message in wire {
@@ -64,10 +63,9 @@ fn chosen_on(
     alloc: Global,
     nodes: Nodes,
     wire: &[Message],
-) -> Result<BTreeMap<u64, Command>, Refusal>
+) -> Result<BTreeMap<u64, Command>, AllocError>
     ensures chosen { IfOk result (λ found. (i : ℕ) → IfSome (get nat_cmp found i) (λ v. IsChosen nodes wire.now i v)) }
     ensures all { IfOk result (λ found. (i : ℕ) (v : Command) → IsChosen nodes wire.now i v → IsSome (get nat_cmp found i)) }
-    ensures err { IfErr result (λ e. e ≡ Refusal.OutOfMemory) }
 {
     let acks = acks_on(alloc, wire)?;
     let mut found = BTreeMap::new(alloc);
@@ -80,9 +78,12 @@ fn chosen_on(
 }
 
 /// The longest list whose place i holds a command chosen for instance i.
-pub fn decided_list(alloc: Global, nodes: Nodes, wire: &[Message]) -> Result<Vec<Command>, Refusal>
+pub fn decided_list(
+    alloc: Global,
+    nodes: Nodes,
+    wire: &[Message],
+) -> Result<Vec<Command>, AllocError>
     ensures list { IfOk result (λ list. IsDecidedList nodes wire.now list.items) }
-    ensures err { IfErr result (λ e. e ≡ Refusal.OutOfMemory) }
 {
     let found = chosen_on(alloc, nodes, wire)?;
     let mut list = Vec::new(alloc);

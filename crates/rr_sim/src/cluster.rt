@@ -1,6 +1,6 @@
 //! A cluster of nodes with their disks: what each event of a schedule does to it.
 
-ghost use Rattle.std.specs.Prelude.{◌≡◌, ◌≢◌, ◌⊎◌, ◌↔◌, ◌++◌, ℕ, Bool, [], length, slice_get, option_to_list, None, Some, false, IsTrue, IfSome, MatchOption, Ok, Err, OnOk, IfOk, IfErr};
+ghost use Rattle.std.specs.Prelude.{◌≡◌, ◌≢◌, ◌⊎◌, ◌↔◌, ◌++◌, ℕ, Bool, [], length, slice_get, option_to_list, None, Some, false, IsTrue, IfSome, MatchOption, Ok, Err, OnOk, IfOk};
 ghost use Rattle.rr_sim.specs.Clusters as clusters;
 ghost use Rattle.rr_sim.specs.Clusters.{shown, note_of, new_cluster, at_node, fail_at, hear_at, crash_at, event_step, IsOfNode, IsEither, Steps, TellsOfWant, IsSpeltAt, IsSpeltBehind};
 ghost use Rattle.rr_text.specs.Scheduled.{node_of};
@@ -16,7 +16,7 @@ use rr_registry::binding_of;
 use rr_text::text_report::push_report_lines;
 use rr_text::{BoundNames, Event, ReportLine};
 use rr_types::{Input, Message, NodeId, Nodes, Refusal};
-use std::alloc::Global;
+use std::alloc::{AllocError, Global};
 use std::marker::Model;
 
 /// The nodes by their numbers, all messages ever sent, and the lines of the report so far.
@@ -37,12 +37,8 @@ impl Model for Cluster {
 }
 
 /// The bound names as a report shows them.
-///
-/// # Errors
-/// `OutOfMemory`.
-pub fn shown(alloc: Global, names: &rr_node::BoundNames) -> Result<BoundNames, Refusal>
+pub fn shown(alloc: Global, names: &rr_node::BoundNames) -> Result<BoundNames, AllocError>
     ensures ok { IfOk result (λ b. b ≡ shown names.now) }
-    ensures err { IfErr result (λ e. e ≡ Refusal.OutOfMemory) }
 {
     let entries = names.entries();
     let mut bindings = Vec::new(alloc);
@@ -69,9 +65,8 @@ fn line_of(
     line: u64,
     sent: u64,
     outcome: Outcome,
-) -> Result<Option<ReportLine>, Refusal>
+) -> Result<Option<ReportLine>, AllocError>
     ensures ok { IfOk result (λ noted. option_to_list noted ≡ note_of node line sent (Ok outcome)) }
-    ensures err { IfErr result (λ e. e ≡ Refusal.OutOfMemory) }
 {
     match outcome {
         Outcome::Quiet => Ok(None),
@@ -96,9 +91,8 @@ fn line_of(
     }
 }
 
-fn push_some<T: Drop>(list: &mut Vec<T>, item: Option<T>) -> Result<(), Refusal>
+fn push_some<T: Drop>(list: &mut Vec<T>, item: Option<T>) -> Result<(), AllocError>
     ensures ok { OnOk result (list.new.items ≡ list.old.items ++ option_to_list item) }
-    ensures err { IfErr result (λ e. e ≡ Refusal.OutOfMemory) }
 {
     if let Some(item) = item {
         list.push(item)?;
@@ -137,9 +131,8 @@ fn is_failing(event: &Event) -> bool
 
 impl Cluster {
     /// Nodes that are all down, over empty disks.
-    pub fn new(alloc: Global, nodes: Nodes) -> Result<Cluster, Refusal>
+    pub fn new(alloc: Global, nodes: Nodes) -> Result<Cluster, AllocError>
         ensures ok { IfOk result (λ c. c ≡ new_cluster nodes) }
-        ensures err { IfErr result (λ e. e ≡ Refusal.OutOfMemory) }
     {
         let mut seats = Vec::new(alloc);
         for index in 0..nodes.count() {
@@ -213,13 +206,9 @@ impl Cluster {
     }
 
     /// Appends the lines of the report so far to a text, and keeps them no longer.
-    ///
-    /// # Errors
-    /// `OutOfMemory`.
-    pub fn tell(&mut self, text: &mut Vec<u8>) -> Result<(), Refusal>
+    pub fn tell(&mut self, text: &mut Vec<u8>) -> Result<(), AllocError>
         ensures told { OnOk result (text.new.items ≡ text.old.items ++ told self.old.lines) }
         ensures kept { OnOk result (self.new ≡ record self.old { lines = [] }) }
-        ensures err { IfErr result (λ e. e ≡ Refusal.OutOfMemory) }
     {
         push_report_lines(text, self.lines.as_slice())?;
         self.lines.clear();
@@ -239,11 +228,10 @@ impl Cluster {
         node: NodeId,
         line: u64,
         event: &NodeEvent,
-    ) -> Result<(), Refusal>
+    ) -> Result<(), AllocError>
         ensures ok { OnOk result
             (IsEither (λ starved. self.new ≡ at_node node line starved event.now self.old)) }
         ensures spelt { OnOk result (IsSpeltAt node self.new) }
-        ensures err { IfErr result (λ e. e ≡ Refusal.OutOfMemory) }
     {
         let at = usize::from(node.index());
         if at >= self.seats.len() {
@@ -268,11 +256,10 @@ impl Cluster {
         node: NodeId,
         line: u64,
         fill: &[u8],
-    ) -> Result<(), Refusal>
+    ) -> Result<(), AllocError>
         ensures ok { OnOk result
             (IsEither (λ starved. self.new ≡ fail_at node line starved fill.now self.old)) }
         ensures spelt { OnOk result (IsSpeltAt node self.new) }
-        ensures err { IfErr result (λ e. e ≡ Refusal.OutOfMemory) }
     {
         let at = usize::from(node.index());
         if at >= self.seats.len() {
@@ -292,12 +279,11 @@ impl Cluster {
         node: NodeId,
         line: u64,
         answer: Result<Outcome, Refusal>,
-    ) -> Result<(), Refusal>
+    ) -> Result<(), AllocError>
         ensures ok { OnOk result (self.new ≡ record self.old {
           wire = self.old.wire ++ sent_by answer;
           lines = self.old.lines ++ note_of node line (length self.old.wire) answer;
         }) }
-        ensures err { IfErr result (λ e. e ≡ Refusal.OutOfMemory) }
     {
         match answer {
             Ok(Outcome::Quiet) => Ok(()),
@@ -314,12 +300,11 @@ impl Cluster {
         node: NodeId,
         line: u64,
         outcome: Outcome,
-    ) -> Result<(), Refusal>
+    ) -> Result<(), AllocError>
         ensures ok { OnOk result (self.new ≡ record self.old {
           wire = self.old.wire ++ sent_by (Ok outcome);
           lines = self.old.lines ++ note_of node line (length self.old.wire) (Ok outcome);
         }) }
-        ensures err { IfErr result (λ e. e ≡ Refusal.OutOfMemory) }
     {
         let message = message_of(&outcome);
         let sent = self.wire.len() as u64;
@@ -334,11 +319,10 @@ impl Cluster {
         node: NodeId,
         line: u64,
         number: u32,
-    ) -> Result<(), Refusal>
+    ) -> Result<(), AllocError>
         ensures ok { OnOk result
             (IsEither (λ starved. self.new ≡ hear_at node line starved number self.old)) }
         ensures spelt { OnOk result ((self.new ≡ self.old) ⊎ IsSpeltAt node self.new) }
-        ensures err { IfErr result (λ e. e ≡ Refusal.OutOfMemory) }
     {
         match self.wire.get(number as usize) {
             Some(message) if message.to == node => match self.refusal_at(node) {
@@ -372,10 +356,9 @@ impl Cluster {
     }
 
     /// What the event of a line does, memory aside; `OutOfMemory` where the wire or the report can't grow.
-    pub fn step(&mut self, alloc: Global, line: u64, event: &Event) -> Result<(), Refusal>
+    pub fn step(&mut self, alloc: Global, line: u64, event: &Event) -> Result<(), AllocError>
         ensures ok { OnOk result (Steps line event.now self.old self.new) }
         ensures spelt { OnOk result (IsSpeltBehind event.now self.old self.new) }
-        ensures err { IfErr result (λ e. e ≡ Refusal.OutOfMemory) }
     {
         match event {
             Event::Hear { node, message } => self.hear_at(alloc, *node, line, *message),
@@ -394,11 +377,10 @@ impl Cluster {
     }
 
     /// What an event does that is the node's alone.
-    fn take_event(&mut self, alloc: Global, line: u64, event: &Event) -> Result<(), Refusal>
+    fn take_event(&mut self, alloc: Global, line: u64, event: &Event) -> Result<(), AllocError>
         requires { IsOfNode event.now }
         ensures ok { OnOk result (Steps line event.now self.old self.new) }
         ensures spelt { OnOk result (IsSpeltBehind event.now self.old self.new) }
-        ensures err { IfErr result (λ e. e ≡ Refusal.OutOfMemory) }
     {
         match self.refusal_of(event) {
             Some(refusal) => self.refuse(line, refusal),
@@ -432,9 +414,8 @@ impl Cluster {
     }
 
     /// The event of a line is refused.
-    fn refuse(&mut self, line: u64, refusal: Refusal) -> Result<(), Refusal>
+    fn refuse(&mut self, line: u64, refusal: Refusal) -> Result<(), AllocError>
         ensures ok { OnOk result (self.new ≡ record self.old { lines = self.old.lines ++ note_of 0 line 0 (Err refusal) }) }
-        ensures err { IfErr result (λ e. e ≡ Refusal.OutOfMemory) }
     {
         self.lines.push(ReportLine::Refuse { line, refusal })?;
         Ok(())
@@ -443,10 +424,14 @@ impl Cluster {
     /// What the event of a line does where memory suffices; `OutOfMemory` where the answer tells that memory ran out. A
     /// failing device call answers the same in both cases.
     #[tactic(auto, using(crate::proofs::WantLaws::failing_in_memory))]
-    pub fn step_in_memory(&mut self, alloc: Global, line: u64, event: &Event) -> Result<(), Refusal>
+    pub fn step_in_memory(
+        &mut self,
+        alloc: Global,
+        line: u64,
+        event: &Event,
+    ) -> Result<(), AllocError>
         ensures ok { OnOk result (StepsInMemory line event.now self.old self.new) }
         ensures spelt { OnOk result (IsSpeltBehind event.now self.old self.new) }
-        ensures err { IfErr result (λ e. e ≡ Refusal.OutOfMemory) }
     {
         let told = self.count_of_lines();
         self.step(alloc, line, event)?;
@@ -454,7 +439,7 @@ impl Cluster {
             return Ok(());
         }
         if self.tells_of_want(told) {
-            return Err(Refusal::OutOfMemory);
+            return Err(AllocError);
         }
         Ok(())
     }

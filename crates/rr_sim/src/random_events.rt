@@ -1,6 +1,6 @@
 //! Random schedules: each step of one is drawn from the words of a generator.
 
-ghost use Rattle.std.specs.Prelude.{◌≡◌, ◌≤◌, ◌<◌, ◌+◌, ◌%◌, ◌^◌, ◌++◌, ◌∷◌, [], length, IfOk, IfErr, OnOk};
+ghost use Rattle.std.specs.Prelude.{◌≡◌, ◌≤◌, ◌<◌, ◌+◌, ◌%◌, ◌^◌, ◌++◌, ◌∷◌, [], length, IfOk, OnOk};
 ghost use Rattle.rr_sim.specs.Clusters.{new_cluster, LeadsSpelt};
 ghost use Rattle.rr_sim.specs.Random.{claim_of, hearing, event_of_kind, event_of_words, drawn, behind, opening_of, openings, opened, Draws, IsRandom};
 ghost use Rattle.rr_text.specs.Scheduled.{IsEvent};
@@ -11,8 +11,8 @@ use rand_core::utils::NextWord;
 use rand_pcg::Pcg32;
 use rr_stream::{Sink, tell_step};
 use rr_text::{Event, Fill, Schedule};
-use rr_types::{Command, Message, Name, NodeId, NodeSet, Nodes, Op, Refusal, RequestNo, Value};
-use std::alloc::Global;
+use rr_types::{Command, Message, Name, NodeId, NodeSet, Nodes, Op, RequestNo, Value};
+use std::alloc::{AllocError, Global};
 
 /// The most steps of a random schedule: with the openings of seven nodes they make a million events.
 pub const MAX_STEPS: u32 = 999_930;
@@ -33,10 +33,9 @@ pub fn random<O: Sink>(
     seed: u64,
     steps: u32,
     out: &mut O,
-) -> Result<Schedule, Refusal>
+) -> Result<Schedule, AllocError>
     requires { steps ≤ 999930 }
     ensures ok { IfOk result (λ schedule. IsRandom nodes seed steps schedule) }
-    ensures err { IfErr result (λ e. e ≡ Refusal.OutOfMemory) }
     ensures unprinted { O.printing out.new ≡ O.printing out.old }
 {
     let mut events = openings(alloc, nodes)?;
@@ -58,9 +57,8 @@ pub fn random<O: Sink>(
 
 /// The events by which each node opens its disk.
 #[tactic(auto, using(crate::proofs::DrawingLemmas::openings_more))]
-pub(crate) fn openings(alloc: Global, nodes: Nodes) -> Result<Vec<Event>, Refusal>
+pub(crate) fn openings(alloc: Global, nodes: Nodes) -> Result<Vec<Event>, AllocError>
     ensures ok { IfOk result (λ events. events.items ≡ openings nodes) }
-    ensures err { IfErr result (λ e. e ≡ Refusal.OutOfMemory) }
 {
     let mut events = Vec::new(alloc);
     for index in 0..nodes.count() {
@@ -72,9 +70,8 @@ pub(crate) fn openings(alloc: Global, nodes: Nodes) -> Result<Vec<Event>, Refusa
 
 /// The events by which a node opens its disk.
 #[tactic(auto, using(std::proofs::lemmas::List::replicate_more))]
-fn push_opening(events: &mut Vec<Event>, node: NodeId) -> Result<(), Refusal>
+fn push_opening(events: &mut Vec<Event>, node: NodeId) -> Result<(), AllocError>
     ensures ok { OnOk result (events.new.items ≡ events.old.items ++ opening_of node) }
-    ensures err { IfErr result (λ e. e ≡ Refusal.OutOfMemory) }
 {
     events.push(Event::Restart { node })?;
     for _call in 0..CALLS_OF_AN_OPENING {
@@ -85,11 +82,10 @@ fn push_opening(events: &mut Vec<Event>, node: NodeId) -> Result<(), Refusal>
 
 /// The nodes after the events by which they open their disks.
 #[tactic(auto, using(crate::proofs::DrawingLemmas::openings_count))]
-pub(crate) fn opened(alloc: Global, nodes: Nodes, events: &[Event]) -> Result<Cluster, Refusal>
+pub(crate) fn opened(alloc: Global, nodes: Nodes, events: &[Event]) -> Result<Cluster, AllocError>
     requires { events.now ≡ openings nodes }
     ensures ok { IfOk result (λ cluster. cluster ≡ opened nodes) }
     ensures spelt { IfOk result (λ cluster. LeadsSpelt 2 events.now (new_cluster nodes) cluster) }
-    ensures err { IfErr result (λ e. e ≡ Refusal.OutOfMemory) }
 {
     let mut cluster = Cluster::new(alloc, nodes)?;
     let mut line = 2u64;
@@ -109,10 +105,9 @@ fn draw_all<O: Sink>(
     cluster: &mut Cluster,
     events: &mut Vec<Event>,
     out: &mut O,
-) -> Result<(), Refusal>
+) -> Result<(), AllocError>
     requires short { length events.old.items + steps ≤ 1000000 }
     ensures ok { OnOk result (Draws nodes steps generator.old cluster.old events.old.items events.new.items) }
-    ensures err { IfErr result (λ e. e ≡ Refusal.OutOfMemory) }
     ensures unprinted { O.printing out.new ≡ O.printing out.old }
 {
     for step in 0..steps {
@@ -131,11 +126,10 @@ pub(crate) fn draw(
     nodes: Nodes,
     generator: &mut Pcg32,
     wire: &[Message],
-) -> Result<Event, Refusal>
+) -> Result<Event, AllocError>
     ensures value { IfOk result (λ event. event ≡ drawn nodes wire.now generator.old) }
     ensures valid { IfOk result (λ event. IsEvent nodes event) }
     ensures words { generator.new ≡ behind (behind generator.old) }
-    ensures err { IfErr result (λ e. e ≡ Refusal.OutOfMemory) }
 {
     let first = generator.next_word();
     let second = generator.next_word();
@@ -149,10 +143,9 @@ fn event_of_words(
     wire: &[Message],
     first: u32,
     second: u32,
-) -> Result<Event, Refusal>
+) -> Result<Event, AllocError>
     ensures value { IfOk result (λ event. event ≡ event_of_words nodes wire.now first second) }
     ensures valid { IfOk result (λ event. IsEvent nodes event) }
-    ensures err { IfErr result (λ e. e ≡ Refusal.OutOfMemory) }
 {
     let index = first % u32::from(nodes.count());
     match NodeId::new(nodes, index as u8) {
@@ -169,12 +162,11 @@ fn event_of_kind(
     node: NodeId,
     kind: u32,
     word: u32,
-) -> Result<Event, Refusal>
+) -> Result<Event, AllocError>
     requires kind { kind < 32 }
     requires node { node < nodes }
     ensures value { IfOk result (λ event. event ≡ event_of_kind nodes wire.now node kind word) }
     ensures valid { IfOk result (λ event. IsEvent nodes event) }
-    ensures err { IfErr result (λ e. e ≡ Refusal.OutOfMemory) }
 {
     Ok(match kind {
         0 => Event::Submit {
@@ -256,9 +248,8 @@ fn suspects_of(nodes: Nodes, word: u32) -> NodeSet
 }
 
 /// A fill of one byte.
-fn fill_of(alloc: Global, word: u32) -> Result<Fill, Refusal>
+fn fill_of(alloc: Global, word: u32) -> Result<Fill, AllocError>
     ensures ok { IfOk result (λ fill. fill ≡ word % 256 ∷ []) }
-    ensures err { IfErr result (λ e. e ≡ Refusal.OutOfMemory) }
 {
     Ok(Fill::new(Vec::from_slice(alloc, &[(word % 256) as u8])?))
 }

@@ -1,6 +1,6 @@
 //! A random schedule told as text: each event is drawn, made and told before the next.
 
-ghost use Rattle.std.specs.Prelude.{◌≡◌, ◌≤◌, [], ◌++◌, OnOk, IfOk, IfErr};
+ghost use Rattle.std.specs.Prelude.{◌≡◌, ◌≤◌, [], ◌++◌, OnOk, IfOk};
 ghost use Rattle.std.specs.List.{flat_map};
 ghost use Rattle.rr_text.specs.Lines.{nodes_line};
 ghost use Rattle.rr_text.specs.ScheduleTexts.{event_line};
@@ -15,8 +15,8 @@ use rand_pcg::Pcg32;
 use rr_stream::{Sink, tell_step};
 use rr_text::text_report::push_decided_list;
 use rr_text::text_schedule::{push_event_line, push_event_lines, push_nodes_line};
-use rr_types::{Nodes, Refusal};
-use std::alloc::Global;
+use rr_types::Nodes;
+use std::alloc::{AllocError, Global};
 
 /// The texts of a schedule and of the report of its run.
 #[derive(Drop)]
@@ -34,12 +34,11 @@ fn tell_drawn<O: Sink>(
     cluster: &mut Cluster,
     texts: &mut Texts,
     out: &mut O,
-) -> Result<(), Refusal>
+) -> Result<(), AllocError>
     requires few { nodes ≤ 7 }
     requires start { cluster.old ≡ record (opened nodes) { lines = [] } }
     requires told { texts.old.report.items ≡ told (opened nodes).lines }
     ensures ok { OnOk result (DrawsAll nodes steps generator.old cluster.new texts.old.schedule.items texts.new.schedule.items texts.new.report.items) }
-    ensures err { IfErr result (λ e. e ≡ Refusal.OutOfMemory) }
     ensures unprinted { O.printing out.new ≡ O.printing out.old }
 {
     let mut line = 2 + 10 * u64::from(nodes.count());
@@ -55,12 +54,11 @@ fn tell_drawn<O: Sink>(
 }
 
 /// The texts of the openings of nodes, and of what their report has.
-fn told_openings(alloc: Global, nodes: Nodes, cluster: &mut Cluster) -> Result<Texts, Refusal>
+fn told_openings(alloc: Global, nodes: Nodes, cluster: &mut Cluster) -> Result<Texts, AllocError>
     requires { cluster.old ≡ opened nodes }
     ensures schedule { IfOk result (λ texts. texts.schedule.items ≡ nodes_line nodes ++ flat_map event_line (openings nodes)) }
     ensures report { IfOk result (λ texts. texts.report.items ≡ told (opened nodes).lines) }
     ensures kept { OnOk result (cluster.new ≡ record (opened nodes) { lines = [] }) }
-    ensures err { IfErr result (λ e. e ≡ Refusal.OutOfMemory) }
 {
     let events = openings(alloc, nodes)?;
     let mut schedule = Vec::new(alloc);
@@ -83,10 +81,9 @@ pub fn random_run<O: Sink>(
     seed: u64,
     steps: u32,
     out: &mut O,
-) -> Result<Vec<u8>, Refusal>
+) -> Result<Vec<u8>, AllocError>
     requires { steps ≤ 999930 }
     ensures ok { IfOk result (λ text. IsRandomRun nodes seed steps text.items) }
-    ensures err { IfErr result (λ e. e ≡ Refusal.OutOfMemory) }
     ensures unprinted { O.printing out.new ≡ O.printing out.old }
 {
     let events = openings(alloc, nodes)?;

@@ -12,7 +12,7 @@ use crate::cluster::Cluster;
 use rr_node::Node;
 use rr_text::{Event, Report, Schedule};
 use rr_types::{NodeId, Nodes, Refusal};
-use std::alloc::Global;
+use std::alloc::{AllocError, Global};
 
 /// Runs a schedule on `nodes` nodes that are all down at first, over empty disks, and reports what comes of it.
 /// In the decided list, a command that was acknowledged before another was first submitted stands before it.
@@ -33,7 +33,8 @@ pub fn simulate(alloc: Global, nodes: u8, schedule: &Schedule) -> Result<Report,
     ensures else_memory { IfErr result (λ e. (e ≡ Refusal.OutOfMemory) ⊎ (e ≡ Refusal.BadNodes) ⊎ ((line : ℕ) × (e ≡ Refusal.BadEvent line))) }
 {
     let count = accepted(nodes, schedule)?;
-    run(alloc, count, schedule.events())
+    let report = run(alloc, count, schedule.events())?;
+    Ok(report)
 }
 
 /// Runs a schedule as `simulate` does, and gives the nodes after its last event, with their disks.
@@ -111,12 +112,11 @@ pub fn node_of(event: &Event) -> NodeId
 }
 
 /// Runs events, and reports.
-fn run(alloc: Global, nodes: Nodes, events: &[Event]) -> Result<Report, Refusal>
+fn run(alloc: Global, nodes: Nodes, events: &[Event]) -> Result<Report, AllocError>
     requires short { length events.now ≤ 1000000 }
     requires few { nodes ≤ 7 }
     requires ranges { (m : ℕ) × AllByRecursion (IsEvent m) events.now }
     ensures world { IfOk result (λ report. IsRunOfTheWorld nodes events.now report) }
-    ensures err { IfErr result (λ e. e ≡ Refusal.OutOfMemory) }
 {
     let cluster = cluster_after(alloc, nodes, events)?;
     let decided = decided_list(alloc, nodes, cluster.wire())?;
@@ -124,11 +124,10 @@ fn run(alloc: Global, nodes: Nodes, events: &[Event]) -> Result<Report, Refusal>
 }
 
 /// The nodes, the wire and the report behind events.
-fn cluster_after(alloc: Global, nodes: Nodes, events: &[Event]) -> Result<Cluster, Refusal>
+fn cluster_after(alloc: Global, nodes: Nodes, events: &[Event]) -> Result<Cluster, AllocError>
     requires { length events.now ≤ 1000000 }
     ensures ok { IfOk result (λ end. Leads 2 events.now (new_cluster nodes) end) }
     ensures spelt { IfOk result (λ end. LeadsSpelt 2 events.now (new_cluster nodes) end) }
-    ensures err { IfErr result (λ e. e ≡ Refusal.OutOfMemory) }
 {
     let mut cluster = Cluster::new(alloc, nodes)?;
     run_events(alloc, &mut cluster, events)?;
@@ -136,11 +135,10 @@ fn cluster_after(alloc: Global, nodes: Nodes, events: &[Event]) -> Result<Cluste
 }
 
 /// Runs the events in order.
-fn run_events(alloc: Global, cluster: &mut Cluster, events: &[Event]) -> Result<(), Refusal>
+fn run_events(alloc: Global, cluster: &mut Cluster, events: &[Event]) -> Result<(), AllocError>
     requires { length events.now ≤ 1000000 }
     ensures ok { OnOk result (Leads 2 events.now cluster.old cluster.new) }
     ensures spelt { OnOk result (LeadsSpelt 2 events.now cluster.old cluster.new) }
-    ensures err { IfErr result (λ e. e ≡ Refusal.OutOfMemory) }
 {
     let mut line = 2u64;
     for event in events {

@@ -1,6 +1,6 @@
 //! Taking on what a step has changed: all of it, or after an error nothing.
 
-ghost use Rattle.std.specs.Prelude.{◌≡◌, ◌++◌, List, IfErr, OnOk, OnErr};
+ghost use Rattle.std.specs.Prelude.{◌≡◌, ◌++◌, List, OnOk, OnErr};
 ghost use Rattle.rr_types.specs.declared.command.Command.{Command};
 ghost use Rattle.rr_types.specs.declared.command.RequestNo.{RequestNo};
 ghost use Rattle.rr_step.specs.Steps.{combined, without_requests, AreNew, AreNewRequests, IsFitting};
@@ -8,16 +8,15 @@ ghost use Rattle.rr_step.specs.Steps.{combined, without_requests, AreNew, AreNew
 use crate::state::State;
 use crate::step::Changes;
 use rr_list::{Pool, Waiting};
-use rr_types::{Command, Op, Refusal, RequestNo, made_of};
-use std::alloc::Global;
+use rr_types::{Command, Op, RequestNo, made_of};
+use std::alloc::{AllocError, Global};
 
 /// Commands come into the pool, all of them or, after an error, none.
 #[tactic(auto, using(crate::proofs::PoolLemmas::first_new, crate::proofs::PoolLemmas::rest_new, crate::proofs::PoolLemmas::first_rest))]
-fn pool_all(pool: &mut Pool, commands: &[Command]) -> Result<(), Refusal>
+fn pool_all(pool: &mut Pool, commands: &[Command]) -> Result<(), AllocError>
     requires { AreNew pool.old commands.now }
     ensures ok { OnOk result (pool.new ≡ pool.old ++ commands.now) }
     ensures kept { OnErr result (pool.new ≡ pool.old) }
-    ensures err { IfErr result (λ e. e ≡ Refusal.OutOfMemory) }
 {
     made_of!(Op);
     if commands.len() == 0 {
@@ -47,11 +46,10 @@ fn unpool_all(pool: &mut Pool, commands: &[Command])
 
 /// Requests wait, all of them or, after an error, none.
 #[tactic(auto, using(crate::proofs::PoolLemmas::first_request, crate::proofs::PoolLemmas::rest_requests, crate::proofs::PoolLemmas::first_rest))]
-fn wait_all(waiting: &mut Waiting, requests: &[RequestNo]) -> Result<(), Refusal>
+fn wait_all(waiting: &mut Waiting, requests: &[RequestNo]) -> Result<(), AllocError>
     requires { AreNewRequests waiting.old requests.now }
     ensures ok { OnOk result (waiting.new ≡ waiting.old ++ requests.now) }
     ensures kept { OnErr result (waiting.new ≡ waiting.old) }
-    ensures err { IfErr result (λ e. e ≡ Refusal.OutOfMemory) }
 {
     if requests.len() == 0 {
         return Ok(());
@@ -83,14 +81,13 @@ fn arrive(
     waiting: &mut Waiting,
     commands: &[Command],
     requests: &[RequestNo],
-) -> Result<(), Refusal>
+) -> Result<(), AllocError>
     requires commands { AreNew pool.old commands.now }
     requires requests { AreNewRequests waiting.old requests.now }
     ensures pool { OnOk result (pool.new ≡ pool.old ++ commands.now) }
     ensures waiting { OnOk result (waiting.new ≡ waiting.old ++ requests.now) }
     ensures pool_kept { OnErr result (pool.new ≡ pool.old) }
     ensures waiting_kept { OnErr result (waiting.new ≡ waiting.old) }
-    ensures err { IfErr result (λ e. e ≡ Refusal.OutOfMemory) }
 {
     wait_all(waiting, requests)?;
     match pool_all(pool, commands) {
@@ -113,13 +110,12 @@ fn take_all(pool: &mut Pool, taken: &[RequestNo])
 }
 
 impl State {
-    /// Takes on what a step has changed. After an error, which is `OutOfMemory`, nothing has changed. What is left in
+    /// Takes on what a step has changed. After an error nothing has changed. What is left in
     /// `changes` is room for another step.
     #[tactic(auto, using(crate::proofs::OverLemmas::put_reversed, crate::proofs::OverLemmas::reversed_stay))]
-    pub fn absorb(&mut self, alloc: Global, changes: &mut Changes) -> Result<(), Refusal>
+    pub fn absorb(&mut self, alloc: Global, changes: &mut Changes) -> Result<(), AllocError>
         requires { IsFitting self.old changes.old }
         ensures ok { OnOk result (self.new ≡ combined self.old changes.old) }
-        ensures refused { IfErr result (λ e. e ≡ Refusal.OutOfMemory) }
         ensures err { OnErr result (self.new ≡ self.old) }
     {
         // What takes memory comes first, and is undone if a later part is refused. What follows the rows can't be

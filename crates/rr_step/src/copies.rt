@@ -1,13 +1,13 @@
 //! The state that a promise restores.
 
-ghost use Rattle.std.specs.Prelude.{◌≡◌, IfOk, IfErr};
+ghost use Rattle.std.specs.Prelude.{◌≡◌, IfOk};
 ghost use Rattle.rr_model.specs.NodeStep.{restored};
 
 use crate::state::State;
 use rr_list::{Instances, Pool, Waiting};
 use rr_parts::{Heartbeat, Outbox, Suspects, Unmarked};
-use rr_types::{NodeId, NodeSet, Nodes, Promise, Refusal};
-use std::alloc::Global;
+use rr_types::{NodeId, NodeSet, Nodes, Promise};
+use std::alloc::{AllocError, Global};
 
 impl State {
     /// A node after its opening, that knows what its facts promise, the number of the next one, and nothing else.
@@ -17,9 +17,8 @@ impl State {
         node: NodeId,
         promise: &Promise,
         next: u64,
-    ) -> Result<State, Refusal>
+    ) -> Result<State, AllocError>
         ensures ok { IfOk result (λ s. s ≡ restored nodes node promise.now next) }
-        ensures err { IfErr result (λ e. e ≡ Refusal.OutOfMemory) }
     {
         let instances = Instances::restored(alloc, promise.entries(), next)?;
         Ok(State {

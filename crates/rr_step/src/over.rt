@@ -1,6 +1,6 @@
 //! The rows of a state, with those that a step has changed, the newest first.
 
-ghost use Rattle.std.specs.Prelude.{◌≡◌, ◌≤◌, ◌<◌, ◌&&◌, ◌==◌, nat_lt, IsTrue, List, None, Some, find, option_map, MatchOption, IfSome, IfErr, OnOk, OnErr};
+ghost use Rattle.std.specs.Prelude.{◌≡◌, ◌≤◌, ◌<◌, ◌&&◌, ◌==◌, nat_lt, IsTrue, List, None, Some, find, option_map, MatchOption, IfSome, OnOk, OnErr};
 ghost use Rattle.std.specs.List.{list_any};
 ghost use Rattle.rr_types.specs.Standings.{round_of};
 ghost use Rattle.rr_types.specs.Limits.{instance_count};
@@ -13,7 +13,8 @@ use crate::rows::{find_row, has_decided_request};
 use crate::state::State;
 use rr_list::{OpenInstances, is_any_decided};
 use rr_parts::Row;
-use rr_types::{Instance, OPEN_INSTANCES, Refusal, RequestNo};
+use rr_types::{Instance, OPEN_INSTANCES, RequestNo};
+use std::alloc::AllocError;
 
 /// The row of an instance.
 #[tactic(auto, using(crate::proofs::OverLemmas::row_changed, crate::proofs::OverLemmas::row_same))]
@@ -29,11 +30,10 @@ pub fn row_over<'a>(base: &'a State, changed: &'a [Row], instance: Instance) -> 
 /// The newest changed row comes first. It replaces the one before it where that is of the same instance. Most steps
 /// change one row, so they get room for one.
 #[tactic(auto, using(crate::proofs::OverLemmas::replaced_rows, crate::proofs::OverLemmas::replaced_keep))]
-pub fn put_newest(changed: &mut Vec<Row>, row: Row) -> Result<(), Refusal>
+pub fn put_newest(changed: &mut Vec<Row>, row: Row) -> Result<(), AllocError>
     ensures rows { OnOk result ((rows : List model.Row) → put_rows changed.new.items rows ≡ put_row row (put_rows changed.old.items rows)) }
     ensures keep { OnOk result ((rows : List model.Row) → KeepDecisions changed.old.items rows → KeepsDecision (put_rows changed.old.items rows) row → KeepDecisions changed.new.items rows) }
     ensures kept { OnErr result (changed.new.items ≡ changed.old.items) }
-    ensures err { IfErr result (λ e. e ≡ Refusal.OutOfMemory) }
 {
     if changed.len() > 0 && changed[0].instance == row.instance {
         changed[0] = row;

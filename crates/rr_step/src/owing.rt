@@ -1,13 +1,14 @@
 //! Messages owed to many nodes, and the pool's commands by their request numbers.
 
-ghost use Rattle.std.specs.Prelude.{◌≡◌, ◌++◌, [], ◌∷◌, None, not, filter, All, IsTrue, IfErr, OnOk};
+ghost use Rattle.std.specs.Prelude.{◌≡◌, ◌++◌, [], ◌∷◌, None, not, filter, All, IsTrue, OnOk};
 ghost use Rattle.rr_types.specs.Registry.{is_same_request, has_request};
 ghost use Rattle.rr_model.specs.NodeParts.{messages_to};
 ghost use Rattle.rr_parts.specs.Owing.{is_free, IsOwn};
 ghost use Rattle.rr_step.specs.Places.{message_to, reached, is_reached};
 
 use rr_parts::Owed;
-use rr_types::{Body, Command, Message, NodeId, Nodes, Refusal, RequestNo};
+use rr_types::{Body, Command, Message, NodeId, Nodes, RequestNo};
+use std::alloc::AllocError;
 
 /// How far a body goes that a node owes.
 #[derive(Clone, Copy)]
@@ -38,12 +39,11 @@ pub fn push_to(
     to: NodeId,
     body: &Body,
     backing: Option<u128>,
-) -> Result<(), Refusal>
+) -> Result<(), AllocError>
     requires before { All (IsOwn from) owed.old.items }
     requires free { backing ≡ None → IsTrue (is_free body.now) }
     ensures ok { OnOk result (owed.new.items ≡ owed.old.items ++ message_to from to body.now backing ∷ []) }
     ensures own { All (IsOwn from) owed.new.items }
-    ensures err { IfErr result (λ e. e ≡ Refusal.OutOfMemory) }
 {
     let body = *body;
     let message = Message { from, to, body };
@@ -60,12 +60,11 @@ pub fn push_to_reached(
     reach: Reach,
     body: &Body,
     backing: Option<u128>,
-) -> Result<(), Refusal>
+) -> Result<(), AllocError>
     requires before { All (IsOwn from) owed.old.items }
     requires free { backing ≡ None → IsTrue (is_free body.now) }
     ensures ok { OnOk result (owed.new.items ≡ owed.old.items ++ messages_to from body.now backing (reached reach from nodes)) }
     ensures own { All (IsOwn from) owed.new.items }
-    ensures err { IfErr result (λ e. e ≡ Refusal.OutOfMemory) }
 {
     for index in 0..nodes.count() {
         match NodeId::new(nodes, index) {

@@ -1,6 +1,6 @@
 //! A step of a node: the node as it was before, borrowed, and what the step has changed.
 
-ghost use Rattle.std.specs.Prelude.{◌≡◌, ◌++◌, ◌∷◌, [], ◌^◌, ◌<◌, ◌&&◌, nat_lt, true, None, Some, IsTrue, option_map, MatchOption, IfOk, IfErr, IfSome, OnOk};
+ghost use Rattle.std.specs.Prelude.{◌≡◌, ◌++◌, ◌∷◌, [], ◌^◌, ◌<◌, ◌&&◌, nat_lt, true, None, Some, IsTrue, option_map, MatchOption, IfOk, IfSome, OnOk};
 ghost use Rattle.std.specs.List.{list_any};
 ghost use Rattle.rr_types.specs.Registry.{has_request};
 ghost use Rattle.rr_types.specs.Facts.{instance_of, after_fact, decision_of};
@@ -24,7 +24,7 @@ use rr_types::{
     Body, Command, Fact, Instance, NodeId, NodeSet, Nodes, OPEN_INSTANCES, Op, Refusal, RequestNo,
     Standing, made_of,
 };
-use std::alloc::Global;
+use std::alloc::{AllocError, Global};
 use std::marker::Model;
 
 /// What a step has changed: rows, the newest first; staged facts; the request numbers that decisions took out of
@@ -305,9 +305,8 @@ impl<'a> Step<'a> {
 
     /// The request waits for its acknowledgement, once.
     #[tactic(auto, using(std::proofs::Common::append_assoc, crate::proofs::PoolLemmas::request_new), unfolding(rr_model::specs::NodeStep::wait_for))]
-    pub fn wait_for(&mut self, request: RequestNo) -> Result<(), Refusal>
+    pub fn wait_for(&mut self, request: RequestNo) -> Result<(), AllocError>
         ensures ok { OnOk result (self.new ≡ stepped (wait_for request) self.old) }
-        ensures err { IfErr result (λ e. e ≡ Refusal.OutOfMemory) }
     {
         if !self.is_waiting(request) {
             self.changes.waiting.push(request)?;
@@ -317,10 +316,9 @@ impl<'a> Step<'a> {
 
     /// The node owes a message to one node; where no fact backs it, it is free.
     #[tactic(auto, using(std::proofs::Common::append_assoc), unfolding(rr_model::specs::NodeParts::owe))]
-    pub fn owe(&mut self, body: Body, backing: Option<u128>, to: NodeId) -> Result<(), Refusal>
+    pub fn owe(&mut self, body: Body, backing: Option<u128>, to: NodeId) -> Result<(), AllocError>
         requires { backing ≡ None → IsTrue (is_free body) }
         ensures ok { OnOk result (self.new ≡ stepped (owe body backing (to ∷ [])) self.old) }
-        ensures err { IfErr result (λ e. e ≡ Refusal.OutOfMemory) }
     {
         let base = self.base;
         let from = base.node;
@@ -335,10 +333,9 @@ impl<'a> Step<'a> {
         reach: Reach,
         body: &Body,
         backing: Option<u128>,
-    ) -> Result<(), Refusal>
+    ) -> Result<(), AllocError>
         requires { backing ≡ None → IsTrue (is_free body.now) }
         ensures ok { OnOk result (self.new ≡ stepped (λ s. owe body.now backing (reached reach s.node s.nodes) s) self.old) }
-        ensures err { IfErr result (λ e. e ≡ Refusal.OutOfMemory) }
     {
         let base = self.base;
         let owed = &mut self.changes.owed;
@@ -346,29 +343,26 @@ impl<'a> Step<'a> {
     }
 
     /// The node owes a message to every node, itself included, ascending; where no fact backs it, it is free.
-    pub fn owe_everyone(&mut self, body: Body, backing: Option<u128>) -> Result<(), Refusal>
+    pub fn owe_everyone(&mut self, body: Body, backing: Option<u128>) -> Result<(), AllocError>
         requires { backing ≡ None → IsTrue (is_free body) }
         ensures ok { OnOk result (self.new ≡ stepped (λ s. owe body backing (everyone s) s) self.old) }
-        ensures err { IfErr result (λ e. e ≡ Refusal.OutOfMemory) }
     {
         self.owe_reached(Reach::Everyone, &body, backing)
     }
 
     /// The node owes a message to each other node, ascending; where no fact backs it, it is free.
     #[tactic(auto, unfolding(crate::specs::Places::nodes_beside))]
-    pub fn owe_others(&mut self, body: Body, backing: Option<u128>) -> Result<(), Refusal>
+    pub fn owe_others(&mut self, body: Body, backing: Option<u128>) -> Result<(), AllocError>
         requires { backing ≡ None → IsTrue (is_free body) }
         ensures ok { OnOk result (self.new ≡ stepped (λ s. owe body backing (others s) s) self.old) }
-        ensures err { IfErr result (λ e. e ≡ Refusal.OutOfMemory) }
     {
         self.owe_reached(Reach::Others, &body, backing)
     }
 
     /// Adds a command to the pool, unless its request number is there or decided.
     #[tactic(auto, using(crate::proofs::PoolLemmas::command_new, crate::proofs::PoolLemmas::pooled_last), unfolding(rr_model::specs::NodeParts::pool_add))]
-    pub fn pool_add(&mut self, command: &Command) -> Result<(), Refusal>
+    pub fn pool_add(&mut self, command: &Command) -> Result<(), AllocError>
         ensures ok { OnOk result (self.new ≡ stepped (pool_add command.now) self.old) }
-        ensures err { IfErr result (λ e. e ≡ Refusal.OutOfMemory) }
     {
         made_of!(Op);
         if self.has_pooled(command.request) || self.is_decided_request(command.request) {
@@ -382,10 +376,9 @@ impl<'a> Step<'a> {
 
     /// This is the row of its instance from now on; a decision there stays.
     #[tactic(auto, using(crate::proofs::OverLemmas::decided_stay))]
-    fn put_row(&mut self, row: Row) -> Result<(), Refusal>
+    fn put_row(&mut self, row: Row) -> Result<(), AllocError>
         requires { KeepsDecision self.old.state.rows row }
         ensures ok { OnOk result (self.new ≡ stepped (λ s. record s { rows = put_row row s.rows }) self.old) }
-        ensures err { IfErr result (λ e. e ≡ Refusal.OutOfMemory) }
     {
         self.changes.is_spent = false;
         self.changes.is_settled = false;
@@ -394,10 +387,9 @@ impl<'a> Step<'a> {
 
     /// The same of a row that stands where its instance stood. What the pool has for the others stays.
     #[tactic(auto, using(crate::proofs::OverLemmas::decided_stay, crate::proofs::OverLemmas::tally_keeps, crate::proofs::SpentLemmas::tally_spent))]
-    pub(crate) fn put_tally(&mut self, row: Row) -> Result<(), Refusal>
+    pub(crate) fn put_tally(&mut self, row: Row) -> Result<(), AllocError>
         requires { option_map (λ r. r.standing) (row_of self.old.state.rows row.instance) ≡ Some row.standing }
         ensures ok { OnOk result (self.new ≡ stepped (λ s. record s { rows = put_row row s.rows }) self.old) }
-        ensures err { IfErr result (λ e. e ≡ Refusal.OutOfMemory) }
     {
         let base = self.base;
         // That the rows ascend is told by this call alone.
@@ -435,11 +427,10 @@ impl<'a> Step<'a> {
 
     /// The row of a fact's instance is changed by it; a decision there stays.
     #[tactic(auto, using(crate::proofs::OverLemmas::after_keeps, crate::proofs::OverLemmas::first_keeps, crate::proofs::OverLemmas::rows_put, crate::proofs::OverLemmas::rows_begin, crate::proofs::OverLemmas::rows_stay))]
-    fn put_row_after(&mut self, fact: &Fact) -> Result<(), Refusal>
+    fn put_row_after(&mut self, fact: &Fact) -> Result<(), AllocError>
         requires round { IsInRound (standing_at self.old.state (instance_of fact.now)) fact.now }
         requires keeps { KeepsStanding (standing_at self.old.state (instance_of fact.now)) (after_fact (standing_at self.old.state (instance_of fact.now)) fact.now) }
         ensures ok { OnOk result (self.new ≡ stepped (λ s. record s { rows = rows_after (next_number s) fact.now s.rows }) self.old) }
-        ensures err { IfErr result (λ e. e ≡ Refusal.OutOfMemory) }
     {
         let number = self.next_number();
         let alloc = *self.changes.rows.allocator();
@@ -457,10 +448,9 @@ impl<'a> Step<'a> {
 
     /// The request number of a decision is taken out of the pool.
     #[tactic(auto, using(crate::proofs::PoolLemmas::without_one, crate::proofs::PoolLemmas::taken_more))]
-    fn take_decided(&mut self, fact: &Fact) -> Result<(), Refusal>
+    fn take_decided(&mut self, fact: &Fact) -> Result<(), AllocError>
         requires { IsDecidedFact fact.now self.old.state.rows }
         ensures ok { OnOk result (self.new ≡ stepped (λ s. record s { pool = pool_after fact.now s.pool }) self.old) }
-        ensures err { IfErr result (λ e. e ≡ Refusal.OutOfMemory) }
     {
         match fact {
             Fact::Decide(_, command) => {
@@ -475,9 +465,8 @@ impl<'a> Step<'a> {
 
     /// A fact is staged last.
     #[tactic(auto, using(std::proofs::Common::append_assoc))]
-    fn push_staged(&mut self, fact: &Fact) -> Result<(), Refusal>
+    fn push_staged(&mut self, fact: &Fact) -> Result<(), AllocError>
         ensures ok { OnOk result (self.new ≡ stepped (λ s. record s { staged = s.staged ++ fact.now ∷ [] }) self.old) }
-        ensures err { IfErr result (λ e. e ≡ Refusal.OutOfMemory) }
     {
         made_of!(Command, Op);
         self.changes.staged.push(*fact)?;
@@ -486,11 +475,10 @@ impl<'a> Step<'a> {
 
     /// Stages a fact about an instance; a decision there stays.
     #[tactic(auto, using(crate::proofs::OverLemmas::decision_decides), unfolding(rr_model::specs::NodeParts::stage))]
-    pub fn stage(&mut self, fact: Fact) -> Result<(), Refusal>
+    pub fn stage(&mut self, fact: Fact) -> Result<(), AllocError>
         requires round { IsInRound (standing_at self.old.state (instance_of fact)) fact }
         requires keeps { KeepsStanding (standing_at self.old.state (instance_of fact)) (after_fact (standing_at self.old.state (instance_of fact)) fact) }
         ensures ok { OnOk result (self.new ≡ stepped (stage fact) self.old) }
-        ensures err { IfErr result (λ e. e ≡ Refusal.OutOfMemory) }
     {
         let fact = &fact;
         self.put_row_after(fact)?;

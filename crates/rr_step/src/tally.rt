@@ -1,12 +1,12 @@
 //! The answers to a round, in the row of its instance.
 
-ghost use Rattle.std.specs.Prelude.{◌≡◌, IfErr, OnOk};
+ghost use Rattle.std.specs.Prelude.{◌≡◌, OnOk};
 ghost use Rattle.rr_model.specs.NodeStep.{count_estimate, count_ack, count_nack};
 ghost use Rattle.rr_step.specs.Steps.{stepped};
 
 use crate::step::Step;
-use rr_types::{Estimate, Instance, NodeId, Refusal};
-use std::alloc::Global;
+use rr_types::{Estimate, Instance, NodeId};
+use std::alloc::{AllocError, Global};
 
 impl<'a> Step<'a> {
     /// The coordinator keeps an estimate.
@@ -17,9 +17,8 @@ impl<'a> Step<'a> {
         instance: Instance,
         sender: NodeId,
         estimate: &Estimate,
-    ) -> Result<(), Refusal>
+    ) -> Result<(), AllocError>
         ensures ok { OnOk result (self.new ≡ stepped (count_estimate instance sender estimate.now) self.old) }
-        ensures err { IfErr result (λ e. e ≡ Refusal.OutOfMemory) }
     {
         let Some(row) = self.row(instance) else {
             return Ok(());
@@ -36,9 +35,8 @@ impl<'a> Step<'a> {
         alloc: Global,
         instance: Instance,
         sender: NodeId,
-    ) -> Result<(), Refusal>
+    ) -> Result<(), AllocError>
         ensures ok { OnOk result (self.new ≡ stepped (count_ack instance sender) self.old) }
-        ensures err { IfErr result (λ e. e ≡ Refusal.OutOfMemory) }
     {
         let Some(row) = self.row(instance) else {
             return Ok(());
@@ -55,9 +53,8 @@ impl<'a> Step<'a> {
         alloc: Global,
         instance: Instance,
         sender: NodeId,
-    ) -> Result<(), Refusal>
+    ) -> Result<(), AllocError>
         ensures ok { OnOk result (self.new ≡ stepped (count_nack instance sender) self.old) }
-        ensures err { IfErr result (λ e. e ≡ Refusal.OutOfMemory) }
     {
         let Some(row) = self.row(instance) else {
             return Ok(());

@@ -1,6 +1,6 @@
 //! A node that opens its disk, alone.
 
-ghost use Rattle.std.specs.Prelude.{◌≡◌, ◌⊎◌, ◌+◌, ℕ, Ok, IfOk, IfErr, MatchOption};
+ghost use Rattle.std.specs.Prelude.{◌≡◌, ◌⊎◌, ◌+◌, ℕ, Ok, IfOk, MatchOption};
 ghost use Rattle.rr_types.specs.Registry.{Bindings};
 ghost use Rattle.rr_node.specs.declared.event.NodeEvent.TheVariants as event;
 ghost use Rattle.rr_node.specs.declared.event.Outcome.TheVariants.{Quiet, Opened};
@@ -11,7 +11,7 @@ ghost use Rattle.rr_sweep.specs.Openings.{HasOpened, IsInSome, IsOpening, Opens}
 use rr_node::{BoundNames, Node, NodeEvent, Outcome};
 use rr_sim::{ReportLine, shown};
 use rr_types::{NodeId, Refusal};
-use std::alloc::Global;
+use std::alloc::{AllocError, Global};
 
 /// The device calls of an opening that formats its disk; one that finds it formatted makes no more.
 const CALLS_OF_AN_OPENING: usize = 9;
@@ -23,11 +23,10 @@ type Ended = (u64, u64, BoundNames);
 ///
 /// # Errors
 /// `OutOfMemory`, also where a write finds no memory.
-pub(crate) fn open(alloc: Global, node: NodeId, mut seat: Node) -> Result<ReportLine, Refusal>
+pub(crate) fn open(alloc: Global, node: NodeId, mut seat: Node) -> Result<ReportLine, AllocError>
     requires stands { (n : ℕ) × (p : ℕ) × IsInSome n p seat }
     requires down { seat.doing ≡ Stopped }
     ensures opens { IfOk result (λ line. Opens node seat line) }
-    ensures err { IfErr result (λ e. e ≡ Refusal.OutOfMemory) }
 {
     // a node that is down takes a restart
     let _ = seat.step(alloc, &NodeEvent::Restart);
@@ -46,13 +45,12 @@ pub(crate) fn open(alloc: Global, node: NodeId, mut seat: Node) -> Result<Report
 }
 
 /// Makes the next device call of an opening, and says how it has ended if that was the last.
-fn open_on(alloc: Global, seat: &mut Node) -> Result<Option<Ended>, Refusal>
+fn open_on(alloc: Global, seat: &mut Node) -> Result<Option<Ended>, AllocError>
     requires { (n : ℕ) × (p : ℕ) × (left : ℕ) × IsOpening n p (left + 1) seat.old }
     ensures calls { (n p left : ℕ) → IsOpening n p (left + 1) seat.old → IfOk result (λ ended. MatchOption ended
         ((seat_step event.Device seat.old ≡ (Ok Quiet, seat.new)) × IsOpening n p left seat.new)
         (λ x. (seat_step event.Device seat.old ≡ (Ok (Opened x.0 x.1 x.2), seat.new)) × HasOpened seat.new.doing)) }
     ensures spelt { IsSpelt seat.new.doing }
-    ensures err { IfErr result (λ e. e ≡ Refusal.OutOfMemory) }
 {
     match seat.step(alloc, &NodeEvent::Device) {
         Ok(outcome) => Ok(ended_by(outcome)),
@@ -62,13 +60,12 @@ fn open_on(alloc: Global, seat: &mut Node) -> Result<Option<Ended>, Refusal>
 
 /// The refusal of an opening that finds no memory. What a crash leaves is never refused for another reason; a write that
 /// finds none is refused by the device.
-fn want_of_memory(refusal: Refusal) -> Refusal
+fn want_of_memory(refusal: Refusal) -> AllocError
     requires { (refusal ≡ Refusal.OutOfMemory) ⊎ (refusal ≡ Refusal.Device) }
-    ensures { result ≡ Refusal.OutOfMemory }
 {
     match refusal {
-        Refusal::Device => Refusal::OutOfMemory,
-        other => other,
+        Refusal::OutOfMemory | Refusal::Device => AllocError,
+        _ => unreachable!(),
     }
 }
 

@@ -1,6 +1,6 @@
 //! A sweep, event by event.
 
-ghost use Rattle.std.specs.Prelude.{◌≡◌, ◌≤◌, ◌++◌, ◌∷◌, [], ℕ, List, IfOk, IfErr};
+ghost use Rattle.std.specs.Prelude.{◌≡◌, ◌≤◌, ◌++◌, ◌∷◌, [], ℕ, List, IfOk};
 ghost use Rattle.rr_text.specs.declared.event.Event.{Event as SomeEvent};
 ghost use Rattle.rr_node.specs.Seats.{crashed};
 ghost use Rattle.rr_sweep.specs.declared.sweeping.SweepLine.{SweepLine as SomeLine};
@@ -15,8 +15,8 @@ use rand_core::utils::NextWord;
 use rand_pcg::Pcg32;
 use rr_node::Node;
 use rr_sim::{Cluster, Event, ReportLine};
-use rr_types::{NodeId, Nodes, Refusal};
-use std::alloc::Global;
+use rr_types::{NodeId, Nodes};
+use std::alloc::{AllocError, Global};
 
 /// A line of a sweep.
 #[derive(Debug, Drop)]
@@ -38,12 +38,8 @@ pub struct Sweeping {
 
 impl Sweeping {
     /// A sweep of `nodes` nodes before the first event, with the words of this seed.
-    ///
-    /// # Errors
-    /// `OutOfMemory`.
-    pub fn new(alloc: Global, nodes: Nodes, seed: u64) -> Result<Sweeping, Refusal>
+    pub fn new(alloc: Global, nodes: Nodes, seed: u64) -> Result<Sweeping, AllocError>
         ensures ok { (m : ℕ) → nodes ≤ 7 → IfOk result (λ sweeping. HasSwept nodes m seed [] [] sweeping) }
-        ensures err { IfErr result (λ e. e ≡ Refusal.OutOfMemory) }
     {
         Ok(Sweeping {
             cluster: Cluster::new(alloc, nodes)?,
@@ -60,11 +56,10 @@ impl Sweeping {
         alloc: Global,
         line: u64,
         event: &Event,
-    ) -> Result<Vec<SweepLine>, Refusal>
+    ) -> Result<Vec<SweepLine>, AllocError>
         requires { (n : ℕ) × (m : ℕ) × (seed : ℕ) × (events : List SomeEvent) × (lines : List SomeLine) × IsNext n m seed events lines line event.now self.old }
         ensures ok { (n m seed : ℕ) (events : List SomeEvent) (lines : List SomeLine) → IsNext n m seed events lines line event.now self.old
             → IfOk result (λ more. HasSwept n m seed (events ++ event.now ∷ []) (lines ++ more.items) self.new) }
-        ensures err { IfErr result (λ e. e ≡ Refusal.OutOfMemory) }
     {
         self.cluster.step_in_memory(alloc, line, event)?;
         self.cluster.forget_lines();
@@ -77,12 +72,11 @@ impl Sweeping {
         alloc: Global,
         line: u64,
         event: &Event,
-    ) -> Result<Vec<SweepLine>, Refusal>
+    ) -> Result<Vec<SweepLine>, AllocError>
         requires { MayCrash event.now self.old.cluster }
         ensures cluster { self.new.cluster ≡ self.old.cluster }
         ensures words { self.new.generator ≡ behind_event event.now self.old.generator }
         ensures lines { IfOk result (λ lines. AreCrashesBehind line event.now self.old lines.items) }
-        ensures err { IfErr result (λ e. e ≡ Refusal.OutOfMemory) }
     {
         match event {
             Event::Device { node } => {
@@ -104,10 +98,9 @@ fn endings(
     node: NodeId,
     seat: &Node,
     word: u32,
-) -> Result<Vec<SweepLine>, Refusal>
+) -> Result<Vec<SweepLine>, AllocError>
     requires { (n : ℕ) × (p : ℕ) × IsInSome n p seat.now }
     ensures ok { IfOk result (λ lines. AreCrashes line node seat.now word all_endings lines.items) }
-    ensures err { IfErr result (λ e. e ≡ Refusal.OutOfMemory) }
 {
     let mut lines = Vec::new(alloc);
     lines.push(line_of(alloc, line, node, seat, Ending::Open, word)?)?;
@@ -126,12 +119,11 @@ fn line_of(
     seat: &Node,
     ending: Ending,
     word: u32,
-) -> Result<SweepLine, Refusal>
+) -> Result<SweepLine, AllocError>
     requires { (n : ℕ) × (p : ℕ) × IsInSome n p seat.now }
     ensures line { IfOk result (λ l. l.line ≡ line) }
     ensures ending { IfOk result (λ l. l.ending ≡ ending) }
     ensures restart { IfOk result (λ l. Opens node (crashed (cut_of ending word) (cut_of ending word) (fill_of ending word) seat.now) l.restart) }
-    ensures err { IfErr result (λ e. e ≡ Refusal.OutOfMemory) }
 {
     let crashed = crash(alloc, seat, ending, word)?;
     let restart = open(alloc, node, crashed)?;
@@ -143,9 +135,8 @@ fn line_of(
 }
 
 /// A node as a crash with this ending leaves it.
-fn crash(alloc: Global, seat: &Node, ending: Ending, word: u32) -> Result<Node, Refusal>
+fn crash(alloc: Global, seat: &Node, ending: Ending, word: u32) -> Result<Node, AllocError>
     ensures left { IfOk result (λ node. node ≡ crashed (cut_of ending word) (cut_of ending word) (fill_of ending word) seat.now) }
-    ensures err { IfErr result (λ e. e ≡ Refusal.OutOfMemory) }
 {
     let cut = ending.cut(word);
     match ending.fill(word) {

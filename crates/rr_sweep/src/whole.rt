@@ -9,7 +9,7 @@ ghost use Rattle.rr_sweep.specs.Sweeps.{IsSweep};
 use crate::sweeping::{SweepLine, Sweeping};
 use rr_sim::{Event, Schedule, accepted};
 use rr_types::{Nodes, Refusal};
-use std::alloc::Global;
+use std::alloc::{AllocError, Global};
 
 /// The most events of a schedule that is swept: with a crash and an opening they make a million.
 pub const MAX_SWEPT_EVENTS: usize = 999_989;
@@ -49,7 +49,7 @@ pub fn sweep(
     let events = schedule.events();
     match swept_too_far(events) {
         Some(refusal) => Err(refusal),
-        None => sweep_events(alloc, count, events, seed),
+        None => Ok(sweep_events(alloc, count, events, seed)?),
     }
 }
 
@@ -59,13 +59,12 @@ fn sweep_events(
     nodes: Nodes,
     events: &[Event],
     seed: u64,
-) -> Result<Vec<SweepLine>, Refusal>
+) -> Result<Vec<SweepLine>, AllocError>
     requires few { nodes ≤ 7 }
     requires short { length events.now ≤ 999989 }
     requires ranges { (m : ℕ) × AllByRecursion (IsEvent m) events.now }
     requires here { first_fault nodes 2 events.now ≡ None }
     ensures lines { IfOk result (λ lines. IsSweep nodes events.now seed lines.items) }
-    ensures err { IfErr result (λ e. e ≡ Refusal.OutOfMemory) }
 {
     let mut sweeping = Sweeping::new(alloc, nodes, seed)?;
     let mut lines = Vec::new(alloc);
@@ -79,9 +78,8 @@ fn sweep_events(
 }
 
 /// Appends lines.
-fn append(lines: &mut Vec<SweepLine>, more: Vec<SweepLine>) -> Result<(), Refusal>
+fn append(lines: &mut Vec<SweepLine>, more: Vec<SweepLine>) -> Result<(), AllocError>
     ensures ok { OnOk result (lines.new.items ≡ lines.old.items ++ more.items) }
-    ensures err { IfErr result (λ e. e ≡ Refusal.OutOfMemory) }
 {
     for line in more {
         lines.push(line)?;

@@ -15,7 +15,7 @@ use rr_text::keyword::Keyword;
 use rr_text::text_parse::{fields, first_line};
 use rr_text::text_read::{cut, cut_line, keyword, node, small_number};
 use rr_types::{Body, Command, Message, Nodes, Op, Refusal, Reply, made_of};
-use std::alloc::Global;
+use std::alloc::{AllocError, Global};
 
 fn message(nodes: Nodes, text: &[u8]) -> Option<Message>
     ensures { result ≡ message_at nodes text.now }
@@ -57,9 +57,8 @@ fn tape_fields(
     nodes: Nodes,
     keyword: Keyword,
     text: &[u8],
-) -> Result<Option<TapeEvent>, Refusal>
+) -> Result<Option<TapeEvent>, AllocError>
     ensures ok { IfOk result (λ e. e ≡ tape_fields_at nodes keyword text.now) }
-    ensures err { IfErr result (λ e. e ≡ Refusal.OutOfMemory) }
 {
     match keyword {
         Keyword::Send => Ok(sent(nodes, text)),
@@ -71,9 +70,8 @@ fn tape_fields(
     }
 }
 
-fn tape_event(alloc: Global, nodes: Nodes, text: &[u8]) -> Result<Option<TapeEvent>, Refusal>
+fn tape_event(alloc: Global, nodes: Nodes, text: &[u8]) -> Result<Option<TapeEvent>, AllocError>
     ensures ok { IfOk result (λ e. e ≡ tape_event_at nodes text.now) }
-    ensures err { IfErr result (λ e. e ≡ Refusal.OutOfMemory) }
 {
     let Some((word, rest)) = cut(text, b' ') else {
         return Ok(None);

@@ -1,6 +1,6 @@
 //! Printing tapes.
 
-ghost use Rattle.std.specs.Prelude.{◌≡◌, ◌++◌, OnOk, IfOk, IfErr};
+ghost use Rattle.std.specs.Prelude.{◌≡◌, ◌++◌, OnOk, IfOk};
 ghost use Rattle.std.specs.List.{flat_map};
 ghost use Rattle.rr_text.specs.Words.{spaced};
 ghost use Rattle.rr_tape.specs.TapeTexts.{tape_words, tape_line, tape_text};
@@ -10,12 +10,10 @@ use crate::tape_event::TapeEvent;
 use rr_text::text_report::push_report_words;
 use rr_text::text_schedule::{push_event, push_nodes_line};
 use rr_text::{Event, ReportLine};
-use rr_types::Refusal;
-use std::alloc::Global;
+use std::alloc::{AllocError, Global};
 
-fn push_tape_event(out: &mut Vec<u8>, event: &TapeEvent) -> Result<(), Refusal>
+fn push_tape_event(out: &mut Vec<u8>, event: &TapeEvent) -> Result<(), AllocError>
     ensures ok { OnOk result (out.new.items ≡ out.old.items ++ spaced (tape_words event.now)) }
-    ensures err { IfErr result (λ e. e ≡ Refusal.OutOfMemory) }
 {
     let event = *event;
     match event {
@@ -45,18 +43,16 @@ fn push_tape_event(out: &mut Vec<u8>, event: &TapeEvent) -> Result<(), Refusal>
     }
 }
 
-fn push_tape_line(out: &mut Vec<u8>, event: &TapeEvent) -> Result<(), Refusal>
+fn push_tape_line(out: &mut Vec<u8>, event: &TapeEvent) -> Result<(), AllocError>
     ensures ok { OnOk result (out.new.items ≡ out.old.items ++ tape_line event.now) }
-    ensures err { IfErr result (λ e. e ≡ Refusal.OutOfMemory) }
 {
     push_tape_event(out, event)?;
     out.push(b'\n')?;
     Ok(())
 }
 
-fn push_tape_lines(out: &mut Vec<u8>, events: &[TapeEvent]) -> Result<(), Refusal>
+fn push_tape_lines(out: &mut Vec<u8>, events: &[TapeEvent]) -> Result<(), AllocError>
     ensures ok { OnOk result (out.new.items ≡ out.old.items ++ flat_map tape_line events.now) }
-    ensures err { IfErr result (λ e. e ≡ Refusal.OutOfMemory) }
 {
     for event in events {
         push_tape_line(out, event)?;
@@ -66,12 +62,8 @@ fn push_tape_lines(out: &mut Vec<u8>, events: &[TapeEvent]) -> Result<(), Refusa
 
 impl Tape {
     /// The text of the tape.
-    ///
-    /// # Errors
-    /// `OutOfMemory`.
-    pub fn text(&self, alloc: Global) -> Result<Vec<u8>, Refusal>
+    pub fn text(&self, alloc: Global) -> Result<Vec<u8>, AllocError>
         ensures ok { IfOk result (λ v. v.items ≡ tape_text self.now) }
-        ensures err { IfErr result (λ e. e ≡ Refusal.OutOfMemory) }
     {
         let mut out = Vec::new(alloc);
         push_nodes_line(&mut out, self.nodes())?;

@@ -17,11 +17,10 @@ use crate::text_read::{
     cut, cut_line, hex_byte, is_number, keyword, node, set, small_number, submitted,
 };
 use rr_types::{NodeId, Nodes, Refusal};
-use std::alloc::Global;
+use std::alloc::{AllocError, Global};
 
-fn pairs(alloc: Global, word: &[u8]) -> Result<Option<Vec<u8>>, Refusal>
+fn pairs(alloc: Global, word: &[u8]) -> Result<Option<Vec<u8>>, AllocError>
     ensures ok { IfOk result (λ r. MatchOption r (pairs_at word.now ≡ None) (λ v. pairs_at word.now ≡ Some v.items)) }
-    ensures err { IfErr result (λ e. e ≡ Refusal.OutOfMemory) }
 {
     let mut bytes = Vec::with_capacity(alloc, word.len() / 2)?;
     let mut rest = word;
@@ -39,9 +38,8 @@ fn pairs(alloc: Global, word: &[u8]) -> Result<Option<Vec<u8>>, Refusal>
     }
 }
 
-fn fill(alloc: Global, word: &[u8]) -> Result<Option<Fill>, Refusal>
+fn fill(alloc: Global, word: &[u8]) -> Result<Option<Fill>, AllocError>
     ensures ok { IfOk result (λ f. f ≡ fill_at word.now) }
-    ensures err { IfErr result (λ e. e ≡ Refusal.OutOfMemory) }
 {
     if word.is_empty() {
         return Ok(None);
@@ -69,9 +67,8 @@ pub fn first_node(nodes: Nodes, text: &[u8]) -> Option<(NodeId, &[u8])>
 }
 
 #[inline(never)]
-fn submit(nodes: Nodes, text: &[u8]) -> Result<Option<Event>, Refusal>
+fn submit(nodes: Nodes, text: &[u8]) -> Result<Option<Event>, AllocError>
     ensures ok { IfOk result (λ e. e ≡ fields_at nodes Keyword.Submit text.now) }
-    ensures err { IfErr result (λ e. e ≡ Refusal.OutOfMemory) }
 {
     let Some((node, rest)) = first_node(nodes, text) else {
         return Ok(None);
@@ -83,9 +80,8 @@ fn submit(nodes: Nodes, text: &[u8]) -> Result<Option<Event>, Refusal>
 }
 
 #[inline(always)]
-fn hear(nodes: Nodes, text: &[u8]) -> Result<Option<Event>, Refusal>
+fn hear(nodes: Nodes, text: &[u8]) -> Result<Option<Event>, AllocError>
     ensures ok { IfOk result (λ e. e ≡ fields_at nodes Keyword.Hear text.now) }
-    ensures err { IfErr result (λ e. e ≡ Refusal.OutOfMemory) }
 {
     let Some((node, rest)) = first_node(nodes, text) else {
         return Ok(None);
@@ -97,9 +93,8 @@ fn hear(nodes: Nodes, text: &[u8]) -> Result<Option<Event>, Refusal>
 }
 
 #[inline(never)]
-fn suspect(nodes: Nodes, text: &[u8]) -> Result<Option<Event>, Refusal>
+fn suspect(nodes: Nodes, text: &[u8]) -> Result<Option<Event>, AllocError>
     ensures ok { IfOk result (λ e. e ≡ fields_at nodes Keyword.Suspect text.now) }
-    ensures err { IfErr result (λ e. e ≡ Refusal.OutOfMemory) }
 {
     let Some((node, rest)) = first_node(nodes, text) else {
         return Ok(None);
@@ -130,9 +125,8 @@ fn plain(keyword: Keyword, node: NodeId) -> Option<Event>
 }
 
 #[inline(always)]
-fn at_node(nodes: Nodes, keyword: Keyword, text: &[u8]) -> Result<Option<Event>, Refusal>
+fn at_node(nodes: Nodes, keyword: Keyword, text: &[u8]) -> Result<Option<Event>, AllocError>
     ensures ok { IfOk result (λ e. e ≡ node_alone_at nodes keyword text.now) }
-    ensures err { IfErr result (λ e. e ≡ Refusal.OutOfMemory) }
 {
     match node(nodes, text) {
         Some(node) => Ok(plain(keyword, node)),
@@ -141,9 +135,8 @@ fn at_node(nodes: Nodes, keyword: Keyword, text: &[u8]) -> Result<Option<Event>,
 }
 
 #[inline(never)]
-fn fail(alloc: Global, nodes: Nodes, text: &[u8]) -> Result<Option<Event>, Refusal>
+fn fail(alloc: Global, nodes: Nodes, text: &[u8]) -> Result<Option<Event>, AllocError>
     ensures ok { IfOk result (λ e. e ≡ fields_at nodes Keyword.Fail text.now) }
-    ensures err { IfErr result (λ e. e ≡ Refusal.OutOfMemory) }
 {
     let Some((node, rest)) = first_node(nodes, text) else {
         return Ok(None);
@@ -154,9 +147,8 @@ fn fail(alloc: Global, nodes: Nodes, text: &[u8]) -> Result<Option<Event>, Refus
     }
 }
 
-fn cuts(alloc: Global, text: &[u8]) -> Result<Option<(u32, u32, Fill)>, Refusal>
+fn cuts(alloc: Global, text: &[u8]) -> Result<Option<(u32, u32, Fill)>, AllocError>
     ensures ok { IfOk result (λ c. c ≡ cuts_at text.now) }
-    ensures err { IfErr result (λ e. e ≡ Refusal.OutOfMemory) }
 {
     let Some((word, rest)) = cut(text, b' ') else {
         return Ok(None);
@@ -177,9 +169,8 @@ fn cuts(alloc: Global, text: &[u8]) -> Result<Option<(u32, u32, Fill)>, Refusal>
 }
 
 #[inline(never)]
-fn crash(alloc: Global, nodes: Nodes, text: &[u8]) -> Result<Option<Event>, Refusal>
+fn crash(alloc: Global, nodes: Nodes, text: &[u8]) -> Result<Option<Event>, AllocError>
     ensures ok { IfOk result (λ e. e ≡ fields_at nodes Keyword.Crash text.now) }
-    ensures err { IfErr result (λ e. e ≡ Refusal.OutOfMemory) }
 {
     let Some((node, rest)) = first_node(nodes, text) else {
         return Ok(None);
@@ -196,18 +187,14 @@ fn crash(alloc: Global, nodes: Nodes, text: &[u8]) -> Result<Option<Event>, Refu
 }
 
 /// The event of this keyword that the text behind it says; none where it says none.
-///
-/// # Errors
-/// `OutOfMemory`.
 #[inline(always)]
 pub fn fields(
     alloc: Global,
     nodes: Nodes,
     keyword: Keyword,
     text: &[u8],
-) -> Result<Option<Event>, Refusal>
+) -> Result<Option<Event>, AllocError>
     ensures ok { IfOk result (λ e. e ≡ fields_at nodes keyword text.now) }
-    ensures err { IfErr result (λ e. e ≡ Refusal.OutOfMemory) }
 {
     match keyword {
         Keyword::Submit => submit(nodes, text),

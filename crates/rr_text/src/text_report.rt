@@ -1,6 +1,6 @@
 //! Printing reports.
 
-ghost use Rattle.std.specs.Prelude.{◌≡◌, ◌+◌, ◌<◌, ◌^◌, [], ◌∷◌, ◌++◌, map, length, OnOk, IfOk, IfErr, codes, decimal};
+ghost use Rattle.std.specs.Prelude.{◌≡◌, ◌+◌, ◌<◌, ◌^◌, [], ◌∷◌, ◌++◌, map, length, OnOk, IfOk, codes, decimal};
 ghost use Rattle.std.specs.List.{flat_map};
 ghost use Rattle.rr_types.specs.Messages.{message_word};
 ghost use Rattle.rr_text.specs.Words.{spaced, op_words};
@@ -14,24 +14,19 @@ use rr_types::{
     Binding, Body, Command, Instance, Message, MessageKind, NodeId, Refusal, Reply, RequestNo,
     Round,
 };
-use std::alloc::Global;
+use std::alloc::{AllocError, Global};
 
 /// Appends a space and a request number.
-///
-/// # Errors
-/// `OutOfMemory`.
-pub fn push_request(out: &mut Vec<u8>, request: RequestNo) -> Result<(), Refusal>
+pub fn push_request(out: &mut Vec<u8>, request: RequestNo) -> Result<(), AllocError>
     ensures ok { OnOk result (out.new.items ≡ out.old.items ++ 32 ∷ request_text request) }
-    ensures err { IfErr result (λ e. e ≡ Refusal.OutOfMemory) }
 {
     push_number_word(out, u64::from(request.client))?;
     push_byte(out, b'.')?;
     push_number(out, request.seq)
 }
 
-fn push_command(out: &mut Vec<u8>, command: &Command) -> Result<(), Refusal>
+fn push_command(out: &mut Vec<u8>, command: &Command) -> Result<(), AllocError>
     ensures ok { OnOk result (out.new.items ≡ out.old.items ++ 32 ∷ spaced (command_words command.now)) }
-    ensures err { IfErr result (λ e. e ≡ Refusal.OutOfMemory) }
 {
     push_request(out, command.request)?;
     push_op(out, &command.op)
@@ -39,16 +34,14 @@ fn push_command(out: &mut Vec<u8>, command: &Command) -> Result<(), Refusal>
 
 // Appends a space and the word of a kind of messages.
 #[inline]
-fn push_kind(out: &mut Vec<u8>, kind: MessageKind) -> Result<(), Refusal>
+fn push_kind(out: &mut Vec<u8>, kind: MessageKind) -> Result<(), AllocError>
     ensures ok { OnOk result (out.new.items ≡ out.old.items ++ 32 ∷ message_word kind) }
-    ensures err { IfErr result (λ e. e ≡ Refusal.OutOfMemory) }
 {
     push_word(out, kind.word().as_bytes())
 }
 
-fn push_instance(out: &mut Vec<u8>, kind: MessageKind, instance: Instance) -> Result<(), Refusal>
+fn push_instance(out: &mut Vec<u8>, kind: MessageKind, instance: Instance) -> Result<(), AllocError>
     ensures ok { OnOk result (out.new.items ≡ out.old.items ++ 32 ∷ spaced (message_word kind ∷ decimal instance ∷ [])) }
-    ensures err { IfErr result (λ e. e ≡ Refusal.OutOfMemory) }
 {
     push_kind(out, kind)?;
     push_number_word(out, u64::from(instance.number()))
@@ -59,17 +52,15 @@ fn push_round(
     kind: MessageKind,
     instance: Instance,
     round: Round,
-) -> Result<(), Refusal>
+) -> Result<(), AllocError>
     ensures ok { OnOk result (out.new.items ≡ out.old.items ++ 32 ∷ spaced (message_word kind ∷ decimal instance ∷ decimal round ∷ [])) }
-    ensures err { IfErr result (λ e. e ≡ Refusal.OutOfMemory) }
 {
     push_instance(out, kind, instance)?;
     push_number_word(out, u64::from(round.number()))
 }
 
-fn push_body(out: &mut Vec<u8>, body: &Body) -> Result<(), Refusal>
+fn push_body(out: &mut Vec<u8>, body: &Body) -> Result<(), AllocError>
     ensures ok { OnOk result (out.new.items ≡ out.old.items ++ 32 ∷ spaced (body_words body.now)) }
-    ensures err { IfErr result (λ e. e ≡ Refusal.OutOfMemory) }
 {
     match body {
         Body::Estimate(instance, estimate) => {
@@ -100,17 +91,15 @@ fn push_body(out: &mut Vec<u8>, body: &Body) -> Result<(), Refusal>
     }
 }
 
-fn push_node(out: &mut Vec<u8>, node: NodeId) -> Result<(), Refusal>
+fn push_node(out: &mut Vec<u8>, node: NodeId) -> Result<(), AllocError>
     ensures ok { OnOk result (out.new.items ≡ out.old.items ++ 32 ∷ decimal node) }
-    ensures err { IfErr result (λ e. e ≡ Refusal.OutOfMemory) }
 {
     push_number_word(out, u64::from(node.index()))
 }
 
 #[inline(never)]
-fn push_message(out: &mut Vec<u8>, message: &Message) -> Result<(), Refusal>
+fn push_message(out: &mut Vec<u8>, message: &Message) -> Result<(), AllocError>
     ensures ok { OnOk result (out.new.items ≡ out.old.items ++ 32 ∷ spaced (message_words message.now)) }
-    ensures err { IfErr result (λ e. e ≡ Refusal.OutOfMemory) }
 {
     push_node(out, message.from)?;
     push_node(out, message.to)?;
@@ -118,9 +107,8 @@ fn push_message(out: &mut Vec<u8>, message: &Message) -> Result<(), Refusal>
 }
 
 #[inline(never)]
-fn push_reply(out: &mut Vec<u8>, reply: Reply) -> Result<(), Refusal>
+fn push_reply(out: &mut Vec<u8>, reply: Reply) -> Result<(), AllocError>
     ensures ok { OnOk result (out.new.items ≡ out.old.items ++ 32 ∷ spaced (reply_words reply)) }
-    ensures err { IfErr result (λ e. e ≡ Refusal.OutOfMemory) }
 {
     match reply {
         Reply::Claimed => push_word(out, b"claimed"),
@@ -137,9 +125,8 @@ fn push_reply(out: &mut Vec<u8>, reply: Reply) -> Result<(), Refusal>
     }
 }
 
-fn push_binding(out: &mut Vec<u8>, binding: &Binding) -> Result<(), Refusal>
+fn push_binding(out: &mut Vec<u8>, binding: &Binding) -> Result<(), AllocError>
     ensures ok { OnOk result (out.new.items ≡ out.old.items ++ 32 ∷ binding_text binding.now) }
-    ensures err { IfErr result (λ e. e ≡ Refusal.OutOfMemory) }
 {
     push_word(out, binding.name.as_bytes())?;
     push_byte(out, b'=')?;
@@ -148,9 +135,8 @@ fn push_binding(out: &mut Vec<u8>, binding: &Binding) -> Result<(), Refusal>
     push_bytes(out, binding.value.as_bytes())
 }
 
-fn push_bindings(out: &mut Vec<u8>, bindings: &[Binding]) -> Result<(), Refusal>
+fn push_bindings(out: &mut Vec<u8>, bindings: &[Binding]) -> Result<(), AllocError>
     ensures ok { OnOk result (out.new.items ≡ out.old.items ++ flat_map (λ b. 32 ∷ binding_text b) bindings.now) }
-    ensures err { IfErr result (λ e. e ≡ Refusal.OutOfMemory) }
 {
     for binding in bindings {
         push_binding(out, binding)?;
@@ -160,21 +146,16 @@ fn push_bindings(out: &mut Vec<u8>, bindings: &[Binding]) -> Result<(), Refusal>
 
 #[tactic(auto, using(crate::proofs::WordLemmas::registry_words))]
 #[inline(never)]
-fn push_registry(out: &mut Vec<u8>, decided: u64, bindings: &[Binding]) -> Result<(), Refusal>
+fn push_registry(out: &mut Vec<u8>, decided: u64, bindings: &[Binding]) -> Result<(), AllocError>
     ensures ok { OnOk result (out.new.items ≡ out.old.items ++ 32 ∷ spaced (decimal decided ∷ map binding_text bindings.now)) }
-    ensures err { IfErr result (λ e. e ≡ Refusal.OutOfMemory) }
 {
     push_number_word(out, decided)?;
     push_bindings(out, bindings)
 }
 
 /// Appends the words of a line of a report.
-///
-/// # Errors
-/// `OutOfMemory`.
-pub fn push_report_words(out: &mut Vec<u8>, report_line: &ReportLine) -> Result<(), Refusal>
+pub fn push_report_words(out: &mut Vec<u8>, report_line: &ReportLine) -> Result<(), AllocError>
     ensures ok { OnOk result (out.new.items ≡ out.old.items ++ spaced (report_words report_line.now)) }
-    ensures err { IfErr result (λ e. e ≡ Refusal.OutOfMemory) }
 {
     match report_line {
         ReportLine::Send { number, message } => {
@@ -212,21 +193,16 @@ pub fn push_report_words(out: &mut Vec<u8>, report_line: &ReportLine) -> Result<
     }
 }
 
-fn push_report_line(out: &mut Vec<u8>, report_line: &ReportLine) -> Result<(), Refusal>
+fn push_report_line(out: &mut Vec<u8>, report_line: &ReportLine) -> Result<(), AllocError>
     ensures ok { OnOk result (out.new.items ≡ out.old.items ++ line (report_words report_line.now)) }
-    ensures err { IfErr result (λ e. e ≡ Refusal.OutOfMemory) }
 {
     push_report_words(out, report_line)?;
     push_byte(out, b'\n')
 }
 
 /// Appends the lines of a report.
-///
-/// # Errors
-/// `OutOfMemory`.
-pub fn push_report_lines(out: &mut Vec<u8>, lines: &[ReportLine]) -> Result<(), Refusal>
+pub fn push_report_lines(out: &mut Vec<u8>, lines: &[ReportLine]) -> Result<(), AllocError>
     ensures ok { OnOk result (out.new.items ≡ out.old.items ++ flat_map (λ l. line (report_words l)) lines.now) }
-    ensures err { IfErr result (λ e. e ≡ Refusal.OutOfMemory) }
 {
     for report_line in lines {
         push_report_line(out, report_line)?;
@@ -234,18 +210,16 @@ pub fn push_report_lines(out: &mut Vec<u8>, lines: &[ReportLine]) -> Result<(), 
     Ok(())
 }
 
-fn push_decided_line(out: &mut Vec<u8>, instance: u64, command: &Command) -> Result<(), Refusal>
+fn push_decided_line(out: &mut Vec<u8>, instance: u64, command: &Command) -> Result<(), AllocError>
     ensures ok { OnOk result (out.new.items ≡ out.old.items ++ line (decimal instance ∷ command_words command.now)) }
-    ensures err { IfErr result (λ e. e ≡ Refusal.OutOfMemory) }
 {
     push_number(out, instance)?;
     push_command(out, command)?;
     push_byte(out, b'\n')
 }
 
-fn push_decided(out: &mut Vec<u8>, commands: &[Command]) -> Result<(), Refusal>
+fn push_decided(out: &mut Vec<u8>, commands: &[Command]) -> Result<(), AllocError>
     ensures ok { OnOk result (out.new.items ≡ out.old.items ++ decided_lines 0 commands.now) }
-    ensures err { IfErr result (λ e. e ≡ Refusal.OutOfMemory) }
 {
     for (i, command) in commands.iter().enumerate() {
         push_decided_line(out, i as u64, command)?;
@@ -254,12 +228,8 @@ fn push_decided(out: &mut Vec<u8>, commands: &[Command]) -> Result<(), Refusal>
 }
 
 /// Appends the end of a report: how many commands are decided, and these.
-///
-/// # Errors
-/// `OutOfMemory`.
-pub fn push_decided_list(out: &mut Vec<u8>, commands: &[Command]) -> Result<(), Refusal>
+pub fn push_decided_list(out: &mut Vec<u8>, commands: &[Command]) -> Result<(), AllocError>
     ensures ok { OnOk result (out.new.items ≡ out.old.items ++ line (codes "decided" ∷ decimal (length commands.now) ∷ []) ++ decided_lines 0 commands.now) }
-    ensures err { IfErr result (λ e. e ≡ Refusal.OutOfMemory) }
 {
     push_bytes(out, b"decided")?;
     push_number_word(out, commands.len() as u64)?;
@@ -269,12 +239,8 @@ pub fn push_decided_list(out: &mut Vec<u8>, commands: &[Command]) -> Result<(), 
 
 impl Report {
     /// The text of the report.
-    ///
-    /// # Errors
-    /// `OutOfMemory`.
-    pub fn text(&self, alloc: Global) -> Result<Vec<u8>, Refusal>
+    pub fn text(&self, alloc: Global) -> Result<Vec<u8>, AllocError>
         ensures ok { IfOk result (λ v. v.items ≡ report_text self.now) }
-        ensures err { IfErr result (λ e. e ≡ Refusal.OutOfMemory) }
     {
         let mut out = Vec::new(alloc);
         push_report_lines(&mut out, self.lines())?;

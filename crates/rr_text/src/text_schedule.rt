@@ -1,6 +1,6 @@
 //! Printing schedules.
 
-ghost use Rattle.std.specs.Prelude.{◌≡◌, ◌∷◌, ◌++◌, [], OnOk, IfOk, IfErr, codes, decimal};
+ghost use Rattle.std.specs.Prelude.{◌≡◌, ◌∷◌, ◌++◌, [], OnOk, IfOk, codes, decimal};
 ghost use Rattle.std.specs.List.{flat_map};
 ghost use Rattle.rr_text.specs.Words.{spaced, op_words};
 ghost use Rattle.rr_text.specs.Lines.{nodes_line};
@@ -11,20 +11,18 @@ use crate::schedule::Schedule;
 use crate::text_word::{
     push_byte, push_bytes, push_fill, push_number, push_number_word, push_op, push_set,
 };
-use rr_types::{Command, NodeId, Nodes, Refusal};
-use std::alloc::Global;
+use rr_types::{Command, NodeId, Nodes};
+use std::alloc::{AllocError, Global};
 
-fn push_at_node(out: &mut Vec<u8>, verb: &[u8], node: NodeId) -> Result<(), Refusal>
+fn push_at_node(out: &mut Vec<u8>, verb: &[u8], node: NodeId) -> Result<(), AllocError>
     ensures ok { OnOk result (out.new.items ≡ out.old.items ++ spaced (verb.now ∷ decimal node ∷ [])) }
-    ensures err { IfErr result (λ e. e ≡ Refusal.OutOfMemory) }
 {
     push_bytes(out, verb)?;
     push_number_word(out, u64::from(node.index()))
 }
 
-fn push_submitted(out: &mut Vec<u8>, command: &Command) -> Result<(), Refusal>
+fn push_submitted(out: &mut Vec<u8>, command: &Command) -> Result<(), AllocError>
     ensures ok { OnOk result (out.new.items ≡ out.old.items ++ 32 ∷ spaced (decimal command.now.request.client ∷ decimal command.now.request.seq ∷ op_words command.now.op)) }
-    ensures err { IfErr result (λ e. e ≡ Refusal.OutOfMemory) }
 {
     push_number_word(out, u64::from(command.request.client))?;
     push_number_word(out, command.request.seq)?;
@@ -32,12 +30,8 @@ fn push_submitted(out: &mut Vec<u8>, command: &Command) -> Result<(), Refusal>
 }
 
 /// Appends the text of an event.
-///
-/// # Errors
-/// `OutOfMemory`.
-pub fn push_event(out: &mut Vec<u8>, event: &Event) -> Result<(), Refusal>
+pub fn push_event(out: &mut Vec<u8>, event: &Event) -> Result<(), AllocError>
     ensures ok { OnOk result (out.new.items ≡ out.old.items ++ event_text event.now) }
-    ensures err { IfErr result (λ e. e ≡ Refusal.OutOfMemory) }
 {
     match event {
         Event::Submit { node, command } => {
@@ -80,24 +74,16 @@ pub fn push_event(out: &mut Vec<u8>, event: &Event) -> Result<(), Refusal>
 }
 
 /// Appends the line of an event.
-///
-/// # Errors
-/// `OutOfMemory`.
-pub fn push_event_line(out: &mut Vec<u8>, event: &Event) -> Result<(), Refusal>
+pub fn push_event_line(out: &mut Vec<u8>, event: &Event) -> Result<(), AllocError>
     ensures ok { OnOk result (out.new.items ≡ out.old.items ++ event_line event.now) }
-    ensures err { IfErr result (λ e. e ≡ Refusal.OutOfMemory) }
 {
     push_event(out, event)?;
     push_byte(out, b'\n')
 }
 
 /// Appends the lines of events.
-///
-/// # Errors
-/// `OutOfMemory`.
-pub fn push_event_lines(out: &mut Vec<u8>, events: &[Event]) -> Result<(), Refusal>
+pub fn push_event_lines(out: &mut Vec<u8>, events: &[Event]) -> Result<(), AllocError>
     ensures ok { OnOk result (out.new.items ≡ out.old.items ++ flat_map event_line events.now) }
-    ensures err { IfErr result (λ e. e ≡ Refusal.OutOfMemory) }
 {
     for event in events {
         push_event_line(out, event)?;
@@ -106,12 +92,8 @@ pub fn push_event_lines(out: &mut Vec<u8>, events: &[Event]) -> Result<(), Refus
 }
 
 /// Appends the first line.
-///
-/// # Errors
-/// `OutOfMemory`.
-pub fn push_nodes_line(out: &mut Vec<u8>, nodes: Nodes) -> Result<(), Refusal>
+pub fn push_nodes_line(out: &mut Vec<u8>, nodes: Nodes) -> Result<(), AllocError>
     ensures ok { OnOk result (out.new.items ≡ out.old.items ++ nodes_line nodes) }
-    ensures err { IfErr result (λ e. e ≡ Refusal.OutOfMemory) }
 {
     push_bytes(out, b"nodes ")?;
     push_number(out, u64::from(nodes.count()))?;
@@ -120,12 +102,8 @@ pub fn push_nodes_line(out: &mut Vec<u8>, nodes: Nodes) -> Result<(), Refusal>
 
 impl Schedule {
     /// The text of the schedule.
-    ///
-    /// # Errors
-    /// `OutOfMemory`.
-    pub fn text(&self, alloc: Global) -> Result<Vec<u8>, Refusal>
+    pub fn text(&self, alloc: Global) -> Result<Vec<u8>, AllocError>
         ensures ok { IfOk result (λ v. v.items ≡ schedule_text self.now) }
-        ensures err { IfErr result (λ e. e ≡ Refusal.OutOfMemory) }
     {
         let mut out = Vec::new(alloc);
         push_nodes_line(&mut out, self.nodes())?;

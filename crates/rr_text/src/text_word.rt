@@ -1,27 +1,26 @@
 //! Printing the words that schedules and reports have in common.
 
-ghost use Rattle.std.specs.Prelude.{◌≡◌, ◌∷◌, ◌++◌, OnOk, IfErr, decimal};
+ghost use Rattle.std.specs.Prelude.{◌≡◌, ◌∷◌, ◌++◌, OnOk, decimal};
 ghost use Rattle.std.specs.List.{flat_map};
 ghost use Rattle.std.specs.Prelude.{[], ◌-◌, ◌≤◌, ◌<◌};
 ghost use Rattle.rr_types.specs.Commands.{op_word};
 ghost use Rattle.rr_text.specs.Words.{spaced, op_words, set_text, fill_text, hex_pair, hex_digit, member_digits, value_words};
 
 use itoa::Buffer;
-use rr_types::{Name, NodeSet, Op, OpKind, Refusal, Value};
+use rr_types::{Name, NodeSet, Op, OpKind, Value};
+use std::alloc::AllocError;
 
 /// Appends bytes.
-pub fn push_bytes(out: &mut Vec<u8>, bytes: &[u8]) -> Result<(), Refusal>
+pub fn push_bytes(out: &mut Vec<u8>, bytes: &[u8]) -> Result<(), AllocError>
     ensures ok { OnOk result (out.new.items ≡ out.old.items ++ bytes.now) }
-    ensures err { IfErr result (λ e. e ≡ Refusal.OutOfMemory) }
 {
     out.extend_from_slice(bytes)?;
     Ok(())
 }
 
 /// Appends one byte.
-pub fn push_byte(out: &mut Vec<u8>, byte: u8) -> Result<(), Refusal>
+pub fn push_byte(out: &mut Vec<u8>, byte: u8) -> Result<(), AllocError>
     ensures ok { OnOk result (out.new.items ≡ out.old.items ++ byte ∷ []) }
-    ensures err { IfErr result (λ e. e ≡ Refusal.OutOfMemory) }
 {
     out.push(byte)?;
     Ok(())
@@ -29,9 +28,8 @@ pub fn push_byte(out: &mut Vec<u8>, byte: u8) -> Result<(), Refusal>
 
 /// Appends a number in decimal.
 #[tactic(auto, using(std::proofs::lemmas::Fmt::decimal_digit))]
-pub fn push_number(out: &mut Vec<u8>, number: u64) -> Result<(), Refusal>
+pub fn push_number(out: &mut Vec<u8>, number: u64) -> Result<(), AllocError>
     ensures ok { OnOk result (out.new.items ≡ out.old.items ++ decimal number) }
-    ensures err { IfErr result (λ e. e ≡ Refusal.OutOfMemory) }
 {
     if number < 10 {
         return push_byte(out, b'0' + number as u8);
@@ -41,18 +39,16 @@ pub fn push_number(out: &mut Vec<u8>, number: u64) -> Result<(), Refusal>
 }
 
 /// Appends a space and a word.
-pub fn push_word(out: &mut Vec<u8>, word: &[u8]) -> Result<(), Refusal>
+pub fn push_word(out: &mut Vec<u8>, word: &[u8]) -> Result<(), AllocError>
     ensures ok { OnOk result (out.new.items ≡ out.old.items ++ 32 ∷ word.now) }
-    ensures err { IfErr result (λ e. e ≡ Refusal.OutOfMemory) }
 {
     push_byte(out, b' ')?;
     push_bytes(out, word)
 }
 
 /// Appends a space and a number in decimal.
-pub fn push_number_word(out: &mut Vec<u8>, number: u64) -> Result<(), Refusal>
+pub fn push_number_word(out: &mut Vec<u8>, number: u64) -> Result<(), AllocError>
     ensures ok { OnOk result (out.new.items ≡ out.old.items ++ 32 ∷ decimal number) }
-    ensures err { IfErr result (λ e. e ≡ Refusal.OutOfMemory) }
 {
     push_byte(out, b' ')?;
     push_number(out, number)
@@ -63,9 +59,8 @@ fn push_binding_op(
     kind: OpKind,
     name: &Name,
     value: &Value,
-) -> Result<(), Refusal>
+) -> Result<(), AllocError>
     ensures ok { OnOk result (out.new.items ≡ out.old.items ++ 32 ∷ spaced (op_word kind ∷ name.now ∷ value_words value.now)) }
-    ensures err { IfErr result (λ e. e ≡ Refusal.OutOfMemory) }
 {
     push_word(out, kind.word().as_bytes())?;
     push_word(out, name.as_bytes())?;
@@ -77,9 +72,8 @@ fn push_binding_op(
 }
 
 /// Appends a space and an operation.
-pub fn push_op(out: &mut Vec<u8>, op: &Op) -> Result<(), Refusal>
+pub fn push_op(out: &mut Vec<u8>, op: &Op) -> Result<(), AllocError>
     ensures ok { OnOk result (out.new.items ≡ out.old.items ++ 32 ∷ spaced (op_words op.now)) }
-    ensures err { IfErr result (λ e. e ≡ Refusal.OutOfMemory) }
 {
     match op {
         Op::Claim(name, value) => push_binding_op(out, OpKind::Claim, name, value),
@@ -97,10 +91,9 @@ pub fn push_op(out: &mut Vec<u8>, op: &Op) -> Result<(), Refusal>
 }
 
 #[tactic(auto, using(crate::proofs::WordLemmas::member_digits_step, crate::proofs::WordLemmas::member_digits_end, crate::proofs::WordLemmas::members_one))]
-fn push_members(out: &mut Vec<u8>, node: u8, bits: u8) -> Result<(), Refusal>
+fn push_members(out: &mut Vec<u8>, node: u8, bits: u8) -> Result<(), AllocError>
     requires { node ≤ 7 }
     ensures ok { OnOk result (out.new.items ≡ out.old.items ++ member_digits node (7 - node) bits) }
-    ensures err { IfErr result (λ e. e ≡ Refusal.OutOfMemory) }
 {
     if node == 7 {
         return Ok(());
@@ -114,9 +107,8 @@ fn push_members(out: &mut Vec<u8>, node: u8, bits: u8) -> Result<(), Refusal>
 }
 
 /// Appends a space and a set of nodes.
-pub fn push_set(out: &mut Vec<u8>, set: NodeSet) -> Result<(), Refusal>
+pub fn push_set(out: &mut Vec<u8>, set: NodeSet) -> Result<(), AllocError>
     ensures ok { OnOk result (out.new.items ≡ out.old.items ++ 32 ∷ set_text set) }
-    ensures err { IfErr result (λ e. e ≡ Refusal.OutOfMemory) }
 {
     let bits = set.bits();
     if bits == 0 {
@@ -139,9 +131,8 @@ fn hex_digit(digit: u8) -> u8
 }
 
 /// Appends a space and the bytes of a fill.
-pub fn push_fill(out: &mut Vec<u8>, fill: &[u8]) -> Result<(), Refusal>
+pub fn push_fill(out: &mut Vec<u8>, fill: &[u8]) -> Result<(), AllocError>
     ensures ok { OnOk result (out.new.items ≡ out.old.items ++ 32 ∷ fill_text fill.now) }
-    ensures err { IfErr result (λ e. e ≡ Refusal.OutOfMemory) }
 {
     if fill.is_empty() {
         return push_word(out, b"-");
@@ -151,9 +142,8 @@ pub fn push_fill(out: &mut Vec<u8>, fill: &[u8]) -> Result<(), Refusal>
 }
 
 #[tactic(auto, using(crate::proofs::WordLemmas::pairs_more))]
-fn push_pairs(out: &mut Vec<u8>, bytes: &[u8]) -> Result<(), Refusal>
+fn push_pairs(out: &mut Vec<u8>, bytes: &[u8]) -> Result<(), AllocError>
     ensures ok { OnOk result (out.new.items ≡ out.old.items ++ flat_map hex_pair bytes.now) }
-    ensures err { IfErr result (λ e. e ≡ Refusal.OutOfMemory) }
 {
     for byte in bytes {
         push_byte(out, hex_digit(*byte / 16))?;

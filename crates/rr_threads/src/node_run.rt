@@ -16,7 +16,7 @@ use rr_journal::{Journal, Synced};
 use rr_locked::{Follower, Locked, Turnstile, Unflushed};
 use rr_types::{Group, NodeId, Refusal};
 use rr_window::{NewList, Seat, Seats, WindowName};
-use std::alloc::Global;
+use std::alloc::{AllocError, Global};
 use std::marker::Brand;
 use std::sync::Wait;
 use std::thread;
@@ -64,7 +64,7 @@ fn open_hand_overs(alloc: Global) -> Result<HandOvers, Refusal> {
     let groups = hand_over(alloc)?;
     match hand_over(alloc) {
         Ok(backs) => Ok(HandOvers { groups, backs }),
-        Err(refusal) => Err(refusal),
+        Err(_) => Err(Refusal::OutOfMemory),
     }
 }
 

@@ -33,7 +33,8 @@ pub fn publish_first<W: WindowName, R: Wait>(
     follower: &mut Follower<W>,
 ) -> Result<(), Refusal> {
     follower.follow(desk.locked.lock(rt).core())?;
-    follower.publish(rt)
+    follower.publish(rt)?;
+    Ok(())
 }
 
 /// The clients that wait for the oldest request that was acknowledged get receipts, once its reply is published. Answers

@@ -1,12 +1,11 @@
 //! The bindings of a registry, as a list shows them.
 
-ghost use Rattle.std.specs.Prelude.{◌≡◌, IfOk, IfErr};
-ghost use Rattle.rr_types.specs.declared.refusal.Refusal.TheVariants.{OutOfMemory};
+ghost use Rattle.std.specs.Prelude.{◌≡◌, IfOk};
 ghost use Rattle.rr_window.specs.Sights.{begins_with, bindings_with};
 
 use rr_registry::{Entries, binding_of};
-use rr_types::{Binding, Name, Refusal};
-use std::alloc::Global;
+use rr_types::{Binding, Name};
+use std::alloc::{AllocError, Global};
 
 fn begins_with(prefix: &[u8], name: &Name) -> bool
     ensures { result ≡ begins_with prefix.now name.now }
@@ -15,16 +14,12 @@ fn begins_with(prefix: &[u8], name: &Name) -> bool
 }
 
 /// Of the bindings that are left, those whose names begin with these bytes, in their order.
-///
-/// # Errors
-/// `OutOfMemory`.
 pub(crate) fn bindings_with(
     alloc: Global,
     prefix: &[u8],
     left: Entries<'_>,
-) -> Result<Vec<Binding>, Refusal>
+) -> Result<Vec<Binding>, AllocError>
     ensures ok { IfOk result (λ v. v.items ≡ bindings_with prefix.now left.entry) }
-    ensures err { IfErr result (λ e. e ≡ OutOfMemory) }
 {
     let mut bindings = Vec::new(alloc);
     for bound in left {

@@ -1,6 +1,6 @@
 //! The one who publishes.
 
-ghost use Rattle.std.specs.Prelude.{◌≡◌, ◌+◌, ◌^◌, ◌<◌, ◌++◌, ◌∷◌, [], length, drop, Some, IfOk, IfSome, IfErr, OnOk, OnErr, MatchBool};
+ghost use Rattle.std.specs.Prelude.{◌≡◌, ◌+◌, ◌^◌, ◌<◌, ◌++◌, ◌∷◌, [], length, drop, Some, IfOk, IfSome, OnOk, OnErr, MatchBool};
 ghost use mathlib.Core.List.{IsPrefix};
 ghost use Rattle.std.specs.VecDeque.{deque_len, deque_capacity};
 ghost use Rattle.rr_types.specs.declared.refusal.Refusal.TheVariants.{OutOfMemory};
@@ -64,10 +64,9 @@ impl<W: WindowName> Model for Publisher<W> {
 }
 
 /// Opens a window on an empty list, under the name that the list is given by this call. It is `OutOfMemory`.
-pub fn open<W: WindowName>(alloc: Global, list: NewList) -> Result<Window<W>, Refusal>
+pub fn open<W: WindowName>(alloc: Global, list: NewList) -> Result<Window<W>, AllocError>
     requires { list ≡ W.book }
     ensures ok { IfOk result (λ w. w ≡ record { published = []; appended = [] }) }
-    ensures err { IfErr result (λ e. e ≡ OutOfMemory) }
 {
     let (list_length, empty) = list.named::<W>();
     let first = Served::new(alloc, empty.again());
@@ -99,18 +98,17 @@ impl<W: WindowName> Window<W> {
 fn move_waiting<W: WindowName>(
     writer: &mut Writer<Served, Addition, (), WindowRule<W>>,
     waiting: &mut VecDeque<Addition>,
-) -> Result<(), Refusal>
+) -> Result<(), AllocError>
     ensures all { drop writer.new.behind writer.new.log.items ++ waiting.new.items ≡ drop writer.old.behind writer.old.log.items ++ waiting.old.items }
     ensures desk { writer.new.desk ≡ writer.old.desk }
     ensures ok { OnOk result (waiting.new.items ≡ []) }
-    ensures err { IfErr result (λ e. e ≡ OutOfMemory) }
 {
     while let Some(addition) = waiting.pop_front() {
         match writer.append(addition) {
             Ok(()) => {}
             Err(addition) => {
                 waiting.push_front_reserved(addition);
-                return Err(Refusal::OutOfMemory);
+                return Err(AllocError);
             }
         }
     }
@@ -145,18 +143,17 @@ fn enter<W: WindowName>(
     whole: &mut Beginning,
     list_length: &Length<W>,
     command: Command,
-) -> Result<(), Refusal>
+) -> Result<(), AllocError>
     requires own { whole.old.book ≡ W.book }
     requires room { length whole.old.list + 1 < 2 ^ 64 }
     ensures list { OnOk result (whole.new ≡ beginning W.book (whole.old.list ++ command ∷ [])) }
     ensures ok { OnOk result (waiting.new.items ≡ waiting.old.items ++ record { command = command; beginning = whole.new } ∷ []) }
     ensures kept { OnErr result ((waiting.new.items ≡ waiting.old.items) × (whole.new ≡ whole.old)) }
-    ensures err { IfErr result (λ e. e ≡ OutOfMemory) }
 {
     waiting.reserve(1)?;
     match add(whole, list_length, &command) {
         // The list is never longer than its publisher knows, who alone has its length. No clause of `logbook` says so.
-        None => Err(Refusal::OutOfMemory),
+        None => Err(AllocError),
         Some(addition) => {
             *whole = addition.beginning().again();
             push(waiting, addition);
@@ -181,12 +178,11 @@ fn show_all<W: WindowName, R: Wait>(
 }
 
 impl<W: WindowName> Publisher<W> {
-    /// Adds a command to the list, which isn't published yet. After an error, which is `OutOfMemory`, nothing has changed.
-    pub fn append(&mut self, command: Command) -> Result<(), Refusal>
+    /// Adds a command to the list, which isn't published yet. After an error nothing has changed.
+    pub fn append(&mut self, command: Command) -> Result<(), AllocError>
         requires room { length (self.old.published ++ self.old.appended) + 1 < 2 ^ 64 }
         ensures ok { OnOk result (self.new ≡ record self.old { appended = self.old.appended ++ command ∷ [] }) }
         ensures kept { OnErr result (self.new ≡ self.old) }
-        ensures err { IfErr result (λ e. e ≡ OutOfMemory) }
     {
         enter(
             &mut self.waiting,
@@ -211,13 +207,12 @@ impl<W: WindowName> Publisher<W> {
     }
 
     /// Shows readers all that was appended, and tells of the list that is then published. It waits for those that
-    /// still read an older list. After an error, which is `OutOfMemory`, what is published and what was appended are
+    /// still read an older list. After an error what is published and what was appended are
     /// as they were.
-    pub fn publish<R: Wait>(&mut self, rt: &R) -> Result<Told<W>, Refusal>
+    pub fn publish<R: Wait>(&mut self, rt: &R) -> Result<Told<W>, AllocError>
         ensures ok { OnOk result (self.new ≡ record { published = self.old.published ++ self.old.appended; appended = [] }) }
         ensures told { IfOk result (λ told. told ≡ self.new.published) }
         ensures kept { OnErr result (self.new ≡ self.old) }
-        ensures err { IfErr result (λ e. e ≡ OutOfMemory) }
     {
         move_waiting(&mut self.writer, &mut self.waiting)?;
         let shown = replace_with(
@@ -233,7 +228,7 @@ impl<W: WindowName> Publisher<W> {
         );
         match shown {
             Ok(()) => Ok(Told::new(self.writer.published().beginning().again())),
-            Err(_) => Err(Refusal::OutOfMemory),
+            Err(error) => Err(error),
         }
     }
 

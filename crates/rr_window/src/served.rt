@@ -1,9 +1,8 @@
 //! What a window serves: the registry of a beginning of its list.
 
-ghost use Rattle.std.specs.Prelude.{◌≡◌, List, [], IfOk, IfErr};
+ghost use Rattle.std.specs.Prelude.{◌≡◌, List, [], IfOk};
 ghost use Rattle.rr_types.specs.Registry.{holding_of, registry_of, reply_of};
 ghost use Rattle.rr_types.specs.declared.command.Command.{Command};
-ghost use Rattle.rr_types.specs.declared.refusal.Refusal.TheVariants.{OutOfMemory};
 ghost use Rattle.rr_registry.specs.Kept.{kept_of};
 ghost use Rattle.rr_window.specs.Sights.{bindings_with};
 ghost use Rattle.rr_window.specs.Windows.{with_addition};
@@ -14,7 +13,7 @@ use crate::listing::bindings_with;
 use crossbeam_utils::rule::{Outcome, Protocol};
 use left_right::Absorb;
 use rr_registry::{Holding, Registry};
-use rr_types::{Binding, Name, Refusal, Reply, RequestNo};
+use rr_types::{Binding, Name, Reply, RequestNo};
 use std::alloc::{AllocError, Global};
 use std::marker::{Model, PhantomData};
 
@@ -59,12 +58,8 @@ impl Served {
     }
 
     /// The bindings whose names begin with these bytes, in byte order.
-    ///
-    /// # Errors
-    /// `OutOfMemory`.
-    pub fn bindings_with(&self, alloc: Global, prefix: &[u8]) -> Result<Vec<Binding>, Refusal>
+    pub fn bindings_with(&self, alloc: Global, prefix: &[u8]) -> Result<Vec<Binding>, AllocError>
         ensures ok { (list : List Command) → self.now.kept ≡ kept_of list → IfOk result (λ v. v.items ≡ bindings_with prefix.now (registry_of list)) }
-        ensures err { IfErr result (λ e. e ≡ OutOfMemory) }
     {
         bindings_with(alloc, prefix, self.registry.entries())
     }

@@ -1,13 +1,13 @@
 //! Messages as bytes.
 
-ghost use Rattle.std.specs.Prelude.{◌≡◌, ◌<◌, ◌++◌, IfOk, IfErr, OnOk};
+ghost use Rattle.std.specs.Prelude.{◌≡◌, ◌<◌, ◌++◌, IfOk, OnOk};
 ghost use Rattle.rr_types.specs.Limits.{instance_count};
 ghost use Rattle.rr_frame.specs.Numbers.{number_bytes};
 ghost use Rattle.rr_wire.specs.MessageFormat.{body_bytes, message_bytes, IsLawfulBody, IsLawfulMessage};
 
 use bytes::Bytes;
 use rr_frame::{Version, put_command, put_estimate, put_u8, put_u32};
-use rr_types::{Body, Instance, Message, Refusal};
+use rr_types::{Body, Instance, Message};
 use std::alloc::{AllocError, Global};
 
 /// What the most messages take: the fields before a command and a command with short name and value.
@@ -76,10 +76,9 @@ pub(crate) fn put_message(out: &mut Vec<u8>, message: &Message) -> Result<(), Al
 
 /// The one spelling of a message in version 2, in a buffer that can be shared without a copy. Where memory runs out it is
 /// `OutOfMemory`.
-pub fn encode(alloc: Global, message: &Message) -> Result<Bytes, Refusal>
+pub fn encode(alloc: Global, message: &Message) -> Result<Bytes, AllocError>
     ensures ok { IfOk result (λ b. b ≡ message_bytes message.now) }
     ensures lawful { OnOk result (IsLawfulMessage 7 message.now) }
-    ensures err { IfErr result (λ e. e ≡ Refusal.OutOfMemory) }
 {
     let mut out = Vec::with_capacity(alloc, USUAL_LENGTH)?;
     put_message(&mut out, message)?;

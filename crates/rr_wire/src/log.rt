@@ -1,13 +1,13 @@
 //! Messages kept as their bytes.
 
-ghost use Rattle.std.specs.Prelude.{◌≡◌, ◌<◌, [], ◌∷◌, ◌++◌, length, OnOk, OnErr, IfErr, IsTrue, slice_get, slice_index, option_and_then};
+ghost use Rattle.std.specs.Prelude.{◌≡◌, ◌<◌, [], ◌∷◌, ◌++◌, length, OnOk, OnErr, IsTrue, slice_get, slice_index, option_and_then};
 ghost use Rattle.std.specs.Result.{result_ok};
 ghost use Rattle.rr_wire.specs.MessageFormat.{message_bytes, message_in, IsLawfulMessage};
 ghost use Rattle.rr_wire.specs.MessageLogs.{messages_in, are_spellings};
 
 use crate::decoding::decode;
 use crate::encoding::put_message;
-use rr_types::{Body, Command, MAX_NODES, Message, Nodes, Op, Refusal, made_of};
+use rr_types::{Body, Command, MAX_NODES, Message, Nodes, Op, made_of};
 use std::alloc::{AllocError, Global};
 use std::marker::Model;
 
@@ -81,10 +81,9 @@ impl MessageLog {
     /// # Errors
     /// `OutOfMemory`: the log is then as before.
     #[tactic(auto, using(crate::proofs::LogLaws::put_keeps, crate::proofs::LogLaws::put_lists))]
-    pub fn push(&mut self, message: &Message) -> Result<(), Refusal>
+    pub fn push(&mut self, message: &Message) -> Result<(), AllocError>
         ensures ok { OnOk result (self.new ≡ self.old ++ message.now ∷ []) }
         ensures unchanged { OnErr result (self.new ≡ self.old) }
-        ensures err { IfErr result (λ e. e ≡ Refusal.OutOfMemory) }
     {
         spell(&mut self.spelling, message)?;
         self.ends.reserve(1)?;

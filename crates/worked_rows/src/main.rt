@@ -42,9 +42,9 @@ fn printed(alloc: Global, is_tape: bool, bytes: &[u8]) -> Result<Vec<u8>, Refusa
     ensures { IfOk result (λ text. text.items ≡ bytes.now) }
 {
     if is_tape {
-        Tape::parse(alloc, bytes)?.text(alloc)
+        Ok(Tape::parse(alloc, bytes)?.text(alloc)?)
     } else {
-        Schedule::parse(alloc, bytes)?.text(alloc)
+        Ok(Schedule::parse(alloc, bytes)?.text(alloc)?)
     }
 }
 

@@ -1,4 +1,4 @@
-use Rattle.std.proofs.Common.{sym, subst, List}
+use Rattle.std.proofs.Common.{sym, subst, List, Ok}
 use Rattle.std.proofs.lemmas.Result.{err_from_is_err_and}
 use Rattle.std.specs.List.{AllByRecursion}
 use Rattle.rr_text.specs.declared.event.Event.{Event}
@@ -14,13 +14,13 @@ run-requires-clause-ranges c =
     (schedule.nodes, subst (λ (es : List Event). AllByRecursion (IsEvent schedule.nodes) es) (sym c.events.ensures.value) c.events.ensures.valid.each)
 
 pub returns-clause-one_list : goal.returns-clause-one_list
-returns-clause-one_list c = run_agrees c.in_ok-count.count c.events.result.now c.args.schedule.now.events c.run.result c.events.ensures.value c.run.ensures.world
+returns-clause-one_list c = run_agrees c.in_ok-count.count c.events.result.now c.args.schedule.now.events (Ok c.in_ok-report.report) c.events.ensures.value c.in_ok-report.ensures.world
 
 pub returns-clause-real_time : goal.returns-clause-real_time
-returns-clause-real_time c = run_keeps_real_time c.in_ok-count.count c.args.nodes c.events.result.now c.args.schedule.now.events c.run.result c.in_ok-count.ensures.value c.events.ensures.value c.run.ensures.world
+returns-clause-real_time c = run_keeps_real_time c.in_ok-count.count c.args.nodes c.events.result.now c.args.schedule.now.events (Ok c.in_ok-report.report) c.in_ok-count.ensures.value c.events.ensures.value c.in_ok-report.ensures.world
 
 pub returns-clause-clean : goal.returns-clause-clean
-returns-clause-clean c = is_only_one c.in_ok-count.count c.args.nodes c.events.result.now c.args.schedule.now.events c.run.result c.in_ok-count.ensures.value c.events.ensures.value c.run.ensures.world
+returns-clause-clean c = is_only_one c.in_ok-count.count c.args.nodes c.events.result.now c.args.schedule.now.events (Ok c.in_ok-report.report) c.in_ok-count.ensures.value c.events.ensures.value c.in_ok-report.ensures.world
 
 pub returns-in_err-count-clause-bad_event : goal.returns-in_err-count-clause-bad_event
 returns-in_err-count-clause-bad_event c =
