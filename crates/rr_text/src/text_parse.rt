@@ -3,12 +3,12 @@
 //! An event is large, and each call that passes it on copies it. So the short way that most lines take is inlined. What
 //! few lines need stands apart, so that the others don't clear room for it.
 
-ghost use Rattle.std.specs.Prelude.{◌≡◌, ℕ, ◌⊎◌, ◌+◌, ◌<◌, ◌≤◌, ◌++◌, ◌∷◌, [], None, Some, MatchOption, MatchResult, IfOk, IfErr, length};
+ghost use Rattle.std.specs.Prelude.{◌≡◌, ℕ, ◌⊎◌, ◌+◌, ◌<◌, ◌≤◌, ◌++◌, ◌∷◌, [], None, Some, MatchOption, MatchResult, IfSome, IfOk, IfErr, length};
 ghost use Rattle.std.specs.List.{flat_map, AllByRecursion};
 ghost use Rattle.rr_text.specs.Scheduled.{Scheduled, IsEvent, IsSchedule};
 ghost use Rattle.rr_text.specs.Lines.{nodes_line, HasNoLine, ArePrinted, IsStop, IsFirstFault, IsFault};
 ghost use Rattle.rr_text.specs.ScheduleTexts.{event_line, schedule_text};
-ghost use Rattle.rr_text.specs.Reading.{node_alone_at, pairs_at, fill_at, first_node_at, cuts_at, plain_at, fields_at, event_at, nodes_at, count_at};
+ghost use Rattle.rr_text.specs.Reading.{keyword_text, node_alone_at, pairs_at, fill_at, first_node_at, cuts_at, plain_at, fields_at, event_at, nodes_at, count_at};
 
 use crate::event::{Event, Fill};
 use crate::keyword::Keyword;
@@ -283,9 +283,78 @@ pub fn first_line(bytes: &[u8]) -> Result<(Nodes, &[u8]), Refusal>
 ///
 /// # Errors
 /// `BadEvent` of the line where no event stands at the front of the bytes, or a million stand before it; `OutOfMemory`.
-#[tactic(auto, using(crate::proofs::ScheduleReading::event_uncut, crate::proofs::ScheduleReading::event_unread))]
 #[inline(always)]
 pub fn next_event(
+    alloc: Global,
+    nodes: Nodes,
+    bytes: &[u8],
+    line: u64,
+) -> Result<Option<(Event, &[u8])>, Refusal>
+    ensures ok { IfOk result (λ next. MatchOption next (bytes.now ≡ []) (λ x. (line < 1000002) × IsEvent nodes x.0 × (bytes.now ≡ event_line x.0 ++ x.1.now))) }
+    ensures err { IfErr result (λ e. (e ≡ Refusal.OutOfMemory) ⊎ ((e ≡ Refusal.BadEvent line) × (0 < length bytes.now) × ((1000002 ≤ line) ⊎ HasNoLine (IsEvent nodes) event_line bytes.now))) }
+{
+    if line < MAX_EVENTS as u64 + 2 {
+        if let Some(next) = plain_event(nodes, bytes) {
+            return Ok(Some(next));
+        }
+    }
+    any_event(alloc, nodes, bytes, line)
+}
+
+// The event of a line that is matched whole, and the bytes behind it; none for most other lines.
+#[inline(always)]
+fn plain_event(nodes: Nodes, bytes: &[u8]) -> Option<(Event, &[u8])>
+    ensures { IfSome result (λ x. IsEvent nodes x.0 × (bytes.now ≡ event_line x.0 ++ x.1.now)) }
+{
+    let _count = nodes.count();
+    let (keyword, digit, rest) = plain_line(bytes)?;
+    let node = NodeId::new(nodes, digit.checked_sub(b'0')?)?;
+    let event = plain(keyword, node)?;
+    Some((event, rest))
+}
+
+// The parts of a line that is a keyword and one more byte, and the bytes behind it, for the keywords that most lines have.
+// Such a line is matched whole, so that none of its bytes is searched for a space or a line feed.
+#[inline(always)]
+fn plain_line(bytes: &[u8]) -> Option<(Keyword, u8, &[u8])>
+    ensures { IfSome result (λ x. bytes.now ≡ keyword_text x.0 ++ 32 ∷ x.1 ∷ 10 ∷ x.2.now) }
+{
+    match bytes {
+        [b'd', b'e', b'v', b' ', digit, b'\n', rest @ ..] => Some((Keyword::Device, *digit, rest)),
+        [b'a', b'c', b'k', b' ', digit, b'\n', rest @ ..] => Some((Keyword::Ack, *digit, rest)),
+        [b't', b'a', b'k', b'e', b' ', digit, b'\n', rest @ ..] => Some((
+            Keyword::Take,
+            *digit,
+            rest,
+        )),
+        [b'm', b'a', b'r', b'k', b' ', digit, b'\n', rest @ ..] => Some((
+            Keyword::Mark,
+            *digit,
+            rest,
+        )),
+        [b's', b'e', b'n', b'd', b' ', digit, b'\n', rest @ ..] => Some((
+            Keyword::Send,
+            *digit,
+            rest,
+        )),
+        [b't', b'i', b'c', b'k', b' ', digit, b'\n', rest @ ..] => Some((
+            Keyword::Tick,
+            *digit,
+            rest,
+        )),
+        [b's', b'n', b'a', b'p', b' ', digit, b'\n', rest @ ..] => Some((
+            Keyword::Snap,
+            *digit,
+            rest,
+        )),
+        _ => None,
+    }
+}
+
+// The event of a line, whatever it is.
+#[tactic(auto, using(crate::proofs::ScheduleReading::event_uncut, crate::proofs::ScheduleReading::event_unread))]
+#[inline(never)]
+fn any_event(
     alloc: Global,
     nodes: Nodes,
     bytes: &[u8],

@@ -4,7 +4,7 @@ use Rattle.rr_text.specs.Lines.{HasNoLine}
 use Rattle.rr_text.specs.Scheduled.{IsEvent}
 use Rattle.rr_text.specs.ScheduleTexts.{event_line}
 use Rattle.rr_text.proofs.ScheduleReading.{event_taken, event_unread}
-use Rattle.rr_text.proofs.text_parse.next_event.Goals as goal
+use Rattle.rr_text.proofs.text_parse.any_event.Goals as goal
 
 pub returns-in-Some-2-clause-ok : goal.returns-in-Some-2-clause-ok
 returns-in-Some-2-clause-ok c =
