@@ -13,8 +13,7 @@ use crate::shared::Shared;
 use rr_locked::Turnstile;
 use rr_script::{Answer, ScriptLine};
 use rr_types::{
-    Binding, Command, Name, NodeId, NodeSummary, Op, Refusal, Reply, RequestNo, Value,
-    made_of,
+    Binding, Command, Name, NodeId, NodeSummary, Op, Refusal, Reply, RequestNo, Value, made_of,
 };
 use rr_window::{Receipt, Seat, Sight, WindowName};
 use std::alloc::Global;

@@ -15,7 +15,9 @@ use rr_locked::{
     Chase, Kept, Locked, Sent, Standstill, Ticks, Turnstile, Unflushed, input_on, mark_on, send,
     send_on, take_on,
 };
-use rr_types::{Body, Command, Estimate, Group, Input, Message, NodeId, NodeSet, Op, Refusal, made_of};
+use rr_types::{
+    Body, Command, Estimate, Group, Input, Message, NodeId, NodeSet, Op, Refusal, made_of,
+};
 use rr_window::WindowName;
 use std::sync::{Mutex, Wait};
 use std::time::{Clock, Duration};
@@ -236,7 +238,14 @@ fn submit_next<W: WindowName, T: Turnstile, R: Wait>(
     let (node, recorder) = (&desk.locked, shared.recorder);
     let (count, receivers) = {
         let _order = shared.running.order().lock(rt);
-        hear_all(rt, node, recorder, &mut runner.mail, &mut runner.chase, ROOM)?;
+        hear_all(
+            rt,
+            node,
+            recorder,
+            &mut runner.mail,
+            &mut runner.chase,
+            ROOM,
+        )?;
         let count = submit_all(rt, shared, desk);
         (count, put_all(rt, node, recorder, runner, ROOM)?)
     };
@@ -289,7 +298,14 @@ fn tick_next<R: Wait + Clock>(
     if !clockwork.ticks.look(now(rt)?) {
         return Ok(());
     }
-    hear_all(rt, node, recorder, &mut runner.mail, &mut runner.chase, ROOM)?;
+    hear_all(
+        rt,
+        node,
+        recorder,
+        &mut runner.mail,
+        &mut runner.chase,
+        ROOM,
+    )?;
     if hear_again(rt, node, recorder, &mut runner.chase)? {
         return Ok(());
     }
@@ -328,7 +344,14 @@ fn look<W: WindowName, T: Turnstile, R: Wait>(
     let has_marked = mark_next(rt, desk, recorder, &mut runner.backs)?;
     let has_submitted = submit_next(rt, shared, desk, runner)?;
     let has_sent = send_all(rt, &shared.running, node, recorder, runner)?;
-    let has_heard = hear_all(rt, node, recorder, &mut runner.mail, &mut runner.chase, BATCH)?;
+    let has_heard = hear_all(
+        rt,
+        node,
+        recorder,
+        &mut runner.mail,
+        &mut runner.chase,
+        BATCH,
+    )?;
     let has_staged = flush_next(rt, node, recorder, &mut runner.groups)?;
     if has_staged {
         desk.flusher.unpark();

@@ -82,11 +82,7 @@ fn open_parts<D: Disk + Drop, C: Drop>(
             break;
         };
         let kept = Kept::new();
-        let mail = Mail {
-            inbox,
-            ports,
-            kept,
-        };
+        let mail = Mail { inbox, ports, kept };
         let part = open_part(alloc, nodes, node, disk, mail)?;
         parts.push((part, clients))?;
         index = index.saturating_add(1);

@@ -3,8 +3,8 @@
 use crate::desk::{Counter, Desk};
 use crate::node_loop::tell;
 use crate::shared::Shared;
-use rr_types::{Command, Input, Op, Refusal, made_of};
 use rr_locked::{Place, Turnstile};
+use rr_types::{Command, Input, Op, Refusal, made_of};
 use rr_window::WindowName;
 use std::sync::Wait;
 

@@ -140,7 +140,9 @@ impl<'s> Turnstile for UntilOthers<'s> {
 }
 
 /// Three nodes, the last of which can't write after its opening. The others acknowledge their claims before it fails.
-fn others_go_on<R: Threads + Wait + Clock + Abort + AllocGlobal + Sync>(rt: &R) -> Result<bool, Refusal> {
+fn others_go_on<R: Threads + Wait + Clock + Abort + AllocGlobal + Sync>(
+    rt: &R,
+) -> Result<bool, Refusal> {
     let nodes = numbered(rt, 3);
     let shared = Shared::new(claims(rt, rt.alloc(), nodes)?);
     let clients = askers(rt.alloc(), nodes, &shared)?;

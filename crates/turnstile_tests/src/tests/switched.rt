@@ -130,7 +130,9 @@ impl<'s> Client for Guest<'s> {
 }
 
 /// Of three nodes one is stopped and started again: how many claims and looks were answered as they have to be.
-fn right_answers<R: Threads + Wait + Clock + Abort + AllocGlobal + Sync>(rt: &R) -> Result<u64, Refusal> {
+fn right_answers<R: Threads + Wait + Clock + Abort + AllocGlobal + Sync>(
+    rt: &R,
+) -> Result<u64, Refusal> {
     let nodes = numbered(rt, 3);
     let node = node_of(rt, nodes, 1);
     let shared = Shared {
