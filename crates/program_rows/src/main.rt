@@ -19,11 +19,12 @@ use std::rt::Files;
 use std::sync::Wait;
 use std::thread::Threads;
 use std::{env, fs, io};
+use std::time::Clock;
 
 /// Whether a row gives what it wants; what came otherwise is printed.
 fn is_right<
     F: Read + Write + Seek + FileExt + OpenFile + Drop + Send + Lockable,
-    R: Files<File = F> + Print + AllocGlobal + Threads + Wait + Sync,
+    R: Files<File = F> + Print + AllocGlobal + Threads + Wait + Clock + Sync,
 >(rt: &R, library: Library, row: &str) -> io::Result<bool> {
     prepare(rt, row)?;
     let given = outcome_of(rt, library, row)?;
@@ -33,7 +34,7 @@ fn is_right<
 /// How many rows of a file come otherwise.
 fn count_faults<
     F: Read + Write + Seek + FileExt + OpenFile + Drop + Send + Lockable,
-    R: Files<File = F> + Print + AllocGlobal + Threads + Wait + Sync,
+    R: Files<File = F> + Print + AllocGlobal + Threads + Wait + Clock + Sync,
 >(rt: &R, library: Library, path: &str) -> io::Result<u64> {
     let text = fs::read_to_string(rt, path)?;
     let mut rows = 0u64;

@@ -11,6 +11,7 @@ use std::rt::Files;
 use std::sync::Wait;
 use std::thread::Threads;
 use std::{fs, io};
+use std::time::Clock;
 
 /// The library whose call is made.
 #[derive(Clone, Copy, Debug)]
@@ -85,7 +86,7 @@ fn text(bytes: Vec<u8>) -> io::Result<String> {
 /// What the words of a row give with this input.
 fn run<
     F: Read + Write + Seek + FileExt + OpenFile + Drop + Send + Lockable,
-    R: Files<File = F> + AllocGlobal + Threads + Wait + Sync,
+    R: Files<File = F> + AllocGlobal + Threads + Wait + Clock + Sync,
 >(rt: &R, library: Library, words: &[&str], input: &str) -> io::Result<Outcome> {
     let mut input = Counted::new(input.as_bytes());
     let mut out = Counted::new(Vec::new(rt.alloc()));
@@ -105,7 +106,7 @@ fn run<
 /// What a row gives: it has one line `rr WORDS`.
 pub fn outcome_of<
     F: Read + Write + Seek + FileExt + OpenFile + Drop + Send + Lockable,
-    R: Files<File = F> + AllocGlobal + Threads + Wait + Sync,
+    R: Files<File = F> + AllocGlobal + Threads + Wait + Clock + Sync,
 >(rt: &R, library: Library, row: &str) -> io::Result<Outcome> {
     let input = input_of(rt.alloc(), row)?;
     let words: Vec<&str> = line_of(row, "rr").split(' ').collect(rt.alloc())?;

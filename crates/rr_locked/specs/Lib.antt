@@ -1,3 +1,4 @@
+pub mod Chases
 pub mod Endings
 pub mod Listed
 pub mod Flushed

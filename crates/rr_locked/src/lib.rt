@@ -4,9 +4,11 @@
 #![tactic(auto)]
 
 mod among;
+mod chase;
 mod ending;
 mod flusher;
 mod following;
+mod kept;
 mod locked;
 mod recorded;
 mod recording;
@@ -15,13 +17,15 @@ mod standstill;
 mod ticks;
 mod turnstile;
 
+pub use chase::{Chase, Hearing};
 pub use ending::{Ending, Failure};
 pub use flusher::{Unflushed, carry, flush};
 pub use following::Follower;
+pub use kept::Kept;
 pub use locked::Locked;
 pub use recorded::{ack_on, hear_on, input_on, mark_on, send_on, take_on};
 pub use recording::Recording;
 pub use sent::{Sent, send};
 pub use standstill::Standstill;
-pub use ticks::Turns;
+pub use ticks::Ticks;
 pub use turnstile::{Open, Place, Turnstile};

@@ -11,7 +11,7 @@ use std::marker::Model;
 
 /// A message on its way, and its number on the tape; 0 where nothing is recorded. Only what leaves a node becomes one: by
 /// `send_on`, which records it in the same section, or by `send`, where nothing is recorded.
-#[derive(Debug, Drop)]
+#[derive(Clone, Copy, Debug)]
 pub struct Sent {
     number: u32,
     cleared: Cleared,
@@ -23,6 +23,8 @@ impl Model for Sent {
     ghost Value = { Sent };
 
     ghost view = { λ s. record { number = s.number; message = s.cleared } };
+
+    ghost inverse = { λ s. record { number = s.number; cleared = s.message } };
 }
 
 impl Sent {

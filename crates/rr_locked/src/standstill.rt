@@ -6,7 +6,7 @@ ghost use Rattle.rr_locked.specs.Ticks.{is_advance_due, standstill_after};
 use std::marker::Model;
 
 /// Ticks in a row without a new decision, after which the node advances.
-const TICKS: u32 = 3;
+const TICKS: u32 = 10;
 
 /// How many ticks in a row have found nothing new decided since the tick before.
 #[derive(Debug, Drop)]
@@ -23,7 +23,7 @@ impl Model for Standstill {
 
     ghost view = { λ s. record { decided = s.decided; ticks = s.ticks } };
 
-    ghost invariant = { λ s. s.ticks < 3 };
+    ghost invariant = { λ s. s.ticks < 10 };
 }
 
 impl Standstill {
@@ -37,7 +37,7 @@ impl Standstill {
         }
     }
 
-    /// One more tick, which finds `decided` commands decided. Answers whether the node advances now: at the third tick
+    /// One more tick, which finds `decided` commands decided. Answers whether the node advances now: at the tenth tick
     /// in a row without a new decision, after which the count starts again. A round may have no majority in it, and no
     /// coordinator that is suspected. Nodes in different rounds would then wait for one another forever.
     pub fn count(&mut self, decided: usize) -> bool

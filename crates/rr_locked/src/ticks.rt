@@ -1,53 +1,54 @@
 //! When a node ticks.
 
 ghost use Rattle.std.specs.Prelude.{◌≡◌};
-ghost use Rattle.rr_locked.specs.Ticks.{is_tick_due, count_after};
+ghost use Rattle.std.specs.Duration.{as_nanos};
+ghost use Rattle.rr_locked.specs.Ticks.{is_tick_due, ticks_after, until_tick};
 
 use std::marker::Model;
+use std::time::Duration;
 
-/// What a turn counts towards the next tick, and what ends with a tick: a thousand idle turns.
-const BUSY: u32 = 1;
-
-const IDLE: u32 = 10;
-
-const TICK: u32 = 10_000;
-
-/// The turns since the last tick. Contracts see their count, to which an idle turn adds ten and a busy one adds one.
+/// When a node ticked last, by a clock that never goes back, and how long after a tick the next is due. Contracts see
+/// both in nanoseconds.
 #[derive(Debug, Drop)]
-pub struct Turns {
-    count: u32,
+pub struct Ticks {
+    last: Duration,
+    period: Duration,
 }
 
-impl Model for Turns {
-    ghost use Rattle.std.specs.Prelude.{ℕ, ◌<◌};
+impl Model for Ticks {
+    ghost use Rattle.std.specs.Duration.{as_nanos};
+    ghost use Rattle.rr_locked.specs.Ticks.{Ticks};
 
-    ghost Value = { ℕ };
+    ghost Value = { Ticks };
 
-    ghost view = { λ t. t.count };
-
-    ghost invariant = { λ t. t.count < 10000 };
+    ghost view = { λ t. record { last = as_nanos t.last; period = as_nanos t.period } };
 }
 
-impl Turns {
-    /// None yet.
-    pub fn new() -> Turns
-        ensures { result ≡ 0 }
+impl Ticks {
+    /// The first tick is due a period from now.
+    pub fn new(now: Duration, period: Duration) -> Ticks
+        ensures { result ≡ record { last = as_nanos now; period = as_nanos period } }
     {
-        Turns { count: 0 }
+        Ticks { last: now, period }
     }
 
-    /// One more turn, an idle or a busy one. Answers whether the node ticks now: after a thousand idle turns, or ten
-    /// thousand busy ones. Then the count starts again. Busy turns count, since a busy coordinator that sends no beats
-    /// ends up suspected. They count less, since they are shorter.
-    pub fn count(&mut self, is_idle: bool) -> bool
-        ensures due { result ≡ is_tick_due is_idle self.old }
-        ensures count { self.new ≡ count_after is_idle self.old }
+    /// How long it is from now until a tick is due: no time, once it is.
+    pub fn until(&self, now: Duration) -> Duration
+        ensures { as_nanos result ≡ until_tick (as_nanos now) self.now }
     {
-        self.count += if is_idle { IDLE } else { BUSY };
-        if self.count < TICK {
+        self.period.saturating_sub(now.saturating_sub(self.last))
+    }
+
+    /// Whether the node ticks now: it does where a period or more lies behind its last tick. The next is due a period
+    /// from now, so that a node that was held up doesn't make up for ticks that it has missed.
+    pub fn look(&mut self, now: Duration) -> bool
+        ensures due { result ≡ is_tick_due (as_nanos now) self.old }
+        ensures after { self.new ≡ ticks_after (as_nanos now) self.old }
+    {
+        if !self.until(now).is_zero() {
             return false;
         }
-        self.count = 0;
+        self.last = now;
         true
     }
 }

@@ -20,6 +20,7 @@ use std::os::unix::fs::FileExt;
 use std::rt::Files;
 use std::sync::Wait;
 use std::thread::Threads;
+use std::time::Clock;
 
 /// Runs the program `rr` by these words, the first of which is its name, and gives its exit status. It is
 /// `rr_cli::execute_with_views` with two more commands.
@@ -35,7 +36,7 @@ use std::thread::Threads;
 /// wrong is told on `err`: the words, then the folders, ascending, then the file DIR/requests, then the run or a stream.
 pub fn execute<
     F: Read + Write + Seek + FileExt + OpenFile + Drop + Send + Lockable,
-    R: Files<File = F> + AllocGlobal + Threads + Wait + Sync,
+    R: Files<File = F> + AllocGlobal + Threads + Wait + Clock + Sync,
     S: AsStr,
     I: Prompting,
     O: Sink,
@@ -73,7 +74,7 @@ pub fn execute<
 /// with 2, as for a word that is no text.
 pub fn run<
     F: Read + Write + Seek + FileExt + OpenFile + Drop + Send + Lockable,
-    R: Files<File = F> + AllocGlobal + Threads + Wait + Sync,
+    R: Files<File = F> + AllocGlobal + Threads + Wait + Clock + Sync,
     I: Prompting,
     O: Sink,
     E: Write,

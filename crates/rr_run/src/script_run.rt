@@ -27,6 +27,7 @@ use std::os::unix::fs::FileExt;
 use std::rt::Files;
 use std::sync::Wait;
 use std::thread::Threads;
+use std::time::Clock;
 use std::{fs, io};
 
 /// Ends by a folder of a node that another program has locked. A second line tells it.
@@ -159,7 +160,7 @@ fn end_by_tape<R: Files + AllocGlobal, O: Sink, E: Write>(
 // Runs a script over open folders, and prints the answers. The locks are released after the run.
 fn run_in<
     F: Read + Write + Seek + FileExt + OpenFile + Drop + Send,
-    R: Files<File = F> + AllocGlobal + Threads + Wait + Sync,
+    R: Files<File = F> + AllocGlobal + Threads + Wait + Clock + Sync,
     O: Sink,
     E: Write,
 >(rt: &R, dir: &str, folders: Folders<F>, script: &Script, out: &mut O, err: &mut E) -> u8
@@ -179,7 +180,7 @@ fn run_in<
 // Runs a script over fresh folders that are open, writes the tape to a file of this name, and prints the answers.
 fn run_taped<
     F: Read + Write + Seek + FileExt + OpenFile + Drop + Send,
-    R: Files<File = F> + AllocGlobal + Threads + Wait + Sync,
+    R: Files<File = F> + AllocGlobal + Threads + Wait + Clock + Sync,
     O: Sink,
     E: Write,
 >(
@@ -217,7 +218,7 @@ fn run_taped<
 // Runs a script over the folders in the folder DIR, and prints the answers; with a tape where a file is named for it.
 fn run_over<
     F: Read + Write + Seek + FileExt + OpenFile + Drop + Send + Lockable,
-    R: Files<File = F> + AllocGlobal + Threads + Wait + Sync,
+    R: Files<File = F> + AllocGlobal + Threads + Wait + Clock + Sync,
     O: Sink,
     E: Write,
 >(rt: &R, dir: &str, script: &Script, tape: Option<&str>, out: &mut O, err: &mut E) -> u8
@@ -238,7 +239,7 @@ fn run_over<
 // Runs the script that the bytes of this name are.
 fn run_bytes<
     F: Read + Write + Seek + FileExt + OpenFile + Drop + Send + Lockable,
-    R: Files<File = F> + AllocGlobal + Threads + Wait + Sync,
+    R: Files<File = F> + AllocGlobal + Threads + Wait + Clock + Sync,
     O: Sink,
     E: Write,
 >(
@@ -263,7 +264,7 @@ fn run_bytes<
 // Runs the script that the input of this name holds.
 fn run_input<
     F: Read + Write + Seek + FileExt + OpenFile + Drop + Send + Lockable,
-    R: Files<File = F> + AllocGlobal + Threads + Wait + Sync,
+    R: Files<File = F> + AllocGlobal + Threads + Wait + Clock + Sync,
     I: Source,
     O: Sink,
     E: Write,
@@ -289,7 +290,7 @@ fn run_input<
 // Runs the script in a file.
 fn run_file<
     F: Read + Write + Seek + FileExt + OpenFile + Drop + Send + Lockable,
-    R: Files<File = F> + AllocGlobal + Threads + Wait + Sync,
+    R: Files<File = F> + AllocGlobal + Threads + Wait + Clock + Sync,
     O: Sink,
     E: Write,
 >(rt: &R, nodes: Nodes, dir: &str, tape: Option<&str>, path: &str, out: &mut O, err: &mut E) -> u8
@@ -315,7 +316,7 @@ fn run_file<
 /// answers. A word that is no number from 1 to 7, which the command line doesn't let through, ends with 2.
 pub(crate) fn run_by_words<
     F: Read + Write + Seek + FileExt + OpenFile + Drop + Send + Lockable,
-    R: Files<File = F> + AllocGlobal + Threads + Wait + Sync,
+    R: Files<File = F> + AllocGlobal + Threads + Wait + Clock + Sync,
     O: Sink,
     E: Write,
 >(rt: &R, nodes: &str, dir: &str, tape: Option<&str>, path: &str, out: &mut O, err: &mut E) -> u8

@@ -29,6 +29,7 @@ use std::rt::Files;
 use std::sync::Wait;
 use std::thread;
 use std::thread::{Scope, Threads};
+use std::time::Clock;
 
 // The nodes that a shell asks, as this client, with the request numbers of the folder DIR.
 #[derive(Drop)]
@@ -175,7 +176,7 @@ impl<'a, F: FnMut() -> A, A> Work for Lent<'a, F> {
 // Runs the nodes until nothing is asked any more, or the run fails.
 fn run_nodes<
     F: Read + Write + Seek + FileExt + OpenFile + Drop + Send,
-    R: AllocGlobal + Threads + Wait + Sync,
+    R: AllocGlobal + Threads + Wait + Clock + Sync,
 >(
     rt: &R,
     nodes: Nodes,
@@ -195,7 +196,7 @@ fn start_nodes<
     's,
     E,
     F: Read + Write + Seek + FileExt + OpenFile + Drop + Send + 's,
-    R: AllocGlobal + Threads + Wait + Sync + 's,
+    R: AllocGlobal + Threads + Wait + Clock + Sync + 's,
 >(
     scope: &Scope<'s, E>,
     rt: &'s R,
@@ -213,7 +214,7 @@ fn start_nodes<
 // Does some work while the nodes run. Then they come to their end.
 fn run_beside<
     F: Read + Write + Seek + FileExt + OpenFile + Drop + Send,
-    R: AllocGlobal + Threads + Wait + Sync,
+    R: AllocGlobal + Threads + Wait + Clock + Sync,
     T: Work<Output = A> + Drop,
     A,
 >(
@@ -250,7 +251,7 @@ fn take_back<T>(lent: &mut T)
 // Calls a closure while the nodes run.
 fn call_beside<
     F: Read + Write + Seek + FileExt + OpenFile + Drop + Send,
-    R: AllocGlobal + Threads + Wait + Sync,
+    R: AllocGlobal + Threads + Wait + Clock + Sync,
     C: FnMut() -> A,
     A,
 >(
@@ -272,7 +273,7 @@ fn call_beside<
 // Talks while the nodes run.
 fn talk_beside<
     F: Read + Write + Seek + FileExt + OpenFile + Drop + Send,
-    R: AllocGlobal + Threads + Wait + Sync,
+    R: AllocGlobal + Threads + Wait + Clock + Sync,
     I: Prompting,
     O: Sink,
     A: Asked + Drop,
@@ -329,7 +330,7 @@ where
 // Talks over folders that are open, and lets their locks go.
 fn shell_in<
     F: Read + Write + Seek + FileExt + OpenFile + Drop + Send,
-    R: Files<File = F> + AllocGlobal + Threads + Wait + Sync,
+    R: Files<File = F> + AllocGlobal + Threads + Wait + Clock + Sync,
     I: Prompting,
     O: Sink,
     E: Write,
@@ -408,7 +409,7 @@ fn client_of(word: Option<&str>) -> Option<u32>
 // Talks over the folders in the folder DIR.
 fn shell_over<
     F: Read + Write + Seek + FileExt + OpenFile + Drop + Send + Lockable,
-    R: Files<File = F> + AllocGlobal + Threads + Wait + Sync,
+    R: Files<File = F> + AllocGlobal + Threads + Wait + Clock + Sync,
     I: Prompting,
     O: Sink,
     E: Write,
@@ -438,7 +439,7 @@ fn shell_over<
 /// which a word names, or client 0. Words that are no such numbers, which the command line doesn't let through, end with 2.
 pub(crate) fn shell_by_words<
     F: Read + Write + Seek + FileExt + OpenFile + Drop + Send + Lockable,
-    R: Files<File = F> + AllocGlobal + Threads + Wait + Sync,
+    R: Files<File = F> + AllocGlobal + Threads + Wait + Clock + Sync,
     I: Prompting,
     O: Sink,
     E: Write,

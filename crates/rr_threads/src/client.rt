@@ -8,15 +8,12 @@ ghost use Rattle.rr_window.specs.Sights.{bindings_with};
 ghost use Rattle.rr_threads.specs.Asking.{IsAnswered, IsSeen, IsAnswerTo};
 
 use crate::desk::{Counter, Desk};
-use crate::node_loop::tell;
-use crate::recorder::Recorder;
 use crate::rest::{FIRST, LONG, Rest};
 use crate::shared::Shared;
-use rr_locked::{Place, Turnstile};
+use rr_locked::Turnstile;
 use rr_script::{Answer, ScriptLine};
 use rr_types::{
-    Binding, Command, Input, Name, NodeId, NodeSummary, Op, Refusal, Reply, RequestNo, Value,
-    made_of,
+    Binding, Command, Name, NodeId, NodeSummary, Op, Refusal, Reply, RequestNo, Value, made_of,
 };
 use rr_window::{Receipt, Seat, Sight, WindowName};
 use std::alloc::Global;
@@ -55,54 +52,8 @@ impl<'d, 'x, W: WindowName, T, R> Model for Handle<'d, 'x, W, T, R> {
     ghost view = { λ h. record { node = h.node; known = h.seat } };
 }
 
-/// The node is asked for a command. Answers whether the reply is there already.
-fn submit_in<W: WindowName, R: Wait>(
-    rt: &R,
-    desk: &Desk<W>,
-    recorder: Option<&Recorder>,
-    command: &Command,
-) -> Result<bool, Refusal> {
-    let mut locked = desk.locked.lock(rt);
-    tell(rt, &mut locked, recorder, &Input::Submit(*command))?;
-    Ok(locked.reply(command.request).is_some())
-}
-
-/// Whether a submit that is refused so may have been made, and have no place on the tape.
-fn leaves_a_gap(refusal: &Refusal) -> bool {
-    match refusal {
-        Refusal::OutOfMemory | Refusal::BadEvent(_) => true,
-        _ => false,
-    }
-}
-
-/// Asks the node for a command, and answers whether it took that. A run ends whose tape may lack the submit.
-fn is_taken<W: WindowName, T: Turnstile, R: Wait>(
-    rt: &R,
-    shared: &Shared<'_, T>,
-    desk: &Desk<W>,
-    command: &Command,
-) -> bool {
-    let submitted = submit_in(rt, desk, shared.recorder, command);
-    shared.turnstile.pass(desk.node, Place::AfterSubmit);
-    match submitted {
-        Err(refusal) => {
-            if shared.recorder.is_some() && leaves_a_gap(&refusal) {
-                shared.running.fail(rt, desk.node, refusal);
-            }
-            false
-        }
-        Ok(true) => {
-            desk.publisher.unpark();
-            true
-        }
-        Ok(false) => {
-            shared.running.ring(desk.node);
-            true
-        }
-    }
-}
-
-/// The receipt that comes to a counter, unless the node goes down before or the client gives up, after so many looks.
+/// The receipt that comes to a counter, unless the submit is refused, the node goes down before or the client gives up, after so
+/// many looks.
 fn receipt_at<W: WindowName, T, R: Wait>(
     rt: &R,
     shared: &Shared<'_, T>,
@@ -132,10 +83,9 @@ fn receipt_for<W: WindowName, T: Turnstile, R: Wait>(
 ) -> Option<Receipt<W>>
     ensures { IfSome result (λ receipt. receipt.request ≡ command.now.request) }
 {
-    counter.wait_for(rt, command.request);
-    if !is_taken(rt, shared, desk, command) {
-        return None;
-    }
+    counter.want(rt, command);
+    desk.note_wanted();
+    shared.running.ring(desk.node);
     let receipt = receipt_at(rt, shared, desk, counter, looks)?;
     if receipt.request().is_same(command.request) {
         Some(receipt)

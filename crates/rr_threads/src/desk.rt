@@ -5,10 +5,10 @@ ghost use Rattle.rr_types.specs.Registry.{reply_of};
 
 use crate::shared::Shared;
 use rr_locked::Locked;
-use rr_types::{NodeId, Reply, RequestNo};
+use rr_types::{Command, NodeId, Op, Refusal, Reply, RequestNo, made_of};
 use rr_window::{Publisher, Receipt, WindowName};
 use std::mem;
-use std::sync::atomic::{AtomicU64, Ordering};
+use std::sync::atomic::{AtomicBool, AtomicU64, Ordering};
 use std::sync::{Mutex, Wait};
 use std::thread::Parker;
 
@@ -16,7 +16,10 @@ use std::thread::Parker;
 #[derive(Drop)]
 enum Waiting<W: WindowName> {
     Nothing,
+    /// The node's loop is to submit this.
+    Submit(Command),
     Reply(RequestNo),
+    Refused(Refusal),
     Told(Receipt<W>),
 }
 
@@ -36,9 +39,28 @@ impl<W: WindowName> Counter<W> {
         }
     }
 
-    /// From now on the client waits for the reply to this request.
-    pub fn wait_for<R: Wait>(&self, rt: &R, request: RequestNo) {
-        *self.waiting.lock(rt) = Waiting::Reply(request);
+    /// From now on the client waits until this command is submitted, and then for the reply.
+    pub fn want<R: Wait>(&self, rt: &R, command: &Command) {
+        made_of!(Op);
+        *self.waiting.lock(rt) = Waiting::Submit(*command);
+    }
+
+    /// The command that is to be submitted, if there is one. Its client waits for the reply from now on.
+    pub fn take_wanted<R: Wait>(&self, rt: &R) -> Option<Command> {
+        made_of!(Op);
+        let mut waiting = self.waiting.lock(rt);
+        let command = match &*waiting {
+            Waiting::Submit(command) => *command,
+            _ => return None,
+        };
+        *waiting = Waiting::Reply(command.request);
+        Some(command)
+    }
+
+    /// The command that was to be submitted is refused, and its client is rung.
+    pub fn refuse<R: Wait>(&self, rt: &R, refusal: Refusal) {
+        *self.waiting.lock(rt) = Waiting::Refused(refusal);
+        self.bell.unpark();
     }
 
     /// The client waits for nothing any more. A receipt that has come is its.
@@ -49,9 +71,12 @@ impl<W: WindowName> Counter<W> {
         }
     }
 
-    /// Whether a receipt has come.
+    /// Whether a receipt has come, or a refusal.
     pub fn is_told<R: Wait>(&self, rt: &R) -> bool {
-        matches!(*self.waiting.lock(rt), Waiting::Told(_))
+        matches!(
+            *self.waiting.lock(rt),
+            Waiting::Told(_) | Waiting::Refused(_)
+        )
     }
 
     /// If the client waits for the reply to this request, it gets a receipt.
@@ -112,7 +137,7 @@ impl Snapshots {
 }
 
 /// Which node it is, at which move of its switch it came up, the node under its lock, a bell for its flusher and its publisher,
-/// its snapshots, and a counter for each client.
+/// its snapshots, a counter for each client, and whether a command was put on one since the loop last looked.
 #[derive(Drop)]
 pub struct Desk<W: WindowName> {
     pub node: NodeId,
@@ -121,7 +146,8 @@ pub struct Desk<W: WindowName> {
     pub flusher: Parker,
     pub publisher: Parker,
     pub snapshots: Snapshots,
-    counters: Vec<Counter<W>>,
+    pub counters: Vec<Counter<W>>,
+    has_wanted: AtomicBool,
 }
 
 impl<W: WindowName> Desk<W> {
@@ -135,7 +161,18 @@ impl<W: WindowName> Desk<W> {
             publisher: Parker::new(),
             snapshots: Snapshots::new(),
             counters,
+            has_wanted: AtomicBool::new(false),
         }
+    }
+
+    /// A client wants a command to be submitted.
+    pub fn note_wanted(&self) {
+        self.has_wanted.store(true, Ordering::SeqCst);
+    }
+
+    /// Whether a client wanted that since the last call.
+    pub fn take_note(&self) -> bool {
+        self.has_wanted.load(Ordering::SeqCst) && self.has_wanted.swap(false, Ordering::SeqCst)
     }
 
     /// Whether the node goes down, since it is stopped or the run is over.

@@ -13,6 +13,7 @@ use rr_types::{NodeId, Nodes, Refusal};
 use std::alloc::Global;
 use std::sync::Wait;
 use std::thread::Threads;
+use std::time::Clock;
 
 /// Opens a node of this disk. The errors are those of `recover`.
 pub fn open_part<D: Disk + Drop>(
@@ -36,17 +37,17 @@ pub fn open_part<D: Disk + Drop>(
     }
 }
 
-/// Opens a node again of what is left of it. None: the run is over. The errors are those of `recover`.
+/// Opens a node again of what is left of it. None: there is no such node. The errors are those of `recover`.
 fn open_again<D: Disk + Drop>(
     alloc: Global,
     nodes: Nodes,
     node: NodeId,
-    disk: Option<D>,
-    mail: Option<Mail>,
+    disk: D,
+    mail: Mail,
 ) -> Result<Option<Part<D>>, Refusal>
     requires alike { (one other : D) → D.tells one → D.tells other }
 {
-    let (Some(node), Some(disk), Some(mail)) = (NodeId::new(nodes, node.index()), disk, mail) else {
+    let Some(node) = NodeId::new(nodes, node.index()) else {
         return Ok(None);
     };
     let part = open_part(alloc, nodes, node, disk, mail)?;
@@ -58,7 +59,7 @@ fn open_again<D: Disk + Drop>(
 fn live<
     D: Disk + Drop + Send,
     T: Turnstile + Sync,
-    R: Threads + Wait + Sync,
+    R: Threads + Wait + Clock + Sync,
     C: Client + Drop + Send,
 >(
     rt: &R,
@@ -80,7 +81,11 @@ fn live<
             clients: left,
         } = run_part(rt, alloc, shared, moves, part, clients)?;
         shared.note(node, false);
-        match shared.next_life(rt, node) {
+        let (Some(disk), Some(mut mail)) = (disk, mail) else {
+            leave(rt, shared, left.len());
+            return Ok(());
+        };
+        match shared.next_life(rt, node, &mut mail) {
             Some(next) => moves = next,
             None => {
                 leave(rt, shared, left.len());
@@ -107,7 +112,7 @@ fn leave<T, R: Wait>(rt: &R, shared: &Shared<'_, T>, count: usize) {
 pub fn run_lives<
     D: Disk + Drop + Send,
     T: Turnstile + Sync,
-    R: Threads + Wait + Sync,
+    R: Threads + Wait + Clock + Sync,
     C: Client + Drop + Send,
 >(rt: &R, alloc: Global, shared: &Shared<'_, T>, part: Part<D>, clients: Vec<C>)
     requires alike { (one other : D) → D.tells one → D.tells other }

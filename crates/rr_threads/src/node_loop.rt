@@ -3,33 +3,41 @@
 ghost use Rattle.rr_locked.specs.Recorded.{IsNoMessage};
 
 use crate::desk::Desk;
+use crate::hearing::{hear_again, hear_all, hear_kept};
 use crate::recorder::Recorder;
-use crate::rest::{Rest, SHORT};
+use crate::rest::Rest;
 use crate::running::Running;
 use crate::shared::Shared;
-use rr_inbox::{Giver, Outlet, Port, Taker, TrySendError};
+use crate::submitting::{pass_submits, submit_all};
+use rr_inbox::{Giver, Outlet, Port, ROOM, Taker, TrySendError};
 use rr_journal::Synced;
 use rr_locked::{
-    Locked, Sent, Standstill, Turns, Unflushed, hear_on, input_on, mark_on, send, send_on, take_on,
+    Chase, Kept, Locked, Sent, Standstill, Ticks, Turnstile, Unflushed, input_on, mark_on, send,
+    send_on, take_on,
 };
-use rr_types::{Group, Input, NodeId, NodeSet, Refusal};
+use rr_types::{
+    Body, Command, Estimate, Group, Input, Message, NodeId, NodeSet, Op, Refusal, made_of,
+};
 use rr_window::WindowName;
 use std::sync::{Mutex, Wait};
+use std::time::{Clock, Duration};
 
 /// The most messages that are heard in a turn, and the most that are sent.
 const BATCH: usize = 64;
 
-/// A node's inbox, and its end of each node's inbox.
+/// A node's inbox, its end of each node's inbox, and what it kept while it was down.
 #[derive(Drop)]
 pub struct Mail {
     pub inbox: Outlet<Sent>,
     pub ports: Vec<Port<Sent>>,
+    pub kept: Kept,
 }
 
-/// What the loop of a node owns: its mail, and its ends of the hand-overs.
+/// What the loop of a node owns: its mail, what it chases by, and its ends of the hand-overs.
 #[derive(Drop)]
 pub struct Runner {
     pub mail: Mail,
+    pub chase: Chase,
     pub groups: Giver<Group>,
     pub backs: Taker<Result<Synced, Unflushed>>,
 }
@@ -47,44 +55,6 @@ pub fn tell<R: Wait>(
         None => locked.step(input),
         Some(recorder) => input_on(locked, &mut recorder.recording().lock(rt), input),
     }
-}
-
-/// The node hears a message.
-fn hear<R: Wait>(
-    rt: &R,
-    locked: &mut Locked,
-    recorder: Option<&Recorder>,
-    sent: &Sent,
-) -> Result<(), Refusal> {
-    match recorder {
-        None => locked.step(&sent.input()),
-        Some(recorder) => hear_on(locked, &mut recorder.recording().lock(rt), sent),
-    }
-}
-
-/// The messages of the inbox are heard, of many the first. Answers whether there was one.
-fn hear_all<R: Wait>(
-    rt: &R,
-    node: &Mutex<Locked>,
-    recorder: Option<&Recorder>,
-    inbox: &mut Outlet<Sent>,
-) -> Result<bool, Refusal> {
-    // Mostly nothing waits. To ask is cheaper than to make room for a message.
-    if inbox.is_empty() {
-        return Ok(false);
-    }
-    let Some(first) = inbox.take(rt) else {
-        return Ok(false);
-    };
-    let mut locked = node.lock(rt);
-    hear(rt, &mut locked, recorder, &first)?;
-    for _ in 1..BATCH {
-        match inbox.take(rt) {
-            None => break,
-            Some(sent) => hear(rt, &mut locked, recorder, &sent)?,
-        }
-    }
-    Ok(true)
 }
 
 /// The node's group, synced, is marked. Answers whether more is decided by it.
@@ -186,29 +156,55 @@ fn leave<R: Wait>(
     }
 }
 
-/// A message goes into the inbox of its receiver, and is lost where that is full. Gives the receiver.
-fn put<R: Wait>(rt: &R, ports: &mut Vec<Port<Sent>>, sent: Sent) -> NodeId {
-    let to = sent.message().to;
-    if let Some(port) = ports.get_mut(usize::from(to.index())) {
-        let _lost = port.put(rt, sent);
+/// Whether a message is worth waking its receiver. What says that its sender is up and suspects nobody is heard at the
+/// receiver's next tick, which is before it counts.
+fn wakes(message: &Message) -> bool {
+    made_of!(Command, Estimate, Op);
+    match &message.body {
+        Body::Beat => false,
+        Body::Suspects(set) => set.bits() != 0,
+        _ => true,
     }
-    to
 }
 
-/// The messages that may leave go into the inboxes of their receivers, of many the oldest. Gives the receivers.
+/// A message goes into the inbox of its receiver, and is lost where that is full.
+fn put<R: Wait>(rt: &R, ports: &mut Vec<Port<Sent>>, sent: Sent) {
+    if let Some(port) = ports.get_mut(usize::from(sent.message().to.index())) {
+        let _lost = port.put(rt, sent);
+    }
+}
+
+/// Who gets messages, and who is woken by them.
+#[derive(Clone, Copy, Debug)]
+struct Receivers {
+    all: NodeSet,
+    woken: NodeSet,
+}
+
+/// The messages that may leave go into the inboxes of their receivers, of more than `most` the oldest.
 fn put_all<R: Wait>(
     rt: &R,
     node: &Mutex<Locked>,
     recorder: Option<&Recorder>,
-    ports: &mut Vec<Port<Sent>>,
-) -> Result<NodeSet, Refusal> {
-    let mut receivers = NodeSet::empty();
+    runner: &mut Runner,
+    most: usize,
+) -> Result<Receivers, Refusal> {
+    let mut receivers = Receivers {
+        all: NodeSet::empty(),
+        woken: NodeSet::empty(),
+    };
     let mut locked = node.lock(rt);
-    for _ in 0..BATCH {
-        match leave(rt, &mut locked, recorder)? {
-            None => break,
-            Some(sent) => receivers = receivers.with(put(rt, ports, sent)),
+    for _ in 0..most {
+        let Some(sent) = leave(rt, &mut locked, recorder)? else {
+            break;
+        };
+        let to = sent.message().to;
+        receivers.all = receivers.all.with(to);
+        if wakes(sent.message()) {
+            receivers.woken = receivers.woken.with(to);
         }
+        runner.chase.note(&sent);
+        put(rt, &mut runner.mail.ports, sent);
     }
     Ok(receivers)
 }
@@ -220,11 +216,42 @@ fn send_all<R: Wait>(
     running: &Running,
     node: &Mutex<Locked>,
     recorder: Option<&Recorder>,
-    ports: &mut Vec<Port<Sent>>,
+    runner: &mut Runner,
 ) -> Result<bool, Refusal> {
-    let receivers = put_all(rt, node, recorder, ports)?;
-    running.ring_each(receivers);
-    Ok(receivers.bits() != 0)
+    let receivers = put_all(rt, node, recorder, runner, BATCH)?;
+    running.ring_each(receivers.woken);
+    Ok(receivers.all.bits() != 0)
+}
+
+/// What clients of the node want is submitted, one node after another: the node hears what came, submits, and puts what
+/// it owes into the inboxes. So all pools have one order, and two nodes seldom begin two instances with one command.
+/// Answers whether a client wanted something.
+fn submit_next<W: WindowName, T: Turnstile, R: Wait>(
+    rt: &R,
+    shared: &Shared<'_, T>,
+    desk: &Desk<W>,
+    runner: &mut Runner,
+) -> Result<bool, Refusal> {
+    if !desk.take_note() {
+        return Ok(false);
+    }
+    let (node, recorder) = (&desk.locked, shared.recorder);
+    let (count, receivers) = {
+        let _order = shared.running.order().lock(rt);
+        hear_all(
+            rt,
+            node,
+            recorder,
+            &mut runner.mail,
+            &mut runner.chase,
+            ROOM,
+        )?;
+        let count = submit_all(rt, shared, desk);
+        (count, put_all(rt, node, recorder, runner, ROOM)?)
+    };
+    shared.running.ring_each(receivers.woken);
+    pass_submits(shared, desk, count);
+    Ok(true)
 }
 
 /// The node ticks.
@@ -244,22 +271,42 @@ fn advance<R: Wait>(
     }
 }
 
-/// How many turns a node has made since its last tick, and for how many ticks it has got no further.
+/// When a node ticks, and for how many ticks it has got no further.
 #[derive(Drop)]
 struct Clockwork {
-    turns: Turns,
+    ticks: Ticks,
     standstill: Standstill,
 }
 
-/// One more turn: the node ticks where it is time to, and advances where it has got no further.
-fn count_turn<R: Wait>(
+/// What the clock tells. It is `Device` where it can't be read.
+fn now<R: Clock>(rt: &R) -> Result<Duration, Refusal> {
+    match rt.monotonic() {
+        Ok(time) => Ok(time),
+        Err(_) => Err(Refusal::Device),
+    }
+}
+
+/// The node ticks where it is time to and it isn't catching up, and advances where it has got no further. What has come is heard
+/// before.
+fn tick_next<R: Wait + Clock>(
     rt: &R,
     node: &Mutex<Locked>,
     recorder: Option<&Recorder>,
+    runner: &mut Runner,
     clockwork: &mut Clockwork,
-    is_idle: bool,
 ) -> Result<(), Refusal> {
-    if !clockwork.turns.count(is_idle) {
+    if !clockwork.ticks.look(now(rt)?) {
+        return Ok(());
+    }
+    hear_all(
+        rt,
+        node,
+        recorder,
+        &mut runner.mail,
+        &mut runner.chase,
+        ROOM,
+    )?;
+    if hear_again(rt, node, recorder, &mut runner.chase)? {
         return Ok(());
     }
     tick(rt, node, recorder)?;
@@ -270,37 +317,50 @@ fn count_turn<R: Wait>(
     Ok(())
 }
 
-/// Whether the loop of a node rests until someone rings, or looks once more at once.
-fn rests<R: Wait>(rt: &R, running: &Running, node: NodeId, rest: &mut Rest) -> bool {
-    match running.bell(node) {
-        Some(bell) => rest.wait(rt, bell),
-        None => false,
-    }
-}
-
-/// A look at what there is to do: marks what is flushed, sends messages, hears messages, flushes what is staged. In this
-/// order a group that comes back leaves in one look: what it backs is sent, and what was staged meanwhile is flushed.
-/// Answers whether there was something.
-fn look<W: WindowName, R: Wait>(
+/// The loop of a node rests until someone rings or a tick is due; or looks once more at once.
+fn rest_until_tick<R: Wait + Clock>(
     rt: &R,
     running: &Running,
+    node: NodeId,
+    rest: &mut Rest,
+    ticks: &Ticks,
+) -> Result<(), Refusal> {
+    if let Some(bell) = running.bell(node) {
+        rest.wait_for(rt, bell, ticks.until(now(rt)?));
+    }
+    Ok(())
+}
+
+/// A look at what there is to do: marks what is flushed, submits what clients want, sends messages, hears messages, flushes
+/// what is staged. In this order a group that comes back leaves in one look: what it backs is sent, and what was staged
+/// meanwhile is flushed. Answers whether there was something.
+fn look<W: WindowName, T: Turnstile, R: Wait>(
+    rt: &R,
+    shared: &Shared<'_, T>,
     desk: &Desk<W>,
-    recorder: Option<&Recorder>,
     runner: &mut Runner,
 ) -> Result<bool, Refusal> {
-    let node = &desk.locked;
+    let (node, recorder) = (&desk.locked, shared.recorder);
     let has_marked = mark_next(rt, desk, recorder, &mut runner.backs)?;
-    let has_sent = send_all(rt, running, node, recorder, &mut runner.mail.ports)?;
-    let has_heard = hear_all(rt, node, recorder, &mut runner.mail.inbox)?;
+    let has_submitted = submit_next(rt, shared, desk, runner)?;
+    let has_sent = send_all(rt, &shared.running, node, recorder, runner)?;
+    let has_heard = hear_all(
+        rt,
+        node,
+        recorder,
+        &mut runner.mail,
+        &mut runner.chase,
+        BATCH,
+    )?;
     let has_staged = flush_next(rt, node, recorder, &mut runner.groups)?;
     if has_staged {
         desk.flusher.unpark();
     }
-    Ok(has_marked || has_sent || has_heard || has_staged)
+    Ok(has_marked || has_submitted || has_sent || has_heard || has_staged)
 }
 
-/// A turn of the loop: does what there is to do, or rests.
-fn turn<W: WindowName, T, R: Wait>(
+/// A turn of the loop: does what there is to do, or rests. Then the node ticks if it is time to.
+fn turn<W: WindowName, T: Turnstile, R: Wait + Clock>(
     rt: &R,
     shared: &Shared<'_, T>,
     desk: &Desk<W>,
@@ -308,38 +368,67 @@ fn turn<W: WindowName, T, R: Wait>(
     clockwork: &mut Clockwork,
     rest: &mut Rest,
 ) -> Result<(), Refusal> {
-    if look(rt, &shared.running, desk, shared.recorder, runner)? {
+    if look(rt, shared, desk, runner)? {
         rest.end();
-    } else if !rests(rt, &shared.running, desk.node, rest) {
-        return Ok(());
+    } else {
+        rest_until_tick(rt, &shared.running, desk.node, rest, &clockwork.ticks)?;
     }
-    count_turn(rt, &desk.locked, shared.recorder, clockwork, rest.is_long())
+    tick_next(rt, &desk.locked, shared.recorder, runner, clockwork)
+}
+
+/// What a node begins with: it hears what was kept while it was down, and its clock starts.
+fn begin<W: WindowName, T, R: Wait + Clock>(
+    rt: &R,
+    shared: &Shared<'_, T>,
+    desk: &Desk<W>,
+    runner: &mut Runner,
+) -> Result<Clockwork, Refusal> {
+    let Runner {
+        mail,
+        chase,
+        groups: _,
+        backs: _,
+    } = runner;
+    hear_kept(rt, &desk.locked, shared.recorder, mail, chase)?;
+    Ok(Clockwork {
+        ticks: Ticks::new(now(rt)?, shared.tick),
+        standstill: Standstill::new(),
+    })
+}
+
+/// Runs the turns of a node, until it goes down. A refusal ends the run.
+fn run_turns<W: WindowName, T: Turnstile, R: Wait + Clock>(
+    rt: &R,
+    shared: &Shared<'_, T>,
+    desk: &Desk<W>,
+    runner: &mut Runner,
+) -> Result<(), Refusal> {
+    let mut clockwork = begin(rt, shared, desk, runner)?;
+    let mut rest = Rest::rung();
+    for _ in rt.forever() {
+        if desk.is_ending(shared) {
+            break;
+        }
+        turn(rt, shared, desk, runner, &mut clockwork, &mut rest)?;
+    }
+    Ok(())
 }
 
 /// Runs a node, until it goes down. Gives its mail back.
-pub fn run_node<W: WindowName, T, R: Wait>(
+pub fn run_node<W: WindowName, T: Turnstile, R: Wait + Clock>(
     rt: &R,
     shared: &Shared<'_, T>,
     desk: &Desk<W>,
     runner: Runner,
 ) -> Mail {
     let mut runner = runner;
-    let mut clockwork = Clockwork {
-        turns: Turns::new(),
-        standstill: Standstill::new(),
-    };
-    let mut rest = Rest::new(SHORT, SHORT);
-    for _ in rt.forever() {
-        if desk.is_ending(shared) {
-            break;
-        }
-        if let Err(refusal) = turn(rt, shared, desk, &mut runner, &mut clockwork, &mut rest) {
-            shared.running.fail(rt, desk.node, refusal);
-        }
+    if let Err(refusal) = run_turns(rt, shared, desk, &mut runner) {
+        shared.running.fail(rt, desk.node, refusal);
     }
     desk.ring_all();
     let Runner {
         mail,
+        chase: _,
         groups: _,
         backs: _,
     } = runner;

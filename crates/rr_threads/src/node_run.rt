@@ -13,7 +13,7 @@ use rr_core::Core;
 use rr_disk::Disk;
 use rr_inbox::{Giver, Taker, hand_over};
 use rr_journal::{Journal, Synced};
-use rr_locked::{Follower, Locked, Turnstile, Unflushed};
+use rr_locked::{Chase, Follower, Locked, Turnstile, Unflushed};
 use rr_types::{Group, NodeId, Refusal};
 use rr_window::{NewList, Seat, Seats, WindowName};
 use std::alloc::{AllocError, Global};
@@ -21,6 +21,7 @@ use std::marker::Brand;
 use std::sync::Wait;
 use std::thread;
 use std::thread::{JoinHandle, Scope, Threads};
+use std::time::Clock;
 
 /// A node that is up, before its threads start.
 #[derive(Drop)]
@@ -151,6 +152,7 @@ fn share_out<D: Disk>(part: Part<D>, hand_overs: HandOvers) -> Crew<D> {
         },
         runner: Runner {
             mail,
+            chase: Chase::new(),
             groups: group_giver,
             backs: back_taker,
         },
@@ -187,7 +189,7 @@ fn start_loop<
     E,
     W: WindowName + Send + Sync + 's,
     T: Turnstile + Sync + 's,
-    R: Wait + Sync + 's,
+    R: Wait + Clock + Sync + 's,
 >(
     scope: &Scope<'s, E>,
     rt: &'s R,
@@ -316,7 +318,7 @@ fn run_threads<
     W: WindowName + Send + Sync,
     D: Disk + Drop + Send,
     T: Turnstile + Sync,
-    R: Threads + Wait + Sync,
+    R: Threads + Wait + Clock + Sync,
     C: Client + Drop + Send,
 >(
     rt: &'s R,
@@ -354,7 +356,7 @@ fn run_crew<
     W: WindowName + Send + Sync,
     D: Disk + Drop + Send,
     T: Turnstile + Sync,
-    R: Threads + Wait + Sync,
+    R: Threads + Wait + Clock + Sync,
     C: Client + Drop + Send,
 >(
     rt: &R,
@@ -400,7 +402,7 @@ fn run_window<
     W: WindowName + Send + Sync,
     D: Disk + Drop + Send,
     T: Turnstile + Sync,
-    R: Threads + Wait + Sync,
+    R: Threads + Wait + Clock + Sync,
     C: Client + Drop + Send,
 >(
     rt: &R,
@@ -428,7 +430,7 @@ fn run_window<
 pub fn run_part<
     D: Disk + Drop + Send,
     T: Turnstile + Sync,
-    R: Threads + Wait + Sync,
+    R: Threads + Wait + Clock + Sync,
     C: Client + Drop + Send,
 >(
     rt: &R,

@@ -10,9 +10,6 @@ const BUSY_LOOKS: u32 = 10;
 /// The first rest of a thread that nobody rings, in microseconds.
 pub const FIRST: u64 = 500;
 
-/// The rests, in microseconds, of a thread that has a clock to keep.
-pub const SHORT: u64 = 1_000;
-
 /// The longest rests, in microseconds.
 pub const LONG: u64 = 50_000;
 
@@ -20,7 +17,6 @@ pub const LONG: u64 = 50_000;
 #[derive(Debug, Drop)]
 pub struct Rest {
     looks: u32,
-    rests: u32,
     micros: u64,
     first: u64,
     longest: u64,
@@ -31,7 +27,6 @@ impl Rest {
     pub fn new(first: u64, longest: u64) -> Rest {
         Rest {
             looks: 0,
-            rests: 0,
             micros: first,
             first,
             longest,
@@ -46,25 +41,30 @@ impl Rest {
     /// A look found something to do.
     pub fn end(&mut self) {
         self.looks = 0;
-        self.rests = 0;
         self.micros = self.first;
     }
 
     /// A look found nothing to do: after some such looks the thread rests until someone rings, each time twice as long.
-    /// Answers whether it rested.
-    pub fn wait<R: Wait>(&mut self, rt: &R, bell: &Parker) -> bool {
+    pub fn wait<R: Wait>(&mut self, rt: &R, bell: &Parker) {
+        if self.is_due() {
+            bell.park_timeout(rt, Duration::from_micros(self.micros));
+            self.micros = self.micros.saturating_mul(2).min(self.longest);
+        }
+    }
+
+    /// As `wait`, for so long at most.
+    pub fn wait_for<R: Wait>(&mut self, rt: &R, bell: &Parker, most: Duration) {
+        if self.is_due() && !most.is_zero() {
+            bell.park_timeout(rt, most);
+        }
+    }
+
+    /// Whether so many looks were vain that the thread rests.
+    fn is_due(&mut self) -> bool {
         if self.looks < BUSY_LOOKS {
             self.looks += 1;
             return false;
         }
-        bell.park_timeout(rt, Duration::from_micros(self.micros));
-        self.rests = self.rests.saturating_add(1);
-        self.micros = self.micros.saturating_mul(2).min(self.longest);
         true
-    }
-
-    /// Whether the thread has rested twice in a row, and found nothing to do in between.
-    pub fn is_long(&self) -> bool {
-        self.rests > 1
     }
 }

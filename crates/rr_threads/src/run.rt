@@ -13,13 +13,17 @@ use crate::shared::Shared;
 use crate::switches::Switches;
 use rr_disk::Disk;
 use rr_inbox::{Outlet, Port};
-use rr_locked::{Sent, Turnstile};
+use rr_locked::{Kept, Sent, Turnstile};
 use rr_types::{NodeId, Nodes, Refusal};
 use std::alloc::Global;
 use std::collections::VecDeque;
 use std::sync::Wait;
 use std::thread;
 use std::thread::{Scope, Threads};
+use std::time::{Clock, Duration};
+
+/// How long after a tick of a node the next is due, in milliseconds.
+const TICK: u64 = 50;
 
 /// The ends that put into each inbox, for one node.
 fn ports_of(
@@ -77,7 +81,9 @@ fn open_parts<D: Disk + Drop, C: Drop>(
         ) else {
             break;
         };
-        let part = open_part(alloc, nodes, node, disk, Mail { inbox, ports })?;
+        let kept = Kept::new();
+        let mail = Mail { inbox, ports, kept };
+        let part = open_part(alloc, nodes, node, disk, mail)?;
         parts.push((part, clients))?;
         index = index.saturating_add(1);
     }
@@ -91,7 +97,7 @@ fn start_node<
     E,
     D: Disk + Drop + Send + 's,
     T: Turnstile + Sync + 's,
-    R: Threads + Wait + Sync + 's,
+    R: Threads + Wait + Clock + Sync + 's,
     C: Client + Drop + Send + 's,
 >(
     scope: &Scope<'s, E>,
@@ -118,7 +124,7 @@ fn start_all<
     E,
     D: Disk + Drop + Send + 's,
     T: Turnstile + Sync + 's,
-    R: Threads + Wait + Sync + 's,
+    R: Threads + Wait + Clock + Sync + 's,
     C: Client + Drop + Send + 's,
 >(
     scope: &Scope<'s, E>,
@@ -143,7 +149,7 @@ fn run_scope<
     'x,
     D: Disk + Drop + Send,
     T: Turnstile + Sync,
-    R: Threads + Wait + Sync,
+    R: Threads + Wait + Clock + Sync,
     C: Client + Drop + Send,
 >(rt: &'s R, alloc: Global, shared: &'s Shared<'x, T>, parts: Vec<(Part<D>, Vec<C>)>)
     requires alike { (one other : D) → D.tells one → D.tells other }
@@ -170,7 +176,7 @@ fn count_clients<D: Disk, C>(parts: &[(Part<D>, Vec<C>)]) -> usize {
 fn run_all<
     D: Disk + Drop + Send,
     T: Turnstile + Sync,
-    R: Threads + Wait + Sync,
+    R: Threads + Wait + Clock + Sync,
     C: Client + Drop + Send,
 >(
     rt: &R,
@@ -192,6 +198,7 @@ fn run_all<
     let parts = open_parts(alloc, nodes, disks, clients)?;
     let shared = Shared {
         nodes,
+        tick: Duration::from_millis(TICK),
         running: Running::new(alloc, nodes.count(), count_clients(&parts))?,
         recorder,
         switches,
@@ -200,6 +207,7 @@ fn run_all<
     run_scope(rt, alloc, &shared, parts);
     let Shared {
         nodes: _,
+        tick: _,
         running,
         recorder: _,
         switches: _,
@@ -226,7 +234,7 @@ fn run_all<
 pub fn run_clients<
     D: Disk + Drop + Send,
     T: Turnstile + Sync,
-    R: Threads + Wait + Sync,
+    R: Threads + Wait + Clock + Sync,
     C: Client + Drop + Send,
 >(
     rt: &R,
@@ -251,7 +259,7 @@ pub fn run_clients<
 pub fn run_switched<
     D: Disk + Drop + Send,
     T: Turnstile + Sync,
-    R: Threads + Wait + Sync,
+    R: Threads + Wait + Clock + Sync,
     C: Client + Drop + Send,
 >(
     rt: &R,

@@ -7,12 +7,13 @@ use std::sync::atomic::{AtomicBool, Ordering};
 use std::sync::{Mutex, Wait};
 use std::thread::Parker;
 
-/// A run: how it ends, and a bell for the loop of each node.
+/// A run: how it ends, a bell for the loop of each node, and what a loop holds that submits.
 #[derive(Drop)]
 pub struct Running {
     is_over: AtomicBool,
     ending: Mutex<Ending>,
     bells: Vec<Parker>,
+    order: Mutex<()>,
 }
 
 impl Running {
@@ -27,7 +28,13 @@ impl Running {
             is_over: AtomicBool::new(ending.is_over()),
             ending: Mutex::new(ending),
             bells,
+            order: Mutex::new(()),
         })
+    }
+
+    /// What a node's loop holds while it submits, so that one submits after another.
+    pub fn order(&self) -> &Mutex<()> {
+        &self.order
     }
 
     /// Whether it is over.
@@ -89,6 +96,7 @@ impl Running {
             is_over: _,
             ending,
             bells: _,
+            order: _,
         } = self;
         ending.into_inner().refusal()
     }

@@ -13,6 +13,7 @@ use rr_window::WindowName;
 use std::alloc::Global;
 use std::sync::{Mutex, Wait};
 use std::thread::Threads;
+use std::time::Clock;
 
 /// An answer, and the place of its line in the script.
 #[derive(Clone, Copy, Debug)]
@@ -100,7 +101,7 @@ fn readers<'x>(
 ///
 /// # Errors
 /// As of `run_clients`, but `SeatsTaken`. It is `BadNodes` unless there is a disk for each node of the script.
-pub fn run_script<D: Disk + Drop + Send, T: Turnstile + Sync, R: Threads + Wait + Sync>(
+pub fn run_script<D: Disk + Drop + Send, T: Turnstile + Sync, R: Threads + Wait + Clock + Sync>(
     rt: &R,
     alloc: Global,
     disks: Vec<D>,

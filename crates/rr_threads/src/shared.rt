@@ -1,14 +1,19 @@
 //! What all threads of a run share.
 
+use crate::hearing::keep_all;
+use crate::node_loop::Mail;
 use crate::recorder::Recorder;
 use crate::running::Running;
 use crate::switches::Switches;
 use rr_types::{NodeId, Nodes};
 use std::sync::Wait;
+use std::time::Duration;
 
-/// Which nodes run, how the run ends, who records it, who stops nodes, and what its flushers and clients pass.
+/// Which nodes run and how often they tick, how the run ends, who records it, who stops nodes, and what its loops and flushers
+/// pass.
 pub struct Shared<'x, T> {
     pub nodes: Nodes,
+    pub tick: Duration,
     pub running: Running,
     pub recorder: Option<&'x Recorder>,
     pub switches: Option<&'x Switches>,
@@ -32,13 +37,15 @@ impl<'x, T> Shared<'x, T> {
         }
     }
 
-    /// Waits until a node that is down is to come up, and answers at which move of its switch. None: it isn't any more.
-    pub fn next_life<R: Wait>(&self, rt: &R, node: NodeId) -> Option<u64> {
+    /// Waits until a node that is down is to come up, and answers at which move of its switch. None: it isn't any more. Meanwhile
+    /// its inbox is emptied again and again, so that what is kept is late.
+    pub fn next_life<R: Wait>(&self, rt: &R, node: NodeId, mail: &mut Mail) -> Option<u64> {
         let switches = self.switches?;
         for _ in rt.forever() {
             if self.running.is_over() || switches.is_closed() {
                 break;
             }
+            keep_all(rt, mail);
             match switches.moves_if_on(node) {
                 Some(moves) => return Some(moves),
                 None => switches.rest(rt, node),

@@ -8,6 +8,9 @@ use std::sync::atomic::{AtomicBool, AtomicU64, Ordering};
 use std::thread::Parker;
 use std::time::Duration;
 
+/// How long the thread of a node that is down rests, in milliseconds. Then it empties the node's inbox, which has room for 256.
+const DOWN: u64 = 5;
+
 /// How often the switch of a node was moved, and whether the node is up. The switch is on where that number is even.
 #[derive(Drop)]
 struct Switch {
@@ -148,10 +151,10 @@ impl Switches {
         if is_even(moves) { Some(moves) } else { None }
     }
 
-    /// Waits until the node's switch is moved, or a while.
+    /// Waits until the node's switch is moved, or a short while.
     pub(crate) fn rest<R: Wait>(&self, rt: &R, node: NodeId) {
         if let Some(switch) = self.switch(node) {
-            switch.bell.park_timeout(rt, Duration::from_micros(LONG));
+            switch.bell.park_timeout(rt, Duration::from_millis(DOWN));
         }
     }
 

@@ -1,4 +1,5 @@
 mod asking;
+mod catching;
 mod failing;
 mod nodes;
 mod switched;

@@ -10,6 +10,7 @@ use std::process::Abort;
 use std::rt::Files;
 use std::sync::Wait;
 use std::thread::Threads;
+use std::time::Clock;
 
 /// The words of a run of two nodes, one of whose folders is locked.
 const WORDS: [&str; 8] = [
@@ -26,7 +27,7 @@ const WORDS: [&str; 8] = [
 /// Asserts that the run ends with this status, this output and this error.
 fn assert_ended<
     F: Read + Write + Seek + FileExt + OpenFile + Drop + Send + Lockable,
-    R: Files<File = F> + AllocGlobal + Threads + Wait + Sync + Abort,
+    R: Files<File = F> + AllocGlobal + Threads + Wait + Clock + Sync + Abort,
 >(rt: &R, status: u8, text: &str, error: &str) {
     let mut out = Counted::new(Vec::new(rt.alloc()));
     let mut err = Vec::new(rt.alloc());

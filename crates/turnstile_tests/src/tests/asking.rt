@@ -11,6 +11,7 @@ use std::process::Abort;
 use std::sync::Wait;
 use std::sync::atomic::{AtomicBool, AtomicU64, Ordering};
 use std::thread::{Threads, yield_now};
+use std::time::Clock;
 
 /// How many times, at most, a thread looks whether a number has been reached.
 const LOOKS: u32 = 30_000_000;
@@ -165,7 +166,7 @@ pub fn disks_for<R: Abort + AllocGlobal>(rt: &R, nodes: Nodes) -> Vec<MemDisk> {
 pub fn runs<
     T: Turnstile + Sync,
     C: Client + Drop + Send,
-    R: Threads + Wait + Abort + AllocGlobal + Sync,
+    R: Threads + Wait + Clock + Abort + AllocGlobal + Sync,
 >(rt: &R, nodes: Nodes, clients: Vec<Vec<C>>, turnstile: &T) -> bool {
     let disks = disks_for(rt, nodes);
     run_clients(rt, rt.alloc(), nodes, disks, clients, turnstile, None).is_ok()

@@ -12,6 +12,7 @@ use std::io::ErrorKind;
 use std::process::Abort;
 use std::sync::Wait;
 use std::thread::Threads;
+use std::time::Clock;
 
 /// A file in memory whose writes fail after the next `left`.
 #[derive(Drop)]
@@ -82,7 +83,7 @@ fn worn_disk(rt: &impl Abort, alloc: Global, left: u32) -> FileDisk<WornFile> {
 }
 
 /// Runs a script on three nodes. Each file of a node's disk takes the number of writes given for the node.
-fn ran<R: Threads + Wait + Abort + AllocGlobal + Sync>(
+fn ran<R: Threads + Wait + Clock + Abort + AllocGlobal + Sync>(
     rt: &R,
     writes: [u32; 3],
 ) -> Result<Answers, Refusal> {
@@ -139,7 +140,9 @@ impl<'s> Turnstile for UntilOthers<'s> {
 }
 
 /// Three nodes, the last of which can't write after its opening. The others acknowledge their claims before it fails.
-fn others_go_on<R: Threads + Wait + Abort + AllocGlobal + Sync>(rt: &R) -> Result<bool, Refusal> {
+fn others_go_on<R: Threads + Wait + Clock + Abort + AllocGlobal + Sync>(
+    rt: &R,
+) -> Result<bool, Refusal> {
     let nodes = numbered(rt, 3);
     let shared = Shared::new(claims(rt, rt.alloc(), nodes)?);
     let clients = askers(rt.alloc(), nodes, &shared)?;

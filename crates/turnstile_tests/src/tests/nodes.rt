@@ -8,6 +8,7 @@ use std::process::Abort;
 use std::sync::Wait;
 use std::sync::atomic::Ordering;
 use std::thread::Threads;
+use std::time::Clock;
 
 /// More looks than any test needs.
 const LOOKS: u32 = 10_000_000;
@@ -35,7 +36,7 @@ impl<'s> Turnstile for UntilAnswered<'s> {
 }
 
 /// A node with two clients: the second submits while the flush of the first one's command is held.
-fn answers_while_it_flushes<R: Threads + Wait + Abort + AllocGlobal + Sync>(
+fn answers_while_it_flushes<R: Threads + Wait + Clock + Abort + AllocGlobal + Sync>(
     rt: &R,
 ) -> Result<bool, Refusal> {
     let nodes = numbered(rt, 1);
@@ -85,7 +86,7 @@ impl<'s> Turnstile for UntilBoth<'s> {
 }
 
 /// Two nodes with a client each, which claim two names.
-fn two_flush_at_once<R: Threads + Wait + Abort + AllocGlobal + Sync>(
+fn two_flush_at_once<R: Threads + Wait + Clock + Abort + AllocGlobal + Sync>(
     rt: &R,
 ) -> Result<bool, Refusal> {
     let nodes = numbered(rt, 2);
@@ -101,7 +102,7 @@ fn two_nodes_flush_at_once(rt: HostRuntime) {
 }
 
 /// A name is claimed at node 0, and a client of node 1, which submits nothing, looks until it sees that.
-fn a_seat_elsewhere_shows_it<R: Threads + Wait + Abort + AllocGlobal + Sync>(
+fn a_seat_elsewhere_shows_it<R: Threads + Wait + Clock + Abort + AllocGlobal + Sync>(
     rt: &R,
 ) -> Result<bool, Refusal> {
     let nodes = numbered(rt, 2);

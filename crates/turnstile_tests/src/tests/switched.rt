@@ -10,6 +10,7 @@ use std::process::Abort;
 use std::sync::Wait;
 use std::sync::atomic::{AtomicU64, Ordering};
 use std::thread::{Threads, yield_now};
+use std::time::Clock;
 
 /// How many times, at most, a client waits for something.
 const WAITS: u32 = 10_000_000;
@@ -129,7 +130,9 @@ impl<'s> Client for Guest<'s> {
 }
 
 /// Of three nodes one is stopped and started again: how many claims and looks were answered as they have to be.
-fn right_answers<R: Threads + Wait + Abort + AllocGlobal + Sync>(rt: &R) -> Result<u64, Refusal> {
+fn right_answers<R: Threads + Wait + Clock + Abort + AllocGlobal + Sync>(
+    rt: &R,
+) -> Result<u64, Refusal> {
     let nodes = numbered(rt, 3);
     let node = node_of(rt, nodes, 1);
     let shared = Shared {

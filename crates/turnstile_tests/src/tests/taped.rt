@@ -11,6 +11,7 @@ use std::alloc::{AllocError, Global};
 use std::process::Abort;
 use std::sync::Wait;
 use std::thread::Threads;
+use std::time::Clock;
 
 /// A script and its answers: `count` times, a client of the next node in turn claims a name and then looks at it.
 fn claims(alloc: Global, nodes: u8, count: u8) -> Result<(String, String), AllocError>
@@ -33,7 +34,7 @@ fn claims(alloc: Global, nodes: u8, count: u8) -> Result<(String, String), Alloc
 }
 
 /// Runs such a script and holds its answers and its tape against what they have to be.
-fn runs_as_it_has_to<R: Threads + Wait + Abort + AllocGlobal + Sync>(
+fn runs_as_it_has_to<R: Threads + Wait + Clock + Abort + AllocGlobal + Sync>(
     rt: &R,
     count: u8,
     commands: u8,
