@@ -1,27 +1,33 @@
 //! `rr shell`: nodes in threads, and in the program's own thread the talk with the person or program at its standard input.
 
-ghost use Rattle.std.specs.Prelude.{◌≡◌, ◌⊎◌, ℕ, length, IfOk, IfSome, option_map};
+ghost use Rattle.std.specs.Prelude.{◌≡◌, ◌⊎◌, ℕ, length, IfOk, IfErr, IfSome, map, option_map};
 ghost use Rattle.std.specs.Io.KnownBytes.{Keeps};
 ghost use Rattle.std.specs.Thread.{IsSend, IsSync};
+ghost use Rattle.rr_types.specs.declared.refusal.Refusal.TheVariants.{OutOfMemory};
+ghost use Rattle.rr_words.specs.Tasks.{shell_words_in};
 ghost use Rattle.rr_cli.specs.Refusals.{status_of};
+ghost use Rattle.rr_shell.specs.Troubles.{ending_status};
 ghost use Rattle.rr_talk.specs.Talks.{Talks};
-ghost use Rattle.rr_run.specs.Shells.{IsClientBy, EndsOnTalk, EndsOnShell, EndsOnShellWords};
+ghost use Rattle.rr_run.specs.Shells.{IsClientBy, EndsOnTalk, EndsOnShell, EndsOnLines, EndsOnShellWords, lines_text};
 
+use crate::defaults::{FOLDER, nodes_by, show_defaults};
 use crate::folder::{Folders, Opening, open_folders};
 use crate::lock::Lockable;
 use crate::post::{Post, Question, Teller, Told, tellers};
 use crate::requests::{Block, reserve};
 use crate::script_run::{end_by_run_fault, end_in_use};
-use rr_cli::{end_by_refusal, end_by_stream, end_by_unprinted, nodes_of, number_in};
+use rr_cli::{ShellWords, end_by_refusal, end_by_stream, end_by_unprinted, number_in};
 use rr_disk::{FileDisk, OpenedFile};
 use rr_locked::Open;
 use rr_script::{Answer, ScriptLine};
-use rr_shell::{Listing, NodeStatus, is_listing_at};
-use rr_stream::Sink;
+use rr_shell::{Listing, NodeStatus, Trouble, is_listing_at};
+use rr_stream::{Counted, Sink};
 use rr_talk::{Asked, Prompting, Stop, is_reply_at, is_sight_at, talk};
+use rr_text::text_word::{push_byte, push_bytes};
 use rr_threads::run_switched;
 use rr_types::{Command, Name, NodeId, Nodes, Op, Refusal, Reply, RequestNo, Value, made_of};
 use rr_words::LAST_CLIENT;
+use std::alloc::Global;
 use std::fs::OpenFile;
 use std::io::{Read, Seek, Write};
 use std::os::unix::fs::FileExt;
@@ -283,11 +289,12 @@ fn talk_beside<
     clients: Vec<Vec<Teller<'_>>>,
     post: &Post,
     json: bool,
+    strict: bool,
     asked: A,
     input: &mut I,
     out: &mut O,
-) -> Result<(), Stop>
-    ensures { Talks json nodes (I.reading input.old) (I.reading input.new) (O.printing out.old) (O.printing out.new) result }
+) -> Result<Option<Trouble>, Stop>
+    ensures { Talks json strict nodes (I.reading input.old) (I.reading input.new) (O.printing out.old) (O.printing out.new) result }
 {
     let alloc = rt.alloc();
     let mut asked = asked;
@@ -297,8 +304,18 @@ fn talk_beside<
         disks,
         clients,
         post,
-        &mut || talk(alloc, nodes, json, &mut asked, input, out),
+        &mut || talk(alloc, nodes, json, strict, &mut asked, input, out),
     )
+}
+
+// The status behind a talk that is over: that of the trouble that ended it, or 0.
+fn ending_status(trouble: Option<Trouble>) -> u8
+    ensures { result ≡ ending_status trouble }
+{
+    match trouble {
+        Some(trouble) => trouble.status(),
+        None => 0,
+    }
 }
 
 // Ends by a talk, and the refusal of the run if that has one.
@@ -307,7 +324,7 @@ fn end_by_talk<R: Files + AllocGlobal, E: Write>(
     err: &mut E,
     dir: &str,
     nodes: Nodes,
-    talked: Result<(), Stop>,
+    talked: Result<Option<Trouble>, Stop>,
     refusal: Option<Refusal>,
 ) -> u8
 where
@@ -316,9 +333,9 @@ where
     ensures quiet { result ≡ 0 → Keeps (E.contents err.old) (E.contents err.new) }
 {
     match talked {
-        Ok(()) => match refusal {
+        Ok(trouble) => match refusal {
             Some(refusal) => end_by_run_fault(rt, err, dir, nodes, &refusal),
-            None => 0,
+            None => ending_status(trouble),
         },
         Err(Stop::Refused(refusal)) => end_by_run_fault(rt, err, dir, nodes, &refusal),
         Err(Stop::Unread(error)) => end_by_stream(err, "standard input", &error),
@@ -339,12 +356,13 @@ fn shell_in<
     nodes: Nodes,
     client: u32,
     json: bool,
+    strict: bool,
     folders: Folders<F>,
     input: &mut I,
     out: &mut O,
     err: &mut E,
 ) -> u8
-    ensures ends { EndsOnShell json nodes (I.reading input.old) (I.reading input.new) result (O.printing out.old) (O.printing out.new) }
+    ensures ends { EndsOnShell json strict nodes (I.reading input.old) (I.reading input.new) result (O.printing out.old) (O.printing out.new) }
     ensures quiet { result ≡ 0 → Keeps (E.contents err.old) (E.contents err.new) }
 {
     let Folders { locks, disks } = folders;
@@ -367,7 +385,9 @@ fn shell_in<
         block,
         post: &post,
     };
-    let talked = talk_beside(rt, nodes, disks, clients, &post, json, console, input, out);
+    let talked = talk_beside(
+        rt, nodes, disks, clients, &post, json, strict, console, input, out,
+    );
     drop(locks);
     end_by_talk(rt, err, dir, nodes, talked, post.into_refusal())
 }
@@ -418,50 +438,93 @@ fn shell_over<
     dir: &str,
     client: u32,
     json: bool,
+    strict: bool,
     input: &mut I,
     out: &mut O,
     err: &mut E,
 ) -> u8
-    ensures ends { EndsOnShell json nodes (I.reading input.old) (I.reading input.new) result (O.printing out.old) (O.printing out.new) }
+    ensures ends { EndsOnShell json strict nodes (I.reading input.old) (I.reading input.new) result (O.printing out.old) (O.printing out.new) }
     ensures quiet { result ≡ 0 → Keeps (E.contents err.old) (E.contents err.new) }
 {
     match open_folders(rt, nodes, dir) {
         Ok(Opening::Folders(folders)) => {
-            shell_in(rt, dir, nodes, client, json, folders, input, out, err)
+            shell_in(
+                rt, dir, nodes, client, json, strict, folders, input, out, err,
+            )
         }
         Ok(Opening::InUse(node)) => end_in_use(err, dir, node),
         Err(refusal) => end_by_run_fault(rt, err, dir, nodes, &refusal),
     }
 }
 
-/// Runs as many nodes as a word names, over the folders in the folder DIR, and answers the lines of the input. The client is that
-/// which a word names, or client 0. Words that are no such numbers, which the command line doesn't let through, end with 2.
+// The text of lines: each with a line feed behind it.
+fn lines_text(alloc: Global, lines: &[&str]) -> Result<Vec<u8>, Refusal>
+    ensures ok { IfOk result (λ v. v.items ≡ lines_text (map (λ s. s.now) lines.now)) }
+    ensures err { IfErr result (λ e. e ≡ OutOfMemory) }
+{
+    let mut text = Vec::new(alloc);
+    for line in lines {
+        push_bytes(&mut text, line.as_bytes())?;
+        push_byte(&mut text, b'\n')?;
+    }
+    Ok(text)
+}
+
+// Talks over the folders in the folder DIR, by these lines. The input is left alone.
+fn shell_by_lines<
+    F: Read + Write + Seek + FileExt + OpenFile + Drop + Send + Lockable,
+    R: Files<File = F> + AllocGlobal + Threads + Wait + Sync,
+    O: Sink,
+    E: Write,
+>(
+    rt: &R,
+    nodes: Nodes,
+    dir: &str,
+    client: u32,
+    json: bool,
+    strict: bool,
+    lines: &[&str],
+    out: &mut O,
+    err: &mut E,
+) -> u8
+    ensures ends { EndsOnLines json strict nodes (map (λ s. s.now) lines.now) result (O.printing out.old) (O.printing out.new) }
+    ensures quiet { result ≡ 0 → Keeps (E.contents err.old) (E.contents err.new) }
+{
+    match lines_text(rt.alloc(), lines) {
+        Ok(text) => {
+            let mut spoken = Counted::new(text.as_slice());
+            shell_over(rt, nodes, dir, client, json, strict, &mut spoken, out, err)
+        }
+        Err(refusal) => end_by_refusal(err, &refusal),
+    }
+}
+
+/// Runs nodes over the folders in a folder, and answers lines, by these words. Without a number of nodes these are as many as
+/// the folder has, or else three. Words that are no such numbers, which the command line doesn't let through, end with 2.
 pub(crate) fn shell_by_words<
     F: Read + Write + Seek + FileExt + OpenFile + Drop + Send + Lockable,
     R: Files<File = F> + AllocGlobal + Threads + Wait + Sync,
     I: Prompting,
     O: Sink,
     E: Write,
->(
-    rt: &R,
-    nodes: &str,
-    dir: &str,
-    client: Option<&str>,
-    json: bool,
-    input: &mut I,
-    out: &mut O,
-    err: &mut E,
-) -> u8
-    ensures ends { EndsOnShellWords nodes.now (option_map (λ s. s.now) client.entry) json (I.reading input.old) (I.reading input.new) result (O.printing out.old) (O.printing out.new) }
+>(rt: &R, words: &ShellWords<'_>, input: &mut I, out: &mut O, err: &mut E) -> u8
+    ensures ends { EndsOnShellWords (shell_words_in words.now) (I.reading input.old) (I.reading input.new) result (O.printing out.old) (O.printing out.new) }
     ensures quiet { result ≡ 0 → Keeps (E.contents err.old) (E.contents err.new) }
 {
-    let Some(nodes) = nodes_of(nodes) else {
+    let (json, strict) = (words.json, words.strict);
+    let dir = words.dir.unwrap_or(FOLDER);
+    let Some(nodes) = nodes_by(rt, words.nodes, dir) else {
         return end_without_numbers(err);
     };
-    match client_of(client) {
-        Some(client) => shell_over(rt, nodes, dir, client, json, input, out, err),
-        None => end_without_numbers(err),
+    let Some(client) = client_of(words.client) else {
+        return end_without_numbers(err);
+    };
+    if !words.lines.is_empty() {
+        let lines = words.lines.as_slice();
+        return shell_by_lines(rt, nodes, dir, client, json, strict, lines, out, err);
     }
+    show_defaults(rt.alloc(), words, nodes, dir, input);
+    shell_over(rt, nodes, dir, client, json, strict, input, out, err)
 }
 
 // Ends where words name no number of nodes or no client.

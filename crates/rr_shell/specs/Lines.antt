@@ -1,5 +1,5 @@
 -- What a line of a shell asks for: reading it from left to right, as the code does.
-use Rattle.std.specs.Prelude.{ℕ, if◌then◌else◌, is_some, List, [], codes, Option, None, Some, Result, Ok, Err}
+use Rattle.std.specs.Prelude.{ℕ, if◌then◌else◌, ◌||◌, is_some, List, [], codes, Option, None, Some, Result, Ok, Err}
 use Rattle.std.specs.Str.{bytes_eq}
 use Rattle.rr_types.specs.declared.command.OpKind.{OpKind}
 use Rattle.rr_types.specs.declared.command.OpKind.TheVariants.{Claim, Update, Release, Transfer}
@@ -71,7 +71,7 @@ control_from n text parts =
     else (if bytes_eq parts.0 (codes "snapshot") then snapshot_at n parts.1
     else (if bytes_eq text (codes "status") then Ok Status
     else (if bytes_eq text (codes "help") then Ok Help
-    else (if bytes_eq text (codes "quit") then Ok Quit
+    else (if bytes_eq text (codes "quit") || bytes_eq text (codes "exit") then Ok Quit
     else command_at text parts.0 parts.1)))))
 
 -- what a line of these parts asks for

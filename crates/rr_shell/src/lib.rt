@@ -8,6 +8,7 @@ mod object_text;
 mod said_text;
 mod shell_line;
 mod status;
+mod troubles;
 
 pub use line_read::read_shell_line;
 pub use listing::{Listing, is_listing_at};
@@ -17,3 +18,4 @@ pub use said_text::{
 };
 pub use shell_line::{LineFault, MAX_LINE, ShellLine};
 pub use status::NodeStatus;
+pub use troubles::{Trouble, answer_trouble, listing_trouble};

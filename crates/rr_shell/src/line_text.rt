@@ -267,7 +267,7 @@ pub(crate) fn push_help_text(out: &mut Vec<u8>) -> Result<(), Refusal>
 {
     push_bytes(
         out,
-        b"claim NAME [VALUE], update NAME [VALUE], release NAME, transfer NAME OWNER, look NAME, list [PREFIX], at NODE, stop NODE, start NODE, snapshot NODE, status, help or quit",
+        b"claim NAME [VALUE], update NAME [VALUE], release NAME, transfer NAME OWNER, look NAME, list [PREFIX], at NODE, stop NODE, start NODE, snapshot NODE, status, help, quit or exit",
     )
 }
 
@@ -303,7 +303,7 @@ pub(crate) fn push_fault_text(
     match fault {
         LineFault::NoCommand => push_bytes(
             out,
-            b"no such command: claim, update, release, transfer, look, list, at, stop, start, snapshot, status, help or quit is expected",
+            b"no such command: claim, update, release, transfer, look, list, at, stop, start, snapshot, status, help, quit or exit is expected",
         ),
         LineFault::BadName => push_bytes(
             out,

@@ -11,4 +11,4 @@ mod talking;
 pub use answering::{Asked, is_reply_at, is_sight_at};
 pub use hearing::{Heard, hear};
 pub use prompting::{Prompted, Prompting};
-pub use talking::{Stop, talk};
+pub use talking::{Stop, Turn, talk};

@@ -1,13 +1,14 @@
 //! The talk of a shell: it hears a line, says what there is to say to it, and hears the next.
 
 ghost use Rattle.std.specs.Prelude.{◌≡◌, ◌<◌, IfOk, OnErr};
-ghost use Rattle.rr_talk.specs.Talks.{IsSaidTo, IsTurn, IsFrontSaid, Talks};
+ghost use Rattle.std.specs.Io.BufRead.{strip_last};
+ghost use Rattle.rr_talk.specs.Talks.{IsSaidTo, IsTurn, IsFrontSaid, ending_trouble, Talks};
 
 use crate::answering::Asked;
 use crate::hearing::{Heard, hear};
 use crate::prompting::Prompting;
 use crate::saying::{Said, faulted, said_to_request};
-use rr_shell::{LineFault, read_shell_line};
+use rr_shell::{LineFault, Trouble, read_shell_line};
 use rr_stream::{Sink, print_all};
 use rr_types::{NodeId, Nodes, Refusal};
 use std::alloc::Global;
@@ -24,6 +25,25 @@ pub enum Stop {
     Unprinted(io::Error),
 }
 
+/// Which node is asked behind a turn, and why its line wasn't answered as it asked, if it wasn't.
+#[derive(Clone, Copy, Debug)]
+pub struct Turn {
+    pub node: NodeId,
+    pub trouble: Option<Trouble>,
+}
+
+// A line without the carriage return that it ends with, if it does.
+fn without_return(line: &[u8]) -> &[u8]
+    ensures { result.now ≡ strip_last 13 line.now }
+{
+    let count = line.len();
+    if 0 < count && line[count - 1] == b'\r' {
+        &line[..count - 1]
+    } else {
+        line
+    }
+}
+
 // What is said to what was heard, where this node is asked. None: the talk is over.
 fn said_to<A: Asked>(
     alloc: Global,
@@ -36,13 +56,16 @@ fn said_to<A: Asked>(
     ensures { IfOk result (IsSaidTo json nodes node heard.now) }
 {
     let line = match heard {
-        Heard::Line(line) => line.as_slice(),
+        Heard::Line(line) => without_return(line.as_slice()),
         Heard::TooLong => return Ok(Some(faulted(alloc, json, nodes, node, LineFault::TooLong)?)),
         Heard::End => return Ok(None),
     };
     if let [] = line {
-        let text = Vec::new(alloc);
-        return Ok(Some(Said { node, text }));
+        return Ok(Some(Said {
+            node,
+            text: Vec::new(alloc),
+            trouble: None,
+        }));
     }
     match read_shell_line(nodes, line) {
         Ok(line) => said_to_request(alloc, json, nodes, node, asked, &line),
@@ -50,7 +73,7 @@ fn said_to<A: Asked>(
     }
 }
 
-// Hears a line and says what there is to say to it, where this node is asked. The node that is asked then; none: the talk is over.
+// Hears a line and says what there is to say to it, where this node is asked. None: the talk is over.
 fn take_turn<I: Prompting, O: Sink, A: Asked>(
     alloc: Global,
     json: bool,
@@ -59,7 +82,7 @@ fn take_turn<I: Prompting, O: Sink, A: Asked>(
     asked: &mut A,
     input: &mut I,
     out: &mut O,
-) -> Result<Option<NodeId>, Stop>
+) -> Result<Option<Turn>, Stop>
     ensures turn { IfOk result (IsTurn json nodes node (I.reading input.old) (I.reading input.new) (O.printing out.old) (O.printing out.new)) }
     ensures front { OnErr result (IsFrontSaid (O.printing out.old) (O.printing out.new)) }
 {
@@ -73,9 +96,13 @@ fn take_turn<I: Prompting, O: Sink, A: Asked>(
         Ok(None) => return Ok(None),
         Err(refusal) => return Err(Stop::Refused(refusal)),
     };
-    let Said { node, text } = said;
+    let Said {
+        node,
+        text,
+        trouble,
+    } = said;
     match print_all(out, text.as_slice()) {
-        Ok(()) => Ok(Some(node)),
+        Ok(()) => Ok(Some(Turn { node, trouble })),
         Err(error) => Err(Stop::Unprinted(error)),
     }
 }
@@ -90,8 +117,16 @@ fn first_node(nodes: Nodes) -> NodeId
     }
 }
 
+// Why a talk ends behind a turn: strict, it ends where the line wasn't answered as it asked.
+fn ending_trouble(strict: bool, turn: Turn) -> Option<Trouble>
+    ensures { result ≡ ending_trouble strict turn }
+{
+    if strict { turn.trouble } else { None }
+}
+
 /// Waits until the nodes can be asked. Then it hears line after line, each behind a prompt where somebody types, and says to each
-/// what there is to say, in words or with JSON, before it hears the next. It ends with a line that asks for that, or with the input. Node 0 is asked first.
+/// what there is to say, in words or with JSON, before it hears the next. It ends with a line that asks for that, or with the
+/// input. Strict, it also ends behind the first line that isn't answered as it asked, and tells why. Node 0 is asked first.
 ///
 /// # Errors
 /// `Refused`: what `asked` refuses with, or `OutOfMemory`; `Unread` and `Unprinted`: those of the streams. By then a front of
@@ -100,21 +135,25 @@ pub fn talk<I: Prompting, O: Sink, A: Asked>(
     alloc: Global,
     nodes: Nodes,
     json: bool,
+    strict: bool,
     asked: &mut A,
     input: &mut I,
     out: &mut O,
-) -> Result<(), Stop>
-    ensures { Talks json nodes (I.reading input.old) (I.reading input.new) (O.printing out.old) (O.printing out.new) result }
+) -> Result<Option<Trouble>, Stop>
+    ensures { Talks json strict nodes (I.reading input.old) (I.reading input.new) (O.printing out.old) (O.printing out.new) result }
 {
     if let Err(refusal) = asked.wait_until_ready() {
         return Err(Stop::Refused(refusal));
     }
     let mut node = first_node(nodes);
     'turns: for _ in 0..u64::MAX {
-        match take_turn(alloc, json, nodes, node, asked, input, out)? {
-            Some(next) => node = next,
-            None => return Ok(()),
+        let Some(turn) = take_turn(alloc, json, nodes, node, asked, input, out)? else {
+            return Ok(None);
+        };
+        if let Some(trouble) = ending_trouble(strict, turn) {
+            return Ok(Some(trouble));
         }
+        node = turn.node;
     }
     Err(Stop::Refused(Refusal::TooLarge))
 }
