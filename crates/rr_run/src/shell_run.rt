@@ -1,13 +1,13 @@
 //! `rr shell`: nodes in threads, and in the program's own thread the talk with the person or program at its standard input.
 
-ghost use Rattle.std.specs.Prelude.{◌≡◌, ◌⊎◌, ℕ, length, IfOk, IfErr, IfSome, map, option_map};
+ghost use Rattle.std.specs.Prelude.{◌≡◌, ◌<◌, ◌⊎◌, ℕ, true, length, IfOk, OnOk, IfErr, IfSome, map, option_map};
 ghost use Rattle.std.specs.Io.KnownBytes.{Keeps};
 ghost use Rattle.std.specs.Thread.{IsSend, IsSync};
 ghost use Rattle.rr_types.specs.declared.refusal.Refusal.TheVariants.{OutOfMemory};
 ghost use Rattle.rr_words.specs.Tasks.{shell_words_in};
 ghost use Rattle.rr_cli.specs.Refusals.{status_of};
 ghost use Rattle.rr_shell.specs.Troubles.{ending_status};
-ghost use Rattle.rr_talk.specs.Talks.{Talks};
+ghost use Rattle.rr_talk.specs.Talks.{is_outcome_at, IsOf, IsKept, Talks};
 ghost use Rattle.rr_run.specs.Shells.{IsClientBy, EndsOnTalk, EndsOnShell, EndsOnLines, EndsOnShellWords, lines_text};
 
 use crate::defaults::{FOLDER, nodes_by, show_defaults};
@@ -19,10 +19,10 @@ use crate::script_run::{end_by_run_fault, end_in_use};
 use rr_cli::{ShellWords, end_by_refusal, end_by_stream, end_by_unprinted, number_in};
 use rr_disk::{FileDisk, OpenedFile};
 use rr_locked::Open;
-use rr_script::{Answer, ScriptLine};
-use rr_shell::{Listing, NodeStatus, Trouble, is_listing_at};
+use rr_script::Answer;
+use rr_shell::{Listing, NodeStatus, Outcome, Trouble, is_listing_at, is_nearly_full};
 use rr_stream::{Counted, Sink};
-use rr_talk::{Asked, Prompting, Stop, is_reply_at, is_sight_at, talk};
+use rr_talk::{Asked, Hint, Prompting, Stop, is_sight_at, talk};
 use rr_text::text_word::{push_byte, push_bytes};
 use rr_threads::run_switched;
 use rr_types::{Command, Name, NodeId, Nodes, Op, Refusal, Reply, RequestNo, Value, made_of};
@@ -36,14 +36,70 @@ use std::sync::Wait;
 use std::thread;
 use std::thread::{Scope, Threads};
 
-// The nodes that a shell asks, as this client, with the request numbers of the folder DIR.
+// The nodes that a shell asks, as this client, with the request numbers of the folder DIR; the command that isn't acknowledged
+// and may be asked again; and what a person is to be told.
 #[derive(Drop)]
 struct Console<'x, R> {
     rt: &'x R,
     dir: &'x str,
+    nodes: Nodes,
     client: u32,
     block: Block,
     post: &'x Post,
+    unanswered: Option<Command>,
+    hint: Option<Hint>,
+    has_warned: bool,
+}
+
+// What a submit of a command at a node has come to, by what is told of it.
+fn outcome_told(node: NodeId, command: &Command, told: &Told) -> Outcome
+    ensures outcome { is_outcome_at node result ≡ true }
+    ensures of { IsOf command.now result }
+{
+    let request = command.request;
+    match told {
+        Told::Outcome(
+            Outcome::Answered(
+                Answer::Acknowledged {
+                    request: own,
+                    reply,
+                    ..
+                },
+            ),
+            _,
+        ) if own.is_same(request) => Outcome::Answered(Answer::Acknowledged {
+            node,
+            request,
+            reply: *reply,
+        }),
+        Told::Outcome(Outcome::ListFull, _) => Outcome::ListFull,
+        Told::Outcome(Outcome::Used(other), _) => Outcome::Used(Command {
+            request,
+            op: other.op,
+        }),
+        _ => Outcome::Answered(Answer::Unacknowledged { node, request }),
+    }
+}
+
+// The command that is kept to be asked again, behind what a submit of it has come to.
+fn kept_behind(command: &Command, outcome: &Outcome) -> Option<Command>
+    ensures { IsOf command.now outcome.now → IsKept command.now.op result outcome.now }
+{
+    match outcome {
+        Outcome::Answered(Answer::Unacknowledged { .. }) => Some(*command),
+        _ => None,
+    }
+}
+
+// What a person is told behind what a submit has come to.
+fn hint_behind(outcome: &Outcome, told: &Told, has_warned: bool) -> Option<Hint> {
+    if matches!(outcome, Outcome::Answered(Answer::Unacknowledged { .. })) {
+        return Some(Hint::Again);
+    }
+    match told {
+        Told::Outcome(_, left) if !has_warned && is_nearly_full(*left) => Some(Hint::Left(*left)),
+        _ => None,
+    }
 }
 
 impl<'x, R: Files + AllocGlobal + Wait> Console<'x, R> {
@@ -55,38 +111,93 @@ impl<'x, R: Files + AllocGlobal + Wait> Console<'x, R> {
         if let Some(seq) = self.block.take() {
             return Ok(RequestNo { client, seq });
         }
-        self.block = reserve(self.rt, self.dir)?;
+        self.block = reserve(self.rt, self.dir, 0)?;
         match self.block.take() {
             Some(seq) => Ok(RequestNo { client, seq }),
             None => Err(Refusal::TooLarge),
         }
     }
+
+    // Gives no number up to this one, which a node's facts name.
+    fn pass_number(&mut self, used: u64) -> Result<(), Refusal>
+        ensures above { OnOk result (used < self.new.block.next) }
+        ensures kept { self.new.unanswered ≡ self.old.unanswered }
+    {
+        let Some(least) = used.checked_add(1) else {
+            return Err(Refusal::TooLarge);
+        };
+        if !self.block.begin_at(least) {
+            self.block = reserve(self.rt, self.dir, least)?;
+        }
+        Ok(())
+    }
+
+    // Gives no number that the facts of a node name as this client's.
+    fn pass_numbers(&mut self) -> Result<(), Refusal> {
+        for index in 0..self.nodes.count() {
+            let Some(node) = NodeId::new(self.nodes, index) else {
+                unreachable!()
+            };
+            let client = self.client;
+            let told = self
+                .post
+                .ask(self.rt, &Question::Greatest { node, client })?;
+            if let Told::Greatest(Some(used)) = told {
+                self.pass_number(used)?;
+            }
+        }
+        Ok(())
+    }
+
+    // Submits a command at a node.
+    fn put(&mut self, node: NodeId, command: &Command) -> Result<Outcome, Refusal>
+        ensures outcome { IfOk result (λ o. is_outcome_at node o ≡ true) }
+        ensures of { IfOk result (IsOf command.now) }
+        ensures kept { IfOk result (λ o. IsKept command.now.op self.new.unanswered o) }
+    {
+        made_of!(Answer, Command, Op, Name, Reply, Value);
+        let command = *command;
+        let told = self.post.ask(self.rt, &Question::Submit { node, command })?;
+        let outcome = outcome_told(node, &command, &told);
+        self.unanswered = kept_behind(&command, &outcome);
+        self.hint = hint_behind(&outcome, &told, self.has_warned);
+        self.has_warned = self.has_warned || matches!(self.hint, Some(Hint::Left(_)));
+        Ok(outcome)
+    }
 }
 
 impl<'x, R: Files + AllocGlobal + Wait> Asked for Console<'x, R> {
+    ghost unanswered = { λ c. c.unanswered };
+
     fn wait_until_ready(&mut self) -> Result<(), Refusal> {
-        self.post.wait_until_begun(self.rt)
+        self.post.wait_until_begun(self.rt)?;
+        self.pass_numbers()
     }
 
-    fn submit(&mut self, node: NodeId, op: &Op) -> Result<Answer, Refusal> {
-        made_of!(Answer, ScriptLine, Command, Op, Name, Reply, Value);
+    fn submit(&mut self, node: NodeId, op: &Op) -> Result<Outcome, Refusal> {
+        made_of!(Name, Value);
         let request = self.next_request()?;
-        let command = Command { request, op: *op };
-        let line = ScriptLine::Submit { node, command };
-        let told = self.post.ask(self.rt, &Question::Line(line))?;
-        match &told {
-            Told::Answer(answer) if is_reply_at(node, answer) => Ok(*answer),
-            _ => Ok(Answer::Unacknowledged { node, request }),
+        self.put(node, &Command { request, op: *op })
+    }
+
+    fn again(&mut self, node: NodeId) -> Result<Outcome, Refusal> {
+        made_of!(Op, Name, Value);
+        match self.unanswered {
+            Some(command) => self.put(node, &command),
+            None => Ok(Outcome::Nothing),
         }
     }
 
+    fn hint(&mut self) -> Option<Hint> {
+        self.hint.take()
+    }
+
     fn look(&mut self, node: NodeId, name: &Name) -> Result<Answer, Refusal> {
-        made_of!(Answer, ScriptLine, Command, Op, Name, Reply, Value);
+        made_of!(Answer, Name, Reply, Value);
         let name = *name;
-        let line = ScriptLine::Look { node, name };
-        let told = self.post.ask(self.rt, &Question::Line(line))?;
+        let told = self.post.ask(self.rt, &Question::Look { node, name })?;
         match &told {
-            Told::Answer(answer) if is_sight_at(node, &name, answer) => Ok(*answer),
+            Told::Sight(answer) if is_sight_at(node, &name, answer) => Ok(*answer),
             _ => Ok(Answer::Unseen { node, name }),
         }
     }
@@ -366,7 +477,7 @@ fn shell_in<
     ensures quiet { result ≡ 0 → Keeps (E.contents err.old) (E.contents err.new) }
 {
     let Folders { locks, disks } = folders;
-    let block = match reserve(rt, dir) {
+    let block = match reserve(rt, dir, 0) {
         Ok(block) => block,
         Err(refusal) => return end_by_requests(err, dir, &refusal),
     };
@@ -381,9 +492,13 @@ fn shell_in<
     let console = Console {
         rt,
         dir,
+        nodes,
         client,
         block,
         post: &post,
+        unanswered: None,
+        hint: None,
+        has_warned: false,
     };
     let talked = talk_beside(
         rt, nodes, disks, clients, &post, json, strict, console, input, out,
@@ -519,12 +634,14 @@ pub(crate) fn shell_by_words<
     let Some(client) = client_of(words.client) else {
         return end_without_numbers(err);
     };
-    if !words.lines.is_empty() {
-        let lines = words.lines.as_slice();
-        return shell_by_lines(rt, nodes, dir, client, json, strict, lines, out, err);
+    let lines = words.lines.as_slice();
+    match lines {
+        [] => {
+            show_defaults(rt.alloc(), words, nodes, dir, input);
+            shell_over(rt, nodes, dir, client, json, strict, input, out, err)
+        }
+        [_, ..] => shell_by_lines(rt, nodes, dir, client, json, strict, lines, out, err),
     }
-    show_defaults(rt.alloc(), words, nodes, dir, input);
-    shell_over(rt, nodes, dir, client, json, strict, input, out, err)
 }
 
 // Ends where words name no number of nodes or no client.

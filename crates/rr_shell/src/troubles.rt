@@ -1,9 +1,10 @@
 //! Lines that weren't answered as they asked.
 
 ghost use Rattle.std.specs.Prelude.{◌≡◌};
-ghost use Rattle.rr_shell.specs.Troubles.{reply_trouble, answer_trouble, listing_trouble, strict_status};
+ghost use Rattle.rr_shell.specs.Troubles.{reply_trouble, answer_trouble, outcome_trouble, listing_trouble, strict_status};
 
 use crate::listing::Listing;
+use crate::outcome::Outcome;
 use rr_script::Answer;
 use rr_types::Reply;
 
@@ -22,12 +23,14 @@ pub enum Trouble {
     Unacknowledged,
     /// A look or a list saw nothing.
     Unseen,
+    /// The list is full without the command.
+    ListFull,
     /// An error was answered.
     Error,
 }
 
 impl Trouble {
-    /// The status of a shell that ends for this, from 10 to 16.
+    /// The status of a shell that ends for this, from 10 to 17.
     pub fn status(self) -> u8
         ensures { result ≡ strict_status self }
     {
@@ -38,7 +41,8 @@ impl Trouble {
             Trouble::Full => 13,
             Trouble::Unacknowledged => 14,
             Trouble::Unseen => 15,
-            Trouble::Error => 16,
+            Trouble::ListFull => 16,
+            Trouble::Error => 17,
         }
     }
 }
@@ -64,6 +68,17 @@ pub fn answer_trouble(answer: &Answer) -> Option<Trouble>
         Answer::Unacknowledged { .. } => Some(Trouble::Unacknowledged),
         Answer::Free { .. } | Answer::Bound { .. } => None,
         Answer::Unseen { .. } => Some(Trouble::Unseen),
+    }
+}
+
+/// Why what came of a submit isn't what its line asked for. None where it is.
+pub fn outcome_trouble(outcome: &Outcome) -> Option<Trouble>
+    ensures { result ≡ outcome_trouble outcome.now }
+{
+    match outcome {
+        Outcome::Answered(answer) => answer_trouble(answer),
+        Outcome::ListFull => Some(Trouble::ListFull),
+        Outcome::Used(_) | Outcome::Nothing => Some(Trouble::Error),
     }
 }
 

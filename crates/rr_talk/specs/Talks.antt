@@ -4,15 +4,19 @@ use Rattle.std.specs.Str.{bytes_eq}
 use Rattle.std.specs.Io.BufRead.{strip_last}
 use Rattle.std.specs.declared.alloc.Global.{Global}
 use Rattle.rr_types.specs.declared.command.Op.{Op}
+use Rattle.rr_types.specs.declared.command.Command.{Command}
+use Rattle.rr_types.specs.declared.command.RequestNo.{RequestNo}
 use Rattle.rr_script.specs.declared.answer.Answer.{Answer}
 use Rattle.rr_script.specs.declared.answer.Answer.TheVariants.{Acknowledged, Unacknowledged, Free, Bound, Unseen}
 use Rattle.rr_stream.specs.Streams.{Printing, Reading, IsPrinted, IsFrontPrinted}
 use Rattle.rr_talk.specs.declared.hearing.Heard.{Heard}
 use Rattle.rr_talk.specs.declared.hearing.Heard.TheVariants as heard
 use Rattle.rr_shell.specs.declared.listing.Listing.{Listing}
+use Rattle.rr_shell.specs.declared.outcome.Outcome.{Outcome}
+use Rattle.rr_shell.specs.declared.outcome.Outcome.TheVariants as outcome
 use Rattle.rr_shell.specs.declared.status.NodeStatus.{NodeStatus}
 use Rattle.rr_shell.specs.declared.shell_line.ShellLine.{ShellLine}
-use Rattle.rr_shell.specs.declared.shell_line.ShellLine.TheVariants.{Submit, Look, Names, At, Stop, Start, Snapshot, Status, Help, Quit}
+use Rattle.rr_shell.specs.declared.shell_line.ShellLine.TheVariants.{Submit, Look, Names, At, Stop, Start, Snapshot, Status, Again, Help, Quit}
 use Rattle.rr_shell.specs.declared.shell_line.LineFault.{LineFault}
 use Rattle.rr_shell.specs.declared.shell_line.LineFault.TheVariants.{TooLong}
 use Rattle.rr_talk.specs.declared.saying.Said.{Said}
@@ -20,17 +24,47 @@ use Rattle.rr_talk.specs.declared.talking.Turn.{Turn}
 use Rattle.rr_talk.specs.declared.talking.Stop as breaks
 use Rattle.rr_talk.specs.Hearings.{Hears}
 use Rattle.rr_shell.specs.Lines.{shell_line_at}
-use Rattle.rr_shell.specs.Troubles.{answer_trouble, listing_trouble}
+use Rattle.rr_shell.specs.Troubles.{answer_trouble, outcome_trouble, listing_trouble}
 use Rattle.rr_shell.specs.declared.troubles.Trouble.{Trouble}
 use Rattle.rr_shell.specs.declared.troubles.Trouble.TheVariants.{Error}
 use Rattle.rr_shell.specs.Listings.{is_listing_at}
-use Rattle.rr_shell.specs.Forms.{answer_said, list_said, move_said, stop_said, start_said, snapshot_said, no_snapshot_said, down_said, status_said, help_said, fault_said}
+use Rattle.rr_shell.specs.Forms.{answer_said, outcome_said, list_said, move_said, stop_said, start_said, snapshot_said, no_snapshot_said, down_said, status_said, help_said, fault_said}
 
 -- whether an answer is node p's to a submit
 abbrev pub is_reply_at : ℕ → Answer → Bool
 is_reply_at p (Acknowledged q request reply) = q == p
 is_reply_at p (Unacknowledged q request) = q == p
 is_reply_at p _ = false
+
+-- the request that an answer is to
+abbrev pub request_of : Answer → Option RequestNo
+request_of (Acknowledged p q reply) = Some q
+request_of (Unacknowledged p q) = Some q
+request_of a = None
+
+-- whether this came of a submit at node p
+abbrev pub is_outcome_at : ℕ → Outcome → Bool
+is_outcome_at p (outcome.Answered a) = is_reply_at p a
+is_outcome_at p o = true
+
+-- what came of a submit is of this command: an answer or another command names its request number
+abbrev pub IsOf : Command → Outcome → Type 0
+IsOf c (outcome.Answered a) = request_of a ≡ Some c.request
+IsOf c outcome.ListFull = Unit {0}
+IsOf c (outcome.Used other) = other.request ≡ c.request
+IsOf c outcome.Nothing = ⊥
+
+-- what is kept to be asked again behind a submit of this operation: the command with the request number of the answer where
+-- that isn't acknowledged; else nothing
+abbrev pub IsKept : Op → Option Command → Outcome → Type 0
+IsKept op kept (outcome.Answered (Unacknowledged p q)) = kept ≡ Some (record { request = q; op = op })
+IsKept op kept o = kept ≡ None
+
+-- what comes of asking again: nothing where nothing was kept; else it is of the command that was kept, and what is kept then is
+-- as behind a submit of it
+abbrev pub IsAskedAgain : Option Command → Option Command → Outcome → Type 0
+IsAskedAgain None kept o = (o ≡ outcome.Nothing) × (kept ≡ None)
+IsAskedAgain (Some c) kept o = IsOf c o × IsKept c.op kept o
 
 -- whether an answer is node p's to a look at this name
 abbrev pub is_sight_at : ℕ → List ℕ → Answer → Bool
@@ -49,13 +83,15 @@ abbrev pub asks_node : ShellLine → Bool
 asks_node (Submit op) = true
 asks_node (Look name) = true
 asks_node (Names prefix) = true
+asks_node Again = true
 asks_node _ = false
 
 -- what is said to a line that asks for something at node p of n nodes, the node that is asked then, and why that isn't what it
--- asks for, if it isn't: the answer of node p to what it asks, or that this node is down; the names that it lists; the node that
+-- asks for, if it isn't: what comes of a submit or a look at node p, or that this node is down; the names that it lists; the node that
 -- it moves to, stops or starts; that a node has written a snapshot, or hasn't; what each node tells; or the commands
 pub data Grants (json : Bool) (n p : ℕ) : ShellLine → ℕ → List ℕ → Option Trouble → Type 0 where
-  submitted : (op : Op) (a : Answer) → is_reply_at p a ≡ true → Grants json n p (Submit op) p (answer_said json a) (answer_trouble a)
+  submitted : (op : Op) (o : Outcome) → is_outcome_at p o ≡ true → Grants json n p (Submit op) p (outcome_said json o) (outcome_trouble o)
+  again : (o : Outcome) → is_outcome_at p o ≡ true → Grants json n p Again p (outcome_said json o) (outcome_trouble o)
   looked : (name : List ℕ) (a : Answer) → is_sight_at p name a ≡ true → Grants json n p (Look name) p (answer_said json a) (answer_trouble a)
   listed : (prefix : Option (List ℕ)) (l : Listing) → is_listing_at p prefix l ≡ true
       → Grants json n p (Names prefix) p (list_said json l.names) (listing_trouble l.names)

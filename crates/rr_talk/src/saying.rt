@@ -2,15 +2,15 @@
 
 ghost use Rattle.std.specs.Prelude.{◌≡◌, ◌<◌, true, Some, None, IfOk};
 ghost use Rattle.rr_talk.specs.Talks.{Stated, asks_node, IsSaidToRequest};
-ghost use Rattle.rr_shell.specs.Troubles.{answer_trouble, listing_trouble};
-ghost use Rattle.rr_shell.specs.Forms.{answer_said, list_said, move_said, stop_said, start_said, snapshot_said, no_snapshot_said, down_said, help_said, fault_said};
+ghost use Rattle.rr_shell.specs.Troubles.{answer_trouble, outcome_trouble, listing_trouble};
+ghost use Rattle.rr_shell.specs.Forms.{answer_said, outcome_said, list_said, move_said, stop_said, start_said, snapshot_said, no_snapshot_said, down_said, help_said, fault_said};
 
 use crate::answering::Asked;
 use rr_script::Answer;
 use rr_shell::{
-    LineFault, Listing, ShellLine, Trouble, answer_trouble, listing_trouble, say_answer, say_down,
-    say_fault, say_help, say_listing, say_move, say_no_snapshot, say_snapshot, say_start,
-    say_status, say_stop,
+    LineFault, Listing, Outcome, ShellLine, Trouble, answer_trouble, listing_trouble,
+    outcome_trouble, say_answer, say_down, say_fault, say_help, say_listing, say_move,
+    say_no_snapshot, say_outcome, say_snapshot, say_start, say_status, say_stop,
 };
 use rr_types::{Name, NodeId, Nodes, Op, Refusal, Reply, Value, made_of};
 use std::alloc::Global;
@@ -29,6 +29,20 @@ fn answered(alloc: Global, json: bool, node: NodeId, answer: &Answer) -> Result<
     let mut text = Vec::new(alloc);
     say_answer(&mut text, json, answer)?;
     let trouble = answer_trouble(answer);
+    Ok(Said {
+        node,
+        text,
+        trouble,
+    })
+}
+
+// What came of a submit.
+fn submitted(alloc: Global, json: bool, node: NodeId, outcome: &Outcome) -> Result<Said, Refusal>
+    ensures { IfOk result (λ s. (s.node ≡ node) × (s.text.items ≡ outcome_said json outcome.now) × (s.trouble ≡ outcome_trouble outcome.now)) }
+{
+    let mut text = Vec::new(alloc);
+    say_outcome(alloc, &mut text, json, outcome)?;
+    let trouble = outcome_trouble(outcome);
     Ok(Said {
         node,
         text,
@@ -194,6 +208,7 @@ fn asks_node(line: &ShellLine) -> bool
         ShellLine::Submit(_) => true,
         ShellLine::Look(_) => true,
         ShellLine::Names(_) => true,
+        ShellLine::Again => true,
         _ => false,
     }
 }
@@ -221,7 +236,8 @@ pub fn said_to_request<A: Asked>(
         return Ok(Some(down(alloc, json, node)?));
     }
     match line {
-        ShellLine::Submit(op) => Ok(Some(answered(alloc, json, node, &asked.submit(node, op)?)?)),
+        ShellLine::Submit(op) => Ok(Some(submitted(alloc, json, node, &asked.submit(node, op)?)?)),
+        ShellLine::Again => Ok(Some(submitted(alloc, json, node, &asked.again(node)?)?)),
         ShellLine::Look(name) => Ok(Some(answered(alloc, json, node, &asked.look(node, name)?)?)),
         ShellLine::Names(prefix) => Ok(Some(listed(
             alloc,

@@ -4,7 +4,7 @@ ghost use Rattle.std.specs.Prelude.{◌≡◌, ◌<◌, IfOk, OnErr};
 ghost use Rattle.std.specs.Io.BufRead.{strip_last};
 ghost use Rattle.rr_talk.specs.Talks.{IsSaidTo, IsTurn, IsFrontSaid, ending_trouble, Talks};
 
-use crate::answering::Asked;
+use crate::answering::{Asked, Hint};
 use crate::hearing::{Heard, hear};
 use crate::prompting::Prompting;
 use crate::saying::{Said, faulted, said_to_request};
@@ -73,6 +73,24 @@ fn said_to<A: Asked>(
     }
 }
 
+// Shows a hint, where somebody types.
+fn show_hint<I: Prompting>(alloc: Global, input: &mut I, hint: Hint)
+    ensures { I.reading input.new ≡ I.reading input.old }
+{
+    match hint {
+        Hint::Again => input.show(
+            b"it may count or not; \"again\" asks once more under its request number, so that it counts once\n",
+        ),
+        Hint::Left(left) => {
+            if let Ok(text) = format!(in alloc;
+                "the list is nearly full: {left} commands are left\n"
+            ) {
+                input.show(text.as_bytes());
+            }
+        }
+    }
+}
+
 // Hears a line and says what there is to say to it, where this node is asked. None: the talk is over.
 fn take_turn<I: Prompting, O: Sink, A: Asked>(
     alloc: Global,
@@ -101,10 +119,13 @@ fn take_turn<I: Prompting, O: Sink, A: Asked>(
         text,
         trouble,
     } = said;
-    match print_all(out, text.as_slice()) {
-        Ok(()) => Ok(Some(Turn { node, trouble })),
-        Err(error) => Err(Stop::Unprinted(error)),
+    if let Err(error) = print_all(out, text.as_slice()) {
+        return Err(Stop::Unprinted(error));
     }
+    if let Some(hint) = asked.hint() {
+        show_hint(alloc, input, hint);
+    }
+    Ok(Some(Turn { node, trouble }))
 }
 
 // The node that is asked first.

@@ -1,11 +1,14 @@
-use Rattle.rr_talk.specs.Talks.{submitted, looked, listed, is_down, moved, stopped, started, written, unwritten, stated, helped}
+use Rattle.rr_talk.specs.Talks.{submitted, again, looked, listed, is_down, moved, stopped, started, written, unwritten, stated, helped}
 use Rattle.rr_talk.proofs.saying.said_to_request.Goals as goal
 
 pub returns-then-asks_in_vain : goal.returns-then-asks_in_vain
 returns-then-asks_in_vain g c = rw (c.in_ok-down.ensures.0, c.in_ok-down.ensures.1, c.in_ok-down.ensures.2) (is_down c.args.line.now (c.asks_in_vain.ensures c.if-asks_in_vain.true))
 
-pub returns-in_ok-answered-in-Submit : goal.returns-in_ok-answered-in-Submit
-returns-in_ok-answered-in-Submit g c = rw (c.in-Submit.is, c.in_ok-answered-in-Submit.ensures.0, c.in_ok-answered-in-Submit.ensures.1, c.in_ok-answered-in-Submit.ensures.2) (submitted c.in-Submit.op c.in_ok-submit-in-Submit.field-0 c.in_ok-submit-in-Submit.ensures)
+pub returns-in_ok-submitted-in-Submit : goal.returns-in_ok-submitted-in-Submit
+returns-in_ok-submitted-in-Submit g c = rw (c.in-Submit.is, c.in_ok-submitted-in-Submit.ensures.0, c.in_ok-submitted-in-Submit.ensures.1, c.in_ok-submitted-in-Submit.ensures.2) (submitted c.in-Submit.op c.in_ok-submit-in-Submit.field-0 c.in_ok-submit-in-Submit.ensures.outcome)
+
+pub returns-in_ok-submitted-in-Again : goal.returns-in_ok-submitted-in-Again
+returns-in_ok-submitted-in-Again g c = rw (c.in-Again.is, c.in_ok-submitted-in-Again.ensures.0, c.in_ok-submitted-in-Again.ensures.1, c.in_ok-submitted-in-Again.ensures.2) (again c.in_ok-again-in-Again.field-0 c.in_ok-again-in-Again.ensures.outcome)
 
 pub returns-in_ok-answered-in-Look : goal.returns-in_ok-answered-in-Look
 returns-in_ok-answered-in-Look g c = rw (c.in-Look.is, c.in_ok-answered-in-Look.ensures.0, c.in_ok-answered-in-Look.ensures.1, c.in_ok-answered-in-Look.ensures.2) (looked c.in-Look.name c.in_ok-look-in-Look.field-0 c.in_ok-look-in-Look.ensures)
