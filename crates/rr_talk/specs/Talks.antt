@@ -143,15 +143,15 @@ IsTurn json n p from to old new (Some turn) =
     (h : Heard) × (said : List ℕ) × Hears from to h × Exchange json n p h turn.node said turn.trouble × IsPrinted old new said
 
 -- why a talk ends behind a turn: strict, it ends where the line wasn't answered as it asked
-abbrev pub ending_trouble : Bool → Turn → Option Trouble
-ending_trouble strict turn = if strict then turn.trouble else None
+abbrev pub ending_trouble : Bool → Option Trouble → Option Trouble
+ending_trouble strict trouble = if strict then trouble else None
 
 -- a talk so far, from an input and an output on: the node that is asked now, and the input and the output as they are now. Each line
 -- is answered, and the answer flushed, before the next is read
 pub data Talk (json strict : Bool) (n : ℕ) (from : Reading) (old : Printing) : ℕ → Reading → Printing → Type 0 where
   begun : Talk json strict n from old 0 from old
   said : {p : ℕ} {r s : Reading} {a b : Printing} → Talk json strict n from old p r a → (turn : Turn) → IsTurn json n p r s a b (Some turn)
-      → ending_trouble strict turn ≡ None
+      → ending_trouble strict turn.trouble ≡ None
       → Talk json strict n from old turn.node s b
 
 -- a talk that is over: by a line that asks for that, or by the input; or by a line that wasn't answered as it asked, with the trouble
@@ -160,7 +160,7 @@ pub data HasTalked (json strict : Bool) (n : ℕ) (from to : Reading) (old new :
       → HasTalked json strict n from to old new None
   in_trouble : {p : ℕ} {r : Reading} {a : Printing} → Talk json strict n from old p r a
       → (turn : Turn) (trouble : Trouble) → IsTurn json n p r to a new (Some turn)
-      → ending_trouble strict turn ≡ Some trouble
+      → ending_trouble strict turn.trouble ≡ Some trouble
       → HasTalked json strict n from to old new (Some trouble)
 
 -- a front of some text was printed

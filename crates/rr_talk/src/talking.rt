@@ -139,10 +139,10 @@ fn first_node(nodes: Nodes) -> NodeId
 }
 
 // Why a talk ends behind a turn: strict, it ends where the line wasn't answered as it asked.
-fn ending_trouble(strict: bool, turn: Turn) -> Option<Trouble>
-    ensures { result ≡ ending_trouble strict turn }
+fn ending_trouble(strict: bool, trouble: Option<Trouble>) -> Option<Trouble>
+    ensures { result ≡ ending_trouble strict trouble }
 {
-    if strict { turn.trouble } else { None }
+    if strict { trouble } else { None }
 }
 
 /// Waits until the nodes can be asked. Then it hears line after line, each behind a prompt where somebody types, and says to each
@@ -168,13 +168,18 @@ pub fn talk<I: Prompting, O: Sink, A: Asked>(
     }
     let mut node = first_node(nodes);
     'turns: for _ in 0..u64::MAX {
-        let Some(turn) = take_turn(alloc, json, nodes, node, asked, input, out)? else {
-            return Ok(None);
-        };
-        if let Some(trouble) = ending_trouble(strict, turn) {
-            return Ok(Some(trouble));
+        match take_turn(alloc, json, nodes, node, asked, input, out)? {
+            None => return Ok(None),
+            Some(
+                Turn {
+                    node: next,
+                    trouble,
+                },
+            ) => match ending_trouble(strict, trouble) {
+                Some(trouble) => return Ok(Some(trouble)),
+                None => node = next,
+            },
         }
-        node = turn.node;
     }
     Err(Stop::Refused(Refusal::TooLarge))
 }

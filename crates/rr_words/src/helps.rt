@@ -146,7 +146,6 @@ With it the shell ends at the first line that isn't answered as asked, with one 
   10 taken  11 notowner  12 unknown  13 full  14 unacknowledged  15 unseen  16 full list  17 error
 
 Examples:
-  rr shell
   rr shell -c 'claim printer room-4' -c 'look printer'
   printf 'claim printer room-4\\nat 1\\nlook printer\\n' | rr shell --nodes 3 --dir /tmp/nodes --client 7"
 }
