@@ -43,6 +43,9 @@ TOUR = [
             "printf 'look lamp\\nclaim lamp\\nclaim LAMP\\n' | rr shell --nodes 3 --dir talk --client 8 --json",
             "echo 'snapshot 0' | rr shell --nodes 3 --dir talk; rr show talk/0 | sed 's/ facts.*//'",
             "printf 104857 > talk/requests; echo 'look printer' | rr shell --nodes 3 --dir talk",
+            "rr shell -c 'claim printer room-4' -c 'look printer'; ls rr-data",
+            "rr shell --strict -c 'claim printer' -c 'look printer'",
+            "printf 'stop 0\\nat 1\\nstop 2\\nclaim bell\\nstart 2\\nagain\\n' | rr shell",
         ],
     ),
     (

@@ -13,7 +13,7 @@ _rr() {
     sweep) words='--seed -h --help'; takes=files ;;
     draw) words='--from --to --node --instance -h --help'; takes=files ;;
     run) words='--nodes --dir --script --tape -h --help'; takes=nothing ;;
-    shell) words='--nodes --dir --client --json -h --help'; takes=nothing ;;
+    shell) words='--nodes --dir --client -c --command --strict --json -h --help'; takes=nothing ;;
     audit) words='-h --help'; takes=files ;;
     show) words='-h --help'; takes=folders ;;
     migrate) words='--node --nodes -h --help'; takes=folders ;;
@@ -21,6 +21,7 @@ _rr() {
   esac
   case $before in
     --client) takes=nothing; words= ;;
+    --command) takes=nothing; words= ;;
     --dir) takes=folders; words= ;;
     --faults) takes=nothing; words= ;;
     --from) takes=nothing; words= ;;
@@ -32,6 +33,7 @@ _rr() {
     --steps) takes=nothing; words= ;;
     --tape) takes=files; words= ;;
     --to) takes=nothing; words= ;;
+    -c) takes=nothing; words= ;;
   esac
   [ $takes != commands ] || words='sim stats check random sweep draw run shell audit show migrate help'
   COMPREPLY=($(compgen -W "$words" -- "$current"))

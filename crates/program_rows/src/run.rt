@@ -87,7 +87,7 @@ fn text(bytes: Vec<u8>) -> io::Result<String> {
 fn run<
     F: Read + Write + Seek + FileExt + OpenFile + Drop + Send + Lockable,
     R: Files<File = F> + AllocGlobal + Threads + Wait + Clock + Sync,
->(rt: &R, library: Library, words: &[&str], input: &str) -> io::Result<Outcome> {
+>(rt: &R, library: Library, words: &[String], input: &str) -> io::Result<Outcome> {
     let mut input = Counted::new(input.as_bytes());
     let mut out = Counted::new(Vec::new(rt.alloc()));
     let mut err = Vec::new(rt.alloc());
@@ -109,6 +109,9 @@ pub fn outcome_of<
     R: Files<File = F> + AllocGlobal + Threads + Wait + Clock + Sync,
 >(rt: &R, library: Library, row: &str) -> io::Result<Outcome> {
     let input = input_of(rt.alloc(), row)?;
-    let words: Vec<&str> = line_of(row, "rr").split(' ').collect(rt.alloc())?;
+    let mut words = Vec::new(rt.alloc());
+    for word in line_of(row, "rr").split(' ') {
+        words.push(plain(rt.alloc(), word)?)?;
+    }
     run(rt, library, words.as_slice(), input.as_str())
 }

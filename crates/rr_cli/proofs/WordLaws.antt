@@ -3,7 +3,7 @@ use Rattle.std.proofs.Common.{◌≡◌, Bool, List, [], Option, subst}
 use Rattle.clap.specs.Words.{Text}
 use Rattle.clap.specs.Kinds.{Kinds, IsAmong}
 use Rattle.clap.specs.declared.error.kind.ErrorKind.{ErrorKind}
-use Rattle.rr_words.specs.Tasks.{CutWords, RandomWords, View, Simulate, Viewing, Show, Random, Audit, Run, Shell, Sweep, Draw, Migrate}
+use Rattle.rr_words.specs.Tasks.{CutWords, RandomWords, ShellWords, View, Simulate, Viewing, Show, Random, Audit, Run, Shell, Sweep, Draw, Migrate}
 
 -- no kind is among none
 pub none_among : (kind : ErrorKind) (kinds : Kinds) → IsAmong kind kinds → kinds ≡ [] → ⊥
@@ -24,8 +24,8 @@ no_audit file view is = absurd cc
 pub no_run : (nodes dir script tape : Option Text) (view : View) → Run nodes dir script tape ≡ Viewing view → ⊥
 no_run nodes dir script tape view is = absurd cc
 
-pub no_shell : (nodes dir client : Option Text) (json : Bool) (view : View) → Shell nodes dir client json ≡ Viewing view → ⊥
-no_shell nodes dir client json view is = absurd cc
+pub no_shell : (words : ShellWords) (view : View) → Shell words ≡ Viewing view → ⊥
+no_shell words view is = absurd cc
 
 pub no_sweep : (file seed : Option Text) (view : View) → Sweep file seed ≡ Viewing view → ⊥
 no_sweep file seed view is = absurd cc

@@ -29,7 +29,7 @@ use Rattle.rr_image.specs.Inspect.{Tells, Breaks, inspected}
 use Rattle.rr_cli.specs.Areas.{areas_text}
 use Rattle.rr_cli.specs.Randoms.{IsNumberIn, IsNumberOf, AreNumbers, IsDrawnText}
 use Rattle.rr_cli.specs.Cuts.{IsCutBy}
-use Rattle.rr_words.specs.Tasks.{CutWords, RandomWords, View, Task, Simulate, Viewing, Show, Random, Audit, Run, Shell, Sweep, Draw, Migrate}
+use Rattle.rr_words.specs.Tasks.{CutWords, RandomWords, ShellWords, View, Task, Simulate, Viewing, Show, Random, Audit, Run, Shell, Sweep, Draw, Migrate}
 use Rattle.rr_cli.specs.Migrations.{IsUnmigrated}
 use Rattle.rr_cli.specs.Refusals.{status_of}
 use Rattle.rr_cli.specs.Tapes.{yes_text}
@@ -236,6 +236,5 @@ pub data EndsBy (faults : Kinds) (task : Task) (from to : Reading) (status : ℕ
   without_threads : (nodes dir script tape : Option Text) → faults ≡ [] → task ≡ Run nodes dir script tape
       → status ≡ 2 → new ≡ old
       → EndsBy faults task from to status old new
-  without_shell : (nodes dir client : Option Text) (json : Bool) → faults ≡ []
-      → task ≡ Shell nodes dir client json → status ≡ 2 → new ≡ old
+  without_shell : (words : ShellWords) → faults ≡ [] → task ≡ Shell words → status ≡ 2 → new ≡ old
       → EndsBy faults task from to status old new

@@ -25,7 +25,7 @@ pub use random_schedule::{nodes_of, number_in};
 pub use refusals::{TextKind, end_by_fault, end_by_refusal, print_refusal, status};
 pub use rr_audit::audit_on;
 pub use rr_sim::{random_run, report_on};
-pub use rr_words::{CutWords, Form, RandomWords, Task, View, read_words};
+pub use rr_words::{CutWords, Form, RandomWords, ShellWords, Task, View, read_words};
 pub use show::show_disk;
 pub use streams::{end_by_stream, end_by_text, end_by_unprinted, end_without_words};
 pub use viewing::execute_with_views;

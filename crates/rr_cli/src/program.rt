@@ -97,7 +97,7 @@ where
         Ok(Task::Audit(Some(path))) => audit_file(rt, path, out, err),
         Ok(Task::View(_)) => end_without_views(err),
         Ok(Task::Run(_, _, _, _)) => end_without_threads(err),
-        Ok(Task::Shell(_, _, _, _)) => end_without_shell(err),
+        Ok(Task::Shell(_)) => end_without_shell(err),
         Ok(Task::Sweep(_, None)) => end_without_seed(err),
         Ok(Task::Sweep(None, Some(seed))) => {
             sweep_by_word(rt.alloc(), "standard input", seed, input, out, err)

@@ -42,7 +42,7 @@ where
         Ok(Task::Random(_)) => execute(rt, words, input, out, err),
         Ok(Task::Audit(_)) => execute(rt, words, input, out, err),
         Ok(Task::Run(_, _, _, _)) => execute(rt, words, input, out, err),
-        Ok(Task::Shell(_, _, _, _)) => execute(rt, words, input, out, err),
+        Ok(Task::Shell(_)) => execute(rt, words, input, out, err),
         Ok(Task::Sweep(_, _)) => execute(rt, words, input, out, err),
         Ok(Task::Draw(_, _)) => execute(rt, words, input, out, err),
         Ok(Task::Migrate(_, _, _)) => execute(rt, words, input, out, err),

@@ -1,17 +1,28 @@
 -- How a shell ends behind a talk.
-use Rattle.std.proofs.Common.{◌≡◌, ◌⊎◌, ℕ, Bool, Result, Ok, Err, inl, inr}
+use Rattle.std.proofs.Common.{◌≡◌, ◌⊎◌, ◌<◌, ℕ, Bool, List, [], ◌∷◌, length, map, Bor, Option, Result, Ok, Err, inl, inr, refl, arith}
+use Rattle.clap.specs.Words.{Text}
 use Rattle.rr_types.specs.declared.refusal.Refusal.TheVariants.{Device, OutOfMemory}
 use Rattle.rr_stream.specs.Streams.{Printing, Reading}
+use Rattle.rr_shell.specs.declared.troubles.Trouble.{Trouble}
 use Rattle.rr_talk.specs.declared.talking.Stop.{Stop}
 use Rattle.rr_talk.specs.Talks.{Talks}
-use Rattle.rr_run.specs.Shells.{IsRefusedBy, EndsOnTalk, EndsOnShell, talked, failed, broken_off}
+use Rattle.rr_run.specs.Shells.{IsRefusedBy, EndsOnTalk, EndsOnShell, EndsOnLines, EndsOnEither, talked, failed, broken_off}
 
-pub ends_so : (json : Bool) (n : ℕ) (from to : Reading) (old new : Printing) (said : Result (Unit {0}) Stop) (status : ℕ) → Talks json n from to old new said → EndsOnTalk said status → EndsOnShell json n from to status old new
-ends_so json n from to old new (Ok done) status talks (inl well) = talked talks well
-ends_so json n from to old new (Ok done) status talks (inr refused) = failed talks refused
-ends_so json n from to old new (Err stop) status talks refused = broken_off talks refused
+pub ends_so : (json strict : Bool) (n : ℕ) (from to : Reading) (old new : Printing) (said : Result (Option Trouble) Stop) (status : ℕ) → Talks json strict n from to old new said → EndsOnTalk said status → EndsOnShell json strict n from to status old new
+ends_so json strict n from to old new (Ok trouble) status talks (inl well) = talked trouble talks well
+ends_so json strict n from to old new (Ok trouble) status talks (inr refused) = failed trouble talks refused
+ends_so json strict n from to old new (Err stop) status talks refused = broken_off talks refused
 
 -- the status of a stream is that of a refusal
 pub of_stream : (status : ℕ) → (status ≡ 5) ⊎ (status ≡ 6) → IsRefusedBy status
 of_stream status (inl device) = (Device, device)
 of_stream status (inr memory) = (OutOfMemory, memory)
+
+-- a shell by words reads the input where there are no lines among them, and leaves it alone where there are
+pub by_input : (json strict : Bool) (n : ℕ) (lines : List (Bor Text)) (from to : Reading) (status : ℕ) (old new : Printing) → length lines < 1 → EndsOnShell json strict n from to status old new → EndsOnEither json strict n (map (λ s. s.now) lines) from to status old new
+by_input json strict n [] from to status old new none ends = ends
+by_input json strict n (line ∷ lines) from to status old new none ends = absurd (omega (arith, none))
+
+pub by_lines : (json strict : Bool) (n : ℕ) (lines : List (Bor Text)) (from : Reading) (status : ℕ) (old new : Printing) → 0 < length lines → EndsOnLines json strict n (map (λ s. s.now) lines) status old new → EndsOnEither json strict n (map (λ s. s.now) lines) from from status old new
+by_lines json strict n [] from status old new some ends = absurd (omega (arith, some))
+by_lines json strict n (line ∷ lines) from status old new some ends = (refl, ends)

@@ -1,5 +1,6 @@
 -- How a run in threads ends: the program's exit status, and what standard output has taken.
-use Rattle.std.specs.Prelude.{◌≡◌, ℕ, Bool, List, [], Option, Some, IsSome}
+use Rattle.std.specs.Prelude.{◌≡◌, ℕ, List, [], Option, Some, IsSome, MatchBool, codes}
+use Rattle.std.specs.Str.{bytes_eq}
 use Rattle.clap.specs.Kinds.{Kinds}
 use Rattle.clap.specs.Words.{Text}
 use Rattle.rr_types.specs.declared.refusal.Refusal.{Refusal}
@@ -10,9 +11,9 @@ use Rattle.rr_script.specs.ScriptTexts.{script_text}
 use Rattle.rr_script.specs.AnswerTexts.{answer_text}
 use Rattle.rr_script.specs.Faults.{IsScriptFault}
 use Rattle.rr_cli.specs.Randoms.{IsNumberIn}
-use Rattle.rr_cli.specs.Ends.{EndsOnFile, IsStreamStatus, Prints}
+use Rattle.rr_cli.specs.Ends.{EndsOnFile, EndsOnInput, IsStreamStatus, Prints}
 use Rattle.rr_cli.specs.Views.{EndsWithViews}
-use Rattle.rr_words.specs.Tasks.{Task, Run, Shell}
+use Rattle.rr_words.specs.Tasks.{ShellWords, Task, Run, Shell}
 use Rattle.rr_cli.specs.Refusals.{status_of}
 use Rattle.rr_run.specs.Shells.{EndsOnShellWords}
 
@@ -33,10 +34,17 @@ pub data EndsOnScript (n : ℕ) (tape : Option Text) (bytes : List ℕ) (status 
       → EndsOnScript n tape bytes status old new
   faulty : (refusal : Refusal) → IsScriptFault n bytes refusal → status ≡ status_of refusal → new ≡ old → EndsOnScript n tape bytes status old new
 
+-- a run on what a word names: on the input where it is a hyphen, else on a file, and the input is left alone
+abbrev pub EndsOnNamed : Text → (List ℕ → ℕ → Printing → Printing → Type 0) → Reading → Reading → ℕ → Printing → Printing → Type 0
+EndsOnNamed word On from to status old new =
+    MatchBool (bytes_eq word (codes "-")) (EndsOnInput On from to status old new) ((to ≡ from) × EndsOnFile On status old new)
+
 -- a run by words: of the number of nodes that a word names, or it names none from 1 to 7
-pub data EndsOnRun (of_nodes : Text) (tape : Option Text) (status : ℕ) (old new : Printing) : Type 0 where
-  numbered : (n : ℕ) → IsNumberIn 1 7 of_nodes n → EndsOnFile (EndsOnScript n tape) status old new → EndsOnRun of_nodes tape status old new
-  unnumbered : ((n : ℕ) → IsNumberIn 1 7 of_nodes n → ⊥) → status ≡ 2 → new ≡ old → EndsOnRun of_nodes tape status old new
+pub data EndsOnRun (of_nodes script : Text) (tape : Option Text) (from to : Reading) (status : ℕ) (old new : Printing) : Type 0 where
+  numbered : (n : ℕ) → IsNumberIn 1 7 of_nodes n → EndsOnNamed script (EndsOnScript n tape) from to status old new
+      → EndsOnRun of_nodes script tape from to status old new
+  unnumbered : ((n : ℕ) → IsNumberIn 1 7 of_nodes n → ⊥) → status ≡ 2 → to ≡ from → new ≡ old
+      → EndsOnRun of_nodes script tape from to status old new
 
 -- words that ask for a run, and say all that has to be said of it
 pub record AsksForRun (task : Task) : Type 0 where
@@ -46,25 +54,17 @@ pub record AsksForRun (task : Task) : Type 0 where
   pub tape : Option Text
   pub is : task ≡ Run (Some nodes) (Some dir) (Some script) tape
 
--- words that ask for a shell, and say all that has to be said of it
-pub record AsksForShell (task : Task) : Type 0 where
-  pub nodes : Text
-  pub dir : Text
-  pub client : Option Text
-  pub json : Bool
-  pub is : task ≡ Shell (Some nodes) (Some dir) client json
-
 -- whether words ask for nodes in threads, and say all that has to be said of them
 abbrev pub AsksForThreads : Task → Type 0
 AsksForThreads (Run (Some nodes) (Some dir) (Some script) tape) = Unit {0}
-AsksForThreads (Shell (Some nodes) (Some dir) client json) = Unit {0}
+AsksForThreads (Shell words) = Unit {0}
 AsksForThreads task = ⊥
 
 -- the program with threads, by words: a run, or a shell, or what the program without threads does, or no memory even to read them
 pub data EndsWithThreads (faults : Kinds) (task : Task) (from to : Reading) (status : ℕ) (old new : Printing) : Type 0 where
-  by_script : (asks : AsksForRun task) → faults ≡ [] → EndsOnRun asks.nodes asks.tape status old new → EndsWithThreads faults task from to status old new
-  by_shell : (asks : AsksForShell task) → faults ≡ []
-      → EndsOnShellWords asks.nodes asks.client asks.json from to status old new
+  by_script : (asks : AsksForRun task) → faults ≡ [] → EndsOnRun asks.nodes asks.script asks.tape from to status old new
+      → EndsWithThreads faults task from to status old new
+  by_shell : (words : ShellWords) → task ≡ Shell words → faults ≡ [] → EndsOnShellWords words from to status old new
       → EndsWithThreads faults task from to status old new
   by_others : (faults ≡ [] → AsksForThreads task → ⊥) → EndsWithViews faults task from to status old new → EndsWithThreads faults task from to status old new
   out_of_memory : status ≡ 6 → new ≡ old → EndsWithThreads faults task from to status old new

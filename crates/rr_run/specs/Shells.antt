@@ -1,8 +1,12 @@
 -- How a shell ends: what it heard and said, and the program's exit status.
-use Rattle.std.specs.Prelude.{◌≡◌, ◌⊎◌, ◌-◌, ◌^◌, ℕ, Bool, Option, None, Some, Result, Ok, Err}
+use Rattle.std.specs.Prelude.{◌≡◌, ◌⊎◌, ◌-◌, ◌^◌, ◌≤◌, ℕ, Bool, List, [], ◌∷◌, ◌++◌, Option, None, Some, Result, Ok, Err}
+use Rattle.std.specs.List.{flat_map}
 use Rattle.clap.specs.Words.{Text}
 use Rattle.rr_types.specs.declared.refusal.Refusal.{Refusal}
 use Rattle.rr_stream.specs.Streams.{Printing, Reading}
+use Rattle.rr_words.specs.Tasks.{ShellWords}
+use Rattle.rr_shell.specs.declared.troubles.Trouble.{Trouble}
+use Rattle.rr_shell.specs.Troubles.{ending_status}
 use Rattle.rr_talk.specs.declared.talking.Stop.{Stop}
 use Rattle.rr_talk.specs.Talks.{HasTalked, BreaksOff}
 use Rattle.rr_cli.specs.Randoms.{IsNumberIn}
@@ -17,25 +21,51 @@ IsClientBy (Some word) c = IsNumberIn 0 (2 ^ 32 - 1) word c
 abbrev pub IsRefusedBy : ℕ → Type 0
 IsRefusedBy status = (refusal : Refusal) × (status ≡ status_of refusal)
 
--- the status behind a talk: 0 or that of a refusal where it is over, that of a refusal where it was broken off
-abbrev pub EndsOnTalk : Result (Unit {0}) Stop → ℕ → Type 0
-EndsOnTalk (Ok done) status = (status ≡ 0) ⊎ IsRefusedBy status
+-- how many nodes there are by a word; from 1 to 7 where there is no word, as a folder tells it
+abbrev pub IsNodesBy : Option Text → ℕ → Type 0
+IsNodesBy None n = (1 ≤ n) × (n ≤ 7)
+IsNodesBy (Some word) n = IsNumberIn 1 7 word n
+
+-- the status behind a talk: where it is over, 0, that of the trouble that ended it, or that of a refusal; that of a refusal where
+-- it was broken off
+abbrev pub EndsOnTalk : Result (Option Trouble) Stop → ℕ → Type 0
+EndsOnTalk (Ok trouble) status = (status ≡ ending_status trouble) ⊎ IsRefusedBy status
 EndsOnTalk (Err stop) status = IsRefusedBy status
 
--- a shell over folders, with n nodes, that answers with JSON or not: a talk that is over; or one that is over or broken off,
--- and the run, memory or a stream has failed; or it doesn't begin, as the folders or the request numbers are refused, and
--- nothing is read or printed
-pub data EndsOnShell (json : Bool) (n : ℕ) (from to : Reading) (status : ℕ) (old new : Printing) : Type 0 where
-  talked : HasTalked json n from to old new → status ≡ 0 → EndsOnShell json n from to status old new
-  failed : HasTalked json n from to old new → IsRefusedBy status → EndsOnShell json n from to status old new
-  broken_off : BreaksOff json n from old new → IsRefusedBy status → EndsOnShell json n from to status old new
-  refused : IsRefusedBy status → to ≡ from → new ≡ old → EndsOnShell json n from to status old new
+-- a shell over folders, with n nodes, that answers with JSON or not, and ends at trouble or not: a talk that is over, with or
+-- without trouble; or one that is over or broken off, and the run, memory or a stream has failed; or it doesn't begin, as the
+-- folders or the request numbers are refused, and nothing is read or printed
+pub data EndsOnShell (json strict : Bool) (n : ℕ) (from to : Reading) (status : ℕ) (old new : Printing) : Type 0 where
+  talked : (trouble : Option Trouble) → HasTalked json strict n from to old new trouble → status ≡ ending_status trouble
+      → EndsOnShell json strict n from to status old new
+  failed : (trouble : Option Trouble) → HasTalked json strict n from to old new trouble → IsRefusedBy status
+      → EndsOnShell json strict n from to status old new
+  broken_off : BreaksOff json strict n from old new → IsRefusedBy status → EndsOnShell json strict n from to status old new
+  refused : IsRefusedBy status → to ≡ from → new ≡ old → EndsOnShell json strict n from to status old new
+
+-- lines as one text, each with a line feed behind it
+abbrev pub lines_text : List Text → List ℕ
+lines_text = flat_map (λ line. line ++ 10 ∷ [])
+
+-- an input that has this text
+abbrev pub input_of : List ℕ → Reading
+input_of text = record { remaining = Some text; faults = 0 }
+
+-- a shell over folders that answers these lines; or there is no memory for them
+pub data EndsOnLines (json strict : Bool) (n : ℕ) (lines : List Text) (status : ℕ) (old new : Printing) : Type 0 where
+  spoken : (to : Reading) → EndsOnShell json strict n (input_of (lines_text lines)) to status old new → EndsOnLines json strict n lines status old new
+  unspoken : status ≡ 6 → new ≡ old → EndsOnLines json strict n lines status old new
+
+-- a shell that answers these lines, and leaves the input alone; or that of the input, where there are none
+abbrev pub EndsOnEither : Bool → Bool → ℕ → List Text → Reading → Reading → ℕ → Printing → Printing → Type 0
+EndsOnEither json strict n [] from to status old new = EndsOnShell json strict n from to status old new
+EndsOnEither json strict n (line ∷ lines) from to status old new = (to ≡ from) × EndsOnLines json strict n (line ∷ lines) status old new
 
 -- a shell by words: of the number of nodes that a word names, for the client that a word names; or there are no such numbers
-pub data EndsOnShellWords (of_nodes : Text) (of_client : Option Text) (json : Bool) (from to : Reading) (status : ℕ) (old new : Printing) : Type 0 where
-  numbered : (n c : ℕ) → IsNumberIn 1 7 of_nodes n → IsClientBy of_client c
-      → EndsOnShell json n from to status old new
-      → EndsOnShellWords of_nodes of_client json from to status old new
-  unnumbered : ((n c : ℕ) → IsNumberIn 1 7 of_nodes n → IsClientBy of_client c → ⊥) → status ≡ 2 → to ≡ from
+pub data EndsOnShellWords (words : ShellWords) (from to : Reading) (status : ℕ) (old new : Printing) : Type 0 where
+  numbered : (n c : ℕ) → IsNodesBy words.nodes n → IsClientBy words.client c
+      → EndsOnEither words.json words.strict n words.lines from to status old new
+      → EndsOnShellWords words from to status old new
+  unnumbered : ((n c : ℕ) → IsNodesBy words.nodes n → IsClientBy words.client c → ⊥) → status ≡ 2 → to ≡ from
       → new ≡ old
-      → EndsOnShellWords of_nodes of_client json from to status old new
+      → EndsOnShellWords words from to status old new

@@ -5,11 +5,12 @@ ghost use Rattle.rr_types.specs.Registry.{registry_of};
 ghost use Rattle.rr_window.specs.Sights.{bindings_with};
 ghost use Rattle.rr_run.specs.Listings.{bytes_of};
 
+use crate::requests::greatest_in;
 use rr_locked::Turnstile;
-use rr_script::{Answer, ScriptLine};
-use rr_shell::Listing;
+use rr_script::Answer;
+use rr_shell::{Listing, Outcome, left_behind};
 use rr_text::BoundNames;
-use rr_threads::{Client, Handle, Switches};
+use rr_threads::{Client, Fate, Handle, Switches};
 use rr_types::{Command, Name, NodeId, NodeSummary, Nodes, Op, Refusal, Reply, Value, made_of};
 use rr_window::WindowName;
 use std::alloc::Global;
@@ -28,23 +29,29 @@ const LOOKS: u32 = 120;
 /// What a shell asks a node.
 #[derive(Clone, Copy, Debug)]
 pub(crate) enum Question {
-    /// What a line of a script asks.
-    Line(ScriptLine),
+    /// To submit a command.
+    Submit { node: NodeId, command: Command },
+    /// Who has a name.
+    Look { node: NodeId, name: Name },
     /// Which bound names begin so, or all.
     Names { node: NodeId, prefix: Option<Name> },
     /// The node in brief.
     Summary { node: NodeId },
     /// A snapshot of its facts.
     Snapshot { node: NodeId },
+    /// The greatest request number of a client that its facts name.
+    Greatest { node: NodeId, client: u32 },
 }
 
 impl Question {
     fn node(&self) -> NodeId {
         match self {
-            Question::Line(line) => line.node(),
+            Question::Submit { node, .. } => *node,
+            Question::Look { node, .. } => *node,
             Question::Names { node, .. } => *node,
             Question::Summary { node } => *node,
             Question::Snapshot { node } => *node,
+            Question::Greatest { node, .. } => *node,
         }
     }
 }
@@ -52,11 +59,14 @@ impl Question {
 /// What a node tells.
 #[derive(Debug, Drop)]
 pub(crate) enum Told {
-    Answer(Answer),
+    /// What came of a submit, and how many commands can still be decided then.
+    Outcome(Outcome, u64),
+    Sight(Answer),
     Listing(Listing),
     Summary(NodeSummary),
     /// Whether a snapshot is written.
     Written(bool),
+    Greatest(Option<u64>),
 }
 
 /// What lies there.
@@ -280,21 +290,44 @@ fn names_at<W: WindowName, T: Turnstile, R: Wait>(
     }
 }
 
+// What comes of a submit. None: the node goes down, or the run has failed, and its refusal is the answer.
+fn outcome_of<W: WindowName, T: Turnstile, R: Wait>(
+    handle: &mut Handle<'_, '_, W, T, R>,
+    command: &Command,
+) -> Option<Outcome> {
+    if let Fate::Used(other) = handle.fate(command) {
+        return Some(Outcome::Used(other));
+    }
+    let answer = handle.submit_within(LOOKS, command);
+    if !matches!(answer, Answer::Unacknowledged { .. }) {
+        return Some(Outcome::Answered(answer));
+    }
+    if handle.is_over() {
+        return None;
+    }
+    match handle.fate(command) {
+        Fate::Never => Some(Outcome::ListFull),
+        Fate::Used(other) => Some(Outcome::Used(other)),
+        Fate::Open | Fate::Decided => Some(Outcome::Answered(answer)),
+    }
+}
+
 // What a node tells. None: the node goes down, or the run has failed, and its refusal is the answer.
 fn answer_to<W: WindowName, T: Turnstile, R: Wait>(
     alloc: Global,
     handle: &mut Handle<'_, '_, W, T, R>,
     question: &Question,
 ) -> Result<Option<Told>, Refusal> {
-    made_of!(Answer, ScriptLine, Command, Op, Name, Reply, Value);
+    made_of!(Answer, Command, Op, Name, Reply, Value);
     match question {
-        Question::Line(line) => {
-            let answer = handle.ask_within(LOOKS, line);
-            if handle.is_over() && matches!(answer, Answer::Unacknowledged { .. }) {
-                return Ok(None);
+        Question::Submit { node: _, command } => match outcome_of(handle, command) {
+            Some(outcome) => {
+                let left = left_behind(handle.summary().decided);
+                Ok(Some(Told::Outcome(outcome, left)))
             }
-            Ok(Some(Told::Answer(answer)))
-        }
+            None => Ok(None),
+        },
+        Question::Look { node: _, name } => Ok(Some(Told::Sight(handle.look(name)))),
         Question::Names { node: _, prefix } => {
             Ok(Some(Told::Listing(names_at(alloc, handle, prefix)?)))
         }
@@ -306,6 +339,10 @@ fn answer_to<W: WindowName, T: Turnstile, R: Wait>(
             }
             Ok(Some(Told::Written(is_written)))
         }
+        Question::Greatest { node: _, client } => {
+            let promise = handle.promise(alloc)?;
+            Ok(Some(Told::Greatest(greatest_in(*client, promise.entries()))))
+        }
     }
 }
 
@@ -314,7 +351,7 @@ impl<'x> Client for Teller<'x> {
         &mut self,
         handle: &mut Handle<'_, '_, W, T, R>,
     ) -> Result<(), Refusal> {
-        made_of!(Question, ScriptLine, Command, Op, Name, Value);
+        made_of!(Question, Command, Op, Name, Value);
         let node = handle.node();
         for _ in 0..u64::MAX {
             if self.post.is_closed.load(Ordering::SeqCst) {

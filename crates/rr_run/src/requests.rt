@@ -1,12 +1,12 @@
 //! The request numbers of a shell. They are unique over its restarts, whatever the clock does. The file `DIR/requests` holds the
 //! first number that is not reserved, in decimal, and a line feed.
 
-ghost use Rattle.std.specs.Prelude.{◌≡◌, ◌+◌, ◌^◌, ◌<◌, ◌≤◌, ◌++◌, ◌∷◌, [], IfOk, IfErr, IfSome, decimal};
-ghost use Rattle.rr_run.specs.Requests.{stored_number};
+ghost use Rattle.std.specs.Prelude.{◌≡◌, ◌+◌, ◌^◌, ◌<◌, ◌≤◌, max, true, false, Some, ◌++◌, ◌∷◌, [], IfOk, IfErr, IfSome, decimal};
+ghost use Rattle.rr_run.specs.Requests.{stored_number, greater, greatest_with, greatest_at, greatest_in};
 
 use rr_text::text_read::{cut, number};
 use rr_text::text_word::{push_byte, push_number};
-use rr_types::Refusal;
+use rr_types::{Command, Entry, Refusal, Standing};
 use std::alloc::Global;
 use std::fs::OpenFile;
 use std::io::{ErrorKind, Write};
@@ -48,6 +48,65 @@ impl Block {
             None
         }
     }
+
+    /// Leaves out the numbers below this one. It is false where the block has none from there on; then nothing has changed.
+    pub(crate) fn begin_at(&mut self, least: u64) -> bool
+        ensures some { result ≡ true → (least < self.old.end) × (self.new ≡ record { next = max self.old.next least; end = self.old.end }) }
+        ensures none { result ≡ false → (self.old.end ≤ least) × (self.new ≡ self.old) }
+    {
+        if least >= self.end {
+            return false;
+        }
+        self.next = self.next.max(least);
+        true
+    }
+}
+
+fn greater(most: Option<u64>, number: u64) -> Option<u64>
+    ensures { result ≡ Some (greater most number) }
+{
+    match most {
+        Some(most) => Some(most.max(number)),
+        None => Some(number),
+    }
+}
+
+// The greatest number of a client, behind this command too.
+fn greatest_with(client: u32, most: Option<u64>, command: &Command) -> Option<u64>
+    ensures { result ≡ greatest_with client most command.now }
+{
+    if command.request.client == client {
+        greater(most, command.request.seq)
+    } else {
+        most
+    }
+}
+
+// The greatest number of a client, behind what is known of an instance too.
+fn greatest_at(client: u32, most: Option<u64>, entry: &Entry) -> Option<u64>
+    ensures { result ≡ greatest_at client most entry.now }
+{
+    match &entry.standing {
+        Standing::Decided(command) => greatest_with(client, most, command),
+        Standing::Open(standing) => {
+            let most = greatest_with(client, most, standing.estimate_ref());
+            match standing.proposal_ref() {
+                Some(command) => greatest_with(client, most, command),
+                None => most,
+            }
+        }
+    }
+}
+
+/// The greatest request number of a client that these facts name. None: they name none.
+pub(crate) fn greatest_in(client: u32, entries: &[Entry]) -> Option<u64>
+    ensures { result ≡ greatest_in client entries.now }
+{
+    let mut most = None;
+    for entry in entries {
+        most = greatest_at(client, most, entry);
+    }
+    most
 }
 
 // The number that the bytes of the file hold.
@@ -102,17 +161,23 @@ fn replace_file<R: Files>(
     fs::open(rt, dir)?.sync_all()
 }
 
-/// Reserves the next block of request numbers of a folder that is locked. No earlier block has any of them.
+/// Reserves the next block of request numbers, from `least` on, of a folder that is locked. No earlier block has any of them.
 ///
 /// # Errors
 /// `OutOfMemory`. `Malformed`, where the file holds no number: it is left as it is. `TooLarge`, where numbers are out. `Device`,
 /// where a file can't be read or written; the file may hold either number then.
-pub(crate) fn reserve<R: Files + AllocGlobal>(rt: &R, dir: &str) -> Result<Block, Refusal>
-    ensures { IfOk result (λ b. b.end ≡ b.next + 1048576) }
+pub(crate) fn reserve<R: Files + AllocGlobal>(
+    rt: &R,
+    dir: &str,
+    least: u64,
+) -> Result<Block, Refusal>
+    ensures whole { IfOk result (λ b. b.end ≡ b.next + 1048576) }
+    ensures least { IfOk result (λ b. least ≤ b.next) }
 {
     let path = format!(in rt.alloc(); "{dir}/requests")?;
     let fresh = format!(in rt.alloc(); "{dir}/requests.new")?;
-    let Some(block) = Block::from(first_free(rt, path.as_str())?) else {
+    let first = first_free(rt, path.as_str())?.max(least);
+    let Some(block) = Block::from(first) else {
         return Err(Refusal::TooLarge);
     };
     let text = number_text(rt.alloc(), block.end)?;

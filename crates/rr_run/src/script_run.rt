@@ -6,7 +6,7 @@ ghost use Rattle.clap.specs.Words.{Text};
 ghost use Rattle.rr_types.specs.declared.refusal.Refusal.TheVariants.{OutOfMemory, Device};
 ghost use Rattle.rr_cli.specs.Ends.{EndsOnInput, EndsOnFile};
 ghost use Rattle.rr_cli.specs.Refusals.{status_of};
-ghost use Rattle.rr_run.specs.Runs.{EndsOnFolders, EndsOnScript, EndsOnRun};
+ghost use Rattle.rr_run.specs.Runs.{EndsOnFolders, EndsOnScript, EndsOnNamed, EndsOnRun};
 
 use crate::folder::{Folders, Opening, open_folders};
 use crate::lock::Lockable;
@@ -312,19 +312,56 @@ fn run_file<
     }
 }
 
-/// Runs as many nodes as a word names, over the folders in the folder DIR, by the script in a file, and prints the
-/// answers. A word that is no number from 1 to 7, which the command line doesn't let through, ends with 2.
+// Runs the script in the file that a word names, or in the input where the word is a hyphen.
+fn run_named<
+    F: Read + Write + Seek + FileExt + OpenFile + Drop + Send + Lockable,
+    R: Files<File = F> + AllocGlobal + Threads + Wait + Clock + Sync,
+    I: Source,
+    O: Sink,
+    E: Write,
+>(
+    rt: &R,
+    nodes: Nodes,
+    dir: &str,
+    tape: Option<&str>,
+    path: &str,
+    input: &mut I,
+    out: &mut O,
+    err: &mut E,
+) -> u8
+    ensures ends { EndsOnNamed path.now (EndsOnScript nodes (option_map (λ s. s.now) tape.entry)) (I.reading input.old) (I.reading input.new) result (O.printing out.old) (O.printing out.new) }
+    ensures quiet { result ≡ 0 → Keeps (E.contents err.old) (E.contents err.new) }
+{
+    if path == "-" {
+        run_input(rt, nodes, dir, tape, "standard input", input, out, err)
+    } else {
+        run_file(rt, nodes, dir, tape, path, out, err)
+    }
+}
+
+/// Runs as many nodes as a word names, over the folders in the folder DIR, by the script in a file or in the input, and prints
+/// the answers. A word that is no number from 1 to 7, which the command line doesn't let through, ends with 2.
 pub(crate) fn run_by_words<
     F: Read + Write + Seek + FileExt + OpenFile + Drop + Send + Lockable,
     R: Files<File = F> + AllocGlobal + Threads + Wait + Clock + Sync,
+    I: Source,
     O: Sink,
     E: Write,
->(rt: &R, nodes: &str, dir: &str, tape: Option<&str>, path: &str, out: &mut O, err: &mut E) -> u8
-    ensures ends { EndsOnRun nodes.now (option_map (λ s. s.now) tape.entry) result (O.printing out.old) (O.printing out.new) }
+>(
+    rt: &R,
+    nodes: &str,
+    dir: &str,
+    tape: Option<&str>,
+    path: &str,
+    input: &mut I,
+    out: &mut O,
+    err: &mut E,
+) -> u8
+    ensures ends { EndsOnRun nodes.now path.now (option_map (λ s. s.now) tape.entry) (I.reading input.old) (I.reading input.new) result (O.printing out.old) (O.printing out.new) }
     ensures quiet { result ≡ 0 → Keeps (E.contents err.old) (E.contents err.new) }
 {
     match nodes_of(nodes) {
-        Some(nodes) => run_file(rt, nodes, dir, tape, path, out, err),
+        Some(nodes) => run_named(rt, nodes, dir, tape, path, input, out, err),
         None => {
             let _ = writeln!(err, "rr: run: there is no such number of nodes");
             2

@@ -1,27 +1,33 @@
 //! `rr shell`: nodes in threads, and in the program's own thread the talk with the person or program at its standard input.
 
-ghost use Rattle.std.specs.Prelude.{◌≡◌, ◌⊎◌, ℕ, length, IfOk, IfSome, option_map};
+ghost use Rattle.std.specs.Prelude.{◌≡◌, ◌<◌, ◌⊎◌, ℕ, true, length, IfOk, OnOk, IfErr, IfSome, map, option_map};
 ghost use Rattle.std.specs.Io.KnownBytes.{Keeps};
 ghost use Rattle.std.specs.Thread.{IsSend, IsSync};
+ghost use Rattle.rr_types.specs.declared.refusal.Refusal.TheVariants.{OutOfMemory};
+ghost use Rattle.rr_words.specs.Tasks.{shell_words_in};
 ghost use Rattle.rr_cli.specs.Refusals.{status_of};
-ghost use Rattle.rr_talk.specs.Talks.{Talks};
-ghost use Rattle.rr_run.specs.Shells.{IsClientBy, EndsOnTalk, EndsOnShell, EndsOnShellWords};
+ghost use Rattle.rr_shell.specs.Troubles.{ending_status};
+ghost use Rattle.rr_talk.specs.Talks.{is_outcome_at, IsOf, IsKept, Talks};
+ghost use Rattle.rr_run.specs.Shells.{IsClientBy, EndsOnTalk, EndsOnShell, EndsOnLines, EndsOnShellWords, lines_text};
 
+use crate::defaults::{FOLDER, nodes_by, show_defaults};
 use crate::folder::{Folders, Opening, open_folders};
 use crate::lock::Lockable;
 use crate::post::{Post, Question, Teller, Told, tellers};
 use crate::requests::{Block, reserve};
 use crate::script_run::{end_by_run_fault, end_in_use};
-use rr_cli::{end_by_refusal, end_by_stream, end_by_unprinted, nodes_of, number_in};
+use rr_cli::{ShellWords, end_by_refusal, end_by_stream, end_by_unprinted, number_in};
 use rr_disk::{FileDisk, OpenedFile};
 use rr_locked::Open;
-use rr_script::{Answer, ScriptLine};
-use rr_shell::{Listing, NodeStatus, is_listing_at};
-use rr_stream::Sink;
-use rr_talk::{Asked, Prompting, Stop, is_reply_at, is_sight_at, talk};
+use rr_script::Answer;
+use rr_shell::{Listing, NodeStatus, Outcome, Trouble, is_listing_at, is_nearly_full};
+use rr_stream::{Counted, Sink};
+use rr_talk::{Asked, Hint, Prompting, Stop, is_sight_at, talk};
+use rr_text::text_word::{push_byte, push_bytes};
 use rr_threads::run_switched;
 use rr_types::{Command, Name, NodeId, Nodes, Op, Refusal, Reply, RequestNo, Value, made_of};
 use rr_words::LAST_CLIENT;
+use std::alloc::Global;
 use std::fs::OpenFile;
 use std::io::{Read, Seek, Write};
 use std::os::unix::fs::FileExt;
@@ -31,14 +37,70 @@ use std::thread;
 use std::thread::{Scope, Threads};
 use std::time::Clock;
 
-// The nodes that a shell asks, as this client, with the request numbers of the folder DIR.
+// The nodes that a shell asks, as this client, with the request numbers of the folder DIR; the command that isn't acknowledged
+// and may be asked again; and what a person is to be told.
 #[derive(Drop)]
 struct Console<'x, R> {
     rt: &'x R,
     dir: &'x str,
+    nodes: Nodes,
     client: u32,
     block: Block,
     post: &'x Post,
+    unanswered: Option<Command>,
+    hint: Option<Hint>,
+    has_warned: bool,
+}
+
+// What a submit of a command at a node has come to, by what is told of it.
+fn outcome_told(node: NodeId, command: &Command, told: &Told) -> Outcome
+    ensures outcome { is_outcome_at node result ≡ true }
+    ensures of { IsOf command.now result }
+{
+    let request = command.request;
+    match told {
+        Told::Outcome(
+            Outcome::Answered(
+                Answer::Acknowledged {
+                    request: own,
+                    reply,
+                    ..
+                },
+            ),
+            _,
+        ) if own.is_same(request) => Outcome::Answered(Answer::Acknowledged {
+            node,
+            request,
+            reply: *reply,
+        }),
+        Told::Outcome(Outcome::ListFull, _) => Outcome::ListFull,
+        Told::Outcome(Outcome::Used(other), _) => Outcome::Used(Command {
+            request,
+            op: other.op,
+        }),
+        _ => Outcome::Answered(Answer::Unacknowledged { node, request }),
+    }
+}
+
+// The command that is kept to be asked again, behind what a submit of it has come to.
+fn kept_behind(command: &Command, outcome: &Outcome) -> Option<Command>
+    ensures { IsOf command.now outcome.now → IsKept command.now.op result outcome.now }
+{
+    match outcome {
+        Outcome::Answered(Answer::Unacknowledged { .. }) => Some(*command),
+        _ => None,
+    }
+}
+
+// What a person is told behind what a submit has come to.
+fn hint_behind(outcome: &Outcome, told: &Told, has_warned: bool) -> Option<Hint> {
+    if matches!(outcome, Outcome::Answered(Answer::Unacknowledged { .. })) {
+        return Some(Hint::Again);
+    }
+    match told {
+        Told::Outcome(_, left) if !has_warned && is_nearly_full(*left) => Some(Hint::Left(*left)),
+        _ => None,
+    }
 }
 
 impl<'x, R: Files + AllocGlobal + Wait> Console<'x, R> {
@@ -50,38 +112,93 @@ impl<'x, R: Files + AllocGlobal + Wait> Console<'x, R> {
         if let Some(seq) = self.block.take() {
             return Ok(RequestNo { client, seq });
         }
-        self.block = reserve(self.rt, self.dir)?;
+        self.block = reserve(self.rt, self.dir, 0)?;
         match self.block.take() {
             Some(seq) => Ok(RequestNo { client, seq }),
             None => Err(Refusal::TooLarge),
         }
     }
+
+    // Gives no number up to this one, which a node's facts name.
+    fn pass_number(&mut self, used: u64) -> Result<(), Refusal>
+        ensures above { OnOk result (used < self.new.block.next) }
+        ensures kept { self.new.unanswered ≡ self.old.unanswered }
+    {
+        let Some(least) = used.checked_add(1) else {
+            return Err(Refusal::TooLarge);
+        };
+        if !self.block.begin_at(least) {
+            self.block = reserve(self.rt, self.dir, least)?;
+        }
+        Ok(())
+    }
+
+    // Gives no number that the facts of a node name as this client's.
+    fn pass_numbers(&mut self) -> Result<(), Refusal> {
+        for index in 0..self.nodes.count() {
+            let Some(node) = NodeId::new(self.nodes, index) else {
+                unreachable!()
+            };
+            let client = self.client;
+            let told = self
+                .post
+                .ask(self.rt, &Question::Greatest { node, client })?;
+            if let Told::Greatest(Some(used)) = told {
+                self.pass_number(used)?;
+            }
+        }
+        Ok(())
+    }
+
+    // Submits a command at a node.
+    fn put(&mut self, node: NodeId, command: &Command) -> Result<Outcome, Refusal>
+        ensures outcome { IfOk result (λ o. is_outcome_at node o ≡ true) }
+        ensures of { IfOk result (IsOf command.now) }
+        ensures kept { IfOk result (λ o. IsKept command.now.op self.new.unanswered o) }
+    {
+        made_of!(Answer, Command, Op, Name, Reply, Value);
+        let command = *command;
+        let told = self.post.ask(self.rt, &Question::Submit { node, command })?;
+        let outcome = outcome_told(node, &command, &told);
+        self.unanswered = kept_behind(&command, &outcome);
+        self.hint = hint_behind(&outcome, &told, self.has_warned);
+        self.has_warned = self.has_warned || matches!(self.hint, Some(Hint::Left(_)));
+        Ok(outcome)
+    }
 }
 
 impl<'x, R: Files + AllocGlobal + Wait> Asked for Console<'x, R> {
+    ghost unanswered = { λ c. c.unanswered };
+
     fn wait_until_ready(&mut self) -> Result<(), Refusal> {
-        self.post.wait_until_begun(self.rt)
+        self.post.wait_until_begun(self.rt)?;
+        self.pass_numbers()
     }
 
-    fn submit(&mut self, node: NodeId, op: &Op) -> Result<Answer, Refusal> {
-        made_of!(Answer, ScriptLine, Command, Op, Name, Reply, Value);
+    fn submit(&mut self, node: NodeId, op: &Op) -> Result<Outcome, Refusal> {
+        made_of!(Name, Value);
         let request = self.next_request()?;
-        let command = Command { request, op: *op };
-        let line = ScriptLine::Submit { node, command };
-        let told = self.post.ask(self.rt, &Question::Line(line))?;
-        match &told {
-            Told::Answer(answer) if is_reply_at(node, answer) => Ok(*answer),
-            _ => Ok(Answer::Unacknowledged { node, request }),
+        self.put(node, &Command { request, op: *op })
+    }
+
+    fn again(&mut self, node: NodeId) -> Result<Outcome, Refusal> {
+        made_of!(Op, Name, Value);
+        match self.unanswered {
+            Some(command) => self.put(node, &command),
+            None => Ok(Outcome::Nothing),
         }
     }
 
+    fn hint(&mut self) -> Option<Hint> {
+        self.hint.take()
+    }
+
     fn look(&mut self, node: NodeId, name: &Name) -> Result<Answer, Refusal> {
-        made_of!(Answer, ScriptLine, Command, Op, Name, Reply, Value);
+        made_of!(Answer, Name, Reply, Value);
         let name = *name;
-        let line = ScriptLine::Look { node, name };
-        let told = self.post.ask(self.rt, &Question::Line(line))?;
+        let told = self.post.ask(self.rt, &Question::Look { node, name })?;
         match &told {
-            Told::Answer(answer) if is_sight_at(node, &name, answer) => Ok(*answer),
+            Told::Sight(answer) if is_sight_at(node, &name, answer) => Ok(*answer),
             _ => Ok(Answer::Unseen { node, name }),
         }
     }
@@ -284,11 +401,12 @@ fn talk_beside<
     clients: Vec<Vec<Teller<'_>>>,
     post: &Post,
     json: bool,
+    strict: bool,
     asked: A,
     input: &mut I,
     out: &mut O,
-) -> Result<(), Stop>
-    ensures { Talks json nodes (I.reading input.old) (I.reading input.new) (O.printing out.old) (O.printing out.new) result }
+) -> Result<Option<Trouble>, Stop>
+    ensures { Talks json strict nodes (I.reading input.old) (I.reading input.new) (O.printing out.old) (O.printing out.new) result }
 {
     let alloc = rt.alloc();
     let mut asked = asked;
@@ -298,8 +416,18 @@ fn talk_beside<
         disks,
         clients,
         post,
-        &mut || talk(alloc, nodes, json, &mut asked, input, out),
+        &mut || talk(alloc, nodes, json, strict, &mut asked, input, out),
     )
+}
+
+// The status behind a talk that is over: that of the trouble that ended it, or 0.
+fn ending_status(trouble: Option<Trouble>) -> u8
+    ensures { result ≡ ending_status trouble }
+{
+    match trouble {
+        Some(trouble) => trouble.status(),
+        None => 0,
+    }
 }
 
 // Ends by a talk, and the refusal of the run if that has one.
@@ -308,7 +436,7 @@ fn end_by_talk<R: Files + AllocGlobal, E: Write>(
     err: &mut E,
     dir: &str,
     nodes: Nodes,
-    talked: Result<(), Stop>,
+    talked: Result<Option<Trouble>, Stop>,
     refusal: Option<Refusal>,
 ) -> u8
 where
@@ -317,9 +445,9 @@ where
     ensures quiet { result ≡ 0 → Keeps (E.contents err.old) (E.contents err.new) }
 {
     match talked {
-        Ok(()) => match refusal {
+        Ok(trouble) => match refusal {
             Some(refusal) => end_by_run_fault(rt, err, dir, nodes, &refusal),
-            None => 0,
+            None => ending_status(trouble),
         },
         Err(Stop::Refused(refusal)) => end_by_run_fault(rt, err, dir, nodes, &refusal),
         Err(Stop::Unread(error)) => end_by_stream(err, "standard input", &error),
@@ -340,16 +468,17 @@ fn shell_in<
     nodes: Nodes,
     client: u32,
     json: bool,
+    strict: bool,
     folders: Folders<F>,
     input: &mut I,
     out: &mut O,
     err: &mut E,
 ) -> u8
-    ensures ends { EndsOnShell json nodes (I.reading input.old) (I.reading input.new) result (O.printing out.old) (O.printing out.new) }
+    ensures ends { EndsOnShell json strict nodes (I.reading input.old) (I.reading input.new) result (O.printing out.old) (O.printing out.new) }
     ensures quiet { result ≡ 0 → Keeps (E.contents err.old) (E.contents err.new) }
 {
     let Folders { locks, disks } = folders;
-    let block = match reserve(rt, dir) {
+    let block = match reserve(rt, dir, 0) {
         Ok(block) => block,
         Err(refusal) => return end_by_requests(err, dir, &refusal),
     };
@@ -364,11 +493,17 @@ fn shell_in<
     let console = Console {
         rt,
         dir,
+        nodes,
         client,
         block,
         post: &post,
+        unanswered: None,
+        hint: None,
+        has_warned: false,
     };
-    let talked = talk_beside(rt, nodes, disks, clients, &post, json, console, input, out);
+    let talked = talk_beside(
+        rt, nodes, disks, clients, &post, json, strict, console, input, out,
+    );
     drop(locks);
     end_by_talk(rt, err, dir, nodes, talked, post.into_refusal())
 }
@@ -419,49 +554,94 @@ fn shell_over<
     dir: &str,
     client: u32,
     json: bool,
+    strict: bool,
     input: &mut I,
     out: &mut O,
     err: &mut E,
 ) -> u8
-    ensures ends { EndsOnShell json nodes (I.reading input.old) (I.reading input.new) result (O.printing out.old) (O.printing out.new) }
+    ensures ends { EndsOnShell json strict nodes (I.reading input.old) (I.reading input.new) result (O.printing out.old) (O.printing out.new) }
     ensures quiet { result ≡ 0 → Keeps (E.contents err.old) (E.contents err.new) }
 {
     match open_folders(rt, nodes, dir) {
         Ok(Opening::Folders(folders)) => {
-            shell_in(rt, dir, nodes, client, json, folders, input, out, err)
+            shell_in(
+                rt, dir, nodes, client, json, strict, folders, input, out, err,
+            )
         }
         Ok(Opening::InUse(node)) => end_in_use(err, dir, node),
         Err(refusal) => end_by_run_fault(rt, err, dir, nodes, &refusal),
     }
 }
 
-/// Runs as many nodes as a word names, over the folders in the folder DIR, and answers the lines of the input. The client is that
-/// which a word names, or client 0. Words that are no such numbers, which the command line doesn't let through, end with 2.
+// The text of lines: each with a line feed behind it.
+fn lines_text(alloc: Global, lines: &[&str]) -> Result<Vec<u8>, Refusal>
+    ensures ok { IfOk result (λ v. v.items ≡ lines_text (map (λ s. s.now) lines.now)) }
+    ensures err { IfErr result (λ e. e ≡ OutOfMemory) }
+{
+    let mut text = Vec::new(alloc);
+    for line in lines {
+        push_bytes(&mut text, line.as_bytes())?;
+        push_byte(&mut text, b'\n')?;
+    }
+    Ok(text)
+}
+
+// Talks over the folders in the folder DIR, by these lines. The input is left alone.
+fn shell_by_lines<
+    F: Read + Write + Seek + FileExt + OpenFile + Drop + Send + Lockable,
+    R: Files<File = F> + AllocGlobal + Threads + Wait + Clock + Sync,
+    O: Sink,
+    E: Write,
+>(
+    rt: &R,
+    nodes: Nodes,
+    dir: &str,
+    client: u32,
+    json: bool,
+    strict: bool,
+    lines: &[&str],
+    out: &mut O,
+    err: &mut E,
+) -> u8
+    ensures ends { EndsOnLines json strict nodes (map (λ s. s.now) lines.now) result (O.printing out.old) (O.printing out.new) }
+    ensures quiet { result ≡ 0 → Keeps (E.contents err.old) (E.contents err.new) }
+{
+    match lines_text(rt.alloc(), lines) {
+        Ok(text) => {
+            let mut spoken = Counted::new(text.as_slice());
+            shell_over(rt, nodes, dir, client, json, strict, &mut spoken, out, err)
+        }
+        Err(refusal) => end_by_refusal(err, &refusal),
+    }
+}
+
+/// Runs nodes over the folders in a folder, and answers lines, by these words. Without a number of nodes these are as many as
+/// the folder has, or else three. Words that are no such numbers, which the command line doesn't let through, end with 2.
 pub(crate) fn shell_by_words<
     F: Read + Write + Seek + FileExt + OpenFile + Drop + Send + Lockable,
     R: Files<File = F> + AllocGlobal + Threads + Wait + Clock + Sync,
     I: Prompting,
     O: Sink,
     E: Write,
->(
-    rt: &R,
-    nodes: &str,
-    dir: &str,
-    client: Option<&str>,
-    json: bool,
-    input: &mut I,
-    out: &mut O,
-    err: &mut E,
-) -> u8
-    ensures ends { EndsOnShellWords nodes.now (option_map (λ s. s.now) client.entry) json (I.reading input.old) (I.reading input.new) result (O.printing out.old) (O.printing out.new) }
+>(rt: &R, words: &ShellWords<'_>, input: &mut I, out: &mut O, err: &mut E) -> u8
+    ensures ends { EndsOnShellWords (shell_words_in words.now) (I.reading input.old) (I.reading input.new) result (O.printing out.old) (O.printing out.new) }
     ensures quiet { result ≡ 0 → Keeps (E.contents err.old) (E.contents err.new) }
 {
-    let Some(nodes) = nodes_of(nodes) else {
+    let (json, strict) = (words.json, words.strict);
+    let dir = words.dir.unwrap_or(FOLDER);
+    let Some(nodes) = nodes_by(rt, words.nodes, dir) else {
         return end_without_numbers(err);
     };
-    match client_of(client) {
-        Some(client) => shell_over(rt, nodes, dir, client, json, input, out, err),
-        None => end_without_numbers(err),
+    let Some(client) = client_of(words.client) else {
+        return end_without_numbers(err);
+    };
+    let lines = words.lines.as_slice();
+    match lines {
+        [] => {
+            show_defaults(rt.alloc(), words, nodes, dir, input);
+            shell_over(rt, nodes, dir, client, json, strict, input, out, err)
+        }
+        [_, ..] => shell_by_lines(rt, nodes, dir, client, json, strict, lines, out, err),
     }
 }
 

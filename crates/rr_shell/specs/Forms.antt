@@ -1,15 +1,38 @@
 -- What is said to a line of a shell: with JSON, or in words.
-use Rattle.std.specs.Prelude.{ℕ, Bool, if◌then◌else◌, List, Option, codes}
+use Rattle.std.specs.Prelude.{ℕ, Bool, if◌then◌else◌, List, [], ◌∷◌, ◌++◌, Option, codes}
+use Rattle.std.specs.List.{flat_map}
 use Rattle.rr_types.specs.declared.binding.Binding.{Binding}
 use Rattle.rr_script.specs.declared.answer.Answer.{Answer}
 use Rattle.rr_shell.specs.declared.status.NodeStatus.{NodeStatus}
 use Rattle.rr_shell.specs.declared.shell_line.LineFault.{LineFault}
-use Rattle.rr_shell.specs.Texts.{answer_line, list_lines, move_line, stop_line, start_line, snapshot_line, no_snapshot_line, no_snapshot_text, down_line, down_text, status_line, help_line, help_text, fault_line, fault_text}
-use Rattle.rr_shell.specs.Objects.{answer_object, list_objects, node_object, status_object, text_object}
+use Rattle.rr_shell.specs.Texts.{answer_line, list_lines, move_line, stop_line, start_line, snapshot_line, no_snapshot_line, no_snapshot_text, down_line, down_text, status_line, help_line, help_text, fault_line, fault_text, used_text, full_text, nothing_text}
+use Rattle.rr_types.specs.declared.command.Command.{Command}
+use Rattle.rr_shell.specs.declared.outcome.Outcome.{Outcome}
+use Rattle.rr_shell.specs.declared.outcome.Outcome.TheVariants.{Answered, ListFull, Used, Nothing}
+use Rattle.rr_shell.specs.Objects.{escaped_byte, answer_object, list_objects, node_object, status_object, text_object}
 
 -- an answer
 abbrev pub answer_said : Bool → Answer → List ℕ
 answer_said json a = if json then answer_object a else answer_line a
+
+-- that the list is full
+abbrev pub full_said : Bool → List ℕ
+full_said json = if json then text_object (codes "full list") full_text else codes "full list: " ++ full_text ++ 10 ∷ []
+
+-- that a request number was already used for a command
+abbrev pub used_said : Bool → Command → List ℕ
+used_said json c = if json then text_object (codes "error") (flat_map escaped_byte (used_text c)) else codes "error: " ++ used_text c ++ 10 ∷ []
+
+-- that nothing is asked again
+abbrev pub nothing_said : Bool → List ℕ
+nothing_said json = if json then text_object (codes "error") nothing_text else codes "error: " ++ nothing_text ++ 10 ∷ []
+
+-- what comes of a submit
+abbrev pub outcome_said : Bool → Outcome → List ℕ
+outcome_said json (Answered a) = answer_said json a
+outcome_said json ListFull = full_said json
+outcome_said json (Used c) = used_said json c
+outcome_said json Nothing = nothing_said json
 
 -- the bound names that were seen
 abbrev pub list_said : Bool → Option (List Binding) → List ℕ

@@ -3,3 +3,4 @@ pub mod Lines
 pub mod Listings
 pub mod Objects
 pub mod Texts
+pub mod Troubles

@@ -7,6 +7,7 @@ use Rattle.rr_script.specs.declared.answer.Answer.{Answer}
 use Rattle.rr_script.specs.declared.answer.Answer.TheVariants.{Acknowledged, Unacknowledged, Free, Bound, Unseen}
 use Rattle.rr_shell.specs.declared.status.NodeStatus.{NodeStatus}
 use Rattle.rr_types.specs.declared.summary.NodeSummary.{NodeSummary}
+use Rattle.rr_shell.specs.Texts.{left_behind}
 
 -- a text between quotation marks
 unfoldable pub quoted : List ℕ → List ℕ
@@ -78,7 +79,8 @@ abbrev pub summary_members : Option NodeSummary → List ℕ
 summary_members None = label (codes "up") ++ codes "false"
 summary_members (Some k) =
     (label (codes "up") ++ codes "true") ++ number_member (codes "facts") k.facts
-    ++ number_member (codes "decided") k.decided ++ number_member (codes "suspects") k.suspects
+    ++ number_member (codes "decided") k.decided
+    ++ number_member (codes "left") (left_behind k.decided) ++ number_member (codes "suspects") k.suspects
 
 -- what a node tells of itself
 abbrev pub status_object : NodeStatus → List ℕ

@@ -1,8 +1,10 @@
 -- What is said to a line of a shell.
-use Rattle.std.specs.Prelude.{ℕ, List, [], ◌∷◌, ◌++◌, length, Option, None, Some, codes, decimal}
+use Rattle.std.specs.Prelude.{ℕ, ◌-◌, ◌/◌, nat_le, Bool, List, [], ◌∷◌, ◌++◌, length, Option, None, Some, codes, decimal}
 use Rattle.std.specs.List.{flat_map}
-use Rattle.rr_text.specs.Words.{spaced, value_words, set_text}
-use Rattle.rr_text.specs.ReportTexts.{reply_words}
+use Rattle.rr_text.specs.Words.{spaced, value_words, op_words, set_text}
+use Rattle.rr_text.specs.ReportTexts.{reply_words, request_text}
+use Rattle.rr_types.specs.Limits.{instance_count}
+use Rattle.rr_types.specs.declared.command.Command.{Command}
 use Rattle.rr_types.specs.declared.binding.Binding.{Binding}
 use Rattle.rr_script.specs.declared.answer.Answer.{Answer}
 use Rattle.rr_script.specs.declared.answer.Answer.TheVariants.{Acknowledged, Unacknowledged, Free, Bound, Unseen}
@@ -72,10 +74,30 @@ down_text p = node_text p ++ codes " is down: start it, or ask another"
 abbrev pub down_line : ℕ → List ℕ
 down_line p = codes "error: " ++ down_text p ++ 10 ∷ []
 
+-- that a request number was already used for a command
+abbrev pub used_text : Command → List ℕ
+used_text c = codes "request" ++ (32 ∷ request_text c.request) ++ codes " was already used for:" ++ (32 ∷ spaced (op_words c.op))
+
+-- that the list is full
+abbrev pub full_text : List ℕ
+full_text = codes "no further command can be decided, and this one isn't"
+
+-- that nothing is asked again
+abbrev pub nothing_text : List ℕ
+nothing_text = codes "nothing to ask again: no command is unacknowledged"
+
+-- how many commands can still be decided, behind so many
+abbrev pub left_behind : ℕ → ℕ
+left_behind decided = instance_count - decided
+
+-- whether at most a tenth of the commands that can be decided is left
+abbrev pub is_nearly_full : ℕ → Bool
+is_nearly_full left = nat_le left (instance_count / 10)
+
 -- that a node is down; or that it is up, and what it knows
 abbrev pub summary_words : Option NodeSummary → List (List ℕ)
 summary_words None = codes "down" ∷ []
-summary_words (Some k) = codes "up" ∷ codes "facts" ∷ decimal k.facts ∷ codes "decided" ∷ decimal k.decided ∷ codes "suspects" ∷ set_text k.suspects ∷ []
+summary_words (Some k) = codes "up" ∷ codes "facts" ∷ decimal k.facts ∷ codes "decided" ∷ decimal k.decided ∷ codes "left" ∷ decimal (left_behind k.decided) ∷ codes "suspects" ∷ set_text k.suspects ∷ []
 
 -- the line of what a node tells of itself
 abbrev pub status_line : NodeStatus → List ℕ
@@ -84,7 +106,7 @@ status_line s = spaced (codes "node" ∷ decimal s.node ∷ summary_words s.summ
 -- the commands
 abbrev pub help_text : List ℕ
 help_text =
-    codes "claim NAME [VALUE], update NAME [VALUE], release NAME, transfer NAME OWNER, look NAME, list [PREFIX], at NODE, stop NODE, start NODE, snapshot NODE, status, help or quit"
+    codes "claim NAME [VALUE], update NAME [VALUE], release NAME, transfer NAME OWNER, look NAME, list [PREFIX], at NODE, stop NODE, start NODE, snapshot NODE, status, again, help, quit or exit"
 
 -- the line that names them
 abbrev pub help_line : List ℕ
@@ -96,7 +118,7 @@ no_node_text n = codes "no such node: a number is expected that is below" ++ 32 
 
 -- what is wrong with a line, and what is expected, of n nodes
 abbrev pub fault_text : ℕ → LineFault → List ℕ
-fault_text n NoCommand = codes "no such command: claim, update, release, transfer, look, list, at, stop, start, snapshot, status, help or quit is expected"
+fault_text n NoCommand = codes "no such command: claim, update, release, transfer, look, list, at, stop, start, snapshot, status, again, help, quit or exit is expected"
 fault_text n BadName = codes "no name: 1 to 64 bytes of a to z, 0 to 9 and - are expected"
 fault_text n BadValue = codes "no value: 1 to 64 bytes from ! to ~ are expected, and no space"
 fault_text n BadOwner = codes "no owner: a number below 4294967296 is expected"

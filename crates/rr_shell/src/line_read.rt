@@ -117,9 +117,11 @@ fn control(nodes: Nodes, text: &[u8], word: &[u8], rest: &[u8]) -> Result<ShellL
         snapshot(nodes, rest)
     } else if text == b"status".as_slice() {
         Ok(ShellLine::Status)
+    } else if text == b"again".as_slice() {
+        Ok(ShellLine::Again)
     } else if text == b"help".as_slice() {
         Ok(ShellLine::Help)
-    } else if text == b"quit".as_slice() {
+    } else if text == b"quit".as_slice() || text == b"exit".as_slice() {
         Ok(ShellLine::Quit)
     } else {
         command(text, word, rest)

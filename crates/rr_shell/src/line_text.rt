@@ -8,7 +8,7 @@ ghost use Rattle.rr_shell.specs.Texts.{bound_words, answer_words, answer_line, b
 
 use crate::listing::Listing;
 use crate::shell_line::{LineFault, MAX_LINE};
-use crate::status::NodeStatus;
+use crate::status::{NodeStatus, left_behind};
 use rr_script::Answer;
 use rr_text::text_word::{
     push_byte, push_bytes, push_number, push_number_word, push_set, push_word,
@@ -239,6 +239,8 @@ fn push_summary(out: &mut Vec<u8>, summary: &NodeSummary) -> Result<(), Refusal>
     push_number_word(out, summary.facts)?;
     push_word(out, b"decided")?;
     push_number_word(out, summary.decided)?;
+    push_word(out, b"left")?;
+    push_number_word(out, left_behind(summary.decided))?;
     push_word(out, b"suspects")?;
     Ok(push_set(out, summary.suspects)?)
 }
@@ -267,7 +269,7 @@ pub(crate) fn push_help_text(out: &mut Vec<u8>) -> Result<(), Refusal>
 {
     Ok(push_bytes(
         out,
-        b"claim NAME [VALUE], update NAME [VALUE], release NAME, transfer NAME OWNER, look NAME, list [PREFIX], at NODE, stop NODE, start NODE, snapshot NODE, status, help or quit",
+        b"claim NAME [VALUE], update NAME [VALUE], release NAME, transfer NAME OWNER, look NAME, list [PREFIX], at NODE, stop NODE, start NODE, snapshot NODE, status, again, help, quit or exit",
     )?)
 }
 
@@ -303,7 +305,7 @@ pub(crate) fn push_fault_text(
     match fault {
         LineFault::NoCommand => Ok(push_bytes(
             out,
-            b"no such command: claim, update, release, transfer, look, list, at, stop, start, snapshot, status, help or quit is expected",
+            b"no such command: claim, update, release, transfer, look, list, at, stop, start, snapshot, status, again, help, quit or exit is expected",
         )?),
         LineFault::BadName => Ok(push_bytes(
             out,

@@ -3,16 +3,18 @@
 ghost use Rattle.std.specs.Prelude.{◌≡◌, ◌∷◌, ◌++◌, [], OnOk, IfErr, codes};
 ghost use Rattle.std.specs.List.{flat_map};
 ghost use Rattle.rr_text.specs.ReportTexts.{reply_words};
-ghost use Rattle.rr_shell.specs.Texts.{down_text, no_snapshot_text, help_text, fault_text};
+ghost use Rattle.rr_shell.specs.Texts.{down_text, no_snapshot_text, help_text, fault_text, used_text, full_text, nothing_text, left_behind};
 ghost use Rattle.rr_shell.specs.Objects.{quoted, escaped_byte, label, text_member, number_member, opened, object_line, reply_members, bound_members, bound_object, answer_object, binding_object, list_objects, node_object, summary_members, status_object, text_opened, text_closed, text_object};
 
 use crate::line_text::{push_down_text, push_fault_text, push_help_text, push_no_snapshot_text};
 use crate::listing::Listing;
+use crate::outcome::{push_full_text, push_nothing_text, push_used_text};
 use crate::shell_line::LineFault;
-use crate::status::NodeStatus;
+use crate::status::{NodeStatus, left_behind};
 use rr_script::Answer;
 use rr_text::text_word::{push_byte, push_bytes, push_number};
-use rr_types::{Binding, Name, NodeId, NodeSummary, Nodes, Refusal, Reply, Value};
+use rr_types::{Binding, Command, Name, NodeId, NodeSummary, Nodes, Refusal, Reply, Value};
+use std::alloc::Global;
 
 #[tactic(auto, unfolding(crate::specs::Objects::quoted))]
 fn push_quoted(out: &mut Vec<u8>, text: &[u8]) -> Result<(), Refusal>
@@ -264,6 +266,7 @@ fn push_summary(out: &mut Vec<u8>, summary: &NodeSummary) -> Result<(), Refusal>
     push_up(out)?;
     push_number_member(out, b"facts", summary.facts)?;
     push_number_member(out, b"decided", summary.decided)?;
+    push_number_member(out, b"left", left_behind(summary.decided))?;
     push_number_member(out, b"suspects", u64::from(summary.suspects.bits()))
 }
 
@@ -360,5 +363,46 @@ pub fn push_fault_object(out: &mut Vec<u8>, nodes: Nodes, fault: LineFault) -> R
 {
     push_text_open(out, b"error")?;
     push_fault_text(out, nodes, fault)?;
+    push_text_close(out)
+}
+
+/// Appends that the list is full, as an object.
+///
+/// # Errors
+/// `OutOfMemory`. Then bytes of the line may stand at the end.
+pub fn push_full_object(out: &mut Vec<u8>) -> Result<(), Refusal>
+    ensures ok { OnOk result (out.new.items ≡ out.old.items ++ text_object (codes "full list") full_text) }
+    ensures err { IfErr result (λ e. e ≡ Refusal.OutOfMemory) }
+{
+    push_text_open(out, b"full list")?;
+    push_full_text(out)?;
+    push_text_close(out)
+}
+
+/// Appends that nothing is asked again, as an object.
+///
+/// # Errors
+/// `OutOfMemory`. Then bytes of the line may stand at the end.
+pub fn push_nothing_object(out: &mut Vec<u8>) -> Result<(), Refusal>
+    ensures ok { OnOk result (out.new.items ≡ out.old.items ++ text_object (codes "error") nothing_text) }
+    ensures err { IfErr result (λ e. e ≡ Refusal.OutOfMemory) }
+{
+    push_text_open(out, b"error")?;
+    push_nothing_text(out)?;
+    push_text_close(out)
+}
+
+/// Appends that a request number was already used for this command, as an object.
+///
+/// # Errors
+/// `OutOfMemory`. Then bytes of the line may stand at the end.
+pub fn push_used_object(alloc: Global, out: &mut Vec<u8>, command: &Command) -> Result<(), Refusal>
+    ensures ok { OnOk result (out.new.items ≡ out.old.items ++ text_object (codes "error") (flat_map escaped_byte (used_text command.now))) }
+    ensures err { IfErr result (λ e. e ≡ Refusal.OutOfMemory) }
+{
+    let mut text = Vec::new(alloc);
+    push_used_text(&mut text, command)?;
+    push_text_open(out, b"error")?;
+    push_escaped(out, text.as_slice())?;
     push_text_close(out)
 }

@@ -1,7 +1,7 @@
 //! What is said to a line, in words or with JSON.
 
 ghost use Rattle.std.specs.Prelude.{◌≡◌, ◌++◌, OnOk, IfErr};
-ghost use Rattle.rr_shell.specs.Forms.{answer_said, list_said, move_said, stop_said, start_said, snapshot_said, no_snapshot_said, down_said, status_said, help_said, fault_said};
+ghost use Rattle.rr_shell.specs.Forms.{answer_said, full_said, used_said, nothing_said, outcome_said, list_said, move_said, stop_said, start_said, snapshot_said, no_snapshot_said, down_said, status_said, help_said, fault_said};
 
 use crate::line_text::{
     push_answer, push_down, push_fault, push_help, push_listing, push_move, push_no_snapshot,
@@ -9,13 +9,17 @@ use crate::line_text::{
 };
 use crate::listing::Listing;
 use crate::object_text::{
-    push_answer_object, push_down_object, push_fault_object, push_help_object,
-    push_listing_objects, push_no_snapshot_object, push_node_object, push_status_object,
+    push_answer_object, push_down_object, push_fault_object, push_full_object, push_help_object,
+    push_listing_objects, push_no_snapshot_object, push_node_object, push_nothing_object,
+    push_status_object, push_used_object,
 };
+use crate::outcome::{Outcome, push_full_text, push_nothing_text, push_used_text};
 use crate::shell_line::LineFault;
 use crate::status::NodeStatus;
 use rr_script::Answer;
-use rr_types::{NodeId, Nodes, Refusal};
+use rr_text::text_word::{push_byte, push_bytes};
+use rr_types::{Command, NodeId, Nodes, Refusal};
+use std::alloc::Global;
 
 /// Appends an answer: of a submit the reply, of a look the name and what was seen. It names no node.
 ///
@@ -29,6 +33,66 @@ pub fn say_answer(out: &mut Vec<u8>, json: bool, answer: &Answer) -> Result<(), 
         push_answer_object(out, answer)
     } else {
         push_answer(out, answer)
+    }
+}
+
+// Appends that the list is full.
+fn say_full(out: &mut Vec<u8>, json: bool) -> Result<(), Refusal>
+    ensures ok { OnOk result (out.new.items ≡ out.old.items ++ full_said json) }
+    ensures err { IfErr result (λ e. e ≡ Refusal.OutOfMemory) }
+{
+    if json {
+        return push_full_object(out);
+    }
+    push_bytes(out, b"full list: ")?;
+    push_full_text(out)?;
+    push_byte(out, b'\n')
+}
+
+// Appends that a request number was already used for this command.
+fn say_used(alloc: Global, out: &mut Vec<u8>, json: bool, command: &Command) -> Result<(), Refusal>
+    ensures ok { OnOk result (out.new.items ≡ out.old.items ++ used_said json command.now) }
+    ensures err { IfErr result (λ e. e ≡ Refusal.OutOfMemory) }
+{
+    if json {
+        return push_used_object(alloc, out, command);
+    }
+    push_bytes(out, b"error: ")?;
+    push_used_text(out, command)?;
+    push_byte(out, b'\n')
+}
+
+// Appends that nothing is asked again.
+fn say_nothing(out: &mut Vec<u8>, json: bool) -> Result<(), Refusal>
+    ensures ok { OnOk result (out.new.items ≡ out.old.items ++ nothing_said json) }
+    ensures err { IfErr result (λ e. e ≡ Refusal.OutOfMemory) }
+{
+    if json {
+        return push_nothing_object(out);
+    }
+    push_bytes(out, b"error: ")?;
+    push_nothing_text(out)?;
+    push_byte(out, b'\n')
+}
+
+/// Appends what came of a submit.
+///
+/// # Errors
+/// `OutOfMemory`. Then bytes of the line may stand at the end.
+pub fn say_outcome(
+    alloc: Global,
+    out: &mut Vec<u8>,
+    json: bool,
+    outcome: &Outcome,
+) -> Result<(), Refusal>
+    ensures ok { OnOk result (out.new.items ≡ out.old.items ++ outcome_said json outcome.now) }
+    ensures err { IfErr result (λ e. e ≡ Refusal.OutOfMemory) }
+{
+    match outcome {
+        Outcome::Answered(answer) => say_answer(out, json, answer),
+        Outcome::ListFull => say_full(out, json),
+        Outcome::Used(command) => say_used(alloc, out, json, command),
+        Outcome::Nothing => say_nothing(out, json),
     }
 }
 

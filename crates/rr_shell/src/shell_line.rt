@@ -24,6 +24,8 @@ pub enum ShellLine {
     Snapshot(NodeId),
     /// What each node knows.
     Status,
+    /// The last command that wasn't acknowledged is submitted once more, under its request number.
+    Again,
     /// The commands that there are.
     Help,
     /// The end of the shell.

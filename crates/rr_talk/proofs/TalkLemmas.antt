@@ -8,12 +8,12 @@ use Rattle.rr_shell.specs.declared.shell_line.ShellLine.{ShellLine}
 use Rattle.rr_talk.specs.declared.saying.Said.{Said}
 use Rattle.rr_shell.specs.Lines.{shell_line_at}
 use Rattle.rr_stream.specs.Streams.{Reading, Printing}
-use Rattle.rr_talk.specs.Talks.{IsSaidToRequest, IsSaidTo, BreaksOff, granted, begun}
+use Rattle.rr_talk.specs.Talks.{IsSaidToRequest, IsSaidTo, BreaksOff, line_of, granted, begun}
 
-pub said_to_line : (json : Bool) (n p : ℕ) (line : Vec ℕ Global) (asks : ShellLine) (said : Option Said) → shell_line_at n line.items ≡ Ok asks → IsSaidToRequest json n p asks said → IsSaidTo json n p (heard.Line line) said
+pub said_to_line : (json : Bool) (n p : ℕ) (line : Vec ℕ Global) (asks : ShellLine) (said : Option Said) → shell_line_at n (line_of line) ≡ Ok asks → IsSaidToRequest json n p asks said → IsSaidTo json n p (heard.Line line) said
 said_to_line json n p line asks None read is = read ∙ ap (λ (l : ShellLine). Ok l) is
-said_to_line json n p line asks (Some said) read is = granted line asks said.node said.text.items read is
+said_to_line json n p line asks (Some said) read is = granted line asks said.node said.text.items said.trouble read is
 
 -- a talk that is broken off before it begins
-pub not_begun : (json : Bool) (n : ℕ) (from : Reading) (old : Printing) → BreaksOff json n from old old
-not_begun json n from old = record { node = 0; heard = from; printed = old; talk = begun; front = ([], ([], [], refl, Appends-nil old.contents)) }
+pub not_begun : (json strict : Bool) (n : ℕ) (from : Reading) (old : Printing) → BreaksOff json strict n from old old
+not_begun json strict n from old = record { node = 0; heard = from; printed = old; talk = begun; front = ([], ([], [], refl, Appends-nil old.contents)) }

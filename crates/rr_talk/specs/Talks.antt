@@ -1,31 +1,70 @@
 -- The talk of a shell with n nodes, which answers with JSON or in words.
-use Rattle.std.specs.Prelude.{◌≡◌, ℕ, ◌+◌, ◌++◌, Bool, true, false, ◌&&◌, ◌==◌, List, [], Option, None, Some, Result, Ok, Err, Vec}
+use Rattle.std.specs.Prelude.{◌≡◌, ℕ, ◌+◌, ◌++◌, if◌then◌else◌, Bool, true, false, ◌&&◌, ◌==◌, List, [], Option, None, Some, Result, Ok, Err, Vec}
 use Rattle.std.specs.Str.{bytes_eq}
+use Rattle.std.specs.Io.BufRead.{strip_last}
 use Rattle.std.specs.declared.alloc.Global.{Global}
 use Rattle.rr_types.specs.declared.command.Op.{Op}
+use Rattle.rr_types.specs.declared.command.Command.{Command}
+use Rattle.rr_types.specs.declared.command.RequestNo.{RequestNo}
 use Rattle.rr_script.specs.declared.answer.Answer.{Answer}
 use Rattle.rr_script.specs.declared.answer.Answer.TheVariants.{Acknowledged, Unacknowledged, Free, Bound, Unseen}
 use Rattle.rr_stream.specs.Streams.{Printing, Reading, IsPrinted, IsFrontPrinted}
 use Rattle.rr_talk.specs.declared.hearing.Heard.{Heard}
 use Rattle.rr_talk.specs.declared.hearing.Heard.TheVariants as heard
 use Rattle.rr_shell.specs.declared.listing.Listing.{Listing}
+use Rattle.rr_shell.specs.declared.outcome.Outcome.{Outcome}
+use Rattle.rr_shell.specs.declared.outcome.Outcome.TheVariants as outcome
 use Rattle.rr_shell.specs.declared.status.NodeStatus.{NodeStatus}
 use Rattle.rr_shell.specs.declared.shell_line.ShellLine.{ShellLine}
-use Rattle.rr_shell.specs.declared.shell_line.ShellLine.TheVariants.{Submit, Look, Names, At, Stop, Start, Snapshot, Status, Help, Quit}
+use Rattle.rr_shell.specs.declared.shell_line.ShellLine.TheVariants.{Submit, Look, Names, At, Stop, Start, Snapshot, Status, Again, Help, Quit}
 use Rattle.rr_shell.specs.declared.shell_line.LineFault.{LineFault}
 use Rattle.rr_shell.specs.declared.shell_line.LineFault.TheVariants.{TooLong}
 use Rattle.rr_talk.specs.declared.saying.Said.{Said}
+use Rattle.rr_talk.specs.declared.talking.Turn.{Turn}
 use Rattle.rr_talk.specs.declared.talking.Stop as breaks
 use Rattle.rr_talk.specs.Hearings.{Hears}
 use Rattle.rr_shell.specs.Lines.{shell_line_at}
+use Rattle.rr_shell.specs.Troubles.{answer_trouble, outcome_trouble, listing_trouble}
+use Rattle.rr_shell.specs.declared.troubles.Trouble.{Trouble}
+use Rattle.rr_shell.specs.declared.troubles.Trouble.TheVariants.{Error}
 use Rattle.rr_shell.specs.Listings.{is_listing_at}
-use Rattle.rr_shell.specs.Forms.{answer_said, list_said, move_said, stop_said, start_said, snapshot_said, no_snapshot_said, down_said, status_said, help_said, fault_said}
+use Rattle.rr_shell.specs.Forms.{answer_said, outcome_said, list_said, move_said, stop_said, start_said, snapshot_said, no_snapshot_said, down_said, status_said, help_said, fault_said}
 
 -- whether an answer is node p's to a submit
 abbrev pub is_reply_at : ℕ → Answer → Bool
 is_reply_at p (Acknowledged q request reply) = q == p
 is_reply_at p (Unacknowledged q request) = q == p
 is_reply_at p _ = false
+
+-- the request that an answer is to
+abbrev pub request_of : Answer → Option RequestNo
+request_of (Acknowledged p q reply) = Some q
+request_of (Unacknowledged p q) = Some q
+request_of a = None
+
+-- whether this came of a submit at node p
+abbrev pub is_outcome_at : ℕ → Outcome → Bool
+is_outcome_at p (outcome.Answered a) = is_reply_at p a
+is_outcome_at p o = true
+
+-- what came of a submit is of this command: an answer or another command names its request number
+abbrev pub IsOf : Command → Outcome → Type 0
+IsOf c (outcome.Answered a) = request_of a ≡ Some c.request
+IsOf c outcome.ListFull = Unit {0}
+IsOf c (outcome.Used other) = other.request ≡ c.request
+IsOf c outcome.Nothing = ⊥
+
+-- what is kept to be asked again behind a submit of this operation: the command with the request number of the answer where
+-- that isn't acknowledged; else nothing
+abbrev pub IsKept : Op → Option Command → Outcome → Type 0
+IsKept op kept (outcome.Answered (Unacknowledged p q)) = kept ≡ Some (record { request = q; op = op })
+IsKept op kept o = kept ≡ None
+
+-- what comes of asking again: nothing where nothing was kept; else it is of the command that was kept, and what is kept then is
+-- as behind a submit of it
+abbrev pub IsAskedAgain : Option Command → Option Command → Outcome → Type 0
+IsAskedAgain None kept o = (o ≡ outcome.Nothing) × (kept ≡ None)
+IsAskedAgain (Some c) kept o = IsOf c o × IsKept c.op kept o
 
 -- whether an answer is node p's to a look at this name
 abbrev pub is_sight_at : ℕ → List ℕ → Answer → Bool
@@ -44,82 +83,99 @@ abbrev pub asks_node : ShellLine → Bool
 asks_node (Submit op) = true
 asks_node (Look name) = true
 asks_node (Names prefix) = true
+asks_node Again = true
 asks_node _ = false
 
--- what is said to a line that asks for something at node p of n nodes, and the node that is asked then: the answer of node p to
--- what it asks, or that this node is down; the names that it lists; the node that it moves to, stops or starts; that a node has
--- written a snapshot, or hasn't; what each node tells; or the commands
-pub data Grants (json : Bool) (n p : ℕ) : ShellLine → ℕ → List ℕ → Type 0 where
-  submitted : (op : Op) (a : Answer) → is_reply_at p a ≡ true → Grants json n p (Submit op) p (answer_said json a)
-  looked : (name : List ℕ) (a : Answer) → is_sight_at p name a ≡ true → Grants json n p (Look name) p (answer_said json a)
-  listed : (prefix : Option (List ℕ)) (l : Listing) → is_listing_at p prefix l ≡ true → Grants json n p (Names prefix) p (list_said json l.names)
-  is_down : (asks : ShellLine) → asks_node asks ≡ true → Grants json n p asks p (down_said json p)
-  moved : (q : ℕ) → Grants json n p (At q) q (move_said json q)
-  stopped : (q : ℕ) → Grants json n p (Stop q) p (stop_said json q)
-  started : (q : ℕ) → Grants json n p (Start q) p (start_said json q)
-  written : (q : ℕ) → Grants json n p (Snapshot q) p (snapshot_said json q)
-  unwritten : (q : ℕ) → Grants json n p (Snapshot q) p (no_snapshot_said json q)
-  stated : (text : List ℕ) → Stated json n text → Grants json n p Status p text
-  helped : Grants json n p Help p (help_said json)
+-- what is said to a line that asks for something at node p of n nodes, the node that is asked then, and why that isn't what it
+-- asks for, if it isn't: what comes of a submit or a look at node p, or that this node is down; the names that it lists; the node that
+-- it moves to, stops or starts; that a node has written a snapshot, or hasn't; what each node tells; or the commands
+pub data Grants (json : Bool) (n p : ℕ) : ShellLine → ℕ → List ℕ → Option Trouble → Type 0 where
+  submitted : (op : Op) (o : Outcome) → is_outcome_at p o ≡ true → Grants json n p (Submit op) p (outcome_said json o) (outcome_trouble o)
+  again : (o : Outcome) → is_outcome_at p o ≡ true → Grants json n p Again p (outcome_said json o) (outcome_trouble o)
+  looked : (name : List ℕ) (a : Answer) → is_sight_at p name a ≡ true → Grants json n p (Look name) p (answer_said json a) (answer_trouble a)
+  listed : (prefix : Option (List ℕ)) (l : Listing) → is_listing_at p prefix l ≡ true
+      → Grants json n p (Names prefix) p (list_said json l.names) (listing_trouble l.names)
+  is_down : (asks : ShellLine) → asks_node asks ≡ true → Grants json n p asks p (down_said json p) (Some Error)
+  moved : (q : ℕ) → Grants json n p (At q) q (move_said json q) None
+  stopped : (q : ℕ) → Grants json n p (Stop q) p (stop_said json q) None
+  started : (q : ℕ) → Grants json n p (Start q) p (start_said json q) None
+  written : (q : ℕ) → Grants json n p (Snapshot q) p (snapshot_said json q) None
+  unwritten : (q : ℕ) → Grants json n p (Snapshot q) p (no_snapshot_said json q) (Some Error)
+  stated : (text : List ℕ) → Stated json n text → Grants json n p Status p text None
+  helped : Grants json n p Help p (help_said json) None
 
--- what is said to what was heard where node p is asked, and the node that is asked then: to a line what it asks for, or why it
--- asks for nothing; nothing to an empty line; and that a line is too long
-pub data Exchange (json : Bool) (n p : ℕ) : Heard → ℕ → List ℕ → Type 0 where
-  empty : (line : Vec ℕ Global) → line.items ≡ [] → Exchange json n p (heard.Line line) p []
-  granted : (line : Vec ℕ Global) (asks : ShellLine) (q : ℕ) (said : List ℕ)
-      → shell_line_at n line.items ≡ Ok asks → Grants json n p asks q said
-      → Exchange json n p (heard.Line line) q said
-  faulty : (line : Vec ℕ Global) (fault : LineFault) → shell_line_at n line.items ≡ Err fault → Exchange json n p (heard.Line line) p (fault_said json n fault)
-  too_long : Exchange json n p heard.TooLong p (fault_said json n TooLong)
+-- a line as it is read: without the carriage return that it ends with, if it does
+abbrev pub line_of : Vec ℕ Global → List ℕ
+line_of line = strip_last 13 line.items
+
+-- what is said to what was heard where node p is asked, the node that is asked then, and why that isn't what the line asks for,
+-- if it isn't: to a line what it asks for, or why it asks for nothing; nothing to an empty line; and that a line is too long
+pub data Exchange (json : Bool) (n p : ℕ) : Heard → ℕ → List ℕ → Option Trouble → Type 0 where
+  empty : (line : Vec ℕ Global) → line_of line ≡ [] → Exchange json n p (heard.Line line) p [] None
+  granted : (line : Vec ℕ Global) (asks : ShellLine) (q : ℕ) (said : List ℕ) (t : Option Trouble)
+      → shell_line_at n (line_of line) ≡ Ok asks → Grants json n p asks q said t
+      → Exchange json n p (heard.Line line) q said t
+  faulty : (line : Vec ℕ Global) (fault : LineFault) → shell_line_at n (line_of line) ≡ Err fault
+      → Exchange json n p (heard.Line line) p (fault_said json n fault) (Some Error)
+  too_long : Exchange json n p heard.TooLong p (fault_said json n TooLong) (Some Error)
 
 -- what ends a talk: a line that asks for that, or the end of the input
 abbrev pub IsLast : ℕ → Heard → Type 0
-IsLast n (heard.Line line) = shell_line_at n line.items ≡ Ok Quit
+IsLast n (heard.Line line) = shell_line_at n (line_of line) ≡ Ok Quit
 IsLast n heard.TooLong = ⊥
 IsLast n heard.End = Unit {0}
 
 -- what is said to a line that asks for this at node p of n; none where it asks for the end
 abbrev pub IsSaidToRequest : Bool → ℕ → ℕ → ShellLine → Option Said → Type 0
 IsSaidToRequest json n p asks None = asks ≡ Quit
-IsSaidToRequest json n p asks (Some said) = Grants json n p asks said.node said.text.items
+IsSaidToRequest json n p asks (Some said) = Grants json n p asks said.node said.text.items said.trouble
 
 -- what is said to what was heard where node p is asked; none where the talk is over
 abbrev pub IsSaidTo : Bool → ℕ → ℕ → Heard → Option Said → Type 0
 IsSaidTo json n p h None = IsLast n h
-IsSaidTo json n p h (Some said) = Exchange json n p h said.node said.text.items
+IsSaidTo json n p h (Some said) = Exchange json n p h said.node said.text.items said.trouble
 
--- a turn where node p is asked, and the node that is asked then: something is heard, and what there is to say to it is printed and
--- flushed; or the talk is over, and nothing is printed
-abbrev pub IsTurn : Bool → ℕ → ℕ → Reading → Reading → Printing → Printing → Option ℕ → Type 0
+-- a turn where node p is asked: something is heard, and what there is to say to it is printed and flushed; or the talk is over,
+-- and nothing is printed
+abbrev pub IsTurn : Bool → ℕ → ℕ → Reading → Reading → Printing → Printing → Option Turn → Type 0
 IsTurn json n p from to old new None = (h : Heard) × Hears from to h × IsLast n h × (new ≡ old)
-IsTurn json n p from to old new (Some q) = (h : Heard) × (said : List ℕ) × Hears from to h × Exchange json n p h q said × IsPrinted old new said
+IsTurn json n p from to old new (Some turn) =
+    (h : Heard) × (said : List ℕ) × Hears from to h × Exchange json n p h turn.node said turn.trouble × IsPrinted old new said
+
+-- why a talk ends behind a turn: strict, it ends where the line wasn't answered as it asked
+abbrev pub ending_trouble : Bool → Option Trouble → Option Trouble
+ending_trouble strict trouble = if strict then trouble else None
 
 -- a talk so far, from an input and an output on: the node that is asked now, and the input and the output as they are now. Each line
 -- is answered, and the answer flushed, before the next is read
-pub data Talk (json : Bool) (n : ℕ) (from : Reading) (old : Printing) : ℕ → Reading → Printing → Type 0 where
-  begun : Talk json n from old 0 from old
-  said : {p q : ℕ} {r s : Reading} {a b : Printing} → Talk json n from old p r a → IsTurn json n p r s a b (Some q) → Talk json n from old q s b
+pub data Talk (json strict : Bool) (n : ℕ) (from : Reading) (old : Printing) : ℕ → Reading → Printing → Type 0 where
+  begun : Talk json strict n from old 0 from old
+  said : {p : ℕ} {r s : Reading} {a b : Printing} → Talk json strict n from old p r a → (turn : Turn) → IsTurn json n p r s a b (Some turn)
+      → ending_trouble strict turn.trouble ≡ None
+      → Talk json strict n from old turn.node s b
 
--- a talk that is over
-pub record HasTalked (json : Bool) (n : ℕ) (from to : Reading) (old new : Printing) : Type 0 where
-  pub node : ℕ
-  pub heard : Reading
-  pub talk : Talk json n from old node heard new
-  pub last : IsTurn json n node heard to new new None
+-- a talk that is over: by a line that asks for that, or by the input; or by a line that wasn't answered as it asked, with the trouble
+pub data HasTalked (json strict : Bool) (n : ℕ) (from to : Reading) (old new : Printing) : Option Trouble → Type 0 where
+  over : {p : ℕ} {r : Reading} → Talk json strict n from old p r new → IsTurn json n p r to new new None
+      → HasTalked json strict n from to old new None
+  in_trouble : {p : ℕ} {r : Reading} {a : Printing} → Talk json strict n from old p r a
+      → (turn : Turn) (trouble : Trouble) → IsTurn json n p r to a new (Some turn)
+      → ending_trouble strict turn.trouble ≡ Some trouble
+      → HasTalked json strict n from to old new (Some trouble)
 
 -- a front of some text was printed
 abbrev pub IsFrontSaid : Printing → Printing → Type 0
 IsFrontSaid old new = (said : List ℕ) × IsFrontPrinted old new said
 
 -- a talk that is broken off: a front of one more text may have been printed
-pub record BreaksOff (json : Bool) (n : ℕ) (from : Reading) (old new : Printing) : Type 0 where
+pub record BreaksOff (json strict : Bool) (n : ℕ) (from : Reading) (old new : Printing) : Type 0 where
   pub node : ℕ
   pub heard : Reading
   pub printed : Printing
-  pub talk : Talk json n from old node heard printed
+  pub talk : Talk json strict n from old node heard printed
   pub front : IsFrontSaid printed new
 
 -- a talk: over, or broken off
-abbrev pub Talks : Bool → ℕ → Reading → Reading → Printing → Printing → Result (Unit {0}) breaks.Stop → Type 0
-Talks json n from to old new (Ok done) = HasTalked json n from to old new
-Talks json n from to old new (Err stop) = BreaksOff json n from old new
+abbrev pub Talks : Bool → Bool → ℕ → Reading → Reading → Printing → Printing → Result (Option Trouble) breaks.Stop → Type 0
+Talks json strict n from to old new (Ok trouble) = HasTalked json strict n from to old new trouble
+Talks json strict n from to old new (Err stop) = BreaksOff json strict n from old new

@@ -1,11 +1,12 @@
 //! Whom a shell asks.
 
-ghost use Rattle.std.specs.Prelude.{◌≡◌, true, IfOk};
+ghost use Rattle.std.specs.Prelude.{◌≡◌, true, Option, IfOk};
+ghost use Rattle.rr_types.specs.declared.command.Command.{Command};
 ghost use Rattle.rr_shell.specs.Listings.{is_listing_at};
-ghost use Rattle.rr_talk.specs.Talks.{is_reply_at, is_sight_at};
+ghost use Rattle.rr_talk.specs.Talks.{is_reply_at, is_outcome_at, is_sight_at, IsKept, IsAskedAgain};
 
 use rr_script::Answer;
-use rr_shell::{Listing, NodeStatus};
+use rr_shell::{Listing, NodeStatus, Outcome};
 use rr_types::{Name, NodeId, Op, Refusal};
 
 /// Nodes that a shell asks.
@@ -16,12 +17,29 @@ pub trait Asked {
     /// Why they can't be.
     fn wait_until_ready(&mut self) -> Result<(), Refusal>;
 
-    /// Submits an operation at a node under a request number of its own, and waits for the reply.
+    /// The command that isn't acknowledged yet and that `again` submits once more.
+    ghost unanswered: { Self → Option Command };
+
+    /// Submits an operation at a node under a request number of its own, and waits for the reply. A command that isn't
+    /// acknowledged is kept.
     ///
     /// # Errors
     /// Why the nodes can't be asked any more.
-    fn submit(&mut self, node: NodeId, op: &Op) -> Result<Answer, Refusal>
-        ensures { IfOk result (λ a. is_reply_at node a ≡ true) };
+    fn submit(&mut self, node: NodeId, op: &Op) -> Result<Outcome, Refusal>
+        ensures outcome { IfOk result (λ o. is_outcome_at node o ≡ true) }
+        ensures kept { IfOk result (λ o. IsKept op.now (unanswered self.new) o) };
+
+    /// Submits the command that is kept once more at a node, under its request number.
+    ///
+    /// # Errors
+    /// Why the nodes can't be asked any more.
+    fn again(&mut self, node: NodeId) -> Result<Outcome, Refusal>
+        ensures outcome { IfOk result (λ o. is_outcome_at node o ≡ true) }
+        ensures kept { IfOk result (λ o. IsAskedAgain (unanswered self.old) (unanswered self.new) o) };
+
+    /// What a person is told behind an answer, in a second line.
+    fn hint(&mut self) -> Option<Hint>
+        ensures { unanswered self.new ≡ unanswered self.old };
 
     /// Looks at a name at a node.
     ///
@@ -64,6 +82,25 @@ pub trait Asked {
     /// Why the nodes can't be asked any more.
     fn status(&mut self, node: NodeId) -> Result<NodeStatus, Refusal>
         ensures { IfOk result (λ s. s.node ≡ node) };
+}
+
+/// What a person is told behind an answer.
+#[derive(Clone, Copy, Debug)]
+pub enum Hint {
+    /// The line `again` asks the command once more, so that it counts once.
+    Again,
+    /// So few commands can still be decided.
+    Left(u64),
+}
+
+/// Whether this came of a submit at this node.
+pub fn is_outcome_at(node: NodeId, outcome: &Outcome) -> bool
+    ensures { result ≡ is_outcome_at node outcome.now }
+{
+    match outcome {
+        Outcome::Answered(answer) => is_reply_at(node, answer),
+        _ => true,
+    }
 }
 
 /// Whether an answer is this node's to a submit.

@@ -8,7 +8,7 @@ mod prompting;
 mod saying;
 mod talking;
 
-pub use answering::{Asked, is_reply_at, is_sight_at};
+pub use answering::{Asked, Hint, is_outcome_at, is_reply_at, is_sight_at};
 pub use hearing::{Heard, hear};
 pub use prompting::{Prompted, Prompting};
-pub use talking::{Stop, talk};
+pub use talking::{Stop, Turn, talk};

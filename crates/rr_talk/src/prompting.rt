@@ -11,11 +11,17 @@ pub trait Prompting: Source {
     /// Shows that a line is expected, where somebody types. Nothing is read.
     fn prompt(&mut self)
         ensures { Self.reading self.new ≡ Self.reading self.old };
+
+    /// Shows a text, where somebody types. Nothing is read.
+    fn show(&mut self, text: &[u8])
+        ensures { Self.reading self.new ≡ Self.reading self.old };
 }
 
 impl<R: Read> Prompting for Counted<R> {
     // Nobody types there.
     fn prompt(&mut self) {}
+
+    fn show(&mut self, _text: &[u8]) {}
 }
 
 /// An input, and a stream on which whoever types there sees the prompt. Where that can't be written, nobody sees it.
@@ -67,5 +73,9 @@ impl<S: Source, W: Write> Prompting for Prompted<S, W> {
     fn prompt(&mut self) {
         self.tell(b"> ");
         self.has_prompted = true;
+    }
+
+    fn show(&mut self, text: &[u8]) {
+        self.tell(text);
     }
 }

@@ -1,87 +1,144 @@
 //! What is said to a line that asks for something.
 
-ghost use Rattle.std.specs.Prelude.{◌≡◌, ◌<◌, true, IfOk};
+ghost use Rattle.std.specs.Prelude.{◌≡◌, ◌<◌, true, Some, None, IfOk};
 ghost use Rattle.rr_talk.specs.Talks.{Stated, asks_node, IsSaidToRequest};
-ghost use Rattle.rr_shell.specs.Forms.{answer_said, list_said, move_said, stop_said, start_said, snapshot_said, no_snapshot_said, down_said, help_said, fault_said};
+ghost use Rattle.rr_shell.specs.Troubles.{answer_trouble, outcome_trouble, listing_trouble};
+ghost use Rattle.rr_shell.specs.Forms.{answer_said, outcome_said, list_said, move_said, stop_said, start_said, snapshot_said, no_snapshot_said, down_said, help_said, fault_said};
 
 use crate::answering::Asked;
 use rr_script::Answer;
 use rr_shell::{
-    LineFault, Listing, ShellLine, say_answer, say_down, say_fault, say_help, say_listing,
-    say_move, say_no_snapshot, say_snapshot, say_start, say_status, say_stop,
+    LineFault, Listing, Outcome, ShellLine, Trouble, answer_trouble, listing_trouble,
+    outcome_trouble, say_answer, say_down, say_fault, say_help, say_listing, say_move,
+    say_no_snapshot, say_outcome, say_snapshot, say_start, say_status, say_stop,
 };
 use rr_types::{Name, NodeId, Nodes, Op, Refusal, Reply, Value, made_of};
 use std::alloc::Global;
 
-/// What is said to a line, and which node is asked from then on.
+/// What is said to a line, which node is asked from then on, and why that isn't what the line asked for, if it isn't.
 #[derive(Debug, Drop)]
 pub struct Said {
     pub node: NodeId,
     pub text: Vec<u8>,
+    pub trouble: Option<Trouble>,
 }
 
 fn answered(alloc: Global, json: bool, node: NodeId, answer: &Answer) -> Result<Said, Refusal>
-    ensures { IfOk result (λ s. (s.node ≡ node) × (s.text.items ≡ answer_said json answer.now)) }
+    ensures { IfOk result (λ s. (s.node ≡ node) × (s.text.items ≡ answer_said json answer.now) × (s.trouble ≡ answer_trouble answer.now)) }
 {
     let mut text = Vec::new(alloc);
     say_answer(&mut text, json, answer)?;
-    Ok(Said { node, text })
+    let trouble = answer_trouble(answer);
+    Ok(Said {
+        node,
+        text,
+        trouble,
+    })
+}
+
+// What came of a submit.
+fn submitted(alloc: Global, json: bool, node: NodeId, outcome: &Outcome) -> Result<Said, Refusal>
+    ensures { IfOk result (λ s. (s.node ≡ node) × (s.text.items ≡ outcome_said json outcome.now) × (s.trouble ≡ outcome_trouble outcome.now)) }
+{
+    let mut text = Vec::new(alloc);
+    say_outcome(alloc, &mut text, json, outcome)?;
+    let trouble = outcome_trouble(outcome);
+    Ok(Said {
+        node,
+        text,
+        trouble,
+    })
 }
 
 fn listed(alloc: Global, json: bool, node: NodeId, listing: &Listing) -> Result<Said, Refusal>
-    ensures { IfOk result (λ s. (s.node ≡ node) × (s.text.items ≡ list_said json listing.now.names)) }
+    ensures { IfOk result (λ s. (s.node ≡ node) × (s.text.items ≡ list_said json listing.now.names) × (s.trouble ≡ listing_trouble listing.now.names)) }
 {
     let mut text = Vec::new(alloc);
     say_listing(&mut text, json, listing)?;
-    Ok(Said { node, text })
+    let trouble = listing_trouble(listing);
+    Ok(Said {
+        node,
+        text,
+        trouble,
+    })
 }
 
 fn moved(alloc: Global, json: bool, node: NodeId) -> Result<Said, Refusal>
-    ensures { IfOk result (λ s. (s.node ≡ node) × (s.text.items ≡ move_said json node)) }
+    ensures { IfOk result (λ s. (s.node ≡ node) × (s.text.items ≡ move_said json node) × (s.trouble ≡ None)) }
 {
     let mut text = Vec::new(alloc);
     say_move(&mut text, json, node)?;
-    Ok(Said { node, text })
+    let trouble = None;
+    Ok(Said {
+        node,
+        text,
+        trouble,
+    })
 }
 
 fn stopped(alloc: Global, json: bool, node: NodeId, next: NodeId) -> Result<Said, Refusal>
-    ensures { IfOk result (λ s. (s.node ≡ node) × (s.text.items ≡ stop_said json next)) }
+    ensures { IfOk result (λ s. (s.node ≡ node) × (s.text.items ≡ stop_said json next) × (s.trouble ≡ None)) }
 {
     let mut text = Vec::new(alloc);
     say_stop(&mut text, json, next)?;
-    Ok(Said { node, text })
+    let trouble = None;
+    Ok(Said {
+        node,
+        text,
+        trouble,
+    })
 }
 
 fn started(alloc: Global, json: bool, node: NodeId, next: NodeId) -> Result<Said, Refusal>
-    ensures { IfOk result (λ s. (s.node ≡ node) × (s.text.items ≡ start_said json next)) }
+    ensures { IfOk result (λ s. (s.node ≡ node) × (s.text.items ≡ start_said json next) × (s.trouble ≡ None)) }
 {
     let mut text = Vec::new(alloc);
     say_start(&mut text, json, next)?;
-    Ok(Said { node, text })
+    let trouble = None;
+    Ok(Said {
+        node,
+        text,
+        trouble,
+    })
 }
 
 fn written(alloc: Global, json: bool, node: NodeId, next: NodeId) -> Result<Said, Refusal>
-    ensures { IfOk result (λ s. (s.node ≡ node) × (s.text.items ≡ snapshot_said json next)) }
+    ensures { IfOk result (λ s. (s.node ≡ node) × (s.text.items ≡ snapshot_said json next) × (s.trouble ≡ None)) }
 {
     let mut text = Vec::new(alloc);
     say_snapshot(&mut text, json, next)?;
-    Ok(Said { node, text })
+    let trouble = None;
+    Ok(Said {
+        node,
+        text,
+        trouble,
+    })
 }
 
 fn unwritten(alloc: Global, json: bool, node: NodeId, next: NodeId) -> Result<Said, Refusal>
-    ensures { IfOk result (λ s. (s.node ≡ node) × (s.text.items ≡ no_snapshot_said json next)) }
+    ensures { IfOk result (λ s. (s.node ≡ node) × (s.text.items ≡ no_snapshot_said json next) × (s.trouble ≡ Some Trouble.Error)) }
 {
     let mut text = Vec::new(alloc);
     say_no_snapshot(&mut text, json, next)?;
-    Ok(Said { node, text })
+    let trouble = Some(Trouble::Error);
+    Ok(Said {
+        node,
+        text,
+        trouble,
+    })
 }
 
 fn down(alloc: Global, json: bool, node: NodeId) -> Result<Said, Refusal>
-    ensures { IfOk result (λ s. (s.node ≡ node) × (s.text.items ≡ down_said json node)) }
+    ensures { IfOk result (λ s. (s.node ≡ node) × (s.text.items ≡ down_said json node) × (s.trouble ≡ Some Trouble.Error)) }
 {
     let mut text = Vec::new(alloc);
     say_down(&mut text, json, node)?;
-    Ok(Said { node, text })
+    let trouble = Some(Trouble::Error);
+    Ok(Said {
+        node,
+        text,
+        trouble,
+    })
 }
 
 // What all nodes tell of themselves.
@@ -92,7 +149,7 @@ fn stated<A: Asked>(
     node: NodeId,
     asked: &mut A,
 ) -> Result<Said, Refusal>
-    ensures { IfOk result (λ s. (s.node ≡ node) × Stated json nodes s.text.items) }
+    ensures { IfOk result (λ s. (s.node ≡ node) × Stated json nodes s.text.items × (s.trouble ≡ None)) }
 {
     let mut text = Vec::new(alloc);
     for index in 0..nodes.count() {
@@ -102,15 +159,25 @@ fn stated<A: Asked>(
         let status = asked.status(next)?;
         say_status(&mut text, json, &status)?;
     }
-    Ok(Said { node, text })
+    let trouble = None;
+    Ok(Said {
+        node,
+        text,
+        trouble,
+    })
 }
 
 fn helped(alloc: Global, json: bool, node: NodeId) -> Result<Said, Refusal>
-    ensures { IfOk result (λ s. (s.node ≡ node) × (s.text.items ≡ help_said json)) }
+    ensures { IfOk result (λ s. (s.node ≡ node) × (s.text.items ≡ help_said json) × (s.trouble ≡ None)) }
 {
     let mut text = Vec::new(alloc);
     say_help(&mut text, json)?;
-    Ok(Said { node, text })
+    let trouble = None;
+    Ok(Said {
+        node,
+        text,
+        trouble,
+    })
 }
 
 /// What is said to a line that asks for nothing.
@@ -121,11 +188,16 @@ pub fn faulted(
     node: NodeId,
     fault: LineFault,
 ) -> Result<Said, Refusal>
-    ensures { IfOk result (λ s. (s.node ≡ node) × (s.text.items ≡ fault_said json nodes fault)) }
+    ensures { IfOk result (λ s. (s.node ≡ node) × (s.text.items ≡ fault_said json nodes fault) × (s.trouble ≡ Some Trouble.Error)) }
 {
     let mut text = Vec::new(alloc);
     say_fault(&mut text, json, nodes, fault)?;
-    Ok(Said { node, text })
+    let trouble = Some(Trouble::Error);
+    Ok(Said {
+        node,
+        text,
+        trouble,
+    })
 }
 
 // Whether a line asks something of the node that is asked.
@@ -136,6 +208,7 @@ fn asks_node(line: &ShellLine) -> bool
         ShellLine::Submit(_) => true,
         ShellLine::Look(_) => true,
         ShellLine::Names(_) => true,
+        ShellLine::Again => true,
         _ => false,
     }
 }
@@ -163,7 +236,8 @@ pub fn said_to_request<A: Asked>(
         return Ok(Some(down(alloc, json, node)?));
     }
     match line {
-        ShellLine::Submit(op) => Ok(Some(answered(alloc, json, node, &asked.submit(node, op)?)?)),
+        ShellLine::Submit(op) => Ok(Some(submitted(alloc, json, node, &asked.submit(node, op)?)?)),
+        ShellLine::Again => Ok(Some(submitted(alloc, json, node, &asked.again(node)?)?)),
         ShellLine::Look(name) => Ok(Some(answered(alloc, json, node, &asked.look(node, name)?)?)),
         ShellLine::Names(prefix) => Ok(Some(listed(
             alloc,

@@ -1,13 +1,14 @@
 //! The talk of a shell: it hears a line, says what there is to say to it, and hears the next.
 
 ghost use Rattle.std.specs.Prelude.{◌≡◌, ◌<◌, IfOk, OnErr};
-ghost use Rattle.rr_talk.specs.Talks.{IsSaidTo, IsTurn, IsFrontSaid, Talks};
+ghost use Rattle.std.specs.Io.BufRead.{strip_last};
+ghost use Rattle.rr_talk.specs.Talks.{IsSaidTo, IsTurn, IsFrontSaid, ending_trouble, Talks};
 
-use crate::answering::Asked;
+use crate::answering::{Asked, Hint};
 use crate::hearing::{Heard, hear};
 use crate::prompting::Prompting;
 use crate::saying::{Said, faulted, said_to_request};
-use rr_shell::{LineFault, read_shell_line};
+use rr_shell::{LineFault, Trouble, read_shell_line};
 use rr_stream::{Sink, print_all};
 use rr_types::{NodeId, Nodes, Refusal};
 use std::alloc::Global;
@@ -24,6 +25,25 @@ pub enum Stop {
     Unprinted(io::Error),
 }
 
+/// Which node is asked behind a turn, and why its line wasn't answered as it asked, if it wasn't.
+#[derive(Clone, Copy, Debug)]
+pub struct Turn {
+    pub node: NodeId,
+    pub trouble: Option<Trouble>,
+}
+
+// A line without the carriage return that it ends with, if it does.
+fn without_return(line: &[u8]) -> &[u8]
+    ensures { result.now ≡ strip_last 13 line.now }
+{
+    let count = line.len();
+    if 0 < count && line[count - 1] == b'\r' {
+        &line[..count - 1]
+    } else {
+        line
+    }
+}
+
 // What is said to what was heard, where this node is asked. None: the talk is over.
 fn said_to<A: Asked>(
     alloc: Global,
@@ -36,13 +56,16 @@ fn said_to<A: Asked>(
     ensures { IfOk result (IsSaidTo json nodes node heard.now) }
 {
     let line = match heard {
-        Heard::Line(line) => line.as_slice(),
+        Heard::Line(line) => without_return(line.as_slice()),
         Heard::TooLong => return Ok(Some(faulted(alloc, json, nodes, node, LineFault::TooLong)?)),
         Heard::End => return Ok(None),
     };
     if let [] = line {
-        let text = Vec::new(alloc);
-        return Ok(Some(Said { node, text }));
+        return Ok(Some(Said {
+            node,
+            text: Vec::new(alloc),
+            trouble: None,
+        }));
     }
     match read_shell_line(nodes, line) {
         Ok(line) => said_to_request(alloc, json, nodes, node, asked, &line),
@@ -50,7 +73,25 @@ fn said_to<A: Asked>(
     }
 }
 
-// Hears a line and says what there is to say to it, where this node is asked. The node that is asked then; none: the talk is over.
+// Shows a hint, where somebody types.
+fn show_hint<I: Prompting>(alloc: Global, input: &mut I, hint: Hint)
+    ensures { I.reading input.new ≡ I.reading input.old }
+{
+    match hint {
+        Hint::Again => input.show(
+            b"it may count or not; \"again\" asks once more under its request number, so that it counts once\n",
+        ),
+        Hint::Left(left) => {
+            if let Ok(text) = format!(in alloc;
+                "the list is nearly full: {left} commands are left\n"
+            ) {
+                input.show(text.as_bytes());
+            }
+        }
+    }
+}
+
+// Hears a line and says what there is to say to it, where this node is asked. None: the talk is over.
 fn take_turn<I: Prompting, O: Sink, A: Asked>(
     alloc: Global,
     json: bool,
@@ -59,7 +100,7 @@ fn take_turn<I: Prompting, O: Sink, A: Asked>(
     asked: &mut A,
     input: &mut I,
     out: &mut O,
-) -> Result<Option<NodeId>, Stop>
+) -> Result<Option<Turn>, Stop>
     ensures turn { IfOk result (IsTurn json nodes node (I.reading input.old) (I.reading input.new) (O.printing out.old) (O.printing out.new)) }
     ensures front { OnErr result (IsFrontSaid (O.printing out.old) (O.printing out.new)) }
 {
@@ -73,11 +114,18 @@ fn take_turn<I: Prompting, O: Sink, A: Asked>(
         Ok(None) => return Ok(None),
         Err(refusal) => return Err(Stop::Refused(refusal)),
     };
-    let Said { node, text } = said;
-    match print_all(out, text.as_slice()) {
-        Ok(()) => Ok(Some(node)),
-        Err(error) => Err(Stop::Unprinted(error)),
+    let Said {
+        node,
+        text,
+        trouble,
+    } = said;
+    if let Err(error) = print_all(out, text.as_slice()) {
+        return Err(Stop::Unprinted(error));
     }
+    if let Some(hint) = asked.hint() {
+        show_hint(alloc, input, hint);
+    }
+    Ok(Some(Turn { node, trouble }))
 }
 
 // The node that is asked first.
@@ -90,8 +138,16 @@ fn first_node(nodes: Nodes) -> NodeId
     }
 }
 
+// Why a talk ends behind a turn: strict, it ends where the line wasn't answered as it asked.
+fn ending_trouble(strict: bool, trouble: Option<Trouble>) -> Option<Trouble>
+    ensures { result ≡ ending_trouble strict trouble }
+{
+    if strict { trouble } else { None }
+}
+
 /// Waits until the nodes can be asked. Then it hears line after line, each behind a prompt where somebody types, and says to each
-/// what there is to say, in words or with JSON, before it hears the next. It ends with a line that asks for that, or with the input. Node 0 is asked first.
+/// what there is to say, in words or with JSON, before it hears the next. It ends with a line that asks for that, or with the
+/// input. Strict, it also ends behind the first line that isn't answered as it asked, and tells why. Node 0 is asked first.
 ///
 /// # Errors
 /// `Refused`: what `asked` refuses with, or `OutOfMemory`; `Unread` and `Unprinted`: those of the streams. By then a front of
@@ -100,11 +156,12 @@ pub fn talk<I: Prompting, O: Sink, A: Asked>(
     alloc: Global,
     nodes: Nodes,
     json: bool,
+    strict: bool,
     asked: &mut A,
     input: &mut I,
     out: &mut O,
-) -> Result<(), Stop>
-    ensures { Talks json nodes (I.reading input.old) (I.reading input.new) (O.printing out.old) (O.printing out.new) result }
+) -> Result<Option<Trouble>, Stop>
+    ensures { Talks json strict nodes (I.reading input.old) (I.reading input.new) (O.printing out.old) (O.printing out.new) result }
 {
     if let Err(refusal) = asked.wait_until_ready() {
         return Err(Stop::Refused(refusal));
@@ -112,8 +169,16 @@ pub fn talk<I: Prompting, O: Sink, A: Asked>(
     let mut node = first_node(nodes);
     'turns: for _ in 0..u64::MAX {
         match take_turn(alloc, json, nodes, node, asked, input, out)? {
-            Some(next) => node = next,
-            None => return Ok(()),
+            None => return Ok(None),
+            Some(
+                Turn {
+                    node: next,
+                    trouble,
+                },
+            ) => match ending_trouble(strict, trouble) {
+                Some(trouble) => return Ok(Some(trouble)),
+                None => node = next,
+            },
         }
     }
     Err(Stop::Refused(Refusal::TooLarge))

@@ -8,12 +8,14 @@ ghost use Rattle.rr_window.specs.Sights.{bindings_with};
 ghost use Rattle.rr_threads.specs.Asking.{IsAnswered, IsSeen, IsAnswerTo};
 
 use crate::desk::{Counter, Desk};
+use crate::fate::{Fate, fate_in};
 use crate::rest::{FIRST, LONG, Rest};
 use crate::shared::Shared;
 use rr_locked::Turnstile;
 use rr_script::{Answer, ScriptLine};
 use rr_types::{
-    Binding, Command, Name, NodeId, NodeSummary, Op, Refusal, Reply, RequestNo, Value, made_of,
+    Binding, Command, Name, NodeId, NodeSummary, Op, Promise, Refusal, Reply, RequestNo,
+    Value, made_of,
 };
 use rr_window::{Receipt, Seat, Sight, WindowName};
 use std::alloc::Global;
@@ -180,6 +182,30 @@ impl<'d, 'x, W: WindowName, T: Turnstile, R: Wait> Handle<'d, 'x, W, T, R> {
                 }
             }
         }
+    }
+
+    /// Submits a command once more that wasn't acknowledged, under its request number, as `submit_within` does. However often it
+    /// is submitted, it counts once.
+    pub fn submit_again(&mut self, looks: u32, command: &Command) -> Answer
+        ensures answer { IsAnswered command.now.request self.new result }
+        ensures later { IsPrefix self.old.known self.new.known }
+        ensures same { self.new.node ≡ self.old.node }
+    {
+        self.submit_within(looks, command)
+    }
+
+    /// What this node's list of decided commands says of a command.
+    pub fn fate(&self, command: &Command) -> Fate {
+        let locked = self.desk.locked.lock(self.rt);
+        fate_in(locked.core(), command)
+    }
+
+    /// Where each instance stands by the facts that this node knows to be on its disk.
+    ///
+    /// # Errors
+    /// `OutOfMemory`.
+    pub fn promise(&self, alloc: Global) -> Result<Promise, Refusal> {
+        self.desk.locked.lock(self.rt).core().marked_promise(alloc)
     }
 
     /// Looks at a name, without waiting.

@@ -28,6 +28,9 @@ wanted {rule} {old} {new} {yes} is by = record { reads = ap rule_of by ∙ ap (�
 pub acting : {rule : Rule} {old new : Arg} {action : ArgAction} → IsArg rule old → new ≡ record old { action = Some action } → IsArg (record rule { action = Some action }) new
 acting {rule} {old} {new} {action} is by = record { reads = ap rule_of by ∙ ap (λ (r : Rule). record r { action = Some action }) is.reads; local = ap (λ (a : Arg). a.global) by ∙ is.local }
 
+pub lettered : {rule : Rule} {old new : Arg} {letter : ℕ} → IsArg rule old → new ≡ record old { short = Some letter } → IsArg (record rule { short = Some letter }) new
+lettered {rule} {old} {new} {letter} is by = record { reads = ap rule_of by ∙ ap (λ (r : Rule). record r { short = Some letter }) is.reads; local = ap (λ (a : Arg). a.global) by ∙ is.local }
+
 pub parsed : {rule : Rule} {old new : Arg} {parser : ValueParser} → IsArg rule old → new ≡ record old { value_parser = new.value_parser } → new.value_parser ≡ Some parser → IsArg (record rule { parser = Some parser }) new
 parsed {rule} {old} {new} {parser} is by given = record { reads = ap rule_of by ∙ ap (λ (p : Option ValueParser). record (rule_of old) { parser = p }) given ∙ ap (λ (r : Rule). record r { parser = Some parser }) is.reads; local = ap (λ (a : Arg). a.global) by ∙ is.local }
 

@@ -6,7 +6,7 @@ use Rattle.clap.specs.Simple.{on_top}
 use Rattle.clap.specs.declared.builder.arg.Arg.{Arg}
 use Rattle.clap.specs.declared.builder.command.Command.{Command}
 use Rattle.clap.specs.declared.builder.command.Command.TheViews.{out-Command}
-use Rattle.clap.specs.declared.builder.action.ArgAction.TheVariants.{SetTrue}
+use Rattle.clap.specs.declared.builder.action.ArgAction.TheVariants.{Append, SetTrue}
 use Rattle.clap.specs.declared.builder.value_parser.ValueParser.TheVariants.{Unsigned}
 
 -- an argument of this rule, which is of one command alone
@@ -42,6 +42,10 @@ option_rule id long wanted = record (named_rule id long) { required = wanted }
 -- an option without a text, which may be left out
 abbrev pub flag_rule : Text → Text → Rule
 flag_rule id long = record (named_rule id long) { action = Some SetTrue }
+
+-- an option with a text, of one letter too, which may be left out or given more than once
+abbrev pub lines_rule : Text → Text → ℕ → Rule
+lines_rule id long letter = record (record (named_rule id long) { short = Some letter }) { action = Some Append }
 
 -- one argument more
 unfoldable pub with_arg : App → Rule → App
@@ -99,16 +103,20 @@ run_line =
     (option_rule (codes "SCRIPT") (codes "script") true))
     (option_rule (codes "TAPE") (codes "tape") false)
 
--- the subcommand shell, with a number of nodes, the folder of their folders, the number of a client, which may be left out, and
--- the option for JSON
-unfoldable pub shell_line : App
-shell_line =
+-- the subcommand shell, with a number of nodes, the folder of their folders, the number of a client and lines, all of which
+-- may be left out
+unfoldable pub asking_line : App
+asking_line =
     with_arg
     (with_arg (with_arg (with_arg (new_app (codes "shell"))
-    (number_rule (codes "NODES") (codes "nodes") 1 7))
-    (option_rule (codes "DIR") (codes "dir") true))
+    (optional_number_rule (codes "NODES") (codes "nodes") 1 7))
+    (option_rule (codes "DIR") (codes "dir") false))
     (optional_number_rule (codes "CLIENT") (codes "client") 0 4294967295))
-    (flag_rule (codes "JSON") (codes "json"))
+    (lines_rule (codes "LINE") (codes "command") 99)
+
+-- the same with the options for an end at the first line that isn't answered as asked, and for JSON
+unfoldable pub shell_line : App
+shell_line = with_arg (with_arg asking_line (flag_rule (codes "STRICT") (codes "strict"))) (flag_rule (codes "JSON") (codes "json"))
 
 -- the subcommand sweep, with a FILE that may be left out, and a seed
 unfoldable pub sweep_line : App

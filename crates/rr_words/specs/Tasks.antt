@@ -1,13 +1,14 @@
 -- What words ask for.
-use Rattle.std.specs.Prelude.{List, Bool, false, Option, None, Some, codes, if◌then◌else◌, option_map}
+use Rattle.std.specs.Prelude.{List, [], Bool, false, Option, None, Some, codes, if◌then◌else◌, map, option_map, unwrap_or}
 use Rattle.std.specs.Option.{option_map_or}
 use Rattle.std.specs.Str.{bytes_eq}
-use Rattle.clap.specs.Words.{Row, Text, first_of, subcommand_of}
+use Rattle.clap.specs.Words.{Row, Text, all_of, first_of, subcommand_of}
 use Rattle.clap.specs.Kinds.{Kinds}
 use Rattle.clap.specs.Faults.{fault_of}
 use Rattle.rr_words.specs.Lines.{rr_line}
 use Rattle.rr_words.specs.declared.tasks.CutWords as code_words
 use Rattle.rr_words.specs.declared.tasks.RandomWords as code_randoms
+use Rattle.rr_words.specs.declared.tasks.ShellWords as code_shells
 use Rattle.rr_words.specs.declared.tasks.Form.{Form}
 use Rattle.rr_words.specs.declared.tasks.Form.TheVariants.{Plain, Json}
 use Rattle.rr_words.specs.declared.tasks.Task as code
@@ -40,6 +41,16 @@ pub record RandomWords : Type 0 where
   pub faults : Option Text
   pub alone : Bool
 
+-- the words of a shell: a number of nodes, the folder of their folders and a client, which may be left out; its lines, or none
+-- where standard input has them; whether it ends at the first that isn't answered as asked; and whether it answers with JSON
+pub record ShellWords : Type 0 where
+  pub nodes : Option Text
+  pub dir : Option Text
+  pub client : Option Text
+  pub lines : List Text
+  pub strict : Bool
+  pub json : Bool
+
 -- what is shown of the run of the schedule in a file or else in standard input: its report as JSON; or its report with events
 -- and reasons; or its statistics; or where its report isn't the text in a second file or else in standard input
 pub data View : Type 0 where
@@ -51,8 +62,7 @@ pub data View : Type 0 where
 -- what a command asks for: the report of the schedule in this file or else in standard input; or a view of its run; or the
 -- areas of the disk in this folder; or a random schedule by these words; or the audit of the tape in this file or else in
 -- standard input; or a run of this number of nodes in threads, over the folders in this folder, by the script in this file,
--- with its tape in this file or none; or a run of this number of nodes over the folders in this folder, whom standard input
--- asks as this client or as client 0, answered with JSON or not; or a sweep of the schedule in this file or else in standard
+-- with its tape in this file or none; or a shell by these words; or a sweep of the schedule in this file or else in standard
 -- input, with this seed, which only wrong words leave out; or the picture of the schedule in this file or else in standard
 -- input, of the cut that these words write; or an opening of the disk in this folder as that of this node of so many, all of
 -- which only wrong words leave out, and its areas then
@@ -63,7 +73,7 @@ pub data Task : Type 0 where
   Random : RandomWords → Task
   Audit : Option Text → Task
   Run : Option Text → Option Text → Option Text → Option Text → Task
-  Shell : Option Text → Option Text → Option Text → Bool → Task
+  Shell : ShellWords → Task
   Sweep : Option Text → Option Text → Task
   Draw : Option Text → CutWords → Task
   Migrate : Option Text → Option Text → Option Text → Task
@@ -123,7 +133,15 @@ abbrev pub run_task : List Row → Task
 run_task rows = Run (first_of (codes "NODES") rows) (first_of (codes "DIR") rows) (first_of (codes "SCRIPT") rows) (first_of (codes "TAPE") rows)
 
 abbrev pub shell_task : List Row → Task
-shell_task rows = Shell (first_of (codes "NODES") rows) (first_of (codes "DIR") rows) (first_of (codes "CLIENT") rows) (is_set (codes "JSON") rows)
+shell_task rows =
+    Shell (record {
+      nodes = first_of (codes "NODES") rows;
+      dir = first_of (codes "DIR") rows;
+      client = first_of (codes "CLIENT") rows;
+      lines = unwrap_or (all_of (codes "LINE") rows) [];
+      strict = is_set (codes "STRICT") rows;
+      json = is_set (codes "JSON") rows;
+    })
 
 abbrev pub sweep_task : List Row → Task
 sweep_task rows = Sweep (file_of (first_of (codes "FILE") rows)) (first_of (codes "SEED") rows)
@@ -134,20 +152,23 @@ draw_task rows = Draw (file_of (first_of (codes "FILE") rows)) (cut_words_of row
 abbrev pub migrate_task : List Row → Task
 migrate_task rows = Migrate (first_of (codes "DIR") rows) (first_of (codes "NODE") rows) (first_of (codes "NODES") rows)
 
--- what a subcommand of this name and these arguments asks for
-abbrev pub task_by : Text × List Row → Task
-task_by p =
+-- what a subcommand of this name and these arguments asks for, other than shell
+abbrev pub other_task_by : Text × List Row → Task
+other_task_by p =
     if bytes_eq p.0 (codes "stats") then stats_task p.1
     else (if bytes_eq p.0 (codes "check") then check_task p.1
     else (if bytes_eq p.0 (codes "show") then Show (first_of (codes "DIR") p.1)
     else (if bytes_eq p.0 (codes "random") then random_task p.1
     else (if bytes_eq p.0 (codes "audit") then Audit (file_of (first_of (codes "FILE") p.1))
     else (if bytes_eq p.0 (codes "run") then run_task p.1
-    else (if bytes_eq p.0 (codes "shell") then shell_task p.1
     else (if bytes_eq p.0 (codes "sweep") then sweep_task p.1
     else (if bytes_eq p.0 (codes "draw") then draw_task p.1
     else (if bytes_eq p.0 (codes "migrate") then migrate_task p.1
-    else simulate_task p.1)))))))))
+    else simulate_task p.1))))))))
+
+-- what a subcommand of this name and these arguments asks for
+abbrev pub task_by : Text × List Row → Task
+task_by p = if bytes_eq p.0 (codes "shell") then shell_task p.1 else other_task_by p
 
 -- what the words ask for
 unfoldable pub task_of : List Text → Task
@@ -175,6 +196,18 @@ random_words_in words =
       alone = words.alone;
     }
 
+-- the words of a shell that were read so
+abbrev pub shell_words_in : code_shells.ShellWords → ShellWords
+shell_words_in words =
+    record {
+      nodes = option_map (λ s. s.now) words.nodes;
+      dir = option_map (λ s. s.now) words.dir;
+      client = option_map (λ s. s.now) words.client;
+      lines = map (λ s. s.now) words.lines.items;
+      strict = words.strict;
+      json = words.json;
+    }
+
 -- what is shown that was read so
 abbrev pub view_in : view.View → View
 view_in (shown.Report file) = Report (option_map (λ s. s.now) file)
@@ -192,7 +225,7 @@ task_in (read.Audit file) = Audit (option_map (λ s. s.now) file)
 task_in (read.Run nodes dir script tape) =
     Run (option_map (λ s. s.now) nodes) (option_map (λ s. s.now) dir) (option_map (λ s. s.now) script)
     (option_map (λ s. s.now) tape)
-task_in (read.Shell nodes dir client json) = Shell (option_map (λ s. s.now) nodes) (option_map (λ s. s.now) dir) (option_map (λ s. s.now) client) json
+task_in (read.Shell words) = Shell (shell_words_in words)
 task_in (read.Sweep file seed) = Sweep (option_map (λ s. s.now) file) (option_map (λ s. s.now) seed)
 task_in (read.Draw file words) = Draw (option_map (λ s. s.now) file) (cut_words_in words)
 task_in (read.Migrate folder node nodes) = Migrate (option_map (λ s. s.now) folder) (option_map (λ s. s.now) node) (option_map (λ s. s.now) nodes)

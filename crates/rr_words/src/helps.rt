@@ -116,8 +116,8 @@ Examples:
 /// The help of `rr run`.
 pub(crate) fn run<'a>() -> &'a str {
     "\
-SCRIPT has a line for each thing that clients ask, as `submit 0 7 1 claim a x` or `look 1 a`. Each node runs in threads,
-node P over the files in the folder DIR/P, which are made where they are missing. Printed is an answer for each line of
+SCRIPT has a line for each thing that clients ask, as `submit 0 7 1 claim a x` or `look 1 a`. A SCRIPT that is - is
+standard input. Each node runs in threads, node P over the files in the folder DIR/P, which are made where they are missing. Printed is an answer for each line of
 the script, in its order: `ack P C.S REPLY`, `none P C.S`, or `look P NAME` and what the name is bound to. With --tape
 the folders have to be fresh, and what the nodes did is recorded for `rr audit`.
 
@@ -131,16 +131,22 @@ pub(crate) fn shell<'a>() -> &'a str {
     "\
 Each line of standard input is a command, which is answered before the next is read: `claim NAME [VALUE]`,
 `update NAME [VALUE]`, `release NAME`, `transfer NAME OWNER`, `look NAME`, `list [PREFIX]`, `at NODE`, `stop NODE`,
-`start NODE`, `snapshot NODE`, `status`, `help` or `quit`. One space divides words. Node 0 is asked first, and from
-`at NODE` on that node. The answers are `claimed`, `updated`, `released`, `transferred`, `taken OWNER`, `unknown`,
-`notowner`, `full` or `unacknowledged`; to a look `NAME free`, `NAME bound OWNER VALUE` or `NAME unseen`; to a list
-`list COUNT` and a line as a look's for each bound name that begins with PREFIX; to a status a line for each node; else
-`error: ` and what is expected. With --json each of these lines is an object of JSON. A node that is stopped goes down
-as by a crash, and opens its folder when it is started. Each node runs in threads over the folder DIR/P, as in `rr run`.
-The file DIR/requests keeps request numbers unique from one start to the next.
+`start NODE`, `snapshot NODE`, `status`, `again`, `help`, `quit` or `exit`. One space divides words. Node 0 is asked
+first, and from `at NODE` on that node. The answers are `claimed`, `updated`, `released`, `transferred`, `taken OWNER`,
+`unknown`, `notowner`, `full`, `unacknowledged` or `full list: ` and a text; to a look `NAME free`,
+`NAME bound OWNER VALUE` or `NAME unseen`; to a list `list COUNT` and a line as a look's for each bound name that begins
+with PREFIX; to a status a line for each node; else `error: ` and what is expected. With --json each of these lines is
+an object of JSON. `again` asks the last command that was unacknowledged once more, under its request number, so that it
+counts once. A node that is stopped goes down as by a crash, and opens its folder when it is started. Each node runs in
+threads over the folder DIR/P, as in `rr run`. The file DIR/requests keeps request numbers unique from one start to the
+next.
+
+With -c each LINE is answered, in order, and nothing is read. Without --strict the status is 0 whatever was answered.
+With it the shell ends at the first line that isn't answered as asked, with one of these:
+  10 taken  11 notowner  12 unknown  13 full  14 unacknowledged  15 unseen  16 full list  17 error
 
 Examples:
-  rr shell --nodes 3 --dir /tmp/nodes
+  rr shell -c 'claim printer room-4' -c 'look printer'
   printf 'claim printer room-4\\nat 1\\nlook printer\\n' | rr shell --nodes 3 --dir /tmp/nodes --client 7"
 }
 

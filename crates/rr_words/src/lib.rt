@@ -9,4 +9,4 @@ mod tasks;
 
 pub use lines::{LAST_CLIENT, LAST_LINE, MAX_FAULTS, MAX_STEPS};
 pub use reading::read_words;
-pub use tasks::{CutWords, Form, RandomWords, Task, View};
+pub use tasks::{CutWords, Form, RandomWords, ShellWords, Task, View};

@@ -2,7 +2,7 @@
 
 ghost use Rattle.std.specs.Prelude.{◌≡◌, IfOk, codes};
 ghost use Rattle.clap.specs.Words.{App, app_of, new_app};
-ghost use Rattle.rr_words.specs.Lines.{IsArg, IsLine, and_also, rr_line, schedule_lines, rr_settings, with_version, named_rule, sim_line, stats_line, check_line, show_line, migrate_line, word_rule, number_rule, option_rule, optional_number_rule, flag_rule, numbers_line, random_line, audit_line, run_line, shell_line, sweep_line, draw_line};
+ghost use Rattle.rr_words.specs.Lines.{IsArg, IsLine, and_also, rr_line, schedule_lines, rr_settings, with_version, named_rule, sim_line, stats_line, check_line, show_line, migrate_line, word_rule, number_rule, option_rule, optional_number_rule, flag_rule, numbers_line, random_line, audit_line, run_line, lines_rule, asking_line, shell_line, sweep_line, draw_line};
 
 use crate::helps;
 use clap::builder::ValueParser;
@@ -141,6 +141,15 @@ fn flag_arg<'a>(alloc: Global, id: &'a str, long: &'a str, help: &'a str) -> Arg
     ensures { IsArg (flag_rule id.entry.now long.entry.now) result }
 {
     named_arg(alloc, id, long, help).action(ArgAction::SetTrue)
+}
+
+// An option with a text, of one letter too, which may be left out or given more than once.
+fn lines_arg<'a>(alloc: Global, id: &'a str, long: &'a str, help: &'a str, letter: char) -> Arg<'a>
+    ensures { IsArg (lines_rule id.entry.now long.entry.now letter) result }
+{
+    named_arg(alloc, id, long, help)
+        .short(letter)
+        .action(ArgAction::Append)
 }
 
 // The command line of `rr sim`.
@@ -284,13 +293,19 @@ fn run_line<'a>(alloc: Global) -> Result<Command<'a>, AllocError>
         "The folder of the nodes' folders",
         true,
     ))?
-    .arg(option_arg(alloc, "SCRIPT", "script", "The script", true))?
+    .arg(option_arg(
+        alloc,
+        "SCRIPT",
+        "script",
+        "The script; - is standard input",
+        true,
+    ))?
     .arg(option_arg(alloc, "TAPE", "tape", "Where the tape is written", false))
 }
 
-// The command line of `rr shell`.
-fn shell_line<'a>(alloc: Global) -> Result<Command<'a>, AllocError>
-    ensures { IfOk result (IsLine shell_line) }
+// The command line of `rr shell` without how it answers.
+fn asking_line<'a>(alloc: Global) -> Result<Command<'a>, AllocError>
+    ensures { IfOk result (IsLine asking_line) }
 {
     bare_line(
         alloc,
@@ -298,13 +313,20 @@ fn shell_line<'a>(alloc: Global) -> Result<Command<'a>, AllocError>
         "Runs nodes in threads over folders, and answers commands line by line",
         helps::shell(),
     )
-    .arg(number_arg(alloc, "NODES", "nodes", "How many nodes there are", 1, 7))?
+    .arg(optional_number_arg(
+        alloc,
+        "NODES",
+        "nodes",
+        "How many nodes there are [default: as many as DIR has, else 3]",
+        1,
+        7,
+    ))?
     .arg(option_arg(
         alloc,
         "DIR",
         "dir",
-        "The folder of the nodes' folders",
-        true,
+        "The folder of the nodes' folders [default: rr-data]",
+        false,
     ))?
     .arg(optional_number_arg(
         alloc,
@@ -314,12 +336,32 @@ fn shell_line<'a>(alloc: Global) -> Result<Command<'a>, AllocError>
         0,
         LAST_CLIENT,
     ))?
-    .arg(flag_arg(
+    .arg(lines_arg(
         alloc,
-        "JSON",
-        "json",
-        "Answers with an object of JSON for each line",
+        "LINE",
+        "command",
+        "Answers this line, and no standard input; may be given again",
+        'c',
     ))
+}
+
+// The command line of `rr shell`.
+fn shell_line<'a>(alloc: Global) -> Result<Command<'a>, AllocError>
+    ensures { IfOk result (IsLine shell_line) }
+{
+    asking_line(alloc)?
+        .arg(flag_arg(
+            alloc,
+            "STRICT",
+            "strict",
+            "Ends at the first line that isn't answered as asked",
+        ))?
+        .arg(flag_arg(
+            alloc,
+            "JSON",
+            "json",
+            "Answers with an object of JSON for each line",
+        ))
 }
 
 // The command line of `rr sweep`.

@@ -20,7 +20,7 @@ pub fn read_words<'a, S: AsStr>(alloc: Global, words: &'a [S]) -> Result<Task<'a
 {
     let matches = command_line(alloc)?.try_get_matches_from(words)?;
     match matches.subcommand() {
-        Some((name, below)) => Ok(task_by(name, below)),
+        Some((name, below)) => Ok(task_by(alloc, name, below)?),
         None => Ok(Task::Simulate(None)),
     }
 }

@@ -1,10 +1,11 @@
 //! What words ask for, by the subcommand that they name and its arguments.
 
-ghost use Rattle.std.specs.Prelude.{◌≡◌, option_map};
-ghost use Rattle.clap.specs.Words.{first_of, found_of, rows_of};
-ghost use Rattle.rr_words.specs.Tasks.{file_of, is_set, form_of, cut_words_of, cut_words_in, simulate_task, stats_task, check_task, random_task, run_task, shell_task, sweep_task, draw_task, migrate_task, task_by, task_in};
+ghost use Rattle.std.specs.Prelude.{◌≡◌, [], IfOk, map, option_map, unwrap_or};
+ghost use Rattle.clap.specs.Words.{all_of, first_of, found_of, rows_of};
+ghost use Rattle.rr_words.specs.Tasks.{file_of, is_set, form_of, cut_words_of, cut_words_in, simulate_task, stats_task, check_task, random_task, run_task, shell_task, sweep_task, draw_task, migrate_task, other_task_by, task_by, task_in};
 
 use clap::ArgMatches;
+use std::alloc::{AllocError, Global};
 
 /// The words of a cut: which part of a run a picture shows. The whole run is shown without any.
 #[derive(Clone, Copy, Debug, PartialEq, Eq)]
@@ -36,6 +37,23 @@ pub struct RandomWords<'a> {
     pub alone: bool,
 }
 
+/// The words of a shell.
+#[derive(Debug, Drop)]
+pub struct ShellWords<'a> {
+    /// How many nodes there are.
+    pub nodes: Option<&'a str>,
+    /// The folder of their folders.
+    pub dir: Option<&'a str>,
+    /// The client that asks.
+    pub client: Option<&'a str>,
+    /// The lines to answer. Where there are none, standard input has them.
+    pub lines: Vec<&'a str>,
+    /// Whether it ends at the first line that isn't answered as asked.
+    pub strict: bool,
+    /// Whether it answers with JSON.
+    pub json: bool,
+}
+
 /// How something is printed.
 #[derive(Clone, Copy, Debug, PartialEq, Eq)]
 pub enum Form {
@@ -59,7 +77,7 @@ pub enum View<'a> {
 }
 
 /// What words ask for.
-#[derive(Clone, Copy, Debug, PartialEq, Eq)]
+#[derive(Debug, Drop)]
 pub enum Task<'a> {
     /// `rr sim [FILE]`: the report of the schedule in this file, or else in standard input, as by the word `-`.
     Simulate(Option<&'a str>),
@@ -75,9 +93,9 @@ pub enum Task<'a> {
     /// `rr run --nodes NODES --dir DIR --script SCRIPT [--tape TAPE]`: a run of nodes in threads by the script in this
     /// file, and its tape into this file.
     Run(Option<&'a str>, Option<&'a str>, Option<&'a str>, Option<&'a str>),
-    /// `rr shell --nodes NODES --dir DIR [--client CLIENT] [--json]`: a run of nodes in threads, whom the lines of standard input
-    /// ask as this client; and whether they answer with JSON.
-    Shell(Option<&'a str>, Option<&'a str>, Option<&'a str>, bool),
+    /// `rr shell [--nodes NODES] [--dir DIR] [--client CLIENT] [-c LINE].. [--strict] [--json]`: a run of nodes in threads, whom
+    /// these lines or those of standard input ask as this client.
+    Shell(ShellWords<'a>),
     /// `rr sweep [FILE] --seed SEED`: what a node restarts with after a crash behind each device call of the schedule in
     /// this file, or else in standard input; with the seed of the words of the last ending.
     Sweep(Option<&'a str>, Option<&'a str>),
@@ -197,16 +215,33 @@ fn run_task<'a>(matches: &ArgMatches<'a>) -> Task<'a>
     )
 }
 
-// What `rr shell` is asked for.
-fn shell_task<'a>(matches: &ArgMatches<'a>) -> Task<'a>
-    ensures { task_in result ≡ shell_task (rows_of (found_of matches.now)) }
+// All texts of an option that were read under this name.
+fn words_of<'a>(
+    alloc: Global,
+    matches: &ArgMatches<'a>,
+    id: &str,
+) -> Result<Vec<&'a str>, AllocError>
+    ensures { IfOk result (λ v. map (λ s. s.now) v.items ≡ unwrap_or (all_of id.now (rows_of (found_of matches.now))) []) }
 {
-    Task::Shell(
-        word_of(matches, "NODES"),
-        word_of(matches, "DIR"),
-        word_of(matches, "CLIENT"),
-        is_set(matches, "JSON"),
-    )
+    let mut words = Vec::new(alloc);
+    if let Some(given) = matches.get_strs(id) {
+        words.extend_from_slice(given)?;
+    }
+    Ok(words)
+}
+
+// What `rr shell` is asked for.
+fn shell_task<'a>(alloc: Global, matches: &ArgMatches<'a>) -> Result<Task<'a>, AllocError>
+    ensures { IfOk result (λ t. task_in t ≡ shell_task (rows_of (found_of matches.now))) }
+{
+    Ok(Task::Shell(ShellWords {
+        nodes: word_of(matches, "NODES"),
+        dir: word_of(matches, "DIR"),
+        client: word_of(matches, "CLIENT"),
+        lines: words_of(alloc, matches, "LINE")?,
+        strict: is_set(matches, "STRICT"),
+        json: is_set(matches, "JSON"),
+    }))
 }
 
 // What `rr sweep` is asked for.
@@ -234,9 +269,9 @@ fn migrate_task<'a>(matches: &ArgMatches<'a>) -> Task<'a>
     )
 }
 
-// What a subcommand of this name is asked for.
-pub(crate) fn task_by<'a>(name: &str, matches: &ArgMatches<'a>) -> Task<'a>
-    ensures { task_in result ≡ task_by (name.now, rows_of (found_of matches.now)) }
+// What a subcommand of this name, other than `shell`, is asked for.
+fn other_task<'a>(name: &str, matches: &ArgMatches<'a>) -> Task<'a>
+    ensures { task_in result ≡ other_task_by (name.now, rows_of (found_of matches.now)) }
 {
     if name == "stats" {
         stats_task(matches)
@@ -250,8 +285,6 @@ pub(crate) fn task_by<'a>(name: &str, matches: &ArgMatches<'a>) -> Task<'a>
         Task::Audit(file_of(word_of(matches, "FILE")))
     } else if name == "run" {
         run_task(matches)
-    } else if name == "shell" {
-        shell_task(matches)
     } else if name == "sweep" {
         sweep_task(matches)
     } else if name == "draw" {
@@ -260,5 +293,20 @@ pub(crate) fn task_by<'a>(name: &str, matches: &ArgMatches<'a>) -> Task<'a>
         migrate_task(matches)
     } else {
         simulate_task(matches)
+    }
+}
+
+// What a subcommand of this name is asked for.
+pub(crate) fn task_by<'a>(
+    alloc: Global,
+    name: &str,
+    matches: &ArgMatches<'a>,
+) -> Result<Task<'a>, AllocError>
+    ensures { IfOk result (λ t. task_in t ≡ task_by (name.now, rows_of (found_of matches.now))) }
+{
+    if name == "shell" {
+        shell_task(alloc, matches)
+    } else {
+        Ok(other_task(name, matches))
     }
 }

@@ -27,3 +27,46 @@ fn a_prompt_stands_before_each_line_that_is_read(rt: HostRuntime) {
     assert!(rt; err.is_empty());
     fs::remove_dir_all(&rt, "rr_shell_prompts").expect(&rt, "the folder goes");
 }
+
+#[test]
+fn who_types_sees_what_was_left_out(rt: HostRuntime) {
+    let words = ["rr", "shell", "--dir", "rr_shell_defaults"];
+    let mut seen = Vec::new(rt.alloc());
+    let mut out = Counted::new(Vec::new(rt.alloc()));
+    let mut err = Vec::new(rt.alloc());
+    let typed = Counted::new(&b"claim a x\n"[..]);
+    let status = execute(
+        &rt,
+        &words,
+        &mut Prompted::new(typed, Some(&mut seen)),
+        &mut out,
+        &mut err,
+    );
+    assert_eq!(rt; status, 0);
+    assert!(rt; seen.as_slice().starts_with(b"rr: --nodes 3 --dir rr_shell_defaults; "));
+    assert!(rt; seen.as_slice().ends_with(b"\n> > \n"));
+    assert!(rt; err.is_empty());
+    fs::remove_dir_all(&rt, "rr_shell_defaults").expect(&rt, "the folder goes");
+}
+
+#[test]
+fn who_types_sees_that_a_command_may_be_asked_again(rt: HostRuntime) {
+    let words = ["rr", "shell", "--nodes", "2", "--dir", "rr_shell_again"];
+    let mut seen = Vec::new(rt.alloc());
+    let mut out = Counted::new(Vec::new(rt.alloc()));
+    let mut err = Vec::new(rt.alloc());
+    let typed = Counted::new(&b"stop 1\nclaim a x\nstart 1\nagain\n"[..]);
+    let status = execute(
+        &rt,
+        &words,
+        &mut Prompted::new(typed, Some(&mut seen)),
+        &mut out,
+        &mut err,
+    );
+    let told = b"stopped 1\nunacknowledged\nstarted 1\nclaimed\n";
+    let hint = b"> > it may count or not; \"again\" asks once more under its request number, so that it counts once\n> > > \n";
+    assert_eq!(rt; status, 0);
+    assert!(rt; out.into_inner().as_slice() == told.as_slice());
+    assert!(rt; seen.as_slice() == hint.as_slice());
+    fs::remove_dir_all(&rt, "rr_shell_again").expect(&rt, "the folder goes");
+}

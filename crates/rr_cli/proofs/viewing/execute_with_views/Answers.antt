@@ -1,6 +1,6 @@
 use Rattle.std.proofs.Common.{◌≡◌, ◌∙◌, ℕ, List, Option, option_map, Bor, refl, sym, ap, map, inl, inr}
 use Rattle.clap.specs.Words.{Text, kind_of}
-use Rattle.rr_words.specs.Tasks.{Simulate, Viewing, Show, Random, Audit, Run, Shell, Sweep, Draw, Migrate, cut_words_in, random_words_in, task_of, task_in, view_in}
+use Rattle.rr_words.specs.Tasks.{Simulate, Viewing, Show, Random, Audit, Run, Shell, Sweep, Draw, Migrate, cut_words_in, random_words_in, shell_words_in, task_of, task_in, view_in}
 use Rattle.rr_cli.specs.Ends.{mistaken, by_help, by_version}
 use Rattle.rr_cli.proofs.EndLemmas.{kind_cases}
 use Rattle.rr_cli.specs.Views.{by_view, by_others, out_of_memory}
@@ -62,8 +62,8 @@ returns-in-Ok-Run-clause-ends g c =
 pub returns-in-Ok-Shell-clause-ends : goal.returns-in-Ok-Shell-clause-ends
 returns-in-Ok-Shell-clause-ends g c =
     let w = c.in-Ok-Shell in
-    let task : task_of (map g.S.AsStr.text c.args.words.now) ≡ Shell (text_of w.field-0-0) (text_of w.field-0-1) (text_of w.field-0-2) w.field-0-3 = sym w.ensures.task ∙ ap task_in w.field-0-is in
-    by_others (λ none view is. no_shell (text_of w.field-0-0) (text_of w.field-0-1) (text_of w.field-0-2) w.field-0-3 view (sym task ∙ is)) c.execute-in-Ok-Shell.ensures.ends
+    let task : task_of (map g.S.AsStr.text c.args.words.now) ≡ Shell (shell_words_in w.field-0-0) = sym w.ensures.task ∙ ap task_in w.field-0-is in
+    by_others (λ none view is. no_shell (shell_words_in w.field-0-0) view (sym task ∙ is)) c.execute-in-Ok-Shell.ensures.ends
 
 pub returns-in-Ok-Sweep-clause-ends : goal.returns-in-Ok-Sweep-clause-ends
 returns-in-Ok-Sweep-clause-ends g c =

@@ -3,7 +3,7 @@ use Rattle.clap.specs.Words.{Text, kind_of}
 use Rattle.clap.specs.Kinds.{Kinds, IsAmong}
 use Rattle.clap.specs.declared.error.kind.ErrorKind.{ErrorKind}
 use Rattle.rr_words.specs.declared.tasks.Task.TheVariants as read
-use Rattle.rr_words.specs.Tasks.{Simulate, Viewing, Show, Random, Audit, Run, Shell, Sweep, Draw, Migrate, cut_words_in, random_words_in, view_in, task_of, task_in}
+use Rattle.rr_words.specs.Tasks.{Simulate, Viewing, Show, Random, Audit, Run, Shell, Sweep, Draw, Migrate, cut_words_in, random_words_in, shell_words_in, view_in, task_of, task_in}
 use Rattle.rr_cli.specs.Ends.{mistaken, by_help, by_version}
 use Rattle.rr_cli.proofs.EndLemmas.{kind_cases}
 use Rattle.rr_cli.specs.Views as views
@@ -50,14 +50,6 @@ without_script None b d asks = asks
 without_script (Some n) None d asks = asks
 without_script (Some n) (Some x) d asks = asks
 
-without_folder : (a c : Option Text) (json : Bool) → AsksForThreads (Shell a None c json) → ⊥
-without_folder None c json asks = asks
-without_folder (Some n) c json asks = asks
-
--- the task that three words make
-shell_from : (a b c w x : Option (Bor (List ℕ))) (json : Bool) → a ≡ w → b ≡ x → task_in (read.Shell a b c json) ≡ task_in (read.Shell w x c json)
-shell_from a b c w x json p q = rw (p, q) refl
-
 pub returns-in-Ok-Run-None-default-default-default-clause-ends : goal.returns-in-Ok-Run-None-default-default-default-clause-ends
 returns-in-Ok-Run-None-default-default-default-clause-ends g c =
     let w = c.in-Ok-Run-None-default-default-default in
@@ -76,23 +68,11 @@ returns-in-Ok-Run-default-default-None-default-clause-ends g c =
     let task : task_of (map g.S.AsStr.text c.args.words.now) ≡ Run (text_of w.field-0-0) (text_of w.field-0-1) None (text_of w.field-0-3) = sym w.ensures.task ∙ ap task_in w.field-0-is ∙ run_from _ _ _ _ _ _ _ refl refl w.field-0-2-is in
     by_others (λ none asks. without_script (text_of w.field-0-0) (text_of w.field-0-1) (text_of w.field-0-3) (subst (λ t. AsksForThreads t) task asks)) c.execute_with_views.ensures.ends
 
-pub returns-in-Ok-Shell-Some-Some-default-default-clause-ends : goal.returns-in-Ok-Shell-Some-Some-default-default-clause-ends
-returns-in-Ok-Shell-Some-Some-default-default-clause-ends g c =
-    let w = c.in-Ok-Shell-Some-Some-default-default in
-    let task : task_of (map g.S.AsStr.text c.args.words.now) ≡ Shell (Some w.nodes.now) (Some w.dir.now) (text_of w.client) w.json = sym w.ensures.task ∙ ap task_in w.field-0-is ∙ shell_from _ _ _ _ _ _ w.field-0-0-is w.field-0-1-is in
-    by_shell (record { nodes = w.nodes.now; dir = w.dir.now; client = text_of w.client; json = w.json; is = task }) w.ensures.faults c.shell_by_words.ensures.ends
-
-pub returns-in-Ok-Shell-None-default-default-default-clause-ends : goal.returns-in-Ok-Shell-None-default-default-default-clause-ends
-returns-in-Ok-Shell-None-default-default-default-clause-ends g c =
-    let w = c.in-Ok-Shell-None-default-default-default in
-    let task : task_of (map g.S.AsStr.text c.args.words.now) ≡ Shell None (text_of w.field-0-1) (text_of w.field-0-2) w.field-0-3 = sym w.ensures.task ∙ ap task_in w.field-0-is ∙ shell_from _ _ _ _ _ _ w.field-0-0-is refl in
-    by_others (λ none asks. subst (λ t. AsksForThreads t) task asks) c.execute_with_views-in-Ok-Shell-None-default-default-default.ensures.ends
-
-pub returns-in-Ok-Shell-default-None-default-default-clause-ends : goal.returns-in-Ok-Shell-default-None-default-default-clause-ends
-returns-in-Ok-Shell-default-None-default-default-clause-ends g c =
-    let w = c.in-Ok-Shell-default-None-default-default in
-    let task : task_of (map g.S.AsStr.text c.args.words.now) ≡ Shell (text_of w.field-0-0) None (text_of w.field-0-2) w.field-0-3 = sym w.ensures.task ∙ ap task_in w.field-0-is ∙ shell_from _ _ _ _ _ _ refl w.field-0-1-is in
-    by_others (λ none asks. without_folder (text_of w.field-0-0) (text_of w.field-0-2) w.field-0-3 (subst (λ t. AsksForThreads t) task asks)) c.execute_with_views-in-Ok-Shell-default-None-default-default.ensures.ends
+pub returns-in-Ok-Shell-clause-ends : goal.returns-in-Ok-Shell-clause-ends
+returns-in-Ok-Shell-clause-ends g c =
+    let w = c.in-Ok-Shell in
+    let task : task_of (map g.S.AsStr.text c.args.words.now) ≡ Shell (shell_words_in w.asked) = sym w.ensures.task ∙ ap task_in w.field-0-is in
+    by_shell (shell_words_in w.asked) task w.ensures.faults c.shell_by_words.ensures.ends
 
 pub returns-in-Ok-Simulate-clause-ends : goal.returns-in-Ok-Simulate-clause-ends
 returns-in-Ok-Simulate-clause-ends g c =

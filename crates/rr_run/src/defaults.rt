@@ -1,0 +1,88 @@
+//! What a shell takes where words are left out.
+
+ghost use Rattle.std.specs.Prelude.{◌≡◌, ℕ, IfSome, Option, None, option_map};
+ghost use Rattle.rr_run.specs.Shells.{IsNodesBy};
+
+use rr_cli::{ShellWords, nodes_of};
+use rr_disk::FileDisk;
+use rr_image::inspect;
+use rr_talk::Prompting;
+use rr_types::Nodes;
+use std::alloc::Global;
+use std::os::unix::fs::FileExt;
+use std::rt::Files;
+
+/// The folder of the nodes' folders.
+pub(crate) const FOLDER: &str = "rr-data";
+
+/// How many nodes there are where no folder tells it.
+const COUNT: u8 = 3;
+
+// How many nodes a cluster has, by the first area in the folder of a node that tells it.
+fn nodes_told<R: Files + AllocGlobal>(rt: &R, folder: &str) -> Option<Nodes>
+where
+    R::File: FileExt,
+{
+    let mut disk = FileDisk::open_read_only(rt, folder).ok()?;
+    match inspect(rt.alloc(), &mut disk).ok()? {
+        (Some(report), _) => Some(report.nodes),
+        (None, Some(report)) => Some(report.nodes),
+        (None, None) => None,
+    }
+}
+
+// How many nodes a folder was made for, by the first folder of a node that tells it.
+fn nodes_there<R: Files + AllocGlobal>(rt: &R, dir: &str) -> Option<Nodes>
+where
+    R::File: FileExt,
+{
+    for node in 0..7u8 {
+        let folder = format!(in rt.alloc(); "{dir}/{node}").ok()?;
+        if let Some(nodes) = nodes_told(rt, folder.as_str()) {
+            return Some(nodes);
+        }
+    }
+    None
+}
+
+/// How many nodes a word names. Without a word, as many as the folder was made for, or else three.
+pub(crate) fn nodes_by<R: Files + AllocGlobal>(
+    rt: &R,
+    word: Option<&str>,
+    dir: &str,
+) -> Option<Nodes>
+where
+    R::File: FileExt,
+    ensures some { IfSome result (λ n. IsNodesBy (option_map (λ s. s.now) word.entry) n) }
+    ensures none { result ≡ None → (n : ℕ) → IsNodesBy (option_map (λ s. s.now) word.entry) n → ⊥ }
+{
+    match word {
+        Some(word) => nodes_of(word),
+        None => match nodes_there(rt, dir) {
+            Some(nodes) => Some(nodes),
+            None => Nodes::new(COUNT).ok(),
+        },
+    }
+}
+
+/// Shows what is taken for words that were left out, where somebody types.
+pub(crate) fn show_defaults<I: Prompting>(
+    alloc: Global,
+    words: &ShellWords<'_>,
+    nodes: Nodes,
+    dir: &str,
+    input: &mut I,
+)
+    ensures { I.reading input.new ≡ I.reading input.old }
+{
+    if words.nodes.is_some() && words.dir.is_some() {
+        return;
+    }
+    let count = nodes.count();
+    let Ok(text) = format!(in alloc;
+        "rr: --nodes {count} --dir {dir}; \"help\" lists the commands, \"quit\" or Ctrl-D ends\n"
+    ) else {
+        return;
+    };
+    input.show(text.as_bytes());
+}

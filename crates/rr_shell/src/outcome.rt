@@ -1,0 +1,53 @@
+//! What comes of a submit.
+
+ghost use Rattle.std.specs.Prelude.{◌≡◌, ◌++◌, ◌∷◌, OnOk, IfErr};
+ghost use Rattle.rr_text.specs.Words.{spaced};
+ghost use Rattle.rr_shell.specs.Texts.{used_text, full_text, nothing_text};
+
+use rr_script::Answer;
+use rr_text::text_report::push_request;
+use rr_text::text_word::{push_bytes, push_op};
+use rr_types::{Command, Refusal};
+
+/// What comes of a submit, or of the line that asks one again.
+#[derive(Clone, Copy, Debug)]
+pub enum Outcome {
+    /// What the node answered.
+    Answered(Answer),
+    /// The list is full without the command, which is never decided.
+    ListFull,
+    /// The request number was already used for this command, which is another.
+    Used(Command),
+    /// Nothing is unacknowledged, so nothing is asked again.
+    Nothing,
+}
+
+/// Appends that a request number was already used for this command.
+pub(crate) fn push_used_text(out: &mut Vec<u8>, command: &Command) -> Result<(), Refusal>
+    ensures ok { OnOk result (out.new.items ≡ out.old.items ++ used_text command.now) }
+    ensures err { IfErr result (λ e. e ≡ Refusal.OutOfMemory) }
+{
+    push_bytes(out, b"request")?;
+    push_request(out, command.request)?;
+    push_bytes(out, b" was already used for:")?;
+    push_op(out, &command.op)
+}
+
+/// Appends that the list is full.
+pub(crate) fn push_full_text(out: &mut Vec<u8>) -> Result<(), Refusal>
+    ensures ok { OnOk result (out.new.items ≡ out.old.items ++ full_text) }
+    ensures err { IfErr result (λ e. e ≡ Refusal.OutOfMemory) }
+{
+    push_bytes(
+        out,
+        b"no further command can be decided, and this one isn't",
+    )
+}
+
+/// Appends that nothing is asked again.
+pub(crate) fn push_nothing_text(out: &mut Vec<u8>) -> Result<(), Refusal>
+    ensures ok { OnOk result (out.new.items ≡ out.old.items ++ nothing_text) }
+    ensures err { IfErr result (λ e. e ≡ Refusal.OutOfMemory) }
+{
+    push_bytes(out, b"nothing to ask again: no command is unacknowledged")
+}
