@@ -83,13 +83,13 @@ blank_each p (f ∷ fs) all = let both = and_parts (is_blank f.content) (list_al
 
 -- ---- the verdict
 
-guards_open : (n : ℕ) (c : Cluster) (fs : List Found) (x : Option (ℕ × Fault)) → c.nodes ≡ n → first_fault c.identity n (Some c.formatted) 0 fs ≡ x → Guards n (Some c) fs (refused_or x Open)
+guards_open : (n : ℕ) (c : Cluster) (fs : List Found) (x : Option (ℕ × Fault)) → c.nodes ≡ n → first_fault c.identity n (Some c.formatted) 0 fs ≡ x → Guards n (Some c) fs (refused_or x (Open c))
 guards_open n c fs (Some x) same is = tt
 guards_open n c fs None same is =
     let none : first_fault c.identity c.nodes (Some c.formatted) 0 fs ≡ None = subst (λ (k : ℕ). first_fault c.identity k (Some c.formatted) 0 fs ≡ None) (sym same) is in
-    (same, each_of (KeepsItsDisk c) c.identity c.nodes (Some c.formatted) (keeps c) 0 fs none)
+    (refl, same, each_of (KeepsItsDisk c) c.identity c.nodes (Some c.formatted) (keeps c) 0 fs none)
 
-guards_file : (n : ℕ) (c : Cluster) (fs : List Found) (b : Bool) → eqb c.nodes n ≡ b → Guards n (Some c) fs (cond b (refused_or (first_fault c.identity n (Some c.formatted) 0 fs) Open) (Refused 0 (OtherNodes c.nodes)))
+guards_file : (n : ℕ) (c : Cluster) (fs : List Found) (b : Bool) → eqb c.nodes n ≡ b → Guards n (Some c) fs (cond b (refused_or (first_fault c.identity n (Some c.formatted) 0 fs) (Open c)) (Refused 0 (OtherNodes c.nodes)))
 guards_file n c fs true same = guards_open n c fs (first_fault c.identity n (Some c.formatted) 0 fs) (eqb-true c.nodes n same) refl
 guards_file n c fs false other = tt
 

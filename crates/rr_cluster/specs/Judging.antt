@@ -91,7 +91,7 @@ first_identity (f ∷ fs) = marked_or f.mark (first_identity fs)
 
 -- by the cluster's file, where so many nodes are asked for
 abbrev pub verdict_by_file : ℕ → Cluster → List Found → Verdict
-verdict_by_file n c found = if c.nodes == n then refused_or (first_fault c.identity n (Some c.formatted) 0 found) Open else Refused 0 (OtherNodes c.nodes)
+verdict_by_file n c found = if c.nodes == n then refused_or (first_fault c.identity n (Some c.formatted) 0 found) (Open c) else Refused 0 (OtherNodes c.nodes)
 
 -- an identity, or that of no cluster
 abbrev pub identity_or : Option Identity → Identity
@@ -131,8 +131,8 @@ KeepsItsDisk c p f = has_member c.formatted p ≡ true → HasDisk c.nodes p f �
 -- what may be relied on: a cluster is opened only as what its file says; nodes are begun only where no folder has a disk; and
 -- a cluster without a file is taken on only where each folder has its node's disk
 abbrev pub Guards : ℕ → Option Cluster → List Found → Verdict → Type 0
-Guards n None found Open = ⊥
-Guards n (Some c) found Open = (c.nodes ≡ n) × Each (KeepsItsDisk c) 0 found
+Guards n None found (Open d) = ⊥
+Guards n (Some c) found (Open d) = (d ≡ c) × (c.nodes ≡ n) × Each (KeepsItsDisk c) 0 found
 Guards n (Some c) found Begin = ⊥
 Guards n None found Begin = Each (λ p f. is_blank f.content ≡ true) 0 found
 Guards n (Some c) found (TakeOn i) = ⊥

@@ -40,8 +40,8 @@ pub enum Fault {
 /// What is to be done with folders.
 #[derive(Clone, Copy, Debug)]
 pub enum Verdict {
-    /// The cluster goes on. Its nodes that haven't been formatted are.
-    Open,
+    /// This cluster goes on. Its nodes that haven't been formatted are.
+    Open(Cluster),
     /// A new cluster begins.
     Begin,
     /// A cluster without a file goes on. This identity some folder names; there is none where none does.
@@ -194,7 +194,7 @@ fn by_file(nodes: Nodes, cluster: &Cluster, found: &[Found]) -> Verdict
     if cluster.nodes != nodes {
         return match NodeId::at(0) {
             Some(node) => Verdict::Refused(node, Fault::OtherNodes(cluster.nodes)),
-            None => Verdict::Open,
+            None => Verdict::Open(*cluster),
         };
     }
     let expected = Expected {
@@ -204,7 +204,7 @@ fn by_file(nodes: Nodes, cluster: &Cluster, found: &[Found]) -> Verdict
     };
     match first_fault(&expected, 0, found) {
         Some((node, fault)) => Verdict::Refused(node, fault),
-        None => Verdict::Open,
+        None => Verdict::Open(*cluster),
     }
 }
 

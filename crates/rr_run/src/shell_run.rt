@@ -7,11 +7,12 @@ ghost use Rattle.rr_cli.specs.Refusals.{status_of};
 ghost use Rattle.rr_talk.specs.Talks.{Talks};
 ghost use Rattle.rr_run.specs.Shells.{IsClientBy, EndsOnTalk, EndsOnShell, EndsOnShellWords};
 
-use crate::folder::{Folders, Opening, open_folders};
+use crate::closed::end_by_closed;
+use crate::folder::{Folders, open_folders};
 use crate::lock::Lockable;
 use crate::post::{Post, Question, Teller, Told, tellers};
 use crate::requests::{Block, reserve};
-use crate::script_run::{end_by_run_fault, end_in_use};
+use crate::script_run::end_by_run_fault;
 use rr_cli::{end_by_refusal, end_by_stream, end_by_unprinted, nodes_of, number_in};
 use rr_disk::{FileDisk, OpenedFile};
 use rr_locked::Open;
@@ -426,11 +427,8 @@ fn shell_over<
     ensures quiet { result ≡ 0 → Keeps (E.contents err.old) (E.contents err.new) }
 {
     match open_folders(rt, nodes, dir) {
-        Ok(Opening::Folders(folders)) => {
-            shell_in(rt, dir, nodes, client, json, folders, input, out, err)
-        }
-        Ok(Opening::InUse(node)) => end_in_use(err, dir, node),
-        Err(refusal) => end_by_run_fault(rt, err, dir, nodes, &refusal),
+        Ok(folders) => shell_in(rt, dir, nodes, client, json, folders, input, out, err),
+        Err(closed) => end_by_closed(rt, err, dir, nodes, &closed),
     }
 }
 
