@@ -1,15 +1,17 @@
-//! The folders of a run: node P's is `DIR/P`.
+//! The folders of a run: node P's is `DIR/P`, and `DIR/cluster` says which cluster they are.
 
-ghost use Rattle.std.specs.Prelude.{◌≡◌, ◌⊎◌, length, IfOk, IfErr};
-ghost use Rattle.rr_types.specs.declared.refusal.Refusal.TheVariants.{OutOfMemory, Device};
-ghost use Rattle.rr_run.specs.Folders.{HasDisks};
+ghost use Rattle.std.specs.Prelude.{◌≡◌, length, IfOk};
 
+use crate::closed::{Closed, done};
+use crate::forming::{are_formatted, begin, conclude, open_disks, take_on, tidy};
 use crate::lock::Lockable;
+use crate::seen::{Seen, cluster_in, is_there, look_at};
+use rr_cluster::{Cluster, Content, Verdict, judge};
 use rr_disk::{FileDisk, OpenedFile, make_folder};
-use rr_types::{Nodes, Refusal};
+use rr_types::Nodes;
 use std::fs;
 use std::fs::OpenFile;
-use std::io::{Read, Seek, Write};
+use std::io::{ErrorKind, Read, Seek, Write};
 use std::os::unix::fs::FileExt;
 use std::rt::Files;
 
@@ -20,69 +22,197 @@ pub(crate) struct Folders<F> {
     pub(crate) disks: Vec<FileDisk<OpenedFile<F>>>,
 }
 
-/// What opening the folders of a run gives.
+/// What was found in the folder DIR, which is locked while this is there.
 #[derive(Drop)]
-pub(crate) enum Opening<F> {
-    /// All of them.
-    Folders(Folders<F>),
-    /// The first that another program has locked.
-    InUse(u8),
+pub(crate) struct Survey<F> {
+    pub(crate) locks: Vec<F>,
+    pub(crate) seen: Vec<Seen>,
+    pub(crate) has_cluster_file: bool,
+    // where the path of the first folder ends that was made for DIR
+    pub(crate) made: Option<usize>,
+    verdict: Verdict,
 }
 
-// Opens a node's folder, which is made where it is missing, and locks it. None: another program has locked it.
-fn lock_folder<F: Read + Write + Seek + FileExt + OpenFile + Drop + Lockable, R: Files<File = F>>(
+impl<F> Survey<F> {
+    /// Whether no node has a disk that is formatted. A damaged one is.
+    pub(crate) fn is_fresh(&self) -> bool {
+        self.seen.iter().all(|seen| matches!(seen.found.content, Content::Absent | Content::Blank))
+    }
+    // The locks alone.
+    fn into_locks(self) -> Vec<F> {
+        let Survey {
+            locks,
+            seen: _,
+            has_cluster_file: _,
+            made: _,
+            verdict: _,
+        } = self;
+        locks
+    }
+}
+
+/// Opens a folder and locks it.
+pub(crate) fn lock_folder<F: Lockable, R: Files<File = F> + AllocGlobal>(
     rt: &R,
     path: &str,
-) -> Result<Option<F>, Refusal>
-    ensures { IfErr result (λ e. e ≡ Device) }
+) -> Result<F, Closed>
+where
+    F: Read + Write + Seek + FileExt + OpenFile + Drop,
 {
-    if make_folder(rt, path).is_err() {
-        return Err(Refusal::Device);
+    let folder = done(rt, path, "opening the folder", fs::open(rt, path))?;
+    if done(rt, path, "locking", folder.lock_now())? {
+        Ok(folder)
+    } else {
+        Err(Closed::InUse(format!(in rt.alloc(); "{path}")?))
     }
-    let Ok(folder) = fs::open(rt, path) else {
-        return Err(Refusal::Device);
+}
+
+// Where the path of the first folder ends that is missing of those in this path.
+fn first_missing<R: Files>(rt: &R, dir: &str) -> Option<usize> {
+    for (at, byte) in dir.as_bytes().iter().enumerate() {
+        if *byte == b'/' && at > 0 {
+            if let Some(folder) = dir.get(..at) {
+                if is_missing(rt, folder) {
+                    return Some(at);
+                }
+            }
+        }
+    }
+    if is_missing(rt, dir) {
+        Some(dir.len())
+    } else {
+        None
+    }
+}
+
+// Whether there is nothing at a path.
+fn is_missing<R: Files>(rt: &R, path: &str) -> bool {
+    match fs::metadata(rt, path) {
+        Ok(_) => false,
+        Err(error) => error.kind() == ErrorKind::NotFound,
+    }
+}
+
+/// Takes folders away that were made for DIR, from where the path of the first ends. Those that aren't empty stay.
+pub(crate) fn remove_made<R: Files>(rt: &R, dir: &str, made: Option<usize>) {
+    let Some(first) = made else {
+        return;
     };
-    match folder.lock_now() {
-        Ok(true) => Ok(Some(folder)),
-        Ok(false) => Ok(None),
-        Err(_) => Err(Refusal::Device),
+    let _ = fs::remove_dir(rt, dir);
+    for (at, byte) in dir.as_bytes().iter().enumerate().rev() {
+        if *byte == b'/' && at >= first {
+            if let Some(folder) = dir.get(..at) {
+                let _ = fs::remove_dir(rt, folder);
+            }
+        }
+    }
+}
+
+// Locks DIR and the folders in it that are there, and looks at all.
+fn look_in<
+    F: Read + Write + Seek + FileExt + OpenFile + Drop + Lockable,
+    R: Files<File = F> + AllocGlobal,
+>(rt: &R, nodes: Nodes, dir: &str, made: Option<usize>) -> Result<Survey<F>, Closed>
+    ensures { IfOk result (λ s. length s.seen.items ≡ nodes) }
+{
+    let mut locks = Vec::new(rt.alloc());
+    locks.push(lock_folder(rt, dir)?)?;
+    let mut seen = Vec::new(rt.alloc());
+    let mut found = Vec::new(rt.alloc());
+    for node in 0..nodes.count() {
+        let path = format!(in rt.alloc(); "{dir}/{node}")?;
+        if is_there(rt, path.as_str())? {
+            locks.push(lock_folder(rt, path.as_str())?)?;
+        }
+        let look = look_at(rt, path.as_str())?;
+        found.push(look.found)?;
+        seen.push(look)?;
+    }
+    let path = format!(in rt.alloc(); "{dir}/cluster")?;
+    let cluster = cluster_in(rt, dir)?;
+    let verdict = judge(nodes, cluster.as_ref(), found.as_slice());
+    Ok(Survey {
+        locks,
+        seen,
+        has_cluster_file: is_there(rt, path.as_str())?,
+        made,
+        verdict,
+    })
+}
+
+/// Locks the folder DIR, which is made where it is missing, and looks at all folders of a cluster. Nothing else is made.
+pub(crate) fn survey<
+    F: Read + Write + Seek + FileExt + OpenFile + Drop + Lockable,
+    R: Files<File = F> + AllocGlobal,
+>(rt: &R, nodes: Nodes, dir: &str) -> Result<Survey<F>, Closed>
+    ensures { IfOk result (λ s. length s.seen.items ≡ nodes) }
+{
+    let made = first_missing(rt, dir);
+    let looked = match done(rt, dir, "making the folder", make_folder(rt, dir)) {
+        Ok(()) => look_in(rt, nodes, dir, made),
+        Err(closed) => Err(closed),
+    };
+    if looked.is_err() {
+        remove_made(rt, dir, made);
+    }
+    looked
+}
+
+// The cluster whose disks may be opened, by what was found. What has to be written before is.
+fn prepare<F, R: Files<File = F> + AllocGlobal>(
+    rt: &R,
+    nodes: Nodes,
+    dir: &str,
+    survey: &Survey<F>,
+) -> Result<Cluster, Closed> {
+    match survey.verdict {
+        Verdict::Refused(node, fault) => Err(Closed::Refused(node, fault)),
+        Verdict::Begin => begin(rt, dir, nodes, survey),
+        Verdict::TakeOn(named) => take_on(rt, dir, nodes, named, survey),
+        Verdict::Open(cluster) => Ok(cluster),
     }
 }
 
 // Makes the names of new folders last, as what is written in them does.
-fn sync_names<R: Files>(rt: &R, dir: &str) -> Result<(), Refusal>
-    ensures { IfErr result (λ e. e ≡ Device) }
-{
-    let Ok(folder) = fs::open(rt, dir) else {
-        return Err(Refusal::Device);
-    };
-    match folder.sync_all() {
-        Ok(()) => Ok(()),
-        Err(_) => Err(Refusal::Device),
-    }
+fn sync_names<R: Files + AllocGlobal>(rt: &R, dir: &str) -> Result<(), Closed> {
+    let folder = done(rt, dir, "opening the folder", fs::open(rt, dir))?;
+    done(rt, dir, "syncing the folder", folder.sync_all())
 }
 
-/// Opens the folders of a run in the folder DIR, ascending, locks each, and opens its disk. What is missing is made.
-///
-/// # Errors
-/// `OutOfMemory`; `Device` where a folder or a file can't be opened or made.
+/// Opens the disks of folders as they were found. Nodes that haven't been formatted are, and the cluster's file says so before any
+/// serves. Where that fails before, what was made is taken away.
+pub(crate) fn enter<
+    F: Read + Write + Seek + FileExt + OpenFile + Drop + Lockable,
+    R: Files<File = F> + AllocGlobal,
+>(rt: &R, nodes: Nodes, dir: &str, survey: Survey<F>) -> Result<Folders<F>, Closed>
+    ensures { IfOk result (λ f. length f.disks.items ≡ nodes) }
+{
+    let mut survey = survey;
+    let cluster = prepare(rt, nodes, dir, &survey)?;
+    let disks = match open_disks(rt, nodes, dir, &cluster, &mut survey) {
+        Ok(disks) => disks,
+        Err(closed) => {
+            let _ = tidy(rt, dir, &survey);
+            return Err(closed);
+        }
+    };
+    if !are_formatted(&cluster) {
+        let _ = conclude(rt, dir, &cluster, &survey)?;
+    }
+    sync_names(rt, dir)?;
+    Ok(Folders {
+        locks: survey.into_locks(),
+        disks,
+    })
+}
+
+/// Opens the folders of a run in the folder DIR. What is missing is made where a new cluster begins.
 pub(crate) fn open_folders<
     F: Read + Write + Seek + FileExt + OpenFile + Drop + Lockable,
     R: Files<File = F> + AllocGlobal,
->(rt: &R, nodes: Nodes, dir: &str) -> Result<Opening<F>, Refusal>
-    ensures disks { IfOk result (λ o. HasDisks nodes o) }
-    ensures cause { IfErr result (λ e. (e ≡ OutOfMemory) ⊎ (e ≡ Device)) }
+>(rt: &R, nodes: Nodes, dir: &str) -> Result<Folders<F>, Closed>
+    ensures { IfOk result (λ f. length f.disks.items ≡ nodes) }
 {
-    let mut locks = Vec::new(rt.alloc());
-    let mut disks = Vec::new(rt.alloc());
-    for node in 0..nodes.count() {
-        let path = format!(in rt.alloc(); "{dir}/{node}")?;
-        let Some(lock) = lock_folder(rt, path.as_str())? else {
-            return Ok(Opening::InUse(node));
-        };
-        locks.push(lock)?;
-        disks.push(FileDisk::open(rt, path.as_str(), true)?)?;
-    }
-    sync_names(rt, dir)?;
-    Ok(Opening::Folders(Folders { locks, disks }))
+    let survey = survey(rt, nodes, dir)?;
+    enter(rt, nodes, dir, survey)
 }

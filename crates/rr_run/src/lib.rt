@@ -2,13 +2,16 @@
 //! brings threads to the program. `run` takes the words and streams of `main`. It passes every other command to `rr_cli`.
 #![tactic(auto)]
 
+mod closed;
 mod defaults;
 mod folder;
+mod forming;
 mod lock;
 mod post;
 mod program;
 mod requests;
 mod script_run;
+mod seen;
 mod shell_run;
 
 pub use lock::Lockable;

@@ -8,10 +8,12 @@ ghost use Rattle.rr_cli.specs.Ends.{EndsOnInput, EndsOnFile};
 ghost use Rattle.rr_cli.specs.Refusals.{status_of};
 ghost use Rattle.rr_run.specs.Runs.{EndsOnFolders, EndsOnScript, EndsOnNamed, EndsOnRun};
 
-use crate::folder::{Folders, Opening, open_folders};
+use crate::closed::{Closed, end_by_closed};
+use crate::folder::{Folders, enter, survey};
+use crate::forming::try_folder;
 use crate::lock::Lockable;
 use rr_cli::{end_by_refusal, end_by_stream, end_by_text, nodes_of, print_folder_fault};
-use rr_disk::{Disk, FileDisk};
+use rr_disk::FileDisk;
 use rr_explain::print_script_fault;
 use rr_image::inspect;
 use rr_locked::Open;
@@ -29,15 +31,6 @@ use std::sync::Wait;
 use std::thread::Threads;
 use std::time::Clock;
 use std::{fs, io};
-
-/// Ends by a folder of a node that another program has locked. A second line tells it.
-pub(crate) fn end_in_use<E: Write>(err: &mut E, dir: &str, node: u8) -> u8
-    ensures { result ≡ 5 }
-{
-    let ending = end_by_refusal(err, &Refusal::Device);
-    let _ = writeln!(err, "{dir}/{node}: another program has locked it");
-    ending
-}
 
 /// Ends by the refusal of a run over the folders in the folder DIR. Where a folder has what is refused, a second line tells it.
 pub(crate) fn end_by_run_fault<R: Files + AllocGlobal, E: Write>(
@@ -77,7 +70,16 @@ where
             return print_folder_fault(rt, err, path.as_str(), &refusal);
         }
     }
-    writeln!(err, "{dir}: its folders can't be made, locked or written")
+    for node in 0..nodes.count() {
+        let path = format!(in rt.alloc(); "{dir}/{node}")?;
+        if let Err(Closed::Failed { path, call, error }) = try_folder(rt, path.as_str()) {
+            return writeln!(err, "{path}: {call}: {error}");
+        }
+    }
+    writeln!(
+        err,
+        "{dir}: a file in its folders couldn't be read or written"
+    )
 }
 
 // Reads both areas of the disk in a folder.
@@ -119,20 +121,6 @@ fn end_by_answers<O: Sink, E: Write>(
         Ok(text) => end_by_text(out, err, text.as_slice()),
         Err(_) => end_by_refusal(err, &Refusal::OutOfMemory),
     }
-}
-
-// Whether both areas of each disk are unformatted. A damaged area is formatted.
-fn are_fresh<D: Disk>(alloc: Global, disks: &mut [D]) -> Result<bool, Refusal>
-    ensures cause { IfErr result (λ e. (e ≡ OutOfMemory) ⊎ (e ≡ Device)) }
-{
-    for disk in disks {
-        match inspect(alloc, disk) {
-            Ok((None, None)) => (),
-            Ok(_) | Err(Refusal::Damaged { .. }) => return Ok(false),
-            Err(refusal) => return Err(refusal),
-        }
-    }
-    Ok(true)
 }
 
 // Writes a tape to a file of this name, then prints answers.
@@ -197,15 +185,6 @@ fn run_taped<
     ensures quiet { result ≡ 0 → Keeps (E.contents err.old) (E.contents err.new) }
 {
     let Folders { locks, disks } = folders;
-    let mut disks = disks;
-    match are_fresh(rt.alloc(), disks.as_mut_slice()) {
-        Ok(true) => (),
-        Ok(false) => {
-            let _ = writeln!(err, "rr: --tape wants fresh folders");
-            return 2;
-        }
-        Err(refusal) => return end_by_run_fault(rt, err, dir, script.nodes(), &refusal),
-    }
     let recorder = Recorder::new(rt.alloc(), script.nodes());
     let ran = run_script(rt, rt.alloc(), disks, script, &Open, Some(&recorder));
     drop(locks);
@@ -225,10 +204,18 @@ fn run_over<
     ensures ends { EndsOnFolders (option_map (λ s. s.now) tape.entry) result (O.printing out.old) (O.printing out.new) }
     ensures quiet { result ≡ 0 → Keeps (E.contents err.old) (E.contents err.new) }
 {
-    let folders = match open_folders(rt, script.nodes(), dir) {
-        Ok(Opening::Folders(folders)) => folders,
-        Ok(Opening::InUse(node)) => return end_in_use(err, dir, node),
-        Err(refusal) => return end_by_run_fault(rt, err, dir, script.nodes(), &refusal),
+    let nodes = script.nodes();
+    let surveyed = match survey(rt, nodes, dir) {
+        Ok(surveyed) => surveyed,
+        Err(closed) => return end_by_closed(rt, err, dir, nodes, &closed),
+    };
+    if tape.is_some() && !surveyed.is_fresh() {
+        let _ = writeln!(err, "rr: --tape wants fresh folders");
+        return 2;
+    }
+    let folders = match enter(rt, nodes, dir, surveyed) {
+        Ok(folders) => folders,
+        Err(closed) => return end_by_closed(rt, err, dir, nodes, &closed),
     };
     match tape {
         Some(path) => run_taped(rt, dir, folders, script, path, out, err),

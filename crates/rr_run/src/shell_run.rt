@@ -10,12 +10,13 @@ ghost use Rattle.rr_shell.specs.Troubles.{ending_status};
 ghost use Rattle.rr_talk.specs.Talks.{is_outcome_at, IsOf, IsKept, Talks};
 ghost use Rattle.rr_run.specs.Shells.{IsClientBy, EndsOnTalk, EndsOnShell, EndsOnLines, EndsOnShellWords, lines_text};
 
+use crate::closed::end_by_closed;
 use crate::defaults::{FOLDER, nodes_by, show_defaults};
-use crate::folder::{Folders, Opening, open_folders};
+use crate::folder::{Folders, open_folders};
 use crate::lock::Lockable;
 use crate::post::{Post, Question, Teller, Told, tellers};
 use crate::requests::{Block, reserve};
-use crate::script_run::{end_by_run_fault, end_in_use};
+use crate::script_run::end_by_run_fault;
 use rr_cli::{ShellWords, end_by_refusal, end_by_stream, end_by_unprinted, number_in};
 use rr_disk::{FileDisk, OpenedFile};
 use rr_locked::Open;
@@ -563,13 +564,10 @@ fn shell_over<
     ensures quiet { result ≡ 0 → Keeps (E.contents err.old) (E.contents err.new) }
 {
     match open_folders(rt, nodes, dir) {
-        Ok(Opening::Folders(folders)) => {
-            shell_in(
-                rt, dir, nodes, client, json, strict, folders, input, out, err,
-            )
-        }
-        Ok(Opening::InUse(node)) => end_in_use(err, dir, node),
-        Err(refusal) => end_by_run_fault(rt, err, dir, nodes, &refusal),
+        Ok(folders) => shell_in(
+            rt, dir, nodes, client, json, strict, folders, input, out, err,
+        ),
+        Err(closed) => end_by_closed(rt, err, dir, nodes, &closed),
     }
 }
 

@@ -1,0 +1,110 @@
+-- What a verdict guards: no node that has been formatted is taken for a fresh one.
+use Rattle.std.proofs.Common.{◌≡◌, ℕ, ◌+◌, Bool, true, false, cond, eqb, List, [], ◌∷◌, Option, None, Some, refl, ap, subst, ◌∙◌, sym}
+use Rattle.std.specs.List.{list_all}
+use Rattle.std.proofs.lemmas.Bool.{and_parts, eqb-true}
+use Rattle.rr_types.specs.Nodes.{has_member}
+use Rattle.rr_cluster.specs.declared.cluster.Identity.{Identity}
+use Rattle.rr_cluster.specs.declared.cluster.Cluster.{Cluster}
+use Rattle.rr_cluster.specs.declared.cluster.Mark.{Mark}
+use Rattle.rr_cluster.specs.declared.front.Content.{Content}
+use Rattle.rr_cluster.specs.declared.front.Content.TheVariants as contents
+use Rattle.rr_cluster.specs.declared.judging.Found.{Found}
+use Rattle.rr_cluster.specs.declared.judging.Fault.{Fault}
+use Rattle.rr_cluster.specs.declared.judging.Fault.TheVariants.{OtherNode, OtherNodes, OtherCluster}
+use Rattle.rr_cluster.specs.declared.judging.Verdict.{Verdict}
+use Rattle.rr_cluster.specs.declared.judging.Verdict.TheVariants.{Open, Begin, TakeOn, Refused}
+use Rattle.rr_cluster.specs.Clusters.{same_identity}
+use Rattle.rr_cluster.specs.Judging.{mark_fault, owner_fault, loss_fault, unmarked_fault, ◌or_else◌, disk_fault, fault_of, at_or, first_fault, refused_or, is_blank, first_identity, identity_or, verdict_of, Each, HasDisk, KeepsItsDisk, Guards}
+
+-- ---- one folder
+
+neither : (x y : Option Fault) → (x or_else y) ≡ None → (x ≡ None) × (y ≡ None)
+neither None y e = (refl, e)
+neither (Some x) y e = absurd cc
+
+-- no fault, where one was told unless a test held
+passed : (b : Bool) (y : Option Fault) (x : Fault) → cond b y (Some x) ≡ None → (b ≡ true) × (y ≡ None)
+passed true y x e = (refl, e)
+passed false y x e = absurd cc
+
+own_disk : (n p : ℕ) (c : Content) → owner_fault n p c ≡ None → loss_fault c ≡ None → c ≡ contents.Holds p n
+own_disk n p contents.Absent own kept = absurd cc
+own_disk n p contents.Blank own kept = absurd cc
+own_disk n p contents.Cut own kept = absurd cc
+own_disk n p (contents.Holds q m) own kept =
+    let count = passed (eqb m n) (cond (eqb q p) None (Some (OtherNode q))) (OtherNodes m) own in
+    let node = passed (eqb q p) None (OtherNode q) count.1 in
+    ap (λ (k : ℕ). contents.Holds k m) (eqb-true q p node.0) ∙ ap (λ (k : ℕ). contents.Holds p k) (eqb-true m n count.0)
+
+same_is : (i j : Identity) → same_identity i j ≡ true → i ≡ j
+same_is i j h =
+    let both = and_parts (eqb i.first j.first) (eqb i.second j.second) h in
+    let make : ℕ → ℕ → Identity = λ a b. record { first = a; second = b } in
+    ap (λ (a : ℕ). make a i.second) (eqb-true i.first j.first both.0) ∙ ap (λ (b : ℕ). make j.first b) (eqb-true i.second j.second both.1)
+
+own_mark : (i : Identity) (p : ℕ) (m : Option Mark) → mark_fault i p m ≡ None → unmarked_fault m ≡ None → m ≡ Some (record { identity = i; node = p })
+own_mark i p None own marked = absurd cc
+own_mark i p (Some m) own marked =
+    let same = passed (same_identity m.identity i) (cond (eqb m.node p) None (Some (OtherNode m.node))) OtherCluster own in
+    let node = passed (eqb m.node p) None (OtherNode m.node) same.1 in
+    let make : Identity → ℕ → Option Mark = λ j q. Some (record { identity = j; node = q }) in
+    ap (λ (j : Identity). make j m.node) (same_is m.identity i same.0) ∙ ap (λ (q : ℕ). make i q) (eqb-true m.node p node.0)
+
+keeps : (c : Cluster) (p : ℕ) (f : Found) → fault_of c.identity c.nodes (Some c.formatted) p f ≡ None → KeepsItsDisk c p f
+keeps c p f none formatted =
+    let outer = neither (mark_fault c.identity p f.mark or_else owner_fault c.nodes p f.content) (disk_fault (Some c.formatted) p f) none in
+    let own = neither (mark_fault c.identity p f.mark) (owner_fault c.nodes p f.content) outer.0 in
+    let asked : cond (has_member c.formatted p) (loss_fault f.content or_else unmarked_fault f.mark) None ≡ None = outer.1 in
+    let lost : (loss_fault f.content or_else unmarked_fault f.mark) ≡ None = subst (λ (b : Bool). cond b (loss_fault f.content or_else unmarked_fault f.mark) None ≡ None) formatted asked in
+    let kept = neither (loss_fault f.content) (unmarked_fault f.mark) lost in
+    (own_disk c.nodes p f.content own.1 kept.0, own_mark c.identity p f.mark own.0 kept.1)
+
+has : (i : Identity) (n p : ℕ) (f : Found) → fault_of i n None p f ≡ None → HasDisk n p f
+has i n p f none =
+    let outer = neither (mark_fault i p f.mark or_else owner_fault n p f.content) (loss_fault f.content) none in
+    own_disk n p f.content (neither (mark_fault i p f.mark) (owner_fault n p f.content) outer.0).1 outer.1
+
+-- ---- all folders
+
+none_here : (p : ℕ) (x : Option Fault) (y : Option (ℕ × Fault)) → at_or p x y ≡ None → (x ≡ None) × (y ≡ None)
+none_here p None y e = (refl, e)
+none_here p (Some x) y e = absurd cc
+
+each_of : (P : ℕ → Found → Type 0) (i : Identity) (n : ℕ) (formatted : Option ℕ) → ((p : ℕ) (f : Found) → fault_of i n formatted p f ≡ None → P p f)
+    → (p : ℕ) (fs : List Found) → first_fault i n formatted p fs ≡ None → Each P p fs
+each_of P i n formatted one p [] none = tt
+each_of P i n formatted one p (f ∷ fs) none =
+    let both = none_here p (fault_of i n formatted p f) (first_fault i n formatted (p + 1) fs) none in
+    (one p f both.0, each_of P i n formatted one (p + 1) fs both.1)
+
+blank_each : (p : ℕ) (fs : List Found) → list_all (λ f. is_blank f.content) fs ≡ true → Each (λ q f. is_blank f.content ≡ true) p fs
+blank_each p [] all = tt
+blank_each p (f ∷ fs) all = let both = and_parts (is_blank f.content) (list_all (λ g. is_blank g.content) fs) all in (both.0, blank_each (p + 1) fs both.1)
+
+-- ---- the verdict
+
+guards_open : (n : ℕ) (c : Cluster) (fs : List Found) (x : Option (ℕ × Fault)) → c.nodes ≡ n → first_fault c.identity n (Some c.formatted) 0 fs ≡ x → Guards n (Some c) fs (refused_or x (Open c))
+guards_open n c fs (Some x) same is = tt
+guards_open n c fs None same is =
+    let none : first_fault c.identity c.nodes (Some c.formatted) 0 fs ≡ None = subst (λ (k : ℕ). first_fault c.identity k (Some c.formatted) 0 fs ≡ None) (sym same) is in
+    (refl, same, each_of (KeepsItsDisk c) c.identity c.nodes (Some c.formatted) (keeps c) 0 fs none)
+
+guards_file : (n : ℕ) (c : Cluster) (fs : List Found) (b : Bool) → eqb c.nodes n ≡ b → Guards n (Some c) fs (cond b (refused_or (first_fault c.identity n (Some c.formatted) 0 fs) (Open c)) (Refused 0 (OtherNodes c.nodes)))
+guards_file n c fs true same = guards_open n c fs (first_fault c.identity n (Some c.formatted) 0 fs) (eqb-true c.nodes n same) refl
+guards_file n c fs false other = tt
+
+guards_taken : (n : ℕ) (i : Identity) (named : Option Identity) (fs : List Found) (x : Option (ℕ × Fault)) → first_fault i n None 0 fs ≡ x → Guards n None fs (refused_or x (TakeOn named))
+guards_taken n i named fs (Some x) is = tt
+guards_taken n i named fs None is = each_of (HasDisk n) i n None (has i n) 0 fs is
+
+guards_folders : (n : ℕ) (fs : List Found) (b : Bool) → list_all (λ f. is_blank f.content) fs ≡ b
+    → Guards n None fs (cond b Begin (refused_or (first_fault (identity_or (first_identity fs)) n None 0 fs) (TakeOn (first_identity fs))))
+guards_folders n fs true all = blank_each 0 fs all
+guards_folders n fs false some = guards_taken n (identity_or (first_identity fs)) (first_identity fs) fs (first_fault (identity_or (first_identity fs)) n None 0 fs) refl
+
+guards_of : (n : ℕ) (file : Option Cluster) (fs : List Found) → Guards n file fs (verdict_of n file fs)
+guards_of n (Some c) fs = guards_file n c fs (eqb c.nodes n) refl
+guards_of n None fs = guards_folders n fs (list_all (λ f. is_blank f.content) fs) refl
+
+pub verdict_guards : (n : ℕ) (file : Option Cluster) (fs : List Found) (v : Verdict) → v ≡ verdict_of n file fs → Guards n file fs v
+verdict_guards n file fs v is = subst (λ (w : Verdict). Guards n file fs w) (sym is) (guards_of n file fs)

@@ -1,0 +1,2 @@
+pub mod ClusterReading
+pub mod Guarding

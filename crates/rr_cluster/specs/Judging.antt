@@ -1,0 +1,140 @@
+-- Whether the folders of a cluster may be opened, by what was found in each, from node 0 on.
+use Rattle.std.specs.Prelude.{◌≡◌, ℕ, ◌+◌, ◌==◌, if◌then◌else◌, Bool, true, false, List, [], ◌∷◌, Option, None, Some}
+use Rattle.std.specs.List.{list_all}
+use Rattle.rr_types.specs.Nodes.{has_member}
+use Rattle.rr_cluster.specs.declared.cluster.Identity.{Identity}
+use Rattle.rr_cluster.specs.declared.cluster.Cluster.{Cluster}
+use Rattle.rr_cluster.specs.declared.cluster.Mark.{Mark}
+use Rattle.rr_cluster.specs.declared.front.Content.{Content}
+use Rattle.rr_cluster.specs.declared.front.Content.TheVariants as contents
+use Rattle.rr_cluster.specs.declared.judging.Found.{Found}
+use Rattle.rr_cluster.specs.declared.judging.Fault.{Fault}
+use Rattle.rr_cluster.specs.declared.judging.Fault.TheVariants.{Missing, Blank, Cut, OtherNode, OtherNodes, OtherCluster, Unmarked}
+use Rattle.rr_cluster.specs.declared.judging.Verdict.{Verdict}
+use Rattle.rr_cluster.specs.declared.judging.Verdict.TheVariants.{Open, Begin, TakeOn, Refused}
+use Rattle.rr_cluster.specs.Clusters.{same_identity}
+
+-- ---- one folder
+
+-- what the file in node p's folder has against it: it names another cluster, or another node
+abbrev pub mark_fault : Identity → ℕ → Option Mark → Option Fault
+mark_fault i p None = None
+mark_fault i p (Some m) = if same_identity m.identity i then (if m.node == p then None else Some (OtherNode m.node)) else Some OtherCluster
+
+-- what the areas have against it, if the disk is to be node p's of n: it is another node's
+abbrev pub owner_fault : ℕ → ℕ → Content → Option Fault
+owner_fault n p (contents.Holds q m) = if m == n then (if q == p then None else Some (OtherNode q)) else Some (OtherNodes m)
+owner_fault n p content = None
+
+-- what they have against it if the node has been formatted: its disk is gone, blank or cut
+abbrev pub loss_fault : Content → Option Fault
+loss_fault contents.Absent = Some Missing
+loss_fault contents.Blank = Some Blank
+loss_fault contents.Cut = Some Cut
+loss_fault (contents.Holds q m) = None
+
+-- that nobody has marked it, where each node of the cluster has marked its own
+abbrev pub unmarked_fault : Option Mark → Option Fault
+unmarked_fault None = Some Unmarked
+unmarked_fault (Some m) = None
+
+-- the first of two faults
+infixl 10 ◌or_else◌
+abbrev pub ◌or_else◌ : Option Fault → Option Fault → Option Fault
+(Some x) or_else y = Some x
+None or_else y = y
+
+-- what is lost of a node: nothing while it is being formatted. Without a cluster's file, each node counts as formatted
+abbrev pub disk_fault : Option ℕ → ℕ → Found → Option Fault
+disk_fault None p f = loss_fault f.content
+disk_fault (Some formatted) p f = if has_member formatted p then (loss_fault f.content or_else unmarked_fault f.mark) else None
+
+-- what is wrong with the folder of node p of n
+abbrev pub fault_of : Identity → ℕ → Option ℕ → ℕ → Found → Option Fault
+fault_of i n formatted p f = (mark_fault i p f.mark or_else owner_fault n p f.content) or_else disk_fault formatted p f
+
+-- ---- all folders
+
+-- this fault of node p's folder; where there is none, another folder's
+abbrev pub at_or : ℕ → Option Fault → Option (ℕ × Fault) → Option (ℕ × Fault)
+at_or p (Some x) other = Some (p, x)
+at_or p None other = other
+
+-- the first folder that has a fault, from node p on
+abbrev pub first_fault : Identity → ℕ → Option ℕ → ℕ → List Found → Option (ℕ × Fault)
+first_fault i n formatted p [] = None
+first_fault i n formatted p (f ∷ fs) = at_or p (fault_of i n formatted p f) (first_fault i n formatted (p + 1) fs)
+
+-- a refusal for that folder; where there is none, this verdict
+abbrev pub refused_or : Option (ℕ × Fault) → Verdict → Verdict
+refused_or (Some x) v = Refused x.0 x.1
+refused_or None v = v
+
+-- whether a folder has no disk
+abbrev pub is_blank : Content → Bool
+is_blank contents.Absent = true
+is_blank contents.Blank = true
+is_blank (contents.Cut) = false
+is_blank (contents.Holds q m) = false
+
+-- the cluster that a folder names by its mark, else another
+abbrev pub marked_or : Option Mark → Option Identity → Option Identity
+marked_or None other = other
+marked_or (Some m) other = Some m.identity
+
+-- the cluster that the first marked folder names
+abbrev pub first_identity : List Found → Option Identity
+first_identity [] = None
+first_identity (f ∷ fs) = marked_or f.mark (first_identity fs)
+
+-- ---- the verdict
+
+-- by the cluster's file, where so many nodes are asked for
+abbrev pub verdict_by_file : ℕ → Cluster → List Found → Verdict
+verdict_by_file n c found = if c.nodes == n then refused_or (first_fault c.identity n (Some c.formatted) 0 found) (Open c) else Refused 0 (OtherNodes c.nodes)
+
+-- an identity, or that of no cluster
+abbrev pub identity_or : Option Identity → Identity
+identity_or None = record { first = 0; second = 0 }
+identity_or (Some i) = i
+
+-- without a cluster's file: a new cluster where no folder has a disk, else one that is taken on if its folders agree
+abbrev pub verdict_by_folders : ℕ → List Found → Verdict
+verdict_by_folders n found =
+    if list_all (λ f. is_blank f.content) found then Begin
+    else refused_or (first_fault (identity_or (first_identity found)) n None 0 found) (TakeOn (first_identity found))
+
+-- whether so many nodes may be opened
+abbrev pub verdict_of : ℕ → Option Cluster → List Found → Verdict
+verdict_of n (Some c) found = verdict_by_file n c found
+verdict_of n None found = verdict_by_folders n found
+
+-- ---- what a verdict guards
+
+-- a fact of each folder, from node p on
+abbrev pub Each : (ℕ → Found → Type 0) → ℕ → List Found → Type 0
+Each P p [] = Unit {0}
+Each P p (f ∷ fs) = P p f × Each P (p + 1) fs
+
+-- a folder with the disk of node p of n
+abbrev pub HasDisk : ℕ → ℕ → Found → Type 0
+HasDisk n p f = f.content ≡ contents.Holds p n
+
+-- a folder that is marked as node p's of a cluster
+abbrev pub IsMarked : Identity → ℕ → Found → Type 0
+IsMarked i p f = f.mark ≡ Some (record { identity = i; node = p })
+
+-- a node that has been formatted has its disk, and its folder bears its mark
+abbrev pub KeepsItsDisk : Cluster → ℕ → Found → Type 0
+KeepsItsDisk c p f = has_member c.formatted p ≡ true → HasDisk c.nodes p f × IsMarked c.identity p f
+
+-- what may be relied on: a cluster is opened only as what its file says; nodes are begun only where no folder has a disk; and
+-- a cluster without a file is taken on only where each folder has its node's disk
+abbrev pub Guards : ℕ → Option Cluster → List Found → Verdict → Type 0
+Guards n None found (Open d) = ⊥
+Guards n (Some c) found (Open d) = (d ≡ c) × (c.nodes ≡ n) × Each (KeepsItsDisk c) 0 found
+Guards n (Some c) found Begin = ⊥
+Guards n None found Begin = Each (λ p f. is_blank f.content ≡ true) 0 found
+Guards n (Some c) found (TakeOn i) = ⊥
+Guards n None found (TakeOn i) = Each (HasDisk n) 0 found
+Guards n file found (Refused p x) = Unit {0}

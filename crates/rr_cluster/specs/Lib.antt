@@ -1,0 +1,5 @@
+pub mod Clusters
+pub mod ClusterTexts
+pub mod Fronts
+pub mod Judging
+pub mod Reading

@@ -1,0 +1,56 @@
+-- Reading the words of these files from left to right: what each reader of the code gives.
+use Rattle.std.specs.Prelude.{ℕ, if◌then◌else◌, List, [], ◌∷◌, codes, Option, None, Some}
+use Rattle.std.specs.Str.{bytes_eq}
+use Rattle.rr_text.specs.Reading.{◌>>=◌, cut_at, number_at, nodes_at, set_at}
+use Rattle.rr_text.specs.Reading.{node_at as node_of_at}
+use Rattle.rr_cluster.specs.declared.cluster.Identity.{Identity}
+use Rattle.rr_cluster.specs.declared.cluster.Cluster.{Cluster}
+use Rattle.rr_cluster.specs.declared.cluster.Mark.{Mark}
+
+-- the text before a line feed, where nothing stands behind that
+abbrev pub line_from : List ℕ × List ℕ → Option (List ℕ)
+line_from (text, []) = Some text
+line_from (text, b ∷ bs) = None
+
+-- the text of the only line
+abbrev pub line_at : List ℕ → Option (List ℕ)
+line_at bytes = cut_at 10 bytes >>= line_from
+
+-- a cluster's identity, and the text behind it
+abbrev pub identity_at : List ℕ → Option (Identity × List ℕ)
+identity_at text =
+    cut_at 32 text >>= λ a.
+    number_at a.0 >>= λ first.
+    cut_at 32 a.1 >>= λ b.
+    number_at b.0 >>= λ second.
+    Some (record { first = first; second = second }, b.1)
+
+-- an identity behind the word that says what file it is
+abbrev pub head_at : List ℕ → List ℕ → Option (Identity × List ℕ)
+head_at word text = cut_at 32 text >>= λ w. if bytes_eq w.0 word then identity_at w.1 else None
+
+-- a number of nodes
+abbrev pub count_at : List ℕ → Option ℕ
+count_at w = nodes_at w
+
+-- a node
+abbrev pub node_at : List ℕ → Option ℕ
+node_at w = node_of_at 7 w
+
+-- a cluster's file
+abbrev pub cluster_at : List ℕ → Option Cluster
+cluster_at bytes =
+    line_at bytes >>= λ text.
+    head_at (codes "cluster-1") text >>= λ h.
+    cut_at 32 h.1 >>= λ w.
+    count_at w.0 >>= λ n.
+    set_at n w.1 >>= λ s.
+    Some (record { identity = h.0; nodes = n; formatted = s })
+
+-- the file in a node's folder
+abbrev pub mark_at : List ℕ → Option Mark
+mark_at bytes =
+    line_at bytes >>= λ text.
+    head_at (codes "node-1") text >>= λ h.
+    node_at h.1 >>= λ p.
+    Some (record { identity = h.0; node = p })

@@ -1,0 +1,110 @@
+//! Reading the file of a cluster, and that of a node's folder.
+
+ghost use Rattle.std.specs.Prelude.{◌≡◌, ◌++◌, length, List, ℕ, [], Some, None, IfSome, MatchOption};
+ghost use Rattle.rr_cluster.specs.declared.cluster.Cluster.{Cluster as ClusterOf};
+ghost use Rattle.rr_cluster.specs.declared.cluster.Mark.{Mark as MarkOf};
+ghost use Rattle.rr_cluster.specs.Clusters.{IsCluster, IsMark};
+ghost use Rattle.rr_cluster.specs.ClusterTexts.{cluster_text, mark_text};
+ghost use Rattle.rr_cluster.specs.Reading.{line_at, identity_at, head_at, count_at, node_at, cluster_at, mark_at};
+
+use crate::cluster::{Cluster, Identity, Mark};
+use rr_text::text_read::{cut, number, set};
+use rr_types::{NodeId, Nodes};
+
+// The text before the line feed, which is the last byte.
+fn line(bytes: &[u8]) -> Option<&[u8]>
+    ensures { MatchOption result (line_at bytes.now ≡ None) (λ t. line_at bytes.now ≡ Some t.now) }
+{
+    match cut(bytes, b'\n') {
+        Some((text, [])) => Some(text),
+        _ => None,
+    }
+}
+
+// A cluster's identity, and the text behind it.
+fn identity(text: &[u8]) -> Option<(Identity, &[u8])>
+    ensures { MatchOption result (identity_at text.now ≡ None) (λ x. identity_at text.now ≡ Some (x.0, x.1.now)) }
+{
+    let (word, rest) = cut(text, b' ')?;
+    let first = number(word)?;
+    let (word, rest) = cut(rest, b' ')?;
+    let second = number(word)?;
+    Some((Identity { first, second }, rest))
+}
+
+// The identity behind the word that says what file it is, and the text behind that.
+fn head<'a>(word: &[u8], text: &'a [u8]) -> Option<(Identity, &'a [u8])>
+    ensures { MatchOption result (head_at word.now text.now ≡ None) (λ x. head_at word.now text.now ≡ Some (x.0, x.1.now)) }
+{
+    let (first, rest) = cut(text, b' ')?;
+    if first == word { identity(rest) } else { None }
+}
+
+// The number of nodes that a word is.
+fn count(word: &[u8]) -> Option<Nodes>
+    ensures { result ≡ count_at word.now }
+{
+    match word {
+        [digit] if *digit >= b'0' => Nodes::new(*digit - b'0').ok(),
+        _ => None,
+    }
+}
+
+// The node that a word is.
+fn node(word: &[u8]) -> Option<NodeId>
+    ensures { result ≡ node_at word.now }
+{
+    match word {
+        [digit] if *digit >= b'0' => NodeId::at(*digit - b'0'),
+        _ => None,
+    }
+}
+
+// The cluster of a cluster's file.
+fn cluster(bytes: &[u8]) -> Option<Cluster>
+    ensures { result ≡ cluster_at bytes.now }
+{
+    let (identity, rest) = head(b"cluster-1", line(bytes)?)?;
+    let (word, rest) = cut(rest, b' ')?;
+    let nodes = count(word)?;
+    let formatted = set(nodes, rest)?;
+    Some(Cluster {
+        identity,
+        nodes,
+        formatted,
+    })
+}
+
+// The node of the file in a folder.
+fn mark(bytes: &[u8]) -> Option<Mark>
+    ensures { result ≡ mark_at bytes.now }
+{
+    let (identity, rest) = head(b"node-1", line(bytes)?)?;
+    let node = node(rest)?;
+    Some(Mark { identity, node })
+}
+
+impl Cluster {
+    /// The cluster that the bytes of a cluster's file name. None: they aren't the text of one. Where a text is cut or goes on,
+    /// it is none.
+    #[tactic(auto, using(crate::proofs::ClusterReading::cluster_takes))]
+    pub fn parse(bytes: &[u8]) -> Option<Cluster>
+        // What is read is printed so.
+        ensures found { IfSome result (λ c. IsCluster c × (bytes.now ≡ cluster_text c)) }
+        // What is printed so is read.
+        ensures only { (c : ClusterOf) → IsCluster c → bytes.now ≡ cluster_text c → result ≡ Some c }
+    {
+        cluster(bytes)
+    }
+}
+
+impl Mark {
+    /// The node that the bytes of the file in a node's folder name. None: they aren't the text of one.
+    #[tactic(auto, using(crate::proofs::ClusterReading::mark_takes))]
+    pub fn parse(bytes: &[u8]) -> Option<Mark>
+        ensures found { IfSome result (λ m. IsMark m × (bytes.now ≡ mark_text m)) }
+        ensures only { (m : MarkOf) → IsMark m → bytes.now ≡ mark_text m → result ≡ Some m }
+    {
+        mark(bytes)
+    }
+}

@@ -1,0 +1,54 @@
+//! Printing the file of a cluster, and that of a node's folder.
+
+ghost use Rattle.std.specs.Prelude.{◌≡◌, ◌++◌, ◌∷◌, decimal, OnOk, IfOk, IfErr};
+ghost use Rattle.rr_cluster.specs.ClusterTexts.{cluster_text, mark_text};
+
+use crate::cluster::{Cluster, Identity, Mark};
+use rr_text::text_word::{push_byte, push_bytes, push_number_word, push_set};
+use rr_types::Refusal;
+use std::alloc::Global;
+
+// Appends what both files begin with: what it is, and the cluster's identity.
+fn push_head(out: &mut Vec<u8>, word: &[u8], identity: Identity) -> Result<(), Refusal>
+    ensures ok { OnOk result (out.new.items ≡ out.old.items ++ (word.now ++ 32 ∷ (decimal identity.first ++ 32 ∷ decimal identity.second))) }
+    ensures err { IfErr result (λ e. e ≡ Refusal.OutOfMemory) }
+{
+    push_bytes(out, word)?;
+    push_number_word(out, identity.first)?;
+    push_number_word(out, identity.second)
+}
+
+impl Cluster {
+    /// The bytes of the cluster's file.
+    ///
+    /// # Errors
+    /// `OutOfMemory`.
+    pub fn text(&self, alloc: Global) -> Result<Vec<u8>, Refusal>
+        ensures ok { IfOk result (λ v. v.items ≡ cluster_text self.now) }
+        ensures err { IfErr result (λ e. e ≡ Refusal.OutOfMemory) }
+    {
+        let mut out = Vec::new(alloc);
+        push_head(&mut out, b"cluster-1", self.identity)?;
+        push_number_word(&mut out, u64::from(self.nodes.count()))?;
+        push_set(&mut out, self.formatted)?;
+        push_byte(&mut out, b'\n')?;
+        Ok(out)
+    }
+}
+
+impl Mark {
+    /// The bytes of the file in the node's folder.
+    ///
+    /// # Errors
+    /// `OutOfMemory`.
+    pub fn text(&self, alloc: Global) -> Result<Vec<u8>, Refusal>
+        ensures ok { IfOk result (λ v. v.items ≡ mark_text self.now) }
+        ensures err { IfErr result (λ e. e ≡ Refusal.OutOfMemory) }
+    {
+        let mut out = Vec::new(alloc);
+        push_head(&mut out, b"node-1", self.identity)?;
+        push_number_word(&mut out, u64::from(self.node.index()))?;
+        push_byte(&mut out, b'\n')?;
+        Ok(out)
+    }
+}

@@ -1,0 +1,251 @@
+//! Whether the folders of a cluster may be opened.
+
+ghost use Rattle.std.specs.Prelude.{◌≡◌, ◌+◌, ◌≤◌, ◌<◌, length, option_map, Option, Some, None};
+ghost use Rattle.std.specs.List.{list_all};
+ghost use Rattle.rr_types.specs.Limits.{max_nodes};
+ghost use Rattle.rr_cluster.specs.Judging.{mark_fault, owner_fault, loss_fault, disk_fault, fault_of, first_fault, is_blank, first_identity, verdict_by_file, verdict_by_folders, verdict_of, Guards};
+
+use crate::cluster::{Cluster, Identity, Mark};
+use crate::front::Content;
+use rr_types::{NodeId, NodeSet, Nodes, made_of};
+
+/// What was found of a node's folder.
+#[derive(Clone, Copy, Debug)]
+pub struct Found {
+    /// What its areas hold.
+    pub content: Content,
+    /// Whose it is by the file in it. None: it has no such file, or that says nothing.
+    pub mark: Option<Mark>,
+}
+
+/// Why the folder of a node may not be opened.
+#[derive(Clone, Copy, Debug)]
+pub enum Fault {
+    /// The node has been formatted, and its folder is gone.
+    Missing,
+    /// The node has been formatted, and no area in its folder is.
+    Blank,
+    /// The node has been formatted, and an area is shorter than it was, or gone.
+    Cut,
+    /// The folder is this node's.
+    OtherNode(NodeId),
+    /// The cluster, or the disk in the folder, has this number of nodes.
+    OtherNodes(Nodes),
+    /// The folder is another cluster's.
+    OtherCluster,
+    /// The node has marked its folder, and nobody has marked this one.
+    Unmarked,
+}
+
+/// What is to be done with folders.
+#[derive(Clone, Copy, Debug)]
+pub enum Verdict {
+    /// This cluster goes on. Its nodes that haven't been formatted are.
+    Open(Cluster),
+    /// A new cluster begins.
+    Begin,
+    /// A cluster without a file goes on. This identity some folder names; there is none where none does.
+    TakeOn(Option<Identity>),
+    /// Nothing is to be opened or written, for the folder of this node.
+    Refused(NodeId, Fault),
+}
+
+// What folders are to be: this cluster's, for so many nodes, of which these have been formatted. None: all may have been.
+#[derive(Clone, Copy, Debug)]
+struct Expected {
+    identity: Identity,
+    nodes: Nodes,
+    formatted: Option<NodeSet>,
+}
+
+// What the file in a node's folder has against it.
+fn mark_fault(identity: Identity, node: NodeId, mark: Option<Mark>) -> Option<Fault>
+    ensures { result ≡ mark_fault identity node mark }
+{
+    let mark = mark?;
+    if !mark.identity.is(identity) {
+        Some(Fault::OtherCluster)
+    } else if mark.node != node {
+        Some(Fault::OtherNode(mark.node))
+    } else {
+        None
+    }
+}
+
+// What a disk of this other node, of so many others, has against it.
+fn other_owner(nodes: Nodes, node: NodeId, others: Nodes, other: NodeId) -> Option<Fault>
+    ensures { result ≡ owner_fault nodes node (Content.Holds other others) }
+{
+    if others != nodes {
+        Some(Fault::OtherNodes(others))
+    } else if other != node {
+        Some(Fault::OtherNode(other))
+    } else {
+        None
+    }
+}
+
+// What the areas have against it: they are another node's.
+fn owner_fault(nodes: Nodes, node: NodeId, content: Content) -> Option<Fault>
+    ensures { result ≡ owner_fault nodes node content }
+{
+    match content {
+        Content::Holds {
+            node: other,
+            nodes: others,
+        } => other_owner(nodes, node, others, other),
+        _ => None,
+    }
+}
+
+// What they have against it if the node has been formatted.
+fn loss_fault(content: Content) -> Option<Fault>
+    ensures { result ≡ loss_fault content }
+{
+    match content {
+        Content::Absent => Some(Fault::Missing),
+        Content::Blank => Some(Fault::Blank),
+        Content::Cut => Some(Fault::Cut),
+        Content::Holds { .. } => None,
+    }
+}
+
+// What is lost of a node.
+fn disk_fault(formatted: Option<NodeSet>, node: NodeId, found: &Found) -> Option<Fault>
+    ensures { result ≡ disk_fault formatted node found.now }
+{
+    let Some(formatted) = formatted else {
+        return loss_fault(found.content);
+    };
+    if !formatted.contains(node) {
+        return None;
+    }
+    match (loss_fault(found.content), found.mark) {
+        (Some(fault), _) => Some(fault),
+        (None, None) => Some(Fault::Unmarked),
+        (None, Some(_)) => None,
+    }
+}
+
+// What is wrong with the folder of a node.
+fn fault_of(expected: &Expected, node: NodeId, found: &Found) -> Option<Fault>
+    ensures { result ≡ fault_of expected.now.identity expected.now.nodes expected.now.formatted node found.now }
+{
+    if let Some(fault) = mark_fault(expected.identity, node, found.mark) {
+        return Some(fault);
+    }
+    match owner_fault(expected.nodes, node, found.content) {
+        Some(fault) => Some(fault),
+        None => disk_fault(expected.formatted, node, found),
+    }
+}
+
+// The first folder that has a fault, from a node on.
+fn first_fault(expected: &Expected, index: u8, found: &[Found]) -> Option<(NodeId, Fault)>
+    requires { index + length found.now ≤ max_nodes }
+    ensures { result ≡ first_fault expected.now.identity expected.now.nodes expected.now.formatted index found.now }
+{
+    let [first, rest @ ..] = found else {
+        return None;
+    };
+    let node = NodeId::at(index)?;
+    match fault_of(expected, node, first) {
+        Some(fault) => Some((node, fault)),
+        None => first_fault(expected, index + 1, rest),
+    }
+}
+
+// Whether a folder has no disk.
+fn is_blank(content: Content) -> bool
+    ensures { result ≡ is_blank content }
+{
+    matches!(content, Content::Absent | Content::Blank)
+}
+
+// Whether no folder has a disk.
+fn are_blank(found: &[Found]) -> bool
+    ensures { result ≡ list_all (λ f. is_blank f.content) found.now }
+{
+    match found {
+        [] => true,
+        [first, rest @ ..] => is_blank(first.content) && are_blank(rest),
+    }
+}
+
+// The cluster that the first marked folder names.
+fn first_identity(found: &[Found]) -> Option<Identity>
+    ensures { result ≡ first_identity found.now }
+{
+    match found {
+        [] => None,
+        [first, rest @ ..] => match first.mark {
+            Some(mark) => Some(mark.identity),
+            None => first_identity(rest),
+        },
+    }
+}
+
+fn by_file(nodes: Nodes, cluster: &Cluster, found: &[Found]) -> Verdict
+    requires { length found.now ≡ nodes }
+    ensures { result ≡ verdict_by_file nodes cluster.now found.now }
+{
+    made_of!(Cluster, Identity, Found, Verdict);
+    let _count = nodes.count();
+    if cluster.nodes != nodes {
+        return match NodeId::at(0) {
+            Some(node) => Verdict::Refused(node, Fault::OtherNodes(cluster.nodes)),
+            None => Verdict::Open(*cluster),
+        };
+    }
+    let expected = Expected {
+        identity: cluster.identity,
+        nodes,
+        formatted: Some(cluster.formatted),
+    };
+    match first_fault(&expected, 0, found) {
+        Some((node, fault)) => Verdict::Refused(node, fault),
+        None => Verdict::Open(*cluster),
+    }
+}
+
+fn by_folders(nodes: Nodes, found: &[Found]) -> Verdict
+    requires { length found.now ≡ nodes }
+    ensures { result ≡ verdict_by_folders nodes found.now }
+{
+    let _count = nodes.count();
+    if are_blank(found) {
+        return Verdict::Begin;
+    }
+    let named = first_identity(found);
+    let identity = match named {
+        Some(identity) => identity,
+        None => Identity {
+            first: 0,
+            second: 0,
+        },
+    };
+    let expected = Expected {
+        identity,
+        nodes,
+        formatted: None,
+    };
+    match first_fault(&expected, 0, found) {
+        Some((node, fault)) => Verdict::Refused(node, fault),
+        None => Verdict::TakeOn(named),
+    }
+}
+
+/// What is to be done where so many nodes are asked for: by the cluster's file, which may be missing or say nothing, and by what
+/// was found of each node's folder, from node 0 on.
+#[tactic(auto, using(crate::proofs::Guarding::verdict_guards))]
+pub fn judge(nodes: Nodes, file: Option<&Cluster>, found: &[Found]) -> Verdict
+    requires { length found.now ≡ nodes }
+    ensures verdict { result ≡ verdict_of nodes (option_map (λ c. c.now) file.entry) found.now }
+    // No node that has been formatted is taken for a fresh one.
+    ensures guards { Guards nodes (option_map (λ c. c.now) file.entry) found.now result }
+{
+    match file {
+        Some(cluster) => by_file(nodes, cluster, found),
+        None => by_folders(nodes, found),
+    }
+}

@@ -1,0 +1,208 @@
+//! Why the folders of a run aren't opened, and the lines that tell it.
+
+ghost use Rattle.std.specs.Prelude.{◌≡◌};
+ghost use Rattle.rr_cli.specs.Refusals.{status_of};
+ghost use Rattle.rr_run.specs.Shells.{IsRefusedBy};
+
+use rr_cli::{end_by_refusal, print_folder_fault};
+use rr_cluster::Fault;
+use rr_image::read_image;
+use rr_types::{NodeId, Nodes, Refusal};
+use std::alloc::{AllocError, AllocFailed};
+use std::io::{ErrorKind, Write};
+use std::os::unix::fs::FileExt;
+use std::rt::Files;
+use std::{fs, io};
+
+/// Why the folders of a run aren't opened.
+#[derive(Drop)]
+pub(crate) enum Closed {
+    /// A growth was refused.
+    OutOfMemory,
+    /// Another program has locked the folder of this path.
+    InUse(String),
+    /// This call on this path failed.
+    Failed {
+        path: String,
+        call: &'static str,
+        error: io::Error,
+    },
+    /// The disk of this node can't be opened.
+    Unopened(NodeId, Refusal),
+    /// The folder of this node may not be opened.
+    Refused(NodeId, Fault),
+}
+
+impl From<AllocError> for Closed {
+    fn from(_error: AllocError) -> Closed {
+        Closed::OutOfMemory
+    }
+}
+
+impl<T: Drop> From<AllocFailed<T>> for Closed {
+    fn from(_error: AllocFailed<T>) -> Closed {
+        Closed::OutOfMemory
+    }
+}
+
+impl From<Refusal> for Closed {
+    fn from(_refusal: Refusal) -> Closed {
+        Closed::OutOfMemory
+    }
+}
+
+/// What a call on a path gave, or why the folders aren't opened.
+pub(crate) fn done<R: AllocGlobal, T: Drop>(
+    rt: &R,
+    path: &str,
+    call: &'static str,
+    given: io::Result<T>,
+) -> Result<T, Closed> {
+    match given {
+        Ok(value) => Ok(value),
+        Err(error) => {
+            if error.kind() == ErrorKind::OutOfMemory {
+                return Err(Closed::OutOfMemory);
+            }
+            let path = format!(in rt.alloc(); "{path}")?;
+            Err(Closed::Failed { path, call, error })
+        }
+    }
+}
+
+/// Ends because the folders in the folder DIR aren't opened. The second line says which it is, what that means and what to do.
+pub(crate) fn end_by_closed<R: Files + AllocGlobal, E: Write>(
+    rt: &R,
+    err: &mut E,
+    dir: &str,
+    nodes: Nodes,
+    closed: &Closed,
+) -> u8
+where
+    R::File: FileExt,
+    ensures { IsRefusedBy result }
+{
+    let refusal = refusal_of(rt, dir, nodes, closed);
+    let ending = end_by_refusal(err, &refusal);
+    let _ = match closed {
+        Closed::OutOfMemory => Ok(()),
+        Closed::InUse(path) => writeln!(err, "{path}: another program has locked it"),
+        Closed::Failed { path, call, error } => writeln!(err, "{path}: {call}: {error}"),
+        Closed::Unopened(node, _) => print_unopened(rt, err, dir, *node, &refusal),
+        Closed::Refused(node, fault) => print_refused(rt, err, dir, nodes, *node, fault, &refusal),
+    };
+    ending
+}
+
+// The refusal that the program ends with.
+fn refusal_of<R: Files + AllocGlobal>(rt: &R, dir: &str, nodes: Nodes, closed: &Closed) -> Refusal {
+    match closed {
+        Closed::OutOfMemory => Refusal::OutOfMemory,
+        Closed::InUse(_) | Closed::Failed { .. } => Refusal::Device,
+        Closed::Unopened(_, refusal) => *refusal,
+        Closed::Refused(node, Fault::Cut | Fault::OtherNode(_) | Fault::OtherNodes(_)) => {
+            opening_refusal(rt, dir, nodes, *node)
+        }
+        Closed::Refused(..) => Refusal::Device,
+    }
+}
+
+// What an opening of a node's disk is refused with; a device that fails where it isn't, or where the disk can't be read.
+fn opening_refusal<R: Files + AllocGlobal>(
+    rt: &R,
+    dir: &str,
+    nodes: Nodes,
+    node: NodeId,
+) -> Refusal {
+    let index = node.index();
+    let (Ok(first), Ok(second)) = (
+        format!(in rt.alloc(); "{dir}/{index}/a0"),
+        format!(in rt.alloc(); "{dir}/{index}/a1"),
+    ) else {
+        return Refusal::OutOfMemory;
+    };
+    let (Ok(first), Ok(second)) = (fs::read(rt, first.as_str()), fs::read(rt, second.as_str()))
+    else {
+        return Refusal::Device;
+    };
+    match read_image(rt.alloc(), nodes, node, first.as_slice(), second.as_slice()) {
+        Ok(_) => Refusal::Device,
+        Err(refusal) => refusal,
+    }
+}
+
+// Prints why the files of a node's folder can't be opened.
+fn print_unopened<R: Files + AllocGlobal, W: Write>(
+    rt: &R,
+    err: &mut W,
+    dir: &str,
+    node: NodeId,
+    refusal: &Refusal,
+) -> io::Result<()> {
+    let index = node.index();
+    let path = format!(in rt.alloc(); "{dir}/{index}")?;
+    print_folder_fault(rt, err, path.as_str(), refusal)
+}
+
+// Prints why a node's folder may not be opened.
+fn print_refused<R: Files + AllocGlobal, W: Write>(
+    rt: &R,
+    err: &mut W,
+    dir: &str,
+    nodes: Nodes,
+    node: NodeId,
+    fault: &Fault,
+    refusal: &Refusal,
+) -> io::Result<()> {
+    let path = node.index();
+    match fault {
+        Fault::Missing => write!(err, "{dir}/{path}: the folder is gone, and ")?,
+        Fault::Blank => write!(err, "{dir}/{path}: its disk is blank, and ")?,
+        Fault::Cut if !matches!(refusal, Refusal::Device) => {
+            return print_unopened(rt, err, dir, node, refusal);
+        }
+        Fault::Cut => write!(err, "{dir}/{path}: a file of its disk is gone or cut, and ")?,
+        Fault::OtherNode(_) | Fault::OtherNodes(_) | Fault::OtherCluster | Fault::Unmarked => {
+            return print_other(err, dir, nodes, node, fault);
+        }
+    }
+    writeln!(
+        err,
+        "node {path} can't know any more what it promised; put the folder back as it was last, or go on from the others by rr export"
+    )
+}
+
+// Prints whose folder it is, where it is another's.
+fn print_other<W: Write>(
+    err: &mut W,
+    dir: &str,
+    nodes: Nodes,
+    node: NodeId,
+    fault: &Fault,
+) -> io::Result<()> {
+    let (path, asked) = (node.index(), nodes.count());
+    match fault {
+        Fault::OtherNode(other) => {
+            let other = other.index();
+            writeln!(
+                err,
+                "{dir}/{path}: it is the folder of node {other}; put each folder back in its place"
+            )
+        }
+        Fault::OtherNodes(others) => {
+            let others = others.count();
+            writeln!(
+                err,
+                "{dir}: its cluster has another number of nodes than {asked}; ask for --nodes {others}"
+            )
+        }
+        Fault::OtherCluster => writeln!(
+            err,
+            "{dir}/{path}: it is a folder of another cluster; put that of this one back"
+        ),
+        _ => writeln!(
+            err,
+            "{dir}/{path}: no cluster has marked it; put the folder of this one back"
+        ),
+    }
+}

@@ -1,0 +1,367 @@
+//! What is written when a cluster begins: its file, the folders of its nodes with a file each, and their disks, formatted. The
+//! cluster's file says that nodes have been formatted after they have, and before they answer anybody.
+
+ghost use Rattle.std.specs.Prelude.{◌≡◌, ◌<◌, length, IfOk};
+
+use crate::closed::{Closed, done};
+use crate::folder::{Survey, lock_folder, remove_made};
+use crate::lock::Lockable;
+use crate::seen::Seen;
+use rr_cluster::{AreaFront, Cluster, Identity, Mark};
+use rr_disk::{FileDisk, OpenedFile, make_folder};
+use rr_journal::Journal;
+use rr_types::{NodeId, NodeSet, Nodes, Refusal};
+use std::fs;
+use std::fs::{OpenFile, OpenOptions};
+use std::io::{Read, Seek, Write};
+use std::os::unix::fs::FileExt;
+use std::rt::Files;
+
+/// Draws the identity of a new cluster from the system's random device.
+pub(crate) fn draw_identity<R: Files + AllocGlobal>(rt: &R) -> Result<Identity, Closed> {
+    let path = "/dev/urandom";
+    let mut source = done(rt, path, "opening", fs::open(rt, path))?;
+    let mut first = [0u8; 8];
+    let mut second = [0u8; 8];
+    done(rt, path, "reading", source.read_exact(&mut first))?;
+    done(rt, path, "reading", source.read_exact(&mut second))?;
+    Ok(Identity {
+        first: u64::from_be_bytes(first),
+        second: u64::from_be_bytes(second),
+    })
+}
+
+// Writes a text to a new file, and syncs it. Where that fails there is no such file.
+fn write_fresh<R: Files + AllocGlobal>(rt: &R, fresh: &str, text: &[u8]) -> Result<(), Closed> {
+    let mut file = done(rt, fresh, "making the file", fs::create(rt, fresh))?;
+    let written = match done(rt, fresh, "writing", file.write_all(text)) {
+        Ok(()) => done(rt, fresh, "syncing", file.sync_all()),
+        Err(closed) => Err(closed),
+    };
+    if written.is_err() {
+        let _ = fs::remove_file(rt, fresh);
+    }
+    written
+}
+
+// Puts a file that is synced in place of another one, and makes that last.
+fn put_in_place<R: Files + AllocGlobal>(
+    rt: &R,
+    dir: &str,
+    fresh: &str,
+    path: &str,
+) -> Result<(), Closed> {
+    done(rt, path, "renaming", fs::rename(rt, fresh, path))?;
+    let folder = done(rt, dir, "opening the folder", fs::open(rt, dir))?;
+    done(rt, dir, "syncing the folder", folder.sync_all())
+}
+
+// Writes the file of a node's folder, unless it has one.
+fn write_mark<R: Files + AllocGlobal>(
+    rt: &R,
+    dir: &str,
+    node: NodeId,
+    identity: Identity,
+    seen: &Seen,
+) -> Result<(), Closed> {
+    if seen.found.mark.is_some() {
+        return Ok(());
+    }
+    let index = node.index();
+    let folder = format!(in rt.alloc(); "{dir}/{index}")?;
+    let path = format!(in rt.alloc(); "{dir}/{index}/node")?;
+    let fresh = format!(in rt.alloc(); "{dir}/{index}/node.new")?;
+    let text = Mark { identity, node }.text(rt.alloc())?;
+    write_fresh(rt, fresh.as_str(), text.as_slice())?;
+    put_in_place(rt, folder.as_str(), fresh.as_str(), path.as_str())
+}
+
+// Writes the cluster's file.
+fn write_cluster<R: Files + AllocGlobal>(
+    rt: &R,
+    dir: &str,
+    cluster: &Cluster,
+) -> Result<(), Closed> {
+    let path = format!(in rt.alloc(); "{dir}/cluster")?;
+    let fresh = format!(in rt.alloc(); "{dir}/cluster.new")?;
+    let text = cluster.text(rt.alloc())?;
+    write_fresh(rt, fresh.as_str(), text.as_slice())?;
+    put_in_place(rt, dir, fresh.as_str(), path.as_str())
+}
+
+// What a failed write or opening of a disk in a folder comes from, as far as the system tells it when it is tried again.
+fn unopened<R: Files + AllocGlobal>(
+    rt: &R,
+    folder: &str,
+    node: NodeId,
+    refusal: Refusal,
+) -> Closed {
+    if refusal == Refusal::Device {
+        if let Err(closed) = try_folder(rt, folder) {
+            return closed;
+        }
+    }
+    Closed::Unopened(node, refusal)
+}
+
+/// Opens the files of a disk, and writes and syncs a file beside them, which is taken away.
+pub(crate) fn try_folder<R: Files + AllocGlobal>(rt: &R, folder: &str) -> Result<(), Closed> {
+    for area in 0..2u8 {
+        let path = format!(in rt.alloc(); "{folder}/a{area}")?;
+        let mut options = OpenOptions::new();
+        let _ = options.read(true).write(true);
+        let _file = done(
+            rt,
+            path.as_str(),
+            "opening",
+            options.open(rt, path.as_str()),
+        )?;
+    }
+    let probe = format!(in rt.alloc(); "{folder}/probe")?;
+    write_fresh(rt, probe.as_str(), &[0u8; 4096])?;
+    let _ = fs::remove_file(rt, probe.as_str());
+    Ok(())
+}
+
+// Formats a disk that was opened in a folder, unless it is formatted.
+fn formatted<F: Read + Write + Seek + FileExt + OpenFile + Drop, R: Files<File = F> + AllocGlobal>(
+    rt: &R,
+    folder: &str,
+    nodes: Nodes,
+    node: NodeId,
+    disk: FileDisk<OpenedFile<F>>,
+) -> Result<FileDisk<OpenedFile<F>>, Closed>
+    requires { node < nodes }
+{
+    match Journal::open(rt.alloc(), nodes, node, disk) {
+        Ok((journal, _)) => Ok(journal.into_disk()),
+        Err((refusal, _)) => Err(unopened(rt, folder, node, refusal)),
+    }
+}
+
+// Makes a node's folder where it is missing, locks it then, and marks it.
+fn form_folder<
+    F: Read + Write + Seek + FileExt + OpenFile + Drop + Lockable,
+    R: Files<File = F> + AllocGlobal,
+>(
+    rt: &R,
+    dir: &str,
+    identity: Identity,
+    node: NodeId,
+    seen: &Seen,
+    locks: &mut Vec<F>,
+) -> Result<(), Closed> {
+    let index = node.index();
+    let folder = format!(in rt.alloc(); "{dir}/{index}")?;
+    if !seen.is_there {
+        done(
+            rt,
+            folder.as_str(),
+            "making the folder",
+            make_folder(rt, folder.as_str()),
+        )?;
+        locks.push(lock_folder(rt, folder.as_str())?)?;
+    }
+    write_mark(rt, dir, node, identity, seen)
+}
+
+// Opens the disk of a node. One that hasn't been formatted is.
+fn open_node<
+    F: Read + Write + Seek + FileExt + OpenFile + Drop + Lockable,
+    R: Files<File = F> + AllocGlobal,
+>(
+    rt: &R,
+    nodes: Nodes,
+    dir: &str,
+    cluster: &Cluster,
+    node: NodeId,
+    survey: &mut Survey<F>,
+) -> Result<FileDisk<OpenedFile<F>>, Closed>
+    requires { node < nodes }
+{
+    let index = node.index();
+    let folder = format!(in rt.alloc(); "{dir}/{index}")?;
+    let is_formatted = cluster.formatted.contains(node);
+    if !is_formatted {
+        if let Some(seen) = survey.seen.get(usize::from(index)) {
+            let seen = *seen;
+            form_folder(rt, dir, cluster.identity, node, &seen, &mut survey.locks)?;
+        }
+    }
+    match FileDisk::open(rt, folder.as_str(), true) {
+        Ok(disk) if is_formatted => Ok(disk),
+        Ok(disk) => formatted(rt, folder.as_str(), nodes, node, disk),
+        Err(refusal) => Err(unopened(rt, folder.as_str(), node, refusal)),
+    }
+}
+
+/// Opens the disks of a cluster's nodes, ascending. Those that haven't been formatted are.
+pub(crate) fn open_disks<
+    F: Read + Write + Seek + FileExt + OpenFile + Drop + Lockable,
+    R: Files<File = F> + AllocGlobal,
+>(
+    rt: &R,
+    nodes: Nodes,
+    dir: &str,
+    cluster: &Cluster,
+    survey: &mut Survey<F>,
+) -> Result<Vec<FileDisk<OpenedFile<F>>>, Closed>
+    ensures { IfOk result (λ v. length v.items ≡ nodes) }
+{
+    let mut disks = Vec::new(rt.alloc());
+    for index in 0..nodes.count() {
+        let Some(node) = NodeId::new(nodes, index) else {
+            unreachable!()
+        };
+        disks.push(open_node(rt, nodes, dir, cluster, node, survey)?)?;
+    }
+    Ok(disks)
+}
+
+// Marks the folders of a cluster that have no mark.
+fn mark_nodes<F, R: Files<File = F> + AllocGlobal>(
+    rt: &R,
+    dir: &str,
+    cluster: &Cluster,
+    survey: &Survey<F>,
+) -> Result<(), Closed> {
+    for (index, seen) in survey.seen.iter().enumerate() {
+        if index < 7 {
+            if let Some(node) = NodeId::new(cluster.nodes, index as u8) {
+                write_mark(rt, dir, node, cluster.identity, seen)?;
+            }
+        }
+    }
+    Ok(())
+}
+
+// Takes away what was made in a node's folder, and the folder if it was made.
+fn tidy_node<R: Files + AllocGlobal>(
+    rt: &R,
+    dir: &str,
+    index: usize,
+    seen: &Seen,
+) -> Result<(), Closed> {
+    let missing = [
+        ("a0", matches!(seen.first, AreaFront::Missing)),
+        ("a1", matches!(seen.second, AreaFront::Missing)),
+        ("node", !seen.has_mark_file),
+    ];
+    for (name, was_missing) in &missing {
+        if *was_missing {
+            let path = format!(in rt.alloc(); "{dir}/{index}/{name}")?;
+            let _ = fs::remove_file(rt, path.as_str());
+        }
+    }
+    if !seen.is_there {
+        let path = format!(in rt.alloc(); "{dir}/{index}")?;
+        let _ = fs::remove_dir(rt, path.as_str());
+    }
+    Ok(())
+}
+
+/// Takes away all that was made since the survey.
+pub(crate) fn tidy<F, R: Files<File = F> + AllocGlobal>(
+    rt: &R,
+    dir: &str,
+    survey: &Survey<F>,
+) -> Result<(), Closed> {
+    for (index, seen) in survey.seen.iter().enumerate() {
+        tidy_node(rt, dir, index, seen)?;
+    }
+    if !survey.has_cluster_file {
+        let path = format!(in rt.alloc(); "{dir}/cluster")?;
+        let _ = fs::remove_file(rt, path.as_str());
+    }
+    remove_made(rt, dir, survey.made);
+    Ok(())
+}
+
+// The cluster, of which all nodes have been formatted.
+fn all_of(cluster: &Cluster) -> Cluster {
+    let mut all = *cluster;
+    for index in 0..all.nodes.count() {
+        if let Some(node) = NodeId::at(index) {
+            all.formatted = all.formatted.with(node);
+        }
+    }
+    all
+}
+
+/// Whether all nodes of a cluster have been formatted.
+pub(crate) fn are_formatted(cluster: &Cluster) -> bool {
+    (0..cluster.nodes.count()).all(|index| match NodeId::at(index) {
+        Some(node) => cluster.formatted.contains(node),
+        None => true,
+    })
+}
+
+/// Says in the cluster's file that all nodes have been formatted. Where it can't be written, what was made is taken away; from
+/// when the file may say so, nothing is.
+pub(crate) fn conclude<F, R: Files<File = F> + AllocGlobal>(
+    rt: &R,
+    dir: &str,
+    cluster: &Cluster,
+    survey: &Survey<F>,
+) -> Result<Cluster, Closed> {
+    let all = all_of(cluster);
+    let path = format!(in rt.alloc(); "{dir}/cluster")?;
+    let fresh = format!(in rt.alloc(); "{dir}/cluster.new")?;
+    let text = all.text(rt.alloc())?;
+    match write_fresh(rt, fresh.as_str(), text.as_slice()) {
+        Ok(()) => put_in_place(rt, dir, fresh.as_str(), path.as_str())?,
+        Err(closed) => {
+            let _ = tidy(rt, dir, survey);
+            return Err(closed);
+        }
+    }
+    Ok(all)
+}
+
+/// Begins a new cluster: writes its file, by which no node has been formatted.
+pub(crate) fn begin<F, R: Files<File = F> + AllocGlobal>(
+    rt: &R,
+    dir: &str,
+    nodes: Nodes,
+    survey: &Survey<F>,
+) -> Result<Cluster, Closed> {
+    let cluster = Cluster {
+        identity: draw_identity(rt)?,
+        nodes,
+        formatted: NodeSet::empty(),
+    };
+    match write_cluster(rt, dir, &cluster) {
+        Ok(()) => Ok(cluster),
+        Err(closed) => {
+            let _ = tidy(rt, dir, survey);
+            Err(closed)
+        }
+    }
+}
+
+/// Takes a cluster on that has no file: marks its folders, and writes the file. Some folder may name its identity.
+pub(crate) fn take_on<F, R: Files<File = F> + AllocGlobal>(
+    rt: &R,
+    dir: &str,
+    nodes: Nodes,
+    named: Option<Identity>,
+    survey: &Survey<F>,
+) -> Result<Cluster, Closed> {
+    let identity = match named {
+        Some(identity) => identity,
+        None => draw_identity(rt)?,
+    };
+    let formatted = NodeSet::empty();
+    let cluster = Cluster {
+        identity,
+        nodes,
+        formatted,
+    };
+    match mark_nodes(rt, dir, &cluster, survey) {
+        Ok(()) => conclude(rt, dir, &cluster, survey),
+        Err(closed) => {
+            let _ = tidy(rt, dir, survey);
+            Err(closed)
+        }
+    }
+}
