@@ -72,6 +72,18 @@ TOUR = [
         ],
     ),
     (
+        "The folders of a cluster",
+        "`rr verify` reads the folders of all nodes and says whether they agree. `rr export` prints the registry as a script of claims, and "
+        "a new cluster goes on from it, also if a folder is lost.",
+        [
+            "rr verify nodes | sed 's/ facts.*//'",
+            "rr export nodes > claims.script; cat claims.script",
+            "rr run --nodes 5 --dir new --script claims.script; rr export new | cmp - claims.script",
+            "mv nodes/1 lost; rr verify nodes > told; echo status $?; sed 's/ facts.*//' told",
+            "rr export --list new",
+        ],
+    ),
+    (
         "A run, and its explanation",
         "`rr sim` runs a schedule and reports what happened. `--explain` adds a note on each event, also on one that was refused or did nothing.",
         [

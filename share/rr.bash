@@ -2,7 +2,7 @@
 _rr() {
   local current=$2 before=$3 words takes=nothing
   if [ "$COMP_CWORD" = 1 ]; then
-    COMPREPLY=($(compgen -W 'sim stats check random sweep draw run shell audit show migrate help -h --help -V --version' -- "$current"))
+    COMPREPLY=($(compgen -W 'sim stats check random sweep draw run shell audit show verify export migrate help -h --help -V --version' -- "$current"))
     return
   fi
   case ${COMP_WORDS[1]} in
@@ -16,6 +16,8 @@ _rr() {
     shell) words='--nodes --dir --client -c --command --strict --json -h --help'; takes=nothing ;;
     audit) words='-h --help'; takes=files ;;
     show) words='-h --help'; takes=folders ;;
+    verify) words='--json -h --help'; takes=folders ;;
+    export) words='--list -h --help'; takes=folders ;;
     migrate) words='--node --nodes -h --help'; takes=folders ;;
     help) words=''; takes=commands ;;
   esac
@@ -35,7 +37,7 @@ _rr() {
     --to) takes=nothing; words= ;;
     -c) takes=nothing; words= ;;
   esac
-  [ $takes != commands ] || words='sim stats check random sweep draw run shell audit show migrate help'
+  [ $takes != commands ] || words='sim stats check random sweep draw run shell audit show verify export migrate help'
   COMPREPLY=($(compgen -W "$words" -- "$current"))
   case $current:$takes in
     -*) ;;

@@ -4,3 +4,4 @@ pub mod TapeLemmas
 pub mod SweepLemmas
 pub mod MigrateLemmas
 mod WordLaws
+pub mod FolderLemmas

@@ -3,7 +3,8 @@ use Rattle.std.proofs.Common.{◌≡◌, Bool, List, [], Option, subst}
 use Rattle.clap.specs.Words.{Text}
 use Rattle.clap.specs.Kinds.{Kinds, IsAmong}
 use Rattle.clap.specs.declared.error.kind.ErrorKind.{ErrorKind}
-use Rattle.rr_words.specs.Tasks.{CutWords, RandomWords, ShellWords, View, Simulate, Viewing, Show, Random, Audit, Run, Shell, Sweep, Draw, Migrate}
+use Rattle.rr_words.specs.Tasks.{CutWords, RandomWords, ShellWords, View, Simulate, Viewing, Show, Random, Audit, Run, Shell, Sweep, Draw, Migrate, Verify, Export}
+use Rattle.rr_words.specs.declared.tasks.Form.{Form}
 
 -- no kind is among none
 pub none_among : (kind : ErrorKind) (kinds : Kinds) → IsAmong kind kinds → kinds ≡ [] → ⊥
@@ -35,3 +36,9 @@ no_draw file words view is = absurd cc
 
 pub no_migrate : (folder node nodes : Option Text) (view : View) → Migrate folder node nodes ≡ Viewing view → ⊥
 no_migrate folder node nodes view is = absurd cc
+
+pub no_verify : (dir : Option Text) (form : Form) (view : View) → Verify dir form ≡ Viewing view → ⊥
+no_verify dir form view is = absurd cc
+
+pub no_export : (dir : Option Text) (list : Bool) (view : View) → Export dir list ≡ Viewing view → ⊥
+no_export dir list view is = absurd cc

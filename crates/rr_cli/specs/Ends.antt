@@ -1,6 +1,6 @@
 -- How a run of the program ends: its exit status, and what standard output has taken.
-use Rattle.std.specs.Prelude.{◌≡◌, ◌≢◌, ◌⊎◌, ◌<◌, ◌-◌, ◌^◌, ℕ, Bool, List, [], ◌∷◌, ◌++◌, length, Option, Some, None, codes}
-use Rattle.std.specs.List.{flat_map}
+use Rattle.std.specs.Prelude.{◌≡◌, ◌≢◌, ◌⊎◌, ◌<◌, ◌-◌, ◌^◌, ℕ, Bool, true, false, List, [], ◌∷◌, ◌++◌, length, Option, Some, None, codes}
+use Rattle.std.specs.List.{flat_map, AllByRecursion}
 use Rattle.clap.specs.Kinds.{Kinds, IsAmong}
 use Rattle.clap.specs.Words.{Text}
 use Rattle.clap.specs.declared.error.kind.ErrorKind.{ErrorKind}
@@ -29,7 +29,12 @@ use Rattle.rr_image.specs.Inspect.{Tells, Breaks, inspected}
 use Rattle.rr_cli.specs.Areas.{areas_text}
 use Rattle.rr_cli.specs.Randoms.{IsNumberIn, IsNumberOf, AreNumbers, IsDrawnText}
 use Rattle.rr_cli.specs.Cuts.{IsCutBy}
-use Rattle.rr_words.specs.Tasks.{CutWords, RandomWords, ShellWords, View, Task, Simulate, Viewing, Show, Random, Audit, Run, Shell, Sweep, Draw, Migrate}
+use Rattle.rr_words.specs.Tasks.{CutWords, RandomWords, ShellWords, View, Task, Simulate, Viewing, Show, Random, Audit, Run, Shell, Sweep, Draw, Migrate, Verify, Export}
+use Rattle.rr_words.specs.declared.tasks.Form.{Form}
+use Rattle.rr_verify.specs.declared.folder.Reading.{Reading}
+use Rattle.rr_verify.specs.Agreement.{Agree, AllAlike, HaveOneList, clashes_from, longest_decided}
+use Rattle.rr_verify.specs.Texts.{verdict_text}
+use Rattle.rr_cli.specs.Clusters.{AreRead, HoldsNothing, IsExportOf, form_in, unlike}
 use Rattle.rr_cli.specs.Migrations.{IsUnmigrated}
 use Rattle.rr_cli.specs.Refusals.{status_of}
 use Rattle.rr_cli.specs.Tapes.{yes_text}
@@ -171,6 +176,35 @@ pub data EndsOnCut (On : (List ℕ → ℕ → Printing → Printing → Type 0)
   cut_so : (cut : Cut) → IsCutBy words cut → On (EndsOnPicture cut) status old new → EndsOnCut On words status old new
   uncut : ((cut : Cut) → IsCutBy words cut → ⊥) → status ≡ 2 → new ≡ old → EndsOnCut On words status old new
 
+-- what was read of folders is printed: they agree, and then what they have decided are beginnings of one list; or they don't;
+-- or memory was wanting, and standard output is as it was
+pub data EndsOnVerification (form : Form) (status : ℕ) (old new : Printing) : Type 0 where
+  agreed : (readings : List Reading) → AreRead readings → Agree readings → HaveOneList readings
+      → Prints (verdict_text (form_in form) readings (clashes_from 0 readings) true) status old new
+      → EndsOnVerification form status old new
+  disagreed : (readings : List Reading) (printing : ℕ) → AreRead readings → (Agree readings → ⊥)
+      → Prints (verdict_text (form_in form) readings (clashes_from 0 readings) false) printing old new
+      → status ≡ unlike printing → EndsOnVerification form status old new
+  unverified : status ≡ 6 → new ≡ old → EndsOnVerification form status old new
+
+-- the export of folders: no two decide an instance differently, and that of the longest decided list is printed; or two do; or
+-- none holds facts and one is refused; or memory was wanting. Unless it is printed, standard output is as it was
+pub data EndsOnExport (list : Bool) (status : ℕ) (old new : Printing) : Type 0 where
+  exported : (readings : List Reading) (text : List ℕ) → AreRead readings → AllAlike readings
+      → IsExportOf list (longest_decided readings) text → Prints text status old new
+      → EndsOnExport list status old new
+  clashing : (readings : List Reading) → AreRead readings → (AllAlike readings → ⊥) → status ≡ 4 → new ≡ old
+      → EndsOnExport list status old new
+  empty : (readings : List Reading) (refusal : Refusal) → AreRead readings → AllByRecursion HoldsNothing readings
+      → status ≡ status_of refusal → new ≡ old
+      → EndsOnExport list status old new
+  unexported : status ≡ 6 → new ≡ old → EndsOnExport list status old new
+
+-- a run on the folder that a word names; or none is named, and standard output is as it was
+pub data EndsOnDir (On : ℕ → Printing → Printing → Type 0) (dir : Option Text) (status : ℕ) (old new : Printing) : Type 0 where
+  named : (path : Text) → dir ≡ Some path → On status old new → EndsOnDir On dir status old new
+  unnamed : dir ≡ None → status ≡ 2 → new ≡ old → EndsOnDir On dir status old new
+
 -- words that are wrong
 abbrev pub IsMistake : ErrorKind → Type 0
 IsMistake kind = (kind ≢ DisplayHelp) × (kind ≢ DisplayVersion)
@@ -230,6 +264,12 @@ pub data EndsBy (faults : Kinds) (task : Task) (from to : Reading) (status : ℕ
       → EndsBy faults task from to status old new
   by_migration : (folder of_node of_nodes : Option Text) → faults ≡ [] → task ≡ Migrate folder of_node of_nodes
       → EndsOnSeat folder of_node of_nodes status old new
+      → EndsBy faults task from to status old new
+  by_verification : (dir : Option Text) (form : Form) → faults ≡ [] → task ≡ Verify dir form
+      → EndsOnDir (EndsOnVerification form) dir status old new
+      → EndsBy faults task from to status old new
+  by_export : (dir : Option Text) (list : Bool) → faults ≡ [] → task ≡ Export dir list
+      → EndsOnDir (EndsOnExport list) dir status old new
       → EndsBy faults task from to status old new
   without_views : (view : View) → faults ≡ [] → task ≡ Viewing view → status ≡ 2 → new ≡ old
       → EndsBy faults task from to status old new

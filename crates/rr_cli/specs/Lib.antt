@@ -7,3 +7,4 @@ pub mod Tapes
 pub mod Sweeping
 pub mod Migrations
 pub mod Views
+pub mod Clusters

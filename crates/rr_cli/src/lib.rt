@@ -4,7 +4,9 @@
 #![tactic(auto)]
 
 mod audit;
+mod exporting;
 mod folder_faults;
+mod folders;
 mod input;
 mod migrate;
 mod picture;
@@ -14,6 +16,7 @@ mod refusals;
 mod show;
 mod streams;
 mod sweep;
+mod verification;
 mod viewing;
 mod views;
 mod words;

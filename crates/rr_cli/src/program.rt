@@ -8,6 +8,7 @@ ghost use Rattle.rr_words.specs.Tasks.{CutWords, Simulate, Audit, Sweep, Draw, f
 ghost use Rattle.rr_cli.specs.Ends.{EndsOn, EndsOnInput, EndsBy};
 
 use crate::audit::{audit_file, audit_input};
+use crate::exporting::export_by_word;
 use crate::migrate::migrate_by_words;
 use crate::picture::{picture_file, picture_input};
 use crate::random_schedule::random_by_words;
@@ -18,6 +19,7 @@ use crate::streams::{
     end_without_words,
 };
 use crate::sweep::{end_without_seed, sweep_by_word, sweep_file};
+use crate::verification::verify_by_word;
 use crate::words::end_by_words;
 use rr_sim::report_on;
 use rr_stream::{Counted, Sink, Source, read_all};
@@ -63,8 +65,10 @@ fn simulate_input<I: Source, O: Sink, E: Write>(
 /// of its run: of the lines FROM to TO, of one node or of all, and of the messages of one instance or of every event.
 /// `rr migrate DIR --node NODE --nodes NODES` opens the disk in the folder DIR, and prints what its areas hold then.
 /// The disk is that of node NODE of NODES nodes.
+/// `rr verify DIR [--json]` reads the folders of a cluster in DIR, and prints what they hold and whether they agree.
+/// `rr export DIR [--list]` prints the registry of the longest list that they have decided as a script, or else the list.
 /// What goes wrong is told on `err`, but for a reader of `out` that has gone. The statuses: 0 done, 2 wrong words, 3 no
-/// schedule or tape, 4 a damaged area, 5 a device, a file or a stream, 6 memory, 7 a tape with an event that isn't what
+/// schedule or tape, 4 a damaged area or folders that don't agree, 5 a device, a file or a stream, 6 memory, 7 a tape with an event that isn't what
 /// its node does next.
 pub fn execute<R: Files + AllocGlobal, S: AsStr, I: Source, O: Sink, E: Write>(
     rt: &R,
@@ -110,6 +114,8 @@ where
         Ok(Task::Migrate(folder, node, nodes)) => {
             migrate_by_words(rt, folder, node, nodes, out, err)
         }
+        Ok(Task::Verify(dir, form)) => verify_by_word(rt, dir, form, out, err),
+        Ok(Task::Export(dir, list)) => export_by_word(rt, dir, list, out, err),
         Err(error) => end_by_words(rt.alloc(), out, err, &error),
     }
 }

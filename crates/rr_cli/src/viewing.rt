@@ -46,6 +46,8 @@ where
         Ok(Task::Sweep(_, _)) => execute(rt, words, input, out, err),
         Ok(Task::Draw(_, _)) => execute(rt, words, input, out, err),
         Ok(Task::Migrate(_, _, _)) => execute(rt, words, input, out, err),
+        Ok(Task::Verify(_, _)) => execute(rt, words, input, out, err),
+        Ok(Task::Export(_, _)) => execute(rt, words, input, out, err),
         Err(error) => end_by_words(rt.alloc(), out, err, &error),
     }
 }

@@ -63,6 +63,8 @@ pub fn execute<
         Ok(Task::Sweep(_, _)) => rr_cli::execute_with_views(rt, words, input, out, err),
         Ok(Task::Draw(_, _)) => rr_cli::execute_with_views(rt, words, input, out, err),
         Ok(Task::Migrate(_, _, _)) => rr_cli::execute_with_views(rt, words, input, out, err),
+        Ok(Task::Verify(_, _)) => rr_cli::execute_with_views(rt, words, input, out, err),
+        Ok(Task::Export(_, _)) => rr_cli::execute_with_views(rt, words, input, out, err),
         Err(error) => end_by_words(rt.alloc(), out, err, &error),
     }
 }

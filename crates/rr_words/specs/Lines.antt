@@ -142,6 +142,14 @@ migrate_line =
     (number_rule (codes "NODE") (codes "node") 0 6))
     (number_rule (codes "NODES") (codes "nodes") 1 7)
 
+-- the subcommand verify, with a DIR and the option for JSON
+unfoldable pub verify_line : App
+verify_line = with_arg (with_arg (new_app (codes "verify")) (word_rule (codes "DIR") true)) (flag_rule (codes "JSON") (codes "json"))
+
+-- the subcommand export, with a DIR and the option for the decided list
+unfoldable pub export_line : App
+export_line = with_arg (with_arg (new_app (codes "export")) (word_rule (codes "DIR") true)) (flag_rule (codes "LIST") (codes "list"))
+
 -- a command with a version
 unfoldable pub with_version : App → App
 with_version = on_top (λ s. record s { has_version = true })
@@ -162,4 +170,6 @@ schedule_lines =
 
 -- the command line of rr
 unfoldable pub rr_line : App
-rr_line = and_also (and_also (and_also (and_also (and_also schedule_lines run_line) shell_line) audit_line) show_line) migrate_line
+rr_line =
+    and_also (and_also (and_also (and_also (and_also (and_also (and_also schedule_lines
+    run_line) shell_line) audit_line) show_line) verify_line) export_line) migrate_line

@@ -65,7 +65,8 @@ pub data View : Type 0 where
 -- with its tape in this file or none; or a shell by these words; or a sweep of the schedule in this file or else in standard
 -- input, with this seed, which only wrong words leave out; or the picture of the schedule in this file or else in standard
 -- input, of the cut that these words write; or an opening of the disk in this folder as that of this node of so many, all of
--- which only wrong words leave out, and its areas then
+-- which only wrong words leave out, and its areas then; or whether the folders in this folder agree; or the registry that they
+-- have decided as a script, or else the decided list
 pub data Task : Type 0 where
   Simulate : Option Text → Task
   Viewing : View → Task
@@ -77,6 +78,8 @@ pub data Task : Type 0 where
   Sweep : Option Text → Option Text → Task
   Draw : Option Text → CutWords → Task
   Migrate : Option Text → Option Text → Option Text → Task
+  Verify : Option Text → Form → Task
+  Export : Option Text → Bool → Task
 
 -- the file that a word names; none, which stands for standard input, where the word is a hyphen or isn't there
 abbrev pub file_of : Option Text → Option Text
@@ -106,7 +109,7 @@ abbrev pub told_by : Form → Option Text → Task
 told_by Plain file = Simulate file
 told_by Json file = Viewing (Report file)
 
--- what sim, stats, check, random, run, shell, sweep, draw and migrate ask for
+-- what sim, stats, check, random, run, shell, sweep, draw, migrate, verify and export ask for
 abbrev pub simulate_task : List Row → Task
 simulate_task rows =
     if is_set (codes "EXPLAIN") rows then Viewing (Explanation (form_of rows) (file_of (first_of (codes "FILE") rows)))
@@ -152,6 +155,12 @@ draw_task rows = Draw (file_of (first_of (codes "FILE") rows)) (cut_words_of row
 abbrev pub migrate_task : List Row → Task
 migrate_task rows = Migrate (first_of (codes "DIR") rows) (first_of (codes "NODE") rows) (first_of (codes "NODES") rows)
 
+abbrev pub verify_task : List Row → Task
+verify_task rows = Verify (first_of (codes "DIR") rows) (form_of rows)
+
+abbrev pub export_task : List Row → Task
+export_task rows = Export (first_of (codes "DIR") rows) (is_set (codes "LIST") rows)
+
 -- what a subcommand of this name and these arguments asks for, other than shell
 abbrev pub other_task_by : Text × List Row → Task
 other_task_by p =
@@ -164,7 +173,9 @@ other_task_by p =
     else (if bytes_eq p.0 (codes "sweep") then sweep_task p.1
     else (if bytes_eq p.0 (codes "draw") then draw_task p.1
     else (if bytes_eq p.0 (codes "migrate") then migrate_task p.1
-    else simulate_task p.1))))))))
+    else (if bytes_eq p.0 (codes "verify") then verify_task p.1
+    else (if bytes_eq p.0 (codes "export") then export_task p.1
+    else simulate_task p.1))))))))))
 
 -- what a subcommand of this name and these arguments asks for
 abbrev pub task_by : Text × List Row → Task
@@ -229,3 +240,5 @@ task_in (read.Shell words) = Shell (shell_words_in words)
 task_in (read.Sweep file seed) = Sweep (option_map (λ s. s.now) file) (option_map (λ s. s.now) seed)
 task_in (read.Draw file words) = Draw (option_map (λ s. s.now) file) (cut_words_in words)
 task_in (read.Migrate folder node nodes) = Migrate (option_map (λ s. s.now) folder) (option_map (λ s. s.now) node) (option_map (λ s. s.now) nodes)
+task_in (read.Verify folder form) = Verify (option_map (λ s. s.now) folder) form
+task_in (read.Export folder list) = Export (option_map (λ s. s.now) folder) list

@@ -75,6 +75,35 @@ Examples:
   rr run --nodes 3 --dir /tmp/nodes --script examples/three_clients.script && rr show /tmp/nodes/0"
 }
 
+/// The help of `rr verify`.
+pub(crate) fn verify<'a>() -> &'a str {
+    "\
+DIR is the folder of the nodes' folders, as `rr run` and `rr shell` are given it: DIR/0 is that of node 0. How many there are
+is what the first of them says that can be read. Printed is a line for each folder: the node and the number of nodes that it
+names, its facts, its decided commands, how many commands are left to be decided, and its version. Then comes a line for each
+two folders that decide an instance differently, with both commands, and last `agree` or `disagree`. They agree if each
+names its own node and one number of nodes, and no instance is decided differently. Else the status is 4: also if a folder
+is missing, blank or damaged. Nothing is written. No other program may have the folders open.
+
+Examples:
+  rr verify /tmp/nodes
+  rr verify --json /tmp/nodes"
+}
+
+/// The help of `rr export`.
+pub(crate) fn export<'a>() -> &'a str {
+    "\
+DIR is the folder of the nodes' folders. Those that can be read are read, and no instance may be decided differently in
+them: else the status is 4. The longest of their decided lists counts. Printed is a script that claims each name that is
+bound by this list, in byte order, for its owner and with its value. `rr run` takes it for any number of nodes. Run over an
+empty folder, it gives the same registry. What only a lost folder had decided isn't in it. With --list printed are
+`decided N` and the N commands of the list. Nothing is written. No other program may have the folders open.
+
+Examples:
+  rr export /tmp/nodes > claims.script && rr run --nodes 5 --dir /tmp/new --script claims.script
+  rr export --list /tmp/nodes"
+}
+
 /// The help of `rr migrate`.
 pub(crate) fn migrate<'a>() -> &'a str {
     "\

@@ -2,7 +2,7 @@
 
 ghost use Rattle.std.specs.Prelude.{◌≡◌, IfOk, codes};
 ghost use Rattle.clap.specs.Words.{App, app_of, new_app};
-ghost use Rattle.rr_words.specs.Lines.{IsArg, IsLine, and_also, rr_line, schedule_lines, rr_settings, with_version, named_rule, sim_line, stats_line, check_line, show_line, migrate_line, word_rule, number_rule, option_rule, optional_number_rule, flag_rule, numbers_line, random_line, audit_line, run_line, lines_rule, asking_line, shell_line, sweep_line, draw_line};
+ghost use Rattle.rr_words.specs.Lines.{IsArg, IsLine, and_also, rr_line, schedule_lines, rr_settings, with_version, named_rule, sim_line, stats_line, check_line, show_line, migrate_line, word_rule, number_rule, option_rule, optional_number_rule, flag_rule, numbers_line, random_line, audit_line, run_line, lines_rule, asking_line, shell_line, sweep_line, draw_line, verify_line, export_line};
 
 use crate::helps;
 use clap::builder::ValueParser;
@@ -29,6 +29,8 @@ pub(crate) fn command_line<'a>(alloc: Global) -> Result<Command<'a>, AllocError>
     let line = with_line(line, shell_line(alloc))?;
     let line = with_line(line, audit_line(alloc))?;
     let line = with_line(line, show_line(alloc))?;
+    let line = with_line(line, verify_line(alloc))?;
+    let line = with_line(line, export_line(alloc))?;
     with_line(line, migrate_line(alloc))
 }
 
@@ -211,6 +213,39 @@ fn show_line<'a>(alloc: Global) -> Result<Command<'a>, AllocError>
         helps::show(),
     )
     .arg(word_arg(alloc, "DIR", "The folder of the node", true))
+}
+
+// The command line of `rr verify`.
+fn verify_line<'a>(alloc: Global) -> Result<Command<'a>, AllocError>
+    ensures { IfOk result (IsLine verify_line) }
+{
+    bare_line(
+        alloc,
+        "verify",
+        "Tells what the folders of a cluster hold, and whether they agree",
+        helps::verify(),
+    )
+    .arg(word_arg(alloc, "DIR", "The folder of the nodes' folders", true))?
+    .arg(flag_arg(
+        alloc,
+        "JSON",
+        "json",
+        "Prints an object of JSON for each line",
+    ))
+}
+
+// The command line of `rr export`.
+fn export_line<'a>(alloc: Global) -> Result<Command<'a>, AllocError>
+    ensures { IfOk result (IsLine export_line) }
+{
+    bare_line(
+        alloc,
+        "export",
+        "Prints the registry of a cluster as a script of claims",
+        helps::export(),
+    )
+    .arg(word_arg(alloc, "DIR", "The folder of the nodes' folders", true))?
+    .arg(flag_arg(alloc, "LIST", "list", "Prints the decided list instead"))
 }
 
 // The command line of `rr random`, with its seed, its steps and its nodes.

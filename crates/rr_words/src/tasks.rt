@@ -2,7 +2,7 @@
 
 ghost use Rattle.std.specs.Prelude.{◌≡◌, [], IfOk, map, option_map, unwrap_or};
 ghost use Rattle.clap.specs.Words.{all_of, first_of, found_of, rows_of};
-ghost use Rattle.rr_words.specs.Tasks.{file_of, is_set, form_of, cut_words_of, cut_words_in, simulate_task, stats_task, check_task, random_task, run_task, shell_task, sweep_task, draw_task, migrate_task, other_task_by, task_by, task_in};
+ghost use Rattle.rr_words.specs.Tasks.{file_of, is_set, form_of, cut_words_of, cut_words_in, simulate_task, stats_task, check_task, random_task, run_task, shell_task, sweep_task, draw_task, migrate_task, other_task_by, task_by, task_in, verify_task, export_task};
 
 use clap::ArgMatches;
 use std::alloc::{AllocError, Global};
@@ -105,6 +105,11 @@ pub enum Task<'a> {
     /// `rr migrate DIR --node NODE --nodes NODES`: an opening of the disk in this folder, and what its areas hold then.
     /// The disk is that of node NODE of NODES nodes.
     Migrate(Option<&'a str>, Option<&'a str>, Option<&'a str>),
+    /// `rr verify DIR [--json]`: whether the nodes' folders in this folder agree, and what each of them holds.
+    Verify(Option<&'a str>, Form),
+    /// `rr export DIR [--list]`: the registry that the nodes' folders in this folder have decided, as a script; or else the
+    /// decided list.
+    Export(Option<&'a str>, bool),
 }
 
 // The file that a word names. None means standard input: the word is a hyphen or isn't there.
@@ -269,6 +274,20 @@ fn migrate_task<'a>(matches: &ArgMatches<'a>) -> Task<'a>
     )
 }
 
+// What `rr verify` is asked for.
+fn verify_task<'a>(matches: &ArgMatches<'a>) -> Task<'a>
+    ensures { task_in result ≡ verify_task (rows_of (found_of matches.now)) }
+{
+    Task::Verify(word_of(matches, "DIR"), form_of(matches))
+}
+
+// What `rr export` is asked for.
+fn export_task<'a>(matches: &ArgMatches<'a>) -> Task<'a>
+    ensures { task_in result ≡ export_task (rows_of (found_of matches.now)) }
+{
+    Task::Export(word_of(matches, "DIR"), is_set(matches, "LIST"))
+}
+
 // What a subcommand of this name, other than `shell`, is asked for.
 fn other_task<'a>(name: &str, matches: &ArgMatches<'a>) -> Task<'a>
     ensures { task_in result ≡ other_task_by (name.now, rows_of (found_of matches.now)) }
@@ -291,6 +310,10 @@ fn other_task<'a>(name: &str, matches: &ArgMatches<'a>) -> Task<'a>
         draw_task(matches)
     } else if name == "migrate" {
         migrate_task(matches)
+    } else if name == "verify" {
+        verify_task(matches)
+    } else if name == "export" {
+        export_task(matches)
     } else {
         simulate_task(matches)
     }

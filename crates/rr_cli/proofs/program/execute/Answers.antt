@@ -1,8 +1,8 @@
 use Rattle.std.proofs.Common.{◌≡◌, ◌∙◌, ℕ, List, Option, option_map, Bor, refl, sym, ap, map, None, Some, inl, inr}
 use Rattle.clap.specs.Words.{Text, kind_of}
 use Rattle.rr_words.specs.declared.tasks.Task.TheVariants as read
-use Rattle.rr_words.specs.Tasks.{Simulate, Viewing, Show, Random, Audit, Run, Shell, Sweep, Draw, Migrate, cut_words_in, random_words_in, shell_words_in, view_in, task_of, task_in}
-use Rattle.rr_cli.specs.Ends.{opened, unopened, mistaken, by_help, by_version, out_of_memory, by_standard_input, by_file, by_folder, by_numbers, by_migration, by_tape_in_standard_input, by_tape_in_a_file, by_sweep_of_standard_input, by_sweep_of_a_file, by_picture_of_standard_input, by_picture_of_a_file, without_seed, without_views, without_threads, without_shell}
+use Rattle.rr_words.specs.Tasks.{Simulate, Viewing, Show, Random, Audit, Run, Shell, Sweep, Draw, Migrate, cut_words_in, random_words_in, shell_words_in, view_in, task_of, task_in, Verify, Export}
+use Rattle.rr_cli.specs.Ends.{opened, unopened, mistaken, by_help, by_version, out_of_memory, by_standard_input, by_file, by_folder, by_numbers, by_migration, by_tape_in_standard_input, by_tape_in_a_file, by_sweep_of_standard_input, by_sweep_of_a_file, by_picture_of_standard_input, by_picture_of_a_file, without_seed, without_views, without_threads, without_shell, by_verification, by_export}
 use Rattle.rr_cli.proofs.EndLemmas.{kind_cases}
 use Rattle.rr_cli.proofs.program.execute.Goals as goal
 
@@ -121,3 +121,15 @@ returns-in-Ok-Draw-Some-default-clause-ends g c =
     let w = c.in-Ok-Draw-Some-default in
     let task : task_of (map g.S.AsStr.text c.args.words.now) ≡ Draw (Some w.path.now) (cut_words_in w.cut) = sym w.ensures.task ∙ ap task_in w.field-0-is ∙ ap (λ file. task_in (read.Draw file w.cut)) w.field-0-0-is in
     by_picture_of_a_file w.path.now (cut_words_in w.cut) w.ensures.faults task c.picture_file.ensures.ends
+
+pub returns-in-Ok-Verify-clause-ends : goal.returns-in-Ok-Verify-clause-ends
+returns-in-Ok-Verify-clause-ends g c =
+    let w = c.in-Ok-Verify in
+    let task : task_of (map g.S.AsStr.text c.args.words.now) ≡ Verify (text_of w.dir) w.form = sym w.ensures.task ∙ ap task_in w.field-0-is in
+    by_verification (text_of w.dir) w.form w.ensures.faults task c.verify_by_word.ensures.ends
+
+pub returns-in-Ok-Export-clause-ends : goal.returns-in-Ok-Export-clause-ends
+returns-in-Ok-Export-clause-ends g c =
+    let w = c.in-Ok-Export in
+    let task : task_of (map g.S.AsStr.text c.args.words.now) ≡ Export (text_of w.dir) w.list = sym w.ensures.task ∙ ap task_in w.field-0-is in
+    by_export (text_of w.dir) w.list w.ensures.faults task c.export_by_word.ensures.ends

@@ -3,7 +3,7 @@ use Rattle.clap.specs.Words.{Text, kind_of}
 use Rattle.clap.specs.Kinds.{Kinds, IsAmong}
 use Rattle.clap.specs.declared.error.kind.ErrorKind.{ErrorKind}
 use Rattle.rr_words.specs.declared.tasks.Task.TheVariants as read
-use Rattle.rr_words.specs.Tasks.{Simulate, Viewing, Show, Random, Audit, Run, Shell, Sweep, Draw, Migrate, cut_words_in, random_words_in, shell_words_in, view_in, task_of, task_in}
+use Rattle.rr_words.specs.Tasks.{Simulate, Viewing, Show, Random, Audit, Run, Shell, Sweep, Draw, Migrate, cut_words_in, random_words_in, shell_words_in, view_in, task_of, task_in, Verify, Export}
 use Rattle.rr_cli.specs.Ends.{mistaken, by_help, by_version}
 use Rattle.rr_cli.proofs.EndLemmas.{kind_cases}
 use Rattle.rr_cli.specs.Views as views
@@ -121,3 +121,15 @@ returns-in-Ok-Migrate-clause-ends g c =
     let w = c.in-Ok-Migrate in
     let task : task_of (map g.S.AsStr.text c.args.words.now) ≡ Migrate (text_of w.field-0-0) (text_of w.field-0-1) (text_of w.field-0-2) = sym w.ensures.task ∙ ap task_in w.field-0-is in
     by_others (λ none asks. subst (λ t. AsksForThreads t) task asks) c.execute_with_views-in-Ok-Migrate.ensures.ends
+
+pub returns-in-Ok-Verify-clause-ends : goal.returns-in-Ok-Verify-clause-ends
+returns-in-Ok-Verify-clause-ends g c =
+    let w = c.in-Ok-Verify in
+    let task : task_of (map g.S.AsStr.text c.args.words.now) ≡ Verify (text_of w.field-0-0) w.field-0-1 = sym w.ensures.task ∙ ap task_in w.field-0-is in
+    by_others (λ none asks. subst (λ t. AsksForThreads t) task asks) c.execute_with_views-in-Ok-Verify.ensures.ends
+
+pub returns-in-Ok-Export-clause-ends : goal.returns-in-Ok-Export-clause-ends
+returns-in-Ok-Export-clause-ends g c =
+    let w = c.in-Ok-Export in
+    let task : task_of (map g.S.AsStr.text c.args.words.now) ≡ Export (text_of w.field-0-0) w.field-0-1 = sym w.ensures.task ∙ ap task_in w.field-0-is in
+    by_others (λ none asks. subst (λ t. AsksForThreads t) task asks) c.execute_with_views-in-Ok-Export.ensures.ends

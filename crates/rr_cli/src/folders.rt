@@ -1,0 +1,106 @@
+//! Reading the folders of a cluster. Nothing is written, and nothing is made.
+
+ghost use Rattle.std.specs.Prelude.{◌≡◌, ◌≤◌, length, IfOk};
+ghost use Rattle.std.specs.List.{AllByRecursion};
+ghost use Rattle.rr_cli.specs.Clusters.{IsRead, AreRead};
+
+use crate::folder_faults::print_folder_fault;
+use rr_disk::FileDisk;
+use rr_types::{MAX_NODES, Refusal};
+use rr_verify::{Reading, read_disk};
+use std::alloc::AllocError;
+use std::io;
+use std::io::Write;
+use std::os::unix::fs::FileExt;
+use std::rt::Files;
+
+// What is read of the folder of a place.
+fn read_folder<R: Files + AllocGlobal>(rt: &R, dir: &str, place: u8) -> Result<Reading, AllocError>
+where
+    R::File: FileExt,
+    ensures { IfOk result IsRead }
+{
+    let folder = format!(in rt.alloc(); "{dir}/{place}")?;
+    match FileDisk::open_read_only(rt, folder.as_str()) {
+        Ok(disk) => {
+            let mut disk = disk;
+            read_disk(rt.alloc(), &mut disk)
+        }
+        Err(Refusal::OutOfMemory) => Err(AllocError),
+        Err(_) => Ok(Reading::Refused(Refusal::Device)),
+    }
+}
+
+// What is read of the folders of all places that a cluster may have.
+fn read_places<R: Files + AllocGlobal>(rt: &R, dir: &str) -> Result<Vec<Reading>, AllocError>
+where
+    R::File: FileExt,
+    ensures each { IfOk result (λ v. AllByRecursion IsRead v.items) }
+    ensures number { IfOk result (λ v. 1 ≤ length v.items) }
+{
+    let mut readings = Vec::new(rt.alloc());
+    for place in 0..MAX_NODES {
+        readings.push(read_folder(rt, dir, place)?)?;
+    }
+    Ok(readings)
+}
+
+// How many folders there are, as the first says that holds facts. Where none does, it is one.
+fn folder_count(readings: &[Reading]) -> u8
+    ensures { 1 ≤ result }
+{
+    for reading in readings {
+        if let Reading::Facts(folder) = reading {
+            return folder.nodes.count();
+        }
+    }
+    1
+}
+
+/// What is read of the folders DIR/0, DIR/1 and so on of a cluster. There are as many as the first of them says that holds
+/// facts; if none does, only DIR/0 counts.
+///
+/// # Errors
+/// Memory alone.
+pub(crate) fn read_folders<R: Files + AllocGlobal>(
+    rt: &R,
+    dir: &str,
+) -> Result<Vec<Reading>, AllocError>
+where
+    R::File: FileExt,
+    ensures { IfOk result (λ v. AreRead v.items) }
+{
+    let mut readings = read_places(rt, dir)?;
+    let count = usize::from(folder_count(readings.as_slice()));
+    readings.truncate(count);
+    Ok(readings)
+}
+
+/// Tells people why folders were refused, a line each.
+///
+/// # Errors
+/// Those of the writer.
+pub(crate) fn print_folder_faults<R: Files + AllocGlobal, E: Write>(
+    rt: &R,
+    err: &mut E,
+    dir: &str,
+    readings: &[Reading],
+) -> io::Result<()> {
+    for (place, reading) in readings.iter().enumerate() {
+        let folder = format!(in rt.alloc(); "{dir}/{place}")?;
+        match reading {
+            Reading::Facts(_) => (),
+            Reading::Blank => writeln!(err, "{folder}: neither area is formatted")?,
+            Reading::Refused(refusal) => print_folder_fault(rt, err, folder.as_str(), refusal)?,
+        }
+    }
+    Ok(())
+}
+
+// Ends where no folder is named, which the command line doesn't let through.
+pub(crate) fn end_without_dir<E: Write>(err: &mut E, command: &str) -> u8
+    ensures { result ≡ 2 }
+{
+    let _ = writeln!(err, "rr: {command}: no DIR");
+    2
+}

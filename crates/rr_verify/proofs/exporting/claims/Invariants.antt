@@ -1,0 +1,8 @@
+use Rattle.std.proofs.Common.{◌≡◌, ◌++◌, map, take, drop}
+use Rattle.rr_script.specs.declared.script_line.ScriptLine.TheVariants.{Submit}
+use Rattle.rr_verify.specs.Exports.{claims_behind, export_of}
+use Rattle.rr_verify.proofs.exporting.claims.Given as goal
+
+-- the lines so far and the claims that are left
+abbrev pub invariant-loop-place : goal.invariant-loop-place
+invariant-loop-place l = l.lines.items ++ map (λ c. Submit 0 c) (claims_behind (take l.place l.names) (drop l.place l.names)) ≡ export_of l.names

@@ -1,0 +1,4 @@
+pub mod Folders
+pub mod Agreement
+pub mod Exports
+pub mod Texts

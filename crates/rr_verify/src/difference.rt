@@ -1,0 +1,64 @@
+//! Where two promises decide an instance differently.
+
+ghost use Rattle.std.specs.Prelude.{◌≡◌, Some};
+ghost use Rattle.rr_types.specs.Facts.{decision_of};
+ghost use Rattle.rr_types.specs.Promises.{IsAscending};
+ghost use Rattle.rr_verify.specs.Agreement.{difference, first_difference};
+
+use rr_types::{Command, Entry, Instance, Op, Standing, made_of};
+
+/// An instance that is decided differently, and both commands.
+#[derive(Clone, Copy, Debug)]
+pub struct Difference {
+    pub instance: Instance,
+    pub one: Command,
+    pub other: Command,
+}
+
+// The difference of two standings of an instance, if both have decided and not alike.
+fn difference_at(instance: Instance, one: &Standing, other: &Standing) -> Option<Difference>
+    ensures { result ≡ difference instance (decision_of (Some one.now)) (decision_of (Some other.now)) }
+{
+    made_of!(Command, Op);
+    match (one, other) {
+        (Standing::Decided(one), Standing::Decided(other)) => {
+            if one.is_same(other) {
+                None
+            } else {
+                Some(Difference {
+                    instance,
+                    one: *one,
+                    other: *other,
+                })
+            }
+        }
+        _ => None,
+    }
+}
+
+/// The lowest instance that two promises decide differently, with both commands.
+pub(crate) fn first_difference(one: &[Entry], other: &[Entry]) -> Option<Difference>
+    requires one { IsAscending one.now }
+    requires other { IsAscending other.now }
+    ensures { result ≡ first_difference one.now other.now }
+{
+    made_of!(Command, Op, Standing);
+    let mut one = one;
+    let mut other = other;
+    while let Some((entry, one_rest)) = one.split_first()
+        && let Some((beside, other_rest)) = other.split_first()
+    {
+        if entry.instance.number() < beside.instance.number() {
+            one = one_rest;
+        } else if beside.instance.number() < entry.instance.number() {
+            other = other_rest;
+        } else {
+            if let Some(found) = difference_at(entry.instance, &entry.standing, &beside.standing) {
+                return Some(found);
+            }
+            one = one_rest;
+            other = other_rest;
+        }
+    }
+    None
+}
