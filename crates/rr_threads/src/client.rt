@@ -14,8 +14,8 @@ use crate::shared::Shared;
 use rr_locked::Turnstile;
 use rr_script::{Answer, ScriptLine};
 use rr_types::{
-    Binding, Command, Name, NodeId, NodeSummary, Op, Promise, Refusal, Reply, RequestNo,
-    Value, made_of,
+    Binding, Command, Name, NodeId, NodeSummary, Op, Promise, Refusal, Reply, RequestNo, Value,
+    made_of,
 };
 use rr_window::{Receipt, Seat, Sight, WindowName};
 use std::alloc::Global;
