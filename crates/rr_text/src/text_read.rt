@@ -1,6 +1,6 @@
 //! Reading the words of a schedule.
 
-ghost use Rattle.std.specs.Prelude.{true, [], ◌∷◌, unwrap_or, IfSome, ◌≡◌, ◌+◌, ◌-◌, ◌*◌, ◌<◌, ◌≤◌, ◌^◌, ◌==◌, SomeIff, nat_lt, if◌then◌else◌, IsTrue, None, Some, MatchOption, IfOk, IfErr};
+ghost use Rattle.std.specs.Prelude.{true, [], ◌∷◌, unwrap_or, IfSome, ◌≡◌, ◌+◌, ◌-◌, ◌*◌, ◌<◌, ◌≤◌, ◌^◌, ◌==◌, SomeIff, nat_lt, if◌then◌else◌, IsTrue, None, Some, MatchOption, IfOk};
 ghost use Rattle.std.specs.List.{list_all, position};
 ghost use Rattle.std.specs.Str.Parse.{digits_value};
 ghost use Rattle.rr_text.specs.Numbers.{is_digit, is_number};
