@@ -9,8 +9,8 @@ use Rattle.rr_text.specs.declared.event.Event.{Event}
 use Rattle.rr_text.specs.declared.event.Event.TheVariants as event
 use Rattle.rr_text.specs.declared.report.ReportLine.{ReportLine}
 use Rattle.rr_text.specs.declared.report.ReportLine.TheVariants as line
-use Rattle.rr_account.specs.declared.kind.EventKind.{EventKind}
-use Rattle.rr_account.specs.declared.kind.EventKind.TheVariants.{Submit, Hear, Suspect, Tick, Advance, Take, Device, Fail, Mark, Send, Ack, Snap, Crash, Restart}
+use Rattle.rr_text.specs.declared.kind.EventKind.{EventKind}
+use Rattle.rr_text.specs.declared.kind.EventKind.TheVariants.{Submit, Hear, Suspect, Tick, Advance, Take, Device, Fail, Mark, Send, Ack, Snap, Crash, Restart}
 
 -- whether an event is of a kind
 abbrev pub is_event_kind : EventKind → Event → Bool

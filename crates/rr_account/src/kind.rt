@@ -3,37 +3,9 @@
 ghost use Rattle.std.specs.Prelude.{◌≡◌};
 ghost use Rattle.rr_account.specs.Counts.{is_event_kind, is_message_kind};
 
-use rr_text::Event;
+use rr_text::{Event, EventKind};
 use rr_types::{Body, MessageKind};
-use serde::{Described, Serialize, Serializer};
-
-/// What an event does, by its keyword.
-#[derive(Clone, Copy)]
-pub enum EventKind {
-    Submit,
-    Hear,
-    Suspect,
-    Tick,
-    Advance,
-    Take,
-    Device,
-    Fail,
-    Mark,
-    Send,
-    Ack,
-    Snap,
-    Crash,
-    Restart,
-}
-
-impl Described for EventKind {}
-
-// As JSON a kind is its word.
-impl Serialize for EventKind {
-    fn serialize<S: Serializer>(&self, out: &mut S) -> Result<(), S::Error> {
-        self.word().serialize(out)
-    }
-}
+use serde::{Serialize, Serializer};
 
 /// All kinds of events.
 pub(crate) const EVENT_KINDS: [EventKind; 14] = [
@@ -53,47 +25,33 @@ pub(crate) const EVENT_KINDS: [EventKind; 14] = [
     EventKind::Restart,
 ];
 
-impl EventKind {
-    /// Its keyword.
-    pub fn word(self) -> &'static str {
-        match self {
-            EventKind::Submit => "submit",
-            EventKind::Hear => "hear",
-            EventKind::Suspect => "suspect",
-            EventKind::Tick => "tick",
-            EventKind::Advance => "advance",
-            EventKind::Take => "take",
-            EventKind::Device => "dev",
-            EventKind::Fail => "fail",
-            EventKind::Mark => "mark",
-            EventKind::Send => "send",
-            EventKind::Ack => "ack",
-            EventKind::Snap => "snap",
-            EventKind::Crash => "crash",
-            EventKind::Restart => "restart",
-        }
-    }
+/// Writes a kind of events as JSON: it is its word.
+pub(crate) fn serialize_event_kind<S: Serializer>(
+    kind: &EventKind,
+    out: &mut S,
+) -> Result<(), S::Error> {
+    kind.word().serialize(out)
+}
 
-    /// Whether an event is of this kind.
-    pub fn is_of(self, event: &Event) -> bool
-        ensures { result ≡ is_event_kind self event.now }
-    {
-        match event {
-            Event::Submit { .. } => matches!(self, EventKind::Submit),
-            Event::Hear { .. } => matches!(self, EventKind::Hear),
-            Event::Suspect { .. } => matches!(self, EventKind::Suspect),
-            Event::Tick { .. } => matches!(self, EventKind::Tick),
-            Event::Advance { .. } => matches!(self, EventKind::Advance),
-            Event::Take { .. } => matches!(self, EventKind::Take),
-            Event::Device { .. } => matches!(self, EventKind::Device),
-            Event::Fail { .. } => matches!(self, EventKind::Fail),
-            Event::Mark { .. } => matches!(self, EventKind::Mark),
-            Event::Send { .. } => matches!(self, EventKind::Send),
-            Event::Ack { .. } => matches!(self, EventKind::Ack),
-            Event::Snap { .. } => matches!(self, EventKind::Snap),
-            Event::Crash { .. } => matches!(self, EventKind::Crash),
-            Event::Restart { .. } => matches!(self, EventKind::Restart),
-        }
+/// Whether an event is of this kind.
+pub(crate) fn is_event_kind(kind: EventKind, event: &Event) -> bool
+    ensures { result ≡ is_event_kind kind event.now }
+{
+    match event {
+        Event::Submit { .. } => matches!(kind, EventKind::Submit),
+        Event::Hear { .. } => matches!(kind, EventKind::Hear),
+        Event::Suspect { .. } => matches!(kind, EventKind::Suspect),
+        Event::Tick { .. } => matches!(kind, EventKind::Tick),
+        Event::Advance { .. } => matches!(kind, EventKind::Advance),
+        Event::Take { .. } => matches!(kind, EventKind::Take),
+        Event::Device { .. } => matches!(kind, EventKind::Device),
+        Event::Fail { .. } => matches!(kind, EventKind::Fail),
+        Event::Mark { .. } => matches!(kind, EventKind::Mark),
+        Event::Send { .. } => matches!(kind, EventKind::Send),
+        Event::Ack { .. } => matches!(kind, EventKind::Ack),
+        Event::Snap { .. } => matches!(kind, EventKind::Snap),
+        Event::Crash { .. } => matches!(kind, EventKind::Crash),
+        Event::Restart { .. } => matches!(kind, EventKind::Restart),
     }
 }
 

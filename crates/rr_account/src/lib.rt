@@ -20,7 +20,6 @@ pub use account::Account;
 pub use difference::{Difference, difference_of, push_difference};
 pub use explaining::explanation;
 pub use json::{json_explanation, json_report};
-pub use kind::EventKind;
 pub use outcome::{Idle, Outcome};
 pub use statistics::{EventCount, MessageCount, RefusalCount, Statistics, statistics_of};
 pub use table::{json_statistics, statistics_table};

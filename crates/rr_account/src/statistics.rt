@@ -5,9 +5,12 @@ ghost use Rattle.std.specs.List.{AllByRecursion};
 ghost use Rattle.rr_account.specs.Counts.{count_events, count_messages, is_sent_kind, event_kinds, message_kinds};
 
 use crate::account::Account;
-use crate::kind::{EVENT_KINDS, EventKind, MESSAGE_KINDS, is_message_kind, serialize_message_kind};
+use crate::kind::{
+    EVENT_KINDS, MESSAGE_KINDS, is_event_kind, is_message_kind, serialize_event_kind,
+    serialize_message_kind,
+};
 use crate::outcome::Outcome;
-use rr_text::{Event, ReportLine};
+use rr_text::{Event, EventKind, ReportLine};
 use rr_types::{Body, Instance, MessageKind, Refusal, Round};
 use serde::Serialize;
 use std::alloc::{AllocError, Global};
@@ -16,6 +19,7 @@ use std::alloc::{AllocError, Global};
 /// refused, and how many came to nothing.
 #[derive(Clone, Copy, Serialize)]
 pub struct EventCount {
+    #[serde(serialize_with = "serialize_event_kind")]
     pub kind: EventKind,
     pub events: u64,
     pub told: u64,
@@ -114,7 +118,7 @@ fn event_count(account: &Account, kind: EventKind) -> EventCount
         if let Outcome::Told = outcome {
             told = told.saturating_add(1);
         }
-        if kind.is_of(event) {
+        if is_event_kind(kind, event) {
             match outcome {
                 Outcome::Quiet => (),
                 Outcome::Told => {
@@ -138,7 +142,7 @@ fn count_events(events: &[Event], kind: EventKind) -> u64
 {
     let mut count = 0u64;
     for event in events {
-        if kind.is_of(event) {
+        if is_event_kind(kind, event) {
             count += 1;
         }
     }

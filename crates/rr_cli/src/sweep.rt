@@ -18,7 +18,7 @@ use rr_stream::{Counted, Sink, Source, print_all, read_all};
 use rr_sweep::{MAX_SWEPT_EVENTS, SweepLine, Sweeping, push_sweep_lines, swept_too_far};
 use rr_text::{Event, Schedule};
 use rr_types::Refusal;
-use std::alloc::{AllocError, Global};
+use std::alloc::Global;
 use std::io::Write;
 use std::rt::Files;
 use std::{fs, io};

@@ -15,7 +15,7 @@ use rr_account::{
 use rr_stream::{Sink, Source};
 use rr_types::Refusal;
 use rr_words::{Form, View};
-use std::alloc::{AllocError, Global};
+use std::alloc::Global;
 use std::io::Write;
 use std::rt::Files;
 

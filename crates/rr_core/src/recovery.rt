@@ -20,7 +20,7 @@ use crate::node_core::Core;
 use rr_disk::{Area, Disk};
 use rr_journal::{Journal, Opened};
 use rr_types::{NodeId, Nodes, Refusal};
-use std::alloc::{AllocError, Global};
+use std::alloc::Global;
 
 /// Opens one of the nodes by all steps of an opening, over a kind of disk that tells its bytes always or never: its core, and the
 /// areas of its disk. A refused opening hands its disk back.

@@ -1,7 +1,7 @@
 //! What may stand next in a line of a schedule, a tape or a script.
 
 use crate::recorded::Recorded;
-use rr_text::keyword::Keyword;
+use rr_text::EventKind;
 use rr_text::text_read::{hex_byte, keyword, node, number, op_kind, set, small_number};
 use rr_types::{Name, Nodes, OpKind, Value};
 
@@ -9,7 +9,7 @@ use rr_types::{Name, Nodes, OpKind, Value};
 #[derive(Clone, Copy, Debug)]
 pub(crate) enum Awaited {
     Event,
-    Node(Keyword),
+    Node(EventKind),
     Client,
     Request,
     Operation,
@@ -109,11 +109,11 @@ impl Awaited {
                 Some(keyword) => Awaited::Node(keyword),
                 None => Awaited::End,
             },
-            Awaited::Node(Keyword::Submit) => Awaited::Client,
-            Awaited::Node(Keyword::Hear) => Awaited::Message,
-            Awaited::Node(Keyword::Suspect) => Awaited::Suspects,
-            Awaited::Node(Keyword::Fail) => Awaited::Fill,
-            Awaited::Node(Keyword::Crash) => Awaited::FirstCut,
+            Awaited::Node(EventKind::Submit) => Awaited::Client,
+            Awaited::Node(EventKind::Hear) => Awaited::Message,
+            Awaited::Node(EventKind::Suspect) => Awaited::Suspects,
+            Awaited::Node(EventKind::Fail) => Awaited::Fill,
+            Awaited::Node(EventKind::Crash) => Awaited::FirstCut,
             Awaited::Node(_) => Awaited::End,
             Awaited::Client => Awaited::Request,
             Awaited::Request => Awaited::Operation,
@@ -152,7 +152,7 @@ impl Awaited {
 // What may stand behind the first word of a line of a script.
 fn behind_asked(word: &[u8]) -> Option<Awaited> {
     if word == b"submit".as_slice() {
-        Some(Awaited::Node(Keyword::Submit))
+        Some(Awaited::Node(EventKind::Submit))
     } else if word == b"look".as_slice() {
         Some(Awaited::Looker)
     } else {

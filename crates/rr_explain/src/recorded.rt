@@ -1,7 +1,7 @@
 //! What may stand next in a line that only a tape has, and in a tape's lines at all.
 
 use crate::awaited::{Awaited, digits};
-use rr_text::keyword::Keyword;
+use rr_text::EventKind;
 use rr_text::text_read::{cut, keyword, message_kind, node, number, small_number};
 use rr_types::{Instance, MessageKind, Nodes, Round};
 
@@ -146,9 +146,13 @@ fn or_end(awaited: Option<Awaited>) -> Awaited {
 // What may stand behind the first word of a line.
 fn behind_event(word: &[u8]) -> Option<Awaited> {
     match keyword(word)? {
-        Keyword::Send => Some(Awaited::Recorded(Recorded::Number)),
-        Keyword::Ack => Some(Awaited::Recorded(Recorded::Acknowledger)),
-        Keyword::Device | Keyword::Fail | Keyword::Snap | Keyword::Crash | Keyword::Restart => None,
+        EventKind::Send => Some(Awaited::Recorded(Recorded::Number)),
+        EventKind::Ack => Some(Awaited::Recorded(Recorded::Acknowledger)),
+        EventKind::Device
+        | EventKind::Fail
+        | EventKind::Snap
+        | EventKind::Crash
+        | EventKind::Restart => None,
         keyword => Some(Awaited::Node(keyword)),
     }
 }

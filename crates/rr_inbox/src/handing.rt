@@ -51,7 +51,7 @@ impl<T: Drop> Model for Taker<T> {
     ghost invariant = { λ t. IsSeatAt (receives_on t.receiver) t.pass × IsOne t.pass.me.0.client × ((first_of t.pass.me.0.client).takes ≡ true) };
 }
 
-/// The two ends of a hand-over of one value at a time. It is `OutOfMemory`.
+/// The two ends of a hand-over of one value at a time.
 pub fn hand_over<T: Drop>(alloc: Global) -> Result<(Giver<T>, Taker<T>), AllocError>
     ensures one { IfOk result (λ ends. ends.0.queue ≡ ends.1.queue) }
     ensures giver { IfOk result (λ ends. ends.0.view ≡ new_end first_taker) }

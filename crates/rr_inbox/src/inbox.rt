@@ -62,7 +62,7 @@ impl<T> Model for Outlet<T> {
 }
 
 impl<T: Drop> Outlet<T> {
-    /// An empty inbox: the end that takes. It is `OutOfMemory`.
+    /// An empty inbox: the end that takes.
     pub fn new(alloc: Global) -> Result<Outlet<T>, AllocError>
         ensures ok { IfOk result (λ outlet. outlet.view ≡ first_taker) }
     {
@@ -71,7 +71,7 @@ impl<T: Drop> Outlet<T> {
         Ok(Outlet { inbox, pass })
     }
 
-    /// One more end that puts into this inbox, and has put nothing yet. It is `OutOfMemory`.
+    /// One more end that puts into this inbox, and has put nothing yet.
     pub fn port(&mut self) -> Result<Port<T>, AllocError>
         ensures ok { IfOk result (λ port. (port ≡ end_of self.old.queue (new_end self.old.view)) × (self.new ≡ end_of self.old.queue (one_more self.old.view))) }
         ensures same { OnErr result (self.new ≡ self.old) }

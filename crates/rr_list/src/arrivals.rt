@@ -8,7 +8,7 @@ ghost use Rattle.rr_types.specs.declared.command.RequestNo.{RequestNo};
 ghost use Rattle.rr_types.specs.Registry.{is_same_request};
 ghost use Rattle.rr_list.specs.Arrived.{without_first, seconds};
 
-use rr_types::{Command, Refusal, RequestNo};
+use rr_types::{Command, RequestNo};
 use std::alloc::{AllocError, Global};
 use std::collections::BTreeMap;
 use std::collections::btree_map::Iter;

@@ -15,7 +15,7 @@ ghost use Rattle.rr_list.specs.Rowed.{EachKeeps, rows_in, AreKeyed, AscendFrom, 
 
 use rr_parts::Row;
 use rr_places::{Numbered, drop_free_place, make_place, put, value_at};
-use rr_types::{Command, Entry, Instance, Op, Refusal, RequestNo, Standing};
+use rr_types::{Command, Entry, Instance, Op, RequestNo, Standing};
 use std::alloc::{AllocError, Global};
 use std::collections::BTreeMap;
 use std::marker::Model;

@@ -6,26 +6,12 @@ use crate::memory::Memory;
 use crate::random_run::RandomRun;
 use crate::stances::{Kind, node_at, stance_of};
 use rr_sim::{Cluster, Stance};
-use rr_text::Event;
+use rr_text::{Event, EventKind};
 use rr_types::{NodeId, NodeSet};
 use std::alloc::AllocError;
 
 /// How many requests may be undecided before clients ask for no more.
 const UNDECIDED: usize = 16;
-
-/// What a node may do.
-#[derive(Clone, Copy)]
-enum Choice {
-    Hear,
-    Send,
-    Call,
-    Mark,
-    Ack,
-    Take,
-    Submit,
-    Trust,
-    Tick,
-}
 
 /// A weight, or none where the choice isn't there.
 fn weight(may: bool, weight: u32) -> u32 {
@@ -33,7 +19,7 @@ fn weight(may: bool, weight: u32) -> u32 {
 }
 
 /// The choice that a word falls on, by the weights; none where there is no weight.
-fn chosen(choices: &[(Choice, u32); 9], word: u32) -> Option<Choice> {
+fn chosen(choices: &[(EventKind, u32); 9], word: u32) -> Option<EventKind> {
     let mut sum = 0u32;
     for (_, weight) in choices {
         sum = sum.saturating_add(*weight);
@@ -77,21 +63,21 @@ impl RandomRun {
         stance: Stance,
         is_calm: bool,
         detail: u32,
-    ) -> [(Choice, u32); 9] {
+    ) -> [(EventKind, u32); 9] {
         let takes = is_calm || detail % 1024 == 0;
         let may_take = takes && stance == Stance::Resting && memory.may_take;
         let may_tick = is_calm && detail % 16 == 0 && memory.lags(self.prefix);
         // Found by trial: with these weights seven nodes decided a command in 118 steps in the mean, over 1,500 seeds.
         [
-            (Choice::Hear, weight(memory.may_hear(), 32)),
-            (Choice::Send, weight(memory.may_send, 32)),
-            (Choice::Call, weight(stance == Stance::Calling, 32)),
-            (Choice::Mark, weight(stance == Stance::Flushed, 32)),
-            (Choice::Ack, weight(memory.may_ack, 16)),
-            (Choice::Take, weight(may_take, 4)),
-            (Choice::Submit, weight(self.may_submit(), 16)),
-            (Choice::Trust, weight(memory.suspects, 8)),
-            (Choice::Tick, weight(may_tick, 8)),
+            (EventKind::Hear, weight(memory.may_hear(), 32)),
+            (EventKind::Send, weight(memory.may_send, 32)),
+            (EventKind::Device, weight(stance == Stance::Calling, 32)),
+            (EventKind::Mark, weight(stance == Stance::Flushed, 32)),
+            (EventKind::Ack, weight(memory.may_ack, 16)),
+            (EventKind::Take, weight(may_take, 4)),
+            (EventKind::Submit, weight(self.may_submit(), 16)),
+            (EventKind::Suspect, weight(memory.suspects, 8)),
+            (EventKind::Tick, weight(may_tick, 8)),
         ]
     }
 
@@ -122,25 +108,31 @@ impl RandomRun {
         &mut self,
         cluster: &Cluster,
         node: NodeId,
-        choice: Choice,
+        choice: EventKind,
         detail: u32,
     ) -> Result<Option<Event>, AllocError> {
         match choice {
-            Choice::Hear => self.hear(cluster, node, detail),
-            Choice::Send => Ok(Some(Event::Send { node })),
-            Choice::Call => Ok(Some(Event::Device { node })),
-            Choice::Mark => {
+            EventKind::Hear => self.hear(cluster, node, detail),
+            EventKind::Send => Ok(Some(Event::Send { node })),
+            EventKind::Device => Ok(Some(Event::Device { node })),
+            EventKind::Mark => {
                 self.mark(cluster, node)?;
                 Ok(Some(Event::Mark { node }))
             }
-            Choice::Ack => Ok(Some(Event::Ack { node })),
-            Choice::Take => Ok(Some(Event::Take { node })),
-            Choice::Submit => {
+            EventKind::Ack => Ok(Some(Event::Ack { node })),
+            EventKind::Take => Ok(Some(Event::Take { node })),
+            EventKind::Submit => {
                 let event = self.submit(node, detail)?;
                 Ok(Some(event))
             }
-            Choice::Trust => Ok(Some(self.trust(node))),
-            Choice::Tick => Ok(Some(self.tick(node))),
+            EventKind::Suspect => Ok(Some(self.trust(node))),
+            EventKind::Tick => Ok(Some(self.tick(node))),
+            // The others have no weight.
+            EventKind::Advance
+            | EventKind::Fail
+            | EventKind::Snap
+            | EventKind::Crash
+            | EventKind::Restart => Ok(None),
         }
     }
 

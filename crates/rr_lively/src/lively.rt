@@ -142,7 +142,7 @@ fn drawn_run<O: Sink>(alloc: Global, recipe: Recipe, out: &mut O) -> Result<Run,
 /// watch `out` are told how far it is; `out` takes nothing.
 ///
 /// # Errors
-/// `OutOfMemory`, also where memory runs out for an event of the run.
+/// Also where memory runs out for an event of the run.
 pub fn lively_run<O: Sink>(
     alloc: Global,
     recipe: Recipe,
@@ -161,7 +161,7 @@ pub fn lively_run<O: Sink>(
 /// The text of that schedule alone.
 ///
 /// # Errors
-/// `OutOfMemory`, also where memory runs out for an event of the run.
+/// Also where memory runs out for an event of the run.
 pub fn lively_schedule<O: Sink>(
     alloc: Global,
     recipe: Recipe,

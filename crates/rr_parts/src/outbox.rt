@@ -5,7 +5,7 @@ ghost use Rattle.rr_model.specs.NodeStep.{may_leave};
 ghost use Rattle.rr_parts.specs.Owing.{without_first, IsOwn};
 
 use crate::owed::Owed;
-use rr_types::{Body, Command, Message, NodeId, Op, Refusal, made_of};
+use rr_types::{Body, Command, Message, NodeId, Op, made_of};
 use std::alloc::{AllocError, Global};
 use std::collections::VecDeque;
 use std::marker::Model;

@@ -22,7 +22,7 @@ use rr_stream::{Counted, Sink, Source, read_all};
 use rr_tape::Tape;
 use rr_threads::{Recorder, run_script};
 use rr_types::{Nodes, Refusal};
-use std::alloc::{AllocError, Global};
+use std::alloc::Global;
 use std::fs::OpenFile;
 use std::io::{Read, Seek, Write};
 use std::os::unix::fs::FileExt;

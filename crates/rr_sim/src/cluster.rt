@@ -355,7 +355,7 @@ impl Cluster {
         }
     }
 
-    /// What the event of a line does, memory aside; `OutOfMemory` where the wire or the report can't grow.
+    /// What the event of a line does, memory aside. It fails only where the wire or the report can't grow.
     pub fn step(&mut self, alloc: Global, line: u64, event: &Event) -> Result<(), AllocError>
         ensures ok { OnOk result (Steps line event.now self.old self.new) }
         ensures spelt { OnOk result (IsSpeltBehind event.now self.old self.new) }
@@ -421,7 +421,7 @@ impl Cluster {
         Ok(())
     }
 
-    /// What the event of a line does where memory suffices; `OutOfMemory` where the answer tells that memory ran out. A
+    /// What the event of a line does where memory suffices. It fails also where the answer tells that memory ran out. A
     /// failing device call answers the same in both cases.
     #[tactic(auto, using(crate::proofs::WantLaws::failing_in_memory))]
     pub fn step_in_memory(

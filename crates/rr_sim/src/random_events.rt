@@ -25,7 +25,7 @@ const CALLS_OF_AN_OPENING: usize = 9;
 /// out in a write, which then fails. Those who watch `out` are told how far it is; `out` takes nothing.
 ///
 /// # Errors
-/// `OutOfMemory`, also where memory runs out for any other event of the run.
+/// Also where memory runs out for any other event of the run.
 #[tactic(auto, using(crate::proofs::DrawingLemmas::openings_count))]
 pub fn random<O: Sink>(
     alloc: Global,

@@ -74,7 +74,7 @@ fn told_openings(alloc: Global, nodes: Nodes, cluster: &mut Cluster) -> Result<T
 /// nothing.
 ///
 /// # Errors
-/// `OutOfMemory`, also where memory runs out for an event of the run.
+/// Also where memory runs out for an event of the run.
 pub fn random_run<O: Sink>(
     alloc: Global,
     nodes: Nodes,

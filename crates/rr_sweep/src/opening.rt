@@ -22,7 +22,7 @@ type Ended = (u64, u64, BoundNames);
 /// Opens the disk of a node as a crash has left it, and gives the line by which a report tells of that.
 ///
 /// # Errors
-/// `OutOfMemory`, also where a write finds no memory.
+/// Also where a write finds no memory.
 pub(crate) fn open(alloc: Global, node: NodeId, mut seat: Node) -> Result<ReportLine, AllocError>
     requires stands { (n : ℕ) × (p : ℕ) × IsInSome n p seat }
     requires down { seat.doing ≡ Stopped }

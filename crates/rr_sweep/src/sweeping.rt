@@ -50,7 +50,7 @@ impl Sweeping {
     /// Makes the event of a line, and gives the lines of the sweep that it has: five if it is a device call, else none.
     ///
     /// # Errors
-    /// `OutOfMemory`, also where memory runs out for the event or for an opening.
+    /// Also where memory runs out for the event or for an opening.
     pub fn step(
         &mut self,
         alloc: Global,

@@ -9,8 +9,8 @@ use Rattle.rr_types.specs.declared.refusal.Refusal.{Refusal}
 use Rattle.rr_types.specs.declared.refusal.Refusal.TheVariants.{OutOfMemory}
 use Rattle.rr_text.specs.declared.event.Event.{Event}
 use Rattle.rr_text.specs.declared.event.Event.TheVariants as events
-use Rattle.rr_text.specs.declared.keyword.Keyword.{Keyword}
-use Rattle.rr_text.specs.declared.keyword.Keyword.TheVariants as keywords
+use Rattle.rr_text.specs.declared.kind.EventKind.{EventKind}
+use Rattle.rr_text.specs.declared.kind.EventKind.TheVariants as keywords
 use Rattle.rr_text.specs.Words.{spaced, set_text}
 use Rattle.rr_text.specs.Lines.{HasNoLine, IsFault}
 use Rattle.rr_text.specs.Scheduled.{IsEvent}
@@ -67,7 +67,7 @@ recorded_words n (events.Snap p) t e h = absurd cc
 recorded_words n (events.Crash p a b f) t e h = absurd cc
 recorded_words n (events.Restart p) t e h = absurd cc
 
-input_takes : (n : ℕ) (k : Keyword) (text : List ℕ) (t : TapeEvent) → n ≤ 7 → (fields_at n k text >>= recorded) ≡ Some t → (words_of t ≡ keyword_text k ++ 32 ∷ text) × IsTapeEvent n t
+input_takes : (n : ℕ) (k : EventKind) (text : List ℕ) (t : TapeEvent) → n ≤ 7 → (fields_at n k text >>= recorded) ≡ Some t → (words_of t ≡ keyword_text k ++ 32 ∷ text) × IsTapeEvent n t
 input_takes n k text t few given =
     let e = bind_some (fields_at n k text) recorded t given in
     let was = fields_takes n k text e.0 few e.1 in
@@ -76,7 +76,7 @@ input_takes n k text t few given =
 
 -- ---- events
 
-tape_fields_takes : (n : ℕ) (k : Keyword) (text : List ℕ) (t : TapeEvent) → n ≤ 7 → tape_fields_at n k text ≡ Some t → (words_of t ≡ keyword_text k ++ 32 ∷ text) × IsTapeEvent n t
+tape_fields_takes : (n : ℕ) (k : EventKind) (text : List ℕ) (t : TapeEvent) → n ≤ 7 → tape_fields_at n k text ≡ Some t → (words_of t ≡ keyword_text k ++ 32 ∷ text) × IsTapeEvent n t
 tape_fields_takes n keywords.Send text t few given = taken_as (sent_text n few) (λ x. Send x.0 x.1) words_of (IsTapeEvent n) (codes "send") (λ x. refl) (λ x h. h) text t given
 tape_fields_takes n keywords.Ack text t few given = taken_as (acked_text n few) (λ x. Ack x.0 x.1.0 x.1.1) words_of (IsTapeEvent n) (codes "ack") (λ x. ack_words x.0 x.1.0 x.1.1) (λ x h. (h.0, h.1.0, h.1.1)) text t given
 tape_fields_takes n k text t few given = input_takes n k text t few given
@@ -90,13 +90,13 @@ tape_event_takes n text t few given =
     (f.0 ∙ ap (λ (y : List ℕ). y ++ 32 ∷ w.0.1) (sym (keyword_takes w.0.0 k.0 k.1)) ∙ sym cut, f.1)
 
 -- what stands behind a keyword is read as its fields
-tape_fields_is : (n : ℕ) (k : Keyword) (text : List ℕ) → tape_event_at n (keyword_text k ++ 32 ∷ text) ≡ tape_fields_at n k text
+tape_fields_is : (n : ℕ) (k : EventKind) (text : List ℕ) → tape_event_at n (keyword_text k ++ 32 ∷ text) ≡ tape_fields_at n k text
 tape_fields_is n k text = rw (cut_again 32 33 (keyword_text k) text (omega arith) (keyword_plain k), keyword_again k) refl
 
-fields_is : (n : ℕ) (k : Keyword) (text : List ℕ) → event_at n (keyword_text k ++ 32 ∷ text) ≡ fields_at n k text
+fields_is : (n : ℕ) (k : EventKind) (text : List ℕ) → event_at n (keyword_text k ++ 32 ∷ text) ≡ fields_at n k text
 fields_is n k text = rw (cut_again 32 33 (keyword_text k) text (omega arith) (keyword_plain k), keyword_again k) refl
 
-input_again : (n : ℕ) (k : Keyword) (text : List ℕ) (e : Event) → n ≤ 7 → IsEvent n e → event_text e ≡ keyword_text k ++ 32 ∷ text → (tape_fields_at n k text ≡ (fields_at n k text >>= recorded)) → tape_event_at n (event_text e) ≡ recorded e
+input_again : (n : ℕ) (k : EventKind) (text : List ℕ) (e : Event) → n ≤ 7 → IsEvent n e → event_text e ≡ keyword_text k ++ 32 ∷ text → (tape_fields_at n k text ≡ (fields_at n k text >>= recorded)) → tape_event_at n (event_text e) ≡ recorded e
 input_again n k text e few h is as_input =
     let read : fields_at n k text ≡ Some e = sym (fields_is n k text) ∙ ap (event_at n) (sym is) ∙ event_again n e few h in
     ap (tape_event_at n) is ∙ tape_fields_is n k text ∙ as_input ∙ ap (λ (o : Option Event). o >>= recorded) read

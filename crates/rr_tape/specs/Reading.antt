@@ -15,8 +15,8 @@ use Rattle.rr_types.specs.Rounds.{Estimated}
 use Rattle.rr_types.specs.Limits.{instance_count, last_round}
 use Rattle.rr_text.specs.declared.event.Event.{Event}
 use Rattle.rr_text.specs.declared.event.Event.TheVariants as events
-use Rattle.rr_text.specs.declared.keyword.Keyword.{Keyword}
-use Rattle.rr_text.specs.declared.keyword.Keyword.TheVariants as keywords
+use Rattle.rr_text.specs.declared.kind.EventKind.{EventKind}
+use Rattle.rr_text.specs.declared.kind.EventKind.TheVariants as keywords
 use Rattle.rr_text.specs.Words.{spaced}
 use Rattle.rr_text.specs.ReportTexts.{reply_words}
 use Rattle.rr_text.specs.Reading.{◌>>=◌, cut_at, find_by, number_at, small_at, node_at, set_at, op_at, message_kind_at, keyword_at, fields_at}
@@ -125,7 +125,7 @@ abbrev pub acked_at : ℕ → List ℕ → Option TapeEvent
 acked_at n text = both_at (node_at n) (both_at request_at reply_at) text >>= λ x. Some (tapes.Ack x.0 x.1.0 x.1.1)
 
 -- the event of a tape of this keyword among n nodes
-abbrev pub tape_fields_at : ℕ → Keyword → List ℕ → Option TapeEvent
+abbrev pub tape_fields_at : ℕ → EventKind → List ℕ → Option TapeEvent
 tape_fields_at n keywords.Send text = sent_at n text
 tape_fields_at n keywords.Ack text = acked_at n text
 tape_fields_at n k text = fields_at n k text >>= recorded

@@ -10,10 +10,9 @@ ghost use Rattle.rr_tape.specs.TapeTexts.{tape_line, tape_text};
 use crate::message_read::{body, reply, request};
 use crate::tape::Tape;
 use crate::tape_event::{TapeEvent, recorded};
-use rr_text::MAX_EVENTS;
-use rr_text::keyword::Keyword;
 use rr_text::text_parse::{fields, first_line};
 use rr_text::text_read::{cut, cut_line, keyword, node, small_number};
+use rr_text::{EventKind, MAX_EVENTS};
 use rr_types::{Body, Command, Message, Nodes, Op, Refusal, Reply, made_of};
 use std::alloc::{AllocError, Global};
 
@@ -55,14 +54,14 @@ fn acked(nodes: Nodes, text: &[u8]) -> Option<TapeEvent>
 fn tape_fields(
     alloc: Global,
     nodes: Nodes,
-    keyword: Keyword,
+    keyword: EventKind,
     text: &[u8],
 ) -> Result<Option<TapeEvent>, AllocError>
     ensures ok { IfOk result (λ e. e ≡ tape_fields_at nodes keyword text.now) }
 {
     match keyword {
-        Keyword::Send => Ok(sent(nodes, text)),
-        Keyword::Ack => Ok(acked(nodes, text)),
+        EventKind::Send => Ok(sent(nodes, text)),
+        EventKind::Ack => Ok(acked(nodes, text)),
         _ => match fields(alloc, nodes, keyword, text)? {
             Some(event) => Ok(recorded(&event)),
             None => Ok(None),

@@ -8,8 +8,8 @@ use Rattle.rr_types.specs.declared.command.Op.TheVariants as ops
 use Rattle.rr_types.specs.declared.command.Command.{Command}
 use Rattle.rr_text.specs.declared.event.Event.{Event}
 use Rattle.rr_text.specs.declared.event.Event.TheVariants as events
-use Rattle.rr_text.specs.declared.keyword.Keyword.{Keyword}
-use Rattle.rr_text.specs.declared.keyword.Keyword.TheVariants.{Submit, Hear, Suspect, Tick, Advance, Take, Device, Fail, Mark, Send, Ack, Snap, Crash, Restart}
+use Rattle.rr_text.specs.declared.kind.EventKind.{EventKind}
+use Rattle.rr_text.specs.declared.kind.EventKind.TheVariants.{Submit, Hear, Suspect, Tick, Advance, Take, Device, Fail, Mark, Send, Ack, Snap, Crash, Restart}
 use Rattle.rr_text.specs.Words.{spaced, value_words, op_words, set_text, fill_text, IsOp, IsCommand, IsFill}
 use Rattle.rr_text.specs.Scheduled.{IsEvent}
 use Rattle.rr_text.specs.ScheduleTexts.{event_text, event_line}
@@ -19,10 +19,10 @@ use Rattle.rr_text.proofs.NumberLemmas.{node_again, node_takes, small_again, sma
 use Rattle.rr_text.proofs.WordReading.{AtLeast-weaken, name_plain, value_plain, set_again, set_takes, set_plain, fill_again, fill_takes, fill_plain}
 use Rattle.rr_text.proofs.OpReading.{find_takes, submitted_text, submitted_again, submitted_takes}
 
-pub keyword_takes : (w : List ℕ) (k : Keyword) → keyword_at w ≡ Some k → w ≡ keyword_text k
+pub keyword_takes : (w : List ℕ) (k : EventKind) → keyword_at w ≡ Some k → w ≡ keyword_text k
 keyword_takes w k e = find_takes keyword_text w (Submit ∷ Hear ∷ Suspect ∷ Tick ∷ Advance ∷ Take ∷ Device ∷ Fail ∷ Mark ∷ Send ∷ Ack ∷ Snap ∷ Crash ∷ Restart ∷ []) k e
 
-pub keyword_again : (k : Keyword) → keyword_at (keyword_text k) ≡ Some k
+pub keyword_again : (k : EventKind) → keyword_at (keyword_text k) ≡ Some k
 keyword_again Submit = refl
 keyword_again Hear = refl
 keyword_again Suspect = refl
@@ -38,7 +38,7 @@ keyword_again Snap = refl
 keyword_again Crash = refl
 keyword_again Restart = refl
 
-pub keyword_plain : (k : Keyword) → AtLeast 33 (keyword_text k)
+pub keyword_plain : (k : EventKind) → AtLeast 33 (keyword_text k)
 keyword_plain Submit = plain_by_test (codes "submit") refl
 keyword_plain Hear = plain_by_test (codes "hear") refl
 keyword_plain Suspect = plain_by_test (codes "suspect") refl
@@ -98,12 +98,12 @@ cuts_takes text c e =
     subst (λ (d : ℕ × ℕ × List ℕ). (cuts_text d ≡ text) × AreCuts d) (same_Some made c f.2) (is, (ta.1, tb.1, tf.1))
 
 -- an event was read from the words behind its keyword
-pub record Was (n : ℕ) (k : Keyword) (text : List ℕ) (e : Event) : Type 0 where
+pub record Was (n : ℕ) (k : EventKind) (text : List ℕ) (e : Event) : Type 0 where
   pub printed : event_text e ≡ keyword_text k ++ 32 ∷ text
   pub fits : IsEvent n e
 
 -- an event that has a node alone
-alone : (n : ℕ) (k : Keyword) (text : List ℕ) (make : ℕ → Event) (e : Event) → n ≤ 7 → ((p : ℕ) → event_text (make p) ≡ keyword_text k ++ 32 ∷ decimal p) → ((p : ℕ) → p < n → IsEvent n (make p)) → (node_at n text >>= λ p. Some (make p)) ≡ Some e → Was n k text e
+alone : (n : ℕ) (k : EventKind) (text : List ℕ) (make : ℕ → Event) (e : Event) → n ≤ 7 → ((p : ℕ) → event_text (make p) ≡ keyword_text k ++ 32 ∷ decimal p) → ((p : ℕ) → p < n → IsEvent n (make p)) → (node_at n text >>= λ p. Some (make p)) ≡ Some e → Was n k text e
 alone n k text make e few prints fits given =
     let p = bind_some (node_at n text) (λ p. Some (make p)) e given in
     let t = node_takes n text p.0 few p.1 in
@@ -114,7 +114,7 @@ alone n k text make e few prints fits given =
     }
 
 -- an event with something behind its node
-beside : {A : Type 0} (n : ℕ) (k : Keyword) (text : List ℕ) (read : List ℕ → Option A) (print : A → List ℕ) (Fits : A → Type 0) (make : ℕ → A → Event) (e : Event) → n ≤ 7
+beside : {A : Type 0} (n : ℕ) (k : EventKind) (text : List ℕ) (read : List ℕ → Option A) (print : A → List ℕ) (Fits : A → Type 0) (make : ℕ → A → Event) (e : Event) → n ≤ 7
     → ((t : List ℕ) (x : A) → read t ≡ Some x → (print x ≡ t) × Fits x)
     → ((p : ℕ) (x : A) → event_text (make p x) ≡ keyword_text k ++ 32 ∷ (decimal p ++ 32 ∷ print x))
     → ((p : ℕ) (x : A) → p < n → Fits x → IsEvent n (make p x))
@@ -139,7 +139,7 @@ spaced_op w (ops.Transfer x o) = refl
 pub submit_text : (p : ℕ) (c : Command) → event_text (events.Submit p c) ≡ codes "submit " ++ (decimal p ++ 32 ∷ submitted_text c)
 submit_text p c = ap (λ (y : List ℕ). codes "submit " ++ (decimal p ++ 32 ∷ (decimal c.request.client ++ 32 ∷ y))) (spaced_op (decimal c.request.seq) c.op)
 
-pub fields_takes : (n : ℕ) (k : Keyword) (text : List ℕ) (e : Event) → n ≤ 7 → fields_at n k text ≡ Some e → Was n k text e
+pub fields_takes : (n : ℕ) (k : EventKind) (text : List ℕ) (e : Event) → n ≤ 7 → fields_at n k text ≡ Some e → Was n k text e
 fields_takes n Submit text e few given = beside n Submit text submitted_at submitted_text IsCommand (λ p c. events.Submit p c) e few submitted_takes submit_text (λ p c lt h. record { node = lt; fields = h }) given
 fields_takes n Hear text e few given = beside n Hear text small_at decimal (λ k. k < 2 ^ 32) (λ p k. events.Hear p k) e few small_takes (λ p k. refl) (λ p k lt h. record { node = lt; fields = h }) given
 fields_takes n Suspect text e few given = beside n Suspect text (set_at n) set_text (λ s. s < 2 ^ n) (λ p s. events.Suspect p s) e few (set_takes n) (λ p s. refl) (λ p s lt h. record { node = lt; fields = h }) given
@@ -165,7 +165,7 @@ event_takes n text e few given =
     let word : w.0.0 ≡ keyword_text k.0 = keyword_takes w.0.0 k.0 k.1 in
     (was.printed ∙ ap (λ (y : List ℕ). y ++ 32 ∷ w.0.1) (sym word) ∙ sym cut, was.fits)
 
-event_from : (n : ℕ) (k : Keyword) (text : List ℕ) (e : Event) → fields_at n k text ≡ Some e → event_at n (keyword_text k ++ 32 ∷ text) ≡ Some e
+event_from : (n : ℕ) (k : EventKind) (text : List ℕ) (e : Event) → fields_at n k text ≡ Some e → event_at n (keyword_text k ++ 32 ∷ text) ≡ Some e
 event_from n k text e given = rw (cut_again 32 33 (keyword_text k) text (omega arith) (keyword_plain k), keyword_again k) given
 
 -- an event that is printed is read again
@@ -207,10 +207,10 @@ submitted_plain : (c : Command) → IsCommand c → AtLeast 32 (submitted_text c
 submitted_plain c h =
     joined (decimal c.request.client) (decimal c.request.seq ++ 32 ∷ spaced (op_words c.op)) (decimal_plain c.request.client (omega (arith, h.client))) (joined (decimal c.request.seq) (spaced (op_words c.op)) (decimal_plain c.request.seq h.seq) (op_plain c.op h.op))
 
-alone_plain : (n : ℕ) (k : Keyword) (p : ℕ) → n ≤ 7 → p < n → AtLeast 32 (keyword_text k ++ 32 ∷ decimal p)
+alone_plain : (n : ℕ) (k : EventKind) (p : ℕ) → n ≤ 7 → p < n → AtLeast 32 (keyword_text k ++ 32 ∷ decimal p)
 alone_plain n k p few lt = joined (keyword_text k) (decimal p) (keyword_plain k) (low (decimal p) (node_plain n p few lt))
 
-beside_plain : (n : ℕ) (k : Keyword) (p : ℕ) (w : List ℕ) → n ≤ 7 → p < n → AtLeast 32 w → AtLeast 32 (keyword_text k ++ 32 ∷ (decimal p ++ 32 ∷ w))
+beside_plain : (n : ℕ) (k : EventKind) (p : ℕ) (w : List ℕ) → n ≤ 7 → p < n → AtLeast 32 w → AtLeast 32 (keyword_text k ++ 32 ∷ (decimal p ++ 32 ∷ w))
 beside_plain n k p w few lt h = joined (keyword_text k) (decimal p ++ 32 ∷ w) (keyword_plain k) (joined (decimal p) w (node_plain n p few lt) h)
 
 -- the text of an event has no line feed

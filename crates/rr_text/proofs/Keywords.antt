@@ -1,7 +1,7 @@
 -- The words of events: six letters and more, and fewer.
 use Rattle.std.proofs.Common.{◌≡◌, ℕ, ◌<◌, ◌≤◌, false, List, [], ◌∷◌, length, codes, refl, ap, arith}
 use Rattle.std.specs.Str.{bytes_eq}
-use Rattle.rr_text.specs.declared.keyword.Keyword.TheVariants.{Submit, Hear, Suspect, Tick, Advance, Take, Device, Fail, Mark, Send, Ack, Snap, Crash, Restart}
+use Rattle.rr_text.specs.declared.kind.EventKind.TheVariants.{Submit, Hear, Suspect, Tick, Advance, Take, Device, Fail, Mark, Send, Ack, Snap, Crash, Restart}
 use Rattle.rr_text.specs.Reading.{find_by, keyword_text, keyword_at}
 use Rattle.rr_text.proofs.WordReading.{other_text}
 

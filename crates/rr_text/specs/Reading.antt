@@ -15,8 +15,8 @@ use Rattle.rr_types.specs.Messages.{message_word}
 use Rattle.rr_types.specs.Names.{is_name_byte, is_value_byte}
 use Rattle.rr_text.specs.declared.event.Event.{Event}
 use Rattle.rr_text.specs.declared.event.Event.TheVariants as events
-use Rattle.rr_text.specs.declared.keyword.Keyword.{Keyword}
-use Rattle.rr_text.specs.declared.keyword.Keyword.TheVariants.{Submit, Hear, Suspect, Tick, Advance, Take, Device, Fail, Mark, Send, Ack, Snap, Crash, Restart}
+use Rattle.rr_text.specs.declared.kind.EventKind.{EventKind}
+use Rattle.rr_text.specs.declared.kind.EventKind.TheVariants.{Submit, Hear, Suspect, Tick, Advance, Take, Device, Fail, Mark, Send, Ack, Snap, Crash, Restart}
 use Rattle.rr_text.specs.Numbers.{is_number}
 
 infixl 10 ◌>>=◌
@@ -138,7 +138,7 @@ submitted_at text =
     Some (record { request = record { client = client; seq = seq }; op = op })
 
 -- the word of each event
-abbrev pub keyword_text : Keyword → List ℕ
+abbrev pub keyword_text : EventKind → List ℕ
 keyword_text Submit = codes "submit"
 keyword_text Hear = codes "hear"
 keyword_text Suspect = codes "suspect"
@@ -155,7 +155,7 @@ keyword_text Crash = codes "crash"
 keyword_text Restart = codes "restart"
 
 -- the event that a word stands for
-abbrev pub keyword_at : List ℕ → Option Keyword
+abbrev pub keyword_at : List ℕ → Option EventKind
 keyword_at w = find_by keyword_text w (Submit ∷ Hear ∷ Suspect ∷ Tick ∷ Advance ∷ Take ∷ Device ∷ Fail ∷ Mark ∷ Send ∷ Ack ∷ Snap ∷ Crash ∷ Restart ∷ [])
 
 -- a node of n and the text behind it
@@ -173,7 +173,7 @@ cuts_at text =
     Some (cut_0, cut_1, fill)
 
 -- the event of this keyword at a node, where that is all that it says
-abbrev pub plain_at : Keyword → ℕ → Option Event
+abbrev pub plain_at : EventKind → ℕ → Option Event
 plain_at Tick p = Some (events.Tick p)
 plain_at Advance p = Some (events.Advance p)
 plain_at Take p = Some (events.Take p)
@@ -186,11 +186,11 @@ plain_at Restart p = Some (events.Restart p)
 plain_at _ p = None
 
 -- an event of this keyword that says nothing but its node, among n nodes
-abbrev pub node_alone_at : ℕ → Keyword → List ℕ → Option Event
+abbrev pub node_alone_at : ℕ → EventKind → List ℕ → Option Event
 node_alone_at n k text = node_at n text >>= plain_at k
 
 -- the event of this keyword among n nodes
-abbrev pub fields_at : ℕ → Keyword → List ℕ → Option Event
+abbrev pub fields_at : ℕ → EventKind → List ℕ → Option Event
 fields_at n Submit text = first_node_at n text >>= λ p. submitted_at p.1 >>= λ c. Some (events.Submit p.0 c)
 fields_at n Hear text = first_node_at n text >>= λ p. small_at p.1 >>= λ k. Some (events.Hear p.0 k)
 fields_at n Suspect text = first_node_at n text >>= λ p. set_at n p.1 >>= λ s. Some (events.Suspect p.0 s)

@@ -4,7 +4,7 @@
 
 mod command_laws;
 mod event;
-pub mod keyword;
+mod kind;
 mod report;
 mod schedule;
 mod text_law;
@@ -16,6 +16,7 @@ pub mod text_word;
 
 pub use command_laws::command_law;
 pub use event::{Event, Fill};
+pub use kind::EventKind;
 pub use report::{BoundNames, Report, ReportLine};
 pub use schedule::{MAX_EVENTS, Schedule};
 pub use text_law::one_fault;

@@ -11,7 +11,7 @@ ghost use Rattle.rr_text.specs.ScheduleTexts.{event_line, schedule_text};
 ghost use Rattle.rr_text.specs.Reading.{keyword_text, node_alone_at, pairs_at, fill_at, first_node_at, cuts_at, plain_at, fields_at, event_at, nodes_at, count_at};
 
 use crate::event::{Event, Fill};
-use crate::keyword::Keyword;
+use crate::kind::EventKind;
 use crate::schedule::{MAX_EVENTS, Schedule};
 use crate::text_read::{
     cut, cut_line, hex_byte, is_number, keyword, node, set, small_number, submitted,
@@ -68,7 +68,7 @@ pub fn first_node(nodes: Nodes, text: &[u8]) -> Option<(NodeId, &[u8])>
 
 #[inline(never)]
 fn submit(nodes: Nodes, text: &[u8]) -> Result<Option<Event>, AllocError>
-    ensures ok { IfOk result (λ e. e ≡ fields_at nodes Keyword.Submit text.now) }
+    ensures ok { IfOk result (λ e. e ≡ fields_at nodes EventKind.Submit text.now) }
 {
     let Some((node, rest)) = first_node(nodes, text) else {
         return Ok(None);
@@ -81,7 +81,7 @@ fn submit(nodes: Nodes, text: &[u8]) -> Result<Option<Event>, AllocError>
 
 #[inline(always)]
 fn hear(nodes: Nodes, text: &[u8]) -> Result<Option<Event>, AllocError>
-    ensures ok { IfOk result (λ e. e ≡ fields_at nodes Keyword.Hear text.now) }
+    ensures ok { IfOk result (λ e. e ≡ fields_at nodes EventKind.Hear text.now) }
 {
     let Some((node, rest)) = first_node(nodes, text) else {
         return Ok(None);
@@ -94,7 +94,7 @@ fn hear(nodes: Nodes, text: &[u8]) -> Result<Option<Event>, AllocError>
 
 #[inline(never)]
 fn suspect(nodes: Nodes, text: &[u8]) -> Result<Option<Event>, AllocError>
-    ensures ok { IfOk result (λ e. e ≡ fields_at nodes Keyword.Suspect text.now) }
+    ensures ok { IfOk result (λ e. e ≡ fields_at nodes EventKind.Suspect text.now) }
 {
     let Some((node, rest)) = first_node(nodes, text) else {
         return Ok(None);
@@ -107,25 +107,25 @@ fn suspect(nodes: Nodes, text: &[u8]) -> Result<Option<Event>, AllocError>
 
 // The event of this keyword at a node, where that is all that it says.
 #[inline(always)]
-fn plain(keyword: Keyword, node: NodeId) -> Option<Event>
+fn plain(keyword: EventKind, node: NodeId) -> Option<Event>
     ensures { result ≡ plain_at keyword node }
 {
     match keyword {
-        Keyword::Tick => Some(Event::Tick { node }),
-        Keyword::Advance => Some(Event::Advance { node }),
-        Keyword::Take => Some(Event::Take { node }),
-        Keyword::Device => Some(Event::Device { node }),
-        Keyword::Mark => Some(Event::Mark { node }),
-        Keyword::Send => Some(Event::Send { node }),
-        Keyword::Ack => Some(Event::Ack { node }),
-        Keyword::Snap => Some(Event::Snap { node }),
-        Keyword::Restart => Some(Event::Restart { node }),
+        EventKind::Tick => Some(Event::Tick { node }),
+        EventKind::Advance => Some(Event::Advance { node }),
+        EventKind::Take => Some(Event::Take { node }),
+        EventKind::Device => Some(Event::Device { node }),
+        EventKind::Mark => Some(Event::Mark { node }),
+        EventKind::Send => Some(Event::Send { node }),
+        EventKind::Ack => Some(Event::Ack { node }),
+        EventKind::Snap => Some(Event::Snap { node }),
+        EventKind::Restart => Some(Event::Restart { node }),
         _ => None,
     }
 }
 
 #[inline(always)]
-fn at_node(nodes: Nodes, keyword: Keyword, text: &[u8]) -> Result<Option<Event>, AllocError>
+fn at_node(nodes: Nodes, keyword: EventKind, text: &[u8]) -> Result<Option<Event>, AllocError>
     ensures ok { IfOk result (λ e. e ≡ node_alone_at nodes keyword text.now) }
 {
     match node(nodes, text) {
@@ -136,7 +136,7 @@ fn at_node(nodes: Nodes, keyword: Keyword, text: &[u8]) -> Result<Option<Event>,
 
 #[inline(never)]
 fn fail(alloc: Global, nodes: Nodes, text: &[u8]) -> Result<Option<Event>, AllocError>
-    ensures ok { IfOk result (λ e. e ≡ fields_at nodes Keyword.Fail text.now) }
+    ensures ok { IfOk result (λ e. e ≡ fields_at nodes EventKind.Fail text.now) }
 {
     let Some((node, rest)) = first_node(nodes, text) else {
         return Ok(None);
@@ -170,7 +170,7 @@ fn cuts(alloc: Global, text: &[u8]) -> Result<Option<(u32, u32, Fill)>, AllocErr
 
 #[inline(never)]
 fn crash(alloc: Global, nodes: Nodes, text: &[u8]) -> Result<Option<Event>, AllocError>
-    ensures ok { IfOk result (λ e. e ≡ fields_at nodes Keyword.Crash text.now) }
+    ensures ok { IfOk result (λ e. e ≡ fields_at nodes EventKind.Crash text.now) }
 {
     let Some((node, rest)) = first_node(nodes, text) else {
         return Ok(None);
@@ -191,32 +191,32 @@ fn crash(alloc: Global, nodes: Nodes, text: &[u8]) -> Result<Option<Event>, Allo
 pub fn fields(
     alloc: Global,
     nodes: Nodes,
-    keyword: Keyword,
+    keyword: EventKind,
     text: &[u8],
 ) -> Result<Option<Event>, AllocError>
     ensures ok { IfOk result (λ e. e ≡ fields_at nodes keyword text.now) }
 {
     match keyword {
-        Keyword::Submit => submit(nodes, text),
-        Keyword::Hear => hear(nodes, text),
-        Keyword::Suspect => suspect(nodes, text),
-        Keyword::Fail => fail(alloc, nodes, text),
-        Keyword::Crash => crash(alloc, nodes, text),
-        Keyword::Tick
-        | Keyword::Advance
-        | Keyword::Take
-        | Keyword::Device
-        | Keyword::Mark
-        | Keyword::Send
-        | Keyword::Ack
-        | Keyword::Snap
-        | Keyword::Restart => at_node(nodes, keyword, text),
+        EventKind::Submit => submit(nodes, text),
+        EventKind::Hear => hear(nodes, text),
+        EventKind::Suspect => suspect(nodes, text),
+        EventKind::Fail => fail(alloc, nodes, text),
+        EventKind::Crash => crash(alloc, nodes, text),
+        EventKind::Tick
+        | EventKind::Advance
+        | EventKind::Take
+        | EventKind::Device
+        | EventKind::Mark
+        | EventKind::Send
+        | EventKind::Ack
+        | EventKind::Snap
+        | EventKind::Restart => at_node(nodes, keyword, text),
     }
 }
 
 // What the first word of a line means, and the text behind it.
 #[inline(always)]
-fn first_keyword(text: &[u8]) -> Option<(Keyword, &[u8])>
+fn first_keyword(text: &[u8]) -> Option<(EventKind, &[u8])>
     ensures { (n : ℕ) → MatchOption result (event_at n text.now ≡ None) (λ x. event_at n text.now ≡ fields_at n x.0 x.1.now) }
 {
     let Some((word, rest)) = cut(text, b' ') else {

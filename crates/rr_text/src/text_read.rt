@@ -1,12 +1,12 @@
 //! Reading the words of a schedule.
 
-ghost use Rattle.std.specs.Prelude.{true, [], ◌∷◌, unwrap_or, IfSome, ◌≡◌, ◌+◌, ◌-◌, ◌*◌, ◌<◌, ◌≤◌, ◌^◌, ◌==◌, SomeIff, nat_lt, if◌then◌else◌, IsTrue, None, Some, MatchOption, IfOk, IfErr};
+ghost use Rattle.std.specs.Prelude.{true, [], ◌∷◌, unwrap_or, IfSome, ◌≡◌, ◌+◌, ◌-◌, ◌*◌, ◌<◌, ◌≤◌, ◌^◌, ◌==◌, SomeIff, nat_lt, if◌then◌else◌, IsTrue, None, Some, MatchOption, IfOk};
 ghost use Rattle.std.specs.List.{list_all, position};
 ghost use Rattle.std.specs.Str.Parse.{digits_value};
 ghost use Rattle.rr_text.specs.Numbers.{is_digit, is_number};
 ghost use Rattle.rr_text.specs.Reading.{find_by, keyword_text, cut_at, number_at, small_at, node_at, name_at, filled_value_at, members_at, set_at, hex_value, hex_byte, pairs_at, fill_at, submitted_at, first_node_at, cuts_at, fields_at, event_at, target_at, keyword_at, op_kind_at, message_kind_at, name_and_value, named_at, transferred_at, op_at};
 
-use crate::keyword::Keyword;
+use crate::kind::EventKind;
 use memchr::memchr;
 use rr_types::{
     Command, MessageKind, Name, NodeId, NodeSet, Nodes, Op, OpKind, Refusal, RequestNo, Value,
@@ -308,44 +308,44 @@ pub fn submitted(text: &[u8]) -> Option<Command>
 }
 
 // The event that one of the four longest words means.
-fn long_keyword(word: &[u8]) -> Option<Keyword>
-    ensures { result ≡ find_by keyword_text word.now (Keyword.Submit ∷ Keyword.Suspect ∷ Keyword.Advance ∷ Keyword.Restart ∷ []) }
+fn long_keyword(word: &[u8]) -> Option<EventKind>
+    ensures { result ≡ find_by keyword_text word.now (EventKind.Submit ∷ EventKind.Suspect ∷ EventKind.Advance ∷ EventKind.Restart ∷ []) }
 {
     if word == b"submit".as_slice() {
-        Some(Keyword::Submit)
+        Some(EventKind::Submit)
     } else if word == b"suspect".as_slice() {
-        Some(Keyword::Suspect)
+        Some(EventKind::Suspect)
     } else if word == b"advance".as_slice() {
-        Some(Keyword::Advance)
+        Some(EventKind::Advance)
     } else if word == b"restart".as_slice() {
-        Some(Keyword::Restart)
+        Some(EventKind::Restart)
     } else {
         None
     }
 }
 
 // The event that one of the other words means. Patterns look at the first byte, and not at one word after another.
-fn short_keyword(word: &[u8]) -> Option<Keyword>
-    ensures { result ≡ find_by keyword_text word.now (Keyword.Hear ∷ Keyword.Tick ∷ Keyword.Take ∷ Keyword.Device ∷ Keyword.Fail ∷ Keyword.Mark ∷ Keyword.Send ∷ Keyword.Ack ∷ Keyword.Snap ∷ Keyword.Crash ∷ []) }
+fn short_keyword(word: &[u8]) -> Option<EventKind>
+    ensures { result ≡ find_by keyword_text word.now (EventKind.Hear ∷ EventKind.Tick ∷ EventKind.Take ∷ EventKind.Device ∷ EventKind.Fail ∷ EventKind.Mark ∷ EventKind.Send ∷ EventKind.Ack ∷ EventKind.Snap ∷ EventKind.Crash ∷ []) }
 {
     match word {
-        [b'h', b'e', b'a', b'r'] => Some(Keyword::Hear),
-        [b't', b'i', b'c', b'k'] => Some(Keyword::Tick),
-        [b't', b'a', b'k', b'e'] => Some(Keyword::Take),
-        [b'd', b'e', b'v'] => Some(Keyword::Device),
-        [b'f', b'a', b'i', b'l'] => Some(Keyword::Fail),
-        [b'm', b'a', b'r', b'k'] => Some(Keyword::Mark),
-        [b's', b'e', b'n', b'd'] => Some(Keyword::Send),
-        [b'a', b'c', b'k'] => Some(Keyword::Ack),
-        [b's', b'n', b'a', b'p'] => Some(Keyword::Snap),
-        [b'c', b'r', b'a', b's', b'h'] => Some(Keyword::Crash),
+        [b'h', b'e', b'a', b'r'] => Some(EventKind::Hear),
+        [b't', b'i', b'c', b'k'] => Some(EventKind::Tick),
+        [b't', b'a', b'k', b'e'] => Some(EventKind::Take),
+        [b'd', b'e', b'v'] => Some(EventKind::Device),
+        [b'f', b'a', b'i', b'l'] => Some(EventKind::Fail),
+        [b'm', b'a', b'r', b'k'] => Some(EventKind::Mark),
+        [b's', b'e', b'n', b'd'] => Some(EventKind::Send),
+        [b'a', b'c', b'k'] => Some(EventKind::Ack),
+        [b's', b'n', b'a', b'p'] => Some(EventKind::Snap),
+        [b'c', b'r', b'a', b's', b'h'] => Some(EventKind::Crash),
         _ => None,
     }
 }
 
 /// The event that a word means.
 #[tactic(auto, using(crate::proofs::Keywords::long_words, crate::proofs::Keywords::short_words))]
-pub fn keyword(word: &[u8]) -> Option<Keyword>
+pub fn keyword(word: &[u8]) -> Option<EventKind>
     ensures { result ≡ keyword_at word.now }
 {
     if word.len() > 5 {

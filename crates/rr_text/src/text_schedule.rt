@@ -4,9 +4,11 @@ ghost use Rattle.std.specs.Prelude.{◌≡◌, ◌∷◌, ◌++◌, [], OnOk, If
 ghost use Rattle.std.specs.List.{flat_map};
 ghost use Rattle.rr_text.specs.Words.{spaced, op_words};
 ghost use Rattle.rr_text.specs.Lines.{nodes_line};
+ghost use Rattle.rr_text.specs.Reading.{keyword_text};
 ghost use Rattle.rr_text.specs.ScheduleTexts.{event_words, event_text, event_line, schedule_text};
 
 use crate::event::Event;
+use crate::kind::EventKind;
 use crate::schedule::Schedule;
 use crate::text_word::{
     push_byte, push_bytes, push_fill, push_number, push_number_word, push_op, push_set,
@@ -14,10 +16,10 @@ use crate::text_word::{
 use rr_types::{Command, NodeId, Nodes};
 use std::alloc::{AllocError, Global};
 
-fn push_at_node(out: &mut Vec<u8>, verb: &[u8], node: NodeId) -> Result<(), AllocError>
-    ensures ok { OnOk result (out.new.items ≡ out.old.items ++ spaced (verb.now ∷ decimal node ∷ [])) }
+fn push_at_node(out: &mut Vec<u8>, kind: EventKind, node: NodeId) -> Result<(), AllocError>
+    ensures ok { OnOk result (out.new.items ≡ out.old.items ++ spaced (keyword_text kind ∷ decimal node ∷ [])) }
 {
-    push_bytes(out, verb)?;
+    push_bytes(out, kind.word().as_bytes())?;
     push_number_word(out, u64::from(node.index()))
 }
 
@@ -35,41 +37,41 @@ pub fn push_event(out: &mut Vec<u8>, event: &Event) -> Result<(), AllocError>
 {
     match event {
         Event::Submit { node, command } => {
-            push_at_node(out, b"submit", *node)?;
+            push_at_node(out, EventKind::Submit, *node)?;
             push_submitted(out, command)
         }
         Event::Hear { node, message } => {
-            push_at_node(out, b"hear", *node)?;
+            push_at_node(out, EventKind::Hear, *node)?;
             push_number_word(out, u64::from(*message))
         }
         Event::Suspect { node, set } => {
-            push_at_node(out, b"suspect", *node)?;
+            push_at_node(out, EventKind::Suspect, *node)?;
             push_set(out, *set)
         }
-        Event::Tick { node } => push_at_node(out, b"tick", *node),
-        Event::Advance { node } => push_at_node(out, b"advance", *node),
-        Event::Take { node } => push_at_node(out, b"take", *node),
-        Event::Device { node } => push_at_node(out, b"dev", *node),
+        Event::Tick { node } => push_at_node(out, EventKind::Tick, *node),
+        Event::Advance { node } => push_at_node(out, EventKind::Advance, *node),
+        Event::Take { node } => push_at_node(out, EventKind::Take, *node),
+        Event::Device { node } => push_at_node(out, EventKind::Device, *node),
         Event::Fail { node, fill } => {
-            push_at_node(out, b"fail", *node)?;
+            push_at_node(out, EventKind::Fail, *node)?;
             push_fill(out, fill.as_bytes())
         }
-        Event::Mark { node } => push_at_node(out, b"mark", *node),
-        Event::Send { node } => push_at_node(out, b"send", *node),
-        Event::Ack { node } => push_at_node(out, b"ack", *node),
-        Event::Snap { node } => push_at_node(out, b"snap", *node),
+        Event::Mark { node } => push_at_node(out, EventKind::Mark, *node),
+        Event::Send { node } => push_at_node(out, EventKind::Send, *node),
+        Event::Ack { node } => push_at_node(out, EventKind::Ack, *node),
+        Event::Snap { node } => push_at_node(out, EventKind::Snap, *node),
         Event::Crash {
             node,
             cut_0,
             cut_1,
             fill,
         } => {
-            push_at_node(out, b"crash", *node)?;
+            push_at_node(out, EventKind::Crash, *node)?;
             push_number_word(out, u64::from(*cut_0))?;
             push_number_word(out, u64::from(*cut_1))?;
             push_fill(out, fill.as_bytes())
         }
-        Event::Restart { node } => push_at_node(out, b"restart", *node),
+        Event::Restart { node } => push_at_node(out, EventKind::Restart, *node),
     }
 }
 

@@ -3,7 +3,6 @@
 ghost use Rattle.std.specs.Prelude.{◌≡◌, ◌+◌, ◌^◌, ◌<◌, ◌++◌, ◌∷◌, [], length, drop, Some, IfOk, IfSome, OnOk, OnErr, MatchBool};
 ghost use mathlib.Core.List.{IsPrefix};
 ghost use Rattle.std.specs.VecDeque.{deque_len, deque_capacity};
-ghost use Rattle.rr_types.specs.declared.refusal.Refusal.TheVariants.{OutOfMemory};
 ghost use Rattle.rr_types.specs.Registry.{reply_of};
 ghost use Rattle.rr_window.specs.Lists.{beginning};
 ghost use Rattle.rr_window.specs.Windows.{IsServed, GoOn, IsShown};
@@ -15,7 +14,7 @@ use crate::seat::{Seat, Seats};
 use crate::served::{Served, WindowRule};
 use core::mem::replace_with;
 use left_right::writer::Writer;
-use rr_types::{Command, Refusal, Reply, RequestNo};
+use rr_types::{Command, Reply, RequestNo};
 use std::alloc::{AllocError, Global};
 use std::collections::VecDeque;
 use std::marker::Model;
@@ -63,7 +62,7 @@ impl<W: WindowName> Model for Publisher<W> {
         × (p.whole ≡ beginning W.book (p.writer.desk.shown.value.beginning.list ++ commands_of (drop p.writer.behind p.writer.log.items ++ p.waiting.items))) };
 }
 
-/// Opens a window on an empty list, under the name that the list is given by this call. It is `OutOfMemory`.
+/// Opens a window on an empty list, under the name that the list is given by this call.
 pub fn open<W: WindowName>(alloc: Global, list: NewList) -> Result<Window<W>, AllocError>
     requires { list ≡ W.book }
     ensures ok { IfOk result (λ w. w ≡ record { published = []; appended = [] }) }
@@ -207,8 +206,7 @@ impl<W: WindowName> Publisher<W> {
     }
 
     /// Shows readers all that was appended, and tells of the list that is then published. It waits for those that
-    /// still read an older list. After an error what is published and what was appended are
-    /// as they were.
+    /// still read an older list. After an error what is published and what was appended are as they were.
     pub fn publish<R: Wait>(&mut self, rt: &R) -> Result<Told<W>, AllocError>
         ensures ok { OnOk result (self.new ≡ record { published = self.old.published ++ self.old.appended; appended = [] }) }
         ensures told { IfOk result (λ told. told ≡ self.new.published) }

@@ -74,8 +74,7 @@ pub(crate) fn put_message(out: &mut Vec<u8>, message: &Message) -> Result<(), Al
     put_body(out, &message.body)
 }
 
-/// The one spelling of a message in version 2, in a buffer that can be shared without a copy. Where memory runs out it is
-/// `OutOfMemory`.
+/// The one spelling of a message in version 2, in a buffer that can be shared without a copy.
 pub fn encode(alloc: Global, message: &Message) -> Result<Bytes, AllocError>
     ensures ok { IfOk result (λ b. b ≡ message_bytes message.now) }
     ensures lawful { OnOk result (IsLawfulMessage 7 message.now) }

@@ -76,10 +76,7 @@ impl MessageLog {
         }
     }
 
-    /// Puts a message behind the others.
-    ///
-    /// # Errors
-    /// `OutOfMemory`: the log is then as before.
+    /// Puts a message behind the others. After an error the log is as before.
     #[tactic(auto, using(crate::proofs::LogLaws::put_keeps, crate::proofs::LogLaws::put_lists))]
     pub fn push(&mut self, message: &Message) -> Result<(), AllocError>
         ensures ok { OnOk result (self.new ≡ self.old ++ message.now ∷ []) }
