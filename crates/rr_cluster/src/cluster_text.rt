@@ -1,17 +1,15 @@
 //! Printing the file of a cluster, and that of a node's folder.
 
-ghost use Rattle.std.specs.Prelude.{◌≡◌, ◌++◌, ◌∷◌, decimal, OnOk, IfOk, IfErr};
+ghost use Rattle.std.specs.Prelude.{◌≡◌, ◌++◌, ◌∷◌, decimal, OnOk, IfOk};
 ghost use Rattle.rr_cluster.specs.ClusterTexts.{cluster_text, mark_text};
 
 use crate::cluster::{Cluster, Identity, Mark};
 use rr_text::text_word::{push_byte, push_bytes, push_number_word, push_set};
-use rr_types::Refusal;
-use std::alloc::Global;
+use std::alloc::{AllocError, Global};
 
 // Appends what both files begin with: what it is, and the cluster's identity.
-fn push_head(out: &mut Vec<u8>, word: &[u8], identity: Identity) -> Result<(), Refusal>
+fn push_head(out: &mut Vec<u8>, word: &[u8], identity: Identity) -> Result<(), AllocError>
     ensures ok { OnOk result (out.new.items ≡ out.old.items ++ (word.now ++ 32 ∷ (decimal identity.first ++ 32 ∷ decimal identity.second))) }
-    ensures err { IfErr result (λ e. e ≡ Refusal.OutOfMemory) }
 {
     push_bytes(out, word)?;
     push_number_word(out, identity.first)?;
@@ -23,9 +21,8 @@ impl Cluster {
     ///
     /// # Errors
     /// `OutOfMemory`.
-    pub fn text(&self, alloc: Global) -> Result<Vec<u8>, Refusal>
+    pub fn text(&self, alloc: Global) -> Result<Vec<u8>, AllocError>
         ensures ok { IfOk result (λ v. v.items ≡ cluster_text self.now) }
-        ensures err { IfErr result (λ e. e ≡ Refusal.OutOfMemory) }
     {
         let mut out = Vec::new(alloc);
         push_head(&mut out, b"cluster-1", self.identity)?;
@@ -41,9 +38,8 @@ impl Mark {
     ///
     /// # Errors
     /// `OutOfMemory`.
-    pub fn text(&self, alloc: Global) -> Result<Vec<u8>, Refusal>
+    pub fn text(&self, alloc: Global) -> Result<Vec<u8>, AllocError>
         ensures ok { IfOk result (λ v. v.items ≡ mark_text self.now) }
-        ensures err { IfErr result (λ e. e ≡ Refusal.OutOfMemory) }
     {
         let mut out = Vec::new(alloc);
         push_head(&mut out, b"node-1", self.identity)?;

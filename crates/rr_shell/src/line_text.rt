@@ -1,6 +1,6 @@
 //! What is said to a line: an answer, a move, the help or a fault.
 
-ghost use Rattle.std.specs.Prelude.{◌≡◌, ◌∷◌, ◌++◌, OnOk, IfErr, decimal};
+ghost use Rattle.std.specs.Prelude.{◌≡◌, ◌∷◌, ◌++◌, OnOk, decimal};
 ghost use Rattle.std.specs.List.{flat_map};
 ghost use Rattle.rr_text.specs.Words.{spaced};
 ghost use Rattle.rr_text.specs.ReportTexts.{reply_words};
@@ -13,14 +13,14 @@ use rr_script::Answer;
 use rr_text::text_word::{
     push_byte, push_bytes, push_number, push_number_word, push_set, push_word,
 };
-use rr_types::{Binding, Name, NodeId, NodeSummary, Nodes, Refusal, Reply, Value};
+use rr_types::{Binding, Name, NodeId, NodeSummary, Nodes, Reply, Value};
+use std::alloc::AllocError;
 
 // The text of too long a line names the most bytes.
 const _: () = prove!(MAX_LINE == 4096);
 
-fn push_reply(out: &mut Vec<u8>, reply: Reply) -> Result<(), Refusal>
+fn push_reply(out: &mut Vec<u8>, reply: Reply) -> Result<(), AllocError>
     ensures ok { OnOk result (out.new.items ≡ out.old.items ++ spaced (reply_words reply)) }
-    ensures err { IfErr result (λ e. e ≡ Refusal.OutOfMemory) }
 {
     match reply {
         Reply::Claimed => Ok(push_bytes(out, b"claimed")?),
@@ -38,9 +38,8 @@ fn push_reply(out: &mut Vec<u8>, reply: Reply) -> Result<(), Refusal>
 }
 
 // Who has a name, and its value. The empty value is no word.
-fn push_bound(out: &mut Vec<u8>, name: &Name, owner: u32, value: &Value) -> Result<(), Refusal>
+fn push_bound(out: &mut Vec<u8>, name: &Name, owner: u32, value: &Value) -> Result<(), AllocError>
     ensures ok { OnOk result (out.new.items ≡ out.old.items ++ spaced (bound_words name.now owner value.now)) }
-    ensures err { IfErr result (λ e. e ≡ Refusal.OutOfMemory) }
 {
     push_bytes(out, name.as_bytes())?;
     push_word(out, b"bound")?;
@@ -52,9 +51,8 @@ fn push_bound(out: &mut Vec<u8>, name: &Name, owner: u32, value: &Value) -> Resu
     }
 }
 
-fn push_answer_words(out: &mut Vec<u8>, answer: &Answer) -> Result<(), Refusal>
+fn push_answer_words(out: &mut Vec<u8>, answer: &Answer) -> Result<(), AllocError>
     ensures ok { OnOk result (out.new.items ≡ out.old.items ++ spaced (answer_words answer.now)) }
-    ensures err { IfErr result (λ e. e ≡ Refusal.OutOfMemory) }
 {
     match answer {
         Answer::Acknowledged { reply, .. } => push_reply(out, *reply),
@@ -80,17 +78,15 @@ fn push_answer_words(out: &mut Vec<u8>, answer: &Answer) -> Result<(), Refusal>
 ///
 /// # Errors
 /// `OutOfMemory`. Then bytes of the line may stand at the end.
-pub fn push_answer(out: &mut Vec<u8>, answer: &Answer) -> Result<(), Refusal>
+pub fn push_answer(out: &mut Vec<u8>, answer: &Answer) -> Result<(), AllocError>
     ensures ok { OnOk result (out.new.items ≡ out.old.items ++ answer_line answer.now) }
-    ensures err { IfErr result (λ e. e ≡ Refusal.OutOfMemory) }
 {
     push_answer_words(out, answer)?;
     Ok(push_byte(out, b'\n')?)
 }
 
-fn push_bound_lines(out: &mut Vec<u8>, names: &[Binding]) -> Result<(), Refusal>
+fn push_bound_lines(out: &mut Vec<u8>, names: &[Binding]) -> Result<(), AllocError>
     ensures ok { OnOk result (out.new.items ≡ out.old.items ++ flat_map bound_line names.now) }
-    ensures err { IfErr result (λ e. e ≡ Refusal.OutOfMemory) }
 {
     for binding in names {
         push_bound(out, &binding.name, binding.owner, &binding.value)?;
@@ -100,9 +96,8 @@ fn push_bound_lines(out: &mut Vec<u8>, names: &[Binding]) -> Result<(), Refusal>
 }
 
 // How many bound names there are, and a line for each.
-fn push_bound_names(out: &mut Vec<u8>, names: &[Binding]) -> Result<(), Refusal>
+fn push_bound_names(out: &mut Vec<u8>, names: &[Binding]) -> Result<(), AllocError>
     ensures ok { OnOk result (out.new.items ≡ out.old.items ++ list_lines (Some names.now)) }
-    ensures err { IfErr result (λ e. e ≡ Refusal.OutOfMemory) }
 {
     push_bytes(out, b"list")?;
     push_number_word(out, names.len() as u64)?;
@@ -114,9 +109,8 @@ fn push_bound_names(out: &mut Vec<u8>, names: &[Binding]) -> Result<(), Refusal>
 ///
 /// # Errors
 /// `OutOfMemory`. Then bytes of the lines may stand at the end.
-pub fn push_listing(out: &mut Vec<u8>, listing: &Listing) -> Result<(), Refusal>
+pub fn push_listing(out: &mut Vec<u8>, listing: &Listing) -> Result<(), AllocError>
     ensures ok { OnOk result (out.new.items ≡ out.old.items ++ list_lines listing.now.names) }
-    ensures err { IfErr result (λ e. e ≡ Refusal.OutOfMemory) }
 {
     match &listing.names {
         None => Ok(push_bytes(out, b"list unseen\n")?),
@@ -128,9 +122,8 @@ pub fn push_listing(out: &mut Vec<u8>, listing: &Listing) -> Result<(), Refusal>
 ///
 /// # Errors
 /// `OutOfMemory`. Then bytes of the line may stand at the end.
-pub fn push_move(out: &mut Vec<u8>, node: NodeId) -> Result<(), Refusal>
+pub fn push_move(out: &mut Vec<u8>, node: NodeId) -> Result<(), AllocError>
     ensures ok { OnOk result (out.new.items ≡ out.old.items ++ move_line node) }
-    ensures err { IfErr result (λ e. e ≡ Refusal.OutOfMemory) }
 {
     push_bytes(out, b"at")?;
     push_number_word(out, u64::from(node.index()))?;
@@ -141,9 +134,8 @@ pub fn push_move(out: &mut Vec<u8>, node: NodeId) -> Result<(), Refusal>
 ///
 /// # Errors
 /// `OutOfMemory`. Then bytes of the line may stand at the end.
-pub fn push_stop(out: &mut Vec<u8>, node: NodeId) -> Result<(), Refusal>
+pub fn push_stop(out: &mut Vec<u8>, node: NodeId) -> Result<(), AllocError>
     ensures ok { OnOk result (out.new.items ≡ out.old.items ++ stop_line node) }
-    ensures err { IfErr result (λ e. e ≡ Refusal.OutOfMemory) }
 {
     push_bytes(out, b"stopped")?;
     push_number_word(out, u64::from(node.index()))?;
@@ -154,9 +146,8 @@ pub fn push_stop(out: &mut Vec<u8>, node: NodeId) -> Result<(), Refusal>
 ///
 /// # Errors
 /// `OutOfMemory`. Then bytes of the line may stand at the end.
-pub fn push_start(out: &mut Vec<u8>, node: NodeId) -> Result<(), Refusal>
+pub fn push_start(out: &mut Vec<u8>, node: NodeId) -> Result<(), AllocError>
     ensures ok { OnOk result (out.new.items ≡ out.old.items ++ start_line node) }
-    ensures err { IfErr result (λ e. e ≡ Refusal.OutOfMemory) }
 {
     push_bytes(out, b"started")?;
     push_number_word(out, u64::from(node.index()))?;
@@ -167,9 +158,8 @@ pub fn push_start(out: &mut Vec<u8>, node: NodeId) -> Result<(), Refusal>
 ///
 /// # Errors
 /// `OutOfMemory`. Then bytes of the line may stand at the end.
-pub fn push_snapshot(out: &mut Vec<u8>, node: NodeId) -> Result<(), Refusal>
+pub fn push_snapshot(out: &mut Vec<u8>, node: NodeId) -> Result<(), AllocError>
     ensures ok { OnOk result (out.new.items ≡ out.old.items ++ snapshot_line node) }
-    ensures err { IfErr result (λ e. e ≡ Refusal.OutOfMemory) }
 {
     push_bytes(out, b"snapshot")?;
     push_number_word(out, u64::from(node.index()))?;
@@ -177,18 +167,16 @@ pub fn push_snapshot(out: &mut Vec<u8>, node: NodeId) -> Result<(), Refusal>
 }
 
 #[tactic(auto, unfolding(crate::specs::Texts::node_text))]
-fn push_node(out: &mut Vec<u8>, node: NodeId) -> Result<(), Refusal>
+fn push_node(out: &mut Vec<u8>, node: NodeId) -> Result<(), AllocError>
     ensures ok { OnOk result (out.new.items ≡ out.old.items ++ node_text node) }
-    ensures err { IfErr result (λ e. e ≡ Refusal.OutOfMemory) }
 {
     push_bytes(out, b"node")?;
     Ok(push_number_word(out, u64::from(node.index()))?)
 }
 
 /// Appends that this node has written no snapshot.
-pub(crate) fn push_no_snapshot_text(out: &mut Vec<u8>, node: NodeId) -> Result<(), Refusal>
+pub(crate) fn push_no_snapshot_text(out: &mut Vec<u8>, node: NodeId) -> Result<(), AllocError>
     ensures ok { OnOk result (out.new.items ≡ out.old.items ++ no_snapshot_text node) }
-    ensures err { IfErr result (λ e. e ≡ Refusal.OutOfMemory) }
 {
     push_node(out, node)?;
     Ok(push_bytes(out, b" wrote no snapshot: down or busy")?)
@@ -198,9 +186,8 @@ pub(crate) fn push_no_snapshot_text(out: &mut Vec<u8>, node: NodeId) -> Result<(
 ///
 /// # Errors
 /// `OutOfMemory`. Then bytes of the line may stand at the end.
-pub fn push_no_snapshot(out: &mut Vec<u8>, node: NodeId) -> Result<(), Refusal>
+pub fn push_no_snapshot(out: &mut Vec<u8>, node: NodeId) -> Result<(), AllocError>
     ensures ok { OnOk result (out.new.items ≡ out.old.items ++ no_snapshot_line node) }
-    ensures err { IfErr result (λ e. e ≡ Refusal.OutOfMemory) }
 {
     push_bytes(out, b"error: ")?;
     push_no_snapshot_text(out, node)?;
@@ -208,9 +195,8 @@ pub fn push_no_snapshot(out: &mut Vec<u8>, node: NodeId) -> Result<(), Refusal>
 }
 
 /// Appends that this node, which is asked, is down.
-pub(crate) fn push_down_text(out: &mut Vec<u8>, node: NodeId) -> Result<(), Refusal>
+pub(crate) fn push_down_text(out: &mut Vec<u8>, node: NodeId) -> Result<(), AllocError>
     ensures ok { OnOk result (out.new.items ≡ out.old.items ++ down_text node) }
-    ensures err { IfErr result (λ e. e ≡ Refusal.OutOfMemory) }
 {
     push_node(out, node)?;
     Ok(push_bytes(out, b" is down: start it, or ask another")?)
@@ -220,9 +206,8 @@ pub(crate) fn push_down_text(out: &mut Vec<u8>, node: NodeId) -> Result<(), Refu
 ///
 /// # Errors
 /// `OutOfMemory`. Then bytes of the line may stand at the end.
-pub fn push_down(out: &mut Vec<u8>, node: NodeId) -> Result<(), Refusal>
+pub fn push_down(out: &mut Vec<u8>, node: NodeId) -> Result<(), AllocError>
     ensures ok { OnOk result (out.new.items ≡ out.old.items ++ down_line node) }
-    ensures err { IfErr result (λ e. e ≡ Refusal.OutOfMemory) }
 {
     push_bytes(out, b"error: ")?;
     push_down_text(out, node)?;
@@ -230,9 +215,8 @@ pub fn push_down(out: &mut Vec<u8>, node: NodeId) -> Result<(), Refusal>
 }
 
 // A space, that a node is up, and what it knows.
-fn push_summary(out: &mut Vec<u8>, summary: &NodeSummary) -> Result<(), Refusal>
+fn push_summary(out: &mut Vec<u8>, summary: &NodeSummary) -> Result<(), AllocError>
     ensures ok { OnOk result (out.new.items ≡ out.old.items ++ 32 ∷ spaced (summary_words (Some summary.now))) }
-    ensures err { IfErr result (λ e. e ≡ Refusal.OutOfMemory) }
 {
     push_word(out, b"up")?;
     push_word(out, b"facts")?;
@@ -249,9 +233,8 @@ fn push_summary(out: &mut Vec<u8>, summary: &NodeSummary) -> Result<(), Refusal>
 ///
 /// # Errors
 /// `OutOfMemory`. Then bytes of the line may stand at the end.
-pub fn push_status(out: &mut Vec<u8>, status: &NodeStatus) -> Result<(), Refusal>
+pub fn push_status(out: &mut Vec<u8>, status: &NodeStatus) -> Result<(), AllocError>
     ensures ok { OnOk result (out.new.items ≡ out.old.items ++ status_line status.now) }
-    ensures err { IfErr result (λ e. e ≡ Refusal.OutOfMemory) }
 {
     push_bytes(out, b"node")?;
     push_number_word(out, u64::from(status.node.index()))?;
@@ -263,9 +246,8 @@ pub fn push_status(out: &mut Vec<u8>, status: &NodeStatus) -> Result<(), Refusal
 }
 
 /// Appends the commands.
-pub(crate) fn push_help_text(out: &mut Vec<u8>) -> Result<(), Refusal>
+pub(crate) fn push_help_text(out: &mut Vec<u8>) -> Result<(), AllocError>
     ensures ok { OnOk result (out.new.items ≡ out.old.items ++ help_text) }
-    ensures err { IfErr result (λ e. e ≡ Refusal.OutOfMemory) }
 {
     Ok(push_bytes(
         out,
@@ -277,17 +259,15 @@ pub(crate) fn push_help_text(out: &mut Vec<u8>) -> Result<(), Refusal>
 ///
 /// # Errors
 /// `OutOfMemory`. Then bytes of the line may stand at the end.
-pub fn push_help(out: &mut Vec<u8>) -> Result<(), Refusal>
+pub fn push_help(out: &mut Vec<u8>) -> Result<(), AllocError>
     ensures ok { OnOk result (out.new.items ≡ out.old.items ++ help_line) }
-    ensures err { IfErr result (λ e. e ≡ Refusal.OutOfMemory) }
 {
     push_help_text(out)?;
     Ok(push_byte(out, b'\n')?)
 }
 
-fn push_no_node(out: &mut Vec<u8>, nodes: Nodes) -> Result<(), Refusal>
+fn push_no_node(out: &mut Vec<u8>, nodes: Nodes) -> Result<(), AllocError>
     ensures ok { OnOk result (out.new.items ≡ out.old.items ++ no_node_text nodes) }
-    ensures err { IfErr result (λ e. e ≡ Refusal.OutOfMemory) }
 {
     push_bytes(out, b"no such node: a number is expected that is below")?;
     Ok(push_number_word(out, u64::from(nodes.count()))?)
@@ -298,9 +278,8 @@ pub(crate) fn push_fault_text(
     out: &mut Vec<u8>,
     nodes: Nodes,
     fault: LineFault,
-) -> Result<(), Refusal>
+) -> Result<(), AllocError>
     ensures ok { OnOk result (out.new.items ≡ out.old.items ++ fault_text nodes fault) }
-    ensures err { IfErr result (λ e. e ≡ Refusal.OutOfMemory) }
 {
     match fault {
         LineFault::NoCommand => Ok(push_bytes(
@@ -330,9 +309,8 @@ pub(crate) fn push_fault_text(
 ///
 /// # Errors
 /// `OutOfMemory`. Then bytes of the line may stand at the end.
-pub fn push_fault(out: &mut Vec<u8>, nodes: Nodes, fault: LineFault) -> Result<(), Refusal>
+pub fn push_fault(out: &mut Vec<u8>, nodes: Nodes, fault: LineFault) -> Result<(), AllocError>
     ensures ok { OnOk result (out.new.items ≡ out.old.items ++ fault_line nodes fault) }
-    ensures err { IfErr result (λ e. e ≡ Refusal.OutOfMemory) }
 {
     push_bytes(out, b"error: ")?;
     push_fault_text(out, nodes, fault)?;

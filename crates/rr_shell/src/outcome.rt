@@ -1,13 +1,14 @@
 //! What comes of a submit.
 
-ghost use Rattle.std.specs.Prelude.{◌≡◌, ◌++◌, ◌∷◌, OnOk, IfErr};
+ghost use Rattle.std.specs.Prelude.{◌≡◌, ◌++◌, ◌∷◌, OnOk};
 ghost use Rattle.rr_text.specs.Words.{spaced};
 ghost use Rattle.rr_shell.specs.Texts.{used_text, full_text, nothing_text};
 
 use rr_script::Answer;
 use rr_text::text_report::push_request;
 use rr_text::text_word::{push_bytes, push_op};
-use rr_types::{Command, Refusal};
+use rr_types::Command;
+use std::alloc::AllocError;
 
 /// What comes of a submit, or of the line that asks one again.
 #[derive(Clone, Copy, Debug)]
@@ -23,9 +24,8 @@ pub enum Outcome {
 }
 
 /// Appends that a request number was already used for this command.
-pub(crate) fn push_used_text(out: &mut Vec<u8>, command: &Command) -> Result<(), Refusal>
+pub(crate) fn push_used_text(out: &mut Vec<u8>, command: &Command) -> Result<(), AllocError>
     ensures ok { OnOk result (out.new.items ≡ out.old.items ++ used_text command.now) }
-    ensures err { IfErr result (λ e. e ≡ Refusal.OutOfMemory) }
 {
     push_bytes(out, b"request")?;
     push_request(out, command.request)?;
@@ -34,9 +34,8 @@ pub(crate) fn push_used_text(out: &mut Vec<u8>, command: &Command) -> Result<(),
 }
 
 /// Appends that the list is full.
-pub(crate) fn push_full_text(out: &mut Vec<u8>) -> Result<(), Refusal>
+pub(crate) fn push_full_text(out: &mut Vec<u8>) -> Result<(), AllocError>
     ensures ok { OnOk result (out.new.items ≡ out.old.items ++ full_text) }
-    ensures err { IfErr result (λ e. e ≡ Refusal.OutOfMemory) }
 {
     push_bytes(
         out,
@@ -45,9 +44,8 @@ pub(crate) fn push_full_text(out: &mut Vec<u8>) -> Result<(), Refusal>
 }
 
 /// Appends that nothing is asked again.
-pub(crate) fn push_nothing_text(out: &mut Vec<u8>) -> Result<(), Refusal>
+pub(crate) fn push_nothing_text(out: &mut Vec<u8>) -> Result<(), AllocError>
     ensures ok { OnOk result (out.new.items ≡ out.old.items ++ nothing_text) }
-    ensures err { IfErr result (λ e. e ≡ Refusal.OutOfMemory) }
 {
     push_bytes(out, b"nothing to ask again: no command is unacknowledged")
 }

@@ -1,6 +1,6 @@
 //! What is said to a line, in words or with JSON.
 
-ghost use Rattle.std.specs.Prelude.{◌≡◌, ◌++◌, OnOk, IfErr};
+ghost use Rattle.std.specs.Prelude.{◌≡◌, ◌++◌, OnOk};
 ghost use Rattle.rr_shell.specs.Forms.{answer_said, full_said, used_said, nothing_said, outcome_said, list_said, move_said, stop_said, start_said, snapshot_said, no_snapshot_said, down_said, status_said, help_said, fault_said};
 
 use crate::line_text::{
@@ -18,16 +18,15 @@ use crate::shell_line::LineFault;
 use crate::status::NodeStatus;
 use rr_script::Answer;
 use rr_text::text_word::{push_byte, push_bytes};
-use rr_types::{Command, NodeId, Nodes, Refusal};
-use std::alloc::Global;
+use rr_types::{Command, NodeId, Nodes};
+use std::alloc::{AllocError, Global};
 
 /// Appends an answer: of a submit the reply, of a look the name and what was seen. It names no node.
 ///
 /// # Errors
 /// `OutOfMemory`. Then bytes of the line may stand at the end.
-pub fn say_answer(out: &mut Vec<u8>, json: bool, answer: &Answer) -> Result<(), Refusal>
+pub fn say_answer(out: &mut Vec<u8>, json: bool, answer: &Answer) -> Result<(), AllocError>
     ensures ok { OnOk result (out.new.items ≡ out.old.items ++ answer_said json answer.now) }
-    ensures err { IfErr result (λ e. e ≡ Refusal.OutOfMemory) }
 {
     if json {
         push_answer_object(out, answer)
@@ -37,9 +36,8 @@ pub fn say_answer(out: &mut Vec<u8>, json: bool, answer: &Answer) -> Result<(), 
 }
 
 // Appends that the list is full.
-fn say_full(out: &mut Vec<u8>, json: bool) -> Result<(), Refusal>
+fn say_full(out: &mut Vec<u8>, json: bool) -> Result<(), AllocError>
     ensures ok { OnOk result (out.new.items ≡ out.old.items ++ full_said json) }
-    ensures err { IfErr result (λ e. e ≡ Refusal.OutOfMemory) }
 {
     if json {
         return push_full_object(out);
@@ -50,9 +48,8 @@ fn say_full(out: &mut Vec<u8>, json: bool) -> Result<(), Refusal>
 }
 
 // Appends that a request number was already used for this command.
-fn say_used(alloc: Global, out: &mut Vec<u8>, json: bool, command: &Command) -> Result<(), Refusal>
+fn say_used(alloc: Global, out: &mut Vec<u8>, json: bool, command: &Command) -> Result<(), AllocError>
     ensures ok { OnOk result (out.new.items ≡ out.old.items ++ used_said json command.now) }
-    ensures err { IfErr result (λ e. e ≡ Refusal.OutOfMemory) }
 {
     if json {
         return push_used_object(alloc, out, command);
@@ -63,9 +60,8 @@ fn say_used(alloc: Global, out: &mut Vec<u8>, json: bool, command: &Command) -> 
 }
 
 // Appends that nothing is asked again.
-fn say_nothing(out: &mut Vec<u8>, json: bool) -> Result<(), Refusal>
+fn say_nothing(out: &mut Vec<u8>, json: bool) -> Result<(), AllocError>
     ensures ok { OnOk result (out.new.items ≡ out.old.items ++ nothing_said json) }
-    ensures err { IfErr result (λ e. e ≡ Refusal.OutOfMemory) }
 {
     if json {
         return push_nothing_object(out);
@@ -84,9 +80,8 @@ pub fn say_outcome(
     out: &mut Vec<u8>,
     json: bool,
     outcome: &Outcome,
-) -> Result<(), Refusal>
+) -> Result<(), AllocError>
     ensures ok { OnOk result (out.new.items ≡ out.old.items ++ outcome_said json outcome.now) }
-    ensures err { IfErr result (λ e. e ≡ Refusal.OutOfMemory) }
 {
     match outcome {
         Outcome::Answered(answer) => say_answer(out, json, answer),
@@ -100,9 +95,8 @@ pub fn say_outcome(
 ///
 /// # Errors
 /// `OutOfMemory`. Then bytes of the line may stand at the end.
-pub fn say_listing(out: &mut Vec<u8>, json: bool, listing: &Listing) -> Result<(), Refusal>
+pub fn say_listing(out: &mut Vec<u8>, json: bool, listing: &Listing) -> Result<(), AllocError>
     ensures ok { OnOk result (out.new.items ≡ out.old.items ++ list_said json listing.now.names) }
-    ensures err { IfErr result (λ e. e ≡ Refusal.OutOfMemory) }
 {
     if json {
         push_listing_objects(out, listing)
@@ -115,9 +109,8 @@ pub fn say_listing(out: &mut Vec<u8>, json: bool, listing: &Listing) -> Result<(
 ///
 /// # Errors
 /// `OutOfMemory`. Then bytes of the line may stand at the end.
-pub fn say_move(out: &mut Vec<u8>, json: bool, node: NodeId) -> Result<(), Refusal>
+pub fn say_move(out: &mut Vec<u8>, json: bool, node: NodeId) -> Result<(), AllocError>
     ensures ok { OnOk result (out.new.items ≡ out.old.items ++ move_said json node) }
-    ensures err { IfErr result (λ e. e ≡ Refusal.OutOfMemory) }
 {
     if json {
         push_node_object(out, b"at", node)
@@ -130,9 +123,8 @@ pub fn say_move(out: &mut Vec<u8>, json: bool, node: NodeId) -> Result<(), Refus
 ///
 /// # Errors
 /// `OutOfMemory`. Then bytes of the line may stand at the end.
-pub fn say_stop(out: &mut Vec<u8>, json: bool, node: NodeId) -> Result<(), Refusal>
+pub fn say_stop(out: &mut Vec<u8>, json: bool, node: NodeId) -> Result<(), AllocError>
     ensures ok { OnOk result (out.new.items ≡ out.old.items ++ stop_said json node) }
-    ensures err { IfErr result (λ e. e ≡ Refusal.OutOfMemory) }
 {
     if json {
         push_node_object(out, b"stopped", node)
@@ -145,9 +137,8 @@ pub fn say_stop(out: &mut Vec<u8>, json: bool, node: NodeId) -> Result<(), Refus
 ///
 /// # Errors
 /// `OutOfMemory`. Then bytes of the line may stand at the end.
-pub fn say_start(out: &mut Vec<u8>, json: bool, node: NodeId) -> Result<(), Refusal>
+pub fn say_start(out: &mut Vec<u8>, json: bool, node: NodeId) -> Result<(), AllocError>
     ensures ok { OnOk result (out.new.items ≡ out.old.items ++ start_said json node) }
-    ensures err { IfErr result (λ e. e ≡ Refusal.OutOfMemory) }
 {
     if json {
         push_node_object(out, b"started", node)
@@ -160,9 +151,8 @@ pub fn say_start(out: &mut Vec<u8>, json: bool, node: NodeId) -> Result<(), Refu
 ///
 /// # Errors
 /// `OutOfMemory`. Then bytes of the line may stand at the end.
-pub fn say_snapshot(out: &mut Vec<u8>, json: bool, node: NodeId) -> Result<(), Refusal>
+pub fn say_snapshot(out: &mut Vec<u8>, json: bool, node: NodeId) -> Result<(), AllocError>
     ensures ok { OnOk result (out.new.items ≡ out.old.items ++ snapshot_said json node) }
-    ensures err { IfErr result (λ e. e ≡ Refusal.OutOfMemory) }
 {
     if json {
         push_node_object(out, b"snapshot", node)
@@ -175,9 +165,8 @@ pub fn say_snapshot(out: &mut Vec<u8>, json: bool, node: NodeId) -> Result<(), R
 ///
 /// # Errors
 /// `OutOfMemory`. Then bytes of the line may stand at the end.
-pub fn say_no_snapshot(out: &mut Vec<u8>, json: bool, node: NodeId) -> Result<(), Refusal>
+pub fn say_no_snapshot(out: &mut Vec<u8>, json: bool, node: NodeId) -> Result<(), AllocError>
     ensures ok { OnOk result (out.new.items ≡ out.old.items ++ no_snapshot_said json node) }
-    ensures err { IfErr result (λ e. e ≡ Refusal.OutOfMemory) }
 {
     if json {
         push_no_snapshot_object(out, node)
@@ -190,9 +179,8 @@ pub fn say_no_snapshot(out: &mut Vec<u8>, json: bool, node: NodeId) -> Result<()
 ///
 /// # Errors
 /// `OutOfMemory`. Then bytes of the line may stand at the end.
-pub fn say_down(out: &mut Vec<u8>, json: bool, node: NodeId) -> Result<(), Refusal>
+pub fn say_down(out: &mut Vec<u8>, json: bool, node: NodeId) -> Result<(), AllocError>
     ensures ok { OnOk result (out.new.items ≡ out.old.items ++ down_said json node) }
-    ensures err { IfErr result (λ e. e ≡ Refusal.OutOfMemory) }
 {
     if json {
         push_down_object(out, node)
@@ -205,9 +193,8 @@ pub fn say_down(out: &mut Vec<u8>, json: bool, node: NodeId) -> Result<(), Refus
 ///
 /// # Errors
 /// `OutOfMemory`. Then bytes of the line may stand at the end.
-pub fn say_status(out: &mut Vec<u8>, json: bool, status: &NodeStatus) -> Result<(), Refusal>
+pub fn say_status(out: &mut Vec<u8>, json: bool, status: &NodeStatus) -> Result<(), AllocError>
     ensures ok { OnOk result (out.new.items ≡ out.old.items ++ status_said json status.now) }
-    ensures err { IfErr result (λ e. e ≡ Refusal.OutOfMemory) }
 {
     if json {
         push_status_object(out, status)
@@ -220,9 +207,8 @@ pub fn say_status(out: &mut Vec<u8>, json: bool, status: &NodeStatus) -> Result<
 ///
 /// # Errors
 /// `OutOfMemory`. Then bytes of the line may stand at the end.
-pub fn say_help(out: &mut Vec<u8>, json: bool) -> Result<(), Refusal>
+pub fn say_help(out: &mut Vec<u8>, json: bool) -> Result<(), AllocError>
     ensures ok { OnOk result (out.new.items ≡ out.old.items ++ help_said json) }
-    ensures err { IfErr result (λ e. e ≡ Refusal.OutOfMemory) }
 {
     if json {
         push_help_object(out)
@@ -240,9 +226,8 @@ pub fn say_fault(
     json: bool,
     nodes: Nodes,
     fault: LineFault,
-) -> Result<(), Refusal>
+) -> Result<(), AllocError>
     ensures ok { OnOk result (out.new.items ≡ out.old.items ++ fault_said json nodes fault) }
-    ensures err { IfErr result (λ e. e ≡ Refusal.OutOfMemory) }
 {
     if json {
         push_fault_object(out, nodes, fault)

@@ -9,8 +9,8 @@ use Rattle.rr_text.specs.declared.event.Event.{Event}
 use Rattle.rr_text.specs.Lines.{HasNoLine, IsFault}
 use Rattle.rr_text.specs.Scheduled.{Scheduled, IsEvent, IsSchedule}
 use Rattle.rr_text.specs.ScheduleTexts.{event_text, event_line, schedule_text}
-use Rattle.rr_text.specs.declared.keyword.Keyword.{Keyword}
-use Rattle.rr_text.specs.declared.keyword.Keyword.TheVariants.{Submit, Hear, Suspect, Tick, Advance, Take, Device, Fail, Mark, Send, Ack, Snap, Crash, Restart}
+use Rattle.rr_text.specs.declared.kind.EventKind.{EventKind}
+use Rattle.rr_text.specs.declared.kind.EventKind.TheVariants.{Submit, Hear, Suspect, Tick, Advance, Take, Device, Fail, Mark, Send, Ack, Snap, Crash, Restart}
 use Rattle.rr_text.specs.Reading.{cut_at, keyword_text, plain_at, fields_at, event_at}
 use Rattle.rr_text.proofs.CutLemmas.{cut_takes}
 use Rattle.rr_text.proofs.NumberLemmas.{node_again}
@@ -45,7 +45,7 @@ event_unread n bytes text rest few cut unread = line_unread (event_lines n few) 
 
 -- ---- a line that is matched whole
 
-alone_read : (n : ℕ) (k : Keyword) (p : ℕ) (e : Event) → n ≤ 7 → p < n → plain_at k p ≡ Some e → fields_at n k (decimal p) ≡ Some e
+alone_read : (n : ℕ) (k : EventKind) (p : ℕ) (e : Event) → n ≤ 7 → p < n → plain_at k p ≡ Some e → fields_at n k (decimal p) ≡ Some e
 alone_read n Submit p e few lt h = absurd cc
 alone_read n Hear p e few lt h = absurd cc
 alone_read n Suspect p e few lt h = absurd cc
@@ -62,7 +62,7 @@ alone_read n Crash p e few lt h = absurd cc
 alone_read n Restart p e few lt h = rw (node_again n p few lt) h
 
 -- a keyword, a space, a node's digit and a line feed are the line of the event
-pub plain_taken : (n : ℕ) (k : Keyword) (p d : ℕ) (e : Event) (bytes rest : List ℕ) → n ≤ 7 → p < n → d ≡ 48 + p → plain_at k p ≡ Some e → bytes ≡ keyword_text k ++ 32 ∷ d ∷ 10 ∷ rest → IsEvent n e × (bytes ≡ event_line e ++ rest)
+pub plain_taken : (n : ℕ) (k : EventKind) (p d : ℕ) (e : Event) (bytes rest : List ℕ) → n ≤ 7 → p < n → d ≡ 48 + p → plain_at k p ≡ Some e → bytes ≡ keyword_text k ++ 32 ∷ d ∷ 10 ∷ rest → IsEvent n e × (bytes ≡ event_line e ++ rest)
 plain_taken n k p d e bytes rest few lt digit read is =
     let was = fields_takes n k (decimal p) e few (alone_read n k p e few lt read) in
     let one : decimal p ≡ d ∷ [] = decimal_digit p (omega arith) ∙ ap (λ (c : ℕ). c ∷ []) (sym digit) in

@@ -316,34 +316,38 @@ fn plain_event(nodes: Nodes, bytes: &[u8]) -> Option<(Event, &[u8])>
 // The parts of a line that is a keyword and one more byte, and the bytes behind it, for the keywords that most lines have.
 // Such a line is matched whole, so that none of its bytes is searched for a space or a line feed.
 #[inline(always)]
-fn plain_line(bytes: &[u8]) -> Option<(Keyword, u8, &[u8])>
+fn plain_line(bytes: &[u8]) -> Option<(EventKind, u8, &[u8])>
     ensures { IfSome result (λ x. bytes.now ≡ keyword_text x.0 ++ 32 ∷ x.1 ∷ 10 ∷ x.2.now) }
 {
     match bytes {
-        [b'd', b'e', b'v', b' ', digit, b'\n', rest @ ..] => Some((Keyword::Device, *digit, rest)),
-        [b'a', b'c', b'k', b' ', digit, b'\n', rest @ ..] => Some((Keyword::Ack, *digit, rest)),
+        [b'd', b'e', b'v', b' ', digit, b'\n', rest @ ..] => Some((
+            EventKind::Device,
+            *digit,
+            rest,
+        )),
+        [b'a', b'c', b'k', b' ', digit, b'\n', rest @ ..] => Some((EventKind::Ack, *digit, rest)),
         [b't', b'a', b'k', b'e', b' ', digit, b'\n', rest @ ..] => Some((
-            Keyword::Take,
+            EventKind::Take,
             *digit,
             rest,
         )),
         [b'm', b'a', b'r', b'k', b' ', digit, b'\n', rest @ ..] => Some((
-            Keyword::Mark,
+            EventKind::Mark,
             *digit,
             rest,
         )),
         [b's', b'e', b'n', b'd', b' ', digit, b'\n', rest @ ..] => Some((
-            Keyword::Send,
+            EventKind::Send,
             *digit,
             rest,
         )),
         [b't', b'i', b'c', b'k', b' ', digit, b'\n', rest @ ..] => Some((
-            Keyword::Tick,
+            EventKind::Tick,
             *digit,
             rest,
         )),
         [b's', b'n', b'a', b'p', b' ', digit, b'\n', rest @ ..] => Some((
-            Keyword::Snap,
+            EventKind::Snap,
             *digit,
             rest,
         )),

@@ -1,13 +1,13 @@
 //! What folders have decided.
 
-ghost use Rattle.std.specs.Prelude.{◌≡◌, [], ◌∷◌, ◌++◌, length, codes, decimal, IfOk, IfErr};
+ghost use Rattle.std.specs.Prelude.{◌≡◌, [], ◌∷◌, ◌++◌, length, codes, decimal, IfOk};
 ghost use Rattle.rr_types.specs.Promises.{decided_from};
 ghost use Rattle.rr_text.specs.ReportTexts.{line, decided_lines};
 ghost use Rattle.rr_verify.specs.Agreement.{decided_of, longest_decided};
 
 use crate::folder::Reading;
 use rr_text::text_report::push_decided_list;
-use rr_types::{Command, Entry, Op, Refusal, Standing, made_of};
+use rr_types::{Command, Entry, Op, Standing, made_of};
 use std::alloc::{AllocError, Global};
 
 /// How many instances these entries decide from 0 on without a gap.
@@ -77,9 +77,8 @@ pub fn longest_decided(alloc: Global, readings: &[Reading]) -> Result<Vec<Comman
 ///
 /// # Errors
 /// `OutOfMemory`.
-pub fn decided_text(alloc: Global, commands: &[Command]) -> Result<Vec<u8>, Refusal>
+pub fn decided_text(alloc: Global, commands: &[Command]) -> Result<Vec<u8>, AllocError>
     ensures ok { IfOk result (λ v. v.items ≡ line (codes "decided" ∷ decimal (length commands.now) ∷ []) ++ decided_lines 0 commands.now) }
-    ensures err { IfErr result (λ e. e ≡ Refusal.OutOfMemory) }
 {
     let mut text = Vec::new(alloc);
     push_decided_list(&mut text, commands)?;

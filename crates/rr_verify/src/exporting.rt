@@ -1,6 +1,6 @@
 //! The registry of a decided list as a script of claims.
 
-ghost use Rattle.std.specs.Prelude.{◌≡◌, ◌≤◌, ℕ, [], IfOk, IfErr};
+ghost use Rattle.std.specs.Prelude.{◌≡◌, ◌≤◌, ℕ, [], IfOk};
 ghost use Rattle.rr_types.specs.Limits.{max_nodes};
 ghost use Rattle.rr_types.specs.Registry.{registry_of};
 ghost use Rattle.rr_script.specs.Scripted.{IsScript};
@@ -8,8 +8,8 @@ ghost use Rattle.rr_verify.specs.Exports.{owned, claim_of, claims_behind, export
 
 use rr_registry::{Holding, Registry};
 use rr_script::{Script, ScriptLine};
-use rr_types::{Command, Name, NodeId, Nodes, Op, Refusal, RequestNo, Value, made_of};
-use std::alloc::Global;
+use rr_types::{Command, Name, NodeId, Nodes, Op, RequestNo, Value, made_of};
+use std::alloc::{AllocError, Global};
 
 // How many of these names a client has.
 fn owned(client: u32, names: &[(Name, Holding)]) -> u64
@@ -43,10 +43,9 @@ fn claims(
     alloc: Global,
     node: NodeId,
     names: &[(Name, Holding)],
-) -> Result<Vec<ScriptLine>, Refusal>
+) -> Result<Vec<ScriptLine>, AllocError>
     requires { node ≡ 0 }
     ensures ok { IfOk result (λ v. v.items ≡ export_of names.now) }
-    ensures err { IfErr result (λ e. e ≡ Refusal.OutOfMemory) }
 {
     made_of!(Command, Name, Value, Op, RequestNo, Holding);
     let mut lines = Vec::new(alloc);
@@ -68,11 +67,10 @@ fn claims(
 ///
 /// # Errors
 /// `OutOfMemory`.
-pub fn export(alloc: Global, nodes: Nodes, decided: &[Command]) -> Result<Script, Refusal>
+pub fn export(alloc: Global, nodes: Nodes, decided: &[Command]) -> Result<Script, AllocError>
     ensures same { IfOk result (λ s. registry_of (commands_of s.lines) ≡ registry_of decided.now) }
     ensures lines { IfOk result (λ s. s.lines ≡ export_of (registry_of decided.now)) }
     ensures taken { IfOk result (λ s. (n : ℕ) → 1 ≤ n → n ≤ max_nodes → IsScript (record { nodes = n; lines = s.lines })) }
-    ensures err { IfErr result (λ e. e ≡ Refusal.OutOfMemory) }
 {
     made_of!(Command, Name, Value, Op, RequestNo, Holding);
     let mut registry = Registry::new(alloc);

@@ -1,11 +1,11 @@
 //! Fields of what is printed, as words of a line or as members of an object of JSON.
 
-ghost use Rattle.std.specs.Prelude.{◌≡◌, ◌∷◌, ◌++◌, [], OnOk, IfErr};
+ghost use Rattle.std.specs.Prelude.{◌≡◌, ◌∷◌, ◌++◌, [], OnOk};
 ghost use Rattle.std.specs.List.{flat_map};
 ghost use Rattle.rr_verify.specs.Texts.{quoted, escaped, opened, closed, label, number_field, text_field};
 
 use rr_text::text_word::{push_byte, push_bytes, push_number};
-use rr_types::Refusal;
+use std::alloc::AllocError;
 
 /// How something is printed: a line each, of words or as an object of JSON.
 #[derive(Clone, Copy, Debug, PartialEq, Eq)]
@@ -15,18 +15,16 @@ pub enum Form {
 }
 
 #[tactic(auto, unfolding(crate::specs::Texts::quoted))]
-fn push_quoted(out: &mut Vec<u8>, text: &[u8]) -> Result<(), Refusal>
+fn push_quoted(out: &mut Vec<u8>, text: &[u8]) -> Result<(), AllocError>
     ensures ok { OnOk result (out.new.items ≡ out.old.items ++ quoted text.now) }
-    ensures err { IfErr result (λ e. e ≡ Refusal.OutOfMemory) }
 {
     push_byte(out, b'"')?;
     push_bytes(out, text)?;
     push_byte(out, b'"')
 }
 
-fn push_escaped_byte(out: &mut Vec<u8>, byte: u8) -> Result<(), Refusal>
+fn push_escaped_byte(out: &mut Vec<u8>, byte: u8) -> Result<(), AllocError>
     ensures ok { OnOk result (out.new.items ≡ out.old.items ++ escaped byte) }
-    ensures err { IfErr result (λ e. e ≡ Refusal.OutOfMemory) }
 {
     if byte == b'"' || byte == b'\\' {
         push_bytes(out, &[b'\\', byte])
@@ -35,9 +33,8 @@ fn push_escaped_byte(out: &mut Vec<u8>, byte: u8) -> Result<(), Refusal>
     }
 }
 
-fn push_escaped(out: &mut Vec<u8>, text: &[u8]) -> Result<(), Refusal>
+fn push_escaped(out: &mut Vec<u8>, text: &[u8]) -> Result<(), AllocError>
     ensures ok { OnOk result (out.new.items ≡ out.old.items ++ flat_map escaped text.now) }
-    ensures err { IfErr result (λ e. e ≡ Refusal.OutOfMemory) }
 {
     for byte in text {
         push_escaped_byte(out, *byte)?;
@@ -47,9 +44,8 @@ fn push_escaped(out: &mut Vec<u8>, text: &[u8]) -> Result<(), Refusal>
 
 /// Begins a line of this kind.
 #[tactic(auto, unfolding(crate::specs::Texts::opened))]
-pub(crate) fn push_open(out: &mut Vec<u8>, form: Form, kind: &[u8]) -> Result<(), Refusal>
+pub(crate) fn push_open(out: &mut Vec<u8>, form: Form, kind: &[u8]) -> Result<(), AllocError>
     ensures ok { OnOk result (out.new.items ≡ out.old.items ++ opened form kind.now) }
-    ensures err { IfErr result (λ e. e ≡ Refusal.OutOfMemory) }
 {
     match form {
         Form::Words => push_bytes(out, kind),
@@ -62,9 +58,8 @@ pub(crate) fn push_open(out: &mut Vec<u8>, form: Form, kind: &[u8]) -> Result<()
 
 /// Ends a line.
 #[tactic(auto, unfolding(crate::specs::Texts::closed))]
-pub(crate) fn push_close(out: &mut Vec<u8>, form: Form) -> Result<(), Refusal>
+pub(crate) fn push_close(out: &mut Vec<u8>, form: Form) -> Result<(), AllocError>
     ensures ok { OnOk result (out.new.items ≡ out.old.items ++ closed form) }
-    ensures err { IfErr result (λ e. e ≡ Refusal.OutOfMemory) }
 {
     match form {
         Form::Words => push_byte(out, b'\n'),
@@ -74,9 +69,8 @@ pub(crate) fn push_close(out: &mut Vec<u8>, form: Form) -> Result<(), Refusal>
 
 // The name of a field.
 #[tactic(auto, unfolding(crate::specs::Texts::label))]
-fn push_label(out: &mut Vec<u8>, form: Form, name: &[u8]) -> Result<(), Refusal>
+fn push_label(out: &mut Vec<u8>, form: Form, name: &[u8]) -> Result<(), AllocError>
     ensures ok { OnOk result (out.new.items ≡ out.old.items ++ label form name.now) }
-    ensures err { IfErr result (λ e. e ≡ Refusal.OutOfMemory) }
 {
     match form {
         Form::Words => {
@@ -99,9 +93,8 @@ pub(crate) fn push_number_field(
     form: Form,
     name: &[u8],
     number: u64,
-) -> Result<(), Refusal>
+) -> Result<(), AllocError>
     ensures ok { OnOk result (out.new.items ≡ out.old.items ++ number_field form name.now number) }
-    ensures err { IfErr result (λ e. e ≡ Refusal.OutOfMemory) }
 {
     push_label(out, form, name)?;
     push_number(out, number)
@@ -114,9 +107,8 @@ pub(crate) fn push_text_field(
     form: Form,
     name: &[u8],
     text: &[u8],
-) -> Result<(), Refusal>
+) -> Result<(), AllocError>
     ensures ok { OnOk result (out.new.items ≡ out.old.items ++ text_field form name.now text.now) }
-    ensures err { IfErr result (λ e. e ≡ Refusal.OutOfMemory) }
 {
     push_label(out, form, name)?;
     match form {

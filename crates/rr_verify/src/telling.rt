@@ -1,6 +1,6 @@
 //! What is printed of the folders of a cluster.
 
-ghost use Rattle.std.specs.Prelude.{◌≡◌, ◌++◌, OnOk, IfOk, IfErr};
+ghost use Rattle.std.specs.Prelude.{◌≡◌, ◌++◌, OnOk, IfOk};
 ghost use Rattle.std.specs.List.{flat_map};
 ghost use Rattle.rr_types.specs.Refusal.{refusal_text};
 ghost use Rattle.rr_text.specs.Words.{spaced};
@@ -13,12 +13,11 @@ use crate::folder::{Folder, Reading};
 use crate::verdict::{Clash, Verdict};
 use rr_text::text_word::{push_byte, push_bytes, push_number, push_number_word, push_op};
 use rr_types::{Command, INSTANCES, Op, Refusal, made_of};
-use std::alloc::Global;
+use std::alloc::{AllocError, Global};
 
 // A refusal as a text: its name and its numbers.
-fn refusal_text(alloc: Global, refusal: &Refusal) -> Result<Vec<u8>, Refusal>
+fn refusal_text(alloc: Global, refusal: &Refusal) -> Result<Vec<u8>, AllocError>
     ensures ok { IfOk result (λ v. v.items ≡ refusal_text refusal.now) }
-    ensures err { IfErr result (λ e. e ≡ Refusal.OutOfMemory) }
 {
     let mut text = Vec::new(alloc);
     push_bytes(&mut text, refusal.name().as_bytes())?;
@@ -36,9 +35,8 @@ fn refusal_text(alloc: Global, refusal: &Refusal) -> Result<Vec<u8>, Refusal>
 }
 
 // A command as a report has it.
-fn command_text(alloc: Global, command: &Command) -> Result<Vec<u8>, Refusal>
+fn command_text(alloc: Global, command: &Command) -> Result<Vec<u8>, AllocError>
     ensures ok { IfOk result (λ v. v.items ≡ spaced (command_words command.now)) }
-    ensures err { IfErr result (λ e. e ≡ Refusal.OutOfMemory) }
 {
     let mut text = Vec::new(alloc);
     push_number(&mut text, u64::from(command.request.client))?;
@@ -49,9 +47,8 @@ fn command_text(alloc: Global, command: &Command) -> Result<Vec<u8>, Refusal>
 }
 
 // What a folder holds.
-fn push_folder(out: &mut Vec<u8>, form: Form, place: usize, folder: &Folder) -> Result<(), Refusal>
+fn push_folder(out: &mut Vec<u8>, form: Form, place: usize, folder: &Folder) -> Result<(), AllocError>
     ensures ok { OnOk result (out.new.items ≡ out.old.items ++ folder_fields form place folder.now) }
-    ensures err { IfErr result (λ e. e ≡ Refusal.OutOfMemory) }
 {
     let decided = decided_count(folder.promise.entries()) as u64;
     let left = u64::from(INSTANCES).saturating_sub(decided);
@@ -71,9 +68,8 @@ fn push_reading(
     form: Form,
     place: usize,
     reading: &Reading,
-) -> Result<(), Refusal>
+) -> Result<(), AllocError>
     ensures ok { OnOk result (out.new.items ≡ out.old.items ++ reading_line form place reading.now) }
-    ensures err { IfErr result (λ e. e ≡ Refusal.OutOfMemory) }
 {
     match reading {
         Reading::Facts(folder) => {
@@ -100,9 +96,8 @@ fn push_readings(
     alloc: Global,
     form: Form,
     readings: &[Reading],
-) -> Result<(), Refusal>
+) -> Result<(), AllocError>
     ensures ok { OnOk result (out.new.items ≡ out.old.items ++ reading_lines form 0 readings.now) }
-    ensures err { IfErr result (λ e. e ≡ Refusal.OutOfMemory) }
 {
     for (place, reading) in readings.iter().enumerate() {
         push_reading(out, alloc, form, place, reading)?;
@@ -116,9 +111,8 @@ fn push_difference(
     alloc: Global,
     form: Form,
     clash: &Clash,
-) -> Result<(), Refusal>
+) -> Result<(), AllocError>
     ensures ok { OnOk result (out.new.items ≡ out.old.items ++ clash_fields form clash.now) }
-    ensures err { IfErr result (λ e. e ≡ Refusal.OutOfMemory) }
 {
     made_of!(Command, Op);
     let one = command_text(alloc, &clash.difference.one)?;
@@ -132,9 +126,8 @@ fn push_difference(
 }
 
 // The line on it.
-fn push_clash(out: &mut Vec<u8>, alloc: Global, form: Form, clash: &Clash) -> Result<(), Refusal>
+fn push_clash(out: &mut Vec<u8>, alloc: Global, form: Form, clash: &Clash) -> Result<(), AllocError>
     ensures ok { OnOk result (out.new.items ≡ out.old.items ++ clash_line form clash.now) }
-    ensures err { IfErr result (λ e. e ≡ Refusal.OutOfMemory) }
 {
     push_open(out, form, b"differ")?;
     push_difference(out, alloc, form, clash)?;
@@ -147,9 +140,8 @@ fn push_clashes(
     alloc: Global,
     form: Form,
     clashes: &[Clash],
-) -> Result<(), Refusal>
+) -> Result<(), AllocError>
     ensures ok { OnOk result (out.new.items ≡ out.old.items ++ flat_map (λ c. clash_line form c) clashes.now) }
-    ensures err { IfErr result (λ e. e ≡ Refusal.OutOfMemory) }
 {
     for clash in clashes {
         push_clash(out, alloc, form, clash)?;
@@ -158,9 +150,8 @@ fn push_clashes(
 }
 
 // The line on whether the folders agree.
-fn push_agreement(out: &mut Vec<u8>, form: Form, agree: bool) -> Result<(), Refusal>
+fn push_agreement(out: &mut Vec<u8>, form: Form, agree: bool) -> Result<(), AllocError>
     ensures ok { OnOk result (out.new.items ≡ out.old.items ++ verdict_line form agree) }
-    ensures err { IfErr result (λ e. e ≡ Refusal.OutOfMemory) }
 {
     if agree {
         push_open(out, form, b"agree")?;
@@ -180,9 +171,8 @@ pub fn verdict_text(
     form: Form,
     readings: &[Reading],
     verdict: &Verdict,
-) -> Result<Vec<u8>, Refusal>
+) -> Result<Vec<u8>, AllocError>
     ensures ok { IfOk result (λ v. v.items ≡ verdict_text form readings.now verdict.now.clashes.items verdict.now.agree) }
-    ensures err { IfErr result (λ e. e ≡ Refusal.OutOfMemory) }
 {
     let mut out = Vec::new(alloc);
     push_readings(&mut out, alloc, form, readings)?;
