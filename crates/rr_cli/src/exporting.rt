@@ -1,6 +1,6 @@
 //! `rr export`: what the folders of a cluster have decided, as a script or as a list.
 
-ghost use Rattle.std.specs.Prelude.{◌≡◌, option_map, IfOk, IfErr, IfSome};
+ghost use Rattle.std.specs.Prelude.{◌≡◌, option_map, IfOk, IfSome};
 ghost use Rattle.std.specs.List.{AllByRecursion};
 ghost use Rattle.std.specs.Io.KnownBytes.{Keeps};
 ghost use Rattle.rr_types.specs.declared.refusal.Refusal.TheVariants.{OutOfMemory};
@@ -14,15 +14,14 @@ use crate::streams::end_by_text;
 use rr_stream::Sink;
 use rr_types::{Command, Nodes, Refusal};
 use rr_verify::{Reading, decided_text, export, longest_decided, verify};
-use std::alloc::Global;
+use std::alloc::{AllocError, Global};
 use std::io::Write;
 use std::os::unix::fs::FileExt;
 use std::rt::Files;
 
 // The decided list as a text, or its registry as the text of a script.
-fn text_of(alloc: Global, list: bool, decided: &[Command]) -> Result<Vec<u8>, Refusal>
+fn text_of(alloc: Global, list: bool, decided: &[Command]) -> Result<Vec<u8>, AllocError>
     ensures text { IfOk result (λ v. IsExportOf list decided.now v.items) }
-    ensures err { IfErr result (λ e. e ≡ OutOfMemory) }
 {
     if list {
         return decided_text(alloc, decided);
@@ -65,7 +64,7 @@ fn print_export<O: Sink, E: Write>(
 {
     let text = match longest_decided(alloc, readings) {
         Ok(decided) => text_of(alloc, list, decided.as_slice()),
-        Err(_) => Err(Refusal::OutOfMemory),
+        Err(wanting) => Err(wanting),
     };
     match text {
         Ok(text) => end_by_text(out, err, text.as_slice()),

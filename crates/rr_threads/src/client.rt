@@ -205,7 +205,7 @@ impl<'d, 'x, W: WindowName, T: Turnstile, R: Wait> Handle<'d, 'x, W, T, R> {
     /// # Errors
     /// `OutOfMemory`.
     pub fn promise(&self, alloc: Global) -> Result<Promise, Refusal> {
-        self.desk.locked.lock(self.rt).core().marked_promise(alloc)
+        Ok(self.desk.locked.lock(self.rt).core().marked_promise(alloc)?)
     }
 
     /// Looks at a name, without waiting.
