@@ -1,6 +1,6 @@
 //! What is said to a line: an answer, a move, the help or a fault.
 
-ghost use Rattle.std.specs.Prelude.{◌≡◌, ◌∷◌, ◌++◌, OnOk, IfErr, decimal};
+ghost use Rattle.std.specs.Prelude.{◌≡◌, ◌∷◌, ◌++◌, OnOk, decimal};
 ghost use Rattle.std.specs.List.{flat_map};
 ghost use Rattle.rr_text.specs.Words.{spaced};
 ghost use Rattle.rr_text.specs.ReportTexts.{reply_words};
@@ -13,34 +13,33 @@ use rr_script::Answer;
 use rr_text::text_word::{
     push_byte, push_bytes, push_number, push_number_word, push_set, push_word,
 };
-use rr_types::{Binding, Name, NodeId, NodeSummary, Nodes, Refusal, Reply, Value};
+use rr_types::{Binding, Name, NodeId, NodeSummary, Nodes, Reply, Value};
+use std::alloc::AllocError;
 
 // The text of too long a line names the most bytes.
 const _: () = prove!(MAX_LINE == 4096);
 
-fn push_reply(out: &mut Vec<u8>, reply: Reply) -> Result<(), Refusal>
+fn push_reply(out: &mut Vec<u8>, reply: Reply) -> Result<(), AllocError>
     ensures ok { OnOk result (out.new.items ≡ out.old.items ++ spaced (reply_words reply)) }
-    ensures err { IfErr result (λ e. e ≡ Refusal.OutOfMemory) }
 {
     match reply {
-        Reply::Claimed => Ok(push_bytes(out, b"claimed")?),
-        Reply::Updated => Ok(push_bytes(out, b"updated")?),
-        Reply::Released => Ok(push_bytes(out, b"released")?),
-        Reply::Transferred => Ok(push_bytes(out, b"transferred")?),
+        Reply::Claimed => push_bytes(out, b"claimed"),
+        Reply::Updated => push_bytes(out, b"updated"),
+        Reply::Released => push_bytes(out, b"released"),
+        Reply::Transferred => push_bytes(out, b"transferred"),
         Reply::Taken(owner) => {
             push_bytes(out, b"taken")?;
-            Ok(push_number_word(out, u64::from(owner))?)
+            push_number_word(out, u64::from(owner))
         }
-        Reply::Unknown => Ok(push_bytes(out, b"unknown")?),
-        Reply::NotOwner => Ok(push_bytes(out, b"notowner")?),
-        Reply::Full => Ok(push_bytes(out, b"full")?),
+        Reply::Unknown => push_bytes(out, b"unknown"),
+        Reply::NotOwner => push_bytes(out, b"notowner"),
+        Reply::Full => push_bytes(out, b"full"),
     }
 }
 
 // Who has a name, and its value. The empty value is no word.
-fn push_bound(out: &mut Vec<u8>, name: &Name, owner: u32, value: &Value) -> Result<(), Refusal>
+fn push_bound(out: &mut Vec<u8>, name: &Name, owner: u32, value: &Value) -> Result<(), AllocError>
     ensures ok { OnOk result (out.new.items ≡ out.old.items ++ spaced (bound_words name.now owner value.now)) }
-    ensures err { IfErr result (λ e. e ≡ Refusal.OutOfMemory) }
 {
     push_bytes(out, name.as_bytes())?;
     push_word(out, b"bound")?;
@@ -48,20 +47,19 @@ fn push_bound(out: &mut Vec<u8>, name: &Name, owner: u32, value: &Value) -> Resu
     let value = value.as_bytes();
     match value {
         [] => Ok(()),
-        [_, ..] => Ok(push_word(out, value)?),
+        [_, ..] => push_word(out, value),
     }
 }
 
-fn push_answer_words(out: &mut Vec<u8>, answer: &Answer) -> Result<(), Refusal>
+fn push_answer_words(out: &mut Vec<u8>, answer: &Answer) -> Result<(), AllocError>
     ensures ok { OnOk result (out.new.items ≡ out.old.items ++ spaced (answer_words answer.now)) }
-    ensures err { IfErr result (λ e. e ≡ Refusal.OutOfMemory) }
 {
     match answer {
         Answer::Acknowledged { reply, .. } => push_reply(out, *reply),
-        Answer::Unacknowledged { .. } => Ok(push_bytes(out, b"unacknowledged")?),
+        Answer::Unacknowledged { .. } => push_bytes(out, b"unacknowledged"),
         Answer::Free { name, .. } => {
             push_bytes(out, name.as_bytes())?;
-            Ok(push_word(out, b"free")?)
+            push_word(out, b"free")
         }
         Answer::Bound {
             name,
@@ -71,7 +69,7 @@ fn push_answer_words(out: &mut Vec<u8>, answer: &Answer) -> Result<(), Refusal>
         } => push_bound(out, name, *owner, value),
         Answer::Unseen { name, .. } => {
             push_bytes(out, name.as_bytes())?;
-            Ok(push_word(out, b"unseen")?)
+            push_word(out, b"unseen")
         }
     }
 }
@@ -79,18 +77,16 @@ fn push_answer_words(out: &mut Vec<u8>, answer: &Answer) -> Result<(), Refusal>
 /// Appends the line of an answer: of a submit the reply, of a look the name and what was seen. It names no node.
 ///
 /// # Errors
-/// `OutOfMemory`. Then bytes of the line may stand at the end.
-pub fn push_answer(out: &mut Vec<u8>, answer: &Answer) -> Result<(), Refusal>
+/// Bytes of the line may then stand at the end.
+pub fn push_answer(out: &mut Vec<u8>, answer: &Answer) -> Result<(), AllocError>
     ensures ok { OnOk result (out.new.items ≡ out.old.items ++ answer_line answer.now) }
-    ensures err { IfErr result (λ e. e ≡ Refusal.OutOfMemory) }
 {
     push_answer_words(out, answer)?;
-    Ok(push_byte(out, b'\n')?)
+    push_byte(out, b'\n')
 }
 
-fn push_bound_lines(out: &mut Vec<u8>, names: &[Binding]) -> Result<(), Refusal>
+fn push_bound_lines(out: &mut Vec<u8>, names: &[Binding]) -> Result<(), AllocError>
     ensures ok { OnOk result (out.new.items ≡ out.old.items ++ flat_map bound_line names.now) }
-    ensures err { IfErr result (λ e. e ≡ Refusal.OutOfMemory) }
 {
     for binding in names {
         push_bound(out, &binding.name, binding.owner, &binding.value)?;
@@ -100,9 +96,8 @@ fn push_bound_lines(out: &mut Vec<u8>, names: &[Binding]) -> Result<(), Refusal>
 }
 
 // How many bound names there are, and a line for each.
-fn push_bound_names(out: &mut Vec<u8>, names: &[Binding]) -> Result<(), Refusal>
+fn push_bound_names(out: &mut Vec<u8>, names: &[Binding]) -> Result<(), AllocError>
     ensures ok { OnOk result (out.new.items ≡ out.old.items ++ list_lines (Some names.now)) }
-    ensures err { IfErr result (λ e. e ≡ Refusal.OutOfMemory) }
 {
     push_bytes(out, b"list")?;
     push_number_word(out, names.len() as u64)?;
@@ -113,13 +108,12 @@ fn push_bound_names(out: &mut Vec<u8>, names: &[Binding]) -> Result<(), Refusal>
 /// Appends the lines of the bound names that were seen, behind one that says how many they are; or the line that none was seen.
 ///
 /// # Errors
-/// `OutOfMemory`. Then bytes of the lines may stand at the end.
-pub fn push_listing(out: &mut Vec<u8>, listing: &Listing) -> Result<(), Refusal>
+/// Bytes of the lines may then stand at the end.
+pub fn push_listing(out: &mut Vec<u8>, listing: &Listing) -> Result<(), AllocError>
     ensures ok { OnOk result (out.new.items ≡ out.old.items ++ list_lines listing.now.names) }
-    ensures err { IfErr result (λ e. e ≡ Refusal.OutOfMemory) }
 {
     match &listing.names {
-        None => Ok(push_bytes(out, b"list unseen\n")?),
+        None => push_bytes(out, b"list unseen\n"),
         Some(names) => push_bound_names(out, names.as_slice()),
     }
 }
@@ -127,112 +121,102 @@ pub fn push_listing(out: &mut Vec<u8>, listing: &Listing) -> Result<(), Refusal>
 /// Appends the line that this node is asked from now on.
 ///
 /// # Errors
-/// `OutOfMemory`. Then bytes of the line may stand at the end.
-pub fn push_move(out: &mut Vec<u8>, node: NodeId) -> Result<(), Refusal>
+/// Bytes of the line may then stand at the end.
+pub fn push_move(out: &mut Vec<u8>, node: NodeId) -> Result<(), AllocError>
     ensures ok { OnOk result (out.new.items ≡ out.old.items ++ move_line node) }
-    ensures err { IfErr result (λ e. e ≡ Refusal.OutOfMemory) }
 {
     push_bytes(out, b"at")?;
     push_number_word(out, u64::from(node.index()))?;
-    Ok(push_byte(out, b'\n')?)
+    push_byte(out, b'\n')
 }
 
 /// Appends the line that this node is down from now on.
 ///
 /// # Errors
-/// `OutOfMemory`. Then bytes of the line may stand at the end.
-pub fn push_stop(out: &mut Vec<u8>, node: NodeId) -> Result<(), Refusal>
+/// Bytes of the line may then stand at the end.
+pub fn push_stop(out: &mut Vec<u8>, node: NodeId) -> Result<(), AllocError>
     ensures ok { OnOk result (out.new.items ≡ out.old.items ++ stop_line node) }
-    ensures err { IfErr result (λ e. e ≡ Refusal.OutOfMemory) }
 {
     push_bytes(out, b"stopped")?;
     push_number_word(out, u64::from(node.index()))?;
-    Ok(push_byte(out, b'\n')?)
+    push_byte(out, b'\n')
 }
 
 /// Appends the line that this node is up from now on.
 ///
 /// # Errors
-/// `OutOfMemory`. Then bytes of the line may stand at the end.
-pub fn push_start(out: &mut Vec<u8>, node: NodeId) -> Result<(), Refusal>
+/// Bytes of the line may then stand at the end.
+pub fn push_start(out: &mut Vec<u8>, node: NodeId) -> Result<(), AllocError>
     ensures ok { OnOk result (out.new.items ≡ out.old.items ++ start_line node) }
-    ensures err { IfErr result (λ e. e ≡ Refusal.OutOfMemory) }
 {
     push_bytes(out, b"started")?;
     push_number_word(out, u64::from(node.index()))?;
-    Ok(push_byte(out, b'\n')?)
+    push_byte(out, b'\n')
 }
 
 /// Appends the line that this node has written a snapshot.
 ///
 /// # Errors
-/// `OutOfMemory`. Then bytes of the line may stand at the end.
-pub fn push_snapshot(out: &mut Vec<u8>, node: NodeId) -> Result<(), Refusal>
+/// Bytes of the line may then stand at the end.
+pub fn push_snapshot(out: &mut Vec<u8>, node: NodeId) -> Result<(), AllocError>
     ensures ok { OnOk result (out.new.items ≡ out.old.items ++ snapshot_line node) }
-    ensures err { IfErr result (λ e. e ≡ Refusal.OutOfMemory) }
 {
     push_bytes(out, b"snapshot")?;
     push_number_word(out, u64::from(node.index()))?;
-    Ok(push_byte(out, b'\n')?)
+    push_byte(out, b'\n')
 }
 
 #[tactic(auto, unfolding(crate::specs::Texts::node_text))]
-fn push_node(out: &mut Vec<u8>, node: NodeId) -> Result<(), Refusal>
+fn push_node(out: &mut Vec<u8>, node: NodeId) -> Result<(), AllocError>
     ensures ok { OnOk result (out.new.items ≡ out.old.items ++ node_text node) }
-    ensures err { IfErr result (λ e. e ≡ Refusal.OutOfMemory) }
 {
     push_bytes(out, b"node")?;
-    Ok(push_number_word(out, u64::from(node.index()))?)
+    push_number_word(out, u64::from(node.index()))
 }
 
 /// Appends that this node has written no snapshot.
-pub(crate) fn push_no_snapshot_text(out: &mut Vec<u8>, node: NodeId) -> Result<(), Refusal>
+pub(crate) fn push_no_snapshot_text(out: &mut Vec<u8>, node: NodeId) -> Result<(), AllocError>
     ensures ok { OnOk result (out.new.items ≡ out.old.items ++ no_snapshot_text node) }
-    ensures err { IfErr result (λ e. e ≡ Refusal.OutOfMemory) }
 {
     push_node(out, node)?;
-    Ok(push_bytes(out, b" wrote no snapshot: down or busy")?)
+    push_bytes(out, b" wrote no snapshot: down or busy")
 }
 
 /// Appends the line that this node has written no snapshot.
 ///
 /// # Errors
-/// `OutOfMemory`. Then bytes of the line may stand at the end.
-pub fn push_no_snapshot(out: &mut Vec<u8>, node: NodeId) -> Result<(), Refusal>
+/// Bytes of the line may then stand at the end.
+pub fn push_no_snapshot(out: &mut Vec<u8>, node: NodeId) -> Result<(), AllocError>
     ensures ok { OnOk result (out.new.items ≡ out.old.items ++ no_snapshot_line node) }
-    ensures err { IfErr result (λ e. e ≡ Refusal.OutOfMemory) }
 {
     push_bytes(out, b"error: ")?;
     push_no_snapshot_text(out, node)?;
-    Ok(push_byte(out, b'\n')?)
+    push_byte(out, b'\n')
 }
 
 /// Appends that this node, which is asked, is down.
-pub(crate) fn push_down_text(out: &mut Vec<u8>, node: NodeId) -> Result<(), Refusal>
+pub(crate) fn push_down_text(out: &mut Vec<u8>, node: NodeId) -> Result<(), AllocError>
     ensures ok { OnOk result (out.new.items ≡ out.old.items ++ down_text node) }
-    ensures err { IfErr result (λ e. e ≡ Refusal.OutOfMemory) }
 {
     push_node(out, node)?;
-    Ok(push_bytes(out, b" is down: start it, or ask another")?)
+    push_bytes(out, b" is down: start it, or ask another")
 }
 
 /// Appends the line that this node, which is asked, is down.
 ///
 /// # Errors
-/// `OutOfMemory`. Then bytes of the line may stand at the end.
-pub fn push_down(out: &mut Vec<u8>, node: NodeId) -> Result<(), Refusal>
+/// Bytes of the line may then stand at the end.
+pub fn push_down(out: &mut Vec<u8>, node: NodeId) -> Result<(), AllocError>
     ensures ok { OnOk result (out.new.items ≡ out.old.items ++ down_line node) }
-    ensures err { IfErr result (λ e. e ≡ Refusal.OutOfMemory) }
 {
     push_bytes(out, b"error: ")?;
     push_down_text(out, node)?;
-    Ok(push_byte(out, b'\n')?)
+    push_byte(out, b'\n')
 }
 
 // A space, that a node is up, and what it knows.
-fn push_summary(out: &mut Vec<u8>, summary: &NodeSummary) -> Result<(), Refusal>
+fn push_summary(out: &mut Vec<u8>, summary: &NodeSummary) -> Result<(), AllocError>
     ensures ok { OnOk result (out.new.items ≡ out.old.items ++ 32 ∷ spaced (summary_words (Some summary.now))) }
-    ensures err { IfErr result (λ e. e ≡ Refusal.OutOfMemory) }
 {
     push_word(out, b"up")?;
     push_word(out, b"facts")?;
@@ -240,16 +224,15 @@ fn push_summary(out: &mut Vec<u8>, summary: &NodeSummary) -> Result<(), Refusal>
     push_word(out, b"decided")?;
     push_number_word(out, summary.decided)?;
     push_word(out, b"suspects")?;
-    Ok(push_set(out, summary.suspects)?)
+    push_set(out, summary.suspects)
 }
 
 /// Appends the line of what a node tells of itself.
 ///
 /// # Errors
-/// `OutOfMemory`. Then bytes of the line may stand at the end.
-pub fn push_status(out: &mut Vec<u8>, status: &NodeStatus) -> Result<(), Refusal>
+/// Bytes of the line may then stand at the end.
+pub fn push_status(out: &mut Vec<u8>, status: &NodeStatus) -> Result<(), AllocError>
     ensures ok { OnOk result (out.new.items ≡ out.old.items ++ status_line status.now) }
-    ensures err { IfErr result (λ e. e ≡ Refusal.OutOfMemory) }
 {
     push_bytes(out, b"node")?;
     push_number_word(out, u64::from(status.node.index()))?;
@@ -257,38 +240,35 @@ pub fn push_status(out: &mut Vec<u8>, status: &NodeStatus) -> Result<(), Refusal
         None => push_word(out, b"down")?,
         Some(summary) => push_summary(out, summary)?,
     }
-    Ok(push_byte(out, b'\n')?)
+    push_byte(out, b'\n')
 }
 
 /// Appends the commands.
-pub(crate) fn push_help_text(out: &mut Vec<u8>) -> Result<(), Refusal>
+pub(crate) fn push_help_text(out: &mut Vec<u8>) -> Result<(), AllocError>
     ensures ok { OnOk result (out.new.items ≡ out.old.items ++ help_text) }
-    ensures err { IfErr result (λ e. e ≡ Refusal.OutOfMemory) }
 {
-    Ok(push_bytes(
+    push_bytes(
         out,
         b"claim NAME [VALUE], update NAME [VALUE], release NAME, transfer NAME OWNER, look NAME, list [PREFIX], at NODE, stop NODE, start NODE, snapshot NODE, status, help or quit",
-    )?)
+    )
 }
 
 /// Appends the line that names the commands.
 ///
 /// # Errors
-/// `OutOfMemory`. Then bytes of the line may stand at the end.
-pub fn push_help(out: &mut Vec<u8>) -> Result<(), Refusal>
+/// Bytes of the line may then stand at the end.
+pub fn push_help(out: &mut Vec<u8>) -> Result<(), AllocError>
     ensures ok { OnOk result (out.new.items ≡ out.old.items ++ help_line) }
-    ensures err { IfErr result (λ e. e ≡ Refusal.OutOfMemory) }
 {
     push_help_text(out)?;
-    Ok(push_byte(out, b'\n')?)
+    push_byte(out, b'\n')
 }
 
-fn push_no_node(out: &mut Vec<u8>, nodes: Nodes) -> Result<(), Refusal>
+fn push_no_node(out: &mut Vec<u8>, nodes: Nodes) -> Result<(), AllocError>
     ensures ok { OnOk result (out.new.items ≡ out.old.items ++ no_node_text nodes) }
-    ensures err { IfErr result (λ e. e ≡ Refusal.OutOfMemory) }
 {
     push_bytes(out, b"no such node: a number is expected that is below")?;
-    Ok(push_number_word(out, u64::from(nodes.count()))?)
+    push_number_word(out, u64::from(nodes.count()))
 }
 
 /// Appends what is wrong with a line, and what is expected.
@@ -296,30 +276,26 @@ pub(crate) fn push_fault_text(
     out: &mut Vec<u8>,
     nodes: Nodes,
     fault: LineFault,
-) -> Result<(), Refusal>
+) -> Result<(), AllocError>
     ensures ok { OnOk result (out.new.items ≡ out.old.items ++ fault_text nodes fault) }
-    ensures err { IfErr result (λ e. e ≡ Refusal.OutOfMemory) }
 {
     match fault {
-        LineFault::NoCommand => Ok(push_bytes(
+        LineFault::NoCommand => push_bytes(
             out,
             b"no such command: claim, update, release, transfer, look, list, at, stop, start, snapshot, status, help or quit is expected",
-        )?),
-        LineFault::BadName => Ok(push_bytes(
+        ),
+        LineFault::BadName => push_bytes(
             out,
             b"no name: 1 to 64 bytes of a to z, 0 to 9 and - are expected",
-        )?),
-        LineFault::BadValue => Ok(push_bytes(
+        ),
+        LineFault::BadValue => push_bytes(
             out,
             b"no value: 1 to 64 bytes from ! to ~ are expected, and no space",
-        )?),
-        LineFault::BadOwner => Ok(push_bytes(
-            out,
-            b"no owner: a number below 4294967296 is expected",
-        )?),
+        ),
+        LineFault::BadOwner => push_bytes(out, b"no owner: a number below 4294967296 is expected"),
         LineFault::NoNode => push_no_node(out, nodes),
         LineFault::TooLong => {
-            Ok(push_bytes(out, b"too long a line: at most 4096 bytes are expected")?)
+            push_bytes(out, b"too long a line: at most 4096 bytes are expected")
         }
     }
 }
@@ -327,12 +303,11 @@ pub(crate) fn push_fault_text(
 /// Appends the line of a fault: what is wrong, and what is expected, where there are `nodes` nodes.
 ///
 /// # Errors
-/// `OutOfMemory`. Then bytes of the line may stand at the end.
-pub fn push_fault(out: &mut Vec<u8>, nodes: Nodes, fault: LineFault) -> Result<(), Refusal>
+/// Bytes of the line may then stand at the end.
+pub fn push_fault(out: &mut Vec<u8>, nodes: Nodes, fault: LineFault) -> Result<(), AllocError>
     ensures ok { OnOk result (out.new.items ≡ out.old.items ++ fault_line nodes fault) }
-    ensures err { IfErr result (λ e. e ≡ Refusal.OutOfMemory) }
 {
     push_bytes(out, b"error: ")?;
     push_fault_text(out, nodes, fault)?;
-    Ok(push_byte(out, b'\n')?)
+    push_byte(out, b'\n')
 }

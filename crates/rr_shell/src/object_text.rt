@@ -1,6 +1,6 @@
 //! What is said to a line as JSON: an object for each line of words.
 
-ghost use Rattle.std.specs.Prelude.{◌≡◌, ◌∷◌, ◌++◌, [], OnOk, IfErr, codes};
+ghost use Rattle.std.specs.Prelude.{◌≡◌, ◌∷◌, ◌++◌, [], OnOk, codes};
 ghost use Rattle.std.specs.List.{flat_map};
 ghost use Rattle.rr_text.specs.ReportTexts.{reply_words};
 ghost use Rattle.rr_shell.specs.Texts.{down_text, no_snapshot_text, help_text, fault_text};
@@ -12,32 +12,30 @@ use crate::shell_line::LineFault;
 use crate::status::NodeStatus;
 use rr_script::Answer;
 use rr_text::text_word::{push_byte, push_bytes, push_number};
-use rr_types::{Binding, Name, NodeId, NodeSummary, Nodes, Refusal, Reply, Value};
+use rr_types::{Binding, Name, NodeId, NodeSummary, Nodes, Reply, Value};
+use std::alloc::AllocError;
 
 #[tactic(auto, unfolding(crate::specs::Objects::quoted))]
-fn push_quoted(out: &mut Vec<u8>, text: &[u8]) -> Result<(), Refusal>
+fn push_quoted(out: &mut Vec<u8>, text: &[u8]) -> Result<(), AllocError>
     ensures ok { OnOk result (out.new.items ≡ out.old.items ++ quoted text.now) }
-    ensures err { IfErr result (λ e. e ≡ Refusal.OutOfMemory) }
 {
     push_byte(out, b'"')?;
     push_bytes(out, text)?;
-    Ok(push_byte(out, b'"')?)
+    push_byte(out, b'"')
 }
 
-fn push_escaped_byte(out: &mut Vec<u8>, byte: u8) -> Result<(), Refusal>
+fn push_escaped_byte(out: &mut Vec<u8>, byte: u8) -> Result<(), AllocError>
     ensures ok { OnOk result (out.new.items ≡ out.old.items ++ escaped_byte byte) }
-    ensures err { IfErr result (λ e. e ≡ Refusal.OutOfMemory) }
 {
     if byte == b'"' || byte == b'\\' {
-        Ok(push_bytes(out, &[b'\\', byte])?)
+        push_bytes(out, &[b'\\', byte])
     } else {
-        Ok(push_byte(out, byte)?)
+        push_byte(out, byte)
     }
 }
 
-fn push_escaped(out: &mut Vec<u8>, text: &[u8]) -> Result<(), Refusal>
+fn push_escaped(out: &mut Vec<u8>, text: &[u8]) -> Result<(), AllocError>
     ensures ok { OnOk result (out.new.items ≡ out.old.items ++ flat_map escaped_byte text.now) }
-    ensures err { IfErr result (λ e. e ≡ Refusal.OutOfMemory) }
 {
     for byte in text {
         push_escaped_byte(out, *byte)?;
@@ -47,38 +45,34 @@ fn push_escaped(out: &mut Vec<u8>, text: &[u8]) -> Result<(), Refusal>
 
 // The name of a member.
 #[tactic(auto, unfolding(crate::specs::Objects::label))]
-fn push_label(out: &mut Vec<u8>, name: &[u8]) -> Result<(), Refusal>
+fn push_label(out: &mut Vec<u8>, name: &[u8]) -> Result<(), AllocError>
     ensures ok { OnOk result (out.new.items ≡ out.old.items ++ label name.now) }
-    ensures err { IfErr result (λ e. e ≡ Refusal.OutOfMemory) }
 {
     push_byte(out, b',')?;
     push_quoted(out, name)?;
-    Ok(push_byte(out, b':')?)
+    push_byte(out, b':')
 }
 
 #[tactic(auto, unfolding(crate::specs::Objects::text_member))]
-fn push_text_member(out: &mut Vec<u8>, name: &[u8], text: &[u8]) -> Result<(), Refusal>
+fn push_text_member(out: &mut Vec<u8>, name: &[u8], text: &[u8]) -> Result<(), AllocError>
     ensures ok { OnOk result (out.new.items ≡ out.old.items ++ text_member name.now text.now) }
-    ensures err { IfErr result (λ e. e ≡ Refusal.OutOfMemory) }
 {
     push_label(out, name)?;
     push_quoted(out, text)
 }
 
 #[tactic(auto, unfolding(crate::specs::Objects::number_member))]
-fn push_number_member(out: &mut Vec<u8>, name: &[u8], number: u64) -> Result<(), Refusal>
+fn push_number_member(out: &mut Vec<u8>, name: &[u8], number: u64) -> Result<(), AllocError>
     ensures ok { OnOk result (out.new.items ≡ out.old.items ++ number_member name.now number) }
-    ensures err { IfErr result (λ e. e ≡ Refusal.OutOfMemory) }
 {
     push_label(out, name)?;
-    Ok(push_number(out, number)?)
+    push_number(out, number)
 }
 
 // The beginning of an object, with its kind.
 #[tactic(auto, unfolding(crate::specs::Objects::opened))]
-fn push_open(out: &mut Vec<u8>, kind: &[u8]) -> Result<(), Refusal>
+fn push_open(out: &mut Vec<u8>, kind: &[u8]) -> Result<(), AllocError>
     ensures ok { OnOk result (out.new.items ≡ out.old.items ++ opened kind.now) }
-    ensures err { IfErr result (λ e. e ≡ Refusal.OutOfMemory) }
 {
     push_byte(out, b'{')?;
     push_quoted(out, b"kind")?;
@@ -87,17 +81,15 @@ fn push_open(out: &mut Vec<u8>, kind: &[u8]) -> Result<(), Refusal>
 }
 
 // The end of an object and of its line.
-fn push_end(out: &mut Vec<u8>) -> Result<(), Refusal>
+fn push_end(out: &mut Vec<u8>) -> Result<(), AllocError>
     ensures ok { OnOk result (out.new.items ≡ out.old.items ++ 125 ∷ 10 ∷ []) }
-    ensures err { IfErr result (λ e. e ≡ Refusal.OutOfMemory) }
 {
-    Ok(push_bytes(out, b"}\n")?)
+    push_bytes(out, b"}\n")
 }
 
 #[tactic(auto, unfolding(crate::specs::Objects::number_member))]
-fn push_reply_members(out: &mut Vec<u8>, reply: Reply) -> Result<(), Refusal>
+fn push_reply_members(out: &mut Vec<u8>, reply: Reply) -> Result<(), AllocError>
     ensures ok { OnOk result (out.new.items ≡ out.old.items ++ reply_members (reply_words reply)) }
-    ensures err { IfErr result (λ e. e ≡ Refusal.OutOfMemory) }
 {
     match reply {
         Reply::Claimed => push_text_member(out, b"reply", b"claimed"),
@@ -114,9 +106,8 @@ fn push_reply_members(out: &mut Vec<u8>, reply: Reply) -> Result<(), Refusal>
     }
 }
 
-fn push_reply(out: &mut Vec<u8>, reply: Reply) -> Result<(), Refusal>
+fn push_reply(out: &mut Vec<u8>, reply: Reply) -> Result<(), AllocError>
     ensures ok { OnOk result (out.new.items ≡ out.old.items ++ opened (codes "reply") ++ reply_members (reply_words reply) ++ 125 ∷ 10 ∷ []) }
-    ensures err { IfErr result (λ e. e ≡ Refusal.OutOfMemory) }
 {
     push_open(out, b"reply")?;
     push_reply_members(out, reply)?;
@@ -124,9 +115,8 @@ fn push_reply(out: &mut Vec<u8>, reply: Reply) -> Result<(), Refusal>
 }
 
 // That a name is free, or that nothing was seen of it.
-fn push_name(out: &mut Vec<u8>, kind: &[u8], name: &Name) -> Result<(), Refusal>
+fn push_name(out: &mut Vec<u8>, kind: &[u8], name: &Name) -> Result<(), AllocError>
     ensures ok { OnOk result (out.new.items ≡ out.old.items ++ opened kind.now ++ text_member (codes "name") name.now ++ 125 ∷ 10 ∷ []) }
-    ensures err { IfErr result (λ e. e ≡ Refusal.OutOfMemory) }
 {
     push_open(out, kind)?;
     push_text_member(out, b"name", name.as_bytes())?;
@@ -135,14 +125,13 @@ fn push_name(out: &mut Vec<u8>, kind: &[u8], name: &Name) -> Result<(), Refusal>
 
 // A value as a member.
 #[tactic(auto, unfolding(crate::specs::Objects::text_member, crate::specs::Objects::quoted))]
-fn push_value(out: &mut Vec<u8>, value: &Value) -> Result<(), Refusal>
+fn push_value(out: &mut Vec<u8>, value: &Value) -> Result<(), AllocError>
     ensures ok { OnOk result (out.new.items ≡ out.old.items ++ text_member (codes "value") (flat_map escaped_byte value.now)) }
-    ensures err { IfErr result (λ e. e ≡ Refusal.OutOfMemory) }
 {
     push_label(out, b"value")?;
     push_byte(out, b'"')?;
     push_escaped(out, value.as_bytes())?;
-    Ok(push_byte(out, b'"')?)
+    push_byte(out, b'"')
 }
 
 fn push_bound_members(
@@ -150,18 +139,16 @@ fn push_bound_members(
     name: &Name,
     owner: u32,
     value: &Value,
-) -> Result<(), Refusal>
+) -> Result<(), AllocError>
     ensures ok { OnOk result (out.new.items ≡ out.old.items ++ bound_members name.now owner value.now) }
-    ensures err { IfErr result (λ e. e ≡ Refusal.OutOfMemory) }
 {
     push_text_member(out, b"name", name.as_bytes())?;
     push_number_member(out, b"owner", u64::from(owner))?;
     push_value(out, value)
 }
 
-fn push_bound(out: &mut Vec<u8>, name: &Name, owner: u32, value: &Value) -> Result<(), Refusal>
+fn push_bound(out: &mut Vec<u8>, name: &Name, owner: u32, value: &Value) -> Result<(), AllocError>
     ensures ok { OnOk result (out.new.items ≡ out.old.items ++ bound_object name.now owner value.now) }
-    ensures err { IfErr result (λ e. e ≡ Refusal.OutOfMemory) }
 {
     push_open(out, b"bound")?;
     push_bound_members(out, name, owner, value)?;
@@ -169,9 +156,8 @@ fn push_bound(out: &mut Vec<u8>, name: &Name, owner: u32, value: &Value) -> Resu
 }
 
 // An object that has only its kind.
-fn push_kind(out: &mut Vec<u8>, kind: &[u8]) -> Result<(), Refusal>
+fn push_kind(out: &mut Vec<u8>, kind: &[u8]) -> Result<(), AllocError>
     ensures ok { OnOk result (out.new.items ≡ out.old.items ++ object_line kind.now []) }
-    ensures err { IfErr result (λ e. e ≡ Refusal.OutOfMemory) }
 {
     push_open(out, kind)?;
     push_end(out)
@@ -180,10 +166,9 @@ fn push_kind(out: &mut Vec<u8>, kind: &[u8]) -> Result<(), Refusal>
 /// Appends an answer as an object.
 ///
 /// # Errors
-/// `OutOfMemory`. Then bytes of the line may stand at the end.
-pub fn push_answer_object(out: &mut Vec<u8>, answer: &Answer) -> Result<(), Refusal>
+/// Bytes of the line may then stand at the end.
+pub fn push_answer_object(out: &mut Vec<u8>, answer: &Answer) -> Result<(), AllocError>
     ensures ok { OnOk result (out.new.items ≡ out.old.items ++ answer_object answer.now) }
-    ensures err { IfErr result (λ e. e ≡ Refusal.OutOfMemory) }
 {
     match answer {
         Answer::Acknowledged { reply, .. } => push_reply(out, *reply),
@@ -199,9 +184,8 @@ pub fn push_answer_object(out: &mut Vec<u8>, answer: &Answer) -> Result<(), Refu
     }
 }
 
-fn push_bound_objects(out: &mut Vec<u8>, names: &[Binding]) -> Result<(), Refusal>
+fn push_bound_objects(out: &mut Vec<u8>, names: &[Binding]) -> Result<(), AllocError>
     ensures ok { OnOk result (out.new.items ≡ out.old.items ++ flat_map binding_object names.now) }
-    ensures err { IfErr result (λ e. e ≡ Refusal.OutOfMemory) }
 {
     for binding in names {
         push_bound(out, &binding.name, binding.owner, &binding.value)?;
@@ -210,9 +194,8 @@ fn push_bound_objects(out: &mut Vec<u8>, names: &[Binding]) -> Result<(), Refusa
 }
 
 // How many bound names there are, and an object for each.
-fn push_bound_names(out: &mut Vec<u8>, names: &[Binding]) -> Result<(), Refusal>
+fn push_bound_names(out: &mut Vec<u8>, names: &[Binding]) -> Result<(), AllocError>
     ensures ok { OnOk result (out.new.items ≡ out.old.items ++ list_objects (Some names.now)) }
-    ensures err { IfErr result (λ e. e ≡ Refusal.OutOfMemory) }
 {
     push_open(out, b"list")?;
     push_number_member(out, b"names", names.len() as u64)?;
@@ -223,10 +206,9 @@ fn push_bound_names(out: &mut Vec<u8>, names: &[Binding]) -> Result<(), Refusal>
 /// Appends the bound names that were seen as objects, behind one that says how many they are; or that none was seen.
 ///
 /// # Errors
-/// `OutOfMemory`. Then bytes of the lines may stand at the end.
-pub fn push_listing_objects(out: &mut Vec<u8>, listing: &Listing) -> Result<(), Refusal>
+/// Bytes of the lines may then stand at the end.
+pub fn push_listing_objects(out: &mut Vec<u8>, listing: &Listing) -> Result<(), AllocError>
     ensures ok { OnOk result (out.new.items ≡ out.old.items ++ list_objects listing.now.names) }
-    ensures err { IfErr result (λ e. e ≡ Refusal.OutOfMemory) }
 {
     match &listing.names {
         None => push_kind(out, b"unseen"),
@@ -237,10 +219,9 @@ pub fn push_listing_objects(out: &mut Vec<u8>, listing: &Listing) -> Result<(), 
 /// Appends that a node is asked, is down or is up from now on, as an object of this kind.
 ///
 /// # Errors
-/// `OutOfMemory`. Then bytes of the line may stand at the end.
-pub fn push_node_object(out: &mut Vec<u8>, kind: &[u8], node: NodeId) -> Result<(), Refusal>
+/// Bytes of the line may then stand at the end.
+pub fn push_node_object(out: &mut Vec<u8>, kind: &[u8], node: NodeId) -> Result<(), AllocError>
     ensures ok { OnOk result (out.new.items ≡ out.old.items ++ node_object kind.now node) }
-    ensures err { IfErr result (λ e. e ≡ Refusal.OutOfMemory) }
 {
     push_open(out, kind)?;
     push_number_member(out, b"node", u64::from(node.index()))?;
@@ -248,18 +229,16 @@ pub fn push_node_object(out: &mut Vec<u8>, kind: &[u8], node: NodeId) -> Result<
 }
 
 // That a node is up.
-fn push_up(out: &mut Vec<u8>) -> Result<(), Refusal>
+fn push_up(out: &mut Vec<u8>) -> Result<(), AllocError>
     ensures ok { OnOk result (out.new.items ≡ out.old.items ++ label (codes "up") ++ codes "true") }
-    ensures err { IfErr result (λ e. e ≡ Refusal.OutOfMemory) }
 {
     push_label(out, b"up")?;
-    Ok(push_bytes(out, b"true")?)
+    push_bytes(out, b"true")
 }
 
 // That a node is up, and what it knows.
-fn push_summary(out: &mut Vec<u8>, summary: &NodeSummary) -> Result<(), Refusal>
+fn push_summary(out: &mut Vec<u8>, summary: &NodeSummary) -> Result<(), AllocError>
     ensures ok { OnOk result (out.new.items ≡ out.old.items ++ summary_members (Some summary.now)) }
-    ensures err { IfErr result (λ e. e ≡ Refusal.OutOfMemory) }
 {
     push_up(out)?;
     push_number_member(out, b"facts", summary.facts)?;
@@ -268,21 +247,19 @@ fn push_summary(out: &mut Vec<u8>, summary: &NodeSummary) -> Result<(), Refusal>
 }
 
 // That a node is down.
-fn push_no_summary(out: &mut Vec<u8>) -> Result<(), Refusal>
+fn push_no_summary(out: &mut Vec<u8>) -> Result<(), AllocError>
     ensures ok { OnOk result (out.new.items ≡ out.old.items ++ summary_members None) }
-    ensures err { IfErr result (λ e. e ≡ Refusal.OutOfMemory) }
 {
     push_label(out, b"up")?;
-    Ok(push_bytes(out, b"false")?)
+    push_bytes(out, b"false")
 }
 
 /// Appends what a node tells of itself as an object.
 ///
 /// # Errors
-/// `OutOfMemory`. Then bytes of the line may stand at the end.
-pub fn push_status_object(out: &mut Vec<u8>, status: &NodeStatus) -> Result<(), Refusal>
+/// Bytes of the line may then stand at the end.
+pub fn push_status_object(out: &mut Vec<u8>, status: &NodeStatus) -> Result<(), AllocError>
     ensures ok { OnOk result (out.new.items ≡ out.old.items ++ status_object status.now) }
-    ensures err { IfErr result (λ e. e ≡ Refusal.OutOfMemory) }
 {
     push_open(out, b"node")?;
     push_number_member(out, b"node", u64::from(status.node.index()))?;
@@ -294,30 +271,27 @@ pub fn push_status_object(out: &mut Vec<u8>, status: &NodeStatus) -> Result<(), 
 }
 
 // The beginning of an object that has a text.
-fn push_text_open(out: &mut Vec<u8>, kind: &[u8]) -> Result<(), Refusal>
+fn push_text_open(out: &mut Vec<u8>, kind: &[u8]) -> Result<(), AllocError>
     ensures ok { OnOk result (out.new.items ≡ out.old.items ++ text_opened kind.now) }
-    ensures err { IfErr result (λ e. e ≡ Refusal.OutOfMemory) }
 {
     push_open(out, kind)?;
     push_label(out, b"text")?;
-    Ok(push_byte(out, b'"')?)
+    push_byte(out, b'"')
 }
 
 // The end of an object that has a text, and of its line.
-fn push_text_close(out: &mut Vec<u8>) -> Result<(), Refusal>
+fn push_text_close(out: &mut Vec<u8>) -> Result<(), AllocError>
     ensures ok { OnOk result (out.new.items ≡ out.old.items ++ text_closed) }
-    ensures err { IfErr result (λ e. e ≡ Refusal.OutOfMemory) }
 {
-    Ok(push_bytes(out, b"\"}\n")?)
+    push_bytes(out, b"\"}\n")
 }
 
 /// Appends that this node, which is asked, is down, as an object.
 ///
 /// # Errors
-/// `OutOfMemory`. Then bytes of the line may stand at the end.
-pub fn push_down_object(out: &mut Vec<u8>, node: NodeId) -> Result<(), Refusal>
+/// Bytes of the line may then stand at the end.
+pub fn push_down_object(out: &mut Vec<u8>, node: NodeId) -> Result<(), AllocError>
     ensures ok { OnOk result (out.new.items ≡ out.old.items ++ text_object (codes "error") (down_text node)) }
-    ensures err { IfErr result (λ e. e ≡ Refusal.OutOfMemory) }
 {
     push_text_open(out, b"error")?;
     push_down_text(out, node)?;
@@ -327,10 +301,9 @@ pub fn push_down_object(out: &mut Vec<u8>, node: NodeId) -> Result<(), Refusal>
 /// Appends that this node has written no snapshot, as an object.
 ///
 /// # Errors
-/// `OutOfMemory`. Then bytes of the line may stand at the end.
-pub fn push_no_snapshot_object(out: &mut Vec<u8>, node: NodeId) -> Result<(), Refusal>
+/// Bytes of the line may then stand at the end.
+pub fn push_no_snapshot_object(out: &mut Vec<u8>, node: NodeId) -> Result<(), AllocError>
     ensures ok { OnOk result (out.new.items ≡ out.old.items ++ text_object (codes "error") (no_snapshot_text node)) }
-    ensures err { IfErr result (λ e. e ≡ Refusal.OutOfMemory) }
 {
     push_text_open(out, b"error")?;
     push_no_snapshot_text(out, node)?;
@@ -340,10 +313,9 @@ pub fn push_no_snapshot_object(out: &mut Vec<u8>, node: NodeId) -> Result<(), Re
 /// Appends the commands as an object.
 ///
 /// # Errors
-/// `OutOfMemory`. Then bytes of the line may stand at the end.
-pub fn push_help_object(out: &mut Vec<u8>) -> Result<(), Refusal>
+/// Bytes of the line may then stand at the end.
+pub fn push_help_object(out: &mut Vec<u8>) -> Result<(), AllocError>
     ensures ok { OnOk result (out.new.items ≡ out.old.items ++ text_object (codes "help") help_text) }
-    ensures err { IfErr result (λ e. e ≡ Refusal.OutOfMemory) }
 {
     push_text_open(out, b"help")?;
     push_help_text(out)?;
@@ -353,10 +325,13 @@ pub fn push_help_object(out: &mut Vec<u8>) -> Result<(), Refusal>
 /// Appends a fault as an object: what is wrong, and what is expected, where there are `nodes` nodes.
 ///
 /// # Errors
-/// `OutOfMemory`. Then bytes of the line may stand at the end.
-pub fn push_fault_object(out: &mut Vec<u8>, nodes: Nodes, fault: LineFault) -> Result<(), Refusal>
+/// Bytes of the line may then stand at the end.
+pub fn push_fault_object(
+    out: &mut Vec<u8>,
+    nodes: Nodes,
+    fault: LineFault,
+) -> Result<(), AllocError>
     ensures ok { OnOk result (out.new.items ≡ out.old.items ++ text_object (codes "error") (fault_text nodes fault)) }
-    ensures err { IfErr result (λ e. e ≡ Refusal.OutOfMemory) }
 {
     push_text_open(out, b"error")?;
     push_fault_text(out, nodes, fault)?;

@@ -1,6 +1,6 @@
 //! What is said to a line, in words or with JSON.
 
-ghost use Rattle.std.specs.Prelude.{◌≡◌, ◌++◌, OnOk, IfErr};
+ghost use Rattle.std.specs.Prelude.{◌≡◌, ◌++◌, OnOk};
 ghost use Rattle.rr_shell.specs.Forms.{answer_said, list_said, move_said, stop_said, start_said, snapshot_said, no_snapshot_said, down_said, status_said, help_said, fault_said};
 
 use crate::line_text::{
@@ -15,15 +15,15 @@ use crate::object_text::{
 use crate::shell_line::LineFault;
 use crate::status::NodeStatus;
 use rr_script::Answer;
-use rr_types::{NodeId, Nodes, Refusal};
+use rr_types::{NodeId, Nodes};
+use std::alloc::AllocError;
 
 /// Appends an answer: of a submit the reply, of a look the name and what was seen. It names no node.
 ///
 /// # Errors
-/// `OutOfMemory`. Then bytes of the line may stand at the end.
-pub fn say_answer(out: &mut Vec<u8>, json: bool, answer: &Answer) -> Result<(), Refusal>
+/// Bytes of the line may then stand at the end.
+pub fn say_answer(out: &mut Vec<u8>, json: bool, answer: &Answer) -> Result<(), AllocError>
     ensures ok { OnOk result (out.new.items ≡ out.old.items ++ answer_said json answer.now) }
-    ensures err { IfErr result (λ e. e ≡ Refusal.OutOfMemory) }
 {
     if json {
         push_answer_object(out, answer)
@@ -35,10 +35,9 @@ pub fn say_answer(out: &mut Vec<u8>, json: bool, answer: &Answer) -> Result<(), 
 /// Appends the bound names that were seen, a line each behind one that says how many they are; or that none was seen.
 ///
 /// # Errors
-/// `OutOfMemory`. Then bytes of the line may stand at the end.
-pub fn say_listing(out: &mut Vec<u8>, json: bool, listing: &Listing) -> Result<(), Refusal>
+/// Bytes of the line may then stand at the end.
+pub fn say_listing(out: &mut Vec<u8>, json: bool, listing: &Listing) -> Result<(), AllocError>
     ensures ok { OnOk result (out.new.items ≡ out.old.items ++ list_said json listing.now.names) }
-    ensures err { IfErr result (λ e. e ≡ Refusal.OutOfMemory) }
 {
     if json {
         push_listing_objects(out, listing)
@@ -50,10 +49,9 @@ pub fn say_listing(out: &mut Vec<u8>, json: bool, listing: &Listing) -> Result<(
 /// Appends that this node is asked from now on.
 ///
 /// # Errors
-/// `OutOfMemory`. Then bytes of the line may stand at the end.
-pub fn say_move(out: &mut Vec<u8>, json: bool, node: NodeId) -> Result<(), Refusal>
+/// Bytes of the line may then stand at the end.
+pub fn say_move(out: &mut Vec<u8>, json: bool, node: NodeId) -> Result<(), AllocError>
     ensures ok { OnOk result (out.new.items ≡ out.old.items ++ move_said json node) }
-    ensures err { IfErr result (λ e. e ≡ Refusal.OutOfMemory) }
 {
     if json {
         push_node_object(out, b"at", node)
@@ -65,10 +63,9 @@ pub fn say_move(out: &mut Vec<u8>, json: bool, node: NodeId) -> Result<(), Refus
 /// Appends that this node is down from now on.
 ///
 /// # Errors
-/// `OutOfMemory`. Then bytes of the line may stand at the end.
-pub fn say_stop(out: &mut Vec<u8>, json: bool, node: NodeId) -> Result<(), Refusal>
+/// Bytes of the line may then stand at the end.
+pub fn say_stop(out: &mut Vec<u8>, json: bool, node: NodeId) -> Result<(), AllocError>
     ensures ok { OnOk result (out.new.items ≡ out.old.items ++ stop_said json node) }
-    ensures err { IfErr result (λ e. e ≡ Refusal.OutOfMemory) }
 {
     if json {
         push_node_object(out, b"stopped", node)
@@ -80,10 +77,9 @@ pub fn say_stop(out: &mut Vec<u8>, json: bool, node: NodeId) -> Result<(), Refus
 /// Appends that this node is up from now on.
 ///
 /// # Errors
-/// `OutOfMemory`. Then bytes of the line may stand at the end.
-pub fn say_start(out: &mut Vec<u8>, json: bool, node: NodeId) -> Result<(), Refusal>
+/// Bytes of the line may then stand at the end.
+pub fn say_start(out: &mut Vec<u8>, json: bool, node: NodeId) -> Result<(), AllocError>
     ensures ok { OnOk result (out.new.items ≡ out.old.items ++ start_said json node) }
-    ensures err { IfErr result (λ e. e ≡ Refusal.OutOfMemory) }
 {
     if json {
         push_node_object(out, b"started", node)
@@ -95,10 +91,9 @@ pub fn say_start(out: &mut Vec<u8>, json: bool, node: NodeId) -> Result<(), Refu
 /// Appends that this node has written a snapshot.
 ///
 /// # Errors
-/// `OutOfMemory`. Then bytes of the line may stand at the end.
-pub fn say_snapshot(out: &mut Vec<u8>, json: bool, node: NodeId) -> Result<(), Refusal>
+/// Bytes of the line may then stand at the end.
+pub fn say_snapshot(out: &mut Vec<u8>, json: bool, node: NodeId) -> Result<(), AllocError>
     ensures ok { OnOk result (out.new.items ≡ out.old.items ++ snapshot_said json node) }
-    ensures err { IfErr result (λ e. e ≡ Refusal.OutOfMemory) }
 {
     if json {
         push_node_object(out, b"snapshot", node)
@@ -110,10 +105,9 @@ pub fn say_snapshot(out: &mut Vec<u8>, json: bool, node: NodeId) -> Result<(), R
 /// Appends that this node has written no snapshot.
 ///
 /// # Errors
-/// `OutOfMemory`. Then bytes of the line may stand at the end.
-pub fn say_no_snapshot(out: &mut Vec<u8>, json: bool, node: NodeId) -> Result<(), Refusal>
+/// Bytes of the line may then stand at the end.
+pub fn say_no_snapshot(out: &mut Vec<u8>, json: bool, node: NodeId) -> Result<(), AllocError>
     ensures ok { OnOk result (out.new.items ≡ out.old.items ++ no_snapshot_said json node) }
-    ensures err { IfErr result (λ e. e ≡ Refusal.OutOfMemory) }
 {
     if json {
         push_no_snapshot_object(out, node)
@@ -125,10 +119,9 @@ pub fn say_no_snapshot(out: &mut Vec<u8>, json: bool, node: NodeId) -> Result<()
 /// Appends that this node, which is asked, is down.
 ///
 /// # Errors
-/// `OutOfMemory`. Then bytes of the line may stand at the end.
-pub fn say_down(out: &mut Vec<u8>, json: bool, node: NodeId) -> Result<(), Refusal>
+/// Bytes of the line may then stand at the end.
+pub fn say_down(out: &mut Vec<u8>, json: bool, node: NodeId) -> Result<(), AllocError>
     ensures ok { OnOk result (out.new.items ≡ out.old.items ++ down_said json node) }
-    ensures err { IfErr result (λ e. e ≡ Refusal.OutOfMemory) }
 {
     if json {
         push_down_object(out, node)
@@ -140,10 +133,9 @@ pub fn say_down(out: &mut Vec<u8>, json: bool, node: NodeId) -> Result<(), Refus
 /// Appends what a node tells of itself.
 ///
 /// # Errors
-/// `OutOfMemory`. Then bytes of the line may stand at the end.
-pub fn say_status(out: &mut Vec<u8>, json: bool, status: &NodeStatus) -> Result<(), Refusal>
+/// Bytes of the line may then stand at the end.
+pub fn say_status(out: &mut Vec<u8>, json: bool, status: &NodeStatus) -> Result<(), AllocError>
     ensures ok { OnOk result (out.new.items ≡ out.old.items ++ status_said json status.now) }
-    ensures err { IfErr result (λ e. e ≡ Refusal.OutOfMemory) }
 {
     if json {
         push_status_object(out, status)
@@ -155,10 +147,9 @@ pub fn say_status(out: &mut Vec<u8>, json: bool, status: &NodeStatus) -> Result<
 /// Appends the commands.
 ///
 /// # Errors
-/// `OutOfMemory`. Then bytes of the line may stand at the end.
-pub fn say_help(out: &mut Vec<u8>, json: bool) -> Result<(), Refusal>
+/// Bytes of the line may then stand at the end.
+pub fn say_help(out: &mut Vec<u8>, json: bool) -> Result<(), AllocError>
     ensures ok { OnOk result (out.new.items ≡ out.old.items ++ help_said json) }
-    ensures err { IfErr result (λ e. e ≡ Refusal.OutOfMemory) }
 {
     if json {
         push_help_object(out)
@@ -170,15 +161,14 @@ pub fn say_help(out: &mut Vec<u8>, json: bool) -> Result<(), Refusal>
 /// Appends a fault: what is wrong, and what is expected, where there are `nodes` nodes.
 ///
 /// # Errors
-/// `OutOfMemory`. Then bytes of the line may stand at the end.
+/// Bytes of the line may then stand at the end.
 pub fn say_fault(
     out: &mut Vec<u8>,
     json: bool,
     nodes: Nodes,
     fault: LineFault,
-) -> Result<(), Refusal>
+) -> Result<(), AllocError>
     ensures ok { OnOk result (out.new.items ≡ out.old.items ++ fault_said json nodes fault) }
-    ensures err { IfErr result (λ e. e ≡ Refusal.OutOfMemory) }
 {
     if json {
         push_fault_object(out, nodes, fault)
