@@ -23,17 +23,17 @@ fn push_reply(out: &mut Vec<u8>, reply: Reply) -> Result<(), AllocError>
     ensures ok { OnOk result (out.new.items ≡ out.old.items ++ spaced (reply_words reply)) }
 {
     match reply {
-        Reply::Claimed => Ok(push_bytes(out, b"claimed")?),
-        Reply::Updated => Ok(push_bytes(out, b"updated")?),
-        Reply::Released => Ok(push_bytes(out, b"released")?),
-        Reply::Transferred => Ok(push_bytes(out, b"transferred")?),
+        Reply::Claimed => push_bytes(out, b"claimed"),
+        Reply::Updated => push_bytes(out, b"updated"),
+        Reply::Released => push_bytes(out, b"released"),
+        Reply::Transferred => push_bytes(out, b"transferred"),
         Reply::Taken(owner) => {
             push_bytes(out, b"taken")?;
-            Ok(push_number_word(out, u64::from(owner))?)
+            push_number_word(out, u64::from(owner))
         }
-        Reply::Unknown => Ok(push_bytes(out, b"unknown")?),
-        Reply::NotOwner => Ok(push_bytes(out, b"notowner")?),
-        Reply::Full => Ok(push_bytes(out, b"full")?),
+        Reply::Unknown => push_bytes(out, b"unknown"),
+        Reply::NotOwner => push_bytes(out, b"notowner"),
+        Reply::Full => push_bytes(out, b"full"),
     }
 }
 
@@ -47,7 +47,7 @@ fn push_bound(out: &mut Vec<u8>, name: &Name, owner: u32, value: &Value) -> Resu
     let value = value.as_bytes();
     match value {
         [] => Ok(()),
-        [_, ..] => Ok(push_word(out, value)?),
+        [_, ..] => push_word(out, value),
     }
 }
 
@@ -56,10 +56,10 @@ fn push_answer_words(out: &mut Vec<u8>, answer: &Answer) -> Result<(), AllocErro
 {
     match answer {
         Answer::Acknowledged { reply, .. } => push_reply(out, *reply),
-        Answer::Unacknowledged { .. } => Ok(push_bytes(out, b"unacknowledged")?),
+        Answer::Unacknowledged { .. } => push_bytes(out, b"unacknowledged"),
         Answer::Free { name, .. } => {
             push_bytes(out, name.as_bytes())?;
-            Ok(push_word(out, b"free")?)
+            push_word(out, b"free")
         }
         Answer::Bound {
             name,
@@ -69,7 +69,7 @@ fn push_answer_words(out: &mut Vec<u8>, answer: &Answer) -> Result<(), AllocErro
         } => push_bound(out, name, *owner, value),
         Answer::Unseen { name, .. } => {
             push_bytes(out, name.as_bytes())?;
-            Ok(push_word(out, b"unseen")?)
+            push_word(out, b"unseen")
         }
     }
 }
@@ -77,12 +77,12 @@ fn push_answer_words(out: &mut Vec<u8>, answer: &Answer) -> Result<(), AllocErro
 /// Appends the line of an answer: of a submit the reply, of a look the name and what was seen. It names no node.
 ///
 /// # Errors
-/// `OutOfMemory`. Then bytes of the line may stand at the end.
+/// Bytes of the line may then stand at the end.
 pub fn push_answer(out: &mut Vec<u8>, answer: &Answer) -> Result<(), AllocError>
     ensures ok { OnOk result (out.new.items ≡ out.old.items ++ answer_line answer.now) }
 {
     push_answer_words(out, answer)?;
-    Ok(push_byte(out, b'\n')?)
+    push_byte(out, b'\n')
 }
 
 fn push_bound_lines(out: &mut Vec<u8>, names: &[Binding]) -> Result<(), AllocError>
@@ -108,12 +108,12 @@ fn push_bound_names(out: &mut Vec<u8>, names: &[Binding]) -> Result<(), AllocErr
 /// Appends the lines of the bound names that were seen, behind one that says how many they are; or the line that none was seen.
 ///
 /// # Errors
-/// `OutOfMemory`. Then bytes of the lines may stand at the end.
+/// Bytes of the lines may then stand at the end.
 pub fn push_listing(out: &mut Vec<u8>, listing: &Listing) -> Result<(), AllocError>
     ensures ok { OnOk result (out.new.items ≡ out.old.items ++ list_lines listing.now.names) }
 {
     match &listing.names {
-        None => Ok(push_bytes(out, b"list unseen\n")?),
+        None => push_bytes(out, b"list unseen\n"),
         Some(names) => push_bound_names(out, names.as_slice()),
     }
 }
@@ -121,49 +121,49 @@ pub fn push_listing(out: &mut Vec<u8>, listing: &Listing) -> Result<(), AllocErr
 /// Appends the line that this node is asked from now on.
 ///
 /// # Errors
-/// `OutOfMemory`. Then bytes of the line may stand at the end.
+/// Bytes of the line may then stand at the end.
 pub fn push_move(out: &mut Vec<u8>, node: NodeId) -> Result<(), AllocError>
     ensures ok { OnOk result (out.new.items ≡ out.old.items ++ move_line node) }
 {
     push_bytes(out, b"at")?;
     push_number_word(out, u64::from(node.index()))?;
-    Ok(push_byte(out, b'\n')?)
+    push_byte(out, b'\n')
 }
 
 /// Appends the line that this node is down from now on.
 ///
 /// # Errors
-/// `OutOfMemory`. Then bytes of the line may stand at the end.
+/// Bytes of the line may then stand at the end.
 pub fn push_stop(out: &mut Vec<u8>, node: NodeId) -> Result<(), AllocError>
     ensures ok { OnOk result (out.new.items ≡ out.old.items ++ stop_line node) }
 {
     push_bytes(out, b"stopped")?;
     push_number_word(out, u64::from(node.index()))?;
-    Ok(push_byte(out, b'\n')?)
+    push_byte(out, b'\n')
 }
 
 /// Appends the line that this node is up from now on.
 ///
 /// # Errors
-/// `OutOfMemory`. Then bytes of the line may stand at the end.
+/// Bytes of the line may then stand at the end.
 pub fn push_start(out: &mut Vec<u8>, node: NodeId) -> Result<(), AllocError>
     ensures ok { OnOk result (out.new.items ≡ out.old.items ++ start_line node) }
 {
     push_bytes(out, b"started")?;
     push_number_word(out, u64::from(node.index()))?;
-    Ok(push_byte(out, b'\n')?)
+    push_byte(out, b'\n')
 }
 
 /// Appends the line that this node has written a snapshot.
 ///
 /// # Errors
-/// `OutOfMemory`. Then bytes of the line may stand at the end.
+/// Bytes of the line may then stand at the end.
 pub fn push_snapshot(out: &mut Vec<u8>, node: NodeId) -> Result<(), AllocError>
     ensures ok { OnOk result (out.new.items ≡ out.old.items ++ snapshot_line node) }
 {
     push_bytes(out, b"snapshot")?;
     push_number_word(out, u64::from(node.index()))?;
-    Ok(push_byte(out, b'\n')?)
+    push_byte(out, b'\n')
 }
 
 #[tactic(auto, unfolding(crate::specs::Texts::node_text))]
@@ -171,7 +171,7 @@ fn push_node(out: &mut Vec<u8>, node: NodeId) -> Result<(), AllocError>
     ensures ok { OnOk result (out.new.items ≡ out.old.items ++ node_text node) }
 {
     push_bytes(out, b"node")?;
-    Ok(push_number_word(out, u64::from(node.index()))?)
+    push_number_word(out, u64::from(node.index()))
 }
 
 /// Appends that this node has written no snapshot.
@@ -179,19 +179,19 @@ pub(crate) fn push_no_snapshot_text(out: &mut Vec<u8>, node: NodeId) -> Result<(
     ensures ok { OnOk result (out.new.items ≡ out.old.items ++ no_snapshot_text node) }
 {
     push_node(out, node)?;
-    Ok(push_bytes(out, b" wrote no snapshot: down or busy")?)
+    push_bytes(out, b" wrote no snapshot: down or busy")
 }
 
 /// Appends the line that this node has written no snapshot.
 ///
 /// # Errors
-/// `OutOfMemory`. Then bytes of the line may stand at the end.
+/// Bytes of the line may then stand at the end.
 pub fn push_no_snapshot(out: &mut Vec<u8>, node: NodeId) -> Result<(), AllocError>
     ensures ok { OnOk result (out.new.items ≡ out.old.items ++ no_snapshot_line node) }
 {
     push_bytes(out, b"error: ")?;
     push_no_snapshot_text(out, node)?;
-    Ok(push_byte(out, b'\n')?)
+    push_byte(out, b'\n')
 }
 
 /// Appends that this node, which is asked, is down.
@@ -199,19 +199,19 @@ pub(crate) fn push_down_text(out: &mut Vec<u8>, node: NodeId) -> Result<(), Allo
     ensures ok { OnOk result (out.new.items ≡ out.old.items ++ down_text node) }
 {
     push_node(out, node)?;
-    Ok(push_bytes(out, b" is down: start it, or ask another")?)
+    push_bytes(out, b" is down: start it, or ask another")
 }
 
 /// Appends the line that this node, which is asked, is down.
 ///
 /// # Errors
-/// `OutOfMemory`. Then bytes of the line may stand at the end.
+/// Bytes of the line may then stand at the end.
 pub fn push_down(out: &mut Vec<u8>, node: NodeId) -> Result<(), AllocError>
     ensures ok { OnOk result (out.new.items ≡ out.old.items ++ down_line node) }
 {
     push_bytes(out, b"error: ")?;
     push_down_text(out, node)?;
-    Ok(push_byte(out, b'\n')?)
+    push_byte(out, b'\n')
 }
 
 // A space, that a node is up, and what it knows.
@@ -226,13 +226,13 @@ fn push_summary(out: &mut Vec<u8>, summary: &NodeSummary) -> Result<(), AllocErr
     push_word(out, b"left")?;
     push_number_word(out, left_behind(summary.decided))?;
     push_word(out, b"suspects")?;
-    Ok(push_set(out, summary.suspects)?)
+    push_set(out, summary.suspects)
 }
 
 /// Appends the line of what a node tells of itself.
 ///
 /// # Errors
-/// `OutOfMemory`. Then bytes of the line may stand at the end.
+/// Bytes of the line may then stand at the end.
 pub fn push_status(out: &mut Vec<u8>, status: &NodeStatus) -> Result<(), AllocError>
     ensures ok { OnOk result (out.new.items ≡ out.old.items ++ status_line status.now) }
 {
@@ -242,35 +242,35 @@ pub fn push_status(out: &mut Vec<u8>, status: &NodeStatus) -> Result<(), AllocEr
         None => push_word(out, b"down")?,
         Some(summary) => push_summary(out, summary)?,
     }
-    Ok(push_byte(out, b'\n')?)
+    push_byte(out, b'\n')
 }
 
 /// Appends the commands.
 pub(crate) fn push_help_text(out: &mut Vec<u8>) -> Result<(), AllocError>
     ensures ok { OnOk result (out.new.items ≡ out.old.items ++ help_text) }
 {
-    Ok(push_bytes(
+    push_bytes(
         out,
         b"claim NAME [VALUE], update NAME [VALUE], release NAME, transfer NAME OWNER, look NAME, list [PREFIX], at NODE, stop NODE, start NODE, snapshot NODE, status, again, help, quit or exit",
-    )?)
+    )
 }
 
 /// Appends the line that names the commands.
 ///
 /// # Errors
-/// `OutOfMemory`. Then bytes of the line may stand at the end.
+/// Bytes of the line may then stand at the end.
 pub fn push_help(out: &mut Vec<u8>) -> Result<(), AllocError>
     ensures ok { OnOk result (out.new.items ≡ out.old.items ++ help_line) }
 {
     push_help_text(out)?;
-    Ok(push_byte(out, b'\n')?)
+    push_byte(out, b'\n')
 }
 
 fn push_no_node(out: &mut Vec<u8>, nodes: Nodes) -> Result<(), AllocError>
     ensures ok { OnOk result (out.new.items ≡ out.old.items ++ no_node_text nodes) }
 {
     push_bytes(out, b"no such node: a number is expected that is below")?;
-    Ok(push_number_word(out, u64::from(nodes.count()))?)
+    push_number_word(out, u64::from(nodes.count()))
 }
 
 /// Appends what is wrong with a line, and what is expected.
@@ -282,25 +282,22 @@ pub(crate) fn push_fault_text(
     ensures ok { OnOk result (out.new.items ≡ out.old.items ++ fault_text nodes fault) }
 {
     match fault {
-        LineFault::NoCommand => Ok(push_bytes(
+        LineFault::NoCommand => push_bytes(
             out,
             b"no such command: claim, update, release, transfer, look, list, at, stop, start, snapshot, status, again, help, quit or exit is expected",
-        )?),
-        LineFault::BadName => Ok(push_bytes(
+        ),
+        LineFault::BadName => push_bytes(
             out,
             b"no name: 1 to 64 bytes of a to z, 0 to 9 and - are expected",
-        )?),
-        LineFault::BadValue => Ok(push_bytes(
+        ),
+        LineFault::BadValue => push_bytes(
             out,
             b"no value: 1 to 64 bytes from ! to ~ are expected, and no space",
-        )?),
-        LineFault::BadOwner => Ok(push_bytes(
-            out,
-            b"no owner: a number below 4294967296 is expected",
-        )?),
+        ),
+        LineFault::BadOwner => push_bytes(out, b"no owner: a number below 4294967296 is expected"),
         LineFault::NoNode => push_no_node(out, nodes),
         LineFault::TooLong => {
-            Ok(push_bytes(out, b"too long a line: at most 4096 bytes are expected")?)
+            push_bytes(out, b"too long a line: at most 4096 bytes are expected")
         }
     }
 }
@@ -308,11 +305,11 @@ pub(crate) fn push_fault_text(
 /// Appends the line of a fault: what is wrong, and what is expected, where there are `nodes` nodes.
 ///
 /// # Errors
-/// `OutOfMemory`. Then bytes of the line may stand at the end.
+/// Bytes of the line may then stand at the end.
 pub fn push_fault(out: &mut Vec<u8>, nodes: Nodes, fault: LineFault) -> Result<(), AllocError>
     ensures ok { OnOk result (out.new.items ≡ out.old.items ++ fault_line nodes fault) }
 {
     push_bytes(out, b"error: ")?;
     push_fault_text(out, nodes, fault)?;
-    Ok(push_byte(out, b'\n')?)
+    push_byte(out, b'\n')
 }

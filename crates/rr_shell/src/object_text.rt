@@ -22,16 +22,16 @@ fn push_quoted(out: &mut Vec<u8>, text: &[u8]) -> Result<(), AllocError>
 {
     push_byte(out, b'"')?;
     push_bytes(out, text)?;
-    Ok(push_byte(out, b'"')?)
+    push_byte(out, b'"')
 }
 
 fn push_escaped_byte(out: &mut Vec<u8>, byte: u8) -> Result<(), AllocError>
     ensures ok { OnOk result (out.new.items ≡ out.old.items ++ escaped_byte byte) }
 {
     if byte == b'"' || byte == b'\\' {
-        Ok(push_bytes(out, &[b'\\', byte])?)
+        push_bytes(out, &[b'\\', byte])
     } else {
-        Ok(push_byte(out, byte)?)
+        push_byte(out, byte)
     }
 }
 
@@ -51,7 +51,7 @@ fn push_label(out: &mut Vec<u8>, name: &[u8]) -> Result<(), AllocError>
 {
     push_byte(out, b',')?;
     push_quoted(out, name)?;
-    Ok(push_byte(out, b':')?)
+    push_byte(out, b':')
 }
 
 #[tactic(auto, unfolding(crate::specs::Objects::text_member))]
@@ -67,7 +67,7 @@ fn push_number_member(out: &mut Vec<u8>, name: &[u8], number: u64) -> Result<(),
     ensures ok { OnOk result (out.new.items ≡ out.old.items ++ number_member name.now number) }
 {
     push_label(out, name)?;
-    Ok(push_number(out, number)?)
+    push_number(out, number)
 }
 
 // The beginning of an object, with its kind.
@@ -85,7 +85,7 @@ fn push_open(out: &mut Vec<u8>, kind: &[u8]) -> Result<(), AllocError>
 fn push_end(out: &mut Vec<u8>) -> Result<(), AllocError>
     ensures ok { OnOk result (out.new.items ≡ out.old.items ++ 125 ∷ 10 ∷ []) }
 {
-    Ok(push_bytes(out, b"}\n")?)
+    push_bytes(out, b"}\n")
 }
 
 #[tactic(auto, unfolding(crate::specs::Objects::number_member))]
@@ -132,7 +132,7 @@ fn push_value(out: &mut Vec<u8>, value: &Value) -> Result<(), AllocError>
     push_label(out, b"value")?;
     push_byte(out, b'"')?;
     push_escaped(out, value.as_bytes())?;
-    Ok(push_byte(out, b'"')?)
+    push_byte(out, b'"')
 }
 
 fn push_bound_members(
@@ -167,7 +167,7 @@ fn push_kind(out: &mut Vec<u8>, kind: &[u8]) -> Result<(), AllocError>
 /// Appends an answer as an object.
 ///
 /// # Errors
-/// `OutOfMemory`. Then bytes of the line may stand at the end.
+/// Bytes of the line may then stand at the end.
 pub fn push_answer_object(out: &mut Vec<u8>, answer: &Answer) -> Result<(), AllocError>
     ensures ok { OnOk result (out.new.items ≡ out.old.items ++ answer_object answer.now) }
 {
@@ -207,7 +207,7 @@ fn push_bound_names(out: &mut Vec<u8>, names: &[Binding]) -> Result<(), AllocErr
 /// Appends the bound names that were seen as objects, behind one that says how many they are; or that none was seen.
 ///
 /// # Errors
-/// `OutOfMemory`. Then bytes of the lines may stand at the end.
+/// Bytes of the lines may then stand at the end.
 pub fn push_listing_objects(out: &mut Vec<u8>, listing: &Listing) -> Result<(), AllocError>
     ensures ok { OnOk result (out.new.items ≡ out.old.items ++ list_objects listing.now.names) }
 {
@@ -220,7 +220,7 @@ pub fn push_listing_objects(out: &mut Vec<u8>, listing: &Listing) -> Result<(), 
 /// Appends that a node is asked, is down or is up from now on, as an object of this kind.
 ///
 /// # Errors
-/// `OutOfMemory`. Then bytes of the line may stand at the end.
+/// Bytes of the line may then stand at the end.
 pub fn push_node_object(out: &mut Vec<u8>, kind: &[u8], node: NodeId) -> Result<(), AllocError>
     ensures ok { OnOk result (out.new.items ≡ out.old.items ++ node_object kind.now node) }
 {
@@ -234,7 +234,7 @@ fn push_up(out: &mut Vec<u8>) -> Result<(), AllocError>
     ensures ok { OnOk result (out.new.items ≡ out.old.items ++ label (codes "up") ++ codes "true") }
 {
     push_label(out, b"up")?;
-    Ok(push_bytes(out, b"true")?)
+    push_bytes(out, b"true")
 }
 
 // That a node is up, and what it knows.
@@ -253,13 +253,13 @@ fn push_no_summary(out: &mut Vec<u8>) -> Result<(), AllocError>
     ensures ok { OnOk result (out.new.items ≡ out.old.items ++ summary_members None) }
 {
     push_label(out, b"up")?;
-    Ok(push_bytes(out, b"false")?)
+    push_bytes(out, b"false")
 }
 
 /// Appends what a node tells of itself as an object.
 ///
 /// # Errors
-/// `OutOfMemory`. Then bytes of the line may stand at the end.
+/// Bytes of the line may then stand at the end.
 pub fn push_status_object(out: &mut Vec<u8>, status: &NodeStatus) -> Result<(), AllocError>
     ensures ok { OnOk result (out.new.items ≡ out.old.items ++ status_object status.now) }
 {
@@ -278,20 +278,20 @@ fn push_text_open(out: &mut Vec<u8>, kind: &[u8]) -> Result<(), AllocError>
 {
     push_open(out, kind)?;
     push_label(out, b"text")?;
-    Ok(push_byte(out, b'"')?)
+    push_byte(out, b'"')
 }
 
 // The end of an object that has a text, and of its line.
 fn push_text_close(out: &mut Vec<u8>) -> Result<(), AllocError>
     ensures ok { OnOk result (out.new.items ≡ out.old.items ++ text_closed) }
 {
-    Ok(push_bytes(out, b"\"}\n")?)
+    push_bytes(out, b"\"}\n")
 }
 
 /// Appends that this node, which is asked, is down, as an object.
 ///
 /// # Errors
-/// `OutOfMemory`. Then bytes of the line may stand at the end.
+/// Bytes of the line may then stand at the end.
 pub fn push_down_object(out: &mut Vec<u8>, node: NodeId) -> Result<(), AllocError>
     ensures ok { OnOk result (out.new.items ≡ out.old.items ++ text_object (codes "error") (down_text node)) }
 {
@@ -303,7 +303,7 @@ pub fn push_down_object(out: &mut Vec<u8>, node: NodeId) -> Result<(), AllocErro
 /// Appends that this node has written no snapshot, as an object.
 ///
 /// # Errors
-/// `OutOfMemory`. Then bytes of the line may stand at the end.
+/// Bytes of the line may then stand at the end.
 pub fn push_no_snapshot_object(out: &mut Vec<u8>, node: NodeId) -> Result<(), AllocError>
     ensures ok { OnOk result (out.new.items ≡ out.old.items ++ text_object (codes "error") (no_snapshot_text node)) }
 {
@@ -315,7 +315,7 @@ pub fn push_no_snapshot_object(out: &mut Vec<u8>, node: NodeId) -> Result<(), Al
 /// Appends the commands as an object.
 ///
 /// # Errors
-/// `OutOfMemory`. Then bytes of the line may stand at the end.
+/// Bytes of the line may then stand at the end.
 pub fn push_help_object(out: &mut Vec<u8>) -> Result<(), AllocError>
     ensures ok { OnOk result (out.new.items ≡ out.old.items ++ text_object (codes "help") help_text) }
 {
@@ -327,8 +327,12 @@ pub fn push_help_object(out: &mut Vec<u8>) -> Result<(), AllocError>
 /// Appends a fault as an object: what is wrong, and what is expected, where there are `nodes` nodes.
 ///
 /// # Errors
-/// `OutOfMemory`. Then bytes of the line may stand at the end.
-pub fn push_fault_object(out: &mut Vec<u8>, nodes: Nodes, fault: LineFault) -> Result<(), AllocError>
+/// Bytes of the line may then stand at the end.
+pub fn push_fault_object(
+    out: &mut Vec<u8>,
+    nodes: Nodes,
+    fault: LineFault,
+) -> Result<(), AllocError>
     ensures ok { OnOk result (out.new.items ≡ out.old.items ++ text_object (codes "error") (fault_text nodes fault)) }
 {
     push_text_open(out, b"error")?;
@@ -339,7 +343,7 @@ pub fn push_fault_object(out: &mut Vec<u8>, nodes: Nodes, fault: LineFault) -> R
 /// Appends that the list is full, as an object.
 ///
 /// # Errors
-/// `OutOfMemory`. Then bytes of the line may stand at the end.
+/// Bytes of the line may then stand at the end.
 pub fn push_full_object(out: &mut Vec<u8>) -> Result<(), AllocError>
     ensures ok { OnOk result (out.new.items ≡ out.old.items ++ text_object (codes "full list") full_text) }
 {
@@ -351,7 +355,7 @@ pub fn push_full_object(out: &mut Vec<u8>) -> Result<(), AllocError>
 /// Appends that nothing is asked again, as an object.
 ///
 /// # Errors
-/// `OutOfMemory`. Then bytes of the line may stand at the end.
+/// Bytes of the line may then stand at the end.
 pub fn push_nothing_object(out: &mut Vec<u8>) -> Result<(), AllocError>
     ensures ok { OnOk result (out.new.items ≡ out.old.items ++ text_object (codes "error") nothing_text) }
 {
@@ -363,7 +367,7 @@ pub fn push_nothing_object(out: &mut Vec<u8>) -> Result<(), AllocError>
 /// Appends that a request number was already used for this command, as an object.
 ///
 /// # Errors
-/// `OutOfMemory`. Then bytes of the line may stand at the end.
+/// Bytes of the line may then stand at the end.
 pub fn push_used_object(alloc: Global, out: &mut Vec<u8>, command: &Command) -> Result<(), AllocError>
     ensures ok { OnOk result (out.new.items ≡ out.old.items ++ text_object (codes "error") (flat_map escaped_byte (used_text command.now))) }
 {

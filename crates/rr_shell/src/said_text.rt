@@ -20,11 +20,12 @@ use rr_script::Answer;
 use rr_text::text_word::{push_byte, push_bytes};
 use rr_types::{Command, NodeId, Nodes};
 use std::alloc::{AllocError, Global};
+use std::alloc::AllocError;
 
 /// Appends an answer: of a submit the reply, of a look the name and what was seen. It names no node.
 ///
 /// # Errors
-/// `OutOfMemory`. Then bytes of the line may stand at the end.
+/// Bytes of the line may then stand at the end.
 pub fn say_answer(out: &mut Vec<u8>, json: bool, answer: &Answer) -> Result<(), AllocError>
     ensures ok { OnOk result (out.new.items ≡ out.old.items ++ answer_said json answer.now) }
 {
@@ -74,7 +75,7 @@ fn say_nothing(out: &mut Vec<u8>, json: bool) -> Result<(), AllocError>
 /// Appends what came of a submit.
 ///
 /// # Errors
-/// `OutOfMemory`. Then bytes of the line may stand at the end.
+/// Bytes of the line may then stand at the end.
 pub fn say_outcome(
     alloc: Global,
     out: &mut Vec<u8>,
@@ -94,7 +95,7 @@ pub fn say_outcome(
 /// Appends the bound names that were seen, a line each behind one that says how many they are; or that none was seen.
 ///
 /// # Errors
-/// `OutOfMemory`. Then bytes of the line may stand at the end.
+/// Bytes of the line may then stand at the end.
 pub fn say_listing(out: &mut Vec<u8>, json: bool, listing: &Listing) -> Result<(), AllocError>
     ensures ok { OnOk result (out.new.items ≡ out.old.items ++ list_said json listing.now.names) }
 {
@@ -108,7 +109,7 @@ pub fn say_listing(out: &mut Vec<u8>, json: bool, listing: &Listing) -> Result<(
 /// Appends that this node is asked from now on.
 ///
 /// # Errors
-/// `OutOfMemory`. Then bytes of the line may stand at the end.
+/// Bytes of the line may then stand at the end.
 pub fn say_move(out: &mut Vec<u8>, json: bool, node: NodeId) -> Result<(), AllocError>
     ensures ok { OnOk result (out.new.items ≡ out.old.items ++ move_said json node) }
 {
@@ -122,7 +123,7 @@ pub fn say_move(out: &mut Vec<u8>, json: bool, node: NodeId) -> Result<(), Alloc
 /// Appends that this node is down from now on.
 ///
 /// # Errors
-/// `OutOfMemory`. Then bytes of the line may stand at the end.
+/// Bytes of the line may then stand at the end.
 pub fn say_stop(out: &mut Vec<u8>, json: bool, node: NodeId) -> Result<(), AllocError>
     ensures ok { OnOk result (out.new.items ≡ out.old.items ++ stop_said json node) }
 {
@@ -136,7 +137,7 @@ pub fn say_stop(out: &mut Vec<u8>, json: bool, node: NodeId) -> Result<(), Alloc
 /// Appends that this node is up from now on.
 ///
 /// # Errors
-/// `OutOfMemory`. Then bytes of the line may stand at the end.
+/// Bytes of the line may then stand at the end.
 pub fn say_start(out: &mut Vec<u8>, json: bool, node: NodeId) -> Result<(), AllocError>
     ensures ok { OnOk result (out.new.items ≡ out.old.items ++ start_said json node) }
 {
@@ -150,7 +151,7 @@ pub fn say_start(out: &mut Vec<u8>, json: bool, node: NodeId) -> Result<(), Allo
 /// Appends that this node has written a snapshot.
 ///
 /// # Errors
-/// `OutOfMemory`. Then bytes of the line may stand at the end.
+/// Bytes of the line may then stand at the end.
 pub fn say_snapshot(out: &mut Vec<u8>, json: bool, node: NodeId) -> Result<(), AllocError>
     ensures ok { OnOk result (out.new.items ≡ out.old.items ++ snapshot_said json node) }
 {
@@ -164,7 +165,7 @@ pub fn say_snapshot(out: &mut Vec<u8>, json: bool, node: NodeId) -> Result<(), A
 /// Appends that this node has written no snapshot.
 ///
 /// # Errors
-/// `OutOfMemory`. Then bytes of the line may stand at the end.
+/// Bytes of the line may then stand at the end.
 pub fn say_no_snapshot(out: &mut Vec<u8>, json: bool, node: NodeId) -> Result<(), AllocError>
     ensures ok { OnOk result (out.new.items ≡ out.old.items ++ no_snapshot_said json node) }
 {
@@ -178,7 +179,7 @@ pub fn say_no_snapshot(out: &mut Vec<u8>, json: bool, node: NodeId) -> Result<()
 /// Appends that this node, which is asked, is down.
 ///
 /// # Errors
-/// `OutOfMemory`. Then bytes of the line may stand at the end.
+/// Bytes of the line may then stand at the end.
 pub fn say_down(out: &mut Vec<u8>, json: bool, node: NodeId) -> Result<(), AllocError>
     ensures ok { OnOk result (out.new.items ≡ out.old.items ++ down_said json node) }
 {
@@ -192,7 +193,7 @@ pub fn say_down(out: &mut Vec<u8>, json: bool, node: NodeId) -> Result<(), Alloc
 /// Appends what a node tells of itself.
 ///
 /// # Errors
-/// `OutOfMemory`. Then bytes of the line may stand at the end.
+/// Bytes of the line may then stand at the end.
 pub fn say_status(out: &mut Vec<u8>, json: bool, status: &NodeStatus) -> Result<(), AllocError>
     ensures ok { OnOk result (out.new.items ≡ out.old.items ++ status_said json status.now) }
 {
@@ -206,7 +207,7 @@ pub fn say_status(out: &mut Vec<u8>, json: bool, status: &NodeStatus) -> Result<
 /// Appends the commands.
 ///
 /// # Errors
-/// `OutOfMemory`. Then bytes of the line may stand at the end.
+/// Bytes of the line may then stand at the end.
 pub fn say_help(out: &mut Vec<u8>, json: bool) -> Result<(), AllocError>
     ensures ok { OnOk result (out.new.items ≡ out.old.items ++ help_said json) }
 {
@@ -220,7 +221,7 @@ pub fn say_help(out: &mut Vec<u8>, json: bool) -> Result<(), AllocError>
 /// Appends a fault: what is wrong, and what is expected, where there are `nodes` nodes.
 ///
 /// # Errors
-/// `OutOfMemory`. Then bytes of the line may stand at the end.
+/// Bytes of the line may then stand at the end.
 pub fn say_fault(
     out: &mut Vec<u8>,
     json: bool,

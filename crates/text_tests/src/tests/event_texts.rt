@@ -3,7 +3,7 @@
 use rr_tape::Tape;
 use rr_text::Schedule;
 use rr_types::Refusal;
-use std::alloc::Global;
+use std::alloc::{AllocError, Global};
 use std::process::Abort;
 
 /// What has such a text.
@@ -12,7 +12,7 @@ pub trait EventText {
     fn parse(alloc: Global, bytes: &[u8]) -> Result<Self, Refusal>;
 
     /// Its text.
-    fn text(&self, alloc: Global) -> Result<Vec<u8>, Refusal>;
+    fn text(&self, alloc: Global) -> Result<Vec<u8>, AllocError>;
 
     /// How many events it has.
     fn event_count(&self) -> usize;
@@ -23,7 +23,7 @@ impl EventText for Schedule {
         Schedule::parse(alloc, bytes)
     }
 
-    fn text(&self, alloc: Global) -> Result<Vec<u8>, Refusal> {
+    fn text(&self, alloc: Global) -> Result<Vec<u8>, AllocError> {
         Schedule::text(self, alloc)
     }
 
@@ -37,7 +37,7 @@ impl EventText for Tape {
         Tape::parse(alloc, bytes)
     }
 
-    fn text(&self, alloc: Global) -> Result<Vec<u8>, Refusal> {
+    fn text(&self, alloc: Global) -> Result<Vec<u8>, AllocError> {
         Tape::text(self, alloc)
     }
 

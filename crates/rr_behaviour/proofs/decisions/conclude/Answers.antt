@@ -1,5 +1,5 @@
 use Rattle.rr_behaviour.proofs.RelayLemmas.{conclude_from}
 use Rattle.rr_behaviour.proofs.decisions.conclude.Goals as goal
 
-pub returns-clause-ok : goal.returns-clause-ok
-returns-clause-ok c = conclude_from _ _ _ _ _ _ c.next_number-number.ensures.value c.in_ok-stage.ensures.ok c.in_ok-owe_others.ensures.ok
+pub returns : goal.returns
+returns c = conclude_from _ _ _ _ _ _ c.next_number-number.ensures.value c.in_ok-stage.ensures.ok c.in_ok-owe_others.ensures.ok

@@ -1,5 +1,5 @@
 use Rattle.rr_behaviour.proofs.RoundLemmas.{propose_from}
 use Rattle.rr_behaviour.proofs.proposing.propose.Goals as goal
 
-pub returns-clause-ok : goal.returns-clause-ok
-returns-clause-ok c = propose_from _ _ _ _ _ _ _ c.next_number-number.ensures.value c.in_ok-stage.ensures.ok c.in_ok-owe_everyone.ensures.ok
+pub returns : goal.returns
+returns c = propose_from _ _ _ _ _ _ _ c.next_number-number.ensures.value c.in_ok-stage.ensures.ok c.in_ok-owe_everyone.ensures.ok

@@ -17,7 +17,7 @@ loop-command-preserved c =
     let chosen = chosen_found c.args.nodes wire (get nat_cmp c.in_ok-found.found) c.in_ok-found.ensures.chosen c.len.result (length c.loop-command.list.items) c.in-Some.command.now (c.len.ensures ∙ c.loop-command.list.ok.0) (sym c.in-Some.ensures.value) in
     rw c.in_ok-push.ensures.items (chosen_push c.args.nodes wire c.loop-command.list.items c.in-Some.command.now c.loop-command.invariant chosen)
 
-pub returns-clause-list : goal.returns-clause-list
-returns-clause-list c =
+pub returns : goal.returns
+returns c =
     is_longest c.args.nodes c.args.wire.now c.loop-command.list.items c.loop-command.invariant
     (λ v h. none_found _ c.in_default.ensures.value (c.in_ok-found.ensures.all c.len.result v (subst (λ (k : ℕ). IsChosen c.args.nodes c.args.wire.now k v) (sym (c.len.ensures ∙ c.loop-command.list.ok.0)) h)))

@@ -15,7 +15,7 @@ its_list c =
     subst (λ (list : List Command). IsDecidedList c.args.nodes c.in_ok-cluster.cluster.wire list) (sym (ap (λ (r : Reported). r.decided) c.new.ensures))
     (subst (λ (wire : List Message). IsDecidedList c.args.nodes wire c.in_ok-decided.decided.items) c.wire.ensures c.in_ok-decided.ensures.list)
 
-pub returns-clause-world : goal.returns-clause-world
-returns-clause-world c =
+pub returns : goal.returns
+returns c =
     let valid = c.requires.ranges in
     is_world_run c.args.nodes valid.0 (node_laws c.args.nodes c.requires.few) c.args.events.now c.in_ok-cluster.cluster c.new.result valid.1 c.in_ok-cluster.ensures.spelt (same_lines c) (its_list c)

@@ -6,8 +6,8 @@ use Rattle.rr_sweep.proofs.opening.open.Goals as goal
 pub loop-call-init : goal.loop-call-init
 loop-call-init c = open_begins c.args.seat c.step.new.self c.step.result c.requires.stands c.requires.down c.step.ensures.gives c.step.ensures.spelt
 
-pub returns-in-Some-clause-opens : goal.returns-in-Some-clause-opens
-returns-in-Some-clause-opens c =
+pub returns-in-Some : goal.returns-in-Some
+returns-in-Some c =
     open_ends c.args.node c.args.seat c.loop-call.seat c.open_on.new.seat c.loop-call._call c.in-Some.facts c.in-Some.decided c.in-Some.names
     (line.Restart c.args.node c.in-Some.facts c.in-Some.decided c.in_ok-bindings.bindings) c.loop-call.invariant c.loop-call-test.true c.requires.down
     (λ n p left goes. where_some _ _ c.in_ok-facts.field-0 (c.in-Some.facts, c.in-Some.decided, c.in-Some.names) c.in-Some.is (c.in_ok-facts.ensures.calls n p left goes))

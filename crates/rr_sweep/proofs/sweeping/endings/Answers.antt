@@ -2,8 +2,8 @@ use Rattle.rr_sweep.specs.declared.ending.Ending.TheVariants.{Open, Closed, Cut,
 use Rattle.rr_sweep.proofs.Five.{IsLineOf, five}
 use Rattle.rr_sweep.proofs.sweeping.endings.Goals as goal
 
-pub returns-clause-ok : goal.returns-clause-ok
-returns-clause-ok c =
+pub returns : goal.returns
+returns c =
     let at = c.args.line in
     let p = c.args.node in
     let w = c.args.word in

@@ -38,8 +38,8 @@ loop-event-preserved c =
           (subst (λ (lines : List SweepLine). HasSwept c.args.nodes m c.args.seed (take index events ++ e ∷ []) lines c.step.new.self) (sym c.in_ok-append.ensures.ok) swept),
     )
 
-pub returns-clause-lines : goal.returns-clause-lines
-returns-clause-lines c =
+pub returns : goal.returns
+returns c =
     let r = c.requires.ranges in
     let events = c.args.events.now in
     let before = c.loop-event.lines.items in

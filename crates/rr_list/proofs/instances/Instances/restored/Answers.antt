@@ -33,8 +33,8 @@ invariant_of-result c =
       placed = λ i f. ap (λ rs. row_of rs i) put ∙ placed_all (map (promised_row c.args.next) c.args.promise.now) c.restore.new.self made i f;
     }
 
-pub returns-in-Ok-clause-ok : goal.returns-in-Ok-clause-ok
-returns-in-Ok-clause-ok c =
+pub returns-in-Ok : goal.returns-in-Ok
+returns-in-Ok c =
     listed_is c.restore-2.new.self _ _ c.args.promise.now
     (c.in-Ok.ensures.ok ∙ ap (λ (rs : List Row). put_rows rs (map (promised_row c.args.next) c.args.promise.now)) c.new-rows.ensures ∙ promise_rows c.args.next c.args.promise.now c.requires.ascends)
     c.in_ok-restore.ensures.value

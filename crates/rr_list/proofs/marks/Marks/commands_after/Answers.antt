@@ -5,8 +5,8 @@ use Rattle.rr_list.proofs.PrefixLemmas.{ascending}
 use Rattle.rr_list.proofs.MarkLemmas.{run_from, decided_in, prefix_grows, found_more, found_all, ascend_all}
 use Rattle.rr_list.proofs.marks.Marks.commands_after.Goals as goal
 
-pub returns-in-None-clause-ok : goal.returns-in-None-clause-ok
-returns-in-None-clause-ok c =
+pub returns-in-None : goal.returns-in-None
+returns-in-None c =
     let es = marked_in c.args.self.now in
     let after = take_on_all es c.args.facts.now in
     let more = ascend_all es c.args.facts.now (ascending c.args.self.now c.requires.marks) in
@@ -25,8 +25,8 @@ loop-place-preserved c =
       small = omega (arith, c.loop-place-test.true);
     }
 
-pub returns-clause-ok : goal.returns-clause-ok
-returns-clause-ok c =
+pub returns : goal.returns
+returns c =
     let es = marked_in c.args.self.now in
     let after = take_on_all es c.args.facts.now in
     let more = ascend_all es c.args.facts.now (ascending c.args.self.now c.requires.marks) in

@@ -11,8 +11,8 @@ crashes-requires c =
     (behind_it r.0 r.1 r.2 r.3 r.4 c.args.line c.args.event.now c.args.self.now c.step_in_memory.new.self c.forget_lines.new.self r.5 c.in_ok-step_in_memory.ensures.ok c.in_ok-step_in_memory.ensures.spelt c.forget_lines.ensures)
     r.5.there
 
-pub returns-clause-ok : goal.returns-clause-ok
-returns-clause-ok c n m seed events lines is =
+pub returns : goal.returns
+returns c n m seed events lines is =
     let e = c.args.event.now in
     let now : Sweeping = record c.args.self.now { cluster = c.forget_lines.new.self } in
     let b = behind_it n m seed events lines c.args.line e c.args.self.now c.step_in_memory.new.self c.forget_lines.new.self is c.in_ok-step_in_memory.ensures.ok c.in_ok-step_in_memory.ensures.spelt c.forget_lines.ensures in
