@@ -15,6 +15,12 @@ use crate::version::Version;
 use rr_types::{Command, Fact, GROUP, Group, Op, Refusal, made_of};
 use std::alloc::{AllocError, Global};
 
+// The bytes in front of a group's facts: its serial and their number.
+const FRONT: usize = 8 + 2;
+
+// The most bytes of a fact: kind, instance, round, stamp, and a command whose name and value have 64 bytes each.
+const LARGEST_FACT: usize = 1 + 4 + 4 + 4 + (4 + 8 + 1 + 65 + 65);
+
 fn read_facts(
     alloc: Global,
     version: Version,
@@ -25,7 +31,7 @@ fn read_facts(
     ensures count { IfOk result (λ v. length v.items ≡ count) }
 {
     made_of!(Command, Op);
-    let mut facts = Vec::new(alloc);
+    let mut facts = Vec::with_capacity(alloc, usize::from(count))?;
     for _ in 0..count {
         let fact = read_fact(version, reader)?;
         facts.push(fact)?;
@@ -79,11 +85,10 @@ pub fn encode_group(alloc: Global, group: &Group) -> Result<Vec<u8>, Refusal>
     ensures lawful { OnOk result (IsLawfulGroup group.now) }
     ensures err { IfErr result (λ e. e ≡ Refusal.OutOfMemory) }
 {
-    let mut out = Vec::new(alloc);
-    match put_group(&mut out, group) {
-        Ok(()) => Ok(out),
-        Err(_) => Err(Refusal::OutOfMemory),
-    }
+    // room for all of it, so that it doesn't move while it grows
+    let mut out = Vec::with_capacity(alloc, FRONT + LARGEST_FACT * group.facts().len())?;
+    put_group(&mut out, group)?;
+    Ok(out)
 }
 
 #[tactic(auto, unfolding(crate::specs::GroupFormat::group_in))]

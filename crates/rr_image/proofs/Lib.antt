@@ -1,7 +1,7 @@
 pub mod ContentLemmas
+pub mod EntryLemmas
 pub mod FrameLaws
 pub mod ImageLaws
 pub mod InspectLaws
-pub mod PlaceLemmas
 pub mod ReadingLaws
 pub mod TakeLemmas

@@ -1,6 +1,6 @@
 pub mod Ends
+pub mod Entries
 pub mod Held
 pub mod Image
 pub mod Inspect
 pub mod Migration
-pub mod Places

@@ -4,9 +4,10 @@ ghost use Rattle.std.specs.Prelude.{◌≡◌, ◌+◌, ◌<◌, ◌^◌, length
 ghost use Rattle.rr_image.specs.Image.{frame_behind, with_group, after_payload, content_from};
 ghost use Rattle.rr_image.specs.Ends.{Ends};
 
+use crate::entries::Entries;
 use crate::promised::take_on_all;
 use rr_frame::{Reader, Version, decode_group};
-use rr_types::{Command, Entry, Group, NodeId, Nodes, Op, Promise, Refusal, Standing, made_of};
+use rr_types::{Entry, Group, NodeId, Nodes, Promise, Refusal};
 use std::alloc::{AllocError, Global};
 use std::marker::Model;
 
@@ -114,7 +115,70 @@ pub fn frame_behind(bytes: &[u8]) -> Option<(&[u8], &[u8])>
     Some((payload, rest))
 }
 
-impl Content {
+/// A content while groups are read.
+#[derive(Drop)]
+struct Reading {
+    epoch: u64,
+    entries: Entries,
+    next: u64,
+    gate: u64,
+}
+
+impl Model for Reading {
+    ghost use Rattle.rr_image.specs.Image.{Content as ContentOf};
+
+    ghost Value = { ContentOf };
+
+    ghost view = { λ r. record { epoch = r.epoch; promise = r.entries; next = r.next; gate = r.gate } };
+}
+
+impl Reading {
+    /// A content to go on with.
+    fn of(alloc: Global, content: Content) -> Result<Reading, AllocError>
+        ensures { IfOk result (λ r. r ≡ content) }
+    {
+        let Content {
+            epoch,
+            entries,
+            next,
+            gate,
+        } = content;
+        let entries = Entries::of(alloc, entries)?;
+        Ok(Reading {
+            epoch,
+            entries,
+            next,
+            gate,
+        })
+    }
+
+    /// What was read.
+    fn into_content(self) -> Result<Content, AllocError>
+        ensures { IfOk result (λ c. c ≡ self) }
+    {
+        let Reading {
+            epoch,
+            entries,
+            next,
+            gate,
+        } = self;
+        let entries = entries.into_vec()?;
+        Ok(Content {
+            epoch,
+            entries,
+            next,
+            gate,
+        })
+    }
+
+    /// The place of the last gate.
+    fn gate(&self) -> u64
+        ensures { result ≡ self.now.gate }
+    {
+        let gate = self.gate;
+        gate
+    }
+
     /// The content after a group, which fits if it begins with the next fact and each fact fits the promise before.
     fn with_group(
         self,
@@ -122,12 +186,11 @@ impl Content {
         node: NodeId,
         group: &Group,
         size: u64,
-    ) -> Result<Option<Content>, AllocError>
+    ) -> Result<Option<Reading>, AllocError>
         requires { self.gate + 5 + size < 2 ^ 64 }
         ensures { IfOk result (λ c. c ≡ with_group nodes node group.now size self) }
     {
-        made_of!(Command, Op, Standing);
-        let Content {
+        let Reading {
             epoch,
             mut entries,
             next,
@@ -138,7 +201,7 @@ impl Content {
             return Ok(None);
         }
         match take_on_all(nodes, node, &mut entries, facts) {
-            Ok(true) => Ok(Some(Content {
+            Ok(true) => Ok(Some(Reading {
                 epoch,
                 entries,
                 next: next + facts.len() as u64,
@@ -157,7 +220,7 @@ impl Content {
         nodes: Nodes,
         node: NodeId,
         payload: &[u8],
-    ) -> Result<Option<Content>, AllocError>
+    ) -> Result<Option<Reading>, AllocError>
         requires { self.gate + 5 + length payload.now < 2 ^ 64 }
         ensures { IfOk result (λ c. c ≡ after_payload version nodes node self payload.now) }
     {
@@ -181,21 +244,26 @@ pub fn read_groups(
     requires { content.gate + length bytes.now < 2 ^ 64 }
     ensures { Ends result (content_from version (length bytes.now) nodes node content bytes.now) }
 {
-    let mut content = content;
+    let Ok(mut reading) = Reading::of(alloc, content) else {
+        return Err(Halt::OutOfMemory);
+    };
     let mut rest = bytes;
     while !rest.is_empty() && rest[0] == OPEN_GATE {
-        let gate = content.gate();
+        let gate = reading.gate();
         let Some((payload, after)) = frame_behind(&rest[1..]) else {
             return Err(Halt::Broken(gate));
         };
-        match content.after_payload(alloc, version, nodes, node, payload) {
+        match reading.after_payload(alloc, version, nodes, node, payload) {
             Ok(Some(next)) => {
-                content = next;
+                reading = next;
                 rest = after;
             }
             Ok(None) => return Err(Halt::Broken(gate)),
             Err(_) => return Err(Halt::OutOfMemory),
         }
     }
-    Ok(content)
+    match reading.into_content() {
+        Ok(content) => Ok(content),
+        Err(_) => Err(Halt::OutOfMemory),
+    }
 }

@@ -4,6 +4,7 @@
 #![tactic(auto)]
 
 mod content;
+mod entries;
 mod image;
 mod inspection;
 mod promised;

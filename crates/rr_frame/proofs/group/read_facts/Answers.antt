@@ -8,7 +8,7 @@ use Rattle.rr_frame.proofs.group.read_facts.Goals as goal
 
 pub returns-in_err-fact-clause-read : goal.returns-in_err-fact-clause-read
 returns-in_err-fact-clause-read c =
-    let p = err_from_is_err_and c.from_residual.result c.from_residual.ensures.1 in
+    let p = err_from_is_err_and c.from_residual-in_err-fact.result c.from_residual-in_err-fact.ensures.1 in
     rw (p.1, p.2) (facts_stop c.args.version (stops.Malformed c.in_err-fact.field-0.0) c.loop.facts.items c.args.count c.loop.counter c.loop.reader (facts_at c.args.version c.args.count c.args.reader.now) c.loop-test.true c.in_err-fact.ensures c.loop.invariant.read)
 
 pub returns-clause-read : goal.returns-clause-read

@@ -5,8 +5,8 @@ use Rattle.rr_image.proofs.content.read_groups.Given as goal
 
 abbrev pub invariant-loop-rest : goal.invariant-loop-rest
 invariant-loop-rest l = record {
-  on : GoesOn l.version l.nodes l.node l.content l.rest (content_from l.version (length l.bytes) l.nodes l.node l.fn.content l.bytes);
-  room : l.content.gate + length l.rest ≤ l.fn.content.gate + length l.bytes;
+  on : GoesOn l.version l.nodes l.node l.reading l.rest (content_from l.version (length l.bytes) l.nodes l.node l.fn.content l.bytes);
+  room : l.reading.gate + length l.rest ≤ l.fn.content.gate + length l.bytes;
 }
 
 abbrev pub decreases-loop-rest : goal.decreases-loop-rest

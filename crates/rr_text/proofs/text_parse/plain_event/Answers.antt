@@ -1,4 +1,4 @@
-use Rattle.std.proofs.Common.{◌≡◌, ◌+◌, ◌<◌, ◌≤◌, Some, refl, sym, arith}
+use Rattle.std.proofs.Common.{◌≡◌, ◌+◌, ◌<◌, Some, refl, sym, arith}
 use Rattle.rr_text.specs.Reading.{plain_at}
 use Rattle.rr_text.proofs.ScheduleReading.{plain_taken}
 use Rattle.rr_text.proofs.text_parse.plain_event.Goals as goal
