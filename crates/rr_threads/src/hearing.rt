@@ -1,6 +1,6 @@
 //! What a node hears.
 
-use crate::node_loop::Mail;
+use crate::node_loop::{Mail, Runner};
 use crate::recorder::Recorder;
 use rr_inbox::ROOM;
 use rr_locked::{Chase, Hearing, Kept, Locked, Sent, hear_on};
@@ -67,10 +67,10 @@ pub fn hear_kept<R: Wait>(
     rt: &R,
     node: &Mutex<Locked>,
     recorder: Option<&Recorder>,
-    mail: &mut Mail,
-    chase: &mut Chase,
+    runner: &mut Runner,
 ) -> Result<(), Refusal> {
-    let kept = mem::replace(&mut mail.kept, Kept::new());
+    let kept = mem::replace(&mut runner.mail.kept, Kept::new());
+    let chase = &mut runner.chase;
     let mut locked = node.lock(rt);
     meet_kept(rt, &mut locked, recorder, chase, kept.request())?;
     meet_kept(rt, &mut locked, recorder, chase, kept.opening())?;
@@ -82,23 +82,22 @@ pub fn hear_all<R: Wait>(
     rt: &R,
     node: &Mutex<Locked>,
     recorder: Option<&Recorder>,
-    mail: &mut Mail,
-    chase: &mut Chase,
+    runner: &mut Runner,
     most: usize,
 ) -> Result<bool, Refusal> {
     // Mostly nothing waits. To ask is cheaper than to make room for a message.
-    if mail.inbox.is_empty() {
+    if runner.mail.inbox.is_empty() {
         return Ok(false);
     }
-    let Some(first) = mail.inbox.take(rt) else {
+    let Some(first) = runner.mail.inbox.take(rt) else {
         return Ok(false);
     };
     let mut locked = node.lock(rt);
-    meet(rt, &mut locked, recorder, chase, &first)?;
+    meet(rt, &mut locked, recorder, &mut runner.chase, &first)?;
     for _ in 1..most {
-        match mail.inbox.take(rt) {
+        match runner.mail.inbox.take(rt) {
             None => break,
-            Some(sent) => meet(rt, &mut locked, recorder, chase, &sent)?,
+            Some(sent) => meet(rt, &mut locked, recorder, &mut runner.chase, &sent)?,
         }
     }
     Ok(true)

@@ -238,14 +238,7 @@ fn submit_next<W: WindowName, T: Turnstile, R: Wait>(
     let (node, recorder) = (&desk.locked, shared.recorder);
     let (count, receivers) = {
         let _order = shared.running.order().lock(rt);
-        hear_all(
-            rt,
-            node,
-            recorder,
-            &mut runner.mail,
-            &mut runner.chase,
-            ROOM,
-        )?;
+        hear_all(rt, node, recorder, runner, ROOM)?;
         let count = submit_all(rt, shared, desk);
         (count, put_all(rt, node, recorder, runner, ROOM)?)
     };
@@ -298,14 +291,7 @@ fn tick_next<R: Wait + Clock>(
     if !clockwork.ticks.look(now(rt)?) {
         return Ok(());
     }
-    hear_all(
-        rt,
-        node,
-        recorder,
-        &mut runner.mail,
-        &mut runner.chase,
-        ROOM,
-    )?;
+    hear_all(rt, node, recorder, runner, ROOM)?;
     if hear_again(rt, node, recorder, &mut runner.chase)? {
         return Ok(());
     }
@@ -344,14 +330,7 @@ fn look<W: WindowName, T: Turnstile, R: Wait>(
     let has_marked = mark_next(rt, desk, recorder, &mut runner.backs)?;
     let has_submitted = submit_next(rt, shared, desk, runner)?;
     let has_sent = send_all(rt, &shared.running, node, recorder, runner)?;
-    let has_heard = hear_all(
-        rt,
-        node,
-        recorder,
-        &mut runner.mail,
-        &mut runner.chase,
-        BATCH,
-    )?;
+    let has_heard = hear_all(rt, node, recorder, runner, BATCH)?;
     let has_staged = flush_next(rt, node, recorder, &mut runner.groups)?;
     if has_staged {
         desk.flusher.unpark();
@@ -383,13 +362,7 @@ fn begin<W: WindowName, T, R: Wait + Clock>(
     desk: &Desk<W>,
     runner: &mut Runner,
 ) -> Result<Clockwork, Refusal> {
-    let Runner {
-        mail,
-        chase,
-        groups: _,
-        backs: _,
-    } = runner;
-    hear_kept(rt, &desk.locked, shared.recorder, mail, chase)?;
+    hear_kept(rt, &desk.locked, shared.recorder, runner)?;
     Ok(Clockwork {
         ticks: Ticks::new(now(rt)?, shared.tick),
         standstill: Standstill::new(),

@@ -225,7 +225,7 @@ fn run_all<
 /// # Errors
 /// `BadNodes`, unless there are a disk and a place for clients for each node. Of several others the lowest node's:
 /// - `OutOfMemory`;
-/// - `Device`, where a device call failed;
+/// - `Device`, where a device call failed or the clock can't be read;
 /// - `Damaged`, of a disk that holds no facts;
 /// - `TooLarge`, where a node's journal or its facts are at their end;
 /// - `SeatsTaken`, of a node with more than 64 clients;
