@@ -9,7 +9,7 @@ ghost use Rattle.rr_cli.specs.Refusals.{status_of};
 ghost use Rattle.rr_run.specs.Runs.{EndsOnFolders, EndsOnScript, EndsOnRun};
 
 use crate::closed::{Closed, end_by_closed};
-use crate::folder::{Folders, enter, survey};
+use crate::folder::{Folders, enter, survey_folders};
 use crate::forming::try_folder;
 use crate::lock::Lockable;
 use rr_cli::{end_by_refusal, end_by_stream, end_by_text, nodes_of, print_folder_fault};
@@ -204,7 +204,7 @@ fn run_over<
     ensures quiet { result ≡ 0 → Keeps (E.contents err.old) (E.contents err.new) }
 {
     let nodes = script.nodes();
-    let surveyed = match survey(rt, nodes, dir) {
+    let surveyed = match survey_folders(rt, nodes, dir) {
         Ok(surveyed) => surveyed,
         Err(closed) => return end_by_closed(rt, err, dir, nodes, &closed),
     };
