@@ -49,6 +49,19 @@ TOUR = [
         ],
     ),
     (
+        "Folders that know each other",
+        "A node whose folder is lost may have promised what it no longer knows. It isn't taken for a fresh one, nothing is written, and no folder "
+        "is made. With the folder back the cluster goes on.",
+        [
+            "printf 'claim a x\\nclaim b\\n' | rr shell --nodes 3 --dir kin --client 7; ls kin",
+            "mv kin/0 lost; echo 'claim a thief' | rr shell --nodes 3 --dir kin --client 9; ls kin",
+            "mv lost kin/0; mv kin/1/a0 lost; : > kin/1/a0; echo 'claim a thief' | rr shell --nodes 3 --dir kin --client 9",
+            "mv lost kin/1/a0; echo 'look a' | rr shell --nodes 5 --dir kin; ls kin",
+            "mv kin/1 aside; mv kin/2 kin/1; mv aside kin/2; echo 'look a' | rr shell --nodes 3 --dir kin",
+            "mv kin/1 aside; mv kin/2 kin/1; mv aside kin/2; printf 'look a\\nclaim a thief\\n' | rr shell --nodes 3 --dir kin --client 9",
+        ],
+    ),
+    (
         "Help",
         "`-h` is short, and `--help` also has the format and two examples.",
         [

@@ -259,6 +259,9 @@ class Watched:
         for number, its in enumerate(self.nodes):
             for area, data in enumerate(self.torn(its)):
                 self.rig.write(f"gone-on/{number}/a{area}", data)
+        # As the cluster's file is until the last node has been formatted.
+        if not all(its.disk.epoch for its in self.nodes):
+            self.rig.write("gone-on/cluster", b"cluster-1 1 2 %d -\n" % self.count)
         script = self.rig.write("again", scripts.text_of(self.everything))
         before = [reading.Disk(its.synced) for its in self.nodes]
         found = scripts.acknowledged(self.lines, self.named)

@@ -60,13 +60,23 @@ pub(crate) fn done<R: AllocGlobal, T: Drop>(
 ) -> Result<T, Closed> {
     match given {
         Ok(value) => Ok(value),
-        Err(error) => {
-            if error.kind() == ErrorKind::OutOfMemory {
-                return Err(Closed::OutOfMemory);
-            }
-            let path = format!(in rt.alloc(); "{path}")?;
-            Err(Closed::Failed { path, call, error })
-        }
+        Err(error) => Err(failed(rt, path, call, error)),
+    }
+}
+
+/// Why the folders aren't opened where this call on a path failed.
+pub(crate) fn failed<R: AllocGlobal>(
+    rt: &R,
+    path: &str,
+    call: &'static str,
+    error: io::Error,
+) -> Closed {
+    if error.kind() == ErrorKind::OutOfMemory {
+        return Closed::OutOfMemory;
+    }
+    match format!(in rt.alloc(); "{path}") {
+        Ok(path) => Closed::Failed { path, call, error },
+        Err(_) => Closed::OutOfMemory,
     }
 }
 

@@ -141,7 +141,7 @@ fn look_in<
 }
 
 /// Locks the folder DIR, which is made where it is missing, and looks at all folders of a cluster. Nothing else is made.
-pub(crate) fn survey<
+pub(crate) fn survey_folders<
     F: Read + Write + Seek + FileExt + OpenFile + Drop + Lockable,
     R: Files<File = F> + AllocGlobal,
 >(rt: &R, nodes: Nodes, dir: &str) -> Result<Survey<F>, Closed>
@@ -213,6 +213,6 @@ pub(crate) fn open_folders<
 >(rt: &R, nodes: Nodes, dir: &str) -> Result<Folders<F>, Closed>
     ensures { IfOk result (λ f. length f.disks.items ≡ nodes) }
 {
-    let survey = survey(rt, nodes, dir)?;
+    let survey = survey_folders(rt, nodes, dir)?;
     enter(rt, nodes, dir, survey)
 }

@@ -56,7 +56,7 @@ fn put_in_place<R: Files + AllocGlobal>(
     done(rt, dir, "syncing the folder", folder.sync_all())
 }
 
-// Writes the file of a node's folder, unless it has one.
+// Writes the file of a node's folder, unless it is there.
 fn write_mark<R: Files + AllocGlobal>(
     rt: &R,
     dir: &str,
@@ -64,8 +64,10 @@ fn write_mark<R: Files + AllocGlobal>(
     identity: Identity,
     seen: &Seen,
 ) -> Result<(), Closed> {
-    if seen.found.mark.is_some() {
-        return Ok(());
+    if let Some(mark) = seen.found.mark {
+        if mark.identity.is(identity) && mark.node == node {
+            return Ok(());
+        }
     }
     let index = node.index();
     let folder = format!(in rt.alloc(); "{dir}/{index}")?;

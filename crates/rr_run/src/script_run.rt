@@ -9,7 +9,7 @@ ghost use Rattle.rr_cli.specs.Refusals.{status_of};
 ghost use Rattle.rr_run.specs.Runs.{EndsOnFolders, EndsOnScript, EndsOnNamed, EndsOnRun};
 
 use crate::closed::{Closed, end_by_closed};
-use crate::folder::{Folders, enter, survey};
+use crate::folder::{Folders, Survey, enter, survey_folders};
 use crate::forming::try_folder;
 use crate::lock::Lockable;
 use rr_cli::{end_by_refusal, end_by_stream, end_by_text, nodes_of, print_folder_fault};
@@ -145,53 +145,61 @@ fn end_by_tape<R: Files + AllocGlobal, O: Sink, E: Write>(
     }
 }
 
-// Runs a script over open folders, and prints the answers. The locks are released after the run.
+// Runs a script over folders as they were found, and prints the answers. The locks are released after the run.
 fn run_in<
-    F: Read + Write + Seek + FileExt + OpenFile + Drop + Send,
+    F: Read + Write + Seek + FileExt + OpenFile + Drop + Send + Lockable,
     R: Files<File = F> + AllocGlobal + Threads + Wait + Clock + Sync,
     O: Sink,
     E: Write,
->(rt: &R, dir: &str, folders: Folders<F>, script: &Script, out: &mut O, err: &mut E) -> u8
-    requires each { length folders.disks.items ≡ script.now.nodes }
+>(rt: &R, dir: &str, survey: Survey<F>, script: &Script, out: &mut O, err: &mut E) -> u8
     ensures ends { EndsOnFolders None result (O.printing out.old) (O.printing out.new) }
     ensures quiet { result ≡ 0 → Keeps (E.contents err.old) (E.contents err.new) }
 {
+    let nodes = script.nodes();
+    let folders = match enter(rt, nodes, dir, survey) {
+        Ok(folders) => folders,
+        Err(closed) => return end_by_closed(rt, err, dir, nodes, &closed),
+    };
     let Folders { locks, disks } = folders;
     let ran = run_script(rt, rt.alloc(), disks, script, &Open, None);
     drop(locks);
     match ran {
         Ok(answers) => end_by_answers(rt.alloc(), &answers, out, err),
-        Err(refusal) => end_by_run_fault(rt, err, dir, script.nodes(), &refusal),
+        Err(refusal) => end_by_run_fault(rt, err, dir, nodes, &refusal),
     }
 }
 
-// Runs a script over fresh folders that are open, writes the tape to a file of this name, and prints the answers.
+// Runs a script over folders that were found fresh, writes the tape to a file of this name, and prints the answers.
 fn run_taped<
-    F: Read + Write + Seek + FileExt + OpenFile + Drop + Send,
+    F: Read + Write + Seek + FileExt + OpenFile + Drop + Send + Lockable,
     R: Files<File = F> + AllocGlobal + Threads + Wait + Clock + Sync,
     O: Sink,
     E: Write,
->(
-    rt: &R,
-    dir: &str,
-    folders: Folders<F>,
-    script: &Script,
-    path: &str,
-    out: &mut O,
-    err: &mut E,
-) -> u8
-    requires each { length folders.disks.items ≡ script.now.nodes }
+>(rt: &R, dir: &str, survey: Survey<F>, script: &Script, path: &str, out: &mut O, err: &mut E) -> u8
     ensures ends { EndsOnFolders (Some path.now) result (O.printing out.old) (O.printing out.new) }
     ensures quiet { result ≡ 0 → Keeps (E.contents err.old) (E.contents err.new) }
 {
+    let nodes = script.nodes();
+    let folders = match enter(rt, nodes, dir, survey) {
+        Ok(folders) => folders,
+        Err(closed) => return end_by_closed(rt, err, dir, nodes, &closed),
+    };
     let Folders { locks, disks } = folders;
-    let recorder = Recorder::new(rt.alloc(), script.nodes());
+    let recorder = Recorder::new(rt.alloc(), nodes);
     let ran = run_script(rt, rt.alloc(), disks, script, &Open, Some(&recorder));
     drop(locks);
     match ran {
         Ok(answers) => end_by_tape(rt, path, &recorder.into_tape(), &answers, out, err),
-        Err(refusal) => end_by_run_fault(rt, err, dir, script.nodes(), &refusal),
+        Err(refusal) => end_by_run_fault(rt, err, dir, nodes, &refusal),
     }
+}
+
+// Ends because there is to be a tape, and an area is formatted.
+fn end_by_stale<E: Write>(err: &mut E) -> u8
+    ensures { result ≡ 2 }
+{
+    let _ = writeln!(err, "rr: --tape wants fresh folders");
+    2
 }
 
 // Runs a script over the folders in the folder DIR, and prints the answers; with a tape where a file is named for it.
@@ -205,21 +213,19 @@ fn run_over<
     ensures quiet { result ≡ 0 → Keeps (E.contents err.old) (E.contents err.new) }
 {
     let nodes = script.nodes();
-    let surveyed = match survey(rt, nodes, dir) {
-        Ok(surveyed) => surveyed,
-        Err(closed) => return end_by_closed(rt, err, dir, nodes, &closed),
-    };
-    if tape.is_some() && !surveyed.is_fresh() {
-        let _ = writeln!(err, "rr: --tape wants fresh folders");
-        return 2;
-    }
-    let folders = match enter(rt, nodes, dir, surveyed) {
-        Ok(folders) => folders,
+    let survey = match survey_folders(rt, nodes, dir) {
+        Ok(survey) => survey,
         Err(closed) => return end_by_closed(rt, err, dir, nodes, &closed),
     };
     match tape {
-        Some(path) => run_taped(rt, dir, folders, script, path, out, err),
-        None => run_in(rt, dir, folders, script, out, err),
+        Some(path) => {
+            if survey.is_fresh() {
+                run_taped(rt, dir, survey, script, path, out, err)
+            } else {
+                end_by_stale(err)
+            }
+        }
+        None => run_in(rt, dir, survey, script, out, err),
     }
 }
 

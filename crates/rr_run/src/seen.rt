@@ -1,8 +1,6 @@
 //! What is found of a cluster's folders before any is opened. Nothing is written.
 
-ghost use Rattle.std.specs.Prelude.{◌≡◌, length, IfOk};
-
-use crate::closed::{Closed, done};
+use crate::closed::{Closed, done, failed};
 use rr_cluster::{AreaFront, Cluster, Content, Found, Mark, content_of, front_of};
 use rr_types::Nodes;
 use std::fs;
@@ -22,15 +20,12 @@ pub(crate) struct Seen {
     pub(crate) has_mark_file: bool,
 }
 
-// Whether there is something at a path.
+/// Whether there is something at a path.
 pub(crate) fn is_there<R: Files + AllocGlobal>(rt: &R, path: &str) -> Result<bool, Closed> {
     match fs::metadata(rt, path) {
         Ok(_) => Ok(true),
         Err(error) if error.kind() == ErrorKind::NotFound => Ok(false),
-        Err(error) => {
-            let _ = done(rt, path, "looking", Err::<(), _>(error))?;
-            Ok(false)
-        }
+        Err(error) => Err(failed(rt, path, "looking", error)),
     }
 }
 

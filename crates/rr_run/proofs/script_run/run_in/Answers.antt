@@ -2,8 +2,11 @@ use Rattle.std.proofs.Common.{None, refl}
 use Rattle.rr_run.specs.Runs.{refused}
 use Rattle.rr_run.proofs.script_run.run_in.Goals as goal
 
-pub returns-in-Ok-clause-ends : goal.returns-in-Ok-clause-ends
-returns-in-Ok-clause-ends g c = c.end_by_answers.ensures.ends None
-
 pub returns-in-Err-clause-ends : goal.returns-in-Err-clause-ends
-returns-in-Err-clause-ends g c = refused c.in-Err.refusal c.end_by_run_fault.ensures refl
+returns-in-Err-clause-ends g c = refused c.end_by_closed.ensures.0 c.end_by_closed.ensures.1 refl
+
+pub returns-in-Ok-ran-clause-ends : goal.returns-in-Ok-ran-clause-ends
+returns-in-Ok-ran-clause-ends g c = c.end_by_answers.ensures.ends None
+
+pub returns-in-Err-ran-clause-ends : goal.returns-in-Err-ran-clause-ends
+returns-in-Err-ran-clause-ends g c = refused c.in-Err-ran.refusal c.end_by_run_fault.ensures refl
