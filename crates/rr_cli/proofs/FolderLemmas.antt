@@ -1,8 +1,15 @@
 -- Folders that were read, one after another.
-use Rattle.std.proofs.Common.{ℕ, zero, suc, ◌≤◌, List, [], ◌∷◌, ◌++◌, length, take, arith}
+use Rattle.std.proofs.Common.{◌≡◌, ◌∙◌, ℕ, zero, suc, ◌≤◌, Bool, true, false, List, [], ◌∷◌, ◌++◌, length, take, arith, sym, ap₂, subst}
+use Rattle.std.proofs.lemmas.Bool.{false≢true}
+use Rattle.rr_stream.specs.Streams.{Printing}
+use Rattle.rr_words.specs.declared.tasks.Form.{Form}
+use Rattle.rr_verify.specs.declared.verdict.Verdict.{Verdict}
+use Rattle.rr_verify.specs.Agreement.{Agree, HaveOneList, clashes_from}
+use Rattle.rr_verify.specs.Texts.{verdict_text}
+use Rattle.rr_cli.specs.Ends.{Prints, EndsOnVerification, agreed, disagreed}
 use Rattle.std.specs.List.{AllByRecursion}
 use Rattle.rr_verify.specs.declared.folder.Reading.{Reading}
-use Rattle.rr_cli.specs.Clusters.{IsRead, AreRead}
+use Rattle.rr_cli.specs.Clusters.{IsRead, AreRead, form_in, unlike}
 
 -- one more
 pub all_more : (rs : List Reading) (r : Reading) → AllByRecursion IsRead rs → IsRead r → AllByRecursion IsRead (rs ++ r ∷ [])
@@ -22,3 +29,22 @@ some_taken (suc n) (r ∷ rs) least some = omega arith
 -- the first of them
 pub taken : (n : ℕ) (rs : List Reading) → 1 ≤ n → 1 ≤ length rs → AllByRecursion IsRead rs → AreRead (take n rs)
 taken n rs least some all = record { some = some_taken n rs least some; each = all_taken n rs all }
+
+-- ---- verification
+
+agree_is : (b : Bool) (rs : List Reading) → (b ≡ true → Agree rs) × (Agree rs → b ≡ true) → b ≡ false → Agree rs → ⊥
+agree_is b rs both no agree = false≢true (sym no ∙ both.1 agree)
+
+-- what was printed says that they agree
+pub agreed_ends : (form : Form) (rs : List Reading) (v : Verdict) (text : List ℕ) (status : ℕ) (old new : Printing) → AreRead rs → (v.agree ≡ true → Agree rs) × (Agree rs → v.agree ≡ true) → (v.agree ≡ true → HaveOneList rs)
+    → v.clashes.items ≡ clashes_from 0 rs → text ≡ verdict_text (form_in form) rs v.clashes.items v.agree → v.agree ≡ true → Prints text status old new → EndsOnVerification form status old new
+agreed_ends form rs v text status old new read both one exact is said prints =
+    agreed rs read (both.0 said) (one said)
+    (subst (λ t. Prints t status old new) (is ∙ ap₂ (λ cs b. verdict_text (form_in form) rs cs b) exact said) prints)
+
+-- or that they don't
+pub disagreed_ends : (form : Form) (rs : List Reading) (v : Verdict) (text : List ℕ) (printing status : ℕ) (old new : Printing) → AreRead rs → (v.agree ≡ true → Agree rs) × (Agree rs → v.agree ≡ true)
+    → v.clashes.items ≡ clashes_from 0 rs → text ≡ verdict_text (form_in form) rs v.clashes.items v.agree → v.agree ≡ false → Prints text printing old new → status ≡ unlike printing → EndsOnVerification form status old new
+disagreed_ends form rs v text printing status old new read both exact is said prints ends =
+    disagreed rs printing read (agree_is v.agree rs both said)
+    (subst (λ t. Prints t printing old new) (is ∙ ap₂ (λ cs b. verdict_text (form_in form) rs cs b) exact said) prints) ends

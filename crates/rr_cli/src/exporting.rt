@@ -6,7 +6,7 @@ ghost use Rattle.std.specs.Io.KnownBytes.{Keeps};
 ghost use Rattle.rr_types.specs.declared.refusal.Refusal.TheVariants.{OutOfMemory};
 ghost use Rattle.rr_cli.specs.Ends.{EndsOnExport, EndsOnDir};
 ghost use Rattle.rr_cli.specs.Clusters.{AreRead, HoldsNothing, IsExportOf};
-ghost use Rattle.rr_verify.specs.Agreement.{AllAlike};
+ghost use Rattle.rr_verify.specs.Agreement.{AllAlike, longest_decided};
 
 use crate::folders::{end_without_dir, print_folder_faults, read_folders};
 use crate::refusals::end_by_refusal;
@@ -49,7 +49,17 @@ fn first_refusal(readings: &[Reading]) -> Option<&Refusal>
     }
 }
 
-// Prints the longest list that folders have decided, or its registry. They decide no instance differently.
+// The export of the longest list that folders have decided.
+fn export_text(alloc: Global, list: bool, readings: &[Reading]) -> Result<Vec<u8>, AllocError>
+    ensures text { IfOk result (λ v. IsExportOf list (longest_decided readings.now) v.items) }
+{
+    match longest_decided(alloc, readings) {
+        Ok(decided) => text_of(alloc, list, decided.as_slice()),
+        Err(wanting) => Err(wanting),
+    }
+}
+
+// Prints it. They decide no instance differently.
 fn print_export<O: Sink, E: Write>(
     alloc: Global,
     list: bool,
@@ -62,11 +72,7 @@ fn print_export<O: Sink, E: Write>(
     ensures ends { EndsOnExport list result (O.printing out.old) (O.printing out.new) }
     ensures quiet { result ≡ 0 → Keeps (E.contents err.old) (E.contents err.new) }
 {
-    let text = match longest_decided(alloc, readings) {
-        Ok(decided) => text_of(alloc, list, decided.as_slice()),
-        Err(wanting) => Err(wanting),
-    };
-    match text {
+    match export_text(alloc, list, readings) {
         Ok(text) => end_by_text(out, err, text.as_slice()),
         Err(_) => end_by_refusal(err, &Refusal::OutOfMemory),
     }

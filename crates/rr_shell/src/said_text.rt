@@ -20,7 +20,6 @@ use rr_script::Answer;
 use rr_text::text_word::{push_byte, push_bytes};
 use rr_types::{Command, NodeId, Nodes};
 use std::alloc::{AllocError, Global};
-use std::alloc::AllocError;
 
 /// Appends an answer: of a submit the reply, of a look the name and what was seen. It names no node.
 ///

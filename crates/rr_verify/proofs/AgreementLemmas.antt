@@ -7,13 +7,14 @@ use Rattle.rr_types.specs.declared.command.Command.{Command}
 use Rattle.rr_types.specs.declared.promise.Entry.{Entry}
 use Rattle.rr_types.specs.Commands.{is_same_command}
 use Rattle.rr_types.specs.Facts.{decision_of}
-use Rattle.rr_types.specs.Promises.{AscendsFrom, standing_in}
+use Rattle.rr_types.specs.Promises.{AscendsFrom, IsAscending, standing_in}
 use Rattle.rr_model.proofs.SameCommands.{same_command, command_same}
+use Rattle.rr_verify.specs.declared.folder.Folder.{Folder}
 use Rattle.rr_verify.specs.declared.folder.Reading.{Reading}
 use Rattle.rr_verify.specs.declared.folder.Reading.TheVariants.{Facts, Blank, Refused}
 use Rattle.rr_verify.specs.declared.difference.Difference.{Difference}
 use Rattle.rr_verify.specs.declared.verdict.Clash.{Clash}
-use Rattle.rr_verify.specs.Agreement.{decided_at, DecideAlike, Alike, AllAlike, FitsAt, AllFit, difference, first_difference, clashes_by, clashes_between, clashes_with, clashes_from, fits_at, all_fit_from}
+use Rattle.rr_verify.specs.Agreement.{decided_at, DecideAlike, Alike, AllAlike, FitsAt, AllFit, difference, Agree, first_difference, clashes_by, clashes_between, clashes_with, clashes_from, fits_at, all_fit_from}
 
 none_below : (i low : ℕ) (es : List Entry) → AscendsFrom low es → i < low → standing_in es i ≡ None
 none_below i low [] up lt = refl
@@ -161,3 +162,76 @@ all_fit_so n p (r ∷ rs) said =
 pub so_all_fit : (n p : ℕ) (rs : List Reading) → AllFit n p rs → all_fit_from n p rs ≡ true
 so_all_fit n p [] fit = refl
 so_all_fit n p (r ∷ rs) fit = and_from (fits_at n p r) (all_fit_from n (p + 1) rs) (so_fits n p r fit.0) (so_all_fit n (p + 1) rs fit.1)
+
+-- ---- promises while they are compared
+
+-- what is left of both ascends, and tells this
+pub record Left (one other : List Entry) (whole : Option Difference) : Type 0 where
+  pub low : ℕ
+  pub up : AscendsFrom low one
+  pub low_beside : ℕ
+  pub up_beside : AscendsFrom low_beside other
+  pub tells : first_difference one other ≡ whole
+
+pub left_all : (one other : List Entry) → IsAscending one → IsAscending other → Left one other (first_difference one other)
+left_all one other up up_beside = record { low = 0; up = up.ascends; low_beside = 0; up_beside = up_beside.ascends; tells = refl }
+
+abbrev Split : List Entry → Entry → List Entry → Type 0
+Split all e es = all ≡ e ∷ es
+
+left_so : (one other es fs : List Entry) (e f : Entry) (whole : Option Difference) → Split one e es → Split other f fs → Left one other whole → Left (e ∷ es) (f ∷ fs) whole
+left_so one other es fs e f whole one_is other_is left = subst (λ x. Left (e ∷ es) x whole) other_is (subst (λ x. Left x other whole) one_is left)
+
+pub left_one : (one other es fs : List Entry) (e f : Entry) (whole : Option Difference) → Split one e es → Split other f fs → e.instance < f.instance → Left one other whole → Left es other whole
+left_one one other es fs e f whole one_is other_is lt left =
+    let l : Left (e ∷ es) (f ∷ fs) whole = left_so one other es fs e f whole one_is other_is left in
+    let here : Left es (f ∷ fs) whole = record { low = e.instance + 1; up = l.up.1; low_beside = l.low_beside; up_beside = l.up_beside; tells = sym (skip_one e f es fs l.up_beside.1 lt) ∙ l.tells } in
+    subst (λ x. Left es x whole) (sym other_is) here
+
+pub left_other : (one other es fs : List Entry) (e f : Entry) (whole : Option Difference) → Split one e es → Split other f fs → f.instance < e.instance → Left one other whole → Left one fs whole
+left_other one other es fs e f whole one_is other_is lt left =
+    let l : Left (e ∷ es) (f ∷ fs) whole = left_so one other es fs e f whole one_is other_is left in
+    let up : AscendsFrom e.instance (e ∷ es) = (omega arith, l.up.1) in
+    let here : Left (e ∷ es) fs whole = record { low = l.low; up = l.up; low_beside = f.instance + 1; up_beside = l.up_beside.1; tells = sym (skip_other e.instance f (e ∷ es) fs up lt) ∙ l.tells } in
+    subst (λ x. Left x fs whole) (sym one_is) here
+
+pub left_both : (one other es fs : List Entry) (e f : Entry) (whole : Option Difference) → Split one e es → Split other f fs → e.instance ≡ f.instance → difference e.instance (decision_of (Some e.standing)) (decision_of (Some f.standing)) ≡ None → Left one other whole → Left es fs whole
+left_both one other es fs e f whole one_is other_is same none left =
+    let l : Left (e ∷ es) (f ∷ fs) whole = left_so one other es fs e f whole one_is other_is left in
+    record { low = e.instance + 1; up = l.up.1; low_beside = f.instance + 1; up_beside = l.up_beside.1; tells = sym (skip_both e f es fs l.up.1 same none) ∙ l.tells }
+
+pub left_found : (one other es fs : List Entry) (e f : Entry) (d : Difference) (whole : Option Difference) → Split one e es → Split other f fs → e.instance ≡ f.instance → difference e.instance (decision_of (Some e.standing)) (decision_of (Some f.standing)) ≡ Some d → Left one other whole → Some d ≡ whole
+left_found one other es fs e f d whole one_is other_is same some left =
+    let l : Left (e ∷ es) (f ∷ fs) whole = left_so one other es fs e f whole one_is other_is left in
+    sym (found_both e f es fs d same some) ∙ l.tells
+
+pub left_nothing : (one other : List Entry) (whole : Option Difference) → length one ≡ 0 → Left one other whole → None ≡ whole
+left_nothing [] other whole none left = left.tells
+left_nothing (e ∷ es) other whole none left = absurd (omega (arith, none))
+
+pub left_nothing_beside : (one other : List Entry) (whole : Option Difference) → length other ≡ 0 → Left one other whole → None ≡ whole
+left_nothing_beside one [] whole none left = sym (none_beside_nothing one) ∙ left.tells
+left_nothing_beside one (f ∷ fs) whole none left = absurd (omega (arith, none))
+
+-- ---- folders
+
+-- two that are alike have no difference
+pub none_between : (r s : Reading) (f g : Folder) (es fs : List Entry) (o : Option Difference) (d : Difference) → r ≡ Facts f → s ≡ Facts g → es ≡ f.promise → fs ≡ g.promise → IsAscending es → o ≡ first_difference es fs → o ≡ Some d → Alike r s → ⊥
+none_between r s f g es fs o d r_is s_is es_is fs_is up is some alike =
+    let both : Alike (Facts f) (Facts g) = subst (λ x. Alike (Facts f) x) s_is (subst (λ x. Alike x s) r_is alike) in
+    let one : DecideAlike es g.promise = subst (λ x. DecideAlike x g.promise) (sym es_is) both in
+    let own : DecideAlike es fs = subst (λ x. DecideAlike es x) (sym fs_is) one in
+    let none : o ≡ None = is ∙ none_where_alike 0 es fs up.ascends own in
+    let clash = sym none ∙ some in
+    absurd cc
+
+-- folders without clashes that fit their places agree
+pub agree_so : (rs : List Reading) (cs : List Clash) → cs ≡ clashes_from 0 rs → cs ≡ [] → all_fit_from (length rs) 0 rs ≡ true → Agree rs
+agree_so rs cs exact none fit = record { fit = all_fit_so (length rs) 0 rs fit; alike = alike_without 0 rs (sym exact ∙ none) }
+
+pub so_fit : (rs : List Reading) → Agree rs → all_fit_from (length rs) 0 rs ≡ true
+so_fit rs agree = so_all_fit (length rs) 0 rs agree.fit
+
+pub none_by_length : (cs : List Clash) → length cs < 1 → cs ≡ []
+none_by_length [] lt = refl
+none_by_length (c ∷ cs) lt = absurd (omega arith)

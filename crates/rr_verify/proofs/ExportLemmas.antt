@@ -14,6 +14,8 @@ use Rattle.rr_types.specs.Limits.{max_bound}
 use Rattle.rr_types.specs.Registry.{Holding, Bindings, holding_of, apply, is_same_request, has_request, firsts, firsts_beside, registry_of}
 use Rattle.rr_script.specs.declared.script_line.ScriptLine.{ScriptLine}
 use Rattle.rr_script.specs.declared.script_line.ScriptLine.TheVariants.{Submit}
+use Rattle.rr_script.specs.Scripted.{IsScriptLine}
+use Rattle.rr_text.specs.Words.{IsCommand}
 use Rattle.rr_verify.specs.Exports.{owned, claim_of, claims_behind, export_of, commands_of}
 use Rattle.rr_verify.proofs.BoundLemmas.{order, AreAbove, Ascend, AreKept, reversed, registry_kept}
 
@@ -119,3 +121,8 @@ export_same decided =
     ap registry_of (submitted (claims_behind [] (registry_of decided)))
     ∙ ap (λ cs. fold (λ m c. (apply m c).0) [] cs) (all_count [] [] (registry_of decided) tt)
     ∙ bound_so [] (registry_of decided) (registry_kept decided)
+
+-- one line more that a script may have
+pub lawful_more : (lines : List ScriptLine) (c : Command) → IsCommand c → ((n : ℕ) → 1 ≤ n → AllByRecursion (IsScriptLine n) lines) → (n : ℕ) → 1 ≤ n → AllByRecursion (IsScriptLine n) (lines ++ Submit 0 c ∷ [])
+lawful_more [] c lawful all n some = ((omega (arith, some), lawful), tt)
+lawful_more (l ∷ lines) c lawful all n some = ((all n some).0, lawful_more lines c lawful (λ m more. (all m more).1) n some)

@@ -45,19 +45,24 @@ pub(crate) fn first_difference(one: &[Entry], other: &[Entry]) -> Option<Differe
     made_of!(Command, Op, Standing);
     let mut one = one;
     let mut other = other;
-    while let Some((entry, one_rest)) = one.split_first()
-        && let Some((beside, other_rest)) = other.split_first()
-    {
-        if entry.instance.number() < beside.instance.number() {
-            one = one_rest;
-        } else if beside.instance.number() < entry.instance.number() {
-            other = other_rest;
-        } else {
-            if let Some(found) = difference_at(entry.instance, &entry.standing, &beside.standing) {
-                return Some(found);
+    while let Some((entry, one_rest)) = one.split_first() {
+        match other.split_first() {
+            None => return None,
+            Some((beside, other_rest)) => {
+                if entry.instance.number() < beside.instance.number() {
+                    one = one_rest;
+                } else if beside.instance.number() < entry.instance.number() {
+                    other = other_rest;
+                } else {
+                    match difference_at(entry.instance, &entry.standing, &beside.standing) {
+                        Some(found) => return Some(found),
+                        None => {
+                            one = one_rest;
+                            other = other_rest;
+                        }
+                    }
+                }
             }
-            one = one_rest;
-            other = other_rest;
         }
     }
     None

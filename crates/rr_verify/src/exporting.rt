@@ -1,19 +1,22 @@
 //! The registry of a decided list as a script of claims.
 
-ghost use Rattle.std.specs.Prelude.{◌≡◌, ◌≤◌, ℕ, [], IfOk};
+ghost use Rattle.std.specs.Prelude.{◌≡◌, ◌≤◌, ℕ, [], IfOk, length};
+ghost use Rattle.std.specs.List.{AllByRecursion};
 ghost use Rattle.rr_types.specs.Limits.{max_nodes};
 ghost use Rattle.rr_types.specs.Registry.{registry_of};
-ghost use Rattle.rr_script.specs.Scripted.{IsScript};
+ghost use Rattle.rr_script.specs.Scripted.{IsScript, IsScriptLine};
 ghost use Rattle.rr_verify.specs.Exports.{owned, claim_of, claims_behind, export_of, commands_of};
 
 use rr_registry::{Holding, Registry};
 use rr_script::{Script, ScriptLine};
+use rr_text::command_law;
 use rr_types::{Command, Name, NodeId, Nodes, Op, RequestNo, Value, made_of};
 use std::alloc::{AllocError, Global};
 
 // How many of these names a client has.
 fn owned(client: u32, names: &[(Name, Holding)]) -> u64
-    ensures { result ≡ owned client names.now }
+    ensures value { result ≡ owned client names.now }
+    ensures few { result ≤ length names.now }
 {
     made_of!(Holding);
     let mut count = 0;
@@ -46,6 +49,7 @@ fn claims(
 ) -> Result<Vec<ScriptLine>, AllocError>
     requires { node ≡ 0 }
     ensures ok { IfOk result (λ v. v.items ≡ export_of names.now) }
+    ensures lawful { IfOk result (λ v. (n : ℕ) → 1 ≤ n → AllByRecursion (IsScriptLine n) v.items) }
 {
     made_of!(Command, Name, Value, Op, RequestNo, Holding);
     let mut lines = Vec::new(alloc);
@@ -53,10 +57,9 @@ fn claims(
         let (name, holding) = &names[place];
         let (before, _) = names.split_at(place);
         let seq = owned(holding.owner(), before) + 1;
-        lines.push(ScriptLine::Submit {
-            node,
-            command: claim_of(seq, name, holding),
-        })?;
+        let command = claim_of(seq, name, holding);
+        command_law(&command);
+        lines.push(ScriptLine::Submit { node, command })?;
     }
     Ok(lines)
 }
@@ -73,6 +76,7 @@ pub fn export(alloc: Global, nodes: Nodes, decided: &[Command]) -> Result<Script
     ensures taken { IfOk result (λ s. (n : ℕ) → 1 ≤ n → n ≤ max_nodes → IsScript (record { nodes = n; lines = s.lines })) }
 {
     made_of!(Command, Name, Value, Op, RequestNo, Holding);
+    let _count = nodes.count();
     let mut registry = Registry::new(alloc);
     registry.apply_all(decided)?;
     let mut names = Vec::new(alloc);

@@ -111,6 +111,19 @@ fn all_clashes(alloc: Global, readings: &[Reading]) -> Result<Vec<Clash>, AllocE
     Ok(clashes)
 }
 
+// Whether folders agree that clash so.
+fn agree(readings: &[Reading], clashes: &[Clash]) -> bool
+    requires exact { clashes.now ≡ clashes_from 0 readings.now }
+    requires alike { AllAlike readings.now → clashes.now ≡ [] }
+    ensures so { result ≡ true → Agree readings.now }
+    ensures only { Agree readings.now → result ≡ true }
+{
+    match clashes {
+        [] => all_fit(readings),
+        [_, ..] => false,
+    }
+}
+
 /// Whether the folders of a cluster agree, of which these were read, from DIR/0 on: each names its own node and as many
 /// nodes as there are folders, and no two decide an instance differently.
 ///
@@ -121,10 +134,10 @@ pub fn verify(alloc: Global, readings: &[Reading]) -> Result<Verdict, AllocError
     // Then what they have decided are beginnings of one list.
     ensures one_list { IfOk result (λ v. v.agree ≡ true → HaveOneList readings.now) }
     ensures clashes { IfOk result (λ v. v.clashes.items ≡ clashes_from 0 readings.now) }
+    // There is none exactly if no two decide an instance differently.
+    ensures alike { IfOk result (λ v. (v.clashes.items ≡ []) ↔ AllAlike readings.now) }
 {
     let clashes = all_clashes(alloc, readings)?;
-    Ok(Verdict {
-        agree: all_fit(readings) && clashes.is_empty(),
-        clashes,
-    })
+    let agree = agree(readings, clashes.as_slice());
+    Ok(Verdict { agree, clashes })
 }
