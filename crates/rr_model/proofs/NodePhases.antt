@@ -21,6 +21,7 @@ use Rattle.rr_model.proofs.NodeFirsts.{First}
 use Rattle.rr_model.proofs.NodeMoves.{if_false, Sits, standing_first, from_to, entered, estimated, lowest_first, Advanced, advance, voted, Tallied, hears_estimate, no_pick, nobody}
 use Rattle.rr_model.proofs.NodeAnswers.{adopting, Adopted, hears_proposal, Concluded, hears_decision, is_enough, acked, Acknowledged, hears_ack, enough_here}
 use Rattle.rr_model.proofs.NodeCounts.{still_sender, new_sender, votes_suffice, AllVotes, votes_stay, pick_ok, something_picked, still_member, new_member, acks_suffice}
+use Rattle.rr_model.proofs.NodeBeyond.{advance_keeps, estimate_keeps, proposal_keeps, ack_keeps, decision_keeps}
 use Rattle.rr_model.proofs.NodeAlone.{Comes, no_event, and_then, alone_sent, Flushed, takes}
 
 pub flushed_sits : (i p n : ℕ) (st : Standing) (t : Tally) (s u : NodeState) (w : List Message) → Sits i p n st t s → Flushed s u w → Sits i p n st t u
@@ -64,13 +65,13 @@ module _ (n i k r : ℕ) (c : Command) (Ok : Command → Type 0) (small : i < 10
   }
 
   -- an open instance can enter the round, one round after another
-  pub enters_round : (p d : ℕ) (o : OpenAt) (t : Tally) (s : NodeState) (w : List Message) → Sits i p n (Open o) t s → o.stamp ≤ o.round → 0 < o.round → o.round + suc d ≡ r → r ≤ 2147483647 → Ok o.estimate → s.waiting ≡ c.request ∷ [] → Comes n p c s w (InRound p)
+  pub enters_round : (p d : ℕ) (o : OpenAt) (t : Tally) (s : NodeState) (w : List Message) → Sits i p n (Open o) t s → o.stamp ≤ o.round → 0 < o.round → o.round + suc d ≡ r → r ≤ 2147483647 → Ok o.estimate → s.waiting ≡ c.request ∷ [] → Comes i n p c s w (InRound p)
   enters_round p zero o t s w S l m e b ok waits =
-      and_then n p c s w (Flushed (node_step Advance s)) (InRound p) (takes n p c s w Advance (tt, not_refused p o t s S m (omega arith)) tt) (λ u x a F.
-      no_event n p c u x (InRound p) (here_in_round p o s u x (omega arith) l ok waits (advance i p n o t s S small m) F))
+      and_then i n p c s w (Flushed (node_step Advance s)) (InRound p) (takes i n p c s w Advance (tt, not_refused p o t s S m (omega arith)) tt (advance_keeps i p n o t s S small m)) (λ u x a F.
+      no_event i n p c u x (InRound p) (here_in_round p o s u x (omega arith) l ok waits (advance i p n o t s S small m) F))
   enters_round p (suc d) o t s w S l m e b ok waits =
       let A : Advanced i p n o s (node_step Advance s) = advance i p n o t s S small m in
-      and_then n p c s w (Flushed (node_step Advance s)) (InRound p) (takes n p c s w Advance (tt, not_refused p o t s S m (omega arith)) tt) (λ u x a F.
+      and_then i n p c s w (Flushed (node_step Advance s)) (InRound p) (takes i n p c s w Advance (tt, not_refused p o t s S m (omega arith)) tt (advance_keeps i p n o t s S small m)) (λ u x a F.
       enters_round p d (entered (o.round + 1) o) no_votes u x (flushed_sits i p n _ no_votes _ u x A.sits F) (omega arith) (omega arith) (omega arith) b ok (F.waiting ∙ A.onward.waiting ∙ waits))
 
   -- the coordinator has the estimates of the members below m, and lacks some still
@@ -141,20 +142,20 @@ module _ (n i k r : ℕ) (c : Command) (Ok : Command → Type 0) (small : i < 10
       waits = F.waiting ∙ T.onward.waiting ∙ C.waits;
     })
 
-    count_one : (m : ℕ) (s : NodeState) (w : List Message) → m < n → HasVoted m w → Counting set m s → Comes n k c s w (CountingOrMade (suc m))
+    count_one : (m : ℕ) (s : NodeState) (w : List Message) → m < n → HasVoted m w → Counting set m s → Comes i n k c s w (CountingOrMade (suc m))
     count_one m s w l V C =
         let e : Estimated = V.0 in
         let input : Message = from_to m k (say.Estimate i e) in
-        and_then n k c s w (Flushed (node_step (Hear input) s)) (CountingOrMade (suc m)) (takes n k c s w (Hear input) (V.3, refl) (l, subst (λ z. 0 < z) (sym V.1) above)) (λ u x a F.
-        no_event n k c u x (CountingOrMade (suc m)) (after_one m s u x e C V.1 V.2 (pick n (voted m e C.t)) refl (hears_estimate i k n m e C.o C.t s C.sits small (C.round ∙ sym V.1) (ap (λ z. coordinator_of z n) V.1 ∙ coordinates) C.acks C.nacks C.none (pick n (voted m e C.t)) refl) F))
+        and_then i n k c s w (Flushed (node_step (Hear input) s)) (CountingOrMade (suc m)) (takes i n k c s w (Hear input) (V.3, refl) (l, subst (λ z. 0 < z) (sym V.1) above) (estimate_keeps i k n m e C.o C.t s C.sits small (C.round ∙ sym V.1) (ap (λ z. coordinator_of z n) V.1 ∙ coordinates) C.acks C.nacks C.none (pick n (voted m e C.t)) refl)) (λ u x a F.
+        no_event i n k c u x (CountingOrMade (suc m)) (after_one m s u x e C V.1 V.2 (pick n (voted m e C.t)) refl (hears_estimate i k n m e C.o C.t s C.sits small (C.round ∙ sym V.1) (ap (λ z. coordinator_of z n) V.1 ∙ coordinates) C.acks C.nacks C.none (pick n (voted m e C.t)) refl) F))
 
-    count_on : (m : ℕ) (s : NodeState) (w : List Message) → m < n → (set m ≡ true → HasVoted m w) → CountingOrMade m s w → Comes n k c s w (CountingOrMade (suc m))
-    count_on m s w l V (inr M) = no_event n k c s w (CountingOrMade (suc m)) (inr M)
+    count_on : (m : ℕ) (s : NodeState) (w : List Message) → m < n → (set m ≡ true → HasVoted m w) → CountingOrMade m s w → Comes i n k c s w (CountingOrMade (suc m))
+    count_on m s w l V (inr M) = no_event i n k c s w (CountingOrMade (suc m)) (inr M)
     count_on m s w l V (inl C) = by (set m) refl
       where
-        by : (b : Bool) → set m ≡ b → Comes n k c s w (CountingOrMade (suc m))
+        by : (b : Bool) → set m ≡ b → Comes i n k c s w (CountingOrMade (suc m))
         by true e = count_one m s w l (V e) C
-        by false e = no_event n k c s w (CountingOrMade (suc m)) (inl (record {
+        by false e = no_event i n k c s w (CountingOrMade (suc m)) (inl (record {
           o = C.o;
           t = C.t;
           sits = C.sits;
@@ -169,14 +170,14 @@ module _ (n i k r : ℕ) (c : Command) (Ok : Command → Type 0) (small : i < 10
           waits = C.waits;
         }))
 
-    count_all : (m : ℕ) (s : NodeState) (w : List Message) → m ≤ n → ((q : ℕ) → q < n → set q ≡ true → HasVoted q w) → Counting set 0 s → Comes n k c s w (CountingOrMade m)
-    count_all zero s w l V C = no_event n k c s w (CountingOrMade 0) (inl C)
+    count_all : (m : ℕ) (s : NodeState) (w : List Message) → m ≤ n → ((q : ℕ) → q < n → set q ≡ true → HasVoted q w) → Counting set 0 s → Comes i n k c s w (CountingOrMade m)
+    count_all zero s w l V C = no_event i n k c s w (CountingOrMade 0) (inl C)
     count_all (suc m) s w l V C =
-        and_then n k c s w (CountingOrMade m) (CountingOrMade (suc m)) (count_all m s w (omega arith) V C) (λ u x a D.
+        and_then i n k c s w (CountingOrMade m) (CountingOrMade (suc m)) (count_all m s w (omega arith) V C) (λ u x a D.
         count_on m u x (omega arith) (λ y. let v : HasVoted m w = V m (omega arith) y in (v.0, v.1, v.2, alone_sent n k c s w u x a _ v.3)) D)
 
     -- the coordinator can propose, by the estimates of a majority
-    pub makes : (s : NodeState) (w : List Message) → majority_of n ≤ count_below set n → ((q : ℕ) → q < n → set q ≡ true → HasVoted q w) → InRound k s w → Comes n k c s w Made
+    pub makes : (s : NodeState) (w : List Message) → majority_of n ≤ count_below set n → ((q : ℕ) → q < n → set q ≡ true → HasVoted q w) → InRound k s w → Comes i n k c s w Made
     makes s w enough V I =
         let C : Counting set 0 s = record {
           o = I.o;
@@ -192,8 +193,8 @@ module _ (n i k r : ℕ) (c : Command) (Ok : Command → Type 0) (small : i < 10
           ok = tt;
           waits = I.waits;
         } in
-        and_then n k c s w (CountingOrMade n) Made (count_all n s w (le_refl n) V C) (λ u x a D.
-        no_event n k c u x Made (elim D [
+        and_then i n k c s w (CountingOrMade n) Made (count_all n s w (le_refl n) V C) (λ u x a D.
+        no_event i n k c u x Made (elim D [
           | inl still ↦ absurd (something_picked n still.t (votes_suffice n set still.t.estimates enough still.votes) still.lacks)
           | inr M ↦ M
         ]))
@@ -223,12 +224,12 @@ module _ (n i k r : ℕ) (c : Command) (Ok : Command → Type 0) (small : i < 10
     pub said : Contains w (from_to p k (say.Ack i r))
     pub waits : s.waiting ≡ c.request ∷ []
 
-  pub adopts : (v : Command) (p : ℕ) (s : NodeState) (w : List Message) → k < n → Contains w (from_to k p (say.Proposal i r v)) → Hearing v p s → Comes n p c s w (Answered v p)
+  pub adopts : (v : Command) (p : ℕ) (s : NodeState) (w : List Message) → k < n → Contains w (from_to k p (say.Proposal i r v)) → Hearing v p s → Comes i n p c s w (Answered v p)
   adopts v p s w l said H =
       let input : Message = from_to k p (say.Proposal i r v) in
       let A : Adopted i p n k r v H.o H.t s (node_step (Hear input) s) = hears_proposal i p n k r v H.o H.t s H.sits small H.round H.stamp coordinates H.acks H.nacks H.lacks in
-      and_then n p c s w (Flushed (node_step (Hear input) s)) (Answered v p) (takes n p c s w (Hear input) (said, refl) (l, above)) (λ u x a F.
-      no_event n p c u x (Answered v p) (record {
+      and_then i n p c s w (Flushed (node_step (Hear input) s)) (Answered v p) (takes i n p c s w (Hear input) (said, refl) (l, above) (proposal_keeps i p n k r v H.o H.t s H.sits small H.round H.stamp coordinates H.acks H.nacks H.lacks)) (λ u x a F.
+      no_event i n p c u x (Answered v p) (record {
         o = adopting r v H.o;
         t = H.t;
         sits = flushed_sits i p n _ _ _ u x A.sits F;
@@ -286,19 +287,19 @@ module _ (n i k r : ℕ) (c : Command) (Ok : Command → Type 0) (small : i < 10
     })
     after_ack m s u w C true f A F = inr (record { ended = ended_by v k s _ u w C.waits A F; said = λ q l other. F.sent _ (A.owes q l other) })
 
-    collect_one : (m : ℕ) (s : NodeState) (w : List Message) → m < n → Contains w (from_to m k (say.Ack i r)) → Collecting v set m s → Comes n k c s w (CollectingOrTold (suc m))
+    collect_one : (m : ℕ) (s : NodeState) (w : List Message) → m < n → Contains w (from_to m k (say.Ack i r)) → Collecting v set m s → Comes i n k c s w (CollectingOrTold (suc m))
     collect_one m s w l said C =
         let input : Message = from_to m k (say.Ack i r) in
-        and_then n k c s w (Flushed (node_step (Hear input) s)) (CollectingOrTold (suc m)) (takes n k c s w (Hear input) (said, refl) (l, above)) (λ u x a F.
-        no_event n k c u x (CollectingOrTold (suc m)) (after_ack m s u x C (is_enough n (with_member C.t.acks m)) refl (hears_ack i k n m r v C.o C.t s C.sits small C.round coordinates C.made C.nacks (is_enough n (with_member C.t.acks m)) refl) F))
+        and_then i n k c s w (Flushed (node_step (Hear input) s)) (CollectingOrTold (suc m)) (takes i n k c s w (Hear input) (said, refl) (l, above) (ack_keeps i k n m r v C.o C.t s C.sits small C.round coordinates C.made C.nacks (is_enough n (with_member C.t.acks m)) refl)) (λ u x a F.
+        no_event i n k c u x (CollectingOrTold (suc m)) (after_ack m s u x C (is_enough n (with_member C.t.acks m)) refl (hears_ack i k n m r v C.o C.t s C.sits small C.round coordinates C.made C.nacks (is_enough n (with_member C.t.acks m)) refl) F))
 
-    collect_on : (m : ℕ) (s : NodeState) (w : List Message) → m < n → (set m ≡ true → Contains w (from_to m k (say.Ack i r))) → CollectingOrTold m s w → Comes n k c s w (CollectingOrTold (suc m))
-    collect_on m s w l V (inr T) = no_event n k c s w (CollectingOrTold (suc m)) (inr T)
+    collect_on : (m : ℕ) (s : NodeState) (w : List Message) → m < n → (set m ≡ true → Contains w (from_to m k (say.Ack i r))) → CollectingOrTold m s w → Comes i n k c s w (CollectingOrTold (suc m))
+    collect_on m s w l V (inr T) = no_event i n k c s w (CollectingOrTold (suc m)) (inr T)
     collect_on m s w l V (inl C) = by (set m) refl
       where
-        by : (b : Bool) → set m ≡ b → Comes n k c s w (CollectingOrTold (suc m))
+        by : (b : Bool) → set m ≡ b → Comes i n k c s w (CollectingOrTold (suc m))
         by true e = collect_one m s w l (V e) C
-        by false e = no_event n k c s w (CollectingOrTold (suc m)) (inl (record {
+        by false e = no_event i n k c s w (CollectingOrTold (suc m)) (inl (record {
           o = C.o;
           t = C.t;
           sits = C.sits;
@@ -310,14 +311,14 @@ module _ (n i k r : ℕ) (c : Command) (Ok : Command → Type 0) (small : i < 10
           waits = C.waits;
         }))
 
-    collect_all : (m : ℕ) (s : NodeState) (w : List Message) → m ≤ n → ((q : ℕ) → q < n → set q ≡ true → Contains w (from_to q k (say.Ack i r))) → Collecting v set 0 s → Comes n k c s w (CollectingOrTold m)
-    collect_all zero s w l V C = no_event n k c s w (CollectingOrTold 0) (inl C)
+    collect_all : (m : ℕ) (s : NodeState) (w : List Message) → m ≤ n → ((q : ℕ) → q < n → set q ≡ true → Contains w (from_to q k (say.Ack i r))) → Collecting v set 0 s → Comes i n k c s w (CollectingOrTold m)
+    collect_all zero s w l V C = no_event i n k c s w (CollectingOrTold 0) (inl C)
     collect_all (suc m) s w l V C =
-        and_then n k c s w (CollectingOrTold m) (CollectingOrTold (suc m)) (collect_all m s w (omega arith) V C) (λ u x a D.
+        and_then i n k c s w (CollectingOrTold m) (CollectingOrTold (suc m)) (collect_all m s w (omega arith) V C) (λ u x a D.
         collect_on m u x (omega arith) (λ y. alone_sent n k c s w u x a _ (V m (omega arith) y)) D)
 
     -- the coordinator can decide, by the acknowledgements of a majority
-    pub decides : (s : NodeState) (w : List Message) → majority_of n ≤ count_below set n → ((q : ℕ) → q < n → set q ≡ true → Contains w (from_to q k (say.Ack i r))) → Answered v k s w → Comes n k c s w (Told v)
+    pub decides : (s : NodeState) (w : List Message) → majority_of n ≤ count_below set n → ((q : ℕ) → q < n → set q ≡ true → Contains w (from_to q k (say.Ack i r))) → Answered v k s w → Comes i n k c s w (Told v)
     decides s w enough V A =
         let C : Collecting v set 0 s = record {
           o = A.o;
@@ -330,15 +331,15 @@ module _ (n i k r : ℕ) (c : Command) (Ok : Command → Type 0) (small : i < 10
           acks = λ q l y. absurd (omega arith);
           waits = A.waits;
         } in
-        and_then n k c s w (CollectingOrTold n) (Told v) (collect_all n s w (le_refl n) V C) (λ u x a D.
-        no_event n k c u x (Told v) (elim D [
+        and_then i n k c s w (CollectingOrTold n) (Told v) (collect_all n s w (le_refl n) V C) (λ u x a D.
+        no_event i n k c u x (Told v) (elim D [
           | inl still ↦ absurd (false≢true (sym still.few ∙ acks_suffice n set still.t.acks enough still.acks))
           | inr T ↦ T
         ]))
 
   -- and each other node, by its decision
-  pub follows : (v : Command) (p : ℕ) (s : NodeState) (w : List Message) → k < n → Contains w (from_to k p (say.Decision i v)) → Answered v p s w → Comes n p c s w (λ u x. Ended v p u)
+  pub follows : (v : Command) (p : ℕ) (s : NodeState) (w : List Message) → k < n → Contains w (from_to k p (say.Decision i v)) → Answered v p s w → Comes i n p c s w (λ u x. Ended v p u)
   follows v p s w l said A =
       let input : Message = from_to k p (say.Decision i v) in
-      and_then n p c s w (Flushed (node_step (Hear input) s)) (λ u x. Ended v p u) (takes n p c s w (Hear input) (said, refl) (l, tt)) (λ u x a F.
-      no_event n p c u x (λ u2 x2. Ended v p u2) (ended_by v p s _ u x A.waits (hears_decision i p n k v A.o A.t s A.sits) F))
+      and_then i n p c s w (Flushed (node_step (Hear input) s)) (λ u x. Ended v p u) (takes i n p c s w (Hear input) (said, refl) (l, tt) (decision_keeps i p n k v A.o A.t s A.sits)) (λ u x a F.
+      no_event i n p c u x (λ u2 x2. Ended v p u2) (ended_by v p s _ u x A.waits (hears_decision i p n k v A.o A.t s A.sits) F))

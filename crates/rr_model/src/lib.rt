@@ -30,6 +30,7 @@ ghost use Rattle.rr_model.specs.ClusterExamples.{claim_a_y, round_stamp, first_r
 ghost use Rattle.rr_model.specs.Sound.{IsSound, IsChosen, IsDecidedList};
 ghost use Rattle.rr_model.specs.NoDeadEnd.{NoDeadEnd, EachCanBeServed};
 ghost use Rattle.rr_model.specs.NodesGoOn.{NodesCanGoOn, RoundsCanEnd, DecisionsCanBeLearned};
+ghost use Rattle.rr_model.specs.NodesRestart.{GapsCanBeFilled, DecidedCanBeAcknowledged};
 ghost use Rattle.rr_model.specs.Laws.{after_steps, AreBeginningsRuns, StaysChosen, DoesListGrow, AreKeptFactsNeverLost, DoRoundsRise, DoAcksBind, AreProposalsLocked, KeepsRealTime, DoLaterCommandsStandBehind, DoesWhatIsLeftFit, DoesPromiseStand, DoLawfulFactsFit};
 
 /// Agreement and durability: every run of any number of nodes is sound, whatever is lost, repeated, reordered,
@@ -53,6 +54,8 @@ pub fn nodes_can_go_on()
     ensures a_majority_can_decide_next { NodesCanGoOn }
     ensures a_round_can_be_ended { RoundsCanEnd }
     ensures a_decision_can_be_learned { DecisionsCanBeLearned }
+    ensures gaps_can_be_filled { GapsCanBeFilled }
+    ensures a_decided_request_can_be_acknowledged { DecidedCanBeAcknowledged }
 {}
 
 /// Laws of runs, of which agreement is made: rounds rise, an acknowledgement binds what its sender says
