@@ -11,17 +11,17 @@ use Rattle.rr_types.specs.declared.message.Body.TheVariants as say
 use Rattle.rr_types.specs.declared.promise.Standing.{Standing}
 use Rattle.rr_types.specs.declared.promise.Standing.TheVariants.{Decided, Open}
 use Rattle.rr_types.specs.Facts.{instance_of, after_fact}
-use Rattle.rr_types.specs.Nodes.{has_member, joined, with_member}
+use Rattle.rr_types.specs.Nodes.{has_member, with_member}
 use Rattle.rr_types.specs.Rounds.{Estimated, OpenAt, coordinator_of}
 use Rattle.rr_types.specs.Standings.{is_undecided}
 use Rattle.rr_model.specs.NodeState.{NodeState, Row, Tally, no_votes, row_of, put_row, standing_at, open_instances, next_number}
 use Rattle.rr_model.specs.NodeParts.{owe, stage, pool_add, free_command, leave_round, enter_with, entering_estimate, enter, propose, conclude}
 use Rattle.rr_model.specs.NodeDue.{Due, Begin, Offer, Conclude, MoveOn, pick, is_majority, due_of_coordinator, due_of_participant, due_of_row, due_at, first_due, due, carry_out, settle}
 use Rattle.rr_types.specs.declared.input.Input.TheVariants.{Hear, Advance}
-use Rattle.rr_model.specs.NodeStep.{change_tally, count_estimate, count_ack, acknowledge, heard_body, taken_in, node_step}
+use Rattle.rr_model.specs.NodeStep.{change_tally, count_estimate, count_ack, acknowledge, heard_body, node_step}
 use Rattle.rr_model.proofs.NodeEnds.{settles_on}
 use Rattle.rr_model.proofs.NodeRows.{stands, row_then, row_of-rows_after, row_of-put_row, row_of_instance}
-use Rattle.rr_model.proofs.NodeFirsts.{First, Onward, onward_not, owe_rows, leave_rows, stage_rows, stage_here, stage_owe_onward, IsStill, still_goes, due_beyond, at_place, place_of, settle_keeps}
+use Rattle.rr_model.proofs.NodeFirsts.{First, onward_not, owe_rows, leave_rows, stage_rows, stage_here, stage_owe_onward, IsStill, still_goes, due_beyond, at_place, place_of, settle_keeps}
 use Rattle.rr_model.proofs.NodeMoves.{enters_with, count_sits, proposes, if_true, if_false, no_pick, nobody, joined_nobody, not_member, Sits, sits_on, standing_first, due_first, quiet, quiet_new, from_to, heard_here, estimated, entered, advances_to, estimate_taken, pool_rows, pool_sits, voted, proposing, offered}
 use Rattle.rr_model.proofs.NodeAnswers.{count_ack_sits, adopting, proposal_taken, ack_taken, acked, concluded, enough_here, is_enough}
 

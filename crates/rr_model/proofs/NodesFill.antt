@@ -1,5 +1,5 @@
 -- Behind a restart the nodes of a majority can decide one instance after another, with a restart and a new command for each.
-use Rattle.std.proofs.Common.{◌≡◌, ℕ, ◌+◌, ◌≤◌, ◌<◌, ◌⊎◌, inl, inr, zero, suc, Bool, true, false, ◌==◌, ◌&&◌, ◌||◌, not, if◌then◌else◌, List, [], ◌∷◌, ◌++◌, length, map, Contains, Option, None, Some, option_map, refl, ap, sym, ◌∙◌, subst, arith, eq-eqb, append-nil}
+use Rattle.std.proofs.Common.{◌≡◌, ℕ, ◌+◌, ◌≤◌, ◌<◌, ◌⊎◌, inl, inr, zero, suc, Bool, true, false, ◌==◌, ◌&&◌, ◌||◌, not, if◌then◌else◌, List, [], ◌∷◌, ◌++◌, length, map, Option, None, Some, option_map, refl, ap, sym, ◌∙◌, subst, arith, eq-eqb, append-nil}
 use Rattle.std.specs.List.{list_any}
 use Rattle.std.specs.Option.{option_map_or}
 use Rattle.std.proofs.lemmas.Bool.{false≢true, cases_lt, cases_eq, ne_eqb, and_from}
@@ -19,18 +19,18 @@ use Rattle.rr_types.specs.Standings.{is_undecided, estimate_of}
 use Rattle.rr_model.specs.Lawful.{count_below}
 use Rattle.rr_model.specs.World.{nothing_heard}
 use Rattle.rr_model.specs.Examples.{claim_a_x}
-use Rattle.rr_model.specs.NodeState.{NodeState, Row, no_votes, row_of, standing_at, decided_command, open_instances, is_decided_request}
+use Rattle.rr_model.specs.NodeState.{NodeState, Row, no_votes, row_of, standing_at, decided_command, open_instances}
 use Rattle.rr_model.specs.NodeParts.{is_estimate_beside}
 use Rattle.rr_model.specs.NodeStep.{promised_row}
 use Rattle.rr_model.specs.NodeLaws.{after_event}
 use Rattle.rr_model.specs.NodeReached.{Opened, opened_over}
 use Rattle.rr_model.specs.NodesGoOn.{Cluster, CanGoOn, NotAtAll, ByOneMore, restarted, IsOpenUpTo, IsFreeAt, IsReadyFor}
-use Rattle.rr_model.specs.NodesRestart.{IsNewTo, HasMarked, CanRestartOver, AsTheyAre, OnceMore, HasRoom, AreAgreed, CanFillGaps, GapsCanBeFilled}
+use Rattle.rr_model.specs.NodesRestart.{IsNewTo, HasMarked, CanRestartOver, AsTheyAre, OnceMore, HasRoom, AreAgreed, GapsCanBeFilled}
 use Rattle.rr_model.proofs.NodeKnows.{Knows, in_flight}
 use Rattle.rr_model.proofs.NodeReached.{reached_knows, reached_fits}
 use Rattle.rr_model.proofs.NodeSteady.{started_stays}
 use Rattle.rr_model.proofs.Plans.{bound}
-use Rattle.rr_model.proofs.NodeMoves.{if_true, if_false}
+use Rattle.rr_model.proofs.NodeMoves.{if_false}
 use Rattle.rr_model.proofs.NodeBeyond.{at_first, IsQuietAbove, StandsOn, Beside, Keeps}
 use Rattle.rr_model.proofs.NodeAlone.{IsUp}
 use Rattle.rr_model.proofs.NodesTogether.{Leads}
@@ -136,18 +136,18 @@ look zero set facts i = inr (λ q l y. absurd (omega arith))
 look (suc n) set facts i = search_one n set facts i (set n) refl (standing_of i (facts n)) refl (look n set facts i)
 
 -- where the nodes of the set stand: each has decided all below i
-record AreAt (n : ℕ) (set : ℕ → Bool) (bound i : ℕ) (facts : ℕ → List Fact) : Type 0 where
+record AreAt (n : ℕ) (set : ℕ → Bool) (bound last i : ℕ) (facts : ℕ → List Fact) : Type 0 where
   fit : (q : ℕ) → q < n → set q ≡ true → all_fit n q [] (facts q) ≡ true
-  rounds : (q : ℕ) → q < n → set q ≡ true → (j : ℕ) (o : OpenAt) → standing_of j (facts q) ≡ Some (Open o) → o.round ≤ bound
+  rounds : (q : ℕ) → q < n → set q ≡ true → (j : ℕ) (o : OpenAt) → j < last → standing_of j (facts q) ≡ Some (Open o) → o.round ≤ bound
   below : (q : ℕ) → q < n → set q ≡ true → (j : ℕ) → j < i → is_undecided (standing_of j (facts q)) ≡ false
   agreed : AreAgreed n set facts
 
-ready_if : (n bound i q : ℕ) (d : Command) (facts : List Fact) → all_fit n q [] facts ≡ true → ((j : ℕ) → j < i → is_undecided (standing_of j facts) ≡ false) → ((j : ℕ) (o : OpenAt) → standing_of j facts ≡ Some (Open o) → o.round ≤ bound) → IsFreeAt n q i d facts → is_undecided (standing_of i facts) ≡ true → IsReadyFor n bound i d q facts
+ready_if : (n bound i q : ℕ) (d : Command) (facts : List Fact) → all_fit n q [] facts ≡ true → ((j : ℕ) → j < i → is_undecided (standing_of j facts) ≡ false) → ((o : OpenAt) → standing_of i facts ≡ Some (Open o) → o.round ≤ bound) → IsFreeAt n q i d facts → is_undecided (standing_of i facts) ≡ true → IsReadyFor n bound i d q facts
 ready_if n bound i q d facts fit below rounds free u = record { fit = fit; below = below; here = by (standing_of i facts) refl u }
   where
     by : (o : Option Standing) → standing_of i facts ≡ o → is_undecided o ≡ true → IsOpenUpTo bound i facts ⊎ ((standing_of i facts ≡ None) × IsFreeAt n q i d facts)
     by None e x = inr (e, free)
-    by (Some (Open o)) e x = inl (o, e, rounds i o e)
+    by (Some (Open o)) e x = inl (o, e, rounds o e)
     by (Some (Decided v)) e x = absurd (false≢true x)
 
 decided_as : (o : Option Standing) → is_undecided o ≡ false → (w : Command) × (o ≡ Some (Decided w))
@@ -167,9 +167,9 @@ record Stepped (n : ℕ) (set : ℕ → Bool) (facts : ℕ → List Fact) (d : C
   next : (q : ℕ) → q < n → set q ≡ true → Next n q i v (facts q) (end.state q)
   same : (q : ℕ) (w : Command) → q < n → set q ≡ true → standing_of i (facts q) ≡ Some (Decided w) → w ≡ v
 
-module _ (n : ℕ) (set : ℕ → Bool) (bound i : ℕ) (facts : ℕ → List Fact) (d : Command) (enough : majority_of n ≤ count_below set n) (small : i < 1048576) (one : 1 ≤ bound) (most : bound + n ≤ 2147483647) (A : AreAt n set bound i facts) (new : IsNewTo n set facts d) where
+module _ (n : ℕ) (set : ℕ → Bool) (bound last i : ℕ) (facts : ℕ → List Fact) (d : Command) (enough : majority_of n ≤ count_below set n) (further : i < last) (small : i < 1048576) (one : 1 ≤ bound) (most : bound + n ≤ 2147483647) (A : AreAt n set bound last i facts) (new : IsNewTo n set facts d) where
   is_ready : (q : ℕ) → q < n → set q ≡ true → is_undecided (standing_of i (facts q)) ≡ true → IsReadyFor n bound i d q (facts q)
-  is_ready q l y u = ready_if n bound i q d (facts q) (A.fit q l y) (A.below q l y) (A.rounds q l y) (new q l y i) u
+  is_ready q l y u = ready_if n bound i q d (facts q) (A.fit q l y) (A.below q l y) (λ o. A.rounds q l y i o further) (new q l y i) u
 
   -- none has decided it: they decide
   decides_one : NoneHas n set facts i → Stepped n set facts d i
@@ -236,7 +236,7 @@ chosen n set Good each q = elim (cases_lt q n) [
     by l false e = ([], λ a b. absurd (false≢true (sym e ∙ b)))
 
 -- where they stand then
-module _ (n : ℕ) (set : ℕ → Bool) (bound i : ℕ) (facts after : ℕ → List Fact) (v : Command) (end : Cluster) (one : 1 ≤ bound) (A : AreAt n set bound i facts) (N : (q : ℕ) → q < n → set q ≡ true → IsNext n q i v (facts q) (end.state q) (after q)) where
+module _ (n : ℕ) (set : ℕ → Bool) (bound last i : ℕ) (facts after : ℕ → List Fact) (v : Command) (end : Cluster) (one : 1 ≤ bound) (A : AreAt n set bound last i facts) (N : (q : ℕ) → q < n → set q ≡ true → IsNext n q i v (facts q) (end.state q) (after q)) where
   decided_before : (q : ℕ) → q < n → set q ≡ true → (j : ℕ) (w : Command) → (j ≡ i → ⊥) → standing_of j (after q) ≡ Some (Decided w) → standing_of j (facts q) ≡ Some (Decided w)
   decided_before q l y j w away e = by ((N q l y).others j away)
     where
@@ -251,12 +251,12 @@ module _ (n : ℕ) (set : ℕ → Bool) (bound i : ℕ) (facts after : ℕ → L
       by (inl a) = a ∙ e
       by (inr a) = absurd (none-some (Decided w) (sym a.0 ∙ e))
 
-  are_further : AreAt n set bound (suc i) after
+  are_further : AreAt n set bound last (suc i) after
   are_further = record {
     fit = λ q l y. (N q l y).fit;
-    rounds = λ q l y j o e. elim (cases_eq j i) [
+    rounds = λ q l y j o x e. elim (cases_eq j i) [
       | inl same ↦ absurd (false≢true (ap is_undecided (sym (N q l y).here ∙ ap (λ z. standing_of z (after q)) (sym same) ∙ e)))
-      | inr away ↦ bounded q l y j o e ((N q l y).others j away)
+      | inr away ↦ bounded q l y j o x e ((N q l y).others j away)
     ];
     below = λ q l y j m. elim (cases_eq j i) [
       | inl same ↦ ap (λ z. is_undecided (standing_of z (after q))) same ∙ ap is_undecided (N q l y).here
@@ -274,9 +274,9 @@ module _ (n : ℕ) (set : ℕ → Bool) (bound i : ℕ) (facts after : ℕ → L
       commands_same : (a b : Command) → Some (Decided a) ≡ Some (Decided b) → a ≡ b
       commands_same a b e = same_Some a b (ap decision_of e)
 
-      bounded : (q : ℕ) → q < n → set q ≡ true → (j : ℕ) (o : OpenAt) → standing_of j (after q) ≡ Some (Open o) → FactsOn j (facts q) (after q) → o.round ≤ bound
-      bounded q l y j o e (inl a) = A.rounds q l y j o (sym a ∙ e)
-      bounded q l y j o e (inr a) = let x : at_first a.1.0 ≡ o = open_same (at_first a.1.0) o (sym (a.1.1) ∙ e) in subst (λ (z : OpenAt). z.round ≤ bound) x one
+      bounded : (q : ℕ) → q < n → set q ≡ true → (j : ℕ) (o : OpenAt) → j < last → standing_of j (after q) ≡ Some (Open o) → FactsOn j (facts q) (after q) → o.round ≤ bound
+      bounded q l y j o x e (inl a) = A.rounds q l y j o x (sym a ∙ e)
+      bounded q l y j o x e (inr a) = let same : at_first a.1.0 ≡ o = open_same (at_first a.1.0) o (sym (a.1.1) ∙ e) in subst (λ (z : OpenAt). z.round ≤ bound) same one
         where
           open_same : (x z : OpenAt) → Some (Open x) ≡ Some (Open z) → x ≡ z
           open_same x z h = cc
@@ -339,40 +339,40 @@ new_command n set facts =
     (numbered (b.0 + 1), λ q l y i. let x : top (opened_over n q (facts q)).rows ≤ b.0 = b.1 q l in (not_decided (b.0 + 1) (opened_over n q (facts q)).rows (omega arith), not_beside (b.0 + 1) i (opened_over n q (facts q)) (omega arith)))
 
 -- they have come so far: each has decided all below i, and what was decided is
-record Upto (n : ℕ) (set : ℕ → Bool) (facts : ℕ → List Fact) (bound i : ℕ) : Type 0 where
+record Upto (n : ℕ) (set : ℕ → Bool) (facts : ℕ → List Fact) (bound last i : ℕ) : Type 0 where
   kept : ℕ → List Fact
   restarts : CanRestartOver n set facts kept
-  at : AreAt n set bound i kept
+  at : AreAt n set bound last i kept
   stays : (k j : ℕ) (v : Command) → k < n → set k ≡ true → standing_of j (facts k) ≡ Some (Decided v) → standing_of j (kept k) ≡ Some (Decided v)
 
-upto_next : (n : ℕ) (set : ℕ → Bool) (facts : ℕ → List Fact) (bound i : ℕ) → majority_of n ≤ count_below set n → i < 1048576 → 1 ≤ bound → bound + n ≤ 2147483647 → Upto n set facts bound i → Upto n set facts bound (suc i)
-upto_next n set facts bound i enough small one most U =
+upto_next : (n : ℕ) (set : ℕ → Bool) (facts : ℕ → List Fact) (bound last i : ℕ) → majority_of n ≤ count_below set n → i < last → i < 1048576 → 1 ≤ bound → bound + n ≤ 2147483647 → Upto n set facts bound last i → Upto n set facts bound last (suc i)
+upto_next n set facts bound last i enough further small one most U =
     let d : (d : Command) × IsNewTo n set U.kept d = new_command n set U.kept in
-    let S : Stepped n set U.kept d.0 i = step n set bound i U.kept d.0 enough small one most U.at d.1 in
+    let S : Stepped n set U.kept d.0 i = step n set bound last i U.kept d.0 enough further small one most U.at d.1 in
     let after : (q : ℕ) → (fs : List Fact) × (q < n → set q ≡ true → IsNext n q i S.v (U.kept q) (S.end.state q) fs) = chosen n set (λ q fs. IsNext n q i S.v (U.kept q) (S.end.state q) fs) S.next in
     record {
       kept = λ q. (after q).0;
       restarts = OnceMore U.kept (λ q. (after q).0) d.0 S.end U.restarts d.1 S.goes (λ q l y. ((after q).1 l y).marked);
-      at = are_further n set bound i U.kept (λ q. (after q).0) S.v S.end one U.at (λ q l y. (after q).1 l y);
+      at = are_further n set bound last i U.kept (λ q. (after q).0) S.v S.end one U.at (λ q l y. (after q).1 l y);
       stays = λ k j v l y e. elim (cases_eq j i) [
         | inl same ↦ ap (λ z. standing_of z (after k).0) same ∙ ((after k).1 l y).here ∙ ap (λ z. Some (Decided z)) (sym (S.same k v l y (ap (λ z. standing_of z (U.kept k)) (sym same) ∙ U.stays k j v l y e)))
-        | inr away ↦ still_decided n set bound i U.kept (λ q. (after q).0) S.v S.end one U.at (λ q l2 y2. (after q).1 l2 y2) k l y j v away (U.stays k j v l y e)
+        | inr away ↦ still_decided n set bound last i U.kept (λ q. (after q).0) S.v S.end one U.at (λ q l2 y2. (after q).1 l2 y2) k l y j v away (U.stays k j v l y e)
       ];
     }
 
-upto : (n : ℕ) (set : ℕ → Bool) (facts : ℕ → List Fact) (bound : ℕ) → majority_of n ≤ count_below set n → 1 ≤ bound → bound + n ≤ 2147483647 → ((q : ℕ) → q < n → set q ≡ true → HasRoom n bound q (facts q)) → AreAgreed n set facts → (i : ℕ) → i ≤ 1048576 → Upto n set facts bound i
-upto n set facts bound enough one most room agreed zero l = record {
+upto : (n : ℕ) (set : ℕ → Bool) (facts : ℕ → List Fact) (bound last : ℕ) → majority_of n ≤ count_below set n → last ≤ 1048576 → 1 ≤ bound → bound + n ≤ 2147483647 → ((q : ℕ) → q < n → set q ≡ true → HasRoom n bound last q (facts q)) → AreAgreed n set facts → (i : ℕ) → i ≤ last → Upto n set facts bound last i
+upto n set facts bound last enough within one most room agreed zero l = record {
   kept = facts;
   restarts = AsTheyAre;
-  at = record { fit = λ q m y. (room q m y).fit; rounds = λ q m y. (room q m y).rounds; below = λ q m y j k. absurd (omega arith); agreed = agreed };
+  at = record { fit = λ q m y. (room q m y).fit; rounds = λ q m y j o x. (room q m y).rounds j o x; below = λ q m y j k. absurd (omega arith); agreed = agreed };
   stays = λ k j v m y e. e;
 }
-upto n set facts bound enough one most room agreed (suc i) l = upto_next n set facts bound i enough (omega arith) one most (upto n set facts bound enough one most room agreed i (omega arith))
+upto n set facts bound last enough within one most room agreed (suc i) l = upto_next n set facts bound last i enough (omega arith) (omega arith) one most (upto n set facts bound last enough within one most room agreed i (omega arith))
 
 -- so they can fill all gaps
 pub fill_gaps : GapsCanBeFilled
 fill_gaps n set facts bound end enough within one most room agreed =
-    let U : Upto n set facts bound end = upto n set facts bound enough one most room agreed end within in
+    let U : Upto n set facts bound end end = upto n set facts bound end enough within one most room agreed end (let z : end ≤ end = omega arith in z) in
     record {
       kept = U.kept;
       restarts = U.restarts;

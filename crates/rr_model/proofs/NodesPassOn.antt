@@ -1,5 +1,5 @@
 -- Where a node has decided an instance, the others of a set can decide the same.
-use Rattle.std.proofs.Common.{◌≡◌, ℕ, ◌+◌, ◌≤◌, ◌<◌, ◌⊎◌, inl, inr, Bool, true, false, List, [], Contains, None, Some, refl, ap, sym, ◌∙◌, subst, arith}
+use Rattle.std.proofs.Common.{◌≡◌, ℕ, ◌+◌, ◌≤◌, ◌<◌, ◌⊎◌, inl, inr, Bool, true, false, List, [], Contains, Some, refl, ap, sym, ◌∙◌, subst, arith}
 use Rattle.std.proofs.lemmas.Bool.{cases_eq}
 use Rattle.rr_types.specs.declared.command.Command.{Command}
 use Rattle.rr_types.specs.declared.fact.Fact.{Fact}
@@ -11,11 +11,11 @@ use Rattle.rr_types.specs.Promises.{all_fit}
 use Rattle.rr_types.specs.Rounds.{coordinator_of}
 use Rattle.rr_types.specs.Standings.{is_undecided}
 use Rattle.rr_model.specs.World.{nothing_heard}
-use Rattle.rr_model.specs.NodeState.{NodeState, no_votes, standing_at}
+use Rattle.rr_model.specs.NodeState.{NodeState, no_votes}
 use Rattle.rr_types.specs.declared.input.Input.TheVariants.{Hear}
 use Rattle.rr_model.specs.NodeStep.{node_step}
 use Rattle.rr_model.specs.NodeReached.{Opened}
-use Rattle.rr_model.specs.NodesGoOn.{Cluster, restarted, IsReadyFor, CanLearn, DecisionsCanBeLearned}
+use Rattle.rr_model.specs.NodesGoOn.{Cluster, restarted, IsReadyFor, DecisionsCanBeLearned}
 use Rattle.rr_model.proofs.NodeMoves.{standing_first, from_to, estimated}
 use Rattle.rr_model.proofs.NodeAnswers.{Concluded, hears_decision}
 use Rattle.rr_model.proofs.NodeBeyond.{decision_keeps}

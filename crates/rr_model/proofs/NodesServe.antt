@@ -1,5 +1,5 @@
 -- Where the nodes of a set have decided a request and filled all gaps below it, each can acknowledge it.
-use Rattle.std.proofs.Common.{◌≡◌, ℕ, ◌+◌, ◌≤◌, ◌<◌, inl, inr, zero, suc, Bool, true, false, ◌==◌, ◌&&◌, ◌||◌, not, find, if◌then◌else◌, List, [], ◌∷◌, ◌++◌, length, map, Contains, Option, None, Some, refl, ap, sym, ◌∙◌, subst, arith, eqb-true, eq-eqb}
+use Rattle.std.proofs.Common.{◌≡◌, ℕ, ◌+◌, ◌≤◌, ◌<◌, inl, inr, zero, suc, Bool, true, false, ◌==◌, ◌&&◌, not, find, if◌then◌else◌, List, [], ◌∷◌, length, map, Contains, None, Some, refl, ap, sym, ◌∙◌, subst, arith, eq-eqb}
 use Rattle.std.specs.List.{list_any}
 use Rattle.std.proofs.lemmas.Bool.{false≢true, cases_lt, ne_eqb}
 use Rattle.std.proofs.lemmas.Option.{none-some, same_Some}
@@ -8,8 +8,7 @@ use Rattle.rr_types.specs.declared.fact.Fact.{Fact}
 use Rattle.rr_types.specs.declared.promise.Entry.{Entry}
 use Rattle.rr_types.specs.declared.promise.Standing.{Standing}
 use Rattle.rr_types.specs.declared.promise.Standing.TheVariants.{Decided, Open}
-use Rattle.rr_types.specs.declared.refusal.Refusal.TheVariants.{ListFull}
-use Rattle.rr_types.specs.Facts.{standing_of, decision_of}
+use Rattle.rr_types.specs.Facts.{standing_of}
 use Rattle.rr_types.specs.Promises.{AscendsFrom, standing_in, promise_of, decided_from}
 use Rattle.rr_types.specs.Registry.{has_request}
 use Rattle.rr_types.specs.Standings.{is_undecided}
@@ -19,7 +18,7 @@ use Rattle.rr_model.specs.NodeStep.{promised_row, is_waiting, is_list_full, next
 use Rattle.rr_model.specs.NodeLaws.{Told, after_event}
 use Rattle.rr_model.specs.NodeReached.{opened_over}
 use Rattle.rr_model.specs.NodesGoOn.{Cluster, CanGoOn, NotAtAll, ByOneMore, after_at, restarted}
-use Rattle.rr_model.specs.NodesRestart.{CanFillGaps, CanAcknowledge, DecidedCanBeAcknowledged}
+use Rattle.rr_model.specs.NodesRestart.{CanFillGaps, DecidedCanBeAcknowledged}
 use Rattle.rr_model.proofs.OneNode.{at_itself}
 use Rattle.rr_model.proofs.Promised.{standing_in-promise_of}
 use Rattle.rr_model.proofs.NodePrefixes.{ascends_all}
@@ -27,7 +26,7 @@ use Rattle.rr_model.proofs.NodeSteady.{started_stays, input_stays}
 use Rattle.rr_model.proofs.NodeFirsts.{settle_onward}
 use Rattle.rr_model.proofs.NodeMoves.{if_true, if_false}
 use Rattle.rr_model.proofs.NodeRestates.{started_same, decides_request, unheld, holds, first_decided}
-use Rattle.rr_model.proofs.NodeBegins.{Waits, waits_submitted}
+use Rattle.rr_model.proofs.NodeBegins.{waits_submitted}
 use Rattle.rr_model.proofs.NodesFill.{fill_gaps}
 
 listed_here : (low : ℕ) (x : Entry) (es : List Entry) (v : Command) → x.instance ≡ low → x.standing ≡ Decided v → decided_from low (x ∷ es) ≡ v ∷ decided_from (low + 1) es
@@ -151,7 +150,7 @@ module _ (n : ℕ) (set : ℕ → Bool) (kept : ℕ → List Fact) (c : Command)
 
 -- so a request that one of them has decided each can acknowledge
 pub acknowledge_decided : DecidedCanBeAcknowledged
-acknowledge_decided n set facts bound enough one most room agreed k i c v exists member small at request =
+acknowledge_decided n set facts bound i enough small one most room agreed k c v exists member at request =
     let F : CanFillGaps n set facts (i + 1) = fill_gaps n set facts bound (i + 1) enough (omega arith) one most room agreed in
     let below : (q : ℕ) → q < n → set q ≡ true → (j : ℕ) → j < i → is_undecided (standing_of j (F.kept q)) ≡ false = λ q l y j m. F.are_decided q l y j (omega arith) in
     let here : (q : ℕ) → q < n → set q ≡ true → standing_of i (F.kept q) ≡ Some (Decided v) = λ q l y. F.are_kept k q i v exists member l y (omega arith) at in

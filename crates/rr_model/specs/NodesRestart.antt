@@ -30,10 +30,10 @@ pub data CanRestartOver (n : ℕ) (set : ℕ → Bool) (facts : ℕ → List Fac
       → ((q : ℕ) → q < n → set q ≡ true → HasMarked (after q) (end.state q))
       → CanRestartOver n set facts after
 
--- node q's facts fit, and leave no instance open in a round above the bound
-pub record HasRoom (n bound q : ℕ) (facts : List Fact) : Type 0 where
+-- node q's facts fit, and leave no instance below the end open in a round above the bound
+pub record HasRoom (n bound end q : ℕ) (facts : List Fact) : Type 0 where
   pub fit : all_fit n q [] facts ≡ true
-  pub rounds : (i : ℕ) (o : OpenAt) → standing_of i facts ≡ Some (Open o) → o.round ≤ bound
+  pub rounds : (i : ℕ) (o : OpenAt) → i < end → standing_of i facts ≡ Some (Open o) → o.round ≤ bound
 
 -- no two nodes of the set have decided an instance differently
 abbrev pub AreAgreed : ℕ → (ℕ → Bool) → (ℕ → List Fact) → Type 0
@@ -51,12 +51,12 @@ pub record CanFillGaps (n : ℕ) (set : ℕ → Bool) (facts : ℕ → List Fact
       → standing_of i (facts k) ≡ Some (Decided v) → standing_of i (kept q) ≡ Some (Decided v)
 
 -- whatever the nodes of a majority keep, behind a restart they can decide each instance below any end, where their rounds
--- leave room for n more
+-- below it leave room for n more
 abbrev pub GapsCanBeFilled : Type 0
 GapsCanBeFilled =
     (n : ℕ) (set : ℕ → Bool) (facts : ℕ → List Fact) (bound end : ℕ) → majority_of n ≤ count_below set n
     → end ≤ instance_count → 1 ≤ bound → bound + n ≤ last_round
-    → ((q : ℕ) → q < n → set q ≡ true → HasRoom n bound q (facts q)) → AreAgreed n set facts
+    → ((q : ℕ) → q < n → set q ≡ true → HasRoom n bound end q (facts q)) → AreAgreed n set facts
     → CanFillGaps n set facts end
 
 -- the nodes of the set can go on and restart so, and then go on, with the client's command alone, until the decided prefix of each
@@ -72,7 +72,7 @@ pub record CanAcknowledge (n : ℕ) (set : ℕ → Bool) (facts : ℕ → List F
 -- where one of them has decided the client's request, be it for an instance with gaps below it, each can acknowledge it
 abbrev pub DecidedCanBeAcknowledged : Type 0
 DecidedCanBeAcknowledged =
-    (n : ℕ) (set : ℕ → Bool) (facts : ℕ → List Fact) (bound : ℕ) → majority_of n ≤ count_below set n → 1 ≤ bound
-    → bound + n ≤ last_round → ((q : ℕ) → q < n → set q ≡ true → HasRoom n bound q (facts q)) → AreAgreed n set facts
-    → (k i : ℕ) (c v : Command) → k < n → set k ≡ true → i < instance_count → standing_of i (facts k) ≡ Some (Decided v)
+    (n : ℕ) (set : ℕ → Bool) (facts : ℕ → List Fact) (bound i : ℕ) → majority_of n ≤ count_below set n → i < instance_count
+    → 1 ≤ bound → bound + n ≤ last_round → ((q : ℕ) → q < n → set q ≡ true → HasRoom n bound (i + 1) q (facts q))
+    → AreAgreed n set facts → (k : ℕ) (c v : Command) → k < n → set k ≡ true → standing_of i (facts k) ≡ Some (Decided v)
     → v.request ≡ c.request → CanAcknowledge n set facts c v
