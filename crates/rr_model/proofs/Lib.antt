@@ -61,3 +61,6 @@ pub mod NodesLearn
 pub mod NodesPassOn
 pub mod NodesFill
 pub mod NodesServe
+pub mod NodesIdle
+pub mod NodesReach
+pub mod NodesServeAll

@@ -31,7 +31,7 @@ use Rattle.rr_model.proofs.NodeReached.{reached_knows, reached_fits}
 use Rattle.rr_model.proofs.NodeSteady.{started_stays}
 use Rattle.rr_model.proofs.Plans.{bound}
 use Rattle.rr_model.proofs.NodeMoves.{if_false}
-use Rattle.rr_model.proofs.NodeBeyond.{at_first, IsQuietAbove, StandsOn, Beside, Keeps}
+use Rattle.rr_model.proofs.NodeBeyond.{at_first, IsQuietAbove, StandsOn, Beside, Loose, restless}
 use Rattle.rr_model.proofs.NodeAlone.{IsUp}
 use Rattle.rr_model.proofs.NodesTogether.{Leads}
 use Rattle.rr_model.proofs.NodeRestates.{started_same}
@@ -39,20 +39,20 @@ use Rattle.rr_model.proofs.NodesDecide.{HasDecided, AllDecided, ready_leads}
 use Rattle.rr_model.proofs.NodesPassOn.{learned_leads}
 
 -- the facts that a node has marked, which are all that it has
-record Kept (n q : ℕ) (s : NodeState) : Type 0 where
-  facts : List Fact
-  marked : HasMarked facts s
-  fit : all_fit n q [] facts ≡ true
-  says : (j : ℕ) → standing_of j facts ≡ standing_at s j
+pub record Kept (n q : ℕ) (s : NodeState) : Type 0 where
+  pub facts : List Fact
+  pub marked : HasMarked facts s
+  pub fit : all_fit n q [] facts ≡ true
+  pub says : (j : ℕ) → standing_of j facts ≡ standing_at s j
 
-what_is_kept : (n q : ℕ) (s : NodeState) → IsUp n q s → s.running ≡ None → s.staged ≡ [] → Kept n q s
+pub what_is_kept : (n q : ℕ) (s : NodeState) → IsUp n q s → s.running ≡ None → s.staged ≡ [] → Kept n q s
 what_is_kept n q s U a b =
     let facts : List Fact = U.0 in
     let K : Knows (Unit {0}) n q facts U.1 s = reached_knows n q facts U.1 s U.2 in
     let whole : facts ≡ K.kept = K.whole ∙ ap (λ z. K.kept ++ (in_flight z ++ s.staged)) a ∙ ap (λ z. K.kept ++ z) b ∙ append-nil K.kept in
     record { facts = facts; marked = (K.promise ∙ ap promise_of (sym whole), K.count ∙ ap length (sym whole)); fit = reached_fits n q facts U.1 s U.2; says = λ j. sym (K.standings j) }
 
-opened_kept : (n q : ℕ) (facts : List Fact) → all_fit n q [] facts ≡ true → Kept n q (opened_over n q facts)
+pub opened_kept : (n q : ℕ) (facts : List Fact) → all_fit n q [] facts ≡ true → Kept n q (opened_over n q facts)
 opened_kept n q facts fit = record {
   facts = facts;
   marked = ((started_stays n q (promise_of facts) (length facts)).marked, (started_stays n q (promise_of facts) (length facts)).marked_end);
@@ -60,7 +60,7 @@ opened_kept n q facts fit = record {
   says = λ j. sym ((reached_knows n q facts nothing_heard (opened_over n q facts) (Opened facts fit)).standings j);
 }
 
-promised_tally : (next j : ℕ) (es : List Entry) (row : Row) → row_of (map (promised_row next) es) j ≡ Some row → row.tally ≡ no_votes
+pub promised_tally : (next j : ℕ) (es : List Entry) (row : Row) → row_of (map (promised_row next) es) j ≡ Some row → row.tally ≡ no_votes
 promised_tally next j [] row e = absurd (none-some row e)
 promised_tally next j (x ∷ es) row e = by (x.instance == j) (promised_tally next j es row) e
   where
@@ -69,53 +69,53 @@ promised_tally next j (x ∷ es) row e = by (x.instance == j) (promised_tally ne
     by false ih y = ih y
 
 -- a node that has restarted has heard no votes
-opened_quiet : (n q i : ℕ) (facts : List Fact) → IsQuietAbove i (opened_over n q facts)
+pub opened_quiet : (n q i : ℕ) (facts : List Fact) → IsQuietAbove i (opened_over n q facts)
 opened_quiet n q i facts j l row e = promised_tally (length facts) j (promise_of facts) row (ap (λ z. row_of z j) (sym (started_same n q (promise_of facts) (length facts)).0) ∙ e)
 
 -- instance j stands as it did, or was begun
-abbrev FactsOn : ℕ → List Fact → List Fact → Type 0
+abbrev pub FactsOn : ℕ → List Fact → List Fact → Type 0
 FactsOn j a b = (standing_of j b ≡ standing_of j a) ⊎ ((standing_of j a ≡ None) × ((v : Command) × (standing_of j b ≡ Some (Open (at_first v)))))
 
-facts_on : (n q j : ℕ) (facts : List Fact) (s : NodeState) → all_fit n q [] facts ≡ true → (K : Kept n q s) → StandsOn j (opened_over n q facts) s → FactsOn j facts K.facts
+pub facts_on : (n q j : ℕ) (facts : List Fact) (s : NodeState) → all_fit n q [] facts ≡ true → (K : Kept n q s) → StandsOn j (opened_over n q facts) s → FactsOn j facts K.facts
 unfolding opened_kept
 facts_on n q j facts s fit K (inl a) = inl (K.says j ∙ a ∙ sym ((opened_kept n q facts fit).says j))
 facts_on n q j facts s fit K (inr a) = inr ((opened_kept n q facts fit).says j ∙ a.0, (a.1.0, K.says j ∙ a.1.1))
 
 -- what a node has marked once v was decided for instance i
-record IsNext (n q i : ℕ) (v : Command) (facts : List Fact) (s : NodeState) (after : List Fact) : Type 0 where
-  marked : HasMarked after s
-  fit : all_fit n q [] after ≡ true
-  here : standing_of i after ≡ Some (Decided v)
-  others : (j : ℕ) → (j ≡ i → ⊥) → FactsOn j facts after
+pub record IsNext (n q i : ℕ) (v : Command) (facts : List Fact) (s : NodeState) (after : List Fact) : Type 0 where
+  pub marked : HasMarked after s
+  pub fit : all_fit n q [] after ≡ true
+  pub here : standing_of i after ≡ Some (Decided v)
+  pub others : (j : ℕ) → (j ≡ i → ⊥) → FactsOn j facts after
 
-abbrev Next : (n q i : ℕ) (v : Command) (facts : List Fact) (s : NodeState) → Type 0
+abbrev pub Next : (n q i : ℕ) (v : Command) (facts : List Fact) (s : NodeState) → Type 0
 Next n q i v facts s = (after : List Fact) × IsNext n q i v facts s after
 
-next_of : (n q i : ℕ) (v : Command) (facts : List Fact) (s : NodeState) → all_fit n q [] facts ≡ true → IsUp n q s → HasDecided i v s → Keeps i (opened_over n q facts) s → Next n q i v facts s
+pub next_of : (n q i : ℕ) (v : Command) (facts : List Fact) (s : NodeState) → all_fit n q [] facts ≡ true → IsUp n q s → HasDecided i v s → Loose i (opened_over n q facts) s → Next n q i v facts s
 next_of n q i v facts s fit U D keeps =
     let K : Kept n q s = what_is_kept n q s U D.running D.staged in
     let B : Beside i (opened_over n q facts) s = keeps (opened_quiet n q i facts) in
     (K.facts, record { marked = K.marked; fit = K.fit; here = K.says i ∙ D.stands; others = λ j away. facts_on n q j facts s fit K (B.others j away) })
 
-still_next : (n q i : ℕ) (v : Command) (facts : List Fact) (s : NodeState) → all_fit n q [] facts ≡ true → s ≡ opened_over n q facts → standing_of i facts ≡ Some (Decided v) → Next n q i v facts s
+pub still_next : (n q i : ℕ) (v : Command) (facts : List Fact) (s : NodeState) → all_fit n q [] facts ≡ true → s ≡ opened_over n q facts → standing_of i facts ≡ Some (Decided v) → Next n q i v facts s
 unfolding opened_kept
 still_next n q i v facts s fit same e = (facts, record { marked = subst (HasMarked facts) (sym same) (opened_kept n q facts fit).marked; fit = fit; here = e; others = λ j away. inl refl })
 
 -- what nodes of a set can do, nodes of a larger one can
-wider : (n : ℕ) (a b : ℕ → Bool) (c : Command) (g h : Cluster) → ((q : ℕ) → a q ≡ true → b q ≡ true) → CanGoOn n a c g h → CanGoOn n b c g h
+pub wider : (n : ℕ) (a b : ℕ → Bool) (c : Command) (g h : Cluster) → ((q : ℕ) → a q ≡ true → b q ≡ true) → CanGoOn n a c g h → CanGoOn n b c g h
 wider n a b c g _ f NotAtAll = NotAtAll
 wider n a b c g _ f (ByOneMore h p e x l y m) = ByOneMore h p e (wider n a b c g h f x) l (f p y) m
 
 -- the others stay as they are
-untold : (n : ℕ) (set : ℕ → Bool) (c : Command) (g h : Cluster) (q : ℕ) → set q ≡ false → CanGoOn n set c g h → h.state q ≡ g.state q
+pub untold : (n : ℕ) (set : ℕ → Bool) (c : Command) (g h : Cluster) (q : ℕ) → set q ≡ false → CanGoOn n set c g h → h.state q ≡ g.state q
 untold n set c g _ q out NotAtAll = refl
 untold n set c g _ q out (ByOneMore h p e x l y m) = if_false (q == p) (after_event (h.state p) e) (h.state q) (ne_eqb q p (λ same. false≢true (sym out ∙ ap set same ∙ y))) ∙ untold n set c g h q out x
 
 -- a node of the set has decided the instance, or none has
-abbrev HasOne : ℕ → (ℕ → Bool) → (ℕ → List Fact) → ℕ → Type 0
+abbrev pub HasOne : ℕ → (ℕ → Bool) → (ℕ → List Fact) → ℕ → Type 0
 HasOne n set facts i = (k : ℕ) × (k < n) × (set k ≡ true) × (v : Command) × (standing_of i (facts k) ≡ Some (Decided v))
 
-abbrev NoneHas : ℕ → (ℕ → Bool) → (ℕ → List Fact) → ℕ → Type 0
+abbrev pub NoneHas : ℕ → (ℕ → Bool) → (ℕ → List Fact) → ℕ → Type 0
 NoneHas n set facts i = (q : ℕ) → q < n → set q ≡ true → is_undecided (standing_of i (facts q)) ≡ true
 
 none_more : (n : ℕ) (set : ℕ → Bool) (facts : ℕ → List Fact) (i : ℕ) → NoneHas n set facts i → (set n ≡ true → is_undecided (standing_of i (facts n)) ≡ true) → NoneHas (suc n) set facts i
@@ -131,16 +131,16 @@ search_one n set facts i true x (Some (Open o)) y (inr none) = inr (none_more n 
 search_one n set facts i true x None y (inr none) = inr (none_more n set facts i none (λ z. ap is_undecided y))
 search_one n set facts i false x o y (inr none) = inr (none_more n set facts i none (λ z. absurd (false≢true (sym x ∙ z))))
 
-look : (n : ℕ) (set : ℕ → Bool) (facts : ℕ → List Fact) (i : ℕ) → HasOne n set facts i ⊎ NoneHas n set facts i
+pub look : (n : ℕ) (set : ℕ → Bool) (facts : ℕ → List Fact) (i : ℕ) → HasOne n set facts i ⊎ NoneHas n set facts i
 look zero set facts i = inr (λ q l y. absurd (omega arith))
 look (suc n) set facts i = search_one n set facts i (set n) refl (standing_of i (facts n)) refl (look n set facts i)
 
 -- where the nodes of the set stand: each has decided all below i
-record AreAt (n : ℕ) (set : ℕ → Bool) (bound last i : ℕ) (facts : ℕ → List Fact) : Type 0 where
-  fit : (q : ℕ) → q < n → set q ≡ true → all_fit n q [] (facts q) ≡ true
-  rounds : (q : ℕ) → q < n → set q ≡ true → (j : ℕ) (o : OpenAt) → j < last → standing_of j (facts q) ≡ Some (Open o) → o.round ≤ bound
-  below : (q : ℕ) → q < n → set q ≡ true → (j : ℕ) → j < i → is_undecided (standing_of j (facts q)) ≡ false
-  agreed : AreAgreed n set facts
+pub record AreAt (n : ℕ) (set : ℕ → Bool) (bound last i : ℕ) (facts : ℕ → List Fact) : Type 0 where
+  pub fit : (q : ℕ) → q < n → set q ≡ true → all_fit n q [] (facts q) ≡ true
+  pub rounds : (q : ℕ) → q < n → set q ≡ true → (j : ℕ) (o : OpenAt) → j < last → standing_of j (facts q) ≡ Some (Open o) → o.round ≤ bound
+  pub below : (q : ℕ) → q < n → set q ≡ true → (j : ℕ) → j < i → is_undecided (standing_of j (facts q)) ≡ false
+  pub agreed : AreAgreed n set facts
 
 ready_if : (n bound i q : ℕ) (d : Command) (facts : List Fact) → all_fit n q [] facts ≡ true → ((j : ℕ) → j < i → is_undecided (standing_of j facts) ≡ false) → ((o : OpenAt) → standing_of i facts ≡ Some (Open o) → o.round ≤ bound) → IsFreeAt n q i d facts → is_undecided (standing_of i facts) ≡ true → IsReadyFor n bound i d q facts
 ready_if n bound i q d facts fit below rounds free u = record { fit = fit; below = below; here = by (standing_of i facts) refl u }
@@ -150,12 +150,12 @@ ready_if n bound i q d facts fit below rounds free u = record { fit = fit; below
     by (Some (Open o)) e x = inl (o, e, rounds o e)
     by (Some (Decided v)) e x = absurd (false≢true x)
 
-decided_as : (o : Option Standing) → is_undecided o ≡ false → (w : Command) × (o ≡ Some (Decided w))
+pub decided_as : (o : Option Standing) → is_undecided o ≡ false → (w : Command) × (o ≡ Some (Decided w))
 decided_as None e = absurd (false≢true (sym e))
 decided_as (Some (Open o)) e = absurd (false≢true (sym e))
 decided_as (Some (Decided w)) e = (w, refl)
 
-both_true : (a b : Bool) → (a && b) ≡ true → (a ≡ true) × (b ≡ true)
+pub both_true : (a b : Bool) → (a && b) ≡ true → (a ≡ true) × (b ≡ true)
 both_true true b e = (refl, e)
 both_true false b e = absurd (false≢true e)
 
@@ -174,12 +174,13 @@ module _ (n : ℕ) (set : ℕ → Bool) (bound last i : ℕ) (facts : ℕ → Li
   -- none has decided it: they decide
   decides_one : NoneHas n set facts i → Stepped n set facts d i
   decides_one none =
-      let L : Leads i n set d (restarted n facts) (AllDecided i n set) = ready_leads n set facts d i bound enough small one most (λ q l y. is_ready q l y (none q l y)) in
+      let x : (r : ℕ) × Leads i r restless n set d (restarted n facts) (AllDecided i n set) = ready_leads n set facts d i bound enough small one most (λ q l y. is_ready q l y (none q l y)) in
+      let L : Leads i x.0 restless n set d (restarted n facts) (AllDecided i n set) = x.1 in
       record {
         v = L.goal.0;
         end = L.end;
         goes = L.goes;
-        next = λ q l y. next_of n q i L.goal.0 (facts q) (L.end.state q) (A.fit q l y) (L.up q l y) (L.goal.1 q l y) (L.keeps q l y);
+        next = λ q l y. next_of n q i L.goal.0 (facts q) (L.end.state q) (A.fit q l y) (L.up q l y) (L.goal.1 q l y) (L.keeps q l y).0;
         same = λ q w l y e. absurd (false≢true (sym (ap is_undecided e) ∙ none q l y));
       }
 
@@ -194,13 +195,14 @@ module _ (n : ℕ) (set : ℕ → Bool) (bound last i : ℕ) (facts : ℕ → Li
     learns_one : Stepped n set facts d i
     learns_one =
         let told : lacking k ≡ true = and_from _ _ member (ap (λ z. z || is_undecided (standing_of i (facts k))) (eq-eqb k k refl)) in
-        let L : Leads i n lacking d (restarted n facts) (λ h. (q : ℕ) → q < n → lacking q ≡ true → HasDecided i v (h.state q)) =
+        let x : (r : ℕ) × Leads i r restless n lacking d (restarted n facts) (λ h. (q : ℕ) → q < n → lacking q ≡ true → HasDecided i v (h.state q)) =
         learned_leads n lacking facts d i bound small one most k exists told (A.fit k exists member) (A.below k exists member) v at (λ q l y other. is_ready q l (both_true (set q) _ y).0 (lacks q y other)) in
+        let L : Leads i x.0 restless n lacking d (restarted n facts) (λ h. (q : ℕ) → q < n → lacking q ≡ true → HasDecided i v (h.state q)) = x.1 in
         record {
           v = v;
           end = L.end;
           goes = wider n lacking set d (restarted n facts) L.end (λ q y. (both_true (set q) _ y).0) L.goes;
-          next = λ q l y. by q l y (lacking q) refl L.end L.goes (λ z. L.up q l z) (λ z. L.goal q l z) (λ z. L.keeps q l z);
+          next = λ q l y. by q l y (lacking q) refl L.end L.goes (λ z. L.up q l z) (λ z. L.goal q l z) (λ z. (L.keeps q l z).0);
           same = λ q w l y e. A.agreed i q k w v l y exists member e at;
         }
       where
@@ -214,7 +216,7 @@ module _ (n : ℕ) (set : ℕ → Bool) (bound last i : ℕ) (facts : ℕ → Li
             not_either true b e = absurd (false≢true (sym e))
             not_either false b e = e
 
-        by : (q : ℕ) → q < n → set q ≡ true → (b : Bool) → lacking q ≡ b → (end : Cluster) → CanGoOn n lacking d (restarted n facts) end → (lacking q ≡ true → IsUp n q (end.state q)) → (lacking q ≡ true → HasDecided i v (end.state q)) → (lacking q ≡ true → Keeps i (opened_over n q (facts q)) (end.state q)) → Next n q i v (facts q) (end.state q)
+        by : (q : ℕ) → q < n → set q ≡ true → (b : Bool) → lacking q ≡ b → (end : Cluster) → CanGoOn n lacking d (restarted n facts) end → (lacking q ≡ true → IsUp n q (end.state q)) → (lacking q ≡ true → HasDecided i v (end.state q)) → (lacking q ≡ true → Loose i (opened_over n q (facts q)) (end.state q)) → Next n q i v (facts q) (end.state q)
         by q l y true x end goes up has keeps = next_of n q i v (facts q) (end.state q) (A.fit q l y) (up x) (has x) (keeps x)
         by q l y false x end goes up has keeps = still_next n q i v (facts q) (end.state q) (A.fit q l y) (untold n lacking d (restarted n facts) end q x goes) (had q l y x)
 
@@ -225,7 +227,7 @@ module _ (n : ℕ) (set : ℕ → Bool) (bound last i : ℕ) (facts : ℕ → Li
   ]
 
 -- what each of the set has, as one function
-chosen : (n : ℕ) (set : ℕ → Bool) (Good : ℕ → List Fact → Type 0) → ((q : ℕ) → q < n → set q ≡ true → (fs : List Fact) × Good q fs) → (q : ℕ) → (fs : List Fact) × (q < n → set q ≡ true → Good q fs)
+pub chosen : (n : ℕ) (set : ℕ → Bool) (Good : ℕ → List Fact → Type 0) → ((q : ℕ) → q < n → set q ≡ true → (fs : List Fact) × Good q fs) → (q : ℕ) → (fs : List Fact) × (q < n → set q ≡ true → Good q fs)
 chosen n set Good each q = elim (cases_lt q n) [
   | inl l ↦ by l (set q) refl
   | inr m ↦ ([], λ l y. absurd (omega arith))
@@ -237,21 +239,21 @@ chosen n set Good each q = elim (cases_lt q n) [
 
 -- where they stand then
 module _ (n : ℕ) (set : ℕ → Bool) (bound last i : ℕ) (facts after : ℕ → List Fact) (v : Command) (end : Cluster) (one : 1 ≤ bound) (A : AreAt n set bound last i facts) (N : (q : ℕ) → q < n → set q ≡ true → IsNext n q i v (facts q) (end.state q) (after q)) where
-  decided_before : (q : ℕ) → q < n → set q ≡ true → (j : ℕ) (w : Command) → (j ≡ i → ⊥) → standing_of j (after q) ≡ Some (Decided w) → standing_of j (facts q) ≡ Some (Decided w)
+  pub decided_before : (q : ℕ) → q < n → set q ≡ true → (j : ℕ) (w : Command) → (j ≡ i → ⊥) → standing_of j (after q) ≡ Some (Decided w) → standing_of j (facts q) ≡ Some (Decided w)
   decided_before q l y j w away e = by ((N q l y).others j away)
     where
       by : FactsOn j (facts q) (after q) → standing_of j (facts q) ≡ Some (Decided w)
       by (inl a) = sym a ∙ e
       by (inr a) = absurd (false≢true (sym (ap is_undecided (sym (a.1.1) ∙ e))))
 
-  still_decided : (q : ℕ) → q < n → set q ≡ true → (j : ℕ) (w : Command) → (j ≡ i → ⊥) → standing_of j (facts q) ≡ Some (Decided w) → standing_of j (after q) ≡ Some (Decided w)
+  pub still_decided : (q : ℕ) → q < n → set q ≡ true → (j : ℕ) (w : Command) → (j ≡ i → ⊥) → standing_of j (facts q) ≡ Some (Decided w) → standing_of j (after q) ≡ Some (Decided w)
   still_decided q l y j w away e = by ((N q l y).others j away)
     where
       by : FactsOn j (facts q) (after q) → standing_of j (after q) ≡ Some (Decided w)
       by (inl a) = a ∙ e
       by (inr a) = absurd (none-some (Decided w) (sym a.0 ∙ e))
 
-  are_further : AreAt n set bound last (suc i) after
+  pub are_further : AreAt n set bound last (suc i) after
   are_further = record {
     fit = λ q l y. (N q l y).fit;
     rounds = λ q l y j o x e. elim (cases_eq j i) [
@@ -301,7 +303,7 @@ and_false false = refl
 other_request : (q : RequestNo) (k : ℕ) → q.seq < k → is_same_request q (numbered k).request ≡ false
 other_request q k l = ap (λ z. q.client == 0 && z) (ne_eqb q.seq k (λ e. omega arith)) ∙ and_false (q.client == 0)
 
-any_false : {A : Type 0} → (f : A → Bool) (xs : List A) → ((x : A) → f x ≡ false) → list_any f xs ≡ false
+pub any_false : {A : Type 0} → (f : A → Bool) (xs : List A) → ((x : A) → f x ≡ false) → list_any f xs ≡ false
 any_false f [] none = refl
 any_false f (x ∷ xs) none = ap (λ z. z || list_any f xs) (none x) ∙ any_false f xs none
 
@@ -333,7 +335,7 @@ not_beside k i s l = any_false _ (open_instances s) (λ j. ap (λ z. not (j == i
     by j (Some row) e = ap (λ z. option_map_or (λ v. is_same_command v (numbered k)) (estimate_of (option_map (λ (x : Row). x.standing) z)) false) e ∙ of_standing row.standing (let x : number_in row.standing ≤ top s.rows = in_rows j s.rows row e in omega arith)
 
 -- there is a command that is new to them all
-new_command : (n : ℕ) (set : ℕ → Bool) (facts : ℕ → List Fact) → (d : Command) × IsNewTo n set facts d
+pub new_command : (n : ℕ) (set : ℕ → Bool) (facts : ℕ → List Fact) → (d : Command) × IsNewTo n set facts d
 new_command n set facts =
     let b : (b : ℕ) × ((q : ℕ) → q < n → top (opened_over n q (facts q)).rows ≤ b) = bound n (λ q. top (opened_over n q (facts q)).rows) in
     (numbered (b.0 + 1), λ q l y i. let x : top (opened_over n q (facts q)).rows ≤ b.0 = b.1 q l in (not_decided (b.0 + 1) (opened_over n q (facts q)).rows (omega arith), not_beside (b.0 + 1) i (opened_over n q (facts q)) (omega arith)))
@@ -341,7 +343,7 @@ new_command n set facts =
 -- they have come so far: each has decided all below i, and what was decided is
 record Upto (n : ℕ) (set : ℕ → Bool) (facts : ℕ → List Fact) (bound last i : ℕ) : Type 0 where
   kept : ℕ → List Fact
-  restarts : CanRestartOver n set facts kept
+  restarts : CanRestartOver n set None facts kept
   at : AreAt n set bound last i kept
   stays : (k j : ℕ) (v : Command) → k < n → set k ≡ true → standing_of j (facts k) ≡ Some (Decided v) → standing_of j (kept k) ≡ Some (Decided v)
 
@@ -352,7 +354,7 @@ upto_next n set facts bound last i enough further small one most U =
     let after : (q : ℕ) → (fs : List Fact) × (q < n → set q ≡ true → IsNext n q i S.v (U.kept q) (S.end.state q) fs) = chosen n set (λ q fs. IsNext n q i S.v (U.kept q) (S.end.state q) fs) S.next in
     record {
       kept = λ q. (after q).0;
-      restarts = OnceMore U.kept (λ q. (after q).0) d.0 S.end U.restarts d.1 S.goes (λ q l y. ((after q).1 l y).marked);
+      restarts = OnceMore U.kept (λ q. (after q).0) d.0 S.end U.restarts (inr d.1) S.goes (λ q l y. ((after q).1 l y).marked);
       at = are_further n set bound last i U.kept (λ q. (after q).0) S.v S.end one U.at (λ q l y. (after q).1 l y);
       stays = λ k j v l y e. elim (cases_eq j i) [
         | inl same ↦ ap (λ z. standing_of z (after k).0) same ∙ ((after k).1 l y).here ∙ ap (λ z. Some (Decided z)) (sym (S.same k v l y (ap (λ z. standing_of z (U.kept k)) (sym same) ∙ U.stays k j v l y e)))

@@ -35,7 +35,7 @@ listed_here low x es v a b = let t : (x.instance == low) ≡ true = eq-eqb x.ins
 listed_behind : (x : Command) (xs : List Command) (v : Command) → Contains xs v → Contains (x ∷ xs) v
 listed_behind x xs v c = (suc c.0, (let l : c.0 < length xs = c.1 in omega arith), c.2)
 
-decided_so : (st : Standing) → is_undecided (Some st) ≡ false → (w : Command) × (st ≡ Decided w)
+pub decided_so : (st : Standing) → is_undecided (Some st) ≡ false → (w : Command) × (st ≡ Decided w)
 decided_so (Decided w) e = (w, refl)
 decided_so (Open o) e = absurd (false≢true (sym e))
 
@@ -90,7 +90,7 @@ module _ (n q i : ℕ) (facts : List Fact) (c v : Command) (below : (j : ℕ) �
       by false e = absurd (false≢true (sym (unheld (length facts) 0 c.request (promise_of facts) e) ∙ held))
 
   -- takes it
-  takes_it : input_refusal (Submit c) opened ≡ None
+  pub takes_it : input_refusal (Submit c) opened ≡ None
   takes_it = if_false _ _ _ (ap (λ z. is_list_full opened && not z && not (is_waiting opened c.request)) decides_it ∙ never (is_list_full opened))
     where
       never : (b : Bool) → (b && false && not (is_waiting opened c.request)) ≡ false
@@ -101,10 +101,10 @@ module _ (n q i : ℕ) (facts : List Fact) (c v : Command) (below : (j : ℕ) �
   prefix : decided_prefix (node_step (Submit c) opened) ≡ decided_from 0 (promise_of facts)
   prefix = ap (decided_from 0) ((input_stays (Submit c) opened).marked ∙ marked)
 
-  has_it : Contains (decided_prefix (node_step (Submit c) opened)) v
+  pub has_it : Contains (decided_prefix (node_step (Submit c) opened)) v
   has_it = subst (λ z. Contains z v) (sym prefix) (listed 0 i v (promise_of facts) (ascends_all [] facts tt) (omega arith) promised (standing_in-promise_of facts i ∙ here))
 
-  owes_it : next_acknowledged (node_step (Submit c) opened) ≡ Some c.request
+  pub owes_it : next_acknowledged (node_step (Submit c) opened) ≡ Some c.request
   owes_it =
       ap (find (λ z. has_request (decided_prefix (node_step (Submit c) opened)) z)) (waiting_then c opened (started_same n q (promise_of facts) (length facts)).2.waiting)
       ∙ if_true _ _ _ (ap (λ z. has_request z c.request) prefix ∙ held)
@@ -112,11 +112,11 @@ module _ (n q i : ℕ) (facts : List Fact) (c v : Command) (below : (j : ℕ) �
 -- nodes that would take the client's command
 module _ (n : ℕ) (set : ℕ → Bool) (kept : ℕ → List Fact) (c : Command) (takes : (q : ℕ) → q < n → set q ≡ true → input_refusal (Submit c) (opened_over n q (kept q)) ≡ None) where
   -- it was submitted to those below m
-  record SubmittedBelow (m : ℕ) : Type 0 where
-    end : Cluster
-    goes : CanGoOn n set c (restarted n kept) end
-    done : (q : ℕ) → q < m → set q ≡ true → end.state q ≡ node_step (Submit c) (opened_over n q (kept q))
-    rest : (q : ℕ) → m ≤ q → end.state q ≡ opened_over n q (kept q)
+  pub record SubmittedBelow (m : ℕ) : Type 0 where
+    pub end : Cluster
+    pub goes : CanGoOn n set c (restarted n kept) end
+    pub done : (q : ℕ) → q < m → set q ≡ true → end.state q ≡ node_step (Submit c) (opened_over n q (kept q))
+    pub rest : (q : ℕ) → m ≤ q → end.state q ≡ opened_over n q (kept q)
 
   one_more : (m : ℕ) → m < n → SubmittedBelow m → (b : Bool) → set m ≡ b → SubmittedBelow (suc m)
   one_more m l A false e = record {
@@ -144,7 +144,7 @@ module _ (n : ℕ) (set : ℕ → Bool) (kept : ℕ → List Fact) (c : Command)
         rest = λ q x. beside q (λ same. omega arith) ∙ A.rest q (omega arith);
       }
 
-  submitted_below : (m : ℕ) → m ≤ n → SubmittedBelow m
+  pub submitted_below : (m : ℕ) → m ≤ n → SubmittedBelow m
   submitted_below zero l = record { end = restarted n kept; goes = NotAtAll; done = λ q x y. absurd (omega arith); rest = λ q x. refl }
   submitted_below (suc m) l = one_more m (omega arith) (submitted_below m (omega arith)) (set m) refl
 

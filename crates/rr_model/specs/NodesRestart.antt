@@ -1,4 +1,4 @@
-use Rattle.std.specs.Prelude.{◌≡◌, ℕ, ◌+◌, ◌≤◌, ◌<◌, Bool, true, false, List, [], length, Some}
+use Rattle.std.specs.Prelude.{◌≡◌, ℕ, ◌+◌, ◌≤◌, ◌<◌, Bool, true, false, List, [], length, ◌⊎◌, Option, None, Some}
 use Rattle.std.specs.List.{Contains}
 use Rattle.rr_types.specs.declared.command.Command.{Command}
 use Rattle.rr_types.specs.declared.fact.Fact.{Fact}
@@ -21,14 +21,20 @@ IsNewTo n set facts d = (q : ℕ) → q < n → set q ≡ true → (i : ℕ) →
 abbrev pub HasMarked : List Fact → NodeState → Type 0
 HasMarked facts s = (s.marked ≡ promise_of facts) × (s.marked_end ≡ length facts)
 
+-- whether it is the given command, if there is one
+abbrev pub IsGiven : Option Command → Command → Type 0
+IsGiven None d = ⊥
+IsGiven (Some c) d = d ≡ c
+
 -- the nodes of the set, restarted over the first facts, can go on and restart over the second: as often as is needed they go on,
--- and all restart over what each has marked. From one restart to the next a single command is submitted, which is new to them
-pub data CanRestartOver (n : ℕ) (set : ℕ → Bool) (facts : ℕ → List Fact) : (ℕ → List Fact) → Type 0 where
-  AsTheyAre : CanRestartOver n set facts facts
-  OnceMore : (before after : ℕ → List Fact) (d : Command) (end : Cluster) → CanRestartOver n set facts before
-      → IsNewTo n set before d → CanGoOn n set d (restarted n before) end
+-- and all restart over what each has marked. From one restart to the next at most a single command is submitted. It is the given
+-- one, or new to them
+pub data CanRestartOver (n : ℕ) (set : ℕ → Bool) (given : Option Command) (facts : ℕ → List Fact) : (ℕ → List Fact) → Type 0 where
+  AsTheyAre : CanRestartOver n set given facts facts
+  OnceMore : (before after : ℕ → List Fact) (d : Command) (end : Cluster) → CanRestartOver n set given facts before
+      → IsGiven given d ⊎ IsNewTo n set before d → CanGoOn n set d (restarted n before) end
       → ((q : ℕ) → q < n → set q ≡ true → HasMarked (after q) (end.state q))
-      → CanRestartOver n set facts after
+      → CanRestartOver n set given facts after
 
 -- node q's facts fit, and leave no instance below the end open in a round above the bound
 pub record HasRoom (n bound end q : ℕ) (facts : List Fact) : Type 0 where
@@ -44,7 +50,7 @@ AreAgreed n set facts =
 -- the nodes of the set can go on and restart, until each has decided all instances below the end, and as any of them had
 pub record CanFillGaps (n : ℕ) (set : ℕ → Bool) (facts : ℕ → List Fact) (end : ℕ) : Type 0 where
   pub kept : ℕ → List Fact
-  pub restarts : CanRestartOver n set facts kept
+  pub restarts : CanRestartOver n set None facts kept
   pub fit : (q : ℕ) → q < n → set q ≡ true → all_fit n q [] (kept q) ≡ true
   pub are_decided : (q : ℕ) → q < n → set q ≡ true → (i : ℕ) → i < end → is_undecided (standing_of i (kept q)) ≡ false
   pub are_kept : (k q i : ℕ) (v : Command) → k < n → set k ≡ true → q < n → set q ≡ true → i < end
@@ -63,7 +69,7 @@ GapsCanBeFilled =
 -- has this command, which has the client's request number, and each acknowledges the client's request next
 pub record CanAcknowledge (n : ℕ) (set : ℕ → Bool) (facts : ℕ → List Fact) (c v : Command) : Type 0 where
   pub kept : ℕ → List Fact
-  pub restarts : CanRestartOver n set facts kept
+  pub restarts : CanRestartOver n set None facts kept
   pub end : Cluster
   pub goes_on : CanGoOn n set c (restarted n kept) end
   pub is_listed : (q : ℕ) → q < n → set q ≡ true → Contains (decided_prefix (end.state q)) v
@@ -76,3 +82,25 @@ DecidedCanBeAcknowledged =
     → 1 ≤ bound → bound + n ≤ last_round → ((q : ℕ) → q < n → set q ≡ true → HasRoom n bound (i + 1) q (facts q))
     → AreAgreed n set facts → (k : ℕ) (c v : Command) → k < n → set k ≡ true → standing_of i (facts k) ≡ Some (Decided v)
     → v.request ≡ c.request → CanAcknowledge n set facts c v
+
+-- the nodes of the set can go on and restart so, with the client's command among those that are submitted, until each has a command
+-- with the client's request number in its decided prefix, and acknowledges that request next
+pub record CanServeNow (n : ℕ) (set : ℕ → Bool) (facts : ℕ → List Fact) (c : Command) : Type 0 where
+  pub kept : ℕ → List Fact
+  pub restarts : CanRestartOver n set (Some c) facts kept
+  pub end : Cluster
+  pub goes_on : CanGoOn n set c (restarted n kept) end
+  pub command : Command
+  pub request : command.request ≡ c.request
+  pub is_listed : (q : ℕ) → q < n → set q ≡ true → Contains (decided_prefix (end.state q)) command
+  pub is_due : (q : ℕ) → q < n → set q ≡ true → next_acknowledged (end.state q) ≡ Some c.request
+
+-- whatever the nodes of a majority of two or more keep, and whatever a client submits, behind a restart they can serve it, where
+-- none has a fact of an instance from some end on, and their rounds leave room for n more
+abbrev pub RequestsCanBeServed : Type 0
+RequestsCanBeServed =
+    (n : ℕ) (set : ℕ → Bool) (facts : ℕ → List Fact) (bound end : ℕ) (c : Command) → 1 < n
+    → majority_of n ≤ count_below set n → end < instance_count → 1 ≤ bound → bound + n ≤ last_round
+    → ((q : ℕ) → q < n → set q ≡ true → HasRoom n bound end q (facts q))
+    → ((q : ℕ) → q < n → set q ≡ true → (i : ℕ) → end ≤ i → standing_of i (facts q) ≡ None) → AreAgreed n set facts
+    → CanServeNow n set facts c
