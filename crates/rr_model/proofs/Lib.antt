@@ -49,6 +49,7 @@ pub mod Served
 pub mod NodeFirsts
 pub mod NodeMoves
 pub mod NodeAnswers
+pub mod NodeBeyond
 pub mod NodeAlone
 pub mod NodeCounts
 pub mod NodePhases
@@ -58,3 +59,8 @@ pub mod NodeBegins
 pub mod NodesDecide
 pub mod NodesLearn
 pub mod NodesPassOn
+pub mod NodesFill
+pub mod NodesServe
+pub mod NodesIdle
+pub mod NodesReach
+pub mod NodesServeAll

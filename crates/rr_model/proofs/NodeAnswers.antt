@@ -40,7 +40,7 @@ adopt_number i r v o t s F =
     ap (λ z. option_map_or (λ (x : Row). x.backing.adopted) (row_of z i) 0) (stage_rows (Adopt i r v) s)
     ∙ ap (λ z. option_map_or (λ (x : Row). x.backing.adopted) z 0) (row_of-rows_after (next_number s) (Adopt i r v) s.rows i ∙ if_true (i == i) _ _ (eq-eqb i i refl) ∙ ap (λ z. row_then (next_number s) (Adopt i r v) (after_fact (stands z) (Adopt i r v)) z) e)
 
-proposal_taken : (i p n k r : ℕ) (v : Command) (o : OpenAt) (t : Tally) (s : NodeState) → Sits i p n (Open o) t s → i < 1048576 → o.round ≡ r → o.stamp < r → coordinator_of r n ≡ k → taken_in (Hear (from_to k p (say.Proposal i r v))) s ≡ acknowledge i r k (stage (Adopt i r v) (pool_add v s))
+pub proposal_taken : (i p n k r : ℕ) (v : Command) (o : OpenAt) (t : Tally) (s : NodeState) → Sits i p n (Open o) t s → i < 1048576 → o.round ≡ r → o.stamp < r → coordinator_of r n ≡ k → taken_in (Hear (from_to k p (say.Proposal i r v))) s ≡ acknowledge i r k (stage (Adopt i r v) (pool_add v s))
 unfolding heard_body take_proposal
 proposal_taken i p n k r v o t s S l x m c =
     let at : standing_at s i ≡ Some (Open o) = standing_first i (Open o) t s S.row in
@@ -123,11 +123,11 @@ enough_here n set s e = ap (λ z. is_enough z set) e
 abbrev pub acked : ℕ → Tally → Tally
 acked q t = record t { acks = with_member t.acks q }
 
-count_ack_sits : (i p n q : ℕ) (st : Standing) (t : Tally) (s : NodeState) → Sits i p n st t s → Sits i p n st (acked q t) (count_ack i q s) × Onward s (count_ack i q s)
+pub count_ack_sits : (i p n q : ℕ) (st : Standing) (t : Tally) (s : NodeState) → Sits i p n st t s → Sits i p n st (acked q t) (count_ack i q s) × Onward s (count_ack i q s)
 unfolding count_ack
 count_ack_sits i p n q st t s S = change_sits i p n st t s (acked q) S
 
-ack_taken : (i p n q r : ℕ) (v : Command) (o : OpenAt) (t : Tally) (s : NodeState) → Sits i p n (Open o) t s → i < 1048576 → o.round ≡ r → o.proposal ≡ Some v → taken_in (Hear (from_to q p (say.Ack i r))) s ≡ count_ack i q s
+pub ack_taken : (i p n q r : ℕ) (v : Command) (o : OpenAt) (t : Tally) (s : NodeState) → Sits i p n (Open o) t s → i < 1048576 → o.round ≡ r → o.proposal ≡ Some v → taken_in (Hear (from_to q p (say.Ack i r))) s ≡ count_ack i q s
 unfolding heard_body
 ack_taken i p n q r v o t s S l x has =
     let at : standing_at s i ≡ Some (Open o) = standing_first i (Open o) t s S.row in
@@ -140,7 +140,7 @@ abbrev pub Acknowledged : (i p n : ℕ) (v : Command) (o : OpenAt) (t : Tally) (
 Acknowledged i p n v o t s u false = Sits i p n (Open o) t u × Onward s u
 Acknowledged i p n v o t s u true = Concluded i p n v s u
 
-concluded : (j : ℕ) (z : Command) (m : NodeState) → carry_out (Conclude j z) m ≡ conclude j z m
+pub concluded : (j : ℕ) (z : Command) (m : NodeState) → carry_out (Conclude j z) m ≡ conclude j z m
 unfolding carry_out
 concluded j z m = refl
 

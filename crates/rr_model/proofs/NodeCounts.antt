@@ -81,17 +81,17 @@ better_ok Ok v (Some w) x f = by (nat_lt v.stamp w.stamp)
     by true = f w refl
     by false = x
 
-best_ok : (Ok : Command → Type 0) (vs : List Vote) → AllVotes Ok vs → (b : Vote) → best_vote vs ≡ Some b → Ok b.command
+pub best_ok : (Ok : Command → Type 0) (vs : List Vote) → AllVotes Ok vs → (b : Vote) → best_vote vs ≡ Some b → Ok b.command
 best_ok Ok [] a b e = absurd (none-some b e)
 best_ok Ok (v ∷ vs) a b e = subst (λ (z : Vote). Ok z.command) (same_Some _ b e) (better_ok Ok v (best_vote vs) a.0 (best_ok Ok vs a.1))
 
--- what is picked is such a command
-pub pick_ok : (Ok : Command → Type 0) (n : ℕ) (t : Tally) (v : Command) → AllVotes Ok t.estimates → pick n t ≡ Some v → Ok v
-pick_ok Ok n t v a e = by (nat_le (majority_of n) (length t.estimates)) (best_vote t.estimates) refl e
+-- what is picked is such a command, if the best vote is for one
+pub pick_ok : (Ok : Command → Type 0) (n : ℕ) (t : Tally) (v : Command) → ((b : Vote) → best_vote t.estimates ≡ Some b → Ok b.command) → pick n t ≡ Some v → Ok v
+pick_ok Ok n t v right e = by (nat_le (majority_of n) (length t.estimates)) (best_vote t.estimates) refl e
   where
     by : (b : Bool) (o : Option Vote) → best_vote t.estimates ≡ o → (if b then option_map (λ (z : Vote). z.command) o else None) ≡ Some v → Ok v
     by true None x y = absurd (none-some v y)
-    by true (Some w) x y = subst Ok (same_Some _ v y) (best_ok Ok t.estimates a w x)
+    by true (Some w) x y = subst Ok (same_Some _ v y) (right w x)
     by false o x y = absurd (none-some v y)
 
 -- where there is a majority of votes, there is something to pick

@@ -302,7 +302,7 @@ row_place s i tally (Open o) d x = by (coordinator_of o.round s.nodes == s.node)
     by false true y = ap place_of (sym (same_Some _ d y))
     by false false y = absurd (none-some d y)
 
-at_place : (s : NodeState) (i : ℕ) (d : Due) (o : Option Row) → row_of s.rows i ≡ o → due_at s i ≡ Some d → place_of d ≡ i
+pub at_place : (s : NodeState) (i : ℕ) (d : Due) (o : Option Row) → row_of s.rows i ≡ o → due_at s i ≡ Some d → place_of d ≡ i
 at_place s i d None e x = by (is_some (free_command s i)) (rw e at x)
   where
     by : (b : Bool) → (if b then Some (Begin i) else None) ≡ Some d → place_of d ≡ i
@@ -345,12 +345,12 @@ pub due_alike : (i : ℕ) (st : Standing) (t : Tally) (s u : NodeState) → u.no
 due_alike i st t s u a b c = rw (a, b, c) refl
 
 -- the node has this row for i, nothing is due for it, and the rest is as it was
-record IsStill (i : ℕ) (st : Standing) (t : Tally) (s u : NodeState) : Type 0 where
-  row : First i st t u.rows
-  still : due_of_row u i t st ≡ None
-  onward : Onward s u
+pub record IsStill (i : ℕ) (st : Standing) (t : Tally) (s u : NodeState) : Type 0 where
+  pub row : First i st t u.rows
+  pub still : due_of_row u i t st ≡ None
+  pub onward : Onward s u
 
-still_goes : (i : ℕ) (st : Standing) (t : Tally) (s u : NodeState) (d : Due) → due u ≡ Some d → IsStill i st t s u → IsStill i st t s (carry_out d u)
+pub still_goes : (i : ℕ) (st : Standing) (t : Tally) (s u : NodeState) (d : Due) → due u ≡ Some d → IsStill i st t s u → IsStill i st t s (carry_out d u)
 unfolding due open_instances
 still_goes i st t s u d x S =
     let later : i < place_of d = due_later u i (open_instances u) d (lowest_from 8 i 0 u.rows (first_beyond i st t u.rows S.row)) (row_due_at i st t u S.row ∙ S.still) x in
@@ -398,7 +398,7 @@ carry_row i (Offer j r v) s l = stage_row i (Propose j r v) _ _ _ s l
 carry_row i (Conclude j v) s l = stage_row i (Decide j v) _ _ _ s l
 carry_row i (MoveOn j) s l = enter_row i j _ None s l
 
-due_beyond : (i : ℕ) (st : Standing) (t : Tally) (s u : NodeState) (d : Due) → due u ≡ Some d → IsStill i st t s u → i < place_of d
+pub due_beyond : (i : ℕ) (st : Standing) (t : Tally) (s u : NodeState) (d : Due) → due u ≡ Some d → IsStill i st t s u → i < place_of d
 unfolding due open_instances
 due_beyond i st t s u d x S = due_later u i (open_instances u) d (lowest_from 8 i 0 u.rows (first_beyond i st t u.rows S.row)) (row_due_at i st t u S.row ∙ S.still) x
 

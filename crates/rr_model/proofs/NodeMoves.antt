@@ -106,7 +106,7 @@ filter_none : (f : ℕ → Bool) (xs : List ℕ) → ((q : ℕ) → f q ≡ fals
 filter_none f [] none = refl
 filter_none f (x ∷ xs) none = if_false (f x) (x ∷ filter f xs) (filter f xs) (none x) ∙ filter_none f xs none
 
-not_member : (q : ℕ) → has_member 0 q ≡ false
+pub not_member : (q : ℕ) → has_member 0 q ≡ false
 not_member q = by (has_member 0 q) refl
   where
     by : (b : Bool) → has_member 0 q ≡ b → b ≡ false
@@ -117,7 +117,7 @@ not_member q = by (has_member 0 q) refl
 pub nobody : (s : NodeState) → is_majority s 0 ≡ false
 nobody s = no_le (majority_of s.nodes) (size_of s 0) (let z : size_of s 0 ≡ 0 = ap length (filter_none (λ q. has_member 0 q) (everyone s) not_member) in omega arith)
 
-joined_nobody : (a : ℕ) → joined a 0 ≡ a
+pub joined_nobody : (a : ℕ) → joined a 0 ≡ a
 unfolding joined
 joined_nobody a = refl
 
@@ -159,7 +159,7 @@ entered r o = record { round = r; stamp = o.stamp; estimate = o.estimate; propos
 abbrev pub estimated : ℕ → OpenAt → Estimated
 estimated r o = record { round = r; stamp = o.stamp; command = o.estimate }
 
-enters_with : (i p n r : ℕ) (e : Estimated) (st : Standing) (t : Tally) (s : NodeState) → Sits i p n st t s → Sits i p n (Open (record { round = e.round; stamp = e.stamp; estimate = e.command; proposal = None })) no_votes (enter_with i e (leave_round i s)) × Onward s (enter_with i e (leave_round i s)) × Owes (enter_with i e (leave_round i s)) (from_to p (coordinator_of e.round n) (say.Estimate i e))
+pub enters_with : (i p n r : ℕ) (e : Estimated) (st : Standing) (t : Tally) (s : NodeState) → Sits i p n st t s → Sits i p n (Open (record { round = e.round; stamp = e.stamp; estimate = e.command; proposal = None })) no_votes (enter_with i e (leave_round i s)) × Onward s (enter_with i e (leave_round i s)) × Owes (enter_with i e (leave_round i s)) (from_to p (coordinator_of e.round n) (say.Estimate i e))
 enters_with i p n r e st t s S =
     let u : NodeState = leave_round i s in
     let away : Onward s u = leave_onward i s in
@@ -186,7 +186,7 @@ lowest_first i p n o t s S l r =
     ap (find (λ j. nat_lt 0 (round_of (standing_at s j)))) x.1
     ∙ if_true (nat_lt 0 (round_of (standing_at s i))) (Some i) _ (ap (λ z. nat_lt 0 (round_of z)) (standing_first i (Open o) t s S.row) ∙ lt-ltb 0 o.round r)
 
-advances_to : (i p n : ℕ) (o : OpenAt) (t : Tally) (s : NodeState) → Sits i p n (Open o) t s → i < 1048576 → 0 < o.round → taken_in Advance s ≡ enter_with i (estimated (o.round + 1) o) (leave_round i s)
+pub advances_to : (i p n : ℕ) (o : OpenAt) (t : Tally) (s : NodeState) → Sits i p n (Open o) t s → i < 1048576 → 0 < o.round → taken_in Advance s ≡ enter_with i (estimated (o.round + 1) o) (leave_round i s)
 unfolding taken_in advanced enter
 advances_to i p n o t s S l r =
     let at : standing_at s i ≡ Some (Open o) = standing_first i (Open o) t s S.row in
@@ -209,7 +209,7 @@ pub pool_onward : (c : Command) (s : NodeState) → Onward s (pool_add c s)
 unfolding pool_add
 pool_onward c s = either (Onward s) s (record s { pool = s.pool ++ c ∷ [] }) _ (onward_not s) (record { nodes = refl; node = refl; suspects = refl; waiting = refl; owed = λ o x. x; number = le_refl (next_number s) })
 
-pool_rows : (c : Command) (s : NodeState) → (pool_add c s).rows ≡ s.rows
+pub pool_rows : (c : Command) (s : NodeState) → (pool_add c s).rows ≡ s.rows
 unfolding pool_add
 pool_rows c s = either (λ z. z.rows ≡ s.rows) s (record s { pool = s.pool ++ c ∷ [] }) _ refl refl
 
@@ -234,11 +234,11 @@ change_sits i p n st t s change S =
 abbrev pub voted : ℕ → Estimated → Tally → Tally
 voted q e t = record t { estimates = with_vote (record { sender = q; stamp = e.stamp; command = e.command }) t.estimates }
 
-count_sits : (i p n q : ℕ) (e : Estimated) (st : Standing) (t : Tally) (s : NodeState) → Sits i p n st t s → Sits i p n st (voted q e t) (count_estimate i q e s) × Onward s (count_estimate i q e s)
+pub count_sits : (i p n q : ℕ) (e : Estimated) (st : Standing) (t : Tally) (s : NodeState) → Sits i p n st t s → Sits i p n st (voted q e t) (count_estimate i q e s) × Onward s (count_estimate i q e s)
 unfolding count_estimate
 count_sits i p n q e st t s S = change_sits i p n st t s (voted q e) S
 
-estimate_taken : (i p n q : ℕ) (e : Estimated) (o : OpenAt) (t : Tally) (s : NodeState) → Sits i p n (Open o) t s → i < 1048576 → o.round ≡ e.round → coordinator_of e.round n ≡ p → taken_in (Hear (from_to q p (say.Estimate i e))) s ≡ count_estimate i q e (pool_add e.command s)
+pub estimate_taken : (i p n q : ℕ) (e : Estimated) (o : OpenAt) (t : Tally) (s : NodeState) → Sits i p n (Open o) t s → i < 1048576 → o.round ≡ e.round → coordinator_of e.round n ≡ p → taken_in (Hear (from_to q p (say.Estimate i e))) s ≡ count_estimate i q e (pool_add e.command s)
 unfolding heard_body
 estimate_taken i p n q e o t s S l r c =
     let at : standing_at s i ≡ Some (Open o) = standing_first i (Open o) t s S.row in
@@ -269,7 +269,7 @@ pub record Proposed (i p n : ℕ) (o : OpenAt) (t : Tally) (v : Command) (s u : 
   pub onward : Onward s u
   pub owes : (q : ℕ) → q < n → Owes u (from_to p q (say.Proposal i o.round v))
 
-proposes : (i p n r : ℕ) (v : Command) (o : OpenAt) (t : Tally) (s : NodeState) → Sits i p n (Open o) t s → o.round ≡ r → Proposed i p n o t v s (propose i r v s)
+pub proposes : (i p n r : ℕ) (v : Command) (o : OpenAt) (t : Tally) (s : NodeState) → Sits i p n (Open o) t s → o.round ≡ r → Proposed i p n o t v s (propose i r v s)
 unfolding propose
 proposes i p n r v o t s S x =
     let u : NodeState = stage (Propose i r v) s in
@@ -282,7 +282,7 @@ proposes i p n r v o t s S x =
           (owes_new (say.Proposal i r v) (next_number s) (everyone s) u q (subst (λ z. Contains (range_with_len 0 z) q) (sym S.nodes) (in_range 0 n q (omega arith) (omega arith))) (let y : next_number u ≡ next_number s + 1 = stage_number (Propose i r v) s in omega arith)));
     }
 
-offered : (j r : ℕ) (z : Command) (m : NodeState) → carry_out (Offer j r z) m ≡ propose j r z m
+pub offered : (j r : ℕ) (z : Command) (m : NodeState) → carry_out (Offer j r z) m ≡ propose j r z m
 unfolding carry_out
 offered j r z m = refl
 

@@ -14,7 +14,6 @@ use Rattle.rr_types.specs.Promises as promises
 use Rattle.rr_types.specs.Promises.{AscendsFrom, standing_in, set_entry, set_standing, take_on, take_on_all, promise_of}
 use Rattle.rr_model.proofs.Prefixes.{decided_from, prefix_is as prefix_by_places}
 use Rattle.rr_model.specs.World as world
-use Rattle.rr_model.specs.NodeState as node
 use Rattle.rr_model.proofs.Promised.{standing_in-promise_of}
 
 ascends_set : (low i : ℕ) (s : Standing) (es : List Entry) → low ≤ i → AscendsFrom low es → AscendsFrom low (set_entry i s es)

@@ -68,7 +68,7 @@ pub record Parted (next low i : ℕ) (es : List Entry) : Type 0 where
   pub ascends : AscendsFrom i later
   pub same : standing_in later i ≡ standing_in es i
 
-first_decided : (low : ℕ) (e : Entry) (es : List Entry) → AscendsFrom low (e ∷ es) → is_undecided (standing_in (e ∷ es) low) ≡ false → (e.instance ≡ low) × (is_undecided (Some e.standing) ≡ false)
+pub first_decided : (low : ℕ) (e : Entry) (es : List Entry) → AscendsFrom low (e ∷ es) → is_undecided (standing_in (e ∷ es) low) ≡ false → (e.instance ≡ low) × (is_undecided (Some e.standing) ≡ false)
 first_decided low e es a d = by (e.instance == low) refl d
   where
     by : (b : Bool) → (e.instance == low) ≡ b → is_undecided (if b then Some e.standing else standing_in es low) ≡ false → (e.instance ≡ low) × (is_undecided (Some e.standing) ≡ false)

@@ -1,11 +1,10 @@
 -- Inputs mark nothing: whatever a node is told, who it is, what is marked and which group runs stay.
-use Rattle.std.proofs.Common.{◌≡◌, ◌+◌, ◌^◌, ℕ, zero, suc, Bool, true, false, cond, ◌&&◌, ◌||◌, not, ◌==◌, nat_lt, List, [], ◌∷◌, ◌++◌, refl, ◌∙◌, Option, Some, None, if◌then◌else◌}
+use Rattle.std.proofs.Common.{◌≡◌, ◌+◌, ◌^◌, ℕ, zero, suc, Bool, true, false, ◌&&◌, ◌||◌, not, ◌==◌, nat_lt, List, [], ◌∷◌, refl, ◌∙◌, Option, Some, None, if◌then◌else◌}
 use Rattle.std.specs.Option.{option_map_or}
 use Rattle.rr_types.specs.declared.command.RequestNo.{RequestNo}
 use Rattle.rr_types.specs.declared.command.Command.{Command}
 use Rattle.rr_types.specs.declared.fact.Fact.{Fact}
 use Rattle.rr_types.specs.declared.fact.Fact.TheVariants.{Enter, Propose, Adopt, Decide}
-use Rattle.rr_types.specs.declared.message.Message.{Message}
 use Rattle.rr_types.specs.declared.message.Body.{Body}
 use Rattle.rr_types.specs.declared.message.Body.TheVariants as say
 use Rattle.rr_types.specs.declared.message.Body.TheVariants.{Estimate, Proposal, Ack, Decision, Request, Nack, Beat, Suspects, Ask}
@@ -17,13 +16,13 @@ use Rattle.rr_types.specs.Rounds.{Estimated, coordinator_of}
 use Rattle.rr_types.specs.Nodes.{with_member}
 use Rattle.rr_types.specs.Standings.{is_undecided, round_of, stamp_of}
 use Rattle.rr_types.specs.Facts.{decision_of}
-use Rattle.rr_model.specs.NodeState.{NodeState, Row, Tally, ◌▷◌, next_number, everyone, others, row_of, put_row, standing_at, open_instances, is_open, first_undecided, is_decided_request, decided_prefix}
+use Rattle.rr_model.specs.NodeState.{NodeState, Row, Tally, next_number, everyone, others, row_of, put_row, standing_at, open_instances, is_open, first_undecided, is_decided_request, decided_prefix}
 use Rattle.rr_model.specs.NodeDetector.{all_ticked, late_nodes}
 use Rattle.rr_model.specs.NodeParts.{owe, pool_add, stage, backing_at, leave_round, enter_with, entering_estimate, enter, restate, restate_all, conclude, propose}
 use Rattle.rr_model.specs.NodeDue.{Due, Begin, Offer, Conclude, MoveOn, due, carry_out, settle_within, settle}
 use Rattle.rr_types.specs.declared.input.Input.{Input}
 use Rattle.rr_types.specs.declared.input.Input.TheVariants.{Submit, Suspect, Tick, Advance, Hear}
-use Rattle.rr_model.specs.NodeStep.{is_waiting, wait_for, submitted, is_list_full, is_behind, ask, ticked_on, lowest_in_round, advanced, with_vote, change_tally, count_estimate, count_ack, count_nack, catch_up, acknowledge, take_proposal, take_estimate, has_proposed, answer, if_open, heard_body, heard, taken_in, node_step, restored, started}
+use Rattle.rr_model.specs.NodeStep.{is_waiting, wait_for, submitted, is_list_full, is_behind, ask, ticked_on, lowest_in_round, advanced, with_vote, change_tally, count_estimate, count_ack, count_nack, catch_up, acknowledge, take_proposal, take_estimate, has_proposed, answer, if_open, heard_body, taken_in, node_step, restored, started}
 use Rattle.rr_model.specs.NodeStays.{StaysMarked}
 
 itself : (s : NodeState) → StaysMarked s s

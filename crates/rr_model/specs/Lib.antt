@@ -17,3 +17,4 @@ pub mod NodeReached
 pub mod NodeInWorld
 pub mod NoDeadEnd
 pub mod NodesGoOn
+pub mod NodesRestart

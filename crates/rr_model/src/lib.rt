@@ -30,6 +30,7 @@ ghost use Rattle.rr_model.specs.ClusterExamples.{claim_a_y, round_stamp, first_r
 ghost use Rattle.rr_model.specs.Sound.{IsSound, IsChosen, IsDecidedList};
 ghost use Rattle.rr_model.specs.NoDeadEnd.{NoDeadEnd, EachCanBeServed};
 ghost use Rattle.rr_model.specs.NodesGoOn.{NodesCanGoOn, RoundsCanEnd, DecisionsCanBeLearned};
+ghost use Rattle.rr_model.specs.NodesRestart.{GapsCanBeFilled, DecidedCanBeAcknowledged, RequestsCanBeServed};
 ghost use Rattle.rr_model.specs.Laws.{after_steps, AreBeginningsRuns, StaysChosen, DoesListGrow, AreKeptFactsNeverLost, DoRoundsRise, DoAcksBind, AreProposalsLocked, KeepsRealTime, DoLaterCommandsStandBehind, DoesWhatIsLeftFit, DoesPromiseStand, DoLawfulFactsFit};
 
 /// Agreement and durability: every run of any number of nodes is sound, whatever is lost, repeated, reordered,
@@ -48,11 +49,15 @@ pub fn no_dead_end()
 /// Nodes as they are defined can go on, with no tick and no suspicion. Behind a restart a majority can decide the
 /// instance below which each of them has decided all. Where none has a fact of it, it is the client's command, and the
 /// reply is due at each. Where they stand in one round that one of them coordinates, what each restates is enough, and
-/// the round may be the last. What one node has decided, others can learn of it.
+/// the round may be the last. What one node has decided, others can learn of it. Where all restart again and again, and
+/// further commands come, they can decide all instances below an end, and serve each request.
 pub fn nodes_can_go_on()
     ensures a_majority_can_decide_next { NodesCanGoOn }
     ensures a_round_can_be_ended { RoundsCanEnd }
     ensures a_decision_can_be_learned { DecisionsCanBeLearned }
+    ensures gaps_can_be_filled { GapsCanBeFilled }
+    ensures a_decided_request_can_be_acknowledged { DecidedCanBeAcknowledged }
+    ensures each_request_can_be_served { RequestsCanBeServed }
 {}
 
 /// Laws of runs, of which agreement is made: rounds rise, an acknowledgement binds what its sender says
