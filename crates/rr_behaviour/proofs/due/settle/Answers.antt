@@ -7,6 +7,8 @@ use Rattle.rr_behaviour.proofs.due.settle.Goals as goal
 
 pub returns : goal.returns
 returns c =
-    let spent : 2 ^ 54 - c.loop-turn.turn ≡ 0 = omega arith in
-    let same : NodeState → Stepped = λ t. record { base = c.loop-turn.step.base; state = t } in
-    sym (ap same (settle_none c.loop-turn.step.state)) ∙ ap (λ (n : ℕ). stepped (settle_within n) c.loop-turn.step) (sym spent) ∙ c.loop-turn.invariant
+    record {
+      ok = let spent : 2 ^ 54 - c.loop-turn.turn ≡ 0 = omega arith in
+          let same : NodeState → Stepped = λ t. record { base = c.loop-turn.step.base; state = t } in
+          sym (ap same (settle_none c.loop-turn.step.state)) ∙ ap (λ (n : ℕ). stepped (settle_within n) c.loop-turn.step) (sym spent) ∙ c.loop-turn.invariant;
+    }

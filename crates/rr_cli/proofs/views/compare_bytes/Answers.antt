@@ -1,4 +1,5 @@
 use Rattle.std.proofs.Common.{◌≡◌, ◌∙◌, List, ℕ, refl, sym, ap, subst}
+use Rattle.rr_types.specs.declared.refusal.Refusal.TheVariants.{OutOfMemory}
 use Rattle.rr_text.specs.Lines.{IsFault}
 use Rattle.rr_text.specs.Scheduled.{IsEvent}
 use Rattle.rr_text.specs.ScheduleTexts.{event_line}
@@ -12,7 +13,7 @@ returns-in-Err-clause-ends g c = refused c.in-Err.refusal c.in-Err.ensures.fault
 
 pub returns-in-Err-text-clause-ends : goal.returns-in-Err-text-clause-ends
 returns-in-Err-text-clause-ends g c =
-    refused c.in-Err-text.refusal (subst (λ e. IsFault IsEvent event_line c.args.bytes.now e) (sym c.in-Err-text.ensures.err) tt) c.end_by_refusal.ensures c.account_on.ensures.unprinted
+    refused OutOfMemory tt c.end_by_refusal.ensures c.account_on.ensures.unprinted
 
 pub returns-in-None-clause-ends : goal.returns-in-None-clause-ends
 returns-in-None-clause-ends g c =

@@ -19,5 +19,7 @@ loop-command-preserved c =
 
 pub returns : goal.returns
 returns c =
-    is_longest c.args.nodes c.args.wire.now c.loop-command.list.items c.loop-command.invariant
-    (λ v h. none_found _ c.in_default.ensures.value (c.in_ok-found.ensures.all c.len.result v (subst (λ (k : ℕ). IsChosen c.args.nodes c.args.wire.now k v) (sym (c.len.ensures ∙ c.loop-command.list.ok.0)) h)))
+    record {
+      list = is_longest c.args.nodes c.args.wire.now c.loop-command.list.items c.loop-command.invariant
+          (λ v h. none_found _ c.in_default.ensures.value (c.in_ok-found.ensures.all c.len.result v (subst (λ (k : ℕ). IsChosen c.args.nodes c.args.wire.now k v) (sym (c.len.ensures ∙ c.loop-command.list.ok.0)) h)));
+    }

@@ -17,5 +17,7 @@ its_list c =
 
 pub returns : goal.returns
 returns c =
-    let valid = c.requires.ranges in
-    is_world_run c.args.nodes valid.0 (node_laws c.args.nodes c.requires.few) c.args.events.now c.in_ok-cluster.cluster c.new.result valid.1 c.in_ok-cluster.ensures.spelt (same_lines c) (its_list c)
+    record {
+      world = let valid = c.requires.ranges in
+          is_world_run c.args.nodes valid.0 (node_laws c.args.nodes c.requires.few) c.args.events.now c.in_ok-cluster.cluster c.new.result valid.1 c.in_ok-cluster.ensures.spelt (same_lines c) (its_list c);
+    }

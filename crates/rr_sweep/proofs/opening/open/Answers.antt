@@ -8,10 +8,12 @@ loop-call-init c = open_begins c.args.seat c.step.new.self c.step.result c.requi
 
 pub returns-in-Some : goal.returns-in-Some
 returns-in-Some c =
-    open_ends c.args.node c.args.seat c.loop-call.seat c.open_on.new.seat c.loop-call._call c.in-Some.facts c.in-Some.decided c.in-Some.names
-    (line.Restart c.args.node c.in-Some.facts c.in-Some.decided c.in_ok-bindings.bindings) c.loop-call.invariant c.loop-call-test.true c.requires.down
-    (λ n p left goes. where_some _ _ c.in_ok-facts.field-0 (c.in-Some.facts, c.in-Some.decided, c.in-Some.names) c.in-Some.is (c.in_ok-facts.ensures.calls n p left goes))
-    c.in_ok-facts.ensures.spelt (ap (λ names. line.Restart c.args.node c.in-Some.facts c.in-Some.decided names) c.in_ok-bindings.ensures.ok)
+    record {
+      opens = open_ends c.args.node c.args.seat c.loop-call.seat c.open_on.new.seat c.loop-call._call c.in-Some.facts c.in-Some.decided c.in-Some.names
+          (line.Restart c.args.node c.in-Some.facts c.in-Some.decided c.in_ok-bindings.bindings) c.loop-call.invariant c.loop-call-test.true c.requires.down
+          (λ n p left goes. where_some _ _ c.in_ok-facts.field-0 (c.in-Some.facts, c.in-Some.decided, c.in-Some.names) c.in-Some.is (c.in_ok-facts.ensures.calls n p left goes))
+          c.in_ok-facts.ensures.spelt (ap (λ names. line.Restart c.args.node c.in-Some.facts c.in-Some.decided names) c.in_ok-bindings.ensures.ok);
+    }
 
 pub loop-call-preserved : goal.loop-call-preserved
 loop-call-preserved c =

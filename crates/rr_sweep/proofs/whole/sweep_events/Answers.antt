@@ -40,9 +40,11 @@ loop-event-preserved c =
 
 pub returns : goal.returns
 returns c =
-    let r = c.requires.ranges in
-    let events = c.args.events.now in
-    let before = c.loop-event.lines.items in
-    let whole : take c.loop-event.event-index events ≡ events = take_all c.loop-event.event-index events (omega (arith, c.loop-event-test.false)) in
-    swept_all c.args.nodes r.0 c.args.seed events before c.loop-event.sweeping
-    (subst (λ (es : List Event). HasSwept c.args.nodes r.0 c.args.seed es before c.loop-event.sweeping) whole (c.loop-event.invariant.1 r.0 r.1))
+    record {
+      lines = let r = c.requires.ranges in
+          let events = c.args.events.now in
+          let before = c.loop-event.lines.items in
+          let whole : take c.loop-event.event-index events ≡ events = take_all c.loop-event.event-index events (omega (arith, c.loop-event-test.false)) in
+          swept_all c.args.nodes r.0 c.args.seed events before c.loop-event.sweeping
+          (subst (λ (es : List Event). HasSwept c.args.nodes r.0 c.args.seed es before c.loop-event.sweeping) whole (c.loop-event.invariant.1 r.0 r.1));
+    }

@@ -35,6 +35,8 @@ invariant_of-result c =
 
 pub returns-in-Ok : goal.returns-in-Ok
 returns-in-Ok c =
-    listed_is c.restore-2.new.self _ _ c.args.promise.now
-    (c.in-Ok.ensures.ok ∙ ap (λ (rs : List Row). put_rows rs (map (promised_row c.args.next) c.args.promise.now)) c.new-rows.ensures ∙ promise_rows c.args.next c.args.promise.now c.requires.ascends)
-    c.in_ok-restore.ensures.value
+    record {
+      ok = listed_is c.restore-2.new.self _ _ c.args.promise.now
+          (c.in-Ok.ensures.ok ∙ ap (λ (rs : List Row). put_rows rs (map (promised_row c.args.next) c.args.promise.now)) c.new-rows.ensures ∙ promise_rows c.args.next c.args.promise.now c.requires.ascends)
+          c.in_ok-restore.ensures.value;
+    }

@@ -7,11 +7,13 @@ use Rattle.rr_list.proofs.marks.Marks.commands_after.Goals as goal
 
 pub returns-in-None : goal.returns-in-None
 returns-in-None c =
-    let es = marked_in c.args.self.now in
-    let after = take_on_all es c.args.facts.now in
-    let more = ascend_all es c.args.facts.now (ascending c.args.self.now c.requires.marks) in
-    prefix_grows es after c.args.self.now.prefix (ascending c.args.self.now c.requires.marks) more c.requires.keeps c.requires.counted.count
-    ∙ ap (λ x. decided_from 0 es ++ x) (sym c.loop-place.invariant.left ∙ found_all after c.loop-place.found.items c.loop-place.place more c.in-None.ensures.value)
+    record {
+      ok = let es = marked_in c.args.self.now in
+          let after = take_on_all es c.args.facts.now in
+          let more = ascend_all es c.args.facts.now (ascending c.args.self.now c.requires.marks) in
+          prefix_grows es after c.args.self.now.prefix (ascending c.args.self.now c.requires.marks) more c.requires.keeps c.requires.counted.count
+          ∙ ap (λ x. decided_from 0 es ++ x) (sym c.loop-place.invariant.left ∙ found_all after c.loop-place.found.items c.loop-place.place more c.in-None.ensures.value);
+    }
 
 pub loop-place-preserved : goal.loop-place-preserved
 loop-place-preserved c =
@@ -27,10 +29,12 @@ loop-place-preserved c =
 
 pub returns : goal.returns
 returns c =
-    let es = marked_in c.args.self.now in
-    let after = take_on_all es c.args.facts.now in
-    let more = ascend_all es c.args.facts.now (ascending c.args.self.now c.requires.marks) in
-    let s = c.loop-place.invariant.small in
-    let place : c.loop-place.place ≡ 1048576 = omega (arith, s, c.loop-place-test.false) in
-    prefix_grows es after c.args.self.now.prefix (ascending c.args.self.now c.requires.marks) more c.requires.keeps c.requires.counted.count
-    ∙ ap (λ x. decided_from 0 es ++ x) (sym c.loop-place.invariant.left ∙ found_all after c.loop-place.found.items c.loop-place.place more (c.in-None-decision_after.ensures.value ∙ ap (decided_in after) (sym place)))
+    record {
+      ok = let es = marked_in c.args.self.now in
+          let after = take_on_all es c.args.facts.now in
+          let more = ascend_all es c.args.facts.now (ascending c.args.self.now c.requires.marks) in
+          let s = c.loop-place.invariant.small in
+          let place : c.loop-place.place ≡ 1048576 = omega (arith, s, c.loop-place-test.false) in
+          prefix_grows es after c.args.self.now.prefix (ascending c.args.self.now c.requires.marks) more c.requires.keeps c.requires.counted.count
+          ∙ ap (λ x. decided_from 0 es ++ x) (sym c.loop-place.invariant.left ∙ found_all after c.loop-place.found.items c.loop-place.place more (c.in-None-decision_after.ensures.value ∙ ap (decided_in after) (sym place)));
+    }

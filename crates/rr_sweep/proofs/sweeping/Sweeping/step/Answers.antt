@@ -12,8 +12,11 @@ crashes-requires c =
     r.5.there
 
 pub returns : goal.returns
-returns c n m seed events lines is =
-    let e = c.args.event.now in
-    let now : Sweeping = record c.args.self.now { cluster = c.forget_lines.new.self } in
-    let b = behind_it n m seed events lines c.args.line e c.args.self.now c.step_in_memory.new.self c.forget_lines.new.self is c.in_ok-step_in_memory.ensures.ok c.in_ok-step_in_memory.ensures.spelt c.forget_lines.ensures in
-    IfOk-weaker c.crashes.result _ _ (λ more crashes. swept_more n m seed c.args.line events lines more.items e c.args.self.now now c.crashes.new.self is b refl crashes c.crashes.ensures.cluster c.crashes.ensures.words) c.crashes.ensures.lines
+returns c =
+    record {
+      ok = λ n m seed events lines is.
+          let e = c.args.event.now in
+          let now : Sweeping = record c.args.self.now { cluster = c.forget_lines.new.self } in
+          let b = behind_it n m seed events lines c.args.line e c.args.self.now c.step_in_memory.new.self c.forget_lines.new.self is c.in_ok-step_in_memory.ensures.ok c.in_ok-step_in_memory.ensures.spelt c.forget_lines.ensures in
+          IfOk-weaker c.crashes.result _ _ (λ more crashes. swept_more n m seed c.args.line events lines more.items e c.args.self.now now c.crashes.new.self is b refl crashes c.crashes.ensures.cluster c.crashes.ensures.words) c.crashes.ensures.lines;
+    }
