@@ -221,6 +221,9 @@ impl Cluster {
         ensures kept { OnOk result (self.new ≡ record self.old { lines = [] }) }
         ensures err { IfErr result (λ e. e ≡ Refusal.OutOfMemory) }
     {
+        if self.lines.is_empty() {
+            return Ok(());
+        }
         push_report_lines(text, self.lines.as_slice())?;
         self.lines.clear();
         Ok(())
