@@ -209,7 +209,7 @@ pub fn frame(alloc: Global, payload: Vec<u8>) -> Result<Vec<u8>, Refusal>
     ensures ok { IfOk result (λ body. body.items ≡ frame_bytes payload.items) }
     ensures err { IfErr result (λ e. e ≡ OutOfMemory) }
 {
-    let mut body = Vec::new(alloc);
+    let mut body = Vec::with_capacity(alloc, payload.len() + 5)?;
     put_u32(&mut body, payload.len() as u32)?;
     body.extend_from_slice(&payload)?;
     body.push(0)?;

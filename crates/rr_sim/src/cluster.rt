@@ -210,6 +210,9 @@ impl Cluster {
         ensures told { OnOk result (text.new.items ≡ text.old.items ++ told self.old.lines) }
         ensures kept { OnOk result (self.new ≡ record self.old { lines = [] }) }
     {
+        if self.lines.is_empty() {
+            return Ok(());
+        }
         push_report_lines(text, self.lines.as_slice())?;
         self.lines.clear();
         Ok(())
