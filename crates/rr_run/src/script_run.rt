@@ -194,12 +194,21 @@ fn run_taped<
     }
 }
 
-// Ends because there is to be a tape, and an area is formatted.
-fn end_by_stale<E: Write>(err: &mut E) -> u8
-    ensures { result ≡ 2 }
+// Runs a script with a tape over folders, unless an area was found that is formatted.
+fn run_if_fresh<
+    F: Read + Write + Seek + FileExt + OpenFile + Drop + Send + Lockable,
+    R: Files<File = F> + AllocGlobal + Threads + Wait + Sync,
+    O: Sink,
+    E: Write,
+>(rt: &R, dir: &str, survey: Survey<F>, script: &Script, path: &str, out: &mut O, err: &mut E) -> u8
+    ensures ends { EndsOnFolders (Some path.now) result (O.printing out.old) (O.printing out.new) }
+    ensures quiet { result ≡ 0 → Keeps (E.contents err.old) (E.contents err.new) }
 {
-    let _ = writeln!(err, "rr: --tape wants fresh folders");
-    2
+    if !survey.is_fresh() {
+        let _ = writeln!(err, "rr: --tape wants fresh folders");
+        return 2;
+    }
+    run_taped(rt, dir, survey, script, path, out, err)
 }
 
 // Runs a script over the folders in the folder DIR, and prints the answers; with a tape where a file is named for it.
@@ -218,13 +227,7 @@ fn run_over<
         Err(closed) => return end_by_closed(rt, err, dir, nodes, &closed),
     };
     match tape {
-        Some(path) => {
-            if survey.is_fresh() {
-                run_taped(rt, dir, survey, script, path, out, err)
-            } else {
-                end_by_stale(err)
-            }
-        }
+        Some(path) => run_if_fresh(rt, dir, survey, script, path, out, err),
         None => run_in(rt, dir, survey, script, out, err),
     }
 }
