@@ -5,6 +5,7 @@ use Rattle.rr_text.specs.Words.{spaced, value_words, op_words, set_text}
 use Rattle.rr_text.specs.ReportTexts.{reply_words, request_text}
 use Rattle.rr_types.specs.Limits.{instance_count}
 use Rattle.rr_types.specs.declared.command.Command.{Command}
+use Rattle.rr_types.specs.declared.command.RequestNo.{RequestNo}
 use Rattle.rr_types.specs.declared.binding.Binding.{Binding}
 use Rattle.rr_script.specs.declared.answer.Answer.{Answer}
 use Rattle.rr_script.specs.declared.answer.Answer.TheVariants.{Acknowledged, Unacknowledged, Free, Bound, Unseen}
@@ -74,9 +75,13 @@ down_text p = node_text p ++ codes " is down: start it, or ask another"
 abbrev pub down_line : ℕ → List ℕ
 down_line p = codes "error: " ++ down_text p ++ 10 ∷ []
 
+-- the words that name a request
+unfoldable pub numbered_text : RequestNo → List ℕ
+numbered_text q = codes "request" ++ 32 ∷ request_text q
+
 -- that a request number was already used for a command
 abbrev pub used_text : Command → List ℕ
-used_text c = codes "request" ++ (32 ∷ request_text c.request) ++ codes " was already used for:" ++ (32 ∷ spaced (op_words c.op))
+used_text c = numbered_text c.request ++ codes " was already used for:" ++ 32 ∷ spaced (op_words c.op)
 
 -- that the list is full
 abbrev pub full_text : List ℕ
@@ -94,10 +99,14 @@ left_behind decided = instance_count - decided
 abbrev pub is_nearly_full : ℕ → Bool
 is_nearly_full left = nat_le left (instance_count / 10)
 
+-- how many facts a node has on its disk, how many commands it knows to be decided, and how many can still be
+abbrev pub counts_words : NodeSummary → List (List ℕ)
+counts_words k = codes "facts" ∷ decimal k.facts ∷ codes "decided" ∷ decimal k.decided ∷ codes "left" ∷ decimal (left_behind k.decided) ∷ []
+
 -- that a node is down; or that it is up, and what it knows
 abbrev pub summary_words : Option NodeSummary → List (List ℕ)
 summary_words None = codes "down" ∷ []
-summary_words (Some k) = codes "up" ∷ codes "facts" ∷ decimal k.facts ∷ codes "decided" ∷ decimal k.decided ∷ codes "left" ∷ decimal (left_behind k.decided) ∷ codes "suspects" ∷ set_text k.suspects ∷ []
+summary_words (Some k) = codes "up" ∷ counts_words k ++ codes "suspects" ∷ set_text k.suspects ∷ []
 
 -- the line of what a node tells of itself
 abbrev pub status_line : NodeStatus → List ℕ

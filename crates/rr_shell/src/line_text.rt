@@ -4,7 +4,7 @@ ghost use Rattle.std.specs.Prelude.{◌≡◌, ◌∷◌, ◌++◌, OnOk, decima
 ghost use Rattle.std.specs.List.{flat_map};
 ghost use Rattle.rr_text.specs.Words.{spaced};
 ghost use Rattle.rr_text.specs.ReportTexts.{reply_words};
-ghost use Rattle.rr_shell.specs.Texts.{bound_words, answer_words, answer_line, bound_line, list_lines, move_line, stop_line, start_line, snapshot_line, node_text, no_snapshot_text, no_snapshot_line, down_text, down_line, summary_words, status_line, help_text, help_line, no_node_text, fault_text, fault_line};
+ghost use Rattle.rr_shell.specs.Texts.{bound_words, answer_words, answer_line, bound_line, list_lines, move_line, stop_line, start_line, snapshot_line, node_text, no_snapshot_text, no_snapshot_line, down_text, down_line, counts_words, summary_words, status_line, help_text, help_line, no_node_text, fault_text, fault_line};
 
 use crate::listing::Listing;
 use crate::shell_line::{LineFault, MAX_LINE};
@@ -214,17 +214,25 @@ pub fn push_down(out: &mut Vec<u8>, node: NodeId) -> Result<(), AllocError>
     push_byte(out, b'\n')
 }
 
-// A space, that a node is up, and what it knows.
-fn push_summary(out: &mut Vec<u8>, summary: &NodeSummary) -> Result<(), AllocError>
-    ensures ok { OnOk result (out.new.items ≡ out.old.items ++ 32 ∷ spaced (summary_words (Some summary.now))) }
+// A space, and the counts of a node.
+fn push_counts(out: &mut Vec<u8>, summary: &NodeSummary) -> Result<(), Refusal>
+    ensures ok { OnOk result (out.new.items ≡ out.old.items ++ 32 ∷ spaced (counts_words summary.now)) }
+    ensures err { IfErr result (λ e. e ≡ Refusal.OutOfMemory) }
 {
-    push_word(out, b"up")?;
     push_word(out, b"facts")?;
     push_number_word(out, summary.facts)?;
     push_word(out, b"decided")?;
     push_number_word(out, summary.decided)?;
     push_word(out, b"left")?;
-    push_number_word(out, left_behind(summary.decided))?;
+    push_number_word(out, left_behind(summary.decided))
+}
+
+// A space, that a node is up, and what it knows.
+fn push_summary(out: &mut Vec<u8>, summary: &NodeSummary) -> Result<(), AllocError>
+    ensures ok { OnOk result (out.new.items ≡ out.old.items ++ 32 ∷ spaced (summary_words (Some summary.now))) }
+{
+    push_word(out, b"up")?;
+    push_counts(out, summary)?;
     push_word(out, b"suspects")?;
     push_set(out, summary.suspects)
 }

@@ -2,13 +2,14 @@
 
 ghost use Rattle.std.specs.Prelude.{◌≡◌, ◌++◌, ◌∷◌, OnOk};
 ghost use Rattle.rr_text.specs.Words.{spaced};
-ghost use Rattle.rr_shell.specs.Texts.{used_text, full_text, nothing_text};
+ghost use Rattle.rr_shell.specs.Texts.{numbered_text, used_text, full_text, nothing_text};
 
 use rr_script::Answer;
 use rr_text::text_report::push_request;
 use rr_text::text_word::{push_bytes, push_op};
 use rr_types::Command;
 use std::alloc::AllocError;
+use rr_types::{Command, Refusal, RequestNo};
 
 /// What comes of a submit, or of the line that asks one again.
 #[derive(Clone, Copy, Debug)]
@@ -23,12 +24,20 @@ pub enum Outcome {
     Nothing,
 }
 
+#[tactic(auto, unfolding(crate::specs::Texts::numbered_text))]
+fn push_numbered(out: &mut Vec<u8>, request: RequestNo) -> Result<(), Refusal>
+    ensures ok { OnOk result (out.new.items ≡ out.old.items ++ numbered_text request) }
+    ensures err { IfErr result (λ e. e ≡ Refusal.OutOfMemory) }
+{
+    push_bytes(out, b"request")?;
+    push_request(out, request)
+}
+
 /// Appends that a request number was already used for this command.
 pub(crate) fn push_used_text(out: &mut Vec<u8>, command: &Command) -> Result<(), AllocError>
     ensures ok { OnOk result (out.new.items ≡ out.old.items ++ used_text command.now) }
 {
-    push_bytes(out, b"request")?;
-    push_request(out, command.request)?;
+    push_numbered(out, command.request)?;
     push_bytes(out, b" was already used for:")?;
     push_op(out, &command.op)
 }
