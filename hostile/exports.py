@@ -90,16 +90,15 @@ def claims_of(held):
 
 
 def names_in(rig, folder, nodes):
-    """What `rr shell` lists over these folders, at a node that has seen all that it is to see."""
+    """What `rr shell` lists over a copy of these folders, at the node with the longest list."""
     copy = f"{folder}-listed"
     shutil.rmtree(copy, ignore_errors=True)
     shutil.copytree(folder, copy)
-    words = [rig.rr, "shell", "--nodes", str(nodes), "--dir", copy, "--client", "4294967295"]
-    # (each node is asked for a command, and so has decided what the longest list has)
-    asked = b"release not-bound\nlist\nquit\n"
+    lengths = [len(disk.prefix()) for disk in scripts.disks_of(folder, nodes)]
+    asked = f"at {lengths.index(max(lengths))}\nlist\nquit\n".encode()
+    words = [rig.rr, "shell", "--nodes", str(nodes), "--dir", copy]
     ran = subprocess.run(words, input=asked, stdout=subprocess.PIPE, stderr=subprocess.DEVNULL, env={}, timeout=LONG, check=False)
-    answers = ran.stdout.decode().splitlines()
-    return answers[1:] if answers[:1] == ["unknown"] else answers
+    return ran.stdout.decode().splitlines()[1:]
 
 
 def check_faults(rig, tally, what, rng, folder, nodes):

@@ -48,3 +48,7 @@ pub disagreed_ends : (form : Form) (rs : List Reading) (v : Verdict) (text : Lis
 disagreed_ends form rs v text printing status old new read both exact is said prints ends =
     disagreed rs printing read (agree_is v.agree rs both said)
     (subst (λ t. Prints t printing old new) (is ∙ ap₂ (λ cs b. verdict_text (form_in form) rs cs b) exact said) prints) ends
+
+pub unlike_some : (printing : ℕ) → unlike printing ≡ 0 → ⊥
+unlike_some zero none = absurd cc
+unlike_some (suc n) none = absurd (omega (arith, none))

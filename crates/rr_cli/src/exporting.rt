@@ -1,6 +1,6 @@
 //! `rr export`: what the folders of a cluster have decided, as a script or as a list.
 
-ghost use Rattle.std.specs.Prelude.{◌≡◌, option_map, IfOk, IfSome};
+ghost use Rattle.std.specs.Prelude.{◌≡◌, false, option_map, IfOk, IfSome};
 ghost use Rattle.std.specs.List.{AllByRecursion};
 ghost use Rattle.std.specs.Io.KnownBytes.{Keeps};
 ghost use Rattle.rr_types.specs.declared.refusal.Refusal.TheVariants.{OutOfMemory};
@@ -19,33 +19,27 @@ use std::io::Write;
 use std::os::unix::fs::FileExt;
 use std::rt::Files;
 
-// The decided list as a text, or its registry as the text of a script.
+// The registry of a decided list as the text of a script.
+fn script_of(alloc: Global, decided: &[Command]) -> Result<Vec<u8>, AllocError>
+    ensures text { IfOk result (λ v. IsExportOf false decided.now v.items) }
+{
+    let Ok(nodes) = Nodes::new(1) else {
+        unreachable!();
+    };
+    match export(alloc, nodes, decided) {
+        Ok(script) => script.text(alloc),
+        Err(refusal) => Err(refusal),
+    }
+}
+
+// The decided list as a text, or the script of its registry.
 fn text_of(alloc: Global, list: bool, decided: &[Command]) -> Result<Vec<u8>, AllocError>
     ensures text { IfOk result (λ v. IsExportOf list decided.now v.items) }
 {
     if list {
-        return decided_text(alloc, decided);
-    }
-    let Ok(nodes) = Nodes::new(1) else {
-        unreachable!();
-    };
-    export(alloc, nodes, decided)?.text(alloc)
-}
-
-// The refusal of the first folder, where no folder holds facts and the first is refused.
-fn first_refusal(readings: &[Reading]) -> Option<&Refusal>
-    ensures { IfSome result (λ refusal. AllByRecursion HoldsNothing readings.now) }
-{
-    for reading in readings {
-        match reading {
-            Reading::Facts(_) => return None,
-            Reading::Blank => (),
-            Reading::Refused(_) => (),
-        }
-    }
-    match readings.first() {
-        Some(Reading::Refused(refusal)) => Some(refusal),
-        _ => None,
+        decided_text(alloc, decided)
+    } else {
+        script_of(alloc, decided)
     }
 }
 
@@ -74,7 +68,7 @@ fn print_export<O: Sink, E: Write>(
 {
     match export_text(alloc, list, readings) {
         Ok(text) => end_by_text(out, err, text.as_slice()),
-        Err(_) => end_by_refusal(err, &Refusal::OutOfMemory),
+        Err(refusal) => end_by_refusal(err, &refusal),
     }
 }
 
@@ -100,17 +94,25 @@ where
     }
     match verify(rt.alloc(), readings) {
         Ok(verdict) => {
-            if verdict.clashes.is_empty() {
-                return print_export(rt.alloc(), list, readings, out, err);
+            if verdict.clashes.len() == 0 {
+                print_export(rt.alloc(), list, readings, out, err)
+            } else {
+                end_by_clash(err, dir)
             }
-            let _ = writeln!(
-                err,
-                "rr: export: the folders in {dir} decide an instance differently: see rr verify {dir}"
-            );
-            4
         }
         Err(_) => end_by_refusal(err, &Refusal::OutOfMemory),
     }
+}
+
+// Ends because two folders decide an instance differently.
+fn end_by_clash<E: Write>(err: &mut E, dir: &str) -> u8
+    ensures { result ≡ 4 }
+{
+    let _ = writeln!(
+        err,
+        "rr: export: the folders in {dir} decide an instance differently: see rr verify {dir}"
+    );
+    4
 }
 
 /// Exports what the folders have decided in the folder that the word `dir` names: the registry of the longest decided list

@@ -7,9 +7,8 @@ ghost use Rattle.rr_shell.specs.Texts.{numbered_text, used_text, full_text, noth
 use rr_script::Answer;
 use rr_text::text_report::push_request;
 use rr_text::text_word::{push_bytes, push_op};
-use rr_types::Command;
+use rr_types::{Command, RequestNo};
 use std::alloc::AllocError;
-use rr_types::{Command, Refusal, RequestNo};
 
 /// What comes of a submit, or of the line that asks one again.
 #[derive(Clone, Copy, Debug)]
@@ -25,9 +24,8 @@ pub enum Outcome {
 }
 
 #[tactic(auto, unfolding(crate::specs::Texts::numbered_text))]
-fn push_numbered(out: &mut Vec<u8>, request: RequestNo) -> Result<(), Refusal>
+fn push_numbered(out: &mut Vec<u8>, request: RequestNo) -> Result<(), AllocError>
     ensures ok { OnOk result (out.new.items ≡ out.old.items ++ numbered_text request) }
-    ensures err { IfErr result (λ e. e ≡ Refusal.OutOfMemory) }
 {
     push_bytes(out, b"request")?;
     push_request(out, request)

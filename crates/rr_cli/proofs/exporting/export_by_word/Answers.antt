@@ -1,0 +1,11 @@
+use Rattle.std.proofs.Common.{List, ℕ, option_map, Bor, refl, sym, ap, subst}
+use Rattle.rr_cli.specs.Ends.{EndsOnExport, named, unnamed, unexported}
+use Rattle.rr_cli.proofs.exporting.export_by_word.Goals as goal
+
+pub returns-in-Ok-clause-ends : goal.returns-in-Ok-clause-ends
+returns-in-Ok-clause-ends g c =
+    named c.in-Some.dir.now (ap (option_map (λ (s : Bor (List ℕ)). s.now)) c.in-Some.is) c.export_readings.ensures.ends
+
+pub returns-in-Err-clause-ends : goal.returns-in-Err-clause-ends
+returns-in-Err-clause-ends g c =
+    named c.in-Some.dir.now (ap (option_map (λ (s : Bor (List ℕ)). s.now)) c.in-Some.is) (unexported c.end_by_refusal.ensures refl)
