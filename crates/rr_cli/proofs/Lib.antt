@@ -2,5 +2,6 @@ pub mod EndLemmas
 pub mod ShowLemmas
 pub mod TapeLemmas
 pub mod SweepLemmas
+pub mod ReadLemmas
 pub mod MigrateLemmas
 mod WordLaws

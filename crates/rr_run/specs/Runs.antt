@@ -4,13 +4,14 @@ use Rattle.clap.specs.Kinds.{Kinds}
 use Rattle.clap.specs.Words.{Text}
 use Rattle.rr_types.specs.declared.refusal.Refusal.{Refusal}
 use Rattle.rr_stream.specs.Streams.{Printing, Reading}
+use Rattle.rr_files.specs.Files.{Readable, file_at}
 use Rattle.rr_script.specs.declared.answer.Answer.{Answer}
 use Rattle.rr_script.specs.Scripted.{Scripted, IsScript}
 use Rattle.rr_script.specs.ScriptTexts.{script_text}
 use Rattle.rr_script.specs.AnswerTexts.{answer_text}
 use Rattle.rr_script.specs.Faults.{IsScriptFault}
 use Rattle.rr_cli.specs.Randoms.{IsNumberIn}
-use Rattle.rr_cli.specs.Ends.{EndsOnFile, IsStreamStatus, Prints}
+use Rattle.rr_cli.specs.Ends.{EndsOnInput, IsStreamStatus, Prints}
 use Rattle.rr_cli.specs.Views.{EndsWithViews}
 use Rattle.rr_words.specs.Tasks.{Task, Run, Shell}
 use Rattle.rr_cli.specs.Refusals.{status_of}
@@ -33,10 +34,11 @@ pub data EndsOnScript (n : ℕ) (tape : Option Text) (bytes : List ℕ) (status 
       → EndsOnScript n tape bytes status old new
   faulty : (refusal : Refusal) → IsScriptFault n bytes refusal → status ≡ status_of refusal → new ≡ old → EndsOnScript n tape bytes status old new
 
--- a run by words: of the number of nodes that a word names, or it names none from 1 to 7
-pub data EndsOnRun (of_nodes : Text) (tape : Option Text) (status : ℕ) (old new : Printing) : Type 0 where
-  numbered : (n : ℕ) → IsNumberIn 1 7 of_nodes n → EndsOnFile (EndsOnScript n tape) status old new → EndsOnRun of_nodes tape status old new
-  unnumbered : ((n : ℕ) → IsNumberIn 1 7 of_nodes n → ⊥) → status ≡ 2 → new ≡ old → EndsOnRun of_nodes tape status old new
+-- a run by words: of the number of nodes that a word names, by a script that is read; or it names none from 1 to 7
+pub data EndsOnRun (of_nodes : Text) (tape : Option Text) (from to : Reading) (status : ℕ) (old new : Printing) : Type 0 where
+  numbered : (n : ℕ) → IsNumberIn 1 7 of_nodes n → EndsOnInput (EndsOnScript n tape) from to status old new
+      → EndsOnRun of_nodes tape from to status old new
+  unnumbered : ((n : ℕ) → IsNumberIn 1 7 of_nodes n → ⊥) → status ≡ 2 → new ≡ old → EndsOnRun of_nodes tape from to status old new
 
 -- words that ask for a run, and say all that has to be said of it
 pub record AsksForRun (task : Task) : Type 0 where
@@ -61,10 +63,12 @@ AsksForThreads (Shell (Some nodes) (Some dir) client json) = Unit {0}
 AsksForThreads task = ⊥
 
 -- the program with threads, by words: a run, or a shell, or what the program without threads does, or no memory even to read them
-pub data EndsWithThreads (faults : Kinds) (task : Task) (from to : Reading) (status : ℕ) (old new : Printing) : Type 0 where
-  by_script : (asks : AsksForRun task) → faults ≡ [] → EndsOnRun asks.nodes asks.tape status old new → EndsWithThreads faults task from to status old new
+pub data EndsWithThreads (faults : Kinds) (task : Task) (from to : Readable) (status : ℕ) (old new : Printing) : Type 0 where
+  by_script : (asks : AsksForRun task) → faults ≡ []
+      → EndsOnRun asks.nodes asks.tape (file_at from.files asks.script) (file_at to.files asks.script) status old new
+      → EndsWithThreads faults task from to status old new
   by_shell : (asks : AsksForShell task) → faults ≡ []
-      → EndsOnShellWords asks.nodes asks.client asks.json from to status old new
+      → EndsOnShellWords asks.nodes asks.client asks.json from.input to.input status old new
       → EndsWithThreads faults task from to status old new
   by_others : (faults ≡ [] → AsksForThreads task → ⊥) → EndsWithViews faults task from to status old new → EndsWithThreads faults task from to status old new
   out_of_memory : status ≡ 6 → new ≡ old → EndsWithThreads faults task from to status old new
