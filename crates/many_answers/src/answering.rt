@@ -3,6 +3,7 @@
 use crate::questions::Question;
 use anyhow::Result;
 use rr_cli::{end_by_refusal, execute};
+use rr_files::HostFiles;
 use rr_script::{Script, ScriptLine};
 use rr_stream::Counted;
 use rr_text::{Report, ReportLine};
@@ -34,7 +35,14 @@ where
 {
     let mut out = Counted::new(Vec::new(rt.alloc()));
     let mut err = Vec::new(rt.alloc());
-    let status = execute(rt, words, &mut Counted::new(input), &mut out, &mut err);
+    let status = execute(
+        rt,
+        words,
+        &mut HostFiles::new(rt),
+        &mut Counted::new(input),
+        &mut out,
+        &mut err,
+    );
     Answer {
         status,
         out: out.into_inner(),

@@ -1,6 +1,7 @@
 //! A folder in files: what `rr` tells of it, and what it makes of it.
 
 use rr_cli::execute;
+use rr_files::HostFiles;
 use rr_stream::Counted;
 use std::alloc::{AllocError, Global};
 use std::io::Write;
@@ -30,6 +31,7 @@ fn run(rt: &HostRuntime, line: &str) -> Result<Outcome, AllocError> {
     let status = execute(
         rt,
         words.as_slice(),
+        &mut HostFiles::new(rt),
         &mut Counted::new(&b""[..]),
         &mut out,
         &mut err,

@@ -1,6 +1,7 @@
 //! A row's files, its input and its run.
 
 use crate::lines::{line_of, parts_of, plain};
+use rr_files::HostFiles;
 use rr_run::Lockable;
 use rr_stream::Counted;
 use std::alloc::{AllocError, Global};
@@ -88,13 +89,16 @@ fn run<
     F: Read + Write + Seek + FileExt + OpenFile + Drop + Send + Lockable,
     R: Files<File = F> + AllocGlobal + Threads + Wait + Clock + Sync,
 >(rt: &R, library: Library, words: &[String], input: &str) -> io::Result<Outcome> {
+    let mut files = HostFiles::new(rt);
     let mut input = Counted::new(input.as_bytes());
     let mut out = Counted::new(Vec::new(rt.alloc()));
     let mut err = Vec::new(rt.alloc());
     let status = match library {
-        Library::Cli => rr_cli::execute(rt, words, &mut input, &mut out, &mut err),
-        Library::View => rr_cli::execute_with_views(rt, words, &mut input, &mut out, &mut err),
-        Library::Run => rr_run::execute(rt, words, &mut input, &mut out, &mut err),
+        Library::Cli => rr_cli::execute(rt, words, &mut files, &mut input, &mut out, &mut err),
+        Library::View => rr_cli::execute_with_views(
+            rt, words, &mut files, &mut input, &mut out, &mut err,
+        ),
+        Library::Run => rr_run::execute(rt, words, &mut files, &mut input, &mut out, &mut err),
     };
     Ok(Outcome {
         status,

@@ -1,4 +1,5 @@
 mod disks;
+mod files;
 mod folders;
 mod lively;
 mod prompts;

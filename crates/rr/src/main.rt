@@ -1,6 +1,7 @@
 //! The program `rr`: its words, its streams and its threads, handed to `rr_run`.
 #![tactic(auto)]
 
+use rr_files::HostFiles;
 use rr_run::run;
 use rr_stream::{Counted, Watched};
 use rr_talk::Prompted;
@@ -31,6 +32,7 @@ fn main(rt: HostRuntime) -> ExitCode {
     ExitCode::from(run(
         &rt,
         words_of(&rt),
+        &mut HostFiles::new(&rt),
         &mut Prompted::new(Counted::new(rt.stdin()), typing),
         &mut Watched::new(Counted::new(rt.stdout()), people),
         &mut rt.stderr(),

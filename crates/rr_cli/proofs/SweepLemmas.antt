@@ -26,7 +26,7 @@ use Rattle.rr_cli.specs.Sweeping.{IsPrintedBy, StopsPrinting, StopsAtEvent, Stop
 pub text_of_both : (xs ys : List SweepLine) → sweep_text (xs ++ ys) ≡ sweep_text xs ++ sweep_text ys
 text_of_both xs ys = flat_map-append sweep_line xs ys
 
-grew_on : (a b c : ℕ) → a ≤ b → Grew b c → Grew a c
+pub grew_on : (a b c : ℕ) → a ≤ b → Grew b c → Grew a c
 grew_on a b c le (inl more) = inl (omega (arith, le, more))
 grew_on a b c le (inr end) = inr end
 

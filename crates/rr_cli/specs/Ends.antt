@@ -24,6 +24,7 @@ use Rattle.rr_draw.specs.Pictures.{IsPictureOf}
 use Rattle.rr_types.specs.Counts.{Grew}
 use Rattle.rr_disk.specs.declared.area.Area.{Area}
 use Rattle.rr_stream.specs.Streams.{Printing, Reading, IsPrinted, IsFrontPrinted, AreAllOf}
+use Rattle.rr_files.specs.Files.{Readable, file_at}
 use Rattle.rr_image.specs.declared.inspection.AreaReport.{AreaReport}
 use Rattle.rr_image.specs.Inspect.{Tells, Breaks, inspected}
 use Rattle.rr_cli.specs.Areas.{areas_text}
@@ -70,18 +71,17 @@ pub data EndsOnTape (bytes : List ℕ) (status : ℕ) (old new : Printing) : Typ
       → new ≡ old
       → EndsOnTape bytes status old new
 
--- a run on an input: on all its bytes, in this way; or one of its calls failed or memory was wanting, and standard output
+-- the status where an input can't be read: one of its calls failed or memory was wanting
+abbrev pub IsUnread : Reading → Reading → ℕ → Type 0
+IsUnread from to status = ((status ≡ 5) × Grew from.faults to.faults) ⊎ (status ≡ 6)
+
+-- a run on an input, be it a file: on all its bytes, in this way; or one of its calls failed or memory was wanting, and standard output
 -- is as it was
 pub data EndsOnInput (On : List ℕ → ℕ → Printing → Printing → Type 0) (from to : Reading) (status : ℕ)
     (old new : Printing) : Type 0 where
   read : (bytes : List ℕ) → AreAllOf from.remaining bytes → On bytes status old new → EndsOnInput On from to status old new
   unread : status ≡ 5 → Grew from.faults to.faults → new ≡ old → EndsOnInput On from to status old new
   unheld : status ≡ 6 → new ≡ old → EndsOnInput On from to status old new
-
--- a run on a file: on an input, of which nothing is known, in this way; or it can't be opened, and standard output is as it was
-pub data EndsOnFile (On : List ℕ → ℕ → Printing → Printing → Type 0) (status : ℕ) (old new : Printing) : Type 0 where
-  opened : (from to : Reading) → EndsOnInput On from to status old new → EndsOnFile On status old new
-  unopened : IsStreamStatus status → new ≡ old → EndsOnFile On status old new
 
 -- a run on a folder: the text on its areas is printed; or an area is broken or a device or memory failed, and standard
 -- output is as it was
@@ -225,7 +225,7 @@ pub data Helps (status : ℕ) (old new : Printing) : Type 0 where
   unhelped : status ≡ 6 → new ≡ old → Helps status old new
 
 -- a run by words: what they ask for, what is wrong with them, or no memory even to read them
-pub data EndsBy (faults : Kinds) (task : Task) (from to : Reading) (status : ℕ) (old new : Printing) : Type 0 where
+pub data EndsBy (faults : Kinds) (task : Task) (from to : Readable) (status : ℕ) (old new : Printing) : Type 0 where
   mistaken : (kind : ErrorKind) → IsAmong kind faults → IsMistake kind → status ≡ 2 → new ≡ old
       → EndsBy faults task from to status old new
   by_help : (kind : ErrorKind) → IsAmong kind faults → kind ≡ DisplayHelp → Helps status old new
@@ -234,33 +234,34 @@ pub data EndsBy (faults : Kinds) (task : Task) (from to : Reading) (status : ℕ
       → Prints version_text status old new
       → EndsBy faults task from to status old new
   out_of_memory : status ≡ 6 → new ≡ old → EndsBy faults task from to status old new
-  by_standard_input : faults ≡ [] → task ≡ Simulate None → EndsOnInput EndsOn from to status old new
+  by_standard_input : faults ≡ [] → task ≡ Simulate None → EndsOnInput EndsOn from.input to.input status old new
       → EndsBy faults task from to status old new
-  by_file : (path : Text) → faults ≡ [] → task ≡ Simulate (Some path) → EndsOnFile EndsOn status old new
+  by_file : (path : Text) → faults ≡ [] → task ≡ Simulate (Some path)
+      → EndsOnInput EndsOn (file_at from.files path) (file_at to.files path) status old new
       → EndsBy faults task from to status old new
   by_folder : (path : Text) → faults ≡ [] → task ≡ Show (Some path) → EndsOnFolder status old new
       → EndsBy faults task from to status old new
   without_folder : faults ≡ [] → task ≡ Show None → status ≡ 2 → new ≡ old → EndsBy faults task from to status old new
   by_numbers : (words : RandomWords) → faults ≡ [] → task ≡ Random words → EndsOnWords words status old new
       → EndsBy faults task from to status old new
-  by_tape_in_standard_input : faults ≡ [] → task ≡ Audit None → EndsOnInput EndsOnTape from to status old new
+  by_tape_in_standard_input : faults ≡ [] → task ≡ Audit None → EndsOnInput EndsOnTape from.input to.input status old new
       → EndsBy faults task from to status old new
   by_tape_in_a_file : (path : Text) → faults ≡ [] → task ≡ Audit (Some path)
-      → EndsOnFile EndsOnTape status old new
+      → EndsOnInput EndsOnTape (file_at from.files path) (file_at to.files path) status old new
       → EndsBy faults task from to status old new
   by_sweep_of_standard_input : (of_seed : Text) → faults ≡ [] → task ≡ Sweep None (Some of_seed)
-      → EndsOnSeed (λ on. EndsOnInput on from to) of_seed status old new
+      → EndsOnSeed (λ on. EndsOnInput on from.input to.input) of_seed status old new
       → EndsBy faults task from to status old new
   by_sweep_of_a_file : (path of_seed : Text) → faults ≡ [] → task ≡ Sweep (Some path) (Some of_seed)
-      → EndsOnSeed EndsOnFile of_seed status old new
+      → EndsOnSeed (λ on. EndsOnInput on (file_at from.files path) (file_at to.files path)) of_seed status old new
       → EndsBy faults task from to status old new
   without_seed : (file : Option Text) → faults ≡ [] → task ≡ Sweep file None → status ≡ 2 → new ≡ old
       → EndsBy faults task from to status old new
   by_picture_of_standard_input : (words : CutWords) → faults ≡ [] → task ≡ Draw None words
-      → EndsOnCut (λ on. EndsOnInput on from to) words status old new
+      → EndsOnCut (λ on. EndsOnInput on from.input to.input) words status old new
       → EndsBy faults task from to status old new
   by_picture_of_a_file : (path : Text) (words : CutWords) → faults ≡ [] → task ≡ Draw (Some path) words
-      → EndsOnCut EndsOnFile words status old new
+      → EndsOnCut (λ on. EndsOnInput on (file_at from.files path) (file_at to.files path)) words status old new
       → EndsBy faults task from to status old new
   by_migration : (folder of_node of_nodes : Option Text) → faults ≡ [] → task ≡ Migrate folder of_node of_nodes
       → EndsOnSeat folder of_node of_nodes status old new

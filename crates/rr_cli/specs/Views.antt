@@ -1,5 +1,5 @@
 -- Views of the run of a schedule, and how they end the program.
-use Rattle.std.specs.Prelude.{◌≡◌, ◌≢◌, ◌⊎◌, ℕ, zero, suc, ◌+◌, List, [], length, Option, None, Some}
+use Rattle.std.specs.Prelude.{◌≡◌, ◌≢◌, ℕ, zero, suc, ◌+◌, List, [], length, Option, None, Some}
 use Rattle.clap.specs.Kinds.{Kinds}
 use Rattle.clap.specs.Words.{Text}
 use Rattle.rr_types.specs.declared.refusal.Refusal.{Refusal}
@@ -7,26 +7,23 @@ use Rattle.rr_text.specs.Lines.{IsFault}
 use Rattle.rr_text.specs.Scheduled.{IsEvent}
 use Rattle.rr_text.specs.ScheduleTexts.{event_line}
 use Rattle.rr_text.specs.ReportTexts.{report_text}
-use Rattle.rr_types.specs.Counts.{Grew}
-use Rattle.rr_stream.specs.Streams.{Printing, Reading, AreAllOf}
+use Rattle.rr_stream.specs.Streams.{Printing, Reading}
+use Rattle.rr_files.specs.Files.{Readable, file_at, reading_of}
 use Rattle.rr_account.specs.Accounts.{Accounted, IsAccountOn}
 use Rattle.rr_account.specs.Texts.{IsNoted, AreObjects}
-use Rattle.rr_cli.specs.Ends.{EndsBy, IsStreamStatus, Prints}
+use Rattle.rr_cli.specs.Ends.{EndsBy, EndsOnInput, Prints}
 use Rattle.rr_words.specs.declared.tasks.Form.TheVariants.{Plain, Json}
 use Rattle.rr_words.specs.Tasks.{View, Report, Explanation, Statistics, Comparison, Task, Viewing}
 use Rattle.rr_cli.specs.Refusals.{status_of}
 use Rattle.rr_cli.specs.declared.views.Shown.{Shown}
 use Rattle.rr_cli.specs.declared.views.Shown.TheVariants as shown
 
--- what was read for a file: where it is none, all that standard input had left; of another file nothing is known
-abbrev pub IsReadFor : Option Text → Reading → Reading → List ℕ → Type 0
-IsReadFor None from to bytes = AreAllOf from.remaining bytes
-IsReadFor (Some path) from to bytes = to ≡ from
-
--- the status where a file, or standard input where it is none, can't be read: a device or memory failed
-abbrev pub IsUnreadFor : Option Text → Reading → Reading → ℕ → Type 0
-IsUnreadFor None from to status = ((status ≡ 5) × Grew from.faults to.faults) ⊎ (status ≡ 6)
-IsUnreadFor (Some path) from to status = IsStreamStatus status × (to ≡ from)
+-- what there is to read of a second file behind a first one, which was read whole. What standard input gives behind its end
+-- isn't known
+abbrev pub left_behind : Option Text → Option Text → Readable → Reading
+left_behind None None from = record from.input { remaining = None }
+left_behind None (Some path) from = file_at from.files path
+left_behind (Some first) second from = reading_of second from
 
 -- the status of a difference that was to be printed, by the status of its printing
 abbrev pub different : ℕ → ℕ
@@ -61,23 +58,17 @@ pub data EndsOnCompared (bytes text : List ℕ) (status : ℕ) (old new : Printi
       → EndsOnCompared bytes text status old new
   refused : (refusal : Refusal) → IsFault IsEvent event_line bytes refusal → status ≡ status_of refusal → new ≡ old → EndsOnCompared bytes text status old new
 
--- a run on a file: on its bytes, in this way; or it can't be read, and standard output is as it was
-pub data EndsOnRead (On : List ℕ → Reading → ℕ → Printing → Printing → Type 0) (file : Option Text)
-    (from to : Reading) (status : ℕ) (old new : Printing) : Type 0 where
-  read : (bytes : List ℕ) (between : Reading) → IsReadFor file from between bytes → On bytes between status old new → EndsOnRead On file from to status old new
-  unread : IsUnreadFor file from to status → new ≡ old → EndsOnRead On file from to status old new
-
 -- a view by its words
-abbrev pub EndsOnView : View → Reading → Reading → ℕ → Printing → Printing → Type 0
-EndsOnView (Report file) from to status old new = EndsOnRead (λ bytes between. EndsOnShown shown.Report bytes) file from to status old new
-EndsOnView (Explanation form file) from to status old new = EndsOnRead (λ bytes between. EndsOnShown (shown.Explanation form) bytes) file from to status old new
-EndsOnView (Statistics form file) from to status old new = EndsOnRead (λ bytes between. EndsOnShown (shown.Statistics form) bytes) file from to status old new
+abbrev pub EndsOnView : View → Readable → Readable → ℕ → Printing → Printing → Type 0
+EndsOnView (Report file) from to status old new = EndsOnInput (EndsOnShown shown.Report) (reading_of file from) (reading_of file to) status old new
+EndsOnView (Explanation form file) from to status old new = EndsOnInput (EndsOnShown (shown.Explanation form)) (reading_of file from) (reading_of file to) status old new
+EndsOnView (Statistics form file) from to status old new = EndsOnInput (EndsOnShown (shown.Statistics form)) (reading_of file from) (reading_of file to) status old new
 EndsOnView (Comparison file report) from to status old new =
-    EndsOnRead (λ bytes between. EndsOnRead (λ text last. EndsOnCompared bytes text) report between to)
-    file from to status old new
+    EndsOnInput (λ bytes. EndsOnInput (EndsOnCompared bytes) (left_behind file report from) (reading_of report to))
+    (reading_of file from) (reading_of file to) status old new
 
 -- the program with views, by words: a view, or what the program without views does, or no memory even to read them
-pub data EndsWithViews (faults : Kinds) (task : Task) (from to : Reading) (status : ℕ) (old new : Printing) : Type 0 where
+pub data EndsWithViews (faults : Kinds) (task : Task) (from to : Readable) (status : ℕ) (old new : Printing) : Type 0 where
   by_view : (view : View) → faults ≡ [] → task ≡ Viewing view → EndsOnView view from to status old new → EndsWithViews faults task from to status old new
   by_others : (faults ≡ [] → (view : View) → task ≡ Viewing view → ⊥) → EndsBy faults task from to status old new
       → EndsWithViews faults task from to status old new

@@ -7,25 +7,26 @@ ghost use Rattle.rr_tape.specs.Taped.{IsTapeEvent};
 ghost use Rattle.rr_tape.specs.TapeTexts.{tape_line};
 ghost use Rattle.rr_audit.specs.AuditTexts.{IsVerdictOn};
 ghost use Rattle.rr_cli.specs.Tapes.{yes_text};
-ghost use Rattle.rr_cli.specs.Ends.{EndsOnTape, EndsOnInput, EndsOnFile};
+ghost use Rattle.rr_files.specs.Files.{file_at};
+ghost use Rattle.rr_cli.specs.Ends.{EndsOnTape, EndsOnInput};
 
+use crate::input::STANDARD_INPUT;
 use crate::refusals::{TextKind, end_by_fault, end_by_refusal};
 use crate::streams::{end_by_stream, end_by_text};
 use rr_audit::{Given, Verdict, audit_on};
-use rr_stream::{Counted, Sink, Source, read_all};
+use rr_files::FileReader;
+use rr_stream::{Sink, Source, read_all};
 use rr_text::ReportLine;
 use rr_text::text_read::cut;
 use rr_text::text_report::push_report_words;
 use rr_types::{NodeId, Refusal};
 use std::alloc::{AllocError, Global};
+use std::io;
 use std::io::{ErrorKind, Write};
-use std::rt::Files;
-use std::{fs, io};
 
-// Audits the tape that the input of this name holds, and tells what is found.
+// Audits the tape on standard input, and tells what is found.
 pub(crate) fn audit_input<I: Source, O: Sink, E: Write>(
     alloc: Global,
-    name: &str,
     input: &mut I,
     out: &mut O,
     err: &mut E,
@@ -34,23 +35,24 @@ pub(crate) fn audit_input<I: Source, O: Sink, E: Write>(
     ensures quiet { result ≡ 0 → Keeps (E.contents err.old) (E.contents err.new) }
 {
     match read_all(alloc, input) {
-        Ok(bytes) => audit_bytes(alloc, name, bytes.as_slice(), out, err),
-        Err(failure) => end_by_stream(err, name, &failure),
+        Ok(bytes) => audit_bytes(alloc, STANDARD_INPUT, bytes.as_slice(), out, err),
+        Err(failure) => end_by_stream(err, STANDARD_INPUT, &failure),
     }
 }
 
 // Audits the tape in a file, and tells what is found.
-pub(crate) fn audit_file<R: Files + AllocGlobal, O: Sink, E: Write>(
-    rt: &R,
+pub(crate) fn audit_file<F: FileReader, O: Sink, E: Write>(
+    alloc: Global,
+    files: &mut F,
     path: &str,
     out: &mut O,
     err: &mut E,
 ) -> u8
-    ensures ends { EndsOnFile EndsOnTape result (O.printing out.old) (O.printing out.new) }
+    ensures ends { EndsOnInput EndsOnTape (file_at (F.held files.old) path.now) (file_at (F.held files.new) path.now) result (O.printing out.old) (O.printing out.new) }
     ensures quiet { result ≡ 0 → Keeps (E.contents err.old) (E.contents err.new) }
 {
-    match fs::open(rt, path) {
-        Ok(file) => audit_input(rt.alloc(), path, &mut Counted::new(file), out, err),
+    match files.read_file(alloc, path) {
+        Ok(bytes) => audit_bytes(alloc, path, bytes.as_slice(), out, err),
         Err(failure) => end_by_stream(err, path, &failure),
     }
 }

@@ -39,19 +39,19 @@ fn measure<D: Disk>(disk: &D)
     let _second = disk.len(Area::Second);
 }
 
-// What the areas of a disk hold that was opened.
-fn show_opened<D: Disk + Drop>(alloc: Global, disk: D) -> Result<Vec<u8>, Refusal>
-    ensures told { D.tells disk → IsShown result (inspected (bytes_of (D.areas disk).first) (bytes_of (D.areas disk).second)) ⊎ (result ≡ Err Device) }
+// What the areas of a disk hold that was opened. Nothing is written to it.
+fn show_opened<D: Disk>(alloc: Global, disk: &mut D) -> Result<Vec<u8>, Refusal>
+    ensures told { D.tells disk.old → IsShown result (inspected (bytes_of (D.areas disk.old).first) (bytes_of (D.areas disk.old).second)) ⊎ (result ≡ Err Device) }
+    ensures same { D.tells disk.old → D.areas disk.new ≡ D.areas disk.old }
     ensures some { IfOk result TellsSome }
     ensures cause { IfErr result IsUnmigrated }
 {
-    measure(&disk);
-    let mut disk = disk;
-    show_disk(alloc, &mut disk)
+    measure(disk);
+    show_disk(alloc, disk)
 }
 
 /// Opens the disk of one of the nodes as it does before it serves, and tells as text what its areas hold then, as `show_disk`
-/// does.
+/// does. The disk is handed back with the areas that the opening leaves.
 ///
 /// # Errors
 /// Those of an opening: `OutOfMemory`; `Device`; `Damaged`, of a disk that holds no facts; `TooLarge`, where an area of
@@ -61,16 +61,23 @@ pub fn migrate_disk<D: Disk + Drop>(
     nodes: Nodes,
     node: NodeId,
     disk: D,
-) -> Result<Vec<u8>, Refusal>
+) -> Result<(Vec<u8>, D), Refusal>
     requires exists { node < nodes }
-    ensures told { D.tells disk → IfOk result (λ text. IsShown (Ok text) (inspected (bytes_of (opened_areas nodes node (D.areas disk)).first) (bytes_of (opened_areas nodes node (D.areas disk)).second))) }
+    ensures migrated { D.tells disk → IfOk result (λ r. D.areas r.1 ≡ opened_areas nodes node (D.areas disk)) }
+    ensures told { D.tells disk → IfOk result (λ r. IsShown (Ok r.0) (inspected (bytes_of (opened_areas nodes node (D.areas disk)).first) (bytes_of (opened_areas nodes node (D.areas disk)).second))) }
     ensures refused { D.tells disk → IfErr result (λ e. (e ≡ OutOfMemory) ⊎ (e ≡ Device) ⊎ (end_by (found_from nodes node Settling (D.areas disk)) ≡ Stops e)
         ⊎ IsShown (Err e) (inspected (bytes_of (opened_areas nodes node (D.areas disk)).first) (bytes_of (opened_areas nodes node (D.areas disk)).second))) }
-    ensures some { IfOk result TellsSome }
+    ensures some { IfOk result (λ r. TellsSome r.0) }
     ensures cause { IfErr result IsUnmigrated }
 {
     match Journal::open(alloc, nodes, node, disk) {
-        Ok((journal, _)) => show_opened(alloc, journal.into_disk()),
+        Ok((journal, _)) => {
+            let mut opened = journal.into_disk();
+            match show_opened(alloc, &mut opened) {
+                Ok(text) => Ok((text, opened)),
+                Err(refusal) => Err(refusal),
+            }
+        }
         Err((refusal, _)) => Err(refusal),
     }
 }
@@ -84,7 +91,10 @@ where
     ensures cause { IfErr result IsUnmigrated }
 {
     match FileDisk::open(rt, folder, false) {
-        Ok(disk) => migrate_disk(rt.alloc(), seat.nodes, seat.node, disk),
+        Ok(disk) => match migrate_disk(rt.alloc(), seat.nodes, seat.node, disk) {
+            Ok((text, _)) => Ok(text),
+            Err(refusal) => Err(refusal),
+        },
         Err(refusal) => Err(refusal),
     }
 }

@@ -4,25 +4,25 @@ ghost use Rattle.std.specs.Prelude.{◌≡◌, ℕ, None, IfSome, Option, option
 ghost use Rattle.std.specs.Io.KnownBytes.{Keeps};
 ghost use Rattle.rr_draw.specs.declared.cut.Cut.{Cut as SomeCut};
 ghost use Rattle.rr_cli.specs.Cuts.{IsNumberOr, IsNumberIfAny, IsCutBy};
-ghost use Rattle.rr_cli.specs.Ends.{EndsOnPicture, EndsOnCut, EndsOnInput, EndsOnFile};
+ghost use Rattle.rr_files.specs.Files.{file_at};
+ghost use Rattle.rr_cli.specs.Ends.{EndsOnPicture, EndsOnCut, EndsOnInput};
 ghost use Rattle.rr_words.specs.Tasks.{cut_words_in};
 
+use crate::input::STANDARD_INPUT;
 use crate::random_schedule::number_in;
 use crate::refusals::{TextKind, end_by_fault};
 use crate::streams::{end_by_stream, end_by_text};
 use rr_draw::{Cut, picture_of};
-use rr_stream::{Counted, Sink, Source, read_all};
+use rr_files::FileReader;
+use rr_stream::{Sink, Source, read_all};
 use rr_types::{Instance, NodeId};
 use rr_words::{CutWords, LAST_LINE};
 use std::alloc::Global;
-use std::fs;
 use std::io::Write;
-use std::rt::Files;
 
-// Prints the picture of the schedule that the input of this name holds, of the cut that words write.
+// Prints the picture of the schedule on standard input, of the cut that words write.
 pub(crate) fn picture_input<I: Source, O: Sink, E: Write>(
     alloc: Global,
-    name: &str,
     words: &CutWords,
     input: &mut I,
     out: &mut O,
@@ -32,27 +32,28 @@ pub(crate) fn picture_input<I: Source, O: Sink, E: Write>(
     ensures quiet { result ≡ 0 → Keeps (E.contents err.old) (E.contents err.new) }
 {
     match cut_of(words) {
-        Some(cut) => print_input(alloc, name, &cut, input, out, err),
+        Some(cut) => print_input(alloc, &cut, input, out, err),
         None => end_without_cut(err),
     }
 }
 
 // Prints the picture of the schedule in a file, of the cut that words write.
-pub(crate) fn picture_file<R: Files + AllocGlobal, O: Sink, E: Write>(
-    rt: &R,
+pub(crate) fn picture_file<F: FileReader, O: Sink, E: Write>(
+    alloc: Global,
+    files: &mut F,
     path: &str,
     words: &CutWords,
     out: &mut O,
     err: &mut E,
 ) -> u8
-    ensures ends { EndsOnCut EndsOnFile (cut_words_in words.now) result (O.printing out.old) (O.printing out.new) }
+    ensures ends { EndsOnCut (λ on. EndsOnInput on (file_at (F.held files.old) path.now) (file_at (F.held files.new) path.now)) (cut_words_in words.now) result (O.printing out.old) (O.printing out.new) }
     ensures quiet { result ≡ 0 → Keeps (E.contents err.old) (E.contents err.new) }
 {
     let Some(cut) = cut_of(words) else {
         return end_without_cut(err);
     };
-    match fs::open(rt, path) {
-        Ok(file) => print_input(rt.alloc(), path, &cut, &mut Counted::new(file), out, err),
+    match files.read_file(alloc, path) {
+        Ok(bytes) => print_picture(alloc, path, bytes.as_slice(), &cut, out, err),
         Err(failure) => end_by_stream(err, path, &failure),
     }
 }
@@ -113,10 +114,9 @@ fn instance_if_any(word: Option<&str>) -> Option<Option<Instance>>
     }
 }
 
-// Prints the picture of the schedule that the input of this name holds, of a cut.
+// Prints the picture of the schedule on standard input, of a cut.
 fn print_input<I: Source, O: Sink, E: Write>(
     alloc: Global,
-    name: &str,
     cut: &Cut,
     input: &mut I,
     out: &mut O,
@@ -126,8 +126,8 @@ fn print_input<I: Source, O: Sink, E: Write>(
     ensures quiet { result ≡ 0 → Keeps (E.contents err.old) (E.contents err.new) }
 {
     match read_all(alloc, input) {
-        Ok(bytes) => print_picture(alloc, name, bytes.as_slice(), cut, out, err),
-        Err(failure) => end_by_stream(err, name, &failure),
+        Ok(bytes) => print_picture(alloc, STANDARD_INPUT, bytes.as_slice(), cut, out, err),
+        Err(failure) => end_by_stream(err, STANDARD_INPUT, &failure),
     }
 }
 

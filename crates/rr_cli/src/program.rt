@@ -5,10 +5,12 @@ ghost use Rattle.std.specs.Io.KnownBytes.{Keeps};
 ghost use Rattle.std.specs.IoError.{error_kind};
 ghost use Rattle.clap.specs.Words.{Text};
 ghost use Rattle.rr_words.specs.Tasks.{CutWords, Simulate, Audit, Sweep, Draw, faults_of, task_of};
+ghost use Rattle.rr_files.specs.Files.{file_at};
 ghost use Rattle.rr_cli.specs.Ends.{EndsOn, EndsOnInput, EndsBy};
 
 use crate::audit::{audit_file, audit_input};
 use crate::exporting::export_by_word;
+use crate::input::STANDARD_INPUT;
 use crate::migrate::migrate_by_words;
 use crate::picture::{picture_file, picture_input};
 use crate::random_schedule::random_by_words;
@@ -21,20 +23,37 @@ use crate::streams::{
 use crate::sweep::{end_without_seed, sweep_by_word, sweep_file};
 use crate::verification::verify_by_word;
 use crate::words::end_by_words;
+use rr_files::FileReader;
 use rr_sim::report_on;
-use rr_stream::{Counted, Sink, Source, read_all};
+use rr_stream::{Sink, Source, read_all};
 use rr_words::{Task, read_words};
 use std::alloc::Global;
 use std::convert::AsStr;
+use std::io;
 use std::io::{ErrorKind, Write};
 use std::os::unix::fs::FileExt;
 use std::rt::Files;
-use std::{fs, io};
 
-// Runs the schedule that the input of this name holds, and prints the report.
-fn simulate_input<I: Source, O: Sink, E: Write>(
+// Runs the schedule that the bytes of this name are, and prints the report.
+fn simulate_bytes<O: Sink, E: Write>(
     alloc: Global,
     name: &str,
+    bytes: &[u8],
+    out: &mut O,
+    err: &mut E,
+) -> u8
+    ensures ends { EndsOn bytes.now result (O.printing out.old) (O.printing out.new) }
+    ensures quiet { result ≡ 0 → Keeps (E.contents err.old) (E.contents err.new) }
+{
+    match report_on(alloc, bytes, out) {
+        Ok(text) => end_by_text(out, err, text.as_slice()),
+        Err(refusal) => end_by_fault(err, TextKind::Schedule, name, bytes, &refusal),
+    }
+}
+
+// Runs the schedule on standard input, and prints the report.
+fn simulate_input<I: Source, O: Sink, E: Write>(
+    alloc: Global,
     input: &mut I,
     out: &mut O,
     err: &mut E,
@@ -42,17 +61,30 @@ fn simulate_input<I: Source, O: Sink, E: Write>(
     ensures ends { EndsOnInput EndsOn (I.reading input.old) (I.reading input.new) result (O.printing out.old) (O.printing out.new) }
     ensures quiet { result ≡ 0 → Keeps (E.contents err.old) (E.contents err.new) }
 {
-    let bytes = match read_all(alloc, input) {
-        Ok(bytes) => bytes,
-        Err(failure) => return end_by_stream(err, name, &failure),
-    };
-    match report_on(alloc, bytes.as_slice(), out) {
-        Ok(text) => end_by_text(out, err, text.as_slice()),
-        Err(refusal) => end_by_fault(err, TextKind::Schedule, name, bytes.as_slice(), &refusal),
+    match read_all(alloc, input) {
+        Ok(bytes) => simulate_bytes(alloc, STANDARD_INPUT, bytes.as_slice(), out, err),
+        Err(failure) => end_by_stream(err, STANDARD_INPUT, &failure),
     }
 }
 
-/// Runs the program `rr` by these words, the first of which is its name, and gives its exit status.
+// Runs the schedule in a file, and prints the report.
+fn simulate_file<F: FileReader, O: Sink, E: Write>(
+    alloc: Global,
+    files: &mut F,
+    path: &str,
+    out: &mut O,
+    err: &mut E,
+) -> u8
+    ensures ends { EndsOnInput EndsOn (file_at (F.held files.old) path.now) (file_at (F.held files.new) path.now) result (O.printing out.old) (O.printing out.new) }
+    ensures quiet { result ≡ 0 → Keeps (E.contents err.old) (E.contents err.new) }
+{
+    match files.read_file(alloc, path) {
+        Ok(bytes) => simulate_bytes(alloc, path, bytes.as_slice(), out, err),
+        Err(failure) => end_by_stream(err, path, &failure),
+    }
+}
+
+/// Runs the program `rr` by these words, the first of which is its name, and gives its exit status. A FILE is read by `files`.
 ///
 /// `rr sim [FILE]` reads a schedule from FILE, or else from `input`, and prints its report on `out`. `rr show DIR`
 /// prints what the areas of the disk in the folder DIR hold. `rr random --seed SEED --steps STEPS --nodes NODES` prints
@@ -70,9 +102,10 @@ fn simulate_input<I: Source, O: Sink, E: Write>(
 /// What goes wrong is told on `err`, but for a reader of `out` that has gone. The statuses: 0 done, 2 wrong words, 3 no
 /// schedule or tape, 4 a damaged area or folders that don't agree, 5 a device, a file or a stream, 6 memory, 7 a tape with an event that isn't what
 /// its node does next.
-pub fn execute<R: Files + AllocGlobal, S: AsStr, I: Source, O: Sink, E: Write>(
+pub fn execute<R: Files + AllocGlobal, S: AsStr, F: FileReader, I: Source, O: Sink, E: Write>(
     rt: &R,
     words: &[S],
+    files: &mut F,
     input: &mut I,
     out: &mut O,
     err: &mut E,
@@ -80,37 +113,30 @@ pub fn execute<R: Files + AllocGlobal, S: AsStr, I: Source, O: Sink, E: Write>(
 where
     R::File: FileExt,
     ensures ends { EndsBy (faults_of (map S.text words.now)) (task_of (map S.text words.now))
-        (I.reading input.old) (I.reading input.new) result (O.printing out.old) (O.printing out.new) }
+        (record { input = I.reading input.old; files = F.held files.old }) (record { input = I.reading input.new; files = F.held files.new }) result (O.printing out.old) (O.printing out.new) }
     ensures quiet { result ≡ 0 → Keeps (E.contents err.old) (E.contents err.new) }
     ensures untouched { task_of (map S.text words.now) ≢ Simulate None → task_of (map S.text words.now) ≢ Audit None
         → ((seed : Option Text) → task_of (map S.text words.now) ≢ Sweep None seed)
         → ((cut : CutWords) → task_of (map S.text words.now) ≢ Draw None cut) → I.reading input.new ≡ I.reading input.old }
 {
     match read_words(rt.alloc(), words) {
-        Ok(Task::Simulate(None)) => {
-            simulate_input(rt.alloc(), "standard input", input, out, err)
-        }
-        Ok(Task::Simulate(Some(path))) => match fs::open(rt, path) {
-            Ok(file) => simulate_input(rt.alloc(), path, &mut Counted::new(file), out, err),
-            Err(failure) => end_by_stream(err, path, &failure),
-        },
+        Ok(Task::Simulate(None)) => simulate_input(rt.alloc(), input, out, err),
+        Ok(Task::Simulate(Some(path))) => simulate_file(rt.alloc(), files, path, out, err),
         Ok(Task::Show(Some(folder))) => show_folder(rt, folder, out, err),
         Ok(Task::Show(None)) => end_without_folder(err),
         Ok(Task::Random(words)) => random_by_words(rt.alloc(), &words, out, err),
-        Ok(Task::Audit(None)) => audit_input(rt.alloc(), "standard input", input, out, err),
-        Ok(Task::Audit(Some(path))) => audit_file(rt, path, out, err),
+        Ok(Task::Audit(None)) => audit_input(rt.alloc(), input, out, err),
+        Ok(Task::Audit(Some(path))) => audit_file(rt.alloc(), files, path, out, err),
         Ok(Task::View(_)) => end_without_views(err),
         Ok(Task::Run(_, _, _, _)) => end_without_threads(err),
         Ok(Task::Shell(_)) => end_without_shell(err),
         Ok(Task::Sweep(_, None)) => end_without_seed(err),
-        Ok(Task::Sweep(None, Some(seed))) => {
-            sweep_by_word(rt.alloc(), "standard input", seed, input, out, err)
+        Ok(Task::Sweep(None, Some(seed))) => sweep_by_word(rt.alloc(), seed, input, out, err),
+        Ok(Task::Sweep(Some(path), Some(seed))) => {
+            sweep_file(rt.alloc(), files, path, seed, out, err)
         }
-        Ok(Task::Sweep(Some(path), Some(seed))) => sweep_file(rt, path, seed, out, err),
-        Ok(Task::Draw(None, cut)) => {
-            picture_input(rt.alloc(), "standard input", &cut, input, out, err)
-        }
-        Ok(Task::Draw(Some(path), cut)) => picture_file(rt, path, &cut, out, err),
+        Ok(Task::Draw(None, cut)) => picture_input(rt.alloc(), &cut, input, out, err),
+        Ok(Task::Draw(Some(path), cut)) => { picture_file(rt.alloc(), files, path, &cut, out, err) }
         Ok(Task::Migrate(folder, node, nodes)) => {
             migrate_by_words(rt, folder, node, nodes, out, err)
         }
@@ -122,9 +148,10 @@ where
 
 /// Runs the program as `execute` does, where its words could be had. Otherwise it ends with 6 if memory ran out, else
 /// with 2, as for a word that is no text.
-pub fn run<R: Files + AllocGlobal, I: Source, O: Sink, E: Write>(
+pub fn run<R: Files + AllocGlobal, F: FileReader, I: Source, O: Sink, E: Write>(
     rt: &R,
     words: io::Result<Vec<String>>,
+    files: &mut F,
     input: &mut I,
     out: &mut O,
     err: &mut E,
@@ -132,14 +159,14 @@ pub fn run<R: Files + AllocGlobal, I: Source, O: Sink, E: Write>(
 where
     R::File: FileExt,
     ensures ends { IfOk words (λ words. EndsBy (faults_of (map string_bytes words.items)) (task_of (map string_bytes words.items))
-        (I.reading input.old) (I.reading input.new) result (O.printing out.old) (O.printing out.new)) }
+        (record { input = I.reading input.old; files = F.held files.old }) (record { input = I.reading input.new; files = F.held files.new }) result (O.printing out.old) (O.printing out.new)) }
     ensures memory { IfErr words (λ error. error_kind error ≡ ErrorKind.OutOfMemory → result ≡ 6) }
     ensures no_text { IfErr words (λ error. error_kind error ≢ ErrorKind.OutOfMemory → result ≡ 2) }
     ensures unprinted { OnErr words (O.printing out.new ≡ O.printing out.old) }
     ensures quiet { result ≡ 0 → Keeps (E.contents err.old) (E.contents err.new) }
 {
     match words {
-        Ok(words) => execute(rt, words.as_slice(), input, out, err),
+        Ok(words) => execute(rt, words.as_slice(), files, input, out, err),
         Err(error) => end_without_words(err, &error),
     }
 }

@@ -7,21 +7,23 @@ ghost use Rattle.rr_text.specs.Scheduled.{IsSchedule};
 ghost use Rattle.rr_text.specs.ScheduleTexts.{schedule_text};
 ghost use Rattle.rr_sweep.specs.declared.sweeping.SweepLine.{SweepLine as SomeLine};
 ghost use Rattle.rr_sweep.specs.Sweeps.{HasSwept, IsNext};
-ghost use Rattle.rr_cli.specs.Ends.{sweep_text, EndsOnSweep, EndsOnSeed, EndsOnInput, EndsOnFile};
+ghost use Rattle.rr_files.specs.Files.{file_at};
+ghost use Rattle.rr_cli.specs.Ends.{sweep_text, EndsOnSweep, EndsOnSeed, EndsOnInput};
 ghost use Rattle.rr_cli.specs.Refusals.{status_of};
 ghost use Rattle.rr_cli.specs.Sweeping.{IsPrintedBy, StopsSweep, StopsAtEvent, StopsPrinting};
 
+use crate::input::STANDARD_INPUT;
 use crate::random_schedule::number_in;
 use crate::refusals::{TextKind, end_by_fault, end_by_refusal};
 use crate::streams::{end_by_stream, end_by_text, end_by_unprinted};
-use rr_stream::{Counted, Sink, Source, print_all, read_all};
+use rr_files::FileReader;
+use rr_stream::{Sink, Source, print_all, read_all};
 use rr_sweep::{MAX_SWEPT_EVENTS, SweepLine, Sweeping, push_sweep_lines, swept_too_far};
 use rr_text::{Event, Schedule};
 use rr_types::Refusal;
 use std::alloc::Global;
+use std::io;
 use std::io::Write;
-use std::rt::Files;
-use std::{fs, io};
 
 /// Why a sweep is broken off.
 pub(crate) enum Stop {
@@ -31,10 +33,9 @@ pub(crate) enum Stop {
     Unprinted(io::Error),
 }
 
-// Sweeps the schedule that the input of this name holds, with the seed that a word writes.
+// Sweeps the schedule on standard input, with the seed that a word writes.
 pub(crate) fn sweep_by_word<I: Source, O: Sink, E: Write>(
     alloc: Global,
-    name: &str,
     seed: &str,
     input: &mut I,
     out: &mut O,
@@ -44,35 +45,35 @@ pub(crate) fn sweep_by_word<I: Source, O: Sink, E: Write>(
     ensures quiet { result ≡ 0 → Keeps (E.contents err.old) (E.contents err.new) }
 {
     match number_in(seed, 0, u64::MAX) {
-        Some(seed) => sweep_input(alloc, name, seed, input, out, err),
+        Some(seed) => sweep_input(alloc, seed, input, out, err),
         None => end_without_seed(err),
     }
 }
 
 // Sweeps the schedule in a file, with the seed that a word writes.
-pub(crate) fn sweep_file<R: Files + AllocGlobal, O: Sink, E: Write>(
-    rt: &R,
+pub(crate) fn sweep_file<F: FileReader, O: Sink, E: Write>(
+    alloc: Global,
+    files: &mut F,
     path: &str,
     seed: &str,
     out: &mut O,
     err: &mut E,
 ) -> u8
-    ensures ends { EndsOnSeed EndsOnFile seed.now result (O.printing out.old) (O.printing out.new) }
+    ensures ends { EndsOnSeed (λ on. EndsOnInput on (file_at (F.held files.old) path.now) (file_at (F.held files.new) path.now)) seed.now result (O.printing out.old) (O.printing out.new) }
     ensures quiet { result ≡ 0 → Keeps (E.contents err.old) (E.contents err.new) }
 {
     let Some(seed) = number_in(seed, 0, u64::MAX) else {
         return end_without_seed(err);
     };
-    match fs::open(rt, path) {
-        Ok(file) => sweep_input(rt.alloc(), path, seed, &mut Counted::new(file), out, err),
+    match files.read_file(alloc, path) {
+        Ok(bytes) => sweep_bytes(alloc, path, bytes.as_slice(), seed, out, err),
         Err(failure) => end_by_stream(err, path, &failure),
     }
 }
 
-// Sweeps the schedule that the input of this name holds.
+// Sweeps the schedule on standard input.
 fn sweep_input<I: Source, O: Sink, E: Write>(
     alloc: Global,
-    name: &str,
     seed: u64,
     input: &mut I,
     out: &mut O,
@@ -82,8 +83,8 @@ fn sweep_input<I: Source, O: Sink, E: Write>(
     ensures quiet { result ≡ 0 → Keeps (E.contents err.old) (E.contents err.new) }
 {
     match read_all(alloc, input) {
-        Ok(bytes) => sweep_bytes(alloc, name, bytes.as_slice(), seed, out, err),
-        Err(failure) => end_by_stream(err, name, &failure),
+        Ok(bytes) => sweep_bytes(alloc, STANDARD_INPUT, bytes.as_slice(), seed, out, err),
+        Err(failure) => end_by_stream(err, STANDARD_INPUT, &failure),
     }
 }
 

@@ -8,6 +8,7 @@ ghost use Rattle.rr_cli.specs.Views.{EndsWithViews};
 use crate::program::execute;
 use crate::views::show_view;
 use crate::words::end_by_words;
+use rr_files::FileReader;
 use rr_stream::{Sink, Source};
 use rr_words::{Task, read_words};
 use std::convert::AsStr;
@@ -22,32 +23,33 @@ use std::rt::Files;
 /// of it. `rr sim --json [FILE]` prints the report as JSON, an object a line; both options go together.
 /// `rr stats [--json] [FILE]` prints statistics of the run. `rr check FILE REPORT` compares the report with the file
 /// REPORT, and prints where they differ first; then the status is 1.
-pub fn execute_with_views<R: Files + AllocGlobal, S: AsStr, I: Source, O: Sink, E: Write>(
-    rt: &R,
-    words: &[S],
-    input: &mut I,
-    out: &mut O,
-    err: &mut E,
-) -> u8
+pub fn execute_with_views<
+    R: Files + AllocGlobal,
+    S: AsStr,
+    F: FileReader,
+    I: Source,
+    O: Sink,
+    E: Write,
+>(rt: &R, words: &[S], files: &mut F, input: &mut I, out: &mut O, err: &mut E) -> u8
 where
     R::File: FileExt,
     ensures ends { EndsWithViews (faults_of (map S.text words.now)) (task_of (map S.text words.now))
-        (I.reading input.old) (I.reading input.new) result (O.printing out.old) (O.printing out.new) }
+        (record { input = I.reading input.old; files = F.held files.old }) (record { input = I.reading input.new; files = F.held files.new }) result (O.printing out.old) (O.printing out.new) }
     ensures quiet { result ≡ 0 → Keeps (E.contents err.old) (E.contents err.new) }
 {
     match read_words(rt.alloc(), words) {
-        Ok(Task::View(view)) => show_view(rt, view, input, out, err),
-        Ok(Task::Simulate(_)) => execute(rt, words, input, out, err),
-        Ok(Task::Show(_)) => execute(rt, words, input, out, err),
-        Ok(Task::Random(_)) => execute(rt, words, input, out, err),
-        Ok(Task::Audit(_)) => execute(rt, words, input, out, err),
-        Ok(Task::Run(_, _, _, _)) => execute(rt, words, input, out, err),
-        Ok(Task::Shell(_)) => execute(rt, words, input, out, err),
-        Ok(Task::Sweep(_, _)) => execute(rt, words, input, out, err),
-        Ok(Task::Draw(_, _)) => execute(rt, words, input, out, err),
-        Ok(Task::Migrate(_, _, _)) => execute(rt, words, input, out, err),
-        Ok(Task::Verify(_, _)) => execute(rt, words, input, out, err),
-        Ok(Task::Export(_, _)) => execute(rt, words, input, out, err),
+        Ok(Task::View(view)) => show_view(rt.alloc(), files, view, input, out, err),
+        Ok(Task::Simulate(_)) => execute(rt, words, files, input, out, err),
+        Ok(Task::Show(_)) => execute(rt, words, files, input, out, err),
+        Ok(Task::Random(_)) => execute(rt, words, files, input, out, err),
+        Ok(Task::Audit(_)) => execute(rt, words, files, input, out, err),
+        Ok(Task::Run(_, _, _, _)) => execute(rt, words, files, input, out, err),
+        Ok(Task::Shell(_)) => execute(rt, words, files, input, out, err),
+        Ok(Task::Sweep(_, _)) => execute(rt, words, files, input, out, err),
+        Ok(Task::Draw(_, _)) => execute(rt, words, files, input, out, err),
+        Ok(Task::Migrate(_, _, _)) => execute(rt, words, files, input, out, err),
+        Ok(Task::Verify(_, _)) => execute(rt, words, files, input, out, err),
+        Ok(Task::Export(_, _)) => execute(rt, words, files, input, out, err),
         Err(error) => end_by_words(rt.alloc(), out, err, &error),
     }
 }

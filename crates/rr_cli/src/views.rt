@@ -3,7 +3,9 @@
 ghost use Rattle.std.specs.Prelude.{◌≡◌, option_map, IfOk, IfErr};
 ghost use Rattle.std.specs.Io.KnownBytes.{Keeps};
 ghost use Rattle.rr_words.specs.Tasks.{view_in};
-ghost use Rattle.rr_cli.specs.Views.{Shows, EndsOnShown, EndsOnCompared, EndsOnRead, EndsOnView, different};
+ghost use Rattle.rr_files.specs.Files.{reading_of};
+ghost use Rattle.rr_cli.specs.Ends.{EndsOnInput};
+ghost use Rattle.rr_cli.specs.Views.{Shows, EndsOnShown, EndsOnCompared, EndsOnView, left_behind, different};
 
 use crate::input::{name_of, read_file};
 use crate::refusals::{TextKind, end_by_fault, end_by_refusal};
@@ -12,12 +14,12 @@ use rr_account::{
     Account, Difference, account_on, difference_of, explanation, json_explanation, json_report,
     json_statistics, push_difference, statistics_of, statistics_table,
 };
+use rr_files::FileReader;
 use rr_stream::{Sink, Source};
 use rr_types::Refusal;
 use rr_words::{Form, View};
 use std::alloc::Global;
 use std::io::Write;
-use std::rt::Files;
 
 /// What a text shows of an account.
 #[derive(Clone, Copy)]
@@ -78,19 +80,20 @@ fn show_bytes<O: Sink, E: Write>(
 }
 
 // Shows the run of the schedule in a file.
-fn show_file<R: Files + AllocGlobal, I: Source, O: Sink, E: Write>(
-    rt: &R,
+fn show_file<F: FileReader, I: Source, O: Sink, E: Write>(
+    alloc: Global,
+    files: &mut F,
     how: Shown,
     file: Option<&str>,
     input: &mut I,
     out: &mut O,
     err: &mut E,
 ) -> u8
-    ensures ends { EndsOnRead (λ bytes between. EndsOnShown how bytes) (option_map (λ s. s.now) file.entry) (I.reading input.old) (I.reading input.new) result (O.printing out.old) (O.printing out.new) }
+    ensures ends { EndsOnInput (EndsOnShown how) (reading_of (option_map (λ s. s.now) file.entry) (record { input = I.reading input.old; files = F.held files.old })) (reading_of (option_map (λ s. s.now) file.entry) (record { input = I.reading input.new; files = F.held files.new })) result (O.printing out.old) (O.printing out.new) }
     ensures quiet { result ≡ 0 → Keeps (E.contents err.old) (E.contents err.new) }
 {
-    match read_file(rt, file, input, err) {
-        Ok(bytes) => show_bytes(rt.alloc(), how, name_of(file), bytes.as_slice(), out, err),
+    match read_file(alloc, files, file, input, err) {
+        Ok(bytes) => show_bytes(alloc, how, name_of(file), bytes.as_slice(), out, err),
         Err(status) => status,
     }
 }
@@ -148,24 +151,26 @@ fn compare_bytes<O: Sink, E: Write>(
 }
 
 // Compares the report of the schedule in a file with the text in another.
-fn compare_files<R: Files + AllocGlobal, I: Source, O: Sink, E: Write>(
-    rt: &R,
+fn compare_files<F: FileReader, I: Source, O: Sink, E: Write>(
+    alloc: Global,
+    files: &mut F,
     file: Option<&str>,
     report: Option<&str>,
     input: &mut I,
     out: &mut O,
     err: &mut E,
 ) -> u8
-    ensures ends { EndsOnRead (λ bytes between. EndsOnRead (λ text last. EndsOnCompared bytes text) (option_map (λ s. s.now) report.entry) between (I.reading input.new)) (option_map (λ s. s.now) file.entry) (I.reading input.old) (I.reading input.new) result (O.printing out.old) (O.printing out.new) }
+    ensures ends { EndsOnInput (λ bytes. EndsOnInput (EndsOnCompared bytes) (left_behind (option_map (λ s. s.now) file.entry) (option_map (λ s. s.now) report.entry) (record { input = I.reading input.old; files = F.held files.old })) (reading_of (option_map (λ s. s.now) report.entry) (record { input = I.reading input.new; files = F.held files.new })))
+        (reading_of (option_map (λ s. s.now) file.entry) (record { input = I.reading input.old; files = F.held files.old })) (reading_of (option_map (λ s. s.now) file.entry) (record { input = I.reading input.new; files = F.held files.new })) result (O.printing out.old) (O.printing out.new) }
     ensures quiet { result ≡ 0 → Keeps (E.contents err.old) (E.contents err.new) }
 {
-    let bytes = match read_file(rt, file, input, err) {
+    let bytes = match read_file(alloc, files, file, input, err) {
         Ok(bytes) => bytes,
         Err(status) => return status,
     };
-    match read_file(rt, report, input, err) {
+    match read_file(alloc, files, report, input, err) {
         Ok(text) => compare_bytes(
-            rt.alloc(),
+            alloc,
             (name_of(file), name_of(report)),
             bytes.as_slice(),
             text.as_slice(),
@@ -177,24 +182,35 @@ fn compare_files<R: Files + AllocGlobal, I: Source, O: Sink, E: Write>(
 }
 
 /// Shows a run as a view asks for it.
-pub(crate) fn show_view<R: Files + AllocGlobal, I: Source, O: Sink, E: Write>(
-    rt: &R,
+pub(crate) fn show_view<F: FileReader, I: Source, O: Sink, E: Write>(
+    alloc: Global,
+    files: &mut F,
     view: View<'_>,
     input: &mut I,
     out: &mut O,
     err: &mut E,
 ) -> u8
-    ensures ends { EndsOnView (view_in view.entry) (I.reading input.old) (I.reading input.new) result (O.printing out.old) (O.printing out.new) }
+    ensures ends { EndsOnView (view_in view.entry) (record { input = I.reading input.old; files = F.held files.old }) (record { input = I.reading input.new; files = F.held files.new }) result (O.printing out.old) (O.printing out.new) }
     ensures quiet { result ≡ 0 → Keeps (E.contents err.old) (E.contents err.new) }
 {
     match view {
-        View::Report(file) => show_file(rt, Shown::Report, file, input, out, err),
+        View::Report(file) => show_file(alloc, files, Shown::Report, file, input, out, err),
         View::Explanation(form, file) => {
-            show_file(rt, Shown::Explanation(form), file, input, out, err)
+            show_file(
+                alloc,
+                files,
+                Shown::Explanation(form),
+                file,
+                input,
+                out,
+                err,
+            )
         }
         View::Statistics(form, file) => {
-            show_file(rt, Shown::Statistics(form), file, input, out, err)
+            show_file(alloc, files, Shown::Statistics(form), file, input, out, err)
         }
-        View::Comparison(file, report) => compare_files(rt, file, report, input, out, err),
+        View::Comparison(file, report) => compare_files(
+            alloc, files, file, report, input, out, err,
+        ),
     }
 }

@@ -4,14 +4,15 @@ use Rattle.std.specs.Str.{bytes_eq}
 use Rattle.clap.specs.Kinds.{Kinds}
 use Rattle.clap.specs.Words.{Text}
 use Rattle.rr_types.specs.declared.refusal.Refusal.{Refusal}
-use Rattle.rr_stream.specs.Streams.{Printing, Reading}
+use Rattle.rr_stream.specs.Streams.{Printing}
+use Rattle.rr_files.specs.Files.{Readable, file_at}
 use Rattle.rr_script.specs.declared.answer.Answer.{Answer}
 use Rattle.rr_script.specs.Scripted.{Scripted, IsScript}
 use Rattle.rr_script.specs.ScriptTexts.{script_text}
 use Rattle.rr_script.specs.AnswerTexts.{answer_text}
 use Rattle.rr_script.specs.Faults.{IsScriptFault}
 use Rattle.rr_cli.specs.Randoms.{IsNumberIn}
-use Rattle.rr_cli.specs.Ends.{EndsOnFile, EndsOnInput, IsStreamStatus, Prints}
+use Rattle.rr_cli.specs.Ends.{EndsOnInput, IsStreamStatus, Prints}
 use Rattle.rr_cli.specs.Views.{EndsWithViews}
 use Rattle.rr_words.specs.Tasks.{ShellWords, Task, Run, Shell}
 use Rattle.rr_cli.specs.Refusals.{status_of}
@@ -35,15 +36,16 @@ pub data EndsOnScript (n : ℕ) (tape : Option Text) (bytes : List ℕ) (status 
   faulty : (refusal : Refusal) → IsScriptFault n bytes refusal → status ≡ status_of refusal → new ≡ old → EndsOnScript n tape bytes status old new
 
 -- a run on what a word names: on the input where it is a hyphen, else on a file, and the input is left alone
-abbrev pub EndsOnNamed : Text → (List ℕ → ℕ → Printing → Printing → Type 0) → Reading → Reading → ℕ → Printing → Printing → Type 0
+abbrev pub EndsOnNamed : Text → (List ℕ → ℕ → Printing → Printing → Type 0) → Readable → Readable → ℕ → Printing → Printing → Type 0
 EndsOnNamed word On from to status old new =
-    MatchBool (bytes_eq word (codes "-")) (EndsOnInput On from to status old new) ((to ≡ from) × EndsOnFile On status old new)
+    MatchBool (bytes_eq word (codes "-")) (EndsOnInput On from.input to.input status old new)
+    ((to.input ≡ from.input) × EndsOnInput On (file_at from.files word) (file_at to.files word) status old new)
 
--- a run by words: of the number of nodes that a word names, or it names none from 1 to 7
-pub data EndsOnRun (of_nodes script : Text) (tape : Option Text) (from to : Reading) (status : ℕ) (old new : Printing) : Type 0 where
+-- a run by words: of the number of nodes that a word names, by a script that is read; or it names none from 1 to 7
+pub data EndsOnRun (of_nodes script : Text) (tape : Option Text) (from to : Readable) (status : ℕ) (old new : Printing) : Type 0 where
   numbered : (n : ℕ) → IsNumberIn 1 7 of_nodes n → EndsOnNamed script (EndsOnScript n tape) from to status old new
       → EndsOnRun of_nodes script tape from to status old new
-  unnumbered : ((n : ℕ) → IsNumberIn 1 7 of_nodes n → ⊥) → status ≡ 2 → to ≡ from → new ≡ old
+  unnumbered : ((n : ℕ) → IsNumberIn 1 7 of_nodes n → ⊥) → status ≡ 2 → to.input ≡ from.input → new ≡ old
       → EndsOnRun of_nodes script tape from to status old new
 
 -- words that ask for a run, and say all that has to be said of it
@@ -61,10 +63,10 @@ AsksForThreads (Shell words) = Unit {0}
 AsksForThreads task = ⊥
 
 -- the program with threads, by words: a run, or a shell, or what the program without threads does, or no memory even to read them
-pub data EndsWithThreads (faults : Kinds) (task : Task) (from to : Reading) (status : ℕ) (old new : Printing) : Type 0 where
+pub data EndsWithThreads (faults : Kinds) (task : Task) (from to : Readable) (status : ℕ) (old new : Printing) : Type 0 where
   by_script : (asks : AsksForRun task) → faults ≡ [] → EndsOnRun asks.nodes asks.script asks.tape from to status old new
       → EndsWithThreads faults task from to status old new
-  by_shell : (words : ShellWords) → task ≡ Shell words → faults ≡ [] → EndsOnShellWords words from to status old new
+  by_shell : (words : ShellWords) → task ≡ Shell words → faults ≡ [] → EndsOnShellWords words from.input to.input status old new
       → EndsWithThreads faults task from to status old new
   by_others : (faults ≡ [] → AsksForThreads task → ⊥) → EndsWithViews faults task from to status old new → EndsWithThreads faults task from to status old new
   out_of_memory : status ≡ 6 → new ≡ old → EndsWithThreads faults task from to status old new

@@ -10,6 +10,7 @@ use crate::lock::Lockable;
 use crate::script_run::run_by_words;
 use crate::shell_run::shell_by_words;
 use rr_cli::{Task, end_by_words, end_without_words, read_words};
+use rr_files::FileReader;
 use rr_stream::Sink;
 use rr_talk::Prompting;
 use std::convert::AsStr;
@@ -39,32 +40,39 @@ pub fn execute<
     F: Read + Write + Seek + FileExt + OpenFile + Drop + Send + Lockable,
     R: Files<File = F> + AllocGlobal + Threads + Wait + Clock + Sync,
     S: AsStr,
+    L: FileReader,
     I: Prompting,
     O: Sink,
     E: Write,
->(rt: &R, words: &[S], input: &mut I, out: &mut O, err: &mut E) -> u8
+>(rt: &R, words: &[S], files: &mut L, input: &mut I, out: &mut O, err: &mut E) -> u8
     ensures ends { EndsWithThreads (faults_of (map S.text words.now)) (task_of (map S.text words.now))
-        (I.reading input.old) (I.reading input.new) result (O.printing out.old) (O.printing out.new) }
+        (record { input = I.reading input.old; files = L.held files.old }) (record { input = I.reading input.new; files = L.held files.new }) result (O.printing out.old) (O.printing out.new) }
     ensures quiet { result ≡ 0 → Keeps (E.contents err.old) (E.contents err.new) }
 {
     match read_words(rt.alloc(), words) {
         Ok(Task::Run(Some(nodes), Some(dir), Some(script), tape)) => {
-            run_by_words(rt, nodes, dir, tape, script, input, out, err)
+            run_by_words(rt, files, nodes, dir, tape, script, input, out, err)
         }
-        Ok(Task::Run(None, _, _, _)) => rr_cli::execute_with_views(rt, words, input, out, err),
-        Ok(Task::Run(_, None, _, _)) => rr_cli::execute_with_views(rt, words, input, out, err),
-        Ok(Task::Run(_, _, None, _)) => rr_cli::execute_with_views(rt, words, input, out, err),
+        Ok(Task::Run(None, _, _, _)) => rr_cli::execute_with_views(
+            rt, words, files, input, out, err,
+        ),
+        Ok(Task::Run(_, None, _, _)) => rr_cli::execute_with_views(
+            rt, words, files, input, out, err,
+        ),
+        Ok(Task::Run(_, _, None, _)) => rr_cli::execute_with_views(
+            rt, words, files, input, out, err,
+        ),
         Ok(Task::Shell(asked)) => shell_by_words(rt, &asked, input, out, err),
-        Ok(Task::View(_)) => rr_cli::execute_with_views(rt, words, input, out, err),
-        Ok(Task::Simulate(_)) => rr_cli::execute_with_views(rt, words, input, out, err),
-        Ok(Task::Show(_)) => rr_cli::execute_with_views(rt, words, input, out, err),
-        Ok(Task::Random(_)) => rr_cli::execute_with_views(rt, words, input, out, err),
-        Ok(Task::Audit(_)) => rr_cli::execute_with_views(rt, words, input, out, err),
-        Ok(Task::Sweep(_, _)) => rr_cli::execute_with_views(rt, words, input, out, err),
-        Ok(Task::Draw(_, _)) => rr_cli::execute_with_views(rt, words, input, out, err),
-        Ok(Task::Migrate(_, _, _)) => rr_cli::execute_with_views(rt, words, input, out, err),
-        Ok(Task::Verify(_, _)) => rr_cli::execute_with_views(rt, words, input, out, err),
-        Ok(Task::Export(_, _)) => rr_cli::execute_with_views(rt, words, input, out, err),
+        Ok(Task::View(_)) => rr_cli::execute_with_views(rt, words, files, input, out, err),
+        Ok(Task::Simulate(_)) => rr_cli::execute_with_views(rt, words, files, input, out, err),
+        Ok(Task::Show(_)) => rr_cli::execute_with_views(rt, words, files, input, out, err),
+        Ok(Task::Random(_)) => rr_cli::execute_with_views(rt, words, files, input, out, err),
+        Ok(Task::Audit(_)) => rr_cli::execute_with_views(rt, words, files, input, out, err),
+        Ok(Task::Sweep(_, _)) => rr_cli::execute_with_views(rt, words, files, input, out, err),
+        Ok(Task::Draw(_, _)) => rr_cli::execute_with_views(rt, words, files, input, out, err),
+        Ok(Task::Migrate(_, _, _)) => rr_cli::execute_with_views(rt, words, files, input, out, err),
+        Ok(Task::Verify(_, _)) => rr_cli::execute_with_views(rt, words, files, input, out, err),
+        Ok(Task::Export(_, _)) => rr_cli::execute_with_views(rt, words, files, input, out, err),
         Err(error) => end_by_words(rt.alloc(), out, err, &error),
     }
 }
@@ -74,19 +82,27 @@ pub fn execute<
 pub fn run<
     F: Read + Write + Seek + FileExt + OpenFile + Drop + Send + Lockable,
     R: Files<File = F> + AllocGlobal + Threads + Wait + Clock + Sync,
+    L: FileReader,
     I: Prompting,
     O: Sink,
     E: Write,
->(rt: &R, words: io::Result<Vec<String>>, input: &mut I, out: &mut O, err: &mut E) -> u8
+>(
+    rt: &R,
+    words: io::Result<Vec<String>>,
+    files: &mut L,
+    input: &mut I,
+    out: &mut O,
+    err: &mut E,
+) -> u8
     ensures ends { IfOk words (λ words. EndsWithThreads (faults_of (map string_bytes words.items)) (task_of (map string_bytes words.items))
-        (I.reading input.old) (I.reading input.new) result (O.printing out.old) (O.printing out.new)) }
+        (record { input = I.reading input.old; files = L.held files.old }) (record { input = I.reading input.new; files = L.held files.new }) result (O.printing out.old) (O.printing out.new)) }
     ensures memory { IfErr words (λ error. error_kind error ≡ ErrorKind.OutOfMemory → result ≡ 6) }
     ensures no_text { IfErr words (λ error. error_kind error ≢ ErrorKind.OutOfMemory → result ≡ 2) }
     ensures unprinted { OnErr words (O.printing out.new ≡ O.printing out.old) }
     ensures quiet { result ≡ 0 → Keeps (E.contents err.old) (E.contents err.new) }
 {
     match words {
-        Ok(words) => execute(rt, words.as_slice(), input, out, err),
+        Ok(words) => execute(rt, words.as_slice(), files, input, out, err),
         Err(error) => end_without_words(err, &error),
     }
 }

@@ -4,7 +4,8 @@ ghost use Rattle.std.specs.Prelude.{◌≡◌, ◌⊎◌, length, Option, None, 
 ghost use Rattle.std.specs.Io.KnownBytes.{Keeps};
 ghost use Rattle.clap.specs.Words.{Text};
 ghost use Rattle.rr_types.specs.declared.refusal.Refusal.TheVariants.{OutOfMemory, Device};
-ghost use Rattle.rr_cli.specs.Ends.{EndsOnInput, EndsOnFile};
+ghost use Rattle.rr_files.specs.Files.{file_at};
+ghost use Rattle.rr_cli.specs.Ends.{EndsOnInput};
 ghost use Rattle.rr_cli.specs.Refusals.{status_of};
 ghost use Rattle.rr_run.specs.Runs.{EndsOnFolders, EndsOnScript, EndsOnNamed, EndsOnRun};
 
@@ -15,10 +16,11 @@ use crate::lock::Lockable;
 use rr_cli::{end_by_refusal, end_by_stream, end_by_text, nodes_of, print_folder_fault};
 use rr_disk::FileDisk;
 use rr_explain::print_script_fault;
+use rr_files::FileReader;
 use rr_image::inspect;
 use rr_locked::Open;
 use rr_script::{Answers, Script};
-use rr_stream::{Counted, Sink, Source, read_all};
+use rr_stream::Sink;
 use rr_tape::Tape;
 use rr_threads::{Recorder, run_script};
 use rr_types::{Nodes, Refusal};
@@ -287,23 +289,24 @@ fn run_input<
 fn run_file<
     F: Read + Write + Seek + FileExt + OpenFile + Drop + Send + Lockable,
     R: Files<File = F> + AllocGlobal + Threads + Wait + Clock + Sync,
+    L: FileReader,
     O: Sink,
     E: Write,
->(rt: &R, nodes: Nodes, dir: &str, tape: Option<&str>, path: &str, out: &mut O, err: &mut E) -> u8
-    ensures ends { EndsOnFile (EndsOnScript nodes (option_map (λ s. s.now) tape.entry)) result (O.printing out.old) (O.printing out.new) }
+>(
+    rt: &R,
+    files: &mut L,
+    nodes: Nodes,
+    dir: &str,
+    tape: Option<&str>,
+    path: &str,
+    out: &mut O,
+    err: &mut E,
+) -> u8
+    ensures ends { EndsOnInput (EndsOnScript nodes (option_map (λ s. s.now) tape.entry)) (file_at (L.held files.old) path.now) (file_at (L.held files.new) path.now) result (O.printing out.old) (O.printing out.new) }
     ensures quiet { result ≡ 0 → Keeps (E.contents err.old) (E.contents err.new) }
 {
-    match fs::open(rt, path) {
-        Ok(file) => run_input(
-            rt,
-            nodes,
-            dir,
-            tape,
-            path,
-            &mut Counted::new(file),
-            out,
-            err,
-        ),
+    match files.read_file(rt.alloc(), path) {
+        Ok(bytes) => run_bytes(rt, nodes, dir, tape, path, bytes.as_slice(), out, err),
         Err(failure) => end_by_stream(err, path, &failure),
     }
 }
@@ -312,11 +315,13 @@ fn run_file<
 fn run_named<
     F: Read + Write + Seek + FileExt + OpenFile + Drop + Send + Lockable,
     R: Files<File = F> + AllocGlobal + Threads + Wait + Clock + Sync,
+    L: FileReader,
     I: Source,
     O: Sink,
     E: Write,
 >(
     rt: &R,
+    files: &mut L,
     nodes: Nodes,
     dir: &str,
     tape: Option<&str>,
@@ -325,13 +330,13 @@ fn run_named<
     out: &mut O,
     err: &mut E,
 ) -> u8
-    ensures ends { EndsOnNamed path.now (EndsOnScript nodes (option_map (λ s. s.now) tape.entry)) (I.reading input.old) (I.reading input.new) result (O.printing out.old) (O.printing out.new) }
+    ensures ends { EndsOnNamed path.now (EndsOnScript nodes (option_map (λ s. s.now) tape.entry)) (record { input = I.reading input.old; files = L.held files.old }) (record { input = I.reading input.new; files = L.held files.new }) result (O.printing out.old) (O.printing out.new) }
     ensures quiet { result ≡ 0 → Keeps (E.contents err.old) (E.contents err.new) }
 {
     if path == "-" {
         run_input(rt, nodes, dir, tape, "standard input", input, out, err)
     } else {
-        run_file(rt, nodes, dir, tape, path, out, err)
+        run_file(rt, files, nodes, dir, tape, path, out, err)
     }
 }
 
@@ -340,11 +345,13 @@ fn run_named<
 pub(crate) fn run_by_words<
     F: Read + Write + Seek + FileExt + OpenFile + Drop + Send + Lockable,
     R: Files<File = F> + AllocGlobal + Threads + Wait + Clock + Sync,
+    L: FileReader,
     I: Source,
     O: Sink,
     E: Write,
 >(
     rt: &R,
+    files: &mut L,
     nodes: &str,
     dir: &str,
     tape: Option<&str>,
@@ -353,11 +360,11 @@ pub(crate) fn run_by_words<
     out: &mut O,
     err: &mut E,
 ) -> u8
-    ensures ends { EndsOnRun nodes.now path.now (option_map (λ s. s.now) tape.entry) (I.reading input.old) (I.reading input.new) result (O.printing out.old) (O.printing out.new) }
+    ensures ends { EndsOnRun nodes.now path.now (option_map (λ s. s.now) tape.entry) (record { input = I.reading input.old; files = L.held files.old }) (record { input = I.reading input.new; files = L.held files.new }) result (O.printing out.old) (O.printing out.new) }
     ensures quiet { result ≡ 0 → Keeps (E.contents err.old) (E.contents err.new) }
 {
     match nodes_of(nodes) {
-        Some(nodes) => run_named(rt, nodes, dir, tape, path, input, out, err),
+        Some(nodes) => run_named(rt, files, nodes, dir, tape, path, input, out, err),
         None => {
             let _ = writeln!(err, "rr: run: there is no such number of nodes");
             2

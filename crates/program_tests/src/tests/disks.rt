@@ -2,6 +2,7 @@
 
 use rr_cli::{execute, migrate_disk, show_disk};
 use rr_disk::{Area, Disk, FailingDisk, MemDisk};
+use rr_files::HostFiles;
 use rr_stream::Counted;
 use rr_types::{NodeId, Nodes, Refusal};
 use std::alloc::Global;
@@ -49,12 +50,12 @@ fn tells_disks_of_any_kind(rt: HostRuntime) {
     assert!(rt; matches!(show_disk(rt.alloc(), &mut disk), Err(Refusal::Device)));
 }
 
-/// What `rr migrate` tells of the disk of a node alone.
+/// What `rr migrate` tells of the disk of a node alone, and the disk behind it.
 fn migrated(
     rt: &impl Abort,
     alloc: Global,
     disk: FailingDisk<MemDisk>,
-) -> Result<Vec<u8>, Refusal> {
+) -> Result<(Vec<u8>, FailingDisk<MemDisk>), Refusal> {
     let nodes = Nodes::new(1).expect(rt, "nodes");
     let node = NodeId::new(nodes, 0).expect(rt, "a node");
     migrate_disk(alloc, nodes, node, disk)
@@ -63,8 +64,10 @@ fn migrated(
 #[test]
 fn migrates_disks_of_any_kind(rt: HostRuntime) {
     let text = "area 0 epoch 2 node 0 of 1 facts 4 decided 1\narea 1 unformatted\n";
-    let told = migrated(&rt, rt.alloc(), disk(&rt, rt.alloc(), Area::First));
-    assert!(rt; told.expect(&rt, "a text").as_slice() == text.as_bytes());
+    let migrated_disk = migrated(&rt, rt.alloc(), disk(&rt, rt.alloc(), Area::First));
+    let (told, behind) = migrated_disk.expect(&rt, "a text");
+    assert!(rt; told.as_slice() == text.as_bytes());
+    assert_eq!(rt; behind.len(Area::First), snapshot().len() as u64);
     let mut failing = FailingDisk::new(MemDisk::new(rt.alloc()));
     failing.fail_next(Vec::new(rt.alloc()));
     assert!(rt; matches!(migrated(&rt, rt.alloc(), failing), Err(Refusal::Device)));
@@ -78,7 +81,14 @@ where
     let mut out = Counted::new(Vec::new(rt.alloc()));
     let mut err = Vec::new(rt.alloc());
     let words = ["rr", "show", folder];
-    let status = execute(rt, &words, &mut Counted::new(&b""[..]), &mut out, &mut err);
+    let status = execute(
+        rt,
+        &words,
+        &mut HostFiles::new(rt),
+        &mut Counted::new(&b""[..]),
+        &mut out,
+        &mut err,
+    );
     assert_eq!(rt; status, 5);
     assert!(rt; err.as_slice().starts_with(b"rr: 2 Device\n"));
     assert!(rt; out.into_inner().is_empty());

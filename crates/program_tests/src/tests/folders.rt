@@ -1,5 +1,6 @@
 //! `rr run` over a folder that another program has locked.
 
+use rr_files::HostFiles;
 use rr_run::{Lockable, execute};
 use rr_stream::Counted;
 use std::fs;
@@ -31,7 +32,14 @@ fn assert_ended<
 >(rt: &R, status: u8, text: &str, error: &str) {
     let mut out = Counted::new(Vec::new(rt.alloc()));
     let mut err = Vec::new(rt.alloc());
-    let ended = execute(rt, &WORDS, &mut Counted::new(&b""[..]), &mut out, &mut err);
+    let ended = execute(
+        rt,
+        &WORDS,
+        &mut HostFiles::new(rt),
+        &mut Counted::new(&b""[..]),
+        &mut out,
+        &mut err,
+    );
     assert_eq!(rt; ended, status);
     assert!(rt; out.into_inner().as_slice() == text.as_bytes());
     assert!(rt; err.as_slice() == error.as_bytes());

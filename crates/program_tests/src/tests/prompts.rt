@@ -1,5 +1,6 @@
 //! The prompt of `rr shell`.
 
+use rr_files::HostFiles;
 use rr_run::execute;
 use rr_stream::Counted;
 use rr_talk::Prompted;
@@ -17,6 +18,7 @@ fn a_prompt_stands_before_each_line_that_is_read(rt: HostRuntime) {
     let status = execute(
         &rt,
         &WORDS,
+        &mut HostFiles::new(&rt),
         &mut Prompted::new(typed, Some(&mut seen)),
         &mut out,
         &mut err,

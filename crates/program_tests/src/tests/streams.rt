@@ -1,6 +1,7 @@
 //! Runs over streams that give or take one byte a call, that are interrupted, that fail or that are closed.
 
 use rr_cli::execute;
+use rr_files::HostFiles;
 use rr_stream::Counted;
 use std::io;
 use std::io::{ErrorKind, Read, Write};
@@ -103,7 +104,14 @@ fn ends(rt: &HostRuntime, from: Manner, to: Manner, status: u8, text: &[u8], err
     let mut input = Counted::new(fake_stream(rt, from));
     let mut out = Counted::new(fake_stream(rt, to));
     let mut err = Vec::new(rt.alloc());
-    let ended = execute(rt, &["rr", "sim"], &mut input, &mut out, &mut err);
+    let ended = execute(
+        rt,
+        &["rr", "sim"],
+        &mut HostFiles::new(rt),
+        &mut input,
+        &mut out,
+        &mut err,
+    );
     let out = out.into_inner();
     let is_flushed = status != 0 || out.flushed == text.len();
     ended == status && out.taken.as_slice() == text && err.as_slice() == error && is_flushed
@@ -166,7 +174,14 @@ fn tells_a_reader_that_fails(rt: HostRuntime) {
     let mut out = Counted::new(Vec::new(rt.alloc()));
     let mut err = Vec::new(rt.alloc());
     let mut input = Counted::new(Torn { given: false });
-    let status = execute(&rt, &["rr", "sim"], &mut input, &mut out, &mut err);
+    let status = execute(
+        &rt,
+        &["rr", "sim"],
+        &mut HostFiles::new(&rt),
+        &mut input,
+        &mut out,
+        &mut err,
+    );
     assert_eq!(rt; status, 5);
     assert!(rt; err.as_slice() == b"rr: standard input: torn\n".as_slice());
     assert!(rt; out.into_inner().is_empty());
@@ -190,7 +205,14 @@ impl Write for Closed {
 fn unread(rt: &HostRuntime, words: &[&str], input: &[u8]) -> (u8, bool) {
     let mut err = Vec::new(rt.alloc());
     let mut out = Counted::new(Closed);
-    let status = execute(rt, words, &mut Counted::new(input), &mut out, &mut err);
+    let status = execute(
+        rt,
+        words,
+        &mut HostFiles::new(rt),
+        &mut Counted::new(input),
+        &mut out,
+        &mut err,
+    );
     (status, err.is_empty())
 }
 
@@ -218,6 +240,7 @@ fn ending_unread(rt: &HostRuntime, words: &[&str]) -> u8 {
     execute(
         rt,
         words,
+        &mut HostFiles::new(rt),
         &mut Counted::new(&b""[..]),
         &mut out,
         &mut Closed,

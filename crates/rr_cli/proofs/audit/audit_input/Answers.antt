@@ -1,16 +1,11 @@
-use Rattle.std.proofs.Common.{refl, subst, inl, inr}
-use Rattle.rr_cli.specs.Ends.{EndsOnTape, read, unread, unheld}
+use Rattle.std.proofs.Common.{subst}
+use Rattle.rr_cli.specs.Ends.{EndsOnTape, read}
+use Rattle.rr_cli.proofs.ReadLemmas.{unread_status, unread_ends}
 use Rattle.rr_cli.proofs.audit.audit_input.Goals as goal
 
 pub returns-in-Err-clause-ends : goal.returns-in-Err-clause-ends
 returns-in-Err-clause-ends g c =
-    elim c.in-Err.ensures.cause [
-      | inl memory ↦ unheld (c.end_by_stream.ensures.memory memory) refl
-      | inr grew ↦ elim c.end_by_stream.ensures.status [
-        | inl device ↦ unread device grew refl
-        | inr memory ↦ unheld memory refl
-      ]
-    ]
+    unread_ends _ (g.I.Source.reading c.args.input.now) (g.I.Source.reading c.read_all.new.input) c.end_by_stream.result _ (unread_status _ (g.I.Source.reading c.args.input.now) (g.I.Source.reading c.read_all.new.input) c.end_by_stream.result c.in-Err.ensures.cause c.end_by_stream.ensures.memory c.end_by_stream.ensures.status)
 
 pub returns-in-Ok-clause-ends : goal.returns-in-Ok-clause-ends
 returns-in-Ok-clause-ends g c =

@@ -1,9 +1,14 @@
-use Rattle.std.proofs.Common.{refl}
-use Rattle.rr_cli.specs.Ends.{cut_so, opened, unopened}
+use Rattle.std.proofs.Common.{subst}
+use Rattle.rr_files.specs.Files.{file_at}
+use Rattle.rr_cli.specs.Ends.{EndsOnPicture, read, cut_so}
+use Rattle.rr_cli.proofs.ReadLemmas.{unread_status, unread_ends}
 use Rattle.rr_cli.proofs.picture.picture_file.Goals as goal
 
-pub returns-in-Ok-clause-ends : goal.returns-in-Ok-clause-ends
-returns-in-Ok-clause-ends g c = cut_so c.in-Some.cut c.in-Some.ensures.some (opened _ _ c.print_input.ensures.ends)
-
 pub returns-in-Err-clause-ends : goal.returns-in-Err-clause-ends
-returns-in-Err-clause-ends g c = cut_so c.in-Some.cut c.in-Some.ensures.some (unopened c.end_by_stream.ensures.status refl)
+returns-in-Err-clause-ends g c =
+    cut_so c.in-Some.cut c.in-Some.ensures.some (unread_ends _ (file_at (g.F.FileReader.held c.args.files.now) c.args.path.now) (file_at (g.F.FileReader.held c.read_file.new.self) c.args.path.now) c.end_by_stream.result _ (unread_status _ (file_at (g.F.FileReader.held c.args.files.now) c.args.path.now) (file_at (g.F.FileReader.held c.read_file.new.self) c.args.path.now) c.end_by_stream.result c.in-Err.ensures.cause c.end_by_stream.ensures.memory c.end_by_stream.ensures.status))
+
+pub returns-in-Ok-clause-ends : goal.returns-in-Ok-clause-ends
+returns-in-Ok-clause-ends g c =
+    cut_so c.in-Some.cut c.in-Some.ensures.some (read c.in-Ok.bytes.items c.in-Ok.ensures.all
+    (subst (λ bytes. EndsOnPicture c.in-Some.cut bytes c.print_picture.result (g.O.Sink.printing c.args.out.now) (g.O.Sink.printing c.print_picture.new.out)) c.as_slice.ensures.value c.print_picture.ensures.ends))

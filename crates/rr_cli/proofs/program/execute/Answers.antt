@@ -12,17 +12,11 @@ returns-in-Ok-Simulate-None-clause-ends g c =
     let task : task_of (map g.S.AsStr.text c.args.words.now) ≡ Simulate None = sym w.ensures.task ∙ ap task_in w.field-0-is ∙ ap (λ file. task_in (read.Simulate file)) w.field-0-0-is in
     by_standard_input w.ensures.faults task c.simulate_input.ensures.ends
 
-pub returns-in-Ok-clause-ends : goal.returns-in-Ok-clause-ends
-returns-in-Ok-clause-ends g c =
+pub returns-in-Ok-Simulate-Some-clause-ends : goal.returns-in-Ok-Simulate-Some-clause-ends
+returns-in-Ok-Simulate-Some-clause-ends g c =
     let w = c.in-Ok-Simulate-Some in
     let task : task_of (map g.S.AsStr.text c.args.words.now) ≡ Simulate (Some w.path.now) = sym w.ensures.task ∙ ap task_in w.field-0-is ∙ ap (λ file. task_in (read.Simulate file)) w.field-0-0-is in
-    by_file w.path.now w.ensures.faults task (opened _ _ c.simulate_input-in-Ok.ensures.ends)
-
-pub returns-in-Err-open-clause-ends : goal.returns-in-Err-open-clause-ends
-returns-in-Err-open-clause-ends g c =
-    let w = c.in-Ok-Simulate-Some in
-    let task : task_of (map g.S.AsStr.text c.args.words.now) ≡ Simulate (Some w.path.now) = sym w.ensures.task ∙ ap task_in w.field-0-is ∙ ap (λ file. task_in (read.Simulate file)) w.field-0-0-is in
-    by_file w.path.now w.ensures.faults task (unopened c.end_by_stream.ensures.status refl)
+    by_file w.path.now w.ensures.faults task c.simulate_file.ensures.ends
 
 pub returns-in-Ok-Show-Some-clause-ends : goal.returns-in-Ok-Show-Some-clause-ends
 returns-in-Ok-Show-Some-clause-ends g c =

@@ -1,9 +1,14 @@
-use Rattle.std.proofs.Common.{refl}
-use Rattle.rr_cli.specs.Ends.{opened, seeded, unopened}
+use Rattle.std.proofs.Common.{subst}
+use Rattle.rr_files.specs.Files.{file_at}
+use Rattle.rr_cli.specs.Ends.{EndsOnSweep, read, seeded}
+use Rattle.rr_cli.proofs.ReadLemmas.{unread_status, unread_ends}
 use Rattle.rr_cli.proofs.sweep.sweep_file.Goals as goal
 
-pub returns-in-Ok-clause-ends : goal.returns-in-Ok-clause-ends
-returns-in-Ok-clause-ends g c = seeded c.in-Some.seed c.in-Some.ensures.some (opened _ _ c.sweep_input.ensures.ends)
-
 pub returns-in-Err-clause-ends : goal.returns-in-Err-clause-ends
-returns-in-Err-clause-ends g c = seeded c.in-Some.seed c.in-Some.ensures.some (unopened c.end_by_stream.ensures.status refl)
+returns-in-Err-clause-ends g c =
+    seeded c.in-Some.seed c.in-Some.ensures.some (unread_ends _ (file_at (g.F.FileReader.held c.args.files.now) c.args.path.now) (file_at (g.F.FileReader.held c.read_file.new.self) c.args.path.now) c.end_by_stream.result _ (unread_status _ (file_at (g.F.FileReader.held c.args.files.now) c.args.path.now) (file_at (g.F.FileReader.held c.read_file.new.self) c.args.path.now) c.end_by_stream.result c.in-Err.ensures.cause c.end_by_stream.ensures.memory c.end_by_stream.ensures.status))
+
+pub returns-in-Ok-clause-ends : goal.returns-in-Ok-clause-ends
+returns-in-Ok-clause-ends g c =
+    seeded c.in-Some.seed c.in-Some.ensures.some (read c.in-Ok.bytes.items c.in-Ok.ensures.all
+    (subst (λ bytes. EndsOnSweep c.in-Some.seed bytes c.sweep_bytes.result (g.O.Sink.printing c.args.out.now) (g.O.Sink.printing c.sweep_bytes.new.out)) c.as_slice.ensures.value c.sweep_bytes.ensures.ends))
