@@ -68,7 +68,7 @@ fn print_export<O: Sink, E: Write>(
 {
     match export_text(alloc, list, readings) {
         Ok(text) => end_by_text(out, err, text.as_slice()),
-        Err(refusal) => end_by_refusal(err, &refusal),
+        Err(_) => end_by_refusal(err, &Refusal::OutOfMemory),
     }
 }
 

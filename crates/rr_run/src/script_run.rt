@@ -20,7 +20,7 @@ use rr_files::FileReader;
 use rr_image::inspect;
 use rr_locked::Open;
 use rr_script::{Answers, Script};
-use rr_stream::Sink;
+use rr_stream::{Sink, Source, read_all};
 use rr_tape::Tape;
 use rr_threads::{Recorder, run_script};
 use rr_types::{Nodes, Refusal};

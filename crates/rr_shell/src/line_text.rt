@@ -215,9 +215,8 @@ pub fn push_down(out: &mut Vec<u8>, node: NodeId) -> Result<(), AllocError>
 }
 
 // A space, and the counts of a node.
-fn push_counts(out: &mut Vec<u8>, summary: &NodeSummary) -> Result<(), Refusal>
+fn push_counts(out: &mut Vec<u8>, summary: &NodeSummary) -> Result<(), AllocError>
     ensures ok { OnOk result (out.new.items ≡ out.old.items ++ 32 ∷ spaced (counts_words summary.now)) }
-    ensures err { IfErr result (λ e. e ≡ Refusal.OutOfMemory) }
 {
     push_word(out, b"facts")?;
     push_number_word(out, summary.facts)?;
