@@ -199,7 +199,7 @@ fn run_taped<
 // Runs a script with a tape over folders, unless an area was found that is formatted.
 fn run_if_fresh<
     F: Read + Write + Seek + FileExt + OpenFile + Drop + Send + Lockable,
-    R: Files<File = F> + AllocGlobal + Threads + Wait + Sync,
+    R: Files<File = F> + AllocGlobal + Threads + Wait + Clock + Sync,
     O: Sink,
     E: Write,
 >(rt: &R, dir: &str, survey: Survey<F>, script: &Script, path: &str, out: &mut O, err: &mut E) -> u8
