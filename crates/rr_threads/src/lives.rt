@@ -37,17 +37,17 @@ pub fn open_part<D: Disk + Drop>(
     }
 }
 
-/// Opens a node again of what is left of it. None: there is no such node. The errors are those of `recover`.
+/// Opens a node again of what is left of it. None: the run is over. The errors are those of `recover`.
 fn open_again<D: Disk + Drop>(
     alloc: Global,
     nodes: Nodes,
     node: NodeId,
-    disk: D,
-    mail: Mail,
+    disk: Option<D>,
+    mail: Option<Mail>,
 ) -> Result<Option<Part<D>>, Refusal>
     requires alike { (one other : D) → D.tells one → D.tells other }
 {
-    let Some(node) = NodeId::new(nodes, node.index()) else {
+    let (Some(node), Some(disk), Some(mail)) = (NodeId::new(nodes, node.index()), disk, mail) else {
         return Ok(None);
     };
     let part = open_part(alloc, nodes, node, disk, mail)?;
@@ -77,14 +77,10 @@ fn live<
     for _ in rt.forever() {
         let Remains {
             disk,
-            mail,
+            mut mail,
             clients: left,
         } = run_part(rt, alloc, shared, moves, part, clients)?;
         shared.note(node, false);
-        let (Some(disk), Some(mut mail)) = (disk, mail) else {
-            leave(rt, shared, left.len());
-            return Ok(());
-        };
         match shared.next_life(rt, node, &mut mail) {
             Some(next) => moves = next,
             None => {

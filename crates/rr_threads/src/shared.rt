@@ -39,13 +39,15 @@ impl<'x, T> Shared<'x, T> {
 
     /// Waits until a node that is down is to come up, and answers at which move of its switch. None: it isn't any more. Meanwhile
     /// its inbox is emptied again and again, so that what is kept is late.
-    pub fn next_life<R: Wait>(&self, rt: &R, node: NodeId, mail: &mut Mail) -> Option<u64> {
+    pub fn next_life<R: Wait>(&self, rt: &R, node: NodeId, mail: &mut Option<Mail>) -> Option<u64> {
         let switches = self.switches?;
         for _ in rt.forever() {
             if self.running.is_over() || switches.is_closed() {
                 break;
             }
-            keep_all(rt, mail);
+            if let Some(mail) = mail {
+                keep_all(rt, mail);
+            }
             match switches.moves_if_on(node) {
                 Some(moves) => return Some(moves),
                 None => switches.rest(rt, node),
