@@ -368,7 +368,11 @@ pub fn push_nothing_object(out: &mut Vec<u8>) -> Result<(), AllocError>
 ///
 /// # Errors
 /// Bytes of the line may then stand at the end.
-pub fn push_used_object(alloc: Global, out: &mut Vec<u8>, command: &Command) -> Result<(), AllocError>
+pub fn push_used_object(
+    alloc: Global,
+    out: &mut Vec<u8>,
+    command: &Command,
+) -> Result<(), AllocError>
     ensures ok { OnOk result (out.new.items ≡ out.old.items ++ text_object (codes "error") (flat_map escaped_byte (used_text command.now))) }
 {
     let mut text = Vec::new(alloc);

@@ -48,7 +48,12 @@ fn say_full(out: &mut Vec<u8>, json: bool) -> Result<(), AllocError>
 }
 
 // Appends that a request number was already used for this command.
-fn say_used(alloc: Global, out: &mut Vec<u8>, json: bool, command: &Command) -> Result<(), AllocError>
+fn say_used(
+    alloc: Global,
+    out: &mut Vec<u8>,
+    json: bool,
+    command: &Command,
+) -> Result<(), AllocError>
     ensures ok { OnOk result (out.new.items ≡ out.old.items ++ used_said json command.now) }
 {
     if json {

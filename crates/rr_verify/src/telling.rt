@@ -47,7 +47,12 @@ fn command_text(alloc: Global, command: &Command) -> Result<Vec<u8>, AllocError>
 }
 
 // What a folder holds.
-fn push_folder(out: &mut Vec<u8>, form: Form, place: usize, folder: &Folder) -> Result<(), AllocError>
+fn push_folder(
+    out: &mut Vec<u8>,
+    form: Form,
+    place: usize,
+    folder: &Folder,
+) -> Result<(), AllocError>
     ensures ok { OnOk result (out.new.items ≡ out.old.items ++ folder_fields form place folder.now) }
 {
     let decided = decided_count(folder.promise.entries()) as u64;

@@ -228,11 +228,14 @@ fn words_of<'a>(
 ) -> Result<Vec<&'a str>, AllocError>
     ensures { IfOk result (λ v. map (λ s. s.now) v.items ≡ unwrap_or (all_of id.now (rows_of (found_of matches.now))) []) }
 {
-    let mut words = Vec::new(alloc);
-    if let Some(given) = matches.get_strs(id) {
-        words.extend_from_slice(given)?;
+    match matches.get_strs(id) {
+        None => Ok(Vec::new(alloc)),
+        Some(given) => {
+            let mut words = Vec::new(alloc);
+            words.extend_from_slice(given)?;
+            Ok(words)
+        }
     }
-    Ok(words)
 }
 
 // What `rr shell` is asked for.

@@ -8,7 +8,7 @@ pub returns-in-Some-clause-task : goal.returns-in-Some-clause-task
 returns-in-Some-clause-task g c =
     let words = map g.S.AsStr.text c.args.words.now in
     let m = c.in_ok-matches.matches in
-    c.in_ok-task_by.ensures
+    c.in_ok-task_by-in-Some.ensures
     ∙ asks_by words m c.in-Some.name.now (rows_of (found_of c.in-Some.below.now)) (found_by (app_of c.in_ok-command_line.field-0) words m c.in_ok-command_line.ensures c.in_ok-matches.ensures.matches)
     c.in-Some.ensures.name c.in-Some.ensures.rows
 
