@@ -1,4 +1,5 @@
-//! An area of full groups: each instance is entered, proposed, adopted and decided.
+//! Areas of full groups: each instance is entered, proposed, adopted and decided; or decisions that a node heard in
+//! descending order.
 
 use rr_frame::{Snapshot, encode_group, encode_snapshot, put_u8, put_u32};
 use rr_types::{
@@ -41,12 +42,24 @@ fn fact(number: u64) -> Result<Fact, Refusal> {
     }
 }
 
-/// The group of 64 facts whose first has this number, as bytes.
-fn group(alloc: Global, serial: u64) -> Result<Vec<u8>, Refusal> {
+/// The fact with this number of so many, of decisions heard in descending order.
+fn heard(number: u64, count: u64) -> Result<Fact, Refusal> {
+    let at = count.saturating_sub(number).saturating_sub(1);
+    let instance = Instance::new((at % 4_294_967_296) as u32).ok_or(Refusal::ListFull)?;
+    Ok(Fact::Decide(instance, command(at)?))
+}
+
+/// The group of 64 facts whose first has this number, as bytes. `descending` is how many decisions there are, where these
+/// are heard in descending order.
+fn group(alloc: Global, serial: u64, descending: Option<u64>) -> Result<Vec<u8>, Refusal> {
     made_of!(Command, Op);
     let mut facts = Vec::with_capacity(alloc, GROUP)?;
-    for number in 0..GROUP {
-        facts.push(fact(serial.wrapping_add(number as u64))?)?;
+    for place in 0..GROUP {
+        let number = serial.wrapping_add(place as u64);
+        facts.push(match descending {
+            Some(count) => heard(number, count)?,
+            None => fact(number)?,
+        })?;
     }
     match Group::new(serial, facts) {
         Ok(group) => encode_group(alloc, &group),
@@ -83,7 +96,22 @@ pub fn filled(alloc: Global, size: u64) -> Result<Vec<u8>, Refusal> {
         if area.len() as u64 >= size {
             break;
         }
-        put_frame(&mut area, &group(alloc, number * 64)?)?;
+        put_frame(&mut area, &group(alloc, number * 64, None)?)?;
+    }
+    put_u8(&mut area, 0)?;
+    Ok(area)
+}
+
+/// An area with so many full groups of decisions, heard in descending order.
+pub fn descending(alloc: Global, groups: u32) -> Result<Vec<u8>, Refusal> {
+    let count = u64::from(groups) * 64;
+    let mut area = Vec::new(alloc);
+    put_frame(&mut area, &snapshot(alloc)?)?;
+    for number in 0..groups {
+        put_frame(
+            &mut area,
+            &group(alloc, u64::from(number) * 64, Some(count))?,
+        )?;
     }
     put_u8(&mut area, 0)?;
     Ok(area)

@@ -1,13 +1,14 @@
 //! How long it takes to open what nodes wrote. For each word that is a number, `bench_opening WORD..` makes an area of
-//! groups in memory, that many kilobytes large, and opens it. For any other word it opens the disk of the files `a0`
-//! and `a1` in the folder of that name, as node 0 of 1.
+//! groups in memory, that many kilobytes large, and opens it. For a word such as `down:100` it does so with that many full
+//! groups of decisions, heard in descending order. For any other word it opens the disk of the files `a0` and `a1` in the
+//! folder of that name, as node 0 of 1.
 //!
 //! Standard output says what was opened, standard error how many microseconds each opening took.
 #![tactic(auto)]
 
 mod area;
 
-use crate::area::filled;
+use crate::area::{descending, filled};
 use anyhow::Result;
 use rr_disk::{Area, Disk, FileDisk};
 use rr_image::{Image, read_image};
@@ -42,11 +43,10 @@ fn opened(alloc: Global, area: &[u8]) -> Result<Found, Refusal> {
     }
 }
 
-/// Makes an area of `kilobytes` kilobytes in memory, and opens it.
-fn open_memory(rt: &HostRuntime, kilobytes: u64) -> Result<()> {
-    let area = filled(rt.alloc(), kilobytes.saturating_mul(1024))?;
+/// Opens an area in memory.
+fn open_memory(rt: &HostRuntime, area: &[u8]) -> Result<()> {
     let start = Instant::now(rt)?;
-    let Found { facts, instances } = opened(rt.alloc(), &area)?;
+    let Found { facts, instances } = opened(rt.alloc(), area)?;
     let taken = start.elapsed(rt)?.as_micros();
     println!(rt;
         "{} bytes, {facts} facts, {instances} instances",
@@ -91,11 +91,24 @@ fn open_folder(rt: &HostRuntime, folder: &str) -> Result<()> {
     Ok(())
 }
 
+/// How many groups of decisions in descending order a word asks for.
+fn groups_of(word: &str) -> Option<u32> {
+    let (order, groups) = word.split_once(':')?;
+    if order == "down" {
+        groups.parse::<u32>().ok()
+    } else {
+        None
+    }
+}
+
 fn main(rt: HostRuntime) -> Result<()> {
     for word in env::args(&rt)?.skip(1) {
-        match word.parse::<u64>() {
-            Ok(kilobytes) => open_memory(&rt, kilobytes)?,
-            Err(_) => open_folder(&rt, word.as_str())?,
+        if let Ok(kilobytes) = word.parse::<u64>() {
+            open_memory(&rt, &filled(rt.alloc(), kilobytes.saturating_mul(1024))?)?;
+        } else if let Some(groups) = groups_of(word.as_str()) {
+            open_memory(&rt, &descending(rt.alloc(), groups)?)?;
+        } else {
+            open_folder(&rt, word.as_str())?;
         }
     }
     Ok(())
