@@ -43,6 +43,23 @@ fn text_of(alloc: Global, list: bool, decided: &[Command]) -> Result<Vec<u8>, Al
     }
 }
 
+// The refusal of the first folder, where no folder holds facts and the first is refused.
+fn first_refusal(readings: &[Reading]) -> Option<&Refusal>
+    ensures { IfSome result (λ refusal. AllByRecursion HoldsNothing readings.now) }
+{
+    for reading in readings {
+        match reading {
+            Reading::Facts(_) => return None,
+            Reading::Blank => (),
+            Reading::Refused(_) => (),
+        }
+    }
+    match readings.first() {
+        Some(Reading::Refused(refusal)) => Some(refusal),
+        _ => None,
+    }
+}
+
 // The export of the longest list that folders have decided.
 fn export_text(alloc: Global, list: bool, readings: &[Reading]) -> Result<Vec<u8>, AllocError>
     ensures text { IfOk result (λ v. IsExportOf list (longest_decided readings.now) v.items) }
