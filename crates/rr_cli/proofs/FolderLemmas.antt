@@ -6,7 +6,7 @@ use Rattle.rr_words.specs.declared.tasks.Form.{Form}
 use Rattle.rr_verify.specs.declared.verdict.Verdict.{Verdict}
 use Rattle.rr_verify.specs.Agreement.{Agree, HaveOneList, clashes_from}
 use Rattle.rr_verify.specs.Texts.{verdict_text}
-use Rattle.rr_cli.specs.Ends.{Prints, EndsOnVerification, agreed, disagreed}
+use Rattle.rr_cli.specs.Ends.{Prints, EndsOnVerification, verified, differing}
 use Rattle.std.specs.List.{AllByRecursion}
 use Rattle.rr_verify.specs.declared.folder.Reading.{Reading}
 use Rattle.rr_cli.specs.Clusters.{IsRead, AreRead, form_in, unlike}
@@ -39,14 +39,14 @@ agree_is b rs both no agree = false≢true (sym no ∙ both.1 agree)
 pub agreed_ends : (form : Form) (rs : List Reading) (v : Verdict) (text : List ℕ) (status : ℕ) (old new : Printing) → AreRead rs → (v.agree ≡ true → Agree rs) × (Agree rs → v.agree ≡ true) → (v.agree ≡ true → HaveOneList rs)
     → v.clashes.items ≡ clashes_from 0 rs → text ≡ verdict_text (form_in form) rs v.clashes.items v.agree → v.agree ≡ true → Prints text status old new → EndsOnVerification form status old new
 agreed_ends form rs v text status old new read both one exact is said prints =
-    agreed rs read (both.0 said) (one said)
+    verified rs read (both.0 said) (one said)
     (subst (λ t. Prints t status old new) (is ∙ ap₂ (λ cs b. verdict_text (form_in form) rs cs b) exact said) prints)
 
 -- or that they don't
 pub disagreed_ends : (form : Form) (rs : List Reading) (v : Verdict) (text : List ℕ) (printing status : ℕ) (old new : Printing) → AreRead rs → (v.agree ≡ true → Agree rs) × (Agree rs → v.agree ≡ true)
     → v.clashes.items ≡ clashes_from 0 rs → text ≡ verdict_text (form_in form) rs v.clashes.items v.agree → v.agree ≡ false → Prints text printing old new → status ≡ unlike printing → EndsOnVerification form status old new
 disagreed_ends form rs v text printing status old new read both exact is said prints ends =
-    disagreed rs printing read (agree_is v.agree rs both said)
+    differing rs printing read (agree_is v.agree rs both said)
     (subst (λ t. Prints t printing old new) (is ∙ ap₂ (λ cs b. verdict_text (form_in form) rs cs b) exact said) prints) ends
 
 pub unlike_some : (printing : ℕ) → unlike printing ≡ 0 → ⊥

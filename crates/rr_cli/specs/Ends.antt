@@ -179,10 +179,10 @@ pub data EndsOnCut (On : (List ℕ → ℕ → Printing → Printing → Type 0)
 -- what was read of folders is printed: they agree, and then what they have decided are beginnings of one list; or they don't;
 -- or memory was wanting, and standard output is as it was
 pub data EndsOnVerification (form : Form) (status : ℕ) (old new : Printing) : Type 0 where
-  agreed : (readings : List Reading) → AreRead readings → Agree readings → HaveOneList readings
+  verified : (readings : List Reading) → AreRead readings → Agree readings → HaveOneList readings
       → Prints (verdict_text (form_in form) readings (clashes_from 0 readings) true) status old new
       → EndsOnVerification form status old new
-  disagreed : (readings : List Reading) (printing : ℕ) → AreRead readings → (Agree readings → ⊥)
+  differing : (readings : List Reading) (printing : ℕ) → AreRead readings → (Agree readings → ⊥)
       → Prints (verdict_text (form_in form) readings (clashes_from 0 readings) false) printing old new
       → status ≡ unlike printing → EndsOnVerification form status old new
   unverified : status ≡ 6 → new ≡ old → EndsOnVerification form status old new
@@ -195,7 +195,7 @@ pub data EndsOnExport (list : Bool) (status : ℕ) (old new : Printing) : Type 0
       → EndsOnExport list status old new
   clashing : (readings : List Reading) → AreRead readings → (AllAlike readings → ⊥) → status ≡ 4 → new ≡ old
       → EndsOnExport list status old new
-  empty : (readings : List Reading) (refusal : Refusal) → AreRead readings → AllByRecursion HoldsNothing readings
+  unheld_by_all : (readings : List Reading) (refusal : Refusal) → AreRead readings → AllByRecursion HoldsNothing readings
       → status ≡ status_of refusal → new ≡ old
       → EndsOnExport list status old new
   unexported : status ≡ 6 → new ≡ old → EndsOnExport list status old new
