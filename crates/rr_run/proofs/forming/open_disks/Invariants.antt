@@ -3,4 +3,4 @@ use Rattle.rr_run.proofs.forming.open_disks.Given as goal
 
 -- each node so far has its disk
 abbrev pub invariant-loop-index : goal.invariant-loop-index
-invariant-loop-index g l = (length l.disks.items ≡ l.index-counter) × (l.index-counter ≤ l.index-end)
+invariant-loop-index g l = (length l.disks.items ≡ l.index) × (l.index ≤ l.index-end)
