@@ -170,15 +170,16 @@ pub fn talk<I: Prompting, O: Sink, A: Asked>(
     'turns: for _ in 0..u64::MAX {
         match take_turn(alloc, json, nodes, node, asked, input, out)? {
             None => return Ok(None),
-            Some(
-                Turn {
+            Some(turn) => {
+                let Turn {
                     node: next,
                     trouble,
-                },
-            ) => match ending_trouble(strict, trouble) {
-                Some(trouble) => return Ok(Some(trouble)),
-                None => node = next,
-            },
+                } = turn;
+                match ending_trouble(strict, trouble) {
+                    Some(trouble) => return Ok(Some(trouble)),
+                    None => node = next,
+                }
+            }
         }
     }
     Err(Stop::Refused(Refusal::TooLarge))
