@@ -43,7 +43,10 @@ fn who_types_sees_what_was_left_out(rt: HostRuntime) {
         &mut err,
     );
     assert_eq!(rt; status, 0);
-    assert!(rt; seen.as_slice().starts_with(b"rr: --nodes 3 --dir rr_shell_defaults; "));
+    assert!(rt;
+        seen.as_slice()
+            .starts_with(b"rr: --nodes 3 --dir rr_shell_defaults; ")
+    );
     assert!(rt; seen.as_slice().ends_with(b"\n> > \n"));
     assert!(rt; err.is_empty());
     fs::remove_dir_all(&rt, "rr_shell_defaults").expect(&rt, "the folder goes");
@@ -64,7 +67,8 @@ fn who_types_sees_that_a_command_may_be_asked_again(rt: HostRuntime) {
         &mut err,
     );
     let told = b"stopped 1\nunacknowledged\nstarted 1\nclaimed\n";
-    let hint = b"> > it may count or not; \"again\" asks once more under its request number, so that it counts once\n> > > \n";
+    let hint =
+        b"> > it may count or not; \"again\" asks once more under its request number, so that it counts once\n> > > \n";
     assert_eq!(rt; status, 0);
     assert!(rt; out.into_inner().as_slice() == told.as_slice());
     assert!(rt; seen.as_slice() == hint.as_slice());
