@@ -1,6 +1,6 @@
-//! What a publisher takes over from what is marked.
+//! A node's window: it shows what the node's core has decided and marked.
 
-ghost use Rattle.std.specs.Prelude.{◌≡◌, OnOk, OnErr, IfErr};
+ghost use Rattle.std.specs.Prelude.{◌≡◌, [], IfOk, OnOk, OnErr, IfErr};
 ghost use mathlib.Core.List.{IsPrefix};
 ghost use Rattle.rr_model.specs.NodeState.{decided_prefix};
 ghost use Rattle.rr_types.specs.declared.refusal.Refusal.TheVariants.{OutOfMemory};
@@ -8,11 +8,75 @@ ghost use Rattle.rr_locked.specs.Listed.{listed};
 
 use rr_core::Core;
 use rr_types::{Op, Refusal, made_of};
-use rr_window::{Publisher, WindowName};
+use rr_window::{NewList, Publisher, Seats, WindowName, open};
+use std::alloc::Global;
+use std::marker::Model;
+use std::sync::Wait;
 
-/// Appends the commands of the marked prefix that aren't appended yet. Where what is published and appended is a
-/// beginning of that prefix, it is then all of it. After an error, which is `OutOfMemory`, it is a beginning still.
-pub fn follow<W: WindowName>(core: &Core, publisher: &mut Publisher<W>) -> Result<(), Refusal>
+/// The publisher of a node's window. Only `follow` appends to it, and that takes its commands from a core: so nobody can show what no
+/// core has decided. It can't be dropped: close it.
+pub struct Follower<W: WindowName> {
+    publisher: Publisher<W>,
+}
+
+impl<W: WindowName> Model for Follower<W> {
+    ghost use Rattle.rr_window.specs.Windows.{Publishing};
+
+    ghost Value = { Publishing };
+
+    ghost view = { λ f. f.publisher };
+}
+
+impl<W: WindowName> Follower<W> {
+    /// Opens a window on an empty list, as `rr_window::open`: its follower, and its readers' places. It is `OutOfMemory`.
+    pub fn open(alloc: Global, list: NewList) -> Result<(Follower<W>, Seats<W>), Refusal>
+        requires { list ≡ W.book }
+        ensures ok { IfOk result (λ ends. ends.0 ≡ record { published = []; appended = [] }) }
+        ensures err { IfErr result (λ e. e ≡ OutOfMemory) }
+    {
+        let (publisher, seats) = open::<W>(alloc, list)?.split();
+        Ok((Follower { publisher }, seats))
+    }
+
+    /// Appends the commands of the marked prefix that aren't appended yet. Where what is published and appended is a
+    /// beginning of that prefix, it is then all of it. After an error, which is `OutOfMemory`, it is a beginning still.
+    pub fn follow(&mut self, core: &Core) -> Result<(), Refusal>
+        ensures all { IsPrefix (listed self.old) (decided_prefix core.now) → OnOk result (listed self.new ≡ decided_prefix core.now) }
+        ensures some { IsPrefix (listed self.old) (decided_prefix core.now) → OnErr result (IsPrefix (listed self.new) (decided_prefix core.now)) }
+        ensures kept { IsPrefix (listed self.old) (listed self.new) }
+        ensures published { self.new.published ≡ self.old.published }
+        ensures err { IfErr result (λ e. e ≡ OutOfMemory) }
+    {
+        follow(core, &mut self.publisher)
+    }
+
+    /// Shows readers all that was appended. It waits for those that still read an older list. After an error, which is
+    /// `OutOfMemory`, what is published and what was appended are as they were.
+    pub fn publish<R: Wait>(&mut self, rt: &R) -> Result<(), Refusal>
+        ensures ok { OnOk result (self.new ≡ record { published = listed self.old; appended = [] }) }
+        ensures kept { OnErr result (self.new ≡ self.old) }
+        ensures err { IfErr result (λ e. e ≡ OutOfMemory) }
+    {
+        drop(self.publisher.publish(rt)?);
+        Ok(())
+    }
+
+    /// The publisher, to be asked for replies and receipts.
+    pub fn publisher(&self) -> &Publisher<W>
+        ensures { result.now ≡ self.now }
+    {
+        &self.publisher
+    }
+
+    /// Ends the window: no later look gets a guard. It waits for those that are reading.
+    pub fn close<R: Wait>(self, rt: &R) {
+        let Follower { publisher } = self;
+        publisher.close(rt);
+    }
+}
+
+// As `Follower::follow`.
+fn follow<W: WindowName>(core: &Core, publisher: &mut Publisher<W>) -> Result<(), Refusal>
     ensures all { IsPrefix (listed publisher.old) (decided_prefix core.now) → OnOk result (listed publisher.new ≡ decided_prefix core.now) }
     ensures some { IsPrefix (listed publisher.old) (decided_prefix core.now) → OnErr result (IsPrefix (listed publisher.new) (decided_prefix core.now)) }
     ensures kept { IsPrefix (listed publisher.old) (listed publisher.new) }

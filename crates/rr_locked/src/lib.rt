@@ -1,6 +1,6 @@
 //! What a node's threads share, and what each does in a turn; `rr_threads` has the loops. `Locked` is a core under its lock:
 //! clients and the node's loop call `step`, and the loop `mark`, `take_group` and `next_message`. `carry` flushes a group,
-//! and `follow` takes what is decided to a publisher. The calls named `.._on` also note their event on the tape (`Recording`).
+//! and a `Follower` shows what is decided. The calls named `.._on` also note their event on the tape (`Recording`).
 #![tactic(auto)]
 
 mod among;
@@ -17,7 +17,7 @@ mod turnstile;
 
 pub use ending::{Ending, Failure};
 pub use flusher::{Unflushed, carry, flush};
-pub use following::follow;
+pub use following::Follower;
 pub use locked::Locked;
 pub use recorded::{ack_on, hear_on, input_on, mark_on, send_on, take_on};
 pub use recording::Recording;

@@ -13,9 +13,9 @@ use rr_core::Core;
 use rr_disk::Disk;
 use rr_inbox::{Giver, Taker, hand_over};
 use rr_journal::{Journal, Synced};
-use rr_locked::{Locked, Turnstile, Unflushed};
+use rr_locked::{Follower, Locked, Turnstile, Unflushed};
 use rr_types::{Group, NodeId, Refusal};
-use rr_window::{NewList, Publisher, Seat, Seats, WindowName, open};
+use rr_window::{NewList, Seat, Seats, WindowName};
 use std::alloc::Global;
 use std::marker::Brand;
 use std::sync::Wait;
@@ -68,9 +68,9 @@ fn open_hand_overs(alloc: Global) -> Result<HandOvers, Refusal> {
     }
 }
 
-/// The ends of a node's window: its publisher, each client with its seat, and the seats that are left.
+/// The ends of a node's window: its follower, each client with its seat, and the seats that are left.
 struct Ends<W: WindowName, C> {
-    publisher: Publisher<W>,
+    follower: Follower<W>,
     seated: Vec<(Seat<W>, C)>,
     seats: Seats<W>,
 }
@@ -98,16 +98,15 @@ fn open_ends<W: WindowName, C: Drop, R: Wait>(
 ) -> Result<Ends<W, C>, Refusal>
     requires { list ≡ W.book }
 {
-    let window = open::<W>(alloc, list)?;
-    let (publisher, seats) = window.split();
+    let (follower, seats) = Follower::<W>::open(alloc, list)?;
     match seat_all(alloc, &seats, clients) {
         Ok(seated) => Ok(Ends {
-            publisher,
+            follower,
             seated,
             seats,
         }),
         Err(refusal) => {
-            publisher.close(rt);
+            follower.close(rt);
             Err(refusal)
         }
     }
@@ -326,7 +325,7 @@ fn run_threads<
     desk: &'s Desk<W>,
     flusher: Flusher<D>,
     runner: Runner,
-    publisher: &mut Publisher<W>,
+    follower: &mut Follower<W>,
     seated: Vec<(Seat<W>, C)>,
 ) -> Result<Remains<D, C>, Refusal> {
     thread::scope(
@@ -343,7 +342,7 @@ fn run_threads<
             if !threading.is_whole() {
                 shared.running.fail(rt, desk.node, Refusal::OutOfMemory);
             }
-            publish_all(rt, alloc, shared, desk, publisher);
+            publish_all(rt, alloc, shared, desk, follower);
             desk.ring_all();
             threading.join(rt, alloc)
         },
@@ -373,12 +372,12 @@ fn run_crew<
         runner,
     } = crew;
     let Ends {
-        mut publisher,
+        mut follower,
         seated,
         seats: _seats,
     } = ends;
     let desk: Desk<W> = Desk::new(node, moves, Locked::new(core), counters);
-    match publish_first(rt, &desk, &mut publisher) {
+    match publish_first(rt, &desk, &mut follower) {
         Ok(()) => shared.note(node, true),
         Err(refusal) => shared.running.fail(rt, node, refusal),
     }
@@ -389,10 +388,10 @@ fn run_crew<
         &desk,
         flusher,
         runner,
-        &mut publisher,
+        &mut follower,
         seated,
     );
-    publisher.close(rt);
+    follower.close(rt);
     remains
 }
 

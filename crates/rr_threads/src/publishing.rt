@@ -4,9 +4,9 @@ use crate::desk::Desk;
 use crate::recorder::Recorder;
 use crate::rest::Rest;
 use crate::shared::Shared;
-use rr_locked::{ack_on, follow};
+use rr_locked::{Follower, ack_on};
 use rr_types::{Refusal, Reply, RequestNo};
-use rr_window::{Publisher, WindowName};
+use rr_window::WindowName;
 use std::alloc::Global;
 use std::collections::VecDeque;
 use std::sync::Wait;
@@ -16,10 +16,10 @@ fn follow_node<W: WindowName, R: Wait>(
     rt: &R,
     desk: &Desk<W>,
     recorder: Option<&Recorder>,
-    publisher: &mut Publisher<W>,
+    follower: &mut Follower<W>,
 ) -> Result<Option<(RequestNo, Reply)>, Refusal> {
     let mut locked = desk.locked.lock(rt);
-    follow(locked.core(), publisher)?;
+    follower.follow(locked.core())?;
     match recorder {
         None => Ok(locked.acknowledge()),
         Some(recorder) => ack_on(&mut locked, &mut recorder.recording().lock(rt)),
@@ -30,11 +30,10 @@ fn follow_node<W: WindowName, R: Wait>(
 pub fn publish_first<W: WindowName, R: Wait>(
     rt: &R,
     desk: &Desk<W>,
-    publisher: &mut Publisher<W>,
+    follower: &mut Follower<W>,
 ) -> Result<(), Refusal> {
-    follow(desk.locked.lock(rt).core(), publisher)?;
-    drop(publisher.publish(rt)?);
-    Ok(())
+    follower.follow(desk.locked.lock(rt).core())?;
+    follower.publish(rt)
 }
 
 /// The clients that wait for the oldest request that was acknowledged get receipts, once its reply is published. Answers
@@ -42,13 +41,14 @@ pub fn publish_first<W: WindowName, R: Wait>(
 fn tell_next<W: WindowName, R: Wait>(
     rt: &R,
     desk: &Desk<W>,
-    publisher: &Publisher<W>,
+    follower: &Follower<W>,
     acknowledged: &mut VecDeque<RequestNo>,
 ) -> bool {
     let Some(request) = acknowledged.front() else {
         return false;
     };
     let request = *request;
+    let publisher = follower.publisher();
     let Some(reply) = publisher.reply(request) else {
         return false;
     };
@@ -62,18 +62,18 @@ fn publish_next<W: WindowName, R: Wait>(
     rt: &R,
     desk: &Desk<W>,
     recorder: Option<&Recorder>,
-    publisher: &mut Publisher<W>,
+    follower: &mut Follower<W>,
     acknowledged: &mut VecDeque<RequestNo>,
 ) -> Result<bool, Refusal> {
-    let before = publisher.count();
-    if let Some((request, _)) = follow_node(rt, desk, recorder, publisher)? {
+    let before = follower.publisher().count();
+    if let Some((request, _)) = follow_node(rt, desk, recorder, follower)? {
         acknowledged.push_back(request)?;
     }
-    let has_more = before < publisher.count();
+    let has_more = before < follower.publisher().count();
     if has_more {
-        drop(publisher.publish(rt)?);
+        follower.publish(rt)?;
     }
-    let has_told = tell_next(rt, desk, publisher, acknowledged);
+    let has_told = tell_next(rt, desk, follower, acknowledged);
     Ok(has_more || has_told)
 }
 
@@ -83,7 +83,7 @@ pub fn publish_all<W: WindowName, T, R: Wait>(
     alloc: Global,
     shared: &Shared<'_, T>,
     desk: &Desk<W>,
-    publisher: &mut Publisher<W>,
+    follower: &mut Follower<W>,
 ) {
     let mut acknowledged = VecDeque::new(alloc);
     let mut rest = Rest::rung();
@@ -91,7 +91,7 @@ pub fn publish_all<W: WindowName, T, R: Wait>(
         if desk.is_ending(shared) {
             break;
         }
-        match publish_next(rt, desk, shared.recorder, publisher, &mut acknowledged) {
+        match publish_next(rt, desk, shared.recorder, follower, &mut acknowledged) {
             Ok(true) => rest.end(),
             Ok(false) => {
                 rest.wait(rt, &desk.publisher);

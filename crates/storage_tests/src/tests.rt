@@ -1,3 +1,4 @@
+mod failed_openings;
 mod flush;
 mod frame_sweeps;
 mod frames;
