@@ -6,8 +6,8 @@ use Rattle.rr_text.specs.declared.event.Event.{Event}
 use Rattle.rr_text.specs.Lines.{nodes_line}
 use Rattle.rr_text.specs.Scheduled.{node_of}
 use Rattle.rr_text.specs.ScheduleTexts.{event_line}
-use Rattle.rr_sim.specs.Clusters.{Cluster}
-use Rattle.rr_sim.specs.Told.{TellsAll, IsReportOn}
+use Rattle.rr_sim.specs.Clusters.{Cluster, new_cluster}
+use Rattle.rr_sim.specs.Told.{Row, AreTold, TellsAll, IsReportOn}
 use Rattle.rr_draw.specs.declared.cut.Cut.{Cut}
 
 -- how SVG spells a byte of a text
@@ -18,11 +18,6 @@ escaped b =
     else (if b == 62 then codes "&gt;"
     else (if b == 34 then codes "&quot;"
     else b ∷ [])))
-
--- an event of a run, with the lines that the report has of it
-pub record Row : Type 0 where
-  pub event : Event
-  pub told : List ℕ
 
 -- whether the event of a line lies within the lines and the node of a cut
 abbrev pub shows : Cut → ℕ → Event → Bool
@@ -66,17 +61,19 @@ pub record Adds (cut : Cut) (at : ℕ) (row : Row) (before after : List ℕ) : T
   pub grew : after ≡ before ++ mine
   pub is_drawn : IsDrawn cut at row mine
 
--- the bytes are the lines of events among n nodes, which lead a cluster to another; a report has grown by what they tell,
--- and the elements are what a picture has of them
+-- the bytes are the lines of events among n nodes, which lead a cluster to another; a report has grown by what each of them
+-- tells, and the elements are what a picture has of them
 pub record ShowsAll (n : ℕ) (bytes : List ℕ) (cut : Cut) (old new : Cluster) (before after elements : List ℕ) : Type 0 where
   pub rows : List Row
   pub tells : TellsAll n bytes old new before after
   pub read : bytes ≡ flat_map line_of rows
   pub told : after ≡ before ++ flat_map told_of rows
+  pub at_the_end : Cluster
+  pub are_told : AreTold 2 rows old at_the_end
   pub are_drawn : AreDrawn cut 2 rows elements
 
 -- the text is a picture of the run of the schedule whose text the bytes are: it has what it draws of each of its events, in
--- their order, beside the lines of the report that the run tells of them
+-- their order, beside the lines of the report that the step at this event adds
 pub record IsPictureOf (cut : Cut) (bytes text : List ℕ) : Type 0 where
   pub nodes : ℕ
   pub rows : List Row
@@ -84,7 +81,9 @@ pub record IsPictureOf (cut : Cut) (bytes text : List ℕ) : Type 0 where
   pub front : List ℕ
   pub middle : List ℕ
   pub back : List ℕ
+  pub at_the_end : Cluster
   pub read : bytes ≡ nodes_line nodes ++ flat_map line_of rows
   pub told : IsReportOn bytes (flat_map told_of rows ++ decided)
+  pub are_told : AreTold 2 rows (new_cluster nodes) at_the_end
   pub are_drawn : AreDrawn cut 2 rows middle
   pub whole : text ≡ front ++ middle ++ back

@@ -19,14 +19,15 @@ use Rattle.rr_text.specs.declared.report.ReportLine.TheVariants as line
 use Rattle.rr_sim.specs.Clusters.{Cluster, note_of, with_answer, at_node, hear_at, crash_at, event_step, Steps, Leads}
 use Rattle.rr_sim.proofs.TellingLaws.{only}
 
--- what the event of this line adds to the report: a refusal among it is all of it, and of this line
+-- what the event of this line adds to the report, one line at most: a refusal among it is all of it, and of this line
 pub record Notes (at : ℕ) (old new : Cluster) : Type 0 where
   pub notes : List ReportLine
   pub lines : new.lines ≡ old.lines ++ notes
+  pub few : length notes ≤ 1
   pub own : (k : ℕ) (r : Refusal) → Contains notes (line.Refuse k r) → (k ≡ at) × (notes ≡ line.Refuse at r ∷ [])
 
 none : (at : ℕ) (c : Cluster) → Notes at c c
-none at c = record { notes = []; lines = sym (append-nil c.lines); own = λ k r held. absurd (omega (arith, held.1)) }
+none at c = record { notes = []; lines = sym (append-nil c.lines); few = omega arith; own = λ k r held. absurd (omega (arith, held.1)) }
 
 -- another line is no refusal
 other : (x : ReportLine) (at k : ℕ) (r : Refusal) → ((x ≡ line.Refuse k r) → ⊥) → Contains (x ∷ []) (line.Refuse k r) → (k ≡ at) × (x ∷ [] ≡ line.Refuse at r ∷ [])
@@ -43,8 +44,15 @@ own_notes p at sent (Err x) k r held =
     let g : x ≡ r = cc in
     (sym f, ap (λ (y : Refusal). line.Refuse at y ∷ []) g)
 
+few_notes : (p at sent : ℕ) (answer : Result Outcome Refusal) → length (note_of p at sent answer) ≤ 1
+few_notes p at sent (Ok Quiet) = omega arith
+few_notes p at sent (Ok (Left m)) = omega arith
+few_notes p at sent (Ok (Replied q reply)) = omega arith
+few_notes p at sent (Ok (Opened facts decided bindings)) = omega arith
+few_notes p at sent (Err x) = omega arith
+
 answered : (p at : ℕ) (c : Cluster) (answer : Answer) → Notes at c (with_answer p at c answer)
-answered p at c answer = record { notes = note_of p at (length c.wire) answer.0; lines = refl; own = own_notes p at (length c.wire) answer.0 }
+answered p at c answer = record { notes = note_of p at (length c.wire) answer.0; lines = refl; few = few_notes p at (length c.wire) answer.0; own = own_notes p at (length c.wire) answer.0 }
 
 by_seat : (p at : ℕ) (c : Cluster) (answer : Seat → Answer) (o : Option Seat) → Notes at c (option_map_or (λ seat. with_answer p at c (answer seat)) o c)
 by_seat p at c answer None = none at c
@@ -69,7 +77,7 @@ crash_notes p at a b fill c = by (slice_get c.seats p)
   where
     by : (o : Option Seat) → Notes at c (option_map_or (λ seat. record c { seats = slice_set c.seats p (crashed a b fill seat) }) o c)
     by None = none at c
-    by (Some seat) = record { notes = []; lines = sym (append-nil c.lines); own = λ k r held. absurd (omega (arith, held.1)) }
+    by (Some seat) = record { notes = []; lines = sym (append-nil c.lines); few = omega arith; own = λ k r held. absurd (omega (arith, held.1)) }
 
 event_notes : (at : ℕ) (starved : Bool) (e : Event) (c : Cluster) → Notes at c (event_step at starved e c)
 event_notes at starved (Submit p v) c = node_notes p at starved (node.Told (input.Submit v)) c

@@ -9,13 +9,26 @@ use Rattle.rr_text.specs.Reported.{Reported}
 use Rattle.rr_text.specs.Scheduled.{Scheduled, IsSchedule, IsEvent}
 use Rattle.rr_text.specs.ScheduleTexts.{schedule_text, event_line}
 use Rattle.rr_text.specs.ReportTexts.{report_words, report_text, line}
-use Rattle.rr_sim.specs.Clusters.{Cluster, LeadsSpelt, IsOnlyOneIfClean}
+use Rattle.rr_sim.specs.Clusters.{Cluster, Steps, LeadsSpelt, IsOnlyOneIfClean}
 use Rattle.rr_sim.specs.Headline.{IsRunOfTheWorld, AgreesWithOneList, KeepsRealTime}
 use Rattle.rr_sim.specs.Random.{AreDrawn, opened, IsRandom}
 
 -- the lines of a report as text
 abbrev pub told : List ReportLine → List ℕ
 told lines = flat_map (λ l. line (report_words l)) lines
+
+-- an event of a run, with the text of the lines that the report has of it
+pub record Row : Type 0 where
+  pub event : Event
+  pub told : List ℕ
+
+-- the events of rows, of which the first stands on this line, lead from one cluster to another; each row has the lines that
+-- the step at its event adds, and no others
+abbrev pub AreTold : ℕ → List Row → Cluster → Cluster → Type 0
+AreTold at [] old new = new ≡ old
+AreTold at (row ∷ rows) old new =
+    (next : Cluster) × (added : List ReportLine) × Steps at row.event old next × (next.lines ≡ old.lines ++ added) × (row.told ≡ told added)
+    × AreTold (at + 1) rows next new
 
 -- the bytes are the lines of events among n nodes; these lead a cluster that has no lines to another, of which the text
 -- has grown by the lines, and which keeps none

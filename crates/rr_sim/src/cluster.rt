@@ -218,6 +218,14 @@ impl Cluster {
         Ok(())
     }
 
+    /// The lines of the report so far that it keeps.
+    pub fn lines(&self) -> &[ReportLine]
+        ensures { result.now ≡ self.now.lines }
+    {
+        let lines = &self.lines;
+        lines
+    }
+
     /// Keeps the lines of the report so far no longer.
     pub fn forget_lines(&mut self)
         ensures { self.new ≡ record self.old { lines = [] } }

@@ -1,0 +1,131 @@
+#!/usr/bin/env python3
+"""Reads what rr prints as JSON with Python's reader, and compares it with what rr prints as text.
+
+    hostile/json_lines.py --rr RR
+
+For each schedule of examples and of worked_rows, for one with each kind of event and for some lively ones: each line of `rr sim --json` has
+to be the object that the line of the report makes here; each line of `rr sim --explain --json` that object with the event of a line of
+the schedule, or the event alone; `rr stats --json` one object, whose counts are those of the schedule and the report."""
+import argparse
+import collections
+import json
+import pathlib
+import subprocess
+import sys
+
+TREE = pathlib.Path(__file__).resolve().parent.parent
+LIVELY = [f"random --schedule-only --lively --faults {faults} --seed {seed} --steps 400 --nodes 3" for seed, faults in enumerate((0, 20, 200))]
+KINDS = "submit hear suspect tick advance take dev fail mark send ack snap crash restart".split()
+SAYINGS = "estimate proposal ack decision request nack beat suspects ask".split()
+
+
+def command_of(request, operation, name, *value):
+    """A command by its words in a report."""
+    client, number = request.split(".")
+    command = {"client": int(client), "request": int(number), "operation": operation, "name": name}
+    if operation == "transfer":
+        return command | {"owner": int(value[0])}
+    return command if operation == "release" else command | {"value": value[0] if value else ""}
+
+
+def message_of(kind, *words):
+    """What a message says, by its words in a report."""
+    names = {"estimate": ("instance", "round", "stamp"), "proposal": ("instance", "round"), "decision": ("instance",), "ack": ("instance", "round"), "nack": ("instance", "round"), "ask": ("instance",)}.get(kind, ())
+    told = {"kind": kind} | {name: int(word) for name, word in zip(names, words)}
+    if kind in ("estimate", "proposal", "decision", "request"):
+        told["command"] = command_of(*words[len(names) :])
+    if kind == "suspects":
+        told["nodes"] = [int(digit) for digit in words[0].strip("-")]
+    return told
+
+
+def binding_of(word):
+    """A bound name by its word in a report."""
+    name, rest = word.split("=", 1)
+    owner, value = rest.split(":", 1)
+    return {"name": name, "owner": int(owner), "value": value}
+
+
+def object_of(line):
+    """A line of a report as the object that it is in JSON."""
+    kind, *words = line.split(" ")
+    if kind == "send":
+        return {"kind": kind, "number": int(words[0]), "from": int(words[1]), "to": int(words[2]), "message": message_of(*words[3:])}
+    if kind == "ack":
+        client, number = words[1].split(".")
+        reply = {"kind": words[2]} | ({"owner": int(words[3])} if words[3:] else {})
+        return {"kind": kind, "node": int(words[0]), "client": int(client), "request": int(number), "reply": reply}
+    if kind == "restart":
+        return {"kind": kind, "node": int(words[0]), "facts": int(words[1]), "decided": int(words[2]), "names": [binding_of(word) for word in words[3:]]}
+    if kind == "refuse":
+        return {"kind": kind, "line": int(words[0]), "number": int(words[1]), "name": words[2]}
+    if kind == "decided":
+        return {"kind": kind, "commands": int(words[0])}
+    return {"kind": "command", "place": int(kind), "command": command_of(*words)}
+
+
+def read(text):
+    """The objects of a text, a line each. Members keep their order, and no member stands twice."""
+
+    def members(pairs):
+        assert len(dict(pairs)) == len(pairs), "a member stands twice"
+        return dict(pairs)
+
+    assert text.endswith("\n"), "the last line has no end"
+    return [json.loads(line, object_pairs_hook=members) for line in text[:-1].split("\n")]
+
+
+def explained(schedule, told, objects):
+    """Whether objects tell of each event of a schedule in turn, with these lines of its report, and then the decided list."""
+    told = list(told)
+    for place, event in enumerate(schedule, 2):
+        it = objects.pop(0)
+        seen = it.pop("event")
+        assert seen["line"] == place and seen["text"] == event and set(seen) <= {"line", "text", "note"}, seen
+        if it["kind"] not in ("done", "idle"):
+            assert it == told.pop(0), it
+        else:
+            assert list(it) == ["kind"], it
+    assert objects == told, "what is left isn't the decided list"
+
+
+def counted(schedule, lines, statistics):
+    """Whether statistics have the counts of a schedule and its report."""
+    events = collections.Counter(event.split(" ")[0] for event in schedule)
+    sent = collections.Counter(line.split(" ")[4] for line in lines if line.startswith("send "))
+    refused = collections.Counter(line.split(" ")[3] for line in lines if line.startswith("refuse "))
+    assert [(row["kind"], row["events"]) for row in statistics["events"]] == [(kind, events[kind]) for kind in KINDS]
+    assert [(row["kind"], row["sent"]) for row in statistics["messages"]] == [(kind, sent[kind]) for kind in SAYINGS]
+    assert {row["name"]: row["refusals"] for row in statistics["refusals"]} == refused
+    assert [f"decided {statistics['decided']}"] == [line for line in lines if line.startswith("decided ")]
+
+
+def main():
+    parser = argparse.ArgumentParser()
+    parser.add_argument("--rr", required=True)
+    rr = parser.parse_args().rr
+
+    def run(*words, text=None):
+        return subprocess.run([rr, *words], input=text, capture_output=True, text=True, check=True).stdout
+
+    def is_schedule(text):
+        return subprocess.run([rr, "sim"], input=text, capture_output=True, text=True).returncode == 0
+
+    paths = [*sorted(TREE.glob("examples/*.schedule")), *sorted(TREE.glob("crates/worked_rows/data/*.schedule")), TREE / "hostile/each_kind.schedule"]
+    schedules = [text for text in (path.read_text() for path in paths) if is_schedule(text)] + [run(*words.split()) for words in LIVELY]
+    lines_read = 0
+    for schedule in schedules:
+        events = schedule[:-1].split("\n")[1:]
+        report = run("sim", text=schedule)[:-1].split("\n")
+        told = [object_of(line) for line in report]
+        objects = read(run("sim", "--json", text=schedule))
+        assert objects == told and [list(it) for it in objects] == [list(it) for it in told], "the report differs"
+        explained(events, told, read(run("sim", "--explain", "--json", text=schedule)))
+        (statistics,) = read(run("stats", "--json", text=schedule))
+        counted(events, report, statistics)
+        lines_read += 2 * len(told) + len(events) + 1
+    print(f"hostile/json_lines.py: {len(schedules)} schedules, {lines_read} lines of JSON, all as the texts are")
+
+
+if __name__ == "__main__":
+    sys.exit(main())
