@@ -18,8 +18,8 @@ use std::os::unix::fs::FileExt;
 use std::rt::Files;
 use std::sync::Wait;
 use std::thread::Threads;
-use std::{env, fs, io};
 use std::time::Clock;
+use std::{env, fs, io};
 
 /// Whether a row gives what it wants; what came otherwise is printed.
 fn is_right<

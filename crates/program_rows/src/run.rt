@@ -10,8 +10,8 @@ use std::os::unix::fs::FileExt;
 use std::rt::Files;
 use std::sync::Wait;
 use std::thread::Threads;
-use std::{fs, io};
 use std::time::Clock;
+use std::{fs, io};
 
 /// The library whose call is made.
 #[derive(Clone, Copy, Debug)]
