@@ -32,7 +32,7 @@ use Rattle.rr_cli.specs.Randoms.{IsNumberIn, IsNumberOf, AreNumbers, IsDrawnText
 use Rattle.rr_cli.specs.Cuts.{IsCutBy}
 use Rattle.rr_words.specs.Tasks.{CutWords, RandomWords, ShellWords, View, Task, Simulate, Viewing, Show, Random, Audit, Run, Shell, Sweep, Draw, Migrate, Verify, Export}
 use Rattle.rr_words.specs.declared.tasks.Form.{Form}
-use Rattle.rr_verify.specs.declared.folder.Reading.{Reading}
+use Rattle.rr_verify.specs.declared.folder.Reading as folder
 use Rattle.rr_verify.specs.Agreement.{Agree, AllAlike, HaveOneList, clashes_from, longest_decided}
 use Rattle.rr_verify.specs.Texts.{verdict_text}
 use Rattle.rr_cli.specs.Clusters.{AreRead, HoldsNothing, IsExportOf, form_in, unlike}
@@ -179,10 +179,10 @@ pub data EndsOnCut (On : (List ℕ → ℕ → Printing → Printing → Type 0)
 -- what was read of folders is printed: they agree, and then what they have decided are beginnings of one list; or they don't;
 -- or memory was wanting, and standard output is as it was
 pub data EndsOnVerification (form : Form) (status : ℕ) (old new : Printing) : Type 0 where
-  verified : (readings : List Reading) → AreRead readings → Agree readings → HaveOneList readings
+  verified : (readings : List folder.Reading) → AreRead readings → Agree readings → HaveOneList readings
       → Prints (verdict_text (form_in form) readings (clashes_from 0 readings) true) status old new
       → EndsOnVerification form status old new
-  differing : (readings : List Reading) (printing : ℕ) → AreRead readings → (Agree readings → ⊥)
+  differing : (readings : List folder.Reading) (printing : ℕ) → AreRead readings → (Agree readings → ⊥)
       → Prints (verdict_text (form_in form) readings (clashes_from 0 readings) false) printing old new
       → status ≡ unlike printing → EndsOnVerification form status old new
   unverified : status ≡ 6 → new ≡ old → EndsOnVerification form status old new
@@ -190,12 +190,12 @@ pub data EndsOnVerification (form : Form) (status : ℕ) (old new : Printing) : 
 -- the export of folders: no two decide an instance differently, and that of the longest decided list is printed; or two do; or
 -- none holds facts and one is refused; or memory was wanting. Unless it is printed, standard output is as it was
 pub data EndsOnExport (list : Bool) (status : ℕ) (old new : Printing) : Type 0 where
-  exported : (readings : List Reading) (text : List ℕ) → AreRead readings → AllAlike readings
+  exported : (readings : List folder.Reading) (text : List ℕ) → AreRead readings → AllAlike readings
       → IsExportOf list (longest_decided readings) text → Prints text status old new
       → EndsOnExport list status old new
-  clashing : (readings : List Reading) → AreRead readings → (AllAlike readings → ⊥) → status ≡ 4 → new ≡ old
+  clashing : (readings : List folder.Reading) → AreRead readings → (AllAlike readings → ⊥) → status ≡ 4 → new ≡ old
       → EndsOnExport list status old new
-  unheld_by_all : (readings : List Reading) (refusal : Refusal) → AreRead readings → AllByRecursion HoldsNothing readings
+  unheld_by_all : (readings : List folder.Reading) (refusal : Refusal) → AreRead readings → AllByRecursion HoldsNothing readings
       → status ≡ status_of refusal → new ≡ old
       → EndsOnExport list status old new
   unexported : status ≡ 6 → new ≡ old → EndsOnExport list status old new
