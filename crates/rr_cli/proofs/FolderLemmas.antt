@@ -33,7 +33,7 @@ taken n rs least some all = record { some = some_taken n rs least some; each = a
 -- ---- verification
 
 agree_is : (b : Bool) (rs : List Reading) → (b ≡ true → Agree rs) × (Agree rs → b ≡ true) → b ≡ false → Agree rs → ⊥
-agree_is b rs both no agree = false≢true (sym no ∙ both.1 agree)
+agree_is b rs both differs agree = false≢true (sym differs ∙ both.1 agree)
 
 -- what was printed says that they agree
 pub agreed_ends : (form : Form) (rs : List Reading) (v : Verdict) (text : List ℕ) (status : ℕ) (old new : Printing) → AreRead rs → (v.agree ≡ true → Agree rs) × (Agree rs → v.agree ≡ true) → (v.agree ≡ true → HaveOneList rs)

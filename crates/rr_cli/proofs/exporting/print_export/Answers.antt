@@ -1,5 +1,4 @@
-use Rattle.std.proofs.Common.{◌∙◌, ap, refl, subst}
-use Rattle.rr_cli.specs.Refusals.{status_of}
+use Rattle.std.proofs.Common.{refl, subst}
 use Rattle.rr_cli.specs.Ends.{Prints, exported, unexported}
 use Rattle.rr_cli.proofs.exporting.print_export.Goals as goal
 
@@ -9,4 +8,4 @@ returns-in-Ok-clause-ends g c =
     (subst (λ text. Prints text c.end_by_text.result (g.O.Sink.printing c.args.out.now) (g.O.Sink.printing c.end_by_text.new.out)) c.as_slice.ensures.value c.end_by_text.ensures.ends)
 
 pub returns-in-Err-clause-ends : goal.returns-in-Err-clause-ends
-returns-in-Err-clause-ends g c = unexported (c.end_by_refusal.ensures ∙ ap status_of c.in-Err.ensures.err) refl
+returns-in-Err-clause-ends g c = unexported c.end_by_refusal.ensures refl

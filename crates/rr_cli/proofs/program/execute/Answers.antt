@@ -2,7 +2,7 @@ use Rattle.std.proofs.Common.{◌≡◌, ◌∙◌, ℕ, List, Option, option_ma
 use Rattle.clap.specs.Words.{Text, kind_of}
 use Rattle.rr_words.specs.declared.tasks.Task.TheVariants as read
 use Rattle.rr_words.specs.Tasks.{Simulate, Viewing, Show, Random, Audit, Run, Shell, Sweep, Draw, Migrate, cut_words_in, random_words_in, shell_words_in, view_in, task_of, task_in, Verify, Export}
-use Rattle.rr_cli.specs.Ends.{opened, unopened, mistaken, by_help, by_version, out_of_memory, by_standard_input, by_file, by_folder, by_numbers, by_migration, by_tape_in_standard_input, by_tape_in_a_file, by_sweep_of_standard_input, by_sweep_of_a_file, by_picture_of_standard_input, by_picture_of_a_file, without_seed, without_views, without_threads, without_shell, by_verification, by_export}
+use Rattle.rr_cli.specs.Ends.{mistaken, by_help, by_version, out_of_memory, by_standard_input, by_file, by_folder, by_numbers, by_migration, by_tape_in_standard_input, by_tape_in_a_file, by_sweep_of_standard_input, by_sweep_of_a_file, by_picture_of_standard_input, by_picture_of_a_file, without_seed, without_views, without_threads, without_shell, by_verification, by_export}
 use Rattle.rr_cli.proofs.EndLemmas.{kind_cases}
 use Rattle.rr_cli.proofs.program.execute.Goals as goal
 
@@ -36,8 +36,8 @@ returns-in-Ok-Audit-Some-clause-ends g c =
     let task : task_of (map g.S.AsStr.text c.args.words.now) ≡ Audit (Some w.path.now) = sym w.ensures.task ∙ ap task_in w.field-0-is ∙ ap (λ file. task_in (read.Audit file)) w.field-0-0-is in
     by_tape_in_a_file w.path.now w.ensures.faults task c.audit_file.ensures.ends
 
-pub returns-in-Err-clause-ends : goal.returns-in-Err-clause-ends
-returns-in-Err-clause-ends g c =
+pub returns-clause-ends : goal.returns-clause-ends
+returns-clause-ends g c =
     elim (c.in-Err.ensures.faults) [
       | inl memory ↦ let end = c.end_by_words.ensures.memory memory in out_of_memory end.0 end.1
       | inr among ↦ elim (kind_cases (kind_of c.in-Err.error)) [

@@ -17,8 +17,8 @@ returns-in-Ok-View-clause-ends g c =
     let task : task_of (map g.S.AsStr.text c.args.words.now) ≡ Viewing (view_in w.view) = sym w.ensures.task ∙ ap task_in w.field-0-is in
     by_view (view_in w.view) w.ensures.faults task c.show_view.ensures.ends
 
-pub returns-in-Err-clause-ends : goal.returns-in-Err-clause-ends
-returns-in-Err-clause-ends g c =
+pub returns-clause-ends : goal.returns-clause-ends
+returns-clause-ends g c =
     elim (c.in-Err.ensures.faults) [
       | inl memory ↦ let end = c.end_by_words.ensures.memory memory in out_of_memory end.0 end.1
       | inr among ↦ elim (kind_cases (kind_of c.in-Err.error)) [
