@@ -1,0 +1,14 @@
+use Rattle.std.proofs.Common.{option_map, subst}
+use Rattle.rr_cli.specs.Ends.{read}
+use Rattle.rr_cli.proofs.ReadLemmas.{unread_status, unread_ends}
+use Rattle.rr_run.specs.Runs.{EndsOnScript}
+use Rattle.rr_run.proofs.script_run.run_input.Goals as goal
+
+pub returns-in-Err-clause-ends : goal.returns-in-Err-clause-ends
+returns-in-Err-clause-ends g c =
+    unread_ends _ (g.I.Source.reading c.args.input.now) (g.I.Source.reading c.read_all.new.input) c.end_by_stream.result _ (unread_status _ (g.I.Source.reading c.args.input.now) (g.I.Source.reading c.read_all.new.input) c.end_by_stream.result c.in-Err.ensures.cause c.end_by_stream.ensures.memory c.end_by_stream.ensures.status)
+
+pub returns-in-Ok-clause-ends : goal.returns-in-Ok-clause-ends
+returns-in-Ok-clause-ends g c =
+    read c.in-Ok.bytes.items c.in-Ok.ensures.all
+    (subst (λ bytes. EndsOnScript c.args.nodes (option_map (λ s. s.now) c.args.tape) bytes c.run_bytes.result (g.O.Sink.printing c.args.out.now) (g.O.Sink.printing c.run_bytes.new.out)) c.as_slice.ensures.value c.run_bytes.ensures.ends)
