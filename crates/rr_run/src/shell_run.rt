@@ -136,8 +136,9 @@ impl<'x, R: Files + AllocGlobal + Wait> Console<'x, R> {
 
     // Gives no number that the facts of a node name as this client's.
     fn pass_numbers(&mut self) -> Result<(), Refusal> {
-        for index in 0..self.nodes.count() {
-            let Some(node) = NodeId::new(self.nodes, index) else {
+        let nodes = self.nodes;
+        for index in 0..nodes.count() {
+            let Some(node) = NodeId::new(nodes, index) else {
                 unreachable!()
             };
             let client = self.client;
