@@ -1,12 +1,12 @@
 -- How a shell ends behind a talk.
-use Rattle.std.proofs.Common.{◌≡◌, ◌⊎◌, ◌<◌, ℕ, Bool, List, [], ◌∷◌, length, map, Bor, Option, Result, Ok, Err, inl, inr, refl, arith}
+use Rattle.std.proofs.Common.{◌≡◌, ◌⊎◌, ◌<◌, ℕ, Bool, List, [], ◌∷◌, length, map, Bor, Option, Some, Result, Ok, Err, inl, inr, refl, arith, ap₂, subst}
 use Rattle.clap.specs.Words.{Text}
 use Rattle.rr_types.specs.declared.refusal.Refusal.TheVariants.{Device, OutOfMemory}
 use Rattle.rr_stream.specs.Streams.{Printing, Reading}
 use Rattle.rr_shell.specs.declared.troubles.Trouble.{Trouble}
 use Rattle.rr_talk.specs.declared.talking.Stop.{Stop}
 use Rattle.rr_talk.specs.Talks.{Talks}
-use Rattle.rr_run.specs.Shells.{IsRefusedBy, EndsOnTalk, EndsOnShell, EndsOnLines, EndsOnEither, talked, failed, broken_off}
+use Rattle.rr_run.specs.Shells.{IsRefusedBy, EndsOnTalk, EndsOnShell, EndsOnLines, EndsOnEither, lines_text, spoken, talked, failed, broken_off}
 
 pub ends_so : (json strict : Bool) (n : ℕ) (from to : Reading) (old new : Printing) (said : Result (Option Trouble) Stop) (status : ℕ) → Talks json strict n from to old new said → EndsOnTalk said status → EndsOnShell json strict n from to status old new
 ends_so json strict n from to old new (Ok trouble) status talks (inl well) = talked trouble talks well
@@ -26,3 +26,8 @@ by_input json strict n (line ∷ lines) from to status old new none ends = absur
 pub by_lines : (json strict : Bool) (n : ℕ) (lines : List (Bor Text)) (from : Reading) (status : ℕ) (old new : Printing) → 0 < length lines → EndsOnLines json strict n (map (λ s. s.now) lines) status old new → EndsOnEither json strict n (map (λ s. s.now) lines) from from status old new
 by_lines json strict n [] from status old new some ends = absurd (omega (arith, some))
 by_lines json strict n (line ∷ lines) from status old new some ends = (refl, ends)
+
+-- the lines are spoken from a text that has them, and no call of it has failed
+pub spoken_so : (json strict : Bool) (n : ℕ) (lines : List Text) (text : List ℕ) (faults : ℕ) (to : Reading) (status : ℕ) (old new : Printing) → faults ≡ 0 → text ≡ lines_text lines → EndsOnShell json strict n (record { remaining = Some text; faults = faults }) to status old new → EndsOnLines json strict n lines status old new
+spoken_so json strict n lines text faults to status old new none is ends =
+    spoken to (subst (λ (r : Reading). EndsOnShell json strict n r to status old new) (ap₂ (λ (t : List ℕ) (f : ℕ). record { remaining = Some t; faults = f }) is none) ends)
