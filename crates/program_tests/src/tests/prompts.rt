@@ -40,6 +40,7 @@ fn who_types_sees_what_was_left_out(rt: HostRuntime) {
     let status = execute(
         &rt,
         &words,
+        &mut HostFiles::new(&rt),
         &mut Prompted::new(typed, Some(&mut seen)),
         &mut out,
         &mut err,
@@ -64,6 +65,7 @@ fn who_types_sees_that_a_command_may_be_asked_again(rt: HostRuntime) {
     let status = execute(
         &rt,
         &words,
+        &mut HostFiles::new(&rt),
         &mut Prompted::new(typed, Some(&mut seen)),
         &mut out,
         &mut err,

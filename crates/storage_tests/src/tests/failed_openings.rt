@@ -2,7 +2,7 @@
 
 ghost use Rattle.std.specs.Prelude.{◌<◌};
 
-use super::journal::more;
+use super::journal::after;
 use rr_disk::{Area, FailingDisk, MemDisk};
 use rr_journal::{Journal, Opening};
 use rr_types::{NodeId, Nodes};
@@ -23,10 +23,7 @@ fn crashed(
 ) -> FailingDisk<MemDisk> {
     let nodes = Nodes::new(1).expect(rt, "nodes");
     let node = NodeId::new(nodes, 0).expect(rt, "a node");
-    let mut opening = Opening::start(nodes, node, disk);
-    for _ in 0..before {
-        opening = more(rt, alloc, opening);
-    }
+    let opening = after(rt, alloc, Opening::start(nodes, node, disk), before);
     let mut fill = Vec::new(alloc);
     fill.push(byte).expect(rt, "memory");
     let mut disk = opening.fail(alloc, fill);

@@ -267,7 +267,7 @@ fn migrates(rt: &impl Abort, alloc: Global, second: &[u8], before: usize) {
 }
 
 /// The opening after `calls` more device calls, none of which is its last.
-fn after<D: Disk + Drop>(
+pub fn after<D: Disk + Drop>(
     rt: &impl Abort,
     alloc: Global,
     opening: Opening<D>,
