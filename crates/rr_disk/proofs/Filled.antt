@@ -1,12 +1,11 @@
 -- What a crash leaves of cells, one after another.
-use Rattle.std.proofs.Common.{◌≡◌, ℕ, zero, suc, ◌+◌, ◌-◌, ◌%◌, All, ◌<◌, ◌≤◌, Bool, true, false, List, [], ◌∷◌, ◌++◌, map, length, get_or, set, take, drop, refl, sym, ◌∙◌, ap, arith, if◌then◌else◌}
-use Rattle.std.proofs.lemmas.List.{append_assoc, take_more, length-map, length-take-le, map-append, set_at, drop_more, get_or_at}
+use Rattle.std.proofs.Common.{◌≡◌, ℕ, zero, suc, ◌+◌, ◌%◌, All, ◌<◌, ◌≤◌, Bool, true, false, List, [], ◌∷◌, ◌++◌, length, get_or, set, take, drop, refl, sym, ◌∙◌, ap, arith, if◌then◌else◌}
+use Rattle.std.proofs.lemmas.List.{append_assoc, take_more, take-append-drop, length-take, length-drop, length-take-le, set_at, drop_more, get_or_at}
 use Rattle.std.proofs.lemmas.List.Elements.{All-nil, All-cons, All-head, All-tail, All-get_or}
 use Rattle.rr_disk.specs.declared.cell.Cell.{Cell}
-use Rattle.rr_disk.specs.Areas.{firm_cell}
 use Rattle.rr_disk.specs.Crash.{Agrees, filled, left_of, loose_count}
-use Rattle.rr_disk.specs.Strips.{AllFirm}
-use Rattle.rr_disk.proofs.Rows.{three_parts}
+use Rattle.rr_disk.specs.Strips.{cells_from}
+use Rattle.rr_disk.proofs.Strips.{length-cells, get_or-cells, take-cells, drop-cells}
 
 pub loose_count-append : (xs ys : List Cell) → loose_count (xs ++ ys) ≡ loose_count xs + loose_count ys
 loose_count-append [] ys = omega arith
@@ -65,74 +64,74 @@ count_more xs i d lt =
     go true = refl
     go false = refl
 
-pub fill_more : (fill : List ℕ) (skip count : ℕ) (xs ys : List Cell) (i : ℕ) (d : Cell) → i < length xs → count ≡ loose_count (take i xs)
-    → ys ≡ map firm_cell (left_of fill skip (take i xs)) ++ drop i xs
-    → set ys i (firm_cell (left_byte fill (skip + count) (get_or ys i d))) ≡ map firm_cell (left_of fill skip (take (i + 1) xs)) ++ drop (i + 1) xs
-fill_more fill skip count xs ys i d lt counts is =
-    let front = map firm_cell (left_of fill skip (take i xs)) in
-    let x = get_or xs i d in
-    let long : length front ≡ i = length-map (left_of fill skip (take i xs)) firm_cell ∙ length-left_of fill skip (take i xs) ∙ length-take-le i xs (omega arith) in
-    let split : ys ≡ front ++ x ∷ drop (i + 1) xs = is ∙ ap (λ zs. front ++ zs) (drop_more xs i d lt) in
-    let here : get_or ys i d ≡ x = ap (λ (zs : List Cell). get_or zs i d) split ∙ get_or_at front x (drop (i + 1) xs) d i long in
-    let byte = left_byte fill (skip + loose_count (take i xs)) x in
-    let value : left_byte fill (skip + count) (get_or ys i d) ≡ byte = ap (λ n. left_byte fill (skip + n) (get_or ys i d)) counts ∙ ap (left_byte fill (skip + loose_count (take i xs))) here in
-    ap (λ b. set ys i (firm_cell b)) value
-    ∙ ap (λ (zs : List Cell). set zs i (firm_cell byte)) split
-    ∙ set_at front x (drop (i + 1) xs) (firm_cell byte) i long
-    ∙ sym (append_assoc front (firm_cell byte ∷ []) (drop (i + 1) xs))
-    ∙ ap (λ zs. zs ++ drop (i + 1) xs) (sym (ap (map firm_cell) (left_more fill skip xs i d lt) ∙ map-append firm_cell (left_of fill skip (take i xs)) (byte ∷ [])))
+-- one more byte filled in place, or left
+pub fill_more : (f : ℕ → Bool) (fill : List ℕ) (skip count : ℕ) (bs ys : List ℕ) (i : ℕ) → i < length bs → count ≡ loose_count (take i (cells_from f 0 bs))
+    → ys ≡ left_of fill skip (take i (cells_from f 0 bs)) ++ drop i bs
+    → set ys i (if f i then filled fill (skip + count) (get_or ys i 0) else get_or ys i 0) ≡ left_of fill skip (take (i + 1) (cells_from f 0 bs)) ++ drop (i + 1) bs
+fill_more f fill skip count bs ys i lt counts is =
+    let none : Cell = record { byte = 0; loose = false } in
+    let cells = cells_from f 0 bs in
+    let front = left_of fill skip (take i cells) in
+    let x = get_or bs i 0 in
+    let there : i < length cells = omega (arith, length-cells f 0 bs) in
+    let long : length front ≡ i = length-left_of fill skip (take i cells) ∙ length-take-le i cells (omega arith) in
+    let split : ys ≡ front ++ x ∷ drop (i + 1) bs = is ∙ ap (λ zs. front ++ zs) (drop_more bs i 0 lt) in
+    let here : get_or ys i 0 ≡ x = ap (λ (zs : List ℕ). get_or zs i 0) split ∙ get_or_at front x (drop (i + 1) bs) 0 i long in
+    let byte = left_byte fill (skip + loose_count (take i cells)) (get_or cells i none) in
+    let value : (if f i then filled fill (skip + count) (get_or ys i 0) else get_or ys i 0) ≡ byte =
+    ap (λ b. if f i then filled fill (skip + count) b else b) here
+    ∙ ap (λ n. if f i then filled fill (skip + n) x else x) counts
+    ∙ ap (λ (cell : Cell). left_byte fill (skip + loose_count (take i cells)) cell) (sym (get_or-cells f bs i none lt)) in
+    ap (set ys i) value
+    ∙ ap (λ (zs : List ℕ). set zs i byte) split
+    ∙ set_at front x (drop (i + 1) bs) byte i long
+    ∙ sym (append_assoc front (byte ∷ []) (drop (i + 1) bs))
+    ∙ ap (λ zs. zs ++ drop (i + 1) bs) (sym (left_more fill skip cells i none there))
 
-pub fill_count : (fill : List ℕ) (skip count more : ℕ) (xs ys : List Cell) (i : ℕ) (d : Cell) → i < length xs → count ≡ loose_count (take i xs)
-    → ys ≡ map firm_cell (left_of fill skip (take i xs)) ++ drop i xs → more ≡ (if (get_or ys i d).loose then 1 else 0)
-    → count + more ≡ loose_count (take (i + 1) xs)
-fill_count fill skip count more xs ys i d lt counts is one =
-    let front = map firm_cell (left_of fill skip (take i xs)) in
-    let x = get_or xs i d in
-    let long : length front ≡ i = length-map (left_of fill skip (take i xs)) firm_cell ∙ length-left_of fill skip (take i xs) ∙ length-take-le i xs (omega arith) in
-    let split : ys ≡ front ++ x ∷ drop (i + 1) xs = is ∙ ap (λ zs. front ++ zs) (drop_more xs i d lt) in
-    let here : get_or ys i d ≡ x = ap (λ (zs : List Cell). get_or zs i d) split ∙ get_or_at front x (drop (i + 1) xs) d i long in
-    let step : more ≡ (if x.loose then 1 else 0) = one ∙ ap (λ (cell : Cell). if cell.loose then 1 else 0) here in
-    ap (λ n. n + more) counts ∙ ap (λ n. loose_count (take i xs) + n) step ∙ sym (count_more xs i d lt)
+pub fill_count : (f : ℕ → Bool) (count more : ℕ) (bs : List ℕ) (i : ℕ) → i < length bs → count ≡ loose_count (take i (cells_from f 0 bs)) → more ≡ (if f i then 1 else 0)
+    → count + more ≡ loose_count (take (i + 1) (cells_from f 0 bs))
+fill_count f count more bs i lt counts one =
+    let none : Cell = record { byte = 0; loose = false } in
+    let cells = cells_from f 0 bs in
+    let there : i < length cells = omega (arith, length-cells f 0 bs) in
+    let step : more ≡ (if (get_or cells i none).loose then 1 else 0) = one ∙ ap (λ (cell : Cell). if cell.loose then 1 else 0) (sym (get_or-cells f bs i none lt)) in
+    ap (λ n. n + more) counts ∙ ap (λ n. loose_count (take i cells) + n) step ∙ sym (count_more cells i none there)
 
--- cells that aren't loose keep their bytes
-pub firm_left : (fill : List ℕ) (k : ℕ) (xs : List Cell) → AllFirm xs → (map firm_cell (left_of fill k xs) ≡ xs) × (loose_count xs ≡ 0)
-firm_left fill k [] firm = (refl, refl)
-firm_left fill k (x ∷ xs) firm =
-    let tail : AllFirm xs = ap (drop 1) firm in
-    let is : firm_cell x.byte ≡ x = ap (λ (zs : List Cell). get_or zs 0 x) firm in
-    go is (firm_left fill k xs tail) x.loose (ap (λ (cell : Cell). cell.loose) is)
-  where
-    go : firm_cell x.byte ≡ x → (map firm_cell (left_of fill k xs) ≡ xs) × (loose_count xs ≡ 0) → (b : Bool) → false ≡ b
-        → (map firm_cell (if b then filled fill k x.byte ∷ left_of fill (k + 1) xs else x.byte ∷ left_of fill k xs) ≡ x ∷ xs) × ((if b then loose_count xs + 1 else loose_count xs) ≡ 0)
-    go is rest true unlike = absurd (cc)
-    go is rest false unlike = (cc, rest.1)
+-- where nothing is loose the bytes stay
+pub firm_left : (f : ℕ → Bool) (fill : List ℕ) (skip k : ℕ) (bs : List ℕ) → ((j : ℕ) → k ≤ j → j < k + length bs → f j ≡ false) → (left_of fill skip (cells_from f k bs) ≡ bs) × (loose_count (cells_from f k bs) ≡ 0)
+firm_left f fill skip k [] firm = (refl, refl)
+firm_left f fill skip k (b ∷ bs) firm =
+    let rest = firm_left f fill skip (k + 1) bs (λ j from to. firm j (omega arith) (omega arith)) in
+    let here : f k ≡ false = firm k (omega arith) (omega arith) in (
+      ap (λ (x : Bool). if x then filled fill skip b ∷ left_of fill (skip + 1) (cells_from f (k + 1) bs) else b ∷ left_of fill skip (cells_from f (k + 1) bs)) here ∙ ap (λ zs. b ∷ zs) rest.0,
+      ap (λ (x : Bool). if x then loose_count (cells_from f (k + 1) bs) + 1 else loose_count (cells_from f (k + 1) bs)) here ∙ rest.1,
+    )
 
--- cells that were firm but for a part, after that part is filled
-pub filled_parts : (fill : List ℕ) (skip : ℕ) (xs : List Cell) (low high : ℕ) → low ≤ high → AllFirm (take low xs) → AllFirm (drop high xs)
-    → take low xs ++ (map firm_cell (left_of fill skip (take (high - low) (drop low xs))) ++ drop high xs) ≡ map firm_cell (left_of fill skip xs)
-filled_parts fill skip xs low high le before after =
-    let mid = take (high - low) (drop low xs) in
-    let front = firm_left fill skip (take low xs) before in
-    let k = skip + loose_count (take low xs) in
-    let k' = k + loose_count mid in
-    let back = firm_left fill k' (drop high xs) after in
-    sym (
-    ap (λ zs. map firm_cell (left_of fill skip zs)) (sym (three_parts xs low high le))
-    ∙ ap (map firm_cell) (left_of-append fill skip (take low xs) (mid ++ drop high xs))
-    ∙ map-append firm_cell (left_of fill skip (take low xs)) (left_of fill k (mid ++ drop high xs))
-    ∙ ap (λ zs. zs ++ map firm_cell (left_of fill k (mid ++ drop high xs))) front.0
-    ∙ ap (λ zs. take low xs ++ map firm_cell zs) (left_of-append fill k mid (drop high xs))
-    ∙ ap (λ zs. take low xs ++ zs) (map-append firm_cell (left_of fill k mid) (left_of fill k' (drop high xs)))
-    ∙ ap (λ zs. take low xs ++ (map firm_cell (left_of fill k mid) ++ zs)) back.0
-    ∙ ap (λ n. take low xs ++ (map firm_cell (left_of fill n mid) ++ drop high xs)) (omega (arith, front.1)))
+-- before the first that is loose
+pub fill_from : (f : ℕ → Bool) (fill : List ℕ) (skip i : ℕ) (bs : List ℕ) → ((j : ℕ) → j < i → f j ≡ false)
+    → (bs ≡ left_of fill skip (take i (cells_from f 0 bs)) ++ drop i bs) × (0 ≡ loose_count (take i (cells_from f 0 bs)))
+fill_from f fill skip i bs firm =
+    let front = firm_left f fill skip 0 (take i bs) (λ j from to. firm j (omega (arith, length-take i bs))) in (
+      sym (take-append-drop i bs) ∙ ap (λ zs. zs ++ drop i bs) (sym front.0 ∙ ap (left_of fill skip) (sym (take-cells f 0 i bs))),
+      sym (ap loose_count (take-cells f 0 i bs) ∙ front.1),
+    )
 
-pub count_parts : (xs : List Cell) (low high : ℕ) → low ≤ high → AllFirm (take low xs) → AllFirm (drop high xs) → loose_count (take (high - low) (drop low xs)) ≡ loose_count xs
-count_parts xs low high le before after =
-    let mid = take (high - low) (drop low xs) in
-    let front = firm_left [] 0 (take low xs) before in
-    let back = firm_left [] 0 (drop high xs) after in
-    let whole = ap loose_count (three_parts xs low high le) in
-    omega (arith, front.1, back.1, whole, loose_count-append (take low xs) (mid ++ drop high xs), loose_count-append mid (drop high xs))
+-- behind the last that is loose
+pub fill_to : (f : ℕ → Bool) (fill : List ℕ) (skip i : ℕ) (bs : List ℕ) → ((j : ℕ) → i ≤ j → j < length bs → f j ≡ false)
+    → (left_of fill skip (take i (cells_from f 0 bs)) ++ drop i bs ≡ left_of fill skip (cells_from f 0 bs)) × (loose_count (take i (cells_from f 0 bs)) ≡ loose_count (cells_from f 0 bs))
+fill_to f fill skip i bs firm =
+    let cells = cells_from f 0 bs in
+    let k = skip + loose_count (take i cells) in
+    let back = firm_left f fill k i (drop i bs) (λ j from to. firm j from (omega (arith, length-drop i bs))) in
+    let rest : drop i cells ≡ cells_from f i (drop i bs) = drop-cells f i bs in
+    let whole = take-append-drop i cells in (
+      sym (
+          ap (left_of fill skip) (sym whole)
+          ∙ left_of-append fill skip (take i cells) (drop i cells)
+          ∙ ap (λ zs. left_of fill skip (take i cells) ++ left_of fill k zs) rest
+          ∙ ap (λ zs. left_of fill skip (take i cells) ++ zs) back.0),
+      omega (arith, ap loose_count (sym whole), loose_count-append (take i cells) (drop i cells), ap loose_count rest, back.1),
+    )
 
 -- a byte of a fill is one
 pub filled_fits : (fill : List ℕ) (k own : ℕ) → All (λ b. b < 256) fill → own < 256 → filled fill k own < 256

@@ -4,7 +4,7 @@ pub mod Fresh
 pub mod Named
 pub mod OneByOne
 pub mod OverMemory
-pub mod Rows
+pub mod Ranges
 pub mod Standing
 pub mod Strips
 pub mod Syncs

@@ -1,9 +1,9 @@
 -- What failed writes leave.
-use Rattle.std.proofs.Common.{◌≡◌, ⊎_elim, ℕ, ◌+◌, ◌-◌, ◌<◌, ◌≤◌, max, true, List, ◌++◌, map, length, get_or, take, drop, refl, sym, ◌∙◌, ap, subst, arith}
+use Rattle.std.proofs.Common.{◌≡◌, ⊎_elim, ℕ, ◌+◌, ◌-◌, ◌<◌, ◌≤◌, max, true, List, [], ◌++◌, map, length, get_or, take, drop, refl, sym, ◌∙◌, ap, subst, arith}
 use Rattle.std.proofs.lemmas.List.{append-nil, drop_at, get_or_append_left, append_assoc, take-take, take_at, take_all, drop_all, length-map, length-take, length-take-le, length-drop, length-append, get_or-map, get_or-append_right}
 use Rattle.rr_disk.specs.declared.cell.Cell.{Cell}
 use Rattle.rr_disk.specs.Areas.{Extent, Torn, firm_cell, loose_cell, loosened, written}
-use Rattle.rr_disk.proofs.Strips.{le_or_le}
+use Rattle.rr_disk.proofs.Strips.{le_or_le, same_extent}
 
 -- cells of which those from an offset on were made loose
 pub torn_from : (at n safe : ℕ) (cells new : List Cell) → length cells < at + n → new ≡ take at cells ++ map (λ cell. loose_cell cell.byte) (drop at cells) → Torn at n (record { cells = cells; safe = safe }) (record { cells = new; safe = safe })
@@ -89,3 +89,15 @@ torn_written at bytes extent le = record {
         ∙ ap (λ (cell : Cell). cell.loose) (get_or-append_right (take at extent.cells) (mid ++ drop (at + length bytes) extent.cells) at k (firm_cell 0) starts from)
         ∙ ap (λ (cell : Cell). cell.loose) (get_or_append_left mid (drop (at + length bytes) extent.cells) (firm_cell 0) (k - at) (omega (arith, long)))
         ∙ ap (λ (cell : Cell). cell.loose) (get_or-map loose_cell bytes (k - at) 0 (firm_cell 0) (omega arith))
+
+-- a write that starts past the end
+pub loosened_past : (at n : ℕ) (extent : Extent) → length extent.cells ≤ at → extent ≡ loosened at n extent
+loosened_past at n extent le =
+    let cells = extent.cells in
+    let f : Cell → Cell = λ cell. loose_cell cell.byte in
+    sym (same_extent (take at cells ++ map f (take n (drop at cells)) ++ drop (at + n) cells) cells extent.safe extent.safe (
+    ap (λ zs. zs ++ map f (take n (drop at cells)) ++ drop (at + n) cells) (take_all at cells le)
+    ∙ ap (λ zs. cells ++ map f (take n (drop at cells)) ++ zs) (drop_all (at + n) cells (omega arith))
+    ∙ ap (λ zs. cells ++ map f zs ++ []) (ap (take n) (drop_all at cells le) ∙ take_all n [] (omega arith))
+    ∙ append-nil (cells ++ [])
+    ∙ append-nil cells) refl)

@@ -1,17 +1,31 @@
--- What an area in memory keeps of itself.
-use Rattle.std.specs.Prelude.{◌≡◌, ◌<◌, ◌≤◌, ℕ, List, map, length, take, drop, All}
+-- What an area in memory keeps of itself, and the cells that it stands for.
+use Rattle.std.specs.Prelude.{◌+◌, ◌*◌, ◌/◌, ◌%◌, ◌<◌, ◌≤◌, ℕ, Bool, ◌&&◌, ◌||◌, ◌==◌, not, nat_lt, nat_le, List, [], ◌∷◌, length, get_or, All}
+use Rattle.std.specs.Int.{bit_at}
 use Rattle.rr_disk.specs.declared.cell.Cell.{Cell}
-use Rattle.rr_disk.specs.Areas.{firm_cell}
+use Rattle.rr_disk.specs.declared.loose.Loose.{Loose}
 
--- these cells are loose nowhere
-abbrev pub AllFirm : List Cell → Type 0
-AllFirm cells = map (λ cell. firm_cell cell.byte) cells ≡ cells
+-- the bit with this number of a row of bytes
+abbrev pub bit_of : List ℕ → ℕ → Bool
+bit_of bits k = bit_at (get_or bits (k / 8) 0) (k % 8) == 1
 
--- what is loose lies from low on and below high, and the safe length is none that isn't there; each byte is one
-pub record IsStrip (cells : List Cell) (safe low high : ℕ) : Type 0 where
-  pub safe_there : safe ≤ length cells
-  pub in_order : low ≤ high
-  pub high_there : high ≤ length cells
-  pub firm_before : AllFirm (take low cells)
-  pub firm_after : AllFirm (drop high cells)
-  pub bytes_fit : All (λ cell. cell.byte < 256) cells
+-- whether the byte at a place is loose: it lies in the range and, where that has gaps, its bit is set
+abbrev pub is_loose : Loose → ℕ → Bool
+is_loose loose k = nat_le loose.low k && nat_lt k loose.high && (not loose.gaps || bit_of loose.bits.items k)
+
+-- there is a bit for each byte of the range
+pub record IsRanged (loose : Loose) : Type 0 where
+  pub in_order : loose.low ≤ loose.high
+  pub has_bits : loose.high ≤ 8 * length loose.bits.items
+
+-- the cells of these bytes, the first of which stands at place k
+abbrev pub cells_from : (ℕ → Bool) → ℕ → List ℕ → List Cell
+cells_from loose k [] = []
+cells_from loose k (b ∷ bytes) = record { byte = b; loose = loose k } ∷ cells_from loose (k + 1) bytes
+
+-- what is loose and what is safe is there, there is room for a bit of each byte, and each byte is one
+pub record IsStrip (bytes : List ℕ) (safe : ℕ) (loose : Loose) : Type 0 where
+  pub safe_there : safe ≤ length bytes
+  pub ranged : IsRanged loose
+  pub high_there : loose.high ≤ length bytes
+  pub room : length bytes ≤ 8 * length loose.bits.items
+  pub bytes_fit : All (λ b. b < 256) bytes

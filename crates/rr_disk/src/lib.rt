@@ -14,6 +14,7 @@ mod disk;
 mod failing;
 mod file;
 mod held;
+mod loose;
 mod memory;
 mod strip;
 

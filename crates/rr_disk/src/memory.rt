@@ -14,7 +14,7 @@ use std::marker::Model;
 
 /// A disk in memory, which tells its bytes. No call fails but a write that starts past the end or finds no
 /// memory to grow. Then what there is of its range is loose, and nothing else has changed. A call costs no
-/// more than the bytes that it reads, writes or settles.
+/// more than the bytes that it reads or writes; a write apart from others that no sync has settled costs the gap too.
 #[derive(Debug, Drop)]
 pub struct MemDisk {
     first: Strip,

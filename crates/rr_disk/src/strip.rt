@@ -1,13 +1,13 @@
-//! One area in memory: a strip of cells. What is loose lies within one range, so that a sync costs no more
-//! than the range that was written since the last one.
+//! One area in memory: its bytes, and which of them are loose.
 
-ghost use Rattle.std.specs.Prelude.{◌≡◌, ℕ, ◌+◌, ◌<◌, ◌≤◌, ◌⊎◌, ◌^◌, [], length, take, IfOk, IfErr, OnOk, OnErr};
+ghost use Rattle.std.specs.Prelude.{◌≡◌, ℕ, ◌+◌, ◌*◌, ◌<◌, ◌≤◌, ◌^◌, [], length, take, IfOk, IfErr, OnOk, OnErr, vec_len, vec_capacity};
 ghost use Rattle.rr_types.specs.declared.refusal.Refusal.TheVariants.{Device};
 ghost use Rattle.rr_disk.specs.Areas.{Torn, at_rest, bytes_of, read_of, written, loosened, settled};
 ghost use Rattle.rr_disk.specs.Crash.{MayLeave, clamped, left_of, loose_count};
+ghost use Rattle.rr_disk.specs.Strips.{IsRanged, is_loose};
 
-use crate::cell::Cell;
-use crate::cells::{behind, bytes_in, fill_within, front, loosen_from, settle_within, write_over};
+use crate::cells::{behind, fill_within, front, write_over};
+use crate::loose::Loose;
 use rr_types::Refusal;
 use std::alloc::{AllocError, Global};
 use std::marker::Model;
@@ -15,23 +15,20 @@ use std::marker::Model;
 /// An area in memory.
 #[derive(Debug, Drop)]
 pub struct Strip {
-    cells: Vec<Cell>,
+    bytes: Vec<u8>,
     safe: usize,
-    // what is loose lies from `low` on and below `high`
-    low: usize,
-    high: usize,
+    loose: Loose,
 }
 
 impl Model for Strip {
-    ghost use Rattle.std.specs.Prelude.{◌≤◌, length};
     ghost use Rattle.rr_disk.specs.Areas.{Extent};
-    ghost use Rattle.rr_disk.specs.Strips.{IsStrip};
+    ghost use Rattle.rr_disk.specs.Strips.{IsStrip, cells_from, is_loose};
 
     ghost Value = { Extent };
 
-    ghost view = { λ s. record { cells = s.cells.items; safe = s.safe } };
+    ghost view = { λ s. record { cells = cells_from (is_loose s.loose) 0 s.bytes.items; safe = s.safe } };
 
-    ghost invariant = { λ s. IsStrip s.cells.items s.safe s.low s.high };
+    ghost invariant = { λ s. IsStrip s.bytes.items s.safe s.loose };
 }
 
 impl Strip {
@@ -40,10 +37,9 @@ impl Strip {
         ensures { result ≡ at_rest [] }
     {
         Strip {
-            cells: Vec::new(alloc),
+            bytes: Vec::new(alloc),
             safe: 0,
-            low: 0,
-            high: 0,
+            loose: Loose::new(alloc),
         }
     }
 
@@ -52,10 +48,9 @@ impl Strip {
         ensures { IfOk result (λ copy. copy ≡ self.now) }
     {
         Ok(Strip {
-            cells: Vec::from_slice(alloc, &self.cells)?,
+            bytes: Vec::from_slice(alloc, &self.bytes)?,
             safe: self.safe,
-            low: self.low,
-            high: self.high,
+            loose: self.loose.copied(alloc)?,
         })
     }
 
@@ -80,7 +75,7 @@ impl Strip {
     pub fn len(&self) -> u64
         ensures { result ≡ length self.now.cells }
     {
-        self.cells.len() as u64
+        self.bytes.len() as u64
     }
 
     /// A law of it, and nothing else: its bytes as they stand are among what a crash may leave.
@@ -95,7 +90,7 @@ impl Strip {
     pub fn read(&self, alloc: Global, at: u64, count: u64) -> Result<Vec<u8>, AllocError>
         ensures { IfOk result (λ v. v.items ≡ read_of at count self.now) }
     {
-        bytes_in(alloc, front(behind(&self.cells, at), count))
+        Vec::from_slice(alloc, front(behind(&self.bytes, at), count))
     }
 
     /// Writes over what is there and past the end; the range is loose. A write that starts past the end, or
@@ -107,19 +102,18 @@ impl Strip {
         ensures fits { OnOk result (at + length bytes.now < 2 ^ 64) }
         ensures device { IfErr result (λ e. e ≡ Device) }
     {
-        let len = self.cells.len();
+        let len = self.bytes.len();
         if at > len as u64 {
             return Err(Refusal::Device);
         }
         let at = at as usize;
         let growth = bytes.len().saturating_sub(len - at);
-        if self.cells.reserve(growth).is_err() {
-            (self.low, self.high) = hull(self.low, self.high, at, len);
-            loosen_from(&mut self.cells, at);
+        if make_room(&mut self.bytes, &mut self.loose, growth).is_err() {
+            self.loose.spread(at, len);
             return Err(Refusal::Device);
         }
-        (self.low, self.high) = hull(self.low, self.high, at, at + bytes.len());
-        write_over(&mut self.cells, at, bytes);
+        self.loose.spread(at, at + bytes.len());
+        write_over(&mut self.bytes, at, bytes);
         Ok(())
     }
 
@@ -127,10 +121,8 @@ impl Strip {
     pub fn settle(&mut self)
         ensures { self.new ≡ settled self.old }
     {
-        settle_within(&mut self.cells, self.low, self.high);
-        self.low = 0;
-        self.high = 0;
-        self.safe = self.cells.len();
+        self.loose.clear();
+        self.safe = self.bytes.len();
     }
 
     /// Cuts it to a length, brought into the range from the safe to the present one. The loose cells that are
@@ -141,29 +133,28 @@ impl Strip {
         ensures count { result ≡ loose_count (take (clamped cut self.old) self.old.cells) }
         ensures among { MayLeave self.old (left_of fill.now skip (take (clamped cut self.old) self.old.cells)) }
     {
-        let keep = cut.min(self.cells.len() as u64).max(self.safe as u64) as usize;
-        self.cells.truncate(keep);
-        let low = self.low.min(keep);
-        let high = self.high.min(keep);
-        let count = fill_within(&mut self.cells, low, high, fill, skip);
-        self.low = 0;
-        self.high = 0;
+        let keep = cut.min(self.bytes.len() as u64).max(self.safe as u64) as usize;
+        self.bytes.truncate(keep);
+        let count = fill_within(&mut self.bytes, &self.loose, fill, skip);
+        self.loose.clear();
         self.safe = keep;
         count
     }
 }
 
-// A range that holds two others, the first of which may be empty.
-fn hull(low: usize, high: usize, from: usize, to: usize) -> (usize, usize)
-    requires first { low ≤ high }
-    requires second { from ≤ to }
-    ensures second { (result.0 ≤ from) × (to ≤ result.1) }
-    ensures first { (low ≡ high) ⊎ ((result.0 ≤ low) × (high ≤ result.1)) }
-    ensures least { (result.1 ≡ to) ⊎ (result.1 ≡ high) }
+// Makes room for so many more bytes and for their bits. It fails only if there are any, and changes none.
+fn make_room(bytes: &mut Vec<u8>, loose: &mut Loose, growth: usize) -> Result<(), AllocError>
+    requires ranged { IsRanged loose.old }
+    requires bits { length bytes.old.items ≤ 8 * length loose.old.bits.items }
+    ensures room { OnOk result (vec_len bytes.old + growth ≤ vec_capacity bytes.new) }
+    ensures ok { OnOk result (vec_len bytes.old + growth ≤ 8 * length loose.new.bits.items) }
+    ensures err { OnErr result (0 < growth) }
+    ensures items { bytes.new.items ≡ bytes.old.items }
+    ensures ranged { IsRanged loose.new }
+    ensures more { length loose.old.bits.items ≤ length loose.new.bits.items }
+    ensures high { loose.new.high ≡ loose.old.high }
+    ensures same { (k : ℕ) → is_loose loose.new k ≡ is_loose loose.old k }
 {
-    if low == high {
-        (from, to)
-    } else {
-        (low.min(from), high.max(to))
-    }
+    bytes.reserve(growth)?;
+    loose.make_room(bytes.len() + growth)
 }

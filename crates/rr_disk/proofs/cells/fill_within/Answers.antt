@@ -1,30 +1,41 @@
-use Rattle.std.proofs.Common.{◌≡◌, ◌-◌, ◌≤◌, ◌++◌, List, length, take, drop, map, arith, ◌∙◌, ap}
-use Rattle.std.proofs.lemmas.List.{length-map, length-take, length-drop}
-use Rattle.rr_disk.specs.declared.cell.Cell.{Cell}
-use Rattle.rr_disk.specs.Areas.{firm_cell}
-use Rattle.rr_disk.specs.Crash.{left_of, loose_count}
-use Rattle.rr_disk.proofs.Rows.{with_mid}
-use Rattle.rr_disk.proofs.Filled.{filled_parts, count_parts, length-left_of}
+use Rattle.std.proofs.Common.{◌+◌, ◌<◌, Bool, length, get_or, set, arith, refl, ◌∙◌, ap, if◌then◌else◌}
+use Rattle.rr_disk.specs.Crash.{filled}
+use Rattle.rr_disk.specs.Strips.{is_loose}
+use Rattle.rr_disk.proofs.Filled.{fill_from, fill_more, fill_count, fill_to}
+use Rattle.rr_disk.proofs.Ranges.{before_range, after_range}
 use Rattle.rr_disk.proofs.cells.fill_within.Goals as goal
 
-pub returns-clause-cells : goal.returns-clause-cells
-returns-clause-cells c =
-    let xs = c.args.cells.now.items in
-    let ys = c.deref_mut.result.now in
-    let low = c.args.low in
-    let high = c.args.high in
-    let part = take (high - low) (drop low xs) in
-    let mid : c.fill_loose.new.cells ≡ map firm_cell (left_of c.args.fill.now c.args.skip part) =
-    c.fill_loose.ensures.cells ∙ ap (λ (zs : List Cell). map firm_cell (left_of c.args.fill.now c.args.skip (take (high - low) (drop low zs)))) c.deref_mut.ensures.value in
-    let there : high ≤ length xs = omega (arith, c.args.cells.now.ok) in
-    let long : length c.fill_loose.new.cells ≡ high - low =
-    ap length mid ∙ length-map (left_of c.args.fill.now c.args.skip part) firm_cell ∙ length-left_of c.args.fill.now c.args.skip part ∙ omega (arith, c.requires.order, length-take (high - low) (drop low xs), length-drop low xs) in
-    with_mid xs ys c.fill_loose.new.cells low high c.args.cells.now.len c.requires.order there c.args.cells.now.ok.0 c.deref_mut.ensures.value long
-    ∙ ap (λ (zs : List Cell). take low xs ++ (zs ++ drop high xs)) mid
-    ∙ filled_parts c.args.fill.now c.args.skip xs low high c.requires.order c.requires.before c.requires.after
+pub loop-k-init : goal.loop-k-init
+loop-k-init c =
+    let loose = c.args.loose.now in
+    let start = fill_from (is_loose loose) c.args.fill.now c.args.skip c.min-k.result c.args.bytes.now.items (λ j lt. before_range loose j (omega arith)) in
+    (start.0, start.1, omega arith, refl, omega arith)
+
+pub loop-k-preserved : goal.loop-k-preserved
+loop-k-preserved c =
+    let f = is_loose c.args.loose.now in
+    let bs = c.args.bytes.now.items in
+    let ys = c.loop-k.bytes.items in
+    let k = c.loop-k.k in
+    let fill = c.args.fill.now in
+    let skip = c.args.skip in
+    let was = c.loop-k.invariant in
+    let lt : k < length bs = omega (arith, c.args.bytes.now.ok) in
+    let bytes =
+    c.fill_at-count.ensures.bytes
+    ∙ ap (λ (b : Bool). set ys k (if b then filled fill (skip + c.loop-k.count) (get_or ys k 0) else get_or ys k 0)) c.has.ensures
+    ∙ fill_more f fill skip c.loop-k.count bs ys k lt was.1 was.0 in
+    let counts = fill_count f c.loop-k.count c.fill_at-count.result bs k lt was.1 (c.fill_at-count.ensures.count ∙ ap (λ (b : Bool). if b then 1 else 0) c.has.ensures) in
+    (bytes, counts, omega arith, omega arith, omega arith)
+
+pub returns-clause-bytes : goal.returns-clause-bytes
+returns-clause-bytes c =
+    let loose = c.args.loose.now in
+    c.loop-k.invariant.0
+    ∙ (fill_to (is_loose loose) c.args.fill.now c.args.skip c.loop-k.k c.args.bytes.now.items (λ j from to. after_range loose j (omega (arith, c.args.bytes.now.ok)))).0
 
 pub returns-clause-count : goal.returns-clause-count
 returns-clause-count c =
-    c.fill_loose.ensures.count
-    ∙ ap (λ (zs : List Cell). loose_count (take (c.args.high - c.args.low) (drop c.args.low zs))) c.deref_mut.ensures.value
-    ∙ count_parts c.args.cells.now.items c.args.low c.args.high c.requires.order c.requires.before c.requires.after
+    let loose = c.args.loose.now in
+    c.loop-k.invariant.1
+    ∙ (fill_to (is_loose loose) c.args.fill.now c.args.skip c.loop-k.k c.args.bytes.now.items (λ j from to. after_range loose j (omega (arith, c.args.bytes.now.ok)))).1

@@ -1,21 +1,17 @@
-use Rattle.std.proofs.Common.{◌≡◌, ◌<◌, ℕ, List, length, map, arith, ◌∙◌, ap}
-use Rattle.std.proofs.lemmas.List.{length-map}
-use Rattle.std.proofs.lemmas.List.Elements.{All-map}
+use Rattle.std.proofs.Common.{◌≡◌, ℕ, List, length, map, arith, ◌∙◌, ap, sym}
 use Rattle.rr_disk.specs.declared.cell.Cell.{Cell}
 use Rattle.rr_disk.specs.Areas.{firm_cell, settled}
-use Rattle.rr_disk.proofs.Strips.{strip_at_rest, firmed_bytes, same_extent}
+use Rattle.rr_disk.specs.Strips.{cells_from, is_loose}
+use Rattle.rr_disk.proofs.Strips.{bytes-cells, cells_firm, same_extent}
 use Rattle.rr_disk.proofs.strip.Strip.settle.Goals as goal
-
-pub invariant_of-self : goal.invariant_of-self
-invariant_of-self c =
-    let old = c.self.inside.cells.items in
-    strip_at_rest c.settle_within.new.cells.items (map (λ cell. cell.byte) old) c.len-self-inside.result (All-map (λ b. b < 256) (λ (cell : Cell). cell.byte) old c.self.invariant.bytes_fit) (c.settle_within.ensures ∙ firmed_bytes old) (omega (arith, c.settle_within.new.cells.ok))
 
 pub returns : goal.returns
 returns c =
-    let old = c.self.inside.cells.items in
-    let bytes : List ℕ = map (λ cell. cell.byte) old in
-    let cells : c.settle_within.new.cells.items ≡ map firm_cell bytes = c.settle_within.ensures ∙ firmed_bytes old in
-    let size : length c.settle_within.new.cells.items ≡ length bytes = ap length cells ∙ length-map bytes firm_cell in
-    same_extent c.settle_within.new.cells.items (map firm_cell bytes) c.len-self-inside.result (length bytes) cells (omega (arith, c.settle_within.new.cells.ok, size))
+    let f = is_loose c.self.inside.loose in
+    let g = is_loose c.clear.new.self in
+    let bytes = c.self.inside.bytes.items in
+    let own : List ℕ = map (λ (cell : Cell). cell.byte) (cells_from f 0 bytes) in
+    let same : own ≡ bytes = bytes-cells f 0 bytes in
+    same_extent (cells_from g 0 bytes) (map firm_cell own) c.len-self-inside.result (length own)
+    (cells_firm g 0 bytes c.clear.ensures.none ∙ ap (map firm_cell) (sym same)) (omega (arith, c.self.inside.bytes.ok, ap length same))
     ∙ ap settled c.self.view_is
