@@ -9,7 +9,8 @@ use Rattle.rr_shell.specs.Texts.{answer_line, list_lines, move_line, stop_line, 
 use Rattle.rr_types.specs.declared.command.Command.{Command}
 use Rattle.rr_shell.specs.declared.outcome.Outcome.{Outcome}
 use Rattle.rr_shell.specs.declared.outcome.Outcome.TheVariants.{Answered, ListFull, Used, Nothing}
-use Rattle.rr_shell.specs.Objects.{escaped_byte, answer_object, list_objects, node_object, status_object, text_object}
+use Rattle.rr_json.specs.Json.{escaped_byte}
+use Rattle.rr_shell.specs.Objects.{answer_object, list_objects, node_object, status_object, text_object}
 
 -- an answer
 abbrev pub answer_said : Bool → Answer → List ℕ

@@ -1,5 +1,5 @@
 -- What is said to a line of a shell as JSON: an object for each line of words.
-use Rattle.std.specs.Prelude.{ℕ, if◌then◌else◌, ◌||◌, ◌==◌, List, [], ◌∷◌, ◌++◌, length, Option, None, Some, codes, decimal}
+use Rattle.std.specs.Prelude.{ℕ, List, [], ◌∷◌, ◌++◌, length, Option, None, Some, codes}
 use Rattle.std.specs.List.{flat_map}
 use Rattle.rr_text.specs.ReportTexts.{reply_words}
 use Rattle.rr_types.specs.declared.binding.Binding.{Binding}
@@ -7,35 +7,8 @@ use Rattle.rr_script.specs.declared.answer.Answer.{Answer}
 use Rattle.rr_script.specs.declared.answer.Answer.TheVariants.{Acknowledged, Unacknowledged, Free, Bound, Unseen}
 use Rattle.rr_shell.specs.declared.status.NodeStatus.{NodeStatus}
 use Rattle.rr_types.specs.declared.summary.NodeSummary.{NodeSummary}
+use Rattle.rr_json.specs.Json.{label, text_member, words_member, number_member, opened, object_line}
 use Rattle.rr_shell.specs.Texts.{left_behind}
-
--- a text between quotation marks
-unfoldable pub quoted : List ℕ → List ℕ
-quoted text = 34 ∷ text ++ 34 ∷ []
-
--- a byte of a text: a backslash stands before a quotation mark and before a backslash
-abbrev pub escaped_byte : ℕ → List ℕ
-escaped_byte b = if (b == 34) || (b == 92) then 92 ∷ b ∷ [] else b ∷ []
-
--- a comma, the name of a member, and a colon
-unfoldable pub label : List ℕ → List ℕ
-label name = 44 ∷ quoted name ++ 58 ∷ []
-
--- a member that is a text without quotation marks and backslashes
-unfoldable pub text_member : List ℕ → List ℕ → List ℕ
-text_member name text = label name ++ quoted text
-
--- a member that is a number
-unfoldable pub number_member : List ℕ → ℕ → List ℕ
-number_member name n = label name ++ decimal n
-
--- the beginning of an object, with its kind
-unfoldable pub opened : List ℕ → List ℕ
-opened kind = 123 ∷ quoted (codes "kind") ++ 58 ∷ quoted kind
-
--- the line of an object of this kind, with these members behind the kind
-abbrev pub object_line : List ℕ → List ℕ → List ℕ
-object_line kind members = opened kind ++ members ++ 125 ∷ 10 ∷ []
 
 -- the members of a reply, by its words: its name, and the owner of a name that is taken
 abbrev pub reply_members : List (List ℕ) → List ℕ
@@ -47,7 +20,7 @@ reply_members (word ∷ owner ∷ words) = text_member (codes "reply") word ++ l
 abbrev pub bound_members : List ℕ → ℕ → List ℕ → List ℕ
 bound_members name owner value =
     text_member (codes "name") name ++ number_member (codes "owner") owner
-    ++ text_member (codes "value") (flat_map escaped_byte value)
+    ++ words_member (codes "value") value
 
 -- a name that is bound
 abbrev pub bound_object : List ℕ → ℕ → List ℕ → List ℕ

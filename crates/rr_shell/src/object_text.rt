@@ -4,91 +4,24 @@ ghost use Rattle.std.specs.Prelude.{◌≡◌, ◌∷◌, ◌++◌, [], OnOk, co
 ghost use Rattle.std.specs.List.{flat_map};
 ghost use Rattle.rr_text.specs.ReportTexts.{reply_words};
 ghost use Rattle.rr_shell.specs.Texts.{down_text, no_snapshot_text, help_text, fault_text, used_text, full_text, nothing_text, left_behind};
-ghost use Rattle.rr_shell.specs.Objects.{quoted, escaped_byte, label, text_member, number_member, opened, object_line, reply_members, bound_members, bound_object, answer_object, binding_object, list_objects, node_object, summary_members, status_object, text_opened, text_closed, text_object};
+ghost use Rattle.rr_json.specs.Json.{escaped_byte, label, text_member, number_member, opened, object_line};
+ghost use Rattle.rr_shell.specs.Objects.{reply_members, bound_members, bound_object, answer_object, binding_object, list_objects, node_object, summary_members, status_object, text_opened, text_closed, text_object};
 
 use crate::line_text::{push_down_text, push_fault_text, push_help_text, push_no_snapshot_text};
 use crate::listing::Listing;
 use crate::outcome::{push_full_text, push_nothing_text, push_used_text};
 use crate::shell_line::LineFault;
 use crate::status::{NodeStatus, left_behind};
+use rr_json::{
+    push_end, push_escaped, push_label, push_number_member, push_open, push_text_member,
+    push_words_member,
+};
 use rr_script::Answer;
-use rr_text::text_word::{push_byte, push_bytes, push_number};
+use rr_text::text_word::{push_byte, push_bytes};
 use rr_types::{Binding, Command, Name, NodeId, NodeSummary, Nodes, Reply, Value};
 use std::alloc::{AllocError, Global};
 
-#[tactic(auto, unfolding(crate::specs::Objects::quoted))]
-fn push_quoted(out: &mut Vec<u8>, text: &[u8]) -> Result<(), AllocError>
-    ensures ok { OnOk result (out.new.items ≡ out.old.items ++ quoted text.now) }
-{
-    push_byte(out, b'"')?;
-    push_bytes(out, text)?;
-    push_byte(out, b'"')
-}
-
-fn push_escaped_byte(out: &mut Vec<u8>, byte: u8) -> Result<(), AllocError>
-    ensures ok { OnOk result (out.new.items ≡ out.old.items ++ escaped_byte byte) }
-{
-    if byte == b'"' || byte == b'\\' {
-        push_bytes(out, &[b'\\', byte])
-    } else {
-        push_byte(out, byte)
-    }
-}
-
-fn push_escaped(out: &mut Vec<u8>, text: &[u8]) -> Result<(), AllocError>
-    ensures ok { OnOk result (out.new.items ≡ out.old.items ++ flat_map escaped_byte text.now) }
-{
-    for byte in text {
-        push_escaped_byte(out, *byte)?;
-    }
-    Ok(())
-}
-
-// The name of a member.
-#[tactic(auto, unfolding(crate::specs::Objects::label))]
-fn push_label(out: &mut Vec<u8>, name: &[u8]) -> Result<(), AllocError>
-    ensures ok { OnOk result (out.new.items ≡ out.old.items ++ label name.now) }
-{
-    push_byte(out, b',')?;
-    push_quoted(out, name)?;
-    push_byte(out, b':')
-}
-
-#[tactic(auto, unfolding(crate::specs::Objects::text_member))]
-fn push_text_member(out: &mut Vec<u8>, name: &[u8], text: &[u8]) -> Result<(), AllocError>
-    ensures ok { OnOk result (out.new.items ≡ out.old.items ++ text_member name.now text.now) }
-{
-    push_label(out, name)?;
-    push_quoted(out, text)
-}
-
-#[tactic(auto, unfolding(crate::specs::Objects::number_member))]
-fn push_number_member(out: &mut Vec<u8>, name: &[u8], number: u64) -> Result<(), AllocError>
-    ensures ok { OnOk result (out.new.items ≡ out.old.items ++ number_member name.now number) }
-{
-    push_label(out, name)?;
-    push_number(out, number)
-}
-
-// The beginning of an object, with its kind.
-#[tactic(auto, unfolding(crate::specs::Objects::opened))]
-fn push_open(out: &mut Vec<u8>, kind: &[u8]) -> Result<(), AllocError>
-    ensures ok { OnOk result (out.new.items ≡ out.old.items ++ opened kind.now) }
-{
-    push_byte(out, b'{')?;
-    push_quoted(out, b"kind")?;
-    push_byte(out, b':')?;
-    push_quoted(out, kind)
-}
-
-// The end of an object and of its line.
-fn push_end(out: &mut Vec<u8>) -> Result<(), AllocError>
-    ensures ok { OnOk result (out.new.items ≡ out.old.items ++ 125 ∷ 10 ∷ []) }
-{
-    push_bytes(out, b"}\n")
-}
-
-#[tactic(auto, unfolding(crate::specs::Objects::number_member))]
+#[tactic(auto, unfolding(rr_json::specs::Json::number_member))]
 fn push_reply_members(out: &mut Vec<u8>, reply: Reply) -> Result<(), AllocError>
     ensures ok { OnOk result (out.new.items ≡ out.old.items ++ reply_members (reply_words reply)) }
 {
@@ -124,17 +57,6 @@ fn push_name(out: &mut Vec<u8>, kind: &[u8], name: &Name) -> Result<(), AllocErr
     push_end(out)
 }
 
-// A value as a member.
-#[tactic(auto, unfolding(crate::specs::Objects::text_member, crate::specs::Objects::quoted))]
-fn push_value(out: &mut Vec<u8>, value: &Value) -> Result<(), AllocError>
-    ensures ok { OnOk result (out.new.items ≡ out.old.items ++ text_member (codes "value") (flat_map escaped_byte value.now)) }
-{
-    push_label(out, b"value")?;
-    push_byte(out, b'"')?;
-    push_escaped(out, value.as_bytes())?;
-    push_byte(out, b'"')
-}
-
 fn push_bound_members(
     out: &mut Vec<u8>,
     name: &Name,
@@ -145,7 +67,7 @@ fn push_bound_members(
 {
     push_text_member(out, b"name", name.as_bytes())?;
     push_number_member(out, b"owner", u64::from(owner))?;
-    push_value(out, value)
+    push_words_member(out, b"value", value.as_bytes())
 }
 
 fn push_bound(out: &mut Vec<u8>, name: &Name, owner: u32, value: &Value) -> Result<(), AllocError>
