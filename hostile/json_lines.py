@@ -15,6 +15,8 @@ import sys
 
 TREE = pathlib.Path(__file__).resolve().parent.parent
 LIVELY = [f"random --schedule-only --lively --faults {faults} --seed {seed} --steps 400 --nodes 3" for seed, faults in enumerate((0, 20, 200))]
+# Three device calls: two of openings and one that fails. The node that has failed refuses two more.
+FAILED = "nodes 1\nrestart 0\ndev 0\nfail 0 A5\ndev 0\nack 0\nfail 0 A5\nrestart 0\ndev 0\n"
 KINDS = "submit hear suspect tick advance take dev fail mark send ack snap crash restart".split()
 SAYINGS = "estimate proposal ack decision request nack beat suspects ask".split()
 
@@ -100,6 +102,37 @@ def counted(schedule, lines, statistics):
     assert [f"decided {statistics['decided']}"] == [line for line in lines if line.startswith("decided ")]
 
 
+def played(schedule, objects):
+    """From a schedule and the objects that explain its events: how many device calls were made, and how often each message that
+    was sent was heard, with what it says. A refused call of a node that is down or has failed isn't made."""
+    calls, wire = 0, []
+    for event, it in zip(schedule, objects):
+        kind, node, *words = event.split(" ")
+        if kind == "dev" and it["kind"] != "idle" and it.get("name") not in ("Down", "Failed"):
+            calls += 1
+        if kind == "fail" and it.get("name") == "Device":
+            calls += 1
+        if kind == "hear" and it["kind"] != "refuse" and int(words[0]) < len(wire) and wire[int(words[0])][0] == int(node):
+            wire[int(words[0])][2] += 1
+        if it["kind"] == "send":
+            wire.append([it["to"], it["message"]["kind"], 0])
+    return calls, wire
+
+
+def counted_in_play(schedule, objects, statistics):
+    """Whether statistics have the counts of what happened to messages and disks."""
+    calls, wire = played(schedule, objects)
+    assert statistics["device_calls"] == calls, (statistics["device_calls"], calls)
+    for row in statistics["messages"]:
+        times = [heard for _, kind, heard in wire if kind == row["kind"]]
+        counts = (len(times), sum(heard > 0 for heard in times), sum(max(heard - 1, 0) for heard in times), times.count(0))
+        assert (row["sent"], row["heard"], row["again"], row["never"]) == counts, (row, counts)
+    for row in statistics["events"]:
+        kinds = [it["kind"] for event, it in zip(schedule, objects) if event.split(" ")[0] == row["kind"]]
+        refused, quiet, idle = (kinds.count(kind) for kind in ("refuse", "done", "idle"))
+        assert (row["told"], row["refused"], row["idle"]) == (len(kinds) - refused - quiet - idle, refused, idle), (row, kinds)
+
+
 def main():
     parser = argparse.ArgumentParser()
     parser.add_argument("--rr", required=True)
@@ -113,6 +146,8 @@ def main():
 
     paths = [*sorted(TREE.glob("examples/*.schedule")), *sorted(TREE.glob("crates/worked_rows/data/*.schedule")), TREE / "hostile/each_kind.schedule"]
     schedules = [text for text in (path.read_text() for path in paths) if is_schedule(text)] + [run(*words.split()) for words in LIVELY]
+    (statistics,) = read(run("stats", "--json", text=FAILED))
+    assert statistics["device_calls"] == 3, "a refused device call is counted as made"
     lines_read = 0
     for schedule in schedules:
         events = schedule[:-1].split("\n")[1:]
@@ -120,9 +155,11 @@ def main():
         told = [object_of(line) for line in report]
         objects = read(run("sim", "--json", text=schedule))
         assert objects == told and [list(it) for it in objects] == [list(it) for it in told], "the report differs"
-        explained(events, told, read(run("sim", "--explain", "--json", text=schedule)))
+        explanation = read(run("sim", "--explain", "--json", text=schedule))
         (statistics,) = read(run("stats", "--json", text=schedule))
         counted(events, report, statistics)
+        counted_in_play(events, explanation, statistics)
+        explained(events, told, explanation)
         lines_read += 2 * len(told) + len(events) + 1
     print(f"hostile/json_lines.py: {len(schedules)} schedules, {lines_read} lines of JSON, all as the texts are")
 
