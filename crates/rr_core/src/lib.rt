@@ -11,6 +11,46 @@
 //!
 //! `crates/one_node` is such a program, and README shows its middle. What an input does is in `rr_behaviour`, from `input.rt` on:
 //! for a message in `hear.rt`, for Ask and Decision in `decisions.rt`.
+//!
+//! This is how it flushes and sends:
+//!
+//! ```rust
+//! /// Makes the staged facts safe, and marks them. It tells whether there were any.
+//! fn flush<D: Disk>(
+//!     alloc: Global,
+//!     core: &mut Core,
+//!     journal: &mut Journal<D>,
+//! ) -> Result<bool, Refusal> {
+//!     let Some(group) = core.take_group()? else {
+//!         return Ok(false);
+//!     };
+//!     let job = match journal.begin(alloc, group) {
+//!         Ok(job) => job,
+//!         Err((refusal, _)) => return Err(refusal),
+//!     };
+//!     // Each step is a device call: write, sync, write, sync.
+//!     let synced = job
+//!         .step(journal)?
+//!         .step(journal)?
+//!         .step(journal)?
+//!         .step(journal)?;
+//!     match core.mark(synced) {
+//!         Ok(()) => Ok(true),
+//!         Err((refusal, _)) => Err(refusal),
+//!     }
+//! }
+//!
+//! /// Sends what may leave. With a single node each message is for the node itself.
+//! fn send(core: &mut Core) -> Result<(), Refusal> {
+//!     for _ in 0..64 {
+//!         let Some(cleared) = core.next_message() else {
+//!             break;
+//!         };
+//!         core.step(&Input::Hear(cleared.message()))?;
+//!     }
+//!     Ok(())
+//! }
+//! ```
 #![tactic(auto)]
 
 mod cleared;

@@ -1,4 +1,3 @@
 pub mod Listings
-pub mod Requests
 pub mod Runs
 pub mod Shells

@@ -1,4 +1,4 @@
-//! Why the folders of a run aren't opened, and the lines that tell it.
+//! The lines that tell why the folders of a run aren't opened.
 
 ghost use Rattle.std.specs.Prelude.{◌≡◌};
 ghost use Rattle.rr_cli.specs.Refusals.{status_of};
@@ -6,79 +6,13 @@ ghost use Rattle.rr_run.specs.Shells.{IsRefusedBy};
 
 use rr_cli::{end_by_refusal, print_folder_fault};
 use rr_cluster::Fault;
+use rr_folders::Closed;
 use rr_image::read_image;
 use rr_types::{NodeId, Nodes, Refusal};
-use std::alloc::{AllocError, AllocFailed};
-use std::io::{ErrorKind, Write};
+use std::io::Write;
 use std::os::unix::fs::FileExt;
 use std::rt::Files;
 use std::{fs, io};
-
-/// Why the folders of a run aren't opened.
-#[derive(Drop)]
-pub(crate) enum Closed {
-    /// A growth was refused.
-    OutOfMemory,
-    /// Another program has locked the folder of this path.
-    InUse(String),
-    /// This call on this path failed.
-    Failed {
-        path: String,
-        call: &'static str,
-        error: io::Error,
-    },
-    /// The disk of this node can't be opened.
-    Unopened(NodeId, Refusal),
-    /// The folder of this node may not be opened.
-    Refused(NodeId, Fault),
-}
-
-impl From<AllocError> for Closed {
-    fn from(_error: AllocError) -> Closed {
-        Closed::OutOfMemory
-    }
-}
-
-impl<T: Drop> From<AllocFailed<T>> for Closed {
-    fn from(_error: AllocFailed<T>) -> Closed {
-        Closed::OutOfMemory
-    }
-}
-
-impl From<Refusal> for Closed {
-    fn from(_refusal: Refusal) -> Closed {
-        Closed::OutOfMemory
-    }
-}
-
-/// What a call on a path gave, or why the folders aren't opened.
-pub(crate) fn done<R: AllocGlobal, T: Drop>(
-    rt: &R,
-    path: &str,
-    call: &'static str,
-    given: io::Result<T>,
-) -> Result<T, Closed> {
-    match given {
-        Ok(value) => Ok(value),
-        Err(error) => Err(failed(rt, path, call, error)),
-    }
-}
-
-/// Why the folders aren't opened where this call on a path failed.
-pub(crate) fn failed<R: AllocGlobal>(
-    rt: &R,
-    path: &str,
-    call: &'static str,
-    error: io::Error,
-) -> Closed {
-    if error.kind() == ErrorKind::OutOfMemory {
-        return Closed::OutOfMemory;
-    }
-    match format!(in rt.alloc(); "{path}") {
-        Ok(path) => Closed::Failed { path, call, error },
-        Err(_) => Closed::OutOfMemory,
-    }
-}
 
 /// Ends because the folders in the folder DIR aren't opened. The second line says which it is, what that means and what to do.
 pub(crate) fn end_by_closed<R: Files + AllocGlobal, E: Write>(

@@ -4,15 +4,10 @@
 
 mod closed;
 mod defaults;
-mod folder;
-mod forming;
-mod lock;
 mod post;
 mod program;
-mod requests;
 mod script_run;
-mod seen;
 mod shell_run;
 
-pub use lock::Lockable;
 pub use program::{execute, run};
+pub use rr_folders::Lockable;

@@ -5,7 +5,7 @@ ghost use Rattle.rr_types.specs.Registry.{registry_of};
 ghost use Rattle.rr_window.specs.Sights.{bindings_with};
 ghost use Rattle.rr_run.specs.Listings.{bytes_of};
 
-use crate::requests::greatest_in;
+use rr_folders::greatest_in;
 use rr_locked::Turnstile;
 use rr_script::Answer;
 use rr_shell::{Listing, Outcome, left_behind};

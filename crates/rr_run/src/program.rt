@@ -6,11 +6,11 @@ ghost use Rattle.std.specs.IoError.{error_kind};
 ghost use Rattle.rr_words.specs.Tasks.{faults_of, task_of};
 ghost use Rattle.rr_run.specs.Runs.{EndsWithThreads};
 
-use crate::lock::Lockable;
 use crate::script_run::run_by_words;
 use crate::shell_run::shell_by_words;
 use rr_cli::{Task, end_by_words, end_without_words, read_words};
 use rr_files::FileReader;
+use rr_folders::Lockable;
 use rr_stream::Sink;
 use rr_talk::Prompting;
 use std::convert::AsStr;

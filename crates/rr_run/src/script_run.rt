@@ -9,14 +9,12 @@ ghost use Rattle.rr_cli.specs.Ends.{EndsOnInput};
 ghost use Rattle.rr_cli.specs.Refusals.{status_of};
 ghost use Rattle.rr_run.specs.Runs.{EndsOnFolders, EndsOnScript, EndsOnNamed, EndsOnRun};
 
-use crate::closed::{Closed, end_by_closed};
-use crate::folder::{Folders, Survey, enter, survey_folders};
-use crate::forming::try_folder;
-use crate::lock::Lockable;
+use crate::closed::end_by_closed;
 use rr_cli::{end_by_refusal, end_by_stream, end_by_text, nodes_of, print_folder_fault};
 use rr_disk::FileDisk;
 use rr_explain::print_script_fault;
 use rr_files::FileReader;
+use rr_folders::{Closed, Folders, Lockable, Survey, enter, survey_folders, try_folder};
 use rr_image::inspect;
 use rr_locked::Open;
 use rr_script::{Answers, Script};

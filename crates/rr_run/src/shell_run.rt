@@ -12,13 +12,11 @@ ghost use Rattle.rr_run.specs.Shells.{IsClientBy, EndsOnTalk, EndsOnShell, EndsO
 
 use crate::closed::end_by_closed;
 use crate::defaults::{FOLDER, nodes_by, show_defaults};
-use crate::folder::{Folders, open_folders};
-use crate::lock::Lockable;
 use crate::post::{Post, Question, Teller, Told, tellers};
-use crate::requests::{Block, reserve};
 use crate::script_run::end_by_run_fault;
 use rr_cli::{ShellWords, end_by_refusal, end_by_stream, end_by_unprinted, number_in};
 use rr_disk::{FileDisk, OpenedFile};
+use rr_folders::{Block, Folders, Lockable, open_folders, reserve};
 use rr_locked::Open;
 use rr_script::Answer;
 use rr_shell::{Listing, NodeStatus, Outcome, Trouble, is_listing_at, is_nearly_full};

@@ -1,5 +1,24 @@
 //! The simulator: a schedule of what happens to a cluster goes in, the report of its run comes out. `simulate` runs a schedule
 //! that is a value, `report_on` one while its text is read; `random` draws one. A `Cluster` takes one event at a time.
+//!
+//! So a program looks at the disk of a node behind a run:
+//!
+//! ```rust
+//! /// The bytes of both areas of node 0 behind a schedule.
+//! pub fn areas_behind(alloc: Global, schedule: &Schedule) -> Result<[Vec<u8>; 2], Refusal> {
+//!     let mut nodes = nodes_after(alloc, schedule.nodes().count(), schedule)?;
+//!     nodes.truncate(1);
+//!     match nodes.pop() {
+//!         None => Err(Refusal::BadNodes),
+//!         Some(node) => {
+//!             let mut disk = node.into_disk(alloc);
+//!             let first = disk.read(alloc, Area::First, 0, u64::MAX)?;
+//!             let second = disk.read(alloc, Area::Second, 0, u64::MAX)?;
+//!             Ok([first, second])
+//!         }
+//!     }
+//! }
+//! ```
 #![tactic(auto)]
 
 mod chosen;

@@ -106,8 +106,12 @@ fn unopened<R: Files + AllocGlobal>(
     Closed::Unopened(node, refusal)
 }
 
-/// Opens the files of a disk, and writes and syncs a file beside them, which is taken away.
-pub(crate) fn try_folder<R: Files + AllocGlobal>(rt: &R, folder: &str) -> Result<(), Closed> {
+/// Opens the files of a disk in a folder, and writes and syncs a file beside them, which is taken away: so a program that was
+/// refused learns which call fails.
+///
+/// # Errors
+/// `Failed`, with the first call that fails. `OutOfMemory`.
+pub fn try_folder<R: Files + AllocGlobal>(rt: &R, folder: &str) -> Result<(), Closed> {
     for area in 0..2u8 {
         let path = format!(in rt.alloc(); "{folder}/a{area}")?;
         let mut options = OpenOptions::new();

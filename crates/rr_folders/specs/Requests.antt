@@ -6,6 +6,11 @@ use Rattle.rr_types.specs.declared.promise.Standing.{Standing}
 use Rattle.rr_types.specs.declared.promise.Standing.TheVariants.{Decided, Open}
 use Rattle.rr_text.specs.Reading.{◌>>=◌, cut_at, number_at}
 
+-- request numbers that are reserved and not used: from the next one on, below the end
+pub record Reserved : Type 0 where
+  pub next : ℕ
+  pub end : ℕ
+
 -- the number before the line feed, where nothing stands behind that
 abbrev pub stored_from : List ℕ × List ℕ → Option ℕ
 stored_from (word, []) = number_at word

@@ -1,4 +1,4 @@
-//! The folders of a run: node P's is `DIR/P`, and `DIR/cluster` says which cluster they are.
+//! The folders of a cluster, found and opened.
 
 ghost use Rattle.std.specs.Prelude.{◌≡◌, length, IfOk};
 
@@ -12,19 +12,20 @@ use rr_types::Nodes;
 use std::fs;
 use std::fs::OpenFile;
 use std::io::{ErrorKind, Read, Seek, Write};
+use std::marker::Model;
 use std::os::unix::fs::FileExt;
 use std::rt::Files;
 
-/// The folders of a run, locked while this is there, and the disks in them, ascending.
+/// The folders of a cluster: DIR and those in it, locked while `locks` is there, and the disks in them, ascending.
 #[derive(Drop)]
-pub(crate) struct Folders<F> {
-    pub(crate) locks: Vec<F>,
-    pub(crate) disks: Vec<FileDisk<OpenedFile<F>>>,
+pub struct Folders<F> {
+    pub locks: Vec<F>,
+    pub disks: Vec<FileDisk<OpenedFile<F>>>,
 }
 
-/// What was found in the folder DIR, which is locked while this is there.
+/// What was found in the folder DIR, which is locked while this is there. Contracts see how many nodes it was looked through for.
 #[derive(Drop)]
-pub(crate) struct Survey<F> {
+pub struct Survey<F> {
     pub(crate) locks: Vec<F>,
     pub(crate) seen: Vec<Seen>,
     pub(crate) has_cluster_file: bool,
@@ -33,9 +34,17 @@ pub(crate) struct Survey<F> {
     verdict: Verdict,
 }
 
+impl<F> Model for Survey<F> {
+    ghost use Rattle.std.specs.Prelude.{ℕ, length};
+
+    ghost Value = { ℕ };
+
+    ghost view = { λ s. length s.seen.items };
+}
+
 impl<F> Survey<F> {
     /// Whether no node has a disk that is formatted. A damaged one is.
-    pub(crate) fn is_fresh(&self) -> bool {
+    pub fn is_fresh(&self) -> bool {
         self.seen.iter().all(|seen| matches!(seen.found.content, Content::Absent | Content::Blank))
     }
     // The locks alone.
@@ -113,7 +122,7 @@ fn look_in<
     F: Read + Write + Seek + FileExt + OpenFile + Drop + Lockable,
     R: Files<File = F> + AllocGlobal,
 >(rt: &R, nodes: Nodes, dir: &str, made: Option<usize>) -> Result<Survey<F>, Closed>
-    ensures { IfOk result (λ s. length s.seen.items ≡ nodes) }
+    ensures { IfOk result (λ s. s ≡ nodes) }
 {
     let mut locks = Vec::new(rt.alloc());
     locks.push(lock_folder(rt, dir)?)?;
@@ -141,11 +150,14 @@ fn look_in<
 }
 
 /// Locks the folder DIR, which is made where it is missing, and looks at all folders of a cluster. Nothing else is made.
-pub(crate) fn survey_folders<
+///
+/// # Errors
+/// `InUse`, `Failed` or `OutOfMemory`. Then what was made is taken away.
+pub fn survey_folders<
     F: Read + Write + Seek + FileExt + OpenFile + Drop + Lockable,
     R: Files<File = F> + AllocGlobal,
 >(rt: &R, nodes: Nodes, dir: &str) -> Result<Survey<F>, Closed>
-    ensures { IfOk result (λ s. length s.seen.items ≡ nodes) }
+    ensures { IfOk result (λ s. s ≡ nodes) }
 {
     let made = first_missing(rt, dir);
     let looked = match done(rt, dir, "making the folder", make_folder(rt, dir)) {
@@ -180,8 +192,12 @@ fn sync_names<R: Files + AllocGlobal>(rt: &R, dir: &str) -> Result<(), Closed> {
 }
 
 /// Opens the disks of folders as they were found. Nodes that haven't been formatted are, and the cluster's file says so before any
-/// serves. Where that fails before, what was made is taken away.
-pub(crate) fn enter<
+/// serves.
+///
+/// # Errors
+/// `Refused`, where the folders may not be opened: nothing is written then. `Unopened`, `InUse`, `Failed` or `OutOfMemory`: what was
+/// made is taken away, unless the cluster's file may say already that its nodes have been formatted.
+pub fn enter<
     F: Read + Write + Seek + FileExt + OpenFile + Drop + Lockable,
     R: Files<File = F> + AllocGlobal,
 >(rt: &R, nodes: Nodes, dir: &str, survey: Survey<F>) -> Result<Folders<F>, Closed>
@@ -206,8 +222,11 @@ pub(crate) fn enter<
     })
 }
 
-/// Opens the folders of a run in the folder DIR. What is missing is made where a new cluster begins.
-pub(crate) fn open_folders<
+/// Opens the folders of a cluster in the folder DIR. What is missing is made where a new cluster begins.
+///
+/// # Errors
+/// Those of `survey_folders` and of `enter`.
+pub fn open_folders<
     F: Read + Write + Seek + FileExt + OpenFile + Drop + Lockable,
     R: Files<File = F> + AllocGlobal,
 >(rt: &R, nodes: Nodes, dir: &str) -> Result<Folders<F>, Closed>

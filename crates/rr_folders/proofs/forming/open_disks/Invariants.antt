@@ -1,5 +1,5 @@
 use Rattle.std.proofs.Common.{◌≡◌, ◌≤◌, length}
-use Rattle.rr_run.proofs.forming.open_disks.Given as goal
+use Rattle.rr_folders.proofs.forming.open_disks.Given as goal
 
 -- each node so far has its disk
 abbrev pub invariant-loop-index : goal.invariant-loop-index

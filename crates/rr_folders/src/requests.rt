@@ -1,8 +1,8 @@
-//! The request numbers of a shell. They are unique over its restarts, whatever the clock does. The file `DIR/requests` holds the
-//! first number that is not reserved, in decimal, and a line feed.
+//! Request numbers that are unique over a program's restarts, whatever the clock does. The file `DIR/requests` holds the first
+//! number that is not reserved, in decimal, and a line feed.
 
 ghost use Rattle.std.specs.Prelude.{◌≡◌, ◌+◌, ◌^◌, ◌<◌, ◌≤◌, max, true, false, Some, ◌++◌, ◌∷◌, [], IfOk, IfErr, IfSome, decimal};
-ghost use Rattle.rr_run.specs.Requests.{stored_number, greater, greatest_with, greatest_at, greatest_in};
+ghost use Rattle.rr_folders.specs.Requests.{stored_number, greater, greatest_with, greatest_at, greatest_in};
 
 use rr_text::text_read::{cut, number};
 use rr_text::text_word::{push_byte, push_number};
@@ -10,17 +10,27 @@ use rr_types::{Command, Entry, Refusal, Standing};
 use std::alloc::Global;
 use std::fs::OpenFile;
 use std::io::{ErrorKind, Write};
+use std::marker::Model;
 use std::rt::Files;
 use std::{fs, io};
 
 /// How many numbers are reserved at a time.
 const BLOCK: u64 = 1_048_576;
 
-/// Request numbers that are reserved and not used: from the next one on, below the end.
-#[derive(Clone, Copy, Debug)]
-pub(crate) struct Block {
+/// Request numbers that are reserved and not used: from the next one on, below the end. It can't be copied, so that none is given
+/// twice.
+#[derive(Debug, Drop)]
+pub struct Block {
     next: u64,
     end: u64,
+}
+
+impl Model for Block {
+    ghost use Rattle.rr_folders.specs.Requests.{Reserved};
+
+    ghost Value = { Reserved };
+
+    ghost view = { λ b. record { next = b.next; end = b.end } };
 }
 
 impl Block {
@@ -36,7 +46,7 @@ impl Block {
     }
 
     /// The next number, which then is used; none where all are.
-    pub(crate) fn take(&mut self) -> Option<u64>
+    pub fn take(&mut self) -> Option<u64>
         ensures some { IfSome result (λ n. (n ≡ self.old.next) × (n < self.old.end) × (self.new ≡ record { next = n + 1; end = self.old.end })) }
         ensures none { result ≡ None → (self.old.end ≤ self.old.next) × (self.new ≡ self.old) }
     {
@@ -50,7 +60,7 @@ impl Block {
     }
 
     /// Leaves out the numbers below this one. It is false where the block has none from there on; then nothing has changed.
-    pub(crate) fn begin_at(&mut self, least: u64) -> bool
+    pub fn begin_at(&mut self, least: u64) -> bool
         ensures some { result ≡ true → (least < self.old.end) × (self.new ≡ record { next = max self.old.next least; end = self.old.end }) }
         ensures none { result ≡ false → (self.old.end ≤ least) × (self.new ≡ self.old) }
     {
@@ -99,7 +109,7 @@ fn greatest_at(client: u32, most: Option<u64>, entry: &Entry) -> Option<u64>
 }
 
 /// The greatest request number of a client that these facts name. None: they name none.
-pub(crate) fn greatest_in(client: u32, entries: &[Entry]) -> Option<u64>
+pub fn greatest_in(client: u32, entries: &[Entry]) -> Option<u64>
     ensures { result ≡ greatest_in client entries.now }
 {
     let mut most = None;
@@ -166,11 +176,7 @@ fn replace_file<R: Files>(
 /// # Errors
 /// `OutOfMemory`. `Malformed`, where the file holds no number: it is left as it is. `TooLarge`, where numbers are out. `Device`,
 /// where a file can't be read or written; the file may hold either number then.
-pub(crate) fn reserve<R: Files + AllocGlobal>(
-    rt: &R,
-    dir: &str,
-    least: u64,
-) -> Result<Block, Refusal>
+pub fn reserve<R: Files + AllocGlobal>(rt: &R, dir: &str, least: u64) -> Result<Block, Refusal>
     ensures whole { IfOk result (λ b. b.end ≡ b.next + 1048576) }
     ensures least { IfOk result (λ b. least ≤ b.next) }
 {

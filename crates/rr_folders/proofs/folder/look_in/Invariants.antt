@@ -1,5 +1,5 @@
 use Rattle.std.proofs.Common.{◌≡◌, ◌≤◌, length}
-use Rattle.rr_run.proofs.folder.look_in.Given as goal
+use Rattle.rr_folders.proofs.folder.look_in.Given as goal
 
 -- each node so far was looked at
 abbrev pub invariant-loop-node : goal.invariant-loop-node
