@@ -53,6 +53,7 @@
 //! ```
 #![tactic(auto)]
 
+mod agreeing;
 mod client;
 mod desk;
 mod fate;
@@ -75,6 +76,6 @@ mod switches;
 pub use client::{Client, Handle};
 pub use fate::Fate;
 pub use recorder::Recorder;
-pub use run::{run_clients, run_switched};
-pub use script_run::run_script;
+pub use run::{run_clients, run_switched, usual_tick};
+pub use script_run::{run_script, run_script_ticking};
 pub use switches::Switches;
