@@ -32,6 +32,7 @@ TOUR = [
     (
         "A registry to talk to",
         "`rr shell` answers line by line, to a person or through a pipe. What it answered holds after a restart, and request numbers continue. "
+        "A look answers from what its node has seen, which may be less than another node has acknowledged. "
         "A node that is stopped goes down as by a crash, and opens its folder when it is started. Without a majority nothing is decided: the "
         "command `claim bell` may count later, or not.",
         [
@@ -92,6 +93,7 @@ TOUR = [
             "rr verify nodes | sed 's/ facts.*//'",
             "rr export nodes > claims.script; cat claims.script",
             "rr run --nodes 5 --dir new --script claims.script; rr export new | cmp - claims.script",
+            "cp -r nodes odd; sed -i 's/room-4/room-9/g' odd/2/a0 odd/2/a1; echo 'look printer' | rr shell --nodes 3 --dir odd",
             "mv nodes/1 lost; rr verify nodes > told; echo status $?; sed 's/ facts.*//' told",
             "rr export --list new",
         ],

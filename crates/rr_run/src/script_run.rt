@@ -48,17 +48,18 @@ where
 {
     let ending = end_by_refusal(err, refusal);
     if matches!(refusal, Refusal::Device | Refusal::Damaged { .. }) {
-        let _ = print_refused_folder(rt, err, dir, nodes);
+        let _ = print_refused_folder(rt, err, dir, nodes, refusal);
     }
     ending
 }
 
-// Prints what is wrong in the first folder of a run that can't be read.
+// Prints what is wrong in the first folder of a run that can't be read, or that those which can be differ.
 fn print_refused_folder<R: Files + AllocGlobal, W: Write>(
     rt: &R,
     err: &mut W,
     dir: &str,
     nodes: Nodes,
+    refusal: &Refusal,
 ) -> io::Result<()>
 where
     R::File: FileExt,
@@ -71,6 +72,12 @@ where
         if let Err(refusal) = read_folder(rt, path.as_str()) {
             return print_folder_fault(rt, err, path.as_str(), &refusal);
         }
+    }
+    if matches!(refusal, Refusal::Damaged { .. }) {
+        return writeln!(
+            err,
+            "{dir}: its folders decide an instance differently: see rr verify {dir}"
+        );
     }
     for node in 0..nodes.count() {
         let path = format!(in rt.alloc(); "{dir}/{node}")?;
