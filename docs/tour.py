@@ -40,7 +40,7 @@ TOUR = [
             "printf 'look printer\\ntransfer printer 9\\nrelease printer\\n' | rr shell --nodes 3 --dir talk --client 7; cat talk/requests",
             "printf 'claim room-5 desk\\nclaim room-12\\nlist room-\\nlist\\n' | rr shell --nodes 3 --dir talk --client 7",
             "printf 'stop 2\\nclaim lamp hall\\nat 2\\nlook lamp\\nstart 2\\nclaim desk\\nlook lamp\\n' | rr shell --nodes 3 --dir talk --client 7",
-            "printf 'stop 1\\nstop 2\\nstatus\\nclaim bell\\nlook lamp\\nstart 1\\nclaim clock\\n' | rr shell --nodes 3 --dir talk --client 7 | sed 's/ facts.*//'",
+            "printf 'stop 1\\nstop 2\\nstatus\\nclaim bell\\nlook lamp\\nstart 1\\nclaim clock\\n' | rr shell --nodes 3 --dir talk --client 7 --tick 20 | sed 's/ facts.*//'",
             "printf 'look lamp\\nclaim lamp\\nclaim LAMP\\n' | rr shell --nodes 3 --dir talk --client 8 --json",
             "echo 'snapshot 0' | rr shell --nodes 3 --dir talk; rr show talk/0 | sed 's/ facts.*//'",
             "printf 104857 > talk/requests; echo 'look printer' | rr shell --nodes 3 --dir talk",

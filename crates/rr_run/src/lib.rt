@@ -13,6 +13,7 @@ mod requests;
 mod script_run;
 mod seen;
 mod shell_run;
+mod ticking;
 
 pub use lock::Lockable;
 pub use program::{execute, run};
