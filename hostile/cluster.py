@@ -20,6 +20,8 @@ STARTS = ("fresh", "before", "forming")
 SHORT = 3
 ERRORS = {"EIO": errno.EIO, "ENOSPC": errno.ENOSPC, "EINTR": errno.EINTR}
 HOWS = {"open": ("EIO", "EINTR"), "read": ("EIO", "EINTR", "short"), "write": ("EIO", "ENOSPC", "EINTR", "short", "torn", "kill", "killed"), "sync": ("EIO", "kill", "killed")}
+# A process that is killed before a rename leaves what a power cut leaves that undoes it, and one killed behind it what it leaves else.
+HOWS.update({"rename": ("EIO", "kill", "killed"), "mkdir": ("EIO", "ENOSPC", "kill", "killed"), "lock": ("EIO", "kill", "killed")})
 HARMLESS = ("EINTR", "short")
 KILLS = ("kill", "killed")
 MOST_CALLS = 400
@@ -193,18 +195,20 @@ class Cluster:
                 self.check((status, out) == (0, self.answers), f"{what}: status {status}, {err!r}")
                 break
             self.tally.counts[f"{kind} by {how}"] += 1
-            self.judge(what, how, before, status, out, err)
+            self.judge(what, start, how, before, status, out, err)
 
-    def judge(self, what, how, before, status, out, err):
+    def judge(self, what, start, how, before, status, out, err):
         """How a start with a call that went wrong ends, and what it leaves."""
         if how in KILLS:
             self.check(status == -9, f"{what}: status {status}, {err!r}")
         elif status:
             named = re.match(rb"[^\n]+: [^\n]+\n", self.rig.why)
             self.check(how not in HARMLESS and (status, err, out) == (5, b"rr: 2 Device\n", b"") and named, f"{what}: status {status}, {err!r}, {self.rig.why!r}")
-            # Either all that was made is gone again, or the cluster's file says that its nodes were formatted.
+            # Either all that was made is gone again, or the cluster's file says that its nodes were formatted, or a start that had
+            # begun before it goes on, as a rename that failed may have been made. No file stays that was to be renamed.
             left = held(self.folder)
-            self.check(set(left) == set(before) or is_formed(left), f"{what}: it leaves {sorted(left)}")
+            is_sound = set(left) == set(before) or is_formed(left) or start == "forming"
+            self.check(is_sound and not any(path.endswith(".new") for path in left), f"{what}: it leaves {sorted(left)}")
         else:
             self.check(out == self.answers, f"{what}: {out!r}")
         # What was not synced is torn by a power cut: the files that aren't in place yet.

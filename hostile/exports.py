@@ -3,6 +3,7 @@
 What both print is held against the folders as reading.py reads them by docs/FORMATS.md, and against registry.py. The names of the
 new cluster, as `rr shell` lists them, are those of the old one. Then a value of a decided command is altered in one folder, two
 folders are swapped, one is emptied or one is removed: each time `rr verify` ends with 4, and no byte of any folder has changed.
+Over an altered folder `rr run` and `rr shell` serve nobody: they end with 4 too, and name `rr verify`.
 """
 import os
 import random
@@ -117,6 +118,18 @@ def check_faults(rig, tally, what, rng, folder, nodes):
         tally.check(holds, lambda: f"{what}: {fault.__name__}: {tell(ran)}; wanted a line {said}")
         tally.check(bytes_in(copy) == before, f"{what}: {fault.__name__}: verify changed the folders")
         tally.counts[f"folders with a fault: {fault.__name__}"] += 1
+        if fault is alter:
+            check_unserved(rig, tally, what, copy, nodes)
+
+
+def check_unserved(rig, tally, what, folder, nodes):
+    """Nobody is served over folders that decide an instance differently."""
+    look = rig.write("look", b"look 0 a\n")
+    for words in (("run", "--script", look), ("shell", "-c", "look a")):
+        ran = rig.run(words[0], "--nodes", str(nodes), "--dir", folder, *words[1:], limit=LONG)
+        said = f"{folder}: its folders decide an instance differently: see rr verify {folder}\n".encode()
+        holds = ran == (4, b"", b"rr: 3 Damaged 0 0\n") and rig.why == said
+        tally.check(holds, lambda: f"{what}: {words[0]} over an altered folder: {tell(ran)}, {rig.why!r}")
 
 
 def bytes_in(folder):

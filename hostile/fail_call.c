@@ -1,5 +1,5 @@
-/* Makes one call on files go wrong: the FAIL_NTH-th call of the kind FAIL_CALL (open, read, write or sync), counted from 1
-   over all threads, on files whose paths have the text FAIL_PATH. By FAIL_HOW it fails with an error of that number; `short`
+/* Makes one call on files go wrong: the FAIL_NTH-th call of the kind FAIL_CALL (open, read, write, sync, rename, mkdir or lock),
+   counted from 1 over all threads, on files whose paths have the text FAIL_PATH. By FAIL_HOW it fails with an error of that number; `short`
    lets it move only half of its bytes, and `torn` fails it then by EIO; `kill` and `killed` end the process before it and
    behind it. With FAIL_MANY so many from it on. The file COUNT_CALLS gets how many there were. */
 #define _GNU_SOURCE
@@ -13,6 +13,7 @@
 #include <stdio.h>
 #include <stdlib.h>
 #include <string.h>
+#include <sys/stat.h>
 #include <sys/syscall.h>
 #include <unistd.h>
 
@@ -150,6 +151,30 @@ int open(const char *path, int flags, ...)
         GOES_WRONG(syscall(SYS_openat, AT_FDCWD, path, flags, mode));
     }
     return syscall(SYS_openat, AT_FDCWD, path, flags, mode);
+}
+
+int rename(const char *from, const char *to)
+{
+    if (is_meant("rename", -1, from)) {
+        GOES_WRONG(syscall(SYS_rename, from, to));
+    }
+    return syscall(SYS_rename, from, to);
+}
+
+int mkdir(const char *path, mode_t mode)
+{
+    if (is_meant("mkdir", -1, path)) {
+        GOES_WRONG(syscall(SYS_mkdir, path, mode));
+    }
+    return syscall(SYS_mkdir, path, mode);
+}
+
+int flock(int fd, int operation)
+{
+    if (is_meant("lock", fd, NULL)) {
+        GOES_WRONG(syscall(SYS_flock, fd, operation));
+    }
+    return syscall(SYS_flock, fd, operation);
 }
 
 static void tell(void)

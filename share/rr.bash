@@ -12,8 +12,8 @@ _rr() {
     random) words='--seed --steps --nodes --lively --faults --schedule-only -h --help'; takes=nothing ;;
     sweep) words='--seed -h --help'; takes=files ;;
     draw) words='--from --to --node --instance -h --help'; takes=files ;;
-    run) words='--nodes --dir --script --tape -h --help'; takes=nothing ;;
-    shell) words='--nodes --dir --client -c --command --strict --json -h --help'; takes=nothing ;;
+    run) words='--nodes --dir --script --tape --tick -h --help'; takes=nothing ;;
+    shell) words='--nodes --dir --client -c --command --tick --strict --json -h --help'; takes=nothing ;;
     audit) words='-h --help'; takes=files ;;
     show) words='-h --help'; takes=folders ;;
     verify) words='--json -h --help'; takes=folders ;;
@@ -34,6 +34,7 @@ _rr() {
     --seed) takes=nothing; words= ;;
     --steps) takes=nothing; words= ;;
     --tape) takes=files; words= ;;
+    --tick) takes=nothing; words= ;;
     --to) takes=nothing; words= ;;
     -c) takes=nothing; words= ;;
   esac

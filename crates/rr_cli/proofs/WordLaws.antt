@@ -22,8 +22,8 @@ no_random words view is = absurd cc
 pub no_audit : (file : Option Text) (view : View) → Audit file ≡ Viewing view → ⊥
 no_audit file view is = absurd cc
 
-pub no_run : (nodes dir script tape : Option Text) (view : View) → Run nodes dir script tape ≡ Viewing view → ⊥
-no_run nodes dir script tape view is = absurd cc
+pub no_run : (nodes dir script tape tick : Option Text) (view : View) → Run nodes dir script tape tick ≡ Viewing view → ⊥
+no_run nodes dir script tape tick view is = absurd cc
 
 pub no_shell : (words : ShellWords) (view : View) → Shell words ≡ Viewing view → ⊥
 no_shell words view is = absurd cc

@@ -43,7 +43,7 @@ where
         Ok(Task::Show(_)) => execute(rt, words, files, input, out, err),
         Ok(Task::Random(_)) => execute(rt, words, files, input, out, err),
         Ok(Task::Audit(_)) => execute(rt, words, files, input, out, err),
-        Ok(Task::Run(_, _, _, _)) => execute(rt, words, files, input, out, err),
+        Ok(Task::Run(_, _, _, _, _)) => execute(rt, words, files, input, out, err),
         Ok(Task::Shell(_)) => execute(rt, words, files, input, out, err),
         Ok(Task::Sweep(_, _)) => execute(rt, words, files, input, out, err),
         Ok(Task::Draw(_, _)) => execute(rt, words, files, input, out, err),

@@ -44,6 +44,15 @@ fn write_fresh<R: Files + AllocGlobal>(rt: &R, fresh: &str, text: &[u8]) -> Resu
     written
 }
 
+// Renames a file that is synced. Where that fails there is no such file.
+fn rename_fresh<R: Files + AllocGlobal>(rt: &R, fresh: &str, path: &str) -> Result<(), Closed> {
+    let renamed = done(rt, path, "renaming", fs::rename(rt, fresh, path));
+    if renamed.is_err() {
+        let _ = fs::remove_file(rt, fresh);
+    }
+    renamed
+}
+
 // Puts a file that is synced in place of another one, and makes that last.
 fn put_in_place<R: Files + AllocGlobal>(
     rt: &R,
@@ -51,7 +60,12 @@ fn put_in_place<R: Files + AllocGlobal>(
     fresh: &str,
     path: &str,
 ) -> Result<(), Closed> {
-    done(rt, path, "renaming", fs::rename(rt, fresh, path))?;
+    rename_fresh(rt, fresh, path)?;
+    sync_folder(rt, dir)
+}
+
+// Makes the names in a folder last.
+fn sync_folder<R: Files + AllocGlobal>(rt: &R, dir: &str) -> Result<(), Closed> {
     let folder = done(rt, dir, "opening the folder", fs::open(rt, dir))?;
     done(rt, dir, "syncing the folder", folder.sync_all())
 }
@@ -303,7 +317,7 @@ pub(crate) fn are_formatted(cluster: &Cluster) -> bool {
 }
 
 /// Says in the cluster's file that all nodes have been formatted. Where it can't be written, what was made is taken away; from
-/// when the file may say so, nothing is.
+/// when a file that stays may say so, nothing is. A rename that is said to have failed may still have been made.
 pub(crate) fn conclude<F, R: Files<File = F> + AllocGlobal>(
     rt: &R,
     dir: &str,
@@ -314,13 +328,17 @@ pub(crate) fn conclude<F, R: Files<File = F> + AllocGlobal>(
     let path = format!(in rt.alloc(); "{dir}/cluster")?;
     let fresh = format!(in rt.alloc(); "{dir}/cluster.new")?;
     let text = all.text(rt.alloc())?;
-    match write_fresh(rt, fresh.as_str(), text.as_slice()) {
-        Ok(()) => put_in_place(rt, dir, fresh.as_str(), path.as_str())?,
-        Err(closed) => {
-            let _ = tidy(rt, dir, survey);
-            return Err(closed);
-        }
+    if let Err(closed) = write_fresh(rt, fresh.as_str(), text.as_slice()) {
+        let _ = tidy(rt, dir, survey);
+        return Err(closed);
     }
+    if let Err(closed) = rename_fresh(rt, fresh.as_str(), path.as_str()) {
+        if !survey.has_cluster_file {
+            let _ = tidy(rt, dir, survey);
+        }
+        return Err(closed);
+    }
+    sync_folder(rt, dir)?;
     Ok(all)
 }
 

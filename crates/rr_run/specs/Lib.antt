@@ -1,3 +1,4 @@
 pub mod Listings
 pub mod Runs
 pub mod Shells
+pub mod Ticking

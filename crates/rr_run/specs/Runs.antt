@@ -54,11 +54,12 @@ pub record AsksForRun (task : Task) : Type 0 where
   pub dir : Text
   pub script : Text
   pub tape : Option Text
-  pub is : task ≡ Run (Some nodes) (Some dir) (Some script) tape
+  pub tick : Option Text
+  pub is : task ≡ Run (Some nodes) (Some dir) (Some script) tape tick
 
 -- whether words ask for nodes in threads, and say all that has to be said of them
 abbrev pub AsksForThreads : Task → Type 0
-AsksForThreads (Run (Some nodes) (Some dir) (Some script) tape) = Unit {0}
+AsksForThreads (Run (Some nodes) (Some dir) (Some script) tape tick) = Unit {0}
 AsksForThreads (Shell words) = Unit {0}
 AsksForThreads task = ⊥
 

@@ -8,6 +8,7 @@ mod post;
 mod program;
 mod script_run;
 mod shell_run;
+mod ticking;
 
 pub use program::{execute, run};
 pub use rr_folders::Lockable;

@@ -91,14 +91,14 @@ pub(crate) struct Post {
 }
 
 impl Post {
-    /// A post for `nodes` nodes, of which nothing is asked yet.
-    pub(crate) fn new(alloc: Global, nodes: Nodes) -> Result<Post, Refusal> {
+    /// A post for `nodes` nodes, of which nothing is asked yet, and which tick so often.
+    pub(crate) fn new(alloc: Global, nodes: Nodes, tick: Duration) -> Result<Post, Refusal> {
         let mut clients = Vec::new(alloc);
         for _ in 0..nodes.count() {
             clients.push(Parker::new())?;
         }
         Ok(Post {
-            switches: Switches::new(alloc, nodes)?,
+            switches: Switches::new(alloc, nodes)?.with_tick(tick),
             slip: Mutex::new(Slip::Nothing),
             refusal: Mutex::new(None),
             has_ended: AtomicBool::new(false),

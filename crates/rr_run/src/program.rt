@@ -26,13 +26,13 @@ use std::time::Clock;
 /// Runs the program `rr` by these words, the first of which is its name, and gives its exit status. It is
 /// `rr_cli::execute_with_views` with two more commands.
 ///
-/// `rr run --nodes NODES --dir DIR --script SCRIPT [--tape TAPE]` reads a script from the file SCRIPT, or from `input` where
+/// `rr run --nodes NODES --dir DIR --script SCRIPT [--tape TAPE] [--tick MILLISECONDS]` reads a script from the file SCRIPT, or from `input` where
 /// SCRIPT is `-`. It runs that many nodes in threads, node P over the disk in the folder DIR/P, and prints the answers to the script. Folders and files
 /// that are missing are made. With a TAPE all areas have to be unformatted, and the tape of the run is written to that
 /// file before the answers are printed. What goes wrong is told on `err`: the words, then the file, then its text, then
 /// the folders, ascending, then areas that are formatted, then the run, then the file TAPE.
 ///
-/// `rr shell [--nodes NODES] [--dir DIR] [--client CLIENT] [-c LINE].. [--strict] [--json]` runs nodes over folders in the same
+/// `rr shell [--nodes NODES] [--dir DIR] [--client CLIENT] [--tick MILLISECONDS] [-c LINE].. [--strict] [--json]` runs nodes over folders in the same
 /// way, and reads commands from `input`, or else answers each LINE. A line is answered on `out` before the next is read, in words
 /// or with JSON. Where somebody types, `input` shows a prompt before each. With `--strict` it ends at the first line that isn't
 /// answered as asked. What goes wrong is told on `err`: the words, then the folders, ascending, then the file DIR/requests, then the run or a stream.
@@ -50,16 +50,16 @@ pub fn execute<
     ensures quiet { result ≡ 0 → Keeps (E.contents err.old) (E.contents err.new) }
 {
     match read_words(rt.alloc(), words) {
-        Ok(Task::Run(Some(nodes), Some(dir), Some(script), tape)) => {
-            run_by_words(rt, files, nodes, dir, tape, script, input, out, err)
+        Ok(Task::Run(Some(nodes), Some(dir), Some(script), tape, tick)) => {
+            run_by_words(rt, files, nodes, dir, tape, tick, script, input, out, err)
         }
-        Ok(Task::Run(None, _, _, _)) => rr_cli::execute_with_views(
+        Ok(Task::Run(None, _, _, _, _)) => rr_cli::execute_with_views(
             rt, words, files, input, out, err,
         ),
-        Ok(Task::Run(_, None, _, _)) => rr_cli::execute_with_views(
+        Ok(Task::Run(_, None, _, _, _)) => rr_cli::execute_with_views(
             rt, words, files, input, out, err,
         ),
-        Ok(Task::Run(_, _, None, _)) => rr_cli::execute_with_views(
+        Ok(Task::Run(_, _, None, _, _)) => rr_cli::execute_with_views(
             rt, words, files, input, out, err,
         ),
         Ok(Task::Shell(asked)) => shell_by_words(rt, &asked, input, out, err),

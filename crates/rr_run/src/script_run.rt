@@ -10,6 +10,7 @@ ghost use Rattle.rr_cli.specs.Refusals.{status_of};
 ghost use Rattle.rr_run.specs.Runs.{EndsOnFolders, EndsOnScript, EndsOnNamed, EndsOnRun};
 
 use crate::closed::end_by_closed;
+use crate::ticking::tick_by;
 use rr_cli::{end_by_refusal, end_by_stream, end_by_text, nodes_of, print_folder_fault};
 use rr_disk::FileDisk;
 use rr_explain::print_script_fault;
@@ -20,7 +21,7 @@ use rr_locked::Open;
 use rr_script::{Answers, Script};
 use rr_stream::{Sink, Source, read_all};
 use rr_tape::Tape;
-use rr_threads::{Recorder, run_script};
+use rr_threads::{Recorder, run_script_ticking};
 use rr_types::{Nodes, Refusal};
 use std::alloc::Global;
 use std::fs::OpenFile;
@@ -29,7 +30,7 @@ use std::os::unix::fs::FileExt;
 use std::rt::Files;
 use std::sync::Wait;
 use std::thread::Threads;
-use std::time::Clock;
+use std::time::{Clock, Duration};
 use std::{fs, io};
 
 /// Ends by the refusal of a run over the folders in the folder DIR. Where a folder has what is refused, a second line tells it.
@@ -46,17 +47,18 @@ where
 {
     let ending = end_by_refusal(err, refusal);
     if matches!(refusal, Refusal::Device | Refusal::Damaged { .. }) {
-        let _ = print_refused_folder(rt, err, dir, nodes);
+        let _ = print_refused_folder(rt, err, dir, nodes, refusal);
     }
     ending
 }
 
-// Prints what is wrong in the first folder of a run that can't be read.
+// Prints what is wrong in the first folder of a run that can't be read, or that those which can be differ.
 fn print_refused_folder<R: Files + AllocGlobal, W: Write>(
     rt: &R,
     err: &mut W,
     dir: &str,
     nodes: Nodes,
+    refusal: &Refusal,
 ) -> io::Result<()>
 where
     R::File: FileExt,
@@ -69,6 +71,12 @@ where
         if let Err(refusal) = read_folder(rt, path.as_str()) {
             return print_folder_fault(rt, err, path.as_str(), &refusal);
         }
+    }
+    if matches!(refusal, Refusal::Damaged { .. }) {
+        return writeln!(
+            err,
+            "{dir}: its folders decide an instance differently: see rr verify {dir}"
+        );
     }
     for node in 0..nodes.count() {
         let path = format!(in rt.alloc(); "{dir}/{node}")?;
@@ -151,7 +159,15 @@ fn run_in<
     R: Files<File = F> + AllocGlobal + Threads + Wait + Clock + Sync,
     O: Sink,
     E: Write,
->(rt: &R, dir: &str, survey: Survey<F>, script: &Script, out: &mut O, err: &mut E) -> u8
+>(
+    rt: &R,
+    dir: &str,
+    survey: Survey<F>,
+    script: &Script,
+    tick: Duration,
+    out: &mut O,
+    err: &mut E,
+) -> u8
     ensures ends { EndsOnFolders None result (O.printing out.old) (O.printing out.new) }
     ensures quiet { result ≡ 0 → Keeps (E.contents err.old) (E.contents err.new) }
 {
@@ -161,7 +177,7 @@ fn run_in<
         Err(closed) => return end_by_closed(rt, err, dir, nodes, &closed),
     };
     let Folders { locks, disks } = folders;
-    let ran = run_script(rt, rt.alloc(), disks, script, &Open, None);
+    let ran = run_script_ticking(rt, rt.alloc(), disks, script, &Open, None, tick);
     drop(locks);
     match ran {
         Ok(answers) => end_by_answers(rt.alloc(), &answers, out, err),
@@ -175,7 +191,16 @@ fn run_taped<
     R: Files<File = F> + AllocGlobal + Threads + Wait + Clock + Sync,
     O: Sink,
     E: Write,
->(rt: &R, dir: &str, survey: Survey<F>, script: &Script, path: &str, out: &mut O, err: &mut E) -> u8
+>(
+    rt: &R,
+    dir: &str,
+    survey: Survey<F>,
+    script: &Script,
+    path: &str,
+    tick: Duration,
+    out: &mut O,
+    err: &mut E,
+) -> u8
     ensures ends { EndsOnFolders (Some path.now) result (O.printing out.old) (O.printing out.new) }
     ensures quiet { result ≡ 0 → Keeps (E.contents err.old) (E.contents err.new) }
 {
@@ -186,7 +211,7 @@ fn run_taped<
     };
     let Folders { locks, disks } = folders;
     let recorder = Recorder::new(rt.alloc(), nodes);
-    let ran = run_script(rt, rt.alloc(), disks, script, &Open, Some(&recorder));
+    let ran = run_script_ticking(rt, rt.alloc(), disks, script, &Open, Some(&recorder), tick);
     drop(locks);
     match ran {
         Ok(answers) => end_by_tape(rt, path, &recorder.into_tape(), &answers, out, err),
@@ -200,7 +225,16 @@ fn run_if_fresh<
     R: Files<File = F> + AllocGlobal + Threads + Wait + Clock + Sync,
     O: Sink,
     E: Write,
->(rt: &R, dir: &str, survey: Survey<F>, script: &Script, path: &str, out: &mut O, err: &mut E) -> u8
+>(
+    rt: &R,
+    dir: &str,
+    survey: Survey<F>,
+    script: &Script,
+    path: &str,
+    tick: Duration,
+    out: &mut O,
+    err: &mut E,
+) -> u8
     ensures ends { EndsOnFolders (Some path.now) result (O.printing out.old) (O.printing out.new) }
     ensures quiet { result ≡ 0 → Keeps (E.contents err.old) (E.contents err.new) }
 {
@@ -208,7 +242,7 @@ fn run_if_fresh<
         let _ = writeln!(err, "rr: --tape wants fresh folders");
         return 2;
     }
-    run_taped(rt, dir, survey, script, path, out, err)
+    run_taped(rt, dir, survey, script, path, tick, out, err)
 }
 
 // Runs a script over the folders in the folder DIR, and prints the answers; with a tape where a file is named for it.
@@ -217,7 +251,15 @@ fn run_over<
     R: Files<File = F> + AllocGlobal + Threads + Wait + Clock + Sync,
     O: Sink,
     E: Write,
->(rt: &R, dir: &str, script: &Script, tape: Option<&str>, out: &mut O, err: &mut E) -> u8
+>(
+    rt: &R,
+    dir: &str,
+    script: &Script,
+    tape: Option<&str>,
+    tick: Duration,
+    out: &mut O,
+    err: &mut E,
+) -> u8
     ensures ends { EndsOnFolders (option_map (λ s. s.now) tape.entry) result (O.printing out.old) (O.printing out.new) }
     ensures quiet { result ≡ 0 → Keeps (E.contents err.old) (E.contents err.new) }
 {
@@ -227,8 +269,8 @@ fn run_over<
         Err(closed) => return end_by_closed(rt, err, dir, nodes, &closed),
     };
     match tape {
-        Some(path) => run_if_fresh(rt, dir, survey, script, path, out, err),
-        None => run_in(rt, dir, survey, script, out, err),
+        Some(path) => run_if_fresh(rt, dir, survey, script, path, tick, out, err),
+        None => run_in(rt, dir, survey, script, tick, out, err),
     }
 }
 
@@ -243,6 +285,7 @@ fn run_bytes<
     nodes: Nodes,
     dir: &str,
     tape: Option<&str>,
+    tick: Duration,
     name: &str,
     bytes: &[u8],
     out: &mut O,
@@ -252,7 +295,7 @@ fn run_bytes<
     ensures quiet { result ≡ 0 → Keeps (E.contents err.old) (E.contents err.new) }
 {
     match Script::parse(rt.alloc(), nodes, bytes) {
-        Ok(script) => run_over(rt, dir, &script, tape, out, err),
+        Ok(script) => run_over(rt, dir, &script, tape, tick, out, err),
         Err(refusal) => end_by_script_fault(err, name, nodes, bytes, &refusal),
     }
 }
@@ -269,6 +312,7 @@ fn run_input<
     nodes: Nodes,
     dir: &str,
     tape: Option<&str>,
+    tick: Duration,
     name: &str,
     input: &mut I,
     out: &mut O,
@@ -278,7 +322,7 @@ fn run_input<
     ensures quiet { result ≡ 0 → Keeps (E.contents err.old) (E.contents err.new) }
 {
     match read_all(rt.alloc(), input) {
-        Ok(bytes) => run_bytes(rt, nodes, dir, tape, name, bytes.as_slice(), out, err),
+        Ok(bytes) => run_bytes(rt, nodes, dir, tape, tick, name, bytes.as_slice(), out, err),
         Err(failure) => end_by_stream(err, name, &failure),
     }
 }
@@ -296,6 +340,7 @@ fn run_file<
     nodes: Nodes,
     dir: &str,
     tape: Option<&str>,
+    tick: Duration,
     path: &str,
     out: &mut O,
     err: &mut E,
@@ -304,7 +349,7 @@ fn run_file<
     ensures quiet { result ≡ 0 → Keeps (E.contents err.old) (E.contents err.new) }
 {
     match files.read_file(rt.alloc(), path) {
-        Ok(bytes) => run_bytes(rt, nodes, dir, tape, path, bytes.as_slice(), out, err),
+        Ok(bytes) => run_bytes(rt, nodes, dir, tape, tick, path, bytes.as_slice(), out, err),
         Err(failure) => end_by_stream(err, path, &failure),
     }
 }
@@ -323,6 +368,7 @@ fn run_named<
     nodes: Nodes,
     dir: &str,
     tape: Option<&str>,
+    tick: Duration,
     path: &str,
     input: &mut I,
     out: &mut O,
@@ -332,14 +378,25 @@ fn run_named<
     ensures quiet { result ≡ 0 → Keeps (E.contents err.old) (E.contents err.new) }
 {
     if path == "-" {
-        run_input(rt, nodes, dir, tape, "standard input", input, out, err)
+        run_input(
+            rt,
+            nodes,
+            dir,
+            tape,
+            tick,
+            "standard input",
+            input,
+            out,
+            err,
+        )
     } else {
-        run_file(rt, files, nodes, dir, tape, path, out, err)
+        run_file(rt, files, nodes, dir, tape, tick, path, out, err)
     }
 }
 
 /// Runs as many nodes as a word names, over the folders in the folder DIR, by the script in a file or in the input, and prints
-/// the answers. A word that is no number from 1 to 7, which the command line doesn't let through, ends with 2.
+/// the answers. A word says how often nodes tick. One for their number that is none from 1 to 7, which the command line doesn't let
+/// through, ends with 2.
 pub(crate) fn run_by_words<
     F: Read + Write + Seek + FileExt + OpenFile + Drop + Send + Lockable,
     R: Files<File = F> + AllocGlobal + Threads + Wait + Clock + Sync,
@@ -353,6 +410,7 @@ pub(crate) fn run_by_words<
     nodes: &str,
     dir: &str,
     tape: Option<&str>,
+    tick: Option<&str>,
     path: &str,
     input: &mut I,
     out: &mut O,
@@ -362,7 +420,10 @@ pub(crate) fn run_by_words<
     ensures quiet { result ≡ 0 → Keeps (E.contents err.old) (E.contents err.new) }
 {
     match nodes_of(nodes) {
-        Some(nodes) => run_named(rt, files, nodes, dir, tape, path, input, out, err),
+        Some(nodes) => {
+            let tick = tick_by(tick);
+            run_named(rt, files, nodes, dir, tape, tick, path, input, out, err)
+        }
         None => {
             let _ = writeln!(err, "rr: run: there is no such number of nodes");
             2

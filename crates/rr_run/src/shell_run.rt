@@ -14,6 +14,7 @@ use crate::closed::end_by_closed;
 use crate::defaults::{FOLDER, nodes_by, show_defaults};
 use crate::post::{Post, Question, Teller, Told, tellers};
 use crate::script_run::end_by_run_fault;
+use crate::ticking::tick_by;
 use rr_cli::{ShellWords, end_by_refusal, end_by_stream, end_by_unprinted, number_in};
 use rr_disk::{FileDisk, OpenedFile};
 use rr_folders::{Block, Folders, Lockable, open_folders, reserve};
@@ -34,7 +35,7 @@ use std::rt::Files;
 use std::sync::Wait;
 use std::thread;
 use std::thread::{Scope, Threads};
-use std::time::Clock;
+use std::time::{Clock, Duration};
 
 // The nodes that a shell asks, as this client, with the request numbers of the folder DIR; the command that isn't acknowledged
 // and may be asked again; and what a person is to be told.
@@ -467,6 +468,7 @@ fn shell_in<
     dir: &str,
     nodes: Nodes,
     client: u32,
+    tick: Duration,
     json: bool,
     strict: bool,
     folders: Folders<F>,
@@ -482,7 +484,7 @@ fn shell_in<
         Ok(block) => block,
         Err(refusal) => return end_by_requests(err, dir, &refusal),
     };
-    let post = match Post::new(rt.alloc(), nodes) {
+    let post = match Post::new(rt.alloc(), nodes, tick) {
         Ok(post) => post,
         Err(refusal) => return end_by_refusal(err, &refusal),
     };
@@ -553,6 +555,7 @@ fn shell_over<
     nodes: Nodes,
     dir: &str,
     client: u32,
+    tick: Duration,
     json: bool,
     strict: bool,
     input: &mut I,
@@ -564,7 +567,7 @@ fn shell_over<
 {
     match open_folders(rt, nodes, dir) {
         Ok(folders) => shell_in(
-            rt, dir, nodes, client, json, strict, folders, input, out, err,
+            rt, dir, nodes, client, tick, json, strict, folders, input, out, err,
         ),
         Err(closed) => end_by_closed(rt, err, dir, nodes, &closed),
     }
@@ -594,6 +597,7 @@ fn shell_by_lines<
     nodes: Nodes,
     dir: &str,
     client: u32,
+    tick: Duration,
     json: bool,
     strict: bool,
     lines: &[&str],
@@ -606,7 +610,18 @@ fn shell_by_lines<
     match lines_text(rt.alloc(), lines) {
         Ok(text) => {
             let mut spoken = Counted::new(text.as_slice());
-            shell_over(rt, nodes, dir, client, json, strict, &mut spoken, out, err)
+            shell_over(
+                rt,
+                nodes,
+                dir,
+                client,
+                tick,
+                json,
+                strict,
+                &mut spoken,
+                out,
+                err,
+            )
         }
         Err(refusal) => end_by_refusal(err, &refusal),
     }
@@ -632,13 +647,14 @@ pub(crate) fn shell_by_words<
     let Some(client) = client_of(words.client) else {
         return end_without_numbers(err);
     };
+    let tick = tick_by(words.tick);
     let lines = words.lines.as_slice();
     match lines {
         [] => {
             show_defaults(rt.alloc(), words, nodes, dir, input);
-            shell_over(rt, nodes, dir, client, json, strict, input, out, err)
+            shell_over(rt, nodes, dir, client, tick, json, strict, input, out, err)
         }
-        [_, ..] => shell_by_lines(rt, nodes, dir, client, json, strict, lines, out, err),
+        [_, ..] => shell_by_lines(rt, nodes, dir, client, tick, json, strict, lines, out, err),
     }
 }
 

@@ -1,1 +1,3 @@
+pub mod AgreeLemmas
 pub mod Replies
+pub mod SyncLemmas

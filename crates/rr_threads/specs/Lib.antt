@@ -1,2 +1,4 @@
+pub mod Agreeing
 pub mod Asking
 pub mod Fates
+pub mod Syncing

@@ -6,6 +6,7 @@ ghost use Rattle.rr_types.specs.declared.refusal.Refusal.TheVariants.{NoGuard, O
 ghost use Rattle.rr_types.specs.Registry.{registry_of};
 ghost use Rattle.rr_window.specs.Sights.{bindings_with};
 ghost use Rattle.rr_threads.specs.Asking.{IsAnswered, IsSeen, IsAnswerTo};
+ghost use Rattle.rr_threads.specs.Syncing.{to_itself};
 
 use crate::desk::{Counter, Desk};
 use crate::fate::{Fate, fate_in};
@@ -93,6 +94,16 @@ fn receipt_for<W: WindowName, T: Turnstile, R: Wait>(
         Some(receipt)
     } else {
         None
+    }
+}
+
+// The command with this request number that leaves the registry as it is.
+fn command_to_itself(request: RequestNo, name: Name) -> Command
+    ensures { result ≡ to_itself request name }
+{
+    Command {
+        request,
+        op: Op::Transfer(name, request.client),
     }
 }
 
@@ -192,6 +203,18 @@ impl<'d, 'x, W: WindowName, T: Turnstile, R: Wait> Handle<'d, 'x, W, T, R> {
         ensures same { self.new.node ≡ self.old.node }
     {
         self.submit_within(looks, command)
+    }
+
+    /// Waits until this client knows all that was acknowledged anywhere before it asked: a look behind that has it. The request
+    /// number has to be a new one. Under it a command is decided that leaves the registry as it is, the transfer of this name to the
+    /// client itself, so each call takes a place of the decided list. It gives up as `submit_within` does. An answer that isn't
+    /// `Acknowledged` tells nothing.
+    pub fn sync(&mut self, looks: u32, request: RequestNo, name: &Name) -> Answer
+        ensures answer { IsAnswered request self.new result }
+        ensures later { IsPrefix self.old.known self.new.known }
+        ensures same { self.new.node ≡ self.old.node }
+    {
+        self.submit_within(looks, &command_to_itself(request, *name))
     }
 
     /// What this node's list of decided commands says of a command.

@@ -1,6 +1,6 @@
 //! Nodes in threads. `run_clients` opens the disks, runs the nodes and your clients, and returns once every `Client::run` has.
 //! `run_script` does it for a script, and `run_switched` while a host stops and starts nodes by their `Switches`. A client asks by
-//! its `Handle`: `submit`, `look`, `list`, `ask`, `fate`, `snapshot`. Each node has three threads, and one for each client: one submits, hears,
+//! its `Handle`: `submit`, `look`, `sync`, `list`, `ask`, `fate`, `snapshot`. Each node has three threads, and one for each client: one submits, hears,
 //! marks, takes groups, sends and ticks; one flushes; one publishes. Nodes send to one another through inboxes.
 //!
 //! `crates/one_cluster` is this program:
@@ -53,6 +53,7 @@
 //! ```
 #![tactic(auto)]
 
+mod agreeing;
 mod client;
 mod desk;
 mod fate;
@@ -75,6 +76,6 @@ mod switches;
 pub use client::{Client, Handle};
 pub use fate::Fate;
 pub use recorder::Recorder;
-pub use run::{run_clients, run_switched};
-pub use script_run::run_script;
+pub use run::{run_clients, run_switched, usual_tick};
+pub use script_run::{run_script, run_script_ticking};
 pub use switches::Switches;

@@ -1,8 +1,10 @@
 //! Runs of 1 to 7 nodes, for clients of any kind.
 
 ghost use Rattle.std.specs.Prelude.{◌≡◌, ◌<◌, length, IfOk};
+ghost use Rattle.std.specs.Duration.{as_nanos};
 ghost use Rattle.std.specs.Thread.{IsSend};
 
+use crate::agreeing::all_agree;
 use crate::client::Client;
 use crate::lives::{open_part, run_lives};
 use crate::node_loop::Mail;
@@ -22,8 +24,18 @@ use std::thread;
 use std::thread::{Scope, Threads};
 use std::time::{Clock, Duration};
 
-/// How long after a tick of a node the next is due, in milliseconds.
+/// How long after a tick of a node the next is due where nothing else is asked for, in milliseconds.
 const TICK: u64 = 50;
+
+/// How long after a tick of a node the next is due where nothing else is asked for: 50 milliseconds.
+pub fn usual_tick() -> Duration
+    ensures { as_nanos result ≡ 50_000_000 }
+{
+    Duration::from_millis(TICK)
+}
+
+/// The refusal where two disks decide an instance differently.
+const DIFFERENT: Refusal = Refusal::Damaged { area: 0, offset: 0 };
 
 /// The ends that put into each inbox, for one node.
 fn ports_of(
@@ -172,8 +184,9 @@ fn count_clients<D: Disk, C>(parts: &[(Part<D>, Vec<C>)]) -> usize {
     count
 }
 
-/// Runs these nodes over these disks as `run_clients` does, with a recorder or with switches or with neither.
-fn run_all<
+/// Runs these nodes over these disks as `run_clients` does, with a recorder or with switches or with neither. The next tick of a node
+/// is due so long after one.
+pub fn run_all<
     D: Disk + Drop + Send,
     T: Turnstile + Sync,
     R: Threads + Wait + Clock + Sync,
@@ -187,6 +200,7 @@ fn run_all<
     turnstile: &T,
     recorder: Option<&Recorder>,
     switches: Option<&Switches>,
+    tick: Duration,
 ) -> Result<(), Refusal>
     requires alike { (one other : D) → D.tells one → D.tells other }
     ensures counts { IfOk result (λ _. (length disks.items ≡ nodes) × (length clients.items ≡ nodes)) }
@@ -196,9 +210,12 @@ fn run_all<
         return Err(Refusal::BadNodes);
     }
     let parts = open_parts(alloc, nodes, disks, clients)?;
+    if !all_agree(&parts) {
+        return Err(DIFFERENT);
+    }
     let shared = Shared {
         nodes,
-        tick: Duration::from_millis(TICK),
+        tick,
         running: Running::new(alloc, nodes.count(), count_clients(&parts))?,
         recorder,
         switches,
@@ -226,7 +243,8 @@ fn run_all<
 /// `BadNodes`, unless there are a disk and a place for clients for each node. Of several others the lowest node's:
 /// - `OutOfMemory`;
 /// - `Device`, where a device call failed or the clock can't be read;
-/// - `Damaged`, of a disk that holds no facts;
+/// - `Damaged`, of a disk that holds no facts, and `Damaged { area: 0, offset: 0 }` where two disks decide an instance differently,
+///   as far as their decided lists go;
 /// - `TooLarge`, where a node's journal or its facts are at their end;
 /// - `SeatsTaken`, of a node with more than 64 clients;
 /// - what a client's `run` gives;
@@ -248,11 +266,15 @@ pub fn run_clients<
     requires alike { (one other : D) → D.tells one → D.tells other }
     ensures counts { IfOk result (λ _. (length disks.items ≡ nodes) × (length clients.items ≡ nodes)) }
 {
-    run_all(rt, alloc, nodes, disks, clients, turnstile, recorder, None)
+    let tick = usual_tick();
+    run_all(
+        rt, alloc, nodes, disks, clients, turnstile, recorder, None, tick,
+    )
 }
 
 /// Runs nodes as `run_clients` does, while a host stops and starts them by their switches. A node that is started opens its
-/// disk as at the beginning. The run lasts until each client is done, also those of nodes that are down.
+/// disk as at the beginning. The run lasts until each client is done, also those of nodes that are down. The switches say how often
+/// nodes tick.
 ///
 /// # Errors
 /// As of `run_clients`, also where a node is started again.
@@ -282,5 +304,6 @@ pub fn run_switched<
         turnstile,
         None,
         Some(switches),
+        switches.tick(),
     )
 }

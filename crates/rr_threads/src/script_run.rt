@@ -4,7 +4,7 @@ ghost use Rattle.std.specs.Prelude.{◌≡◌, length, IfOk};
 
 use crate::client::{Client, Handle};
 use crate::recorder::Recorder;
-use crate::run::run_clients;
+use crate::run::{run_all, usual_tick};
 use rr_disk::Disk;
 use rr_locked::Turnstile;
 use rr_script::{Answer, Answers, Script, ScriptLine};
@@ -13,7 +13,7 @@ use rr_window::WindowName;
 use std::alloc::Global;
 use std::sync::{Mutex, Wait};
 use std::thread::Threads;
-use std::time::Clock;
+use std::time::{Clock, Duration};
 
 /// An answer, and the place of its line in the script.
 #[derive(Clone, Copy, Debug)]
@@ -112,10 +112,36 @@ pub fn run_script<D: Disk + Drop + Send, T: Turnstile + Sync, R: Threads + Wait 
     requires alike { (one other : D) → D.tells one → D.tells other }
     ensures counts { IfOk result (λ _. length disks.items ≡ script.now.nodes) }
 {
+    let tick = usual_tick();
+    run_script_ticking(rt, alloc, disks, script, turnstile, recorder, tick)
+}
+
+/// As `run_script`, but the next tick of a node is due so long after one.
+///
+/// # Errors
+/// As of `run_script`.
+pub fn run_script_ticking<
+    D: Disk + Drop + Send,
+    T: Turnstile + Sync,
+    R: Threads + Wait + Clock + Sync,
+>(
+    rt: &R,
+    alloc: Global,
+    disks: Vec<D>,
+    script: &Script,
+    turnstile: &T,
+    recorder: Option<&Recorder>,
+    tick: Duration,
+) -> Result<Answers, Refusal>
+    requires alike { (one other : D) → D.tells one → D.tells other }
+    ensures counts { IfOk result (λ _. length disks.items ≡ script.now.nodes) }
+{
     let nodes = script.nodes();
     let lines = script.lines();
     let answers: Mutex<Vec<Answered>> = Mutex::new(Vec::new(alloc));
     let clients = readers(alloc, nodes, lines, &answers)?;
-    run_clients(rt, alloc, nodes, disks, clients, turnstile, recorder)?;
+    run_all(
+        rt, alloc, nodes, disks, clients, turnstile, recorder, None, tick,
+    )?;
     in_order(alloc, lines.len(), answers.into_inner().as_slice())
 }

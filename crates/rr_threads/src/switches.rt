@@ -1,6 +1,9 @@
 //! Switches by which the nodes of a run are stopped and started again.
 
+ghost use Rattle.std.specs.Prelude.{◌≡◌};
+
 use crate::rest::LONG;
+use crate::run::usual_tick;
 use rr_types::{NodeId, Nodes, Refusal};
 use std::alloc::Global;
 use std::sync::Wait;
@@ -55,6 +58,7 @@ pub struct Switches {
     switches: Vec<Switch>,
     is_closed: AtomicBool,
     host: Parker,
+    tick: Duration,
 }
 
 impl Switches {
@@ -71,7 +75,22 @@ impl Switches {
             switches,
             is_closed: AtomicBool::new(false),
             host: Parker::new(),
+            tick: usual_tick(),
         })
+    }
+
+    /// The same switches of nodes that tick so often: the next tick of a node is due so long after one. It is 50 milliseconds else.
+    pub fn with_tick(self, tick: Duration) -> Switches
+        ensures { result.tick ≡ tick }
+    {
+        Switches { tick, ..self }
+    }
+
+    /// How long after a tick of a node the next is due.
+    pub(crate) fn tick(&self) -> Duration
+        ensures { result ≡ self.now.tick }
+    {
+        self.tick
     }
 
     fn switch(&self, node: NodeId) -> Option<&Switch> {

@@ -47,6 +47,10 @@ flag_rule id long = record (named_rule id long) { action = Some SetTrue }
 abbrev pub lines_rule : Text → Text → ℕ → Rule
 lines_rule id long letter = record (record (named_rule id long) { short = Some letter }) { action = Some Append }
 
+-- the option for the milliseconds between two ticks of a node, from 10 to 10000, which may be left out
+abbrev pub tick_rule : Rule
+tick_rule = optional_number_rule (codes "TICK") (codes "tick") 10 10000
+
 -- one argument more
 unfoldable pub with_arg : App → Rule → App
 with_arg line rule = with_rule line rule
@@ -92,16 +96,18 @@ random_line =
 unfoldable pub audit_line : App
 audit_line = with_arg (new_app (codes "audit")) (word_rule (codes "FILE") false)
 
--- the subcommand run, with a number of nodes, the folder of their folders, the file of a script, and the file for a tape,
--- which may be left out
+-- the subcommand run, with a number of nodes, the folder of their folders, the file of a script, and the file for a tape and
+-- the time between ticks, which may be left out
 unfoldable pub run_line : App
 run_line =
     with_arg
+    (with_arg
     (with_arg (with_arg (with_arg (new_app (codes "run"))
     (number_rule (codes "NODES") (codes "nodes") 1 7))
     (option_rule (codes "DIR") (codes "dir") true))
     (option_rule (codes "SCRIPT") (codes "script") true))
-    (option_rule (codes "TAPE") (codes "tape") false)
+    (option_rule (codes "TAPE") (codes "tape") false))
+    tick_rule
 
 -- the subcommand shell, with a number of nodes, the folder of their folders, the number of a client and lines, all of which
 -- may be left out
@@ -114,9 +120,9 @@ asking_line =
     (optional_number_rule (codes "CLIENT") (codes "client") 0 4294967295))
     (lines_rule (codes "LINE") (codes "command") 99)
 
--- the same with the options for an end at the first line that isn't answered as asked, and for JSON
+-- the same with the options for the time between ticks, for an end at the first line that isn't answered as asked, and for JSON
 unfoldable pub shell_line : App
-shell_line = with_arg (with_arg asking_line (flag_rule (codes "STRICT") (codes "strict"))) (flag_rule (codes "JSON") (codes "json"))
+shell_line = with_arg (with_arg (with_arg asking_line tick_rule) (flag_rule (codes "STRICT") (codes "strict"))) (flag_rule (codes "JSON") (codes "json"))
 
 -- the subcommand sweep, with a FILE that may be left out, and a seed
 unfoldable pub sweep_line : App

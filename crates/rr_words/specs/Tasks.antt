@@ -41,12 +41,14 @@ pub record RandomWords : Type 0 where
   pub faults : Option Text
   pub alone : Bool
 
--- the words of a shell: a number of nodes, the folder of their folders and a client, which may be left out; its lines, or none
+-- the words of a shell: a number of nodes, the folder of their folders, a client and the milliseconds between two ticks, which may
+-- be left out; its lines, or none
 -- where standard input has them; whether it ends at the first that isn't answered as asked; and whether it answers with JSON
 pub record ShellWords : Type 0 where
   pub nodes : Option Text
   pub dir : Option Text
   pub client : Option Text
+  pub tick : Option Text
   pub lines : List Text
   pub strict : Bool
   pub json : Bool
@@ -62,7 +64,7 @@ pub data View : Type 0 where
 -- what a command asks for: the report of the schedule in this file or else in standard input; or a view of its run; or the
 -- areas of the disk in this folder; or a random schedule by these words; or the audit of the tape in this file or else in
 -- standard input; or a run of this number of nodes in threads, over the folders in this folder, by the script in this file,
--- with its tape in this file or none; or a shell by these words; or a sweep of the schedule in this file or else in standard
+-- with its tape in this file or none, and so many milliseconds between two ticks; or a shell by these words; or a sweep of the schedule in this file or else in standard
 -- input, with this seed, which only wrong words leave out; or the picture of the schedule in this file or else in standard
 -- input, of the cut that these words write; or an opening of the disk in this folder as that of this node of so many, all of
 -- which only wrong words leave out, and its areas then; or whether the folders in this folder agree; or the registry that they
@@ -73,7 +75,7 @@ pub data Task : Type 0 where
   Show : Option Text → Task
   Random : RandomWords → Task
   Audit : Option Text → Task
-  Run : Option Text → Option Text → Option Text → Option Text → Task
+  Run : Option Text → Option Text → Option Text → Option Text → Option Text → Task
   Shell : ShellWords → Task
   Sweep : Option Text → Option Text → Task
   Draw : Option Text → CutWords → Task
@@ -133,7 +135,9 @@ random_task rows =
     })
 
 abbrev pub run_task : List Row → Task
-run_task rows = Run (first_of (codes "NODES") rows) (first_of (codes "DIR") rows) (first_of (codes "SCRIPT") rows) (first_of (codes "TAPE") rows)
+run_task rows =
+    Run (first_of (codes "NODES") rows) (first_of (codes "DIR") rows) (first_of (codes "SCRIPT") rows) (first_of (codes "TAPE") rows)
+    (first_of (codes "TICK") rows)
 
 abbrev pub shell_task : List Row → Task
 shell_task rows =
@@ -141,6 +145,7 @@ shell_task rows =
       nodes = first_of (codes "NODES") rows;
       dir = first_of (codes "DIR") rows;
       client = first_of (codes "CLIENT") rows;
+      tick = first_of (codes "TICK") rows;
       lines = unwrap_or (all_of (codes "LINE") rows) [];
       strict = is_set (codes "STRICT") rows;
       json = is_set (codes "JSON") rows;
@@ -214,6 +219,7 @@ shell_words_in words =
       nodes = option_map (λ s. s.now) words.nodes;
       dir = option_map (λ s. s.now) words.dir;
       client = option_map (λ s. s.now) words.client;
+      tick = option_map (λ s. s.now) words.tick;
       lines = map (λ s. s.now) words.lines.items;
       strict = words.strict;
       json = words.json;
@@ -233,9 +239,9 @@ task_in (read.View v) = Viewing (view_in v)
 task_in (read.Show folder) = Show (option_map (λ s. s.now) folder)
 task_in (read.Random words) = Random (random_words_in words)
 task_in (read.Audit file) = Audit (option_map (λ s. s.now) file)
-task_in (read.Run nodes dir script tape) =
+task_in (read.Run nodes dir script tape tick) =
     Run (option_map (λ s. s.now) nodes) (option_map (λ s. s.now) dir) (option_map (λ s. s.now) script)
-    (option_map (λ s. s.now) tape)
+    (option_map (λ s. s.now) tape) (option_map (λ s. s.now) tick)
 task_in (read.Shell words) = Shell (shell_words_in words)
 task_in (read.Sweep file seed) = Sweep (option_map (λ s. s.now) file) (option_map (λ s. s.now) seed)
 task_in (read.Draw file words) = Draw (option_map (λ s. s.now) file) (cut_words_in words)

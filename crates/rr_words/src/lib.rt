@@ -7,6 +7,6 @@ mod lines;
 mod reading;
 mod tasks;
 
-pub use lines::{LAST_CLIENT, LAST_LINE, MAX_FAULTS, MAX_STEPS};
+pub use lines::{LAST_CLIENT, LAST_LINE, LEAST_TICK, MAX_FAULTS, MAX_STEPS, MOST_TICK};
 pub use reading::read_words;
 pub use tasks::{CutWords, Form, RandomWords, ShellWords, Task, View};

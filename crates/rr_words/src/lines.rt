@@ -2,7 +2,7 @@
 
 ghost use Rattle.std.specs.Prelude.{◌≡◌, IfOk, codes};
 ghost use Rattle.clap.specs.Words.{App, app_of, new_app};
-ghost use Rattle.rr_words.specs.Lines.{IsArg, IsLine, and_also, rr_line, schedule_lines, rr_settings, with_version, named_rule, sim_line, stats_line, check_line, show_line, migrate_line, word_rule, number_rule, option_rule, optional_number_rule, flag_rule, numbers_line, random_line, audit_line, run_line, lines_rule, asking_line, shell_line, sweep_line, draw_line, verify_line, export_line};
+ghost use Rattle.rr_words.specs.Lines.{IsArg, IsLine, and_also, rr_line, schedule_lines, rr_settings, with_version, named_rule, sim_line, stats_line, check_line, show_line, migrate_line, word_rule, number_rule, option_rule, optional_number_rule, flag_rule, tick_rule, numbers_line, random_line, audit_line, run_line, lines_rule, asking_line, shell_line, sweep_line, draw_line, verify_line, export_line};
 
 use crate::helps;
 use clap::builder::ValueParser;
@@ -17,6 +17,12 @@ pub const MAX_STEPS: u64 = 999_930;
 
 /// How many steps in a thousand of a lively schedule have a fault at most.
 pub const MAX_FAULTS: u64 = 1_000;
+
+/// The least milliseconds between two ticks of a node that a word names.
+pub const LEAST_TICK: u64 = 10;
+
+/// The most milliseconds between two ticks of a node that a word names.
+pub const MOST_TICK: u64 = 10_000;
 
 /// The greatest number of a client.
 pub const LAST_CLIENT: u64 = 4_294_967_295;
@@ -152,6 +158,20 @@ fn lines_arg<'a>(alloc: Global, id: &'a str, long: &'a str, help: &'a str, lette
     named_arg(alloc, id, long, help)
         .short(letter)
         .action(ArgAction::Append)
+}
+
+// The option for how often nodes tick.
+fn tick_arg<'a>(alloc: Global) -> Arg<'a>
+    ensures { IsArg tick_rule result }
+{
+    optional_number_arg(
+        alloc,
+        "TICK",
+        "tick",
+        "How many milliseconds are between two ticks of a node, from 10 to 10000 [default: 50]",
+        LEAST_TICK,
+        MOST_TICK,
+    )
 }
 
 // The command line of `rr sim`.
@@ -335,7 +355,8 @@ fn run_line<'a>(alloc: Global) -> Result<Command<'a>, AllocError>
         "The script; - is standard input",
         true,
     ))?
-    .arg(option_arg(alloc, "TAPE", "tape", "Where the tape is written", false))
+    .arg(option_arg(alloc, "TAPE", "tape", "Where the tape is written", false))?
+    .arg(tick_arg(alloc))
 }
 
 // The command line of `rr shell` without how it answers.
@@ -385,6 +406,7 @@ fn shell_line<'a>(alloc: Global) -> Result<Command<'a>, AllocError>
     ensures { IfOk result (IsLine shell_line) }
 {
     asking_line(alloc)?
+        .arg(tick_arg(alloc))?
         .arg(flag_arg(
             alloc,
             "STRICT",

@@ -46,6 +46,8 @@ pub struct ShellWords<'a> {
     pub dir: Option<&'a str>,
     /// The client that asks.
     pub client: Option<&'a str>,
+    /// How many milliseconds are between two ticks of a node.
+    pub tick: Option<&'a str>,
     /// The lines to answer. Where there are none, standard input has them.
     pub lines: Vec<&'a str>,
     /// Whether it ends at the first line that isn't answered as asked.
@@ -90,10 +92,10 @@ pub enum Task<'a> {
     Random(RandomWords<'a>),
     /// `rr audit [FILE]`: whether the events are what nodes do of the tape in this file, or else in standard input.
     Audit(Option<&'a str>),
-    /// `rr run --nodes NODES --dir DIR --script SCRIPT [--tape TAPE]`: a run of nodes in threads by the script in this
-    /// file, and its tape into this file.
-    Run(Option<&'a str>, Option<&'a str>, Option<&'a str>, Option<&'a str>),
-    /// `rr shell [--nodes NODES] [--dir DIR] [--client CLIENT] [-c LINE].. [--strict] [--json]`: a run of nodes in threads, whom
+    /// `rr run --nodes NODES --dir DIR --script SCRIPT [--tape TAPE] [--tick MILLISECONDS]`: a run of nodes in threads by the
+    /// script in this file, its tape into this file, and how many milliseconds are between two ticks of a node.
+    Run(Option<&'a str>, Option<&'a str>, Option<&'a str>, Option<&'a str>, Option<&'a str>),
+    /// `rr shell [--nodes NODES] [--dir DIR] [--client CLIENT] [--tick MILLISECONDS] [-c LINE].. [--strict] [--json]`: a run of nodes in threads, whom
     /// these lines or those of standard input ask as this client.
     Shell(ShellWords<'a>),
     /// `rr sweep [FILE] --seed SEED`: what a node restarts with after a crash behind each device call of the schedule in
@@ -217,6 +219,7 @@ fn run_task<'a>(matches: &ArgMatches<'a>) -> Task<'a>
         word_of(matches, "DIR"),
         word_of(matches, "SCRIPT"),
         word_of(matches, "TAPE"),
+        word_of(matches, "TICK"),
     )
 }
 
@@ -246,6 +249,7 @@ fn shell_task<'a>(alloc: Global, matches: &ArgMatches<'a>) -> Result<Task<'a>, A
         nodes: word_of(matches, "NODES"),
         dir: word_of(matches, "DIR"),
         client: word_of(matches, "CLIENT"),
+        tick: word_of(matches, "TICK"),
         lines: words_of(alloc, matches, "LINE")?,
         strict: is_set(matches, "STRICT"),
         json: is_set(matches, "JSON"),
