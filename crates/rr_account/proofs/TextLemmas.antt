@@ -10,7 +10,7 @@ use Rattle.rr_text.specs.ReportTexts.{line, report_words, decided_lines, report_
 use Rattle.rr_text.specs.Reported.{Reported}
 use Rattle.rr_text.specs.declared.event.Event.{Event}
 use Rattle.rr_account.specs.Accounts.{Accounted}
-use Rattle.rr_account.specs.Texts.{Piece, Told, Note, shown, told, noted, told_lines, note_line, object_line, IsNoteOn, AreNotesOn, IsNoted, AreObjects}
+use Rattle.rr_account.specs.Texts.{Piece, Told, Note, shown, told, noted, told_lines, note_line, IsNoteOn, AreNotesOn, IsNoted}
 
 flat_map_more : {X : Type 0} (f : X → List ℕ) (xs : List X) (x : X) → flat_map f (xs ++ x ∷ []) ≡ flat_map f xs ++ f x
 flat_map_more f xs x = flat_map-append f xs (x ∷ []) ∙ ap (λ (t : List ℕ). flat_map f xs ++ t) (append-nil (f x))
@@ -50,21 +50,6 @@ noted_note events report text at e words counted one n = record {
   notes = subst (λ (ws : List (List ℕ)). AreNotesOn 2 (events ++ e ∷ []) ws) (sym (noted_more n.pieces words))
       (are_notes_more 2 events (flat_map noted n.pieces) e words n.notes (subst (λ k. IsNoteOn k e words) counted one));
 }
-
-pub objects_none : AreObjects 0 []
-objects_none = record { objects = []; number = refl; text_is = refl }
-
-pub objects_more : (count : ℕ) (text object : List ℕ) → AreObjects count text → AreObjects (count + 1) (text ++ object_line object)
-objects_more count text object o = record {
-  objects = o.objects ++ object ∷ [];
-  number = length-append o.objects (object ∷ []) ∙ ap (λ (n : ℕ). n + 1) o.number;
-  text_is = ap (λ (t : List ℕ). t ++ object_line object) o.text_is ∙ sym (flat_map_more object_line o.objects object);
-}
-
--- one object more
-pub objects_on : (count next : ℕ) (text longer : List ℕ) → next ≡ count + 1 → AreObjects count text → ((object : List ℕ) × (longer ≡ text ++ object_line object)) → AreObjects next longer
-objects_on count next text longer counts o (object, grew) =
-    subst (λ k. AreObjects k longer) (sym counts) (subst (λ (t : List ℕ). AreObjects (count + 1) t) (sym grew) (objects_more count text object o))
 
 -- what holds of each element holds with one more of which it holds
 pub all_more : {X : Type 0} (P : X → Type 0) (xs : List X) (x : X) → AllByRecursion P xs → P x → AllByRecursion P (xs ++ x ∷ [])

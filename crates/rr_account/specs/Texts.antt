@@ -1,5 +1,5 @@
 -- Texts in which lines stand beside those of a report.
-use Rattle.std.specs.Prelude.{◌≡◌, ℕ, ◌+◌, ◌==◌, if◌then◌else◌, List, [], ◌∷◌, ◌++◌, length, map, codes, decimal}
+use Rattle.std.specs.Prelude.{◌≡◌, ℕ, ◌+◌, ◌==◌, if◌then◌else◌, List, [], ◌∷◌, ◌++◌, map, codes, decimal}
 use Rattle.std.specs.List.{flat_map}
 use Rattle.rr_text.specs.declared.event.Event.{Event}
 use Rattle.rr_text.specs.declared.report.ReportLine.{ReportLine}
@@ -13,10 +13,6 @@ unbroken byte = if byte == 10 then 32 else byte
 -- a note: a line that begins with four spaces
 abbrev pub note_line : List ℕ → List ℕ
 note_line words = codes "    " ++ map unbroken words ++ 10 ∷ []
-
--- the line of an object
-abbrev pub object_line : List ℕ → List ℕ
-object_line object = map unbroken object ++ 10 ∷ []
 
 -- the lines of a report, without the decided list
 abbrev pub told_lines : List ReportLine → List ℕ
@@ -59,9 +55,3 @@ pub record IsNoted (events : List Event) (report text : List ℕ) : Type 0 where
   pub report_is : report ≡ flat_map told pieces
   pub text_is : text ≡ flat_map shown pieces
   pub notes : AreNotesOn 2 events (flat_map noted pieces)
-
--- a text is so many objects, a line each
-pub record AreObjects (count : ℕ) (text : List ℕ) : Type 0 where
-  pub objects : List (List ℕ)
-  pub number : length objects ≡ count
-  pub text_is : text ≡ flat_map object_line objects

@@ -5,7 +5,6 @@ ghost use Rattle.rr_account.specs.Counts.{is_event_kind, is_message_kind};
 
 use rr_text::{Event, EventKind};
 use rr_types::{Body, MessageKind};
-use serde::{Serialize, Serializer};
 
 /// All kinds of events.
 pub(crate) const EVENT_KINDS: [EventKind; 14] = [
@@ -24,14 +23,6 @@ pub(crate) const EVENT_KINDS: [EventKind; 14] = [
     EventKind::Crash,
     EventKind::Restart,
 ];
-
-/// Writes a kind of events as JSON: it is its word.
-pub(crate) fn serialize_event_kind<S: Serializer>(
-    kind: &EventKind,
-    out: &mut S,
-) -> Result<(), S::Error> {
-    kind.word().serialize(out)
-}
 
 /// Whether an event is of this kind.
 pub(crate) fn is_event_kind(kind: EventKind, event: &Event) -> bool
@@ -67,14 +58,6 @@ pub(crate) const MESSAGE_KINDS: [MessageKind; 9] = [
     MessageKind::Suspects,
     MessageKind::Ask,
 ];
-
-/// Writes a kind of messages as JSON: it is its word.
-pub(crate) fn serialize_message_kind<S: Serializer>(
-    kind: &MessageKind,
-    out: &mut S,
-) -> Result<(), S::Error> {
-    kind.word().serialize(out)
-}
 
 /// Whether a message says a thing of this kind.
 pub(crate) fn is_message_kind(kind: MessageKind, body: &Body) -> bool

@@ -1,13 +1,10 @@
-//! Lines that stand beside a report: notes, and JSON objects.
+//! Notes: lines that stand beside those of a report.
 
-ghost use Rattle.std.specs.Prelude.{◌≡◌, ◌++◌, ◌∷◌, [], map, codes, ℕ, List, OnOk, IfOk, IfErr};
-ghost use Rattle.rr_account.specs.Texts.{unbroken, note_line, object_line};
+ghost use Rattle.std.specs.Prelude.{◌≡◌, ◌++◌, ◌∷◌, [], map, codes, OnOk, IfErr};
+ghost use Rattle.rr_account.specs.Texts.{unbroken, note_line};
 
 use rr_text::text_word::{push_byte, push_bytes};
 use rr_types::Refusal;
-use serde::Serialize;
-use serde_json::to_vec;
-use std::alloc::Global;
 
 // A byte as a line has it: a space for a line feed.
 fn unbroken(byte: u8) -> u8
@@ -35,31 +32,4 @@ pub(crate) fn push_note(text: &mut Vec<u8>, words: &[u8]) -> Result<(), Refusal>
     push_bytes(text, b"    ")?;
     push_unbroken(text, words)?;
     Ok(push_byte(text, b'\n')?)
-}
-
-// Appends a line.
-fn push_line(text: &mut Vec<u8>, words: &[u8]) -> Result<(), Refusal>
-    ensures ok { OnOk result (text.new.items ≡ text.old.items ++ object_line words.now) }
-    ensures err { IfErr result (λ e. e ≡ Refusal.OutOfMemory) }
-{
-    push_unbroken(text, words)?;
-    Ok(push_byte(text, b'\n')?)
-}
-
-/// Appends a line with the JSON of a value.
-pub(crate) fn push_object<T: Serialize>(
-    alloc: Global,
-    text: &mut Vec<u8>,
-    value: &T,
-) -> Result<(), Refusal>
-    ensures ok { OnOk result ((object : List ℕ) × (text.new.items ≡ text.old.items ++ object_line object)) }
-    ensures err { IfErr result (λ e. e ≡ Refusal.OutOfMemory) }
-{
-    match to_vec(alloc, value) {
-        Ok(object) => {
-            push_line(text, object.as_slice())?;
-            Ok(())
-        }
-        Err(_) => Err(Refusal::OutOfMemory),
-    }
 }

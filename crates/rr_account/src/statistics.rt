@@ -5,21 +5,16 @@ ghost use Rattle.std.specs.List.{AllByRecursion};
 ghost use Rattle.rr_account.specs.Counts.{count_events, count_messages, is_sent_kind, event_kinds, message_kinds};
 
 use crate::account::Account;
-use crate::kind::{
-    EVENT_KINDS, MESSAGE_KINDS, is_event_kind, is_message_kind, serialize_event_kind,
-    serialize_message_kind,
-};
+use crate::kind::{EVENT_KINDS, MESSAGE_KINDS, is_event_kind, is_message_kind};
 use crate::outcome::Outcome;
 use rr_text::{Event, EventKind, ReportLine};
 use rr_types::{Body, Instance, MessageKind, Refusal, Round};
-use serde::Serialize;
 use std::alloc::{AllocError, Global};
 
 /// The events of a kind: how many there are, how many have a line in the report that is no refusal, how many were
 /// refused, and how many came to nothing.
-#[derive(Clone, Copy, Serialize)]
+#[derive(Clone, Copy)]
 pub struct EventCount {
-    #[serde(serialize_with = "serialize_event_kind")]
     pub kind: EventKind,
     pub events: u64,
     pub told: u64,
@@ -29,9 +24,8 @@ pub struct EventCount {
 
 /// The messages of a kind: how many were sent, how many of these were heard, how often one was heard that was heard
 /// before, and how many were never heard.
-#[derive(Clone, Copy, Serialize)]
+#[derive(Clone, Copy)]
 pub struct MessageCount {
-    #[serde(serialize_with = "serialize_message_kind")]
     pub kind: MessageKind,
     pub sent: u64,
     pub heard: u64,
@@ -40,14 +34,14 @@ pub struct MessageCount {
 }
 
 /// The refusals of a name.
-#[derive(Clone, Copy, Serialize)]
+#[derive(Clone, Copy)]
 pub struct RefusalCount {
     pub name: &'static str,
     pub refusals: u64,
 }
 
 /// How often what happened in a run. A decided instance took as many rounds as the highest of its rounds in a message has.
-#[derive(Drop, Serialize)]
+#[derive(Drop)]
 pub struct Statistics {
     pub nodes: u8,
     pub decided: u64,

@@ -1,5 +1,5 @@
 -- Views of the run of a schedule, and how they end the program.
-use Rattle.std.specs.Prelude.{◌≡◌, ◌≢◌, ℕ, zero, suc, ◌+◌, List, [], length, Option, None, Some}
+use Rattle.std.specs.Prelude.{◌≡◌, ◌≢◌, ℕ, zero, suc, List, [], Option, None, Some}
 use Rattle.clap.specs.Kinds.{Kinds}
 use Rattle.clap.specs.Words.{Text}
 use Rattle.rr_types.specs.declared.refusal.Refusal.{Refusal}
@@ -7,10 +7,12 @@ use Rattle.rr_text.specs.Lines.{IsFault}
 use Rattle.rr_text.specs.Scheduled.{IsEvent}
 use Rattle.rr_text.specs.ScheduleTexts.{event_line}
 use Rattle.rr_text.specs.ReportTexts.{report_text}
+use Rattle.rr_json.specs.Objects.{report_objects}
 use Rattle.rr_stream.specs.Streams.{Printing, Reading}
 use Rattle.rr_files.specs.Files.{Readable, file_at, reading_of}
 use Rattle.rr_account.specs.Accounts.{Accounted, IsAccountOn}
-use Rattle.rr_account.specs.Texts.{IsNoted, AreObjects}
+use Rattle.rr_account.specs.Objects.{IsExplanation, IsStatistics}
+use Rattle.rr_account.specs.Texts.{IsNoted}
 use Rattle.rr_cli.specs.Ends.{EndsBy, EndsOnInput, Prints}
 use Rattle.rr_words.specs.declared.tasks.Form.TheVariants.{Plain, Json}
 use Rattle.rr_words.specs.Tasks.{View, Report, Explanation, Statistics, Comparison, Task, Viewing}
@@ -30,14 +32,14 @@ abbrev pub different : ℕ → ℕ
 different zero = 1
 different (suc n) = suc n
 
--- a text shows an account: as objects for the lines of its report; or as its report with a note on each event; or as objects
--- for its events and its decided list; or as statistics, which as JSON are one object
+-- a text shows an account: as the objects of its report; or as its report with a note on each event; or as objects for its
+-- events and its decided list; or as statistics, which as JSON are one object
 abbrev pub Shows : Shown → Accounted → List ℕ → Type 0
-Shows shown.Report account text = AreObjects (length account.report.lines + 1 + length account.report.decided) text
+Shows shown.Report account text = text ≡ report_objects account.report
 Shows (shown.Explanation Plain) account text = IsNoted account.schedule.events (report_text account.report) text
-Shows (shown.Explanation Json) account text = AreObjects (length account.schedule.events + 1 + length account.report.decided) text
+Shows (shown.Explanation Json) account text = IsExplanation account text
 Shows (shown.Statistics Plain) account text = Unit {0}
-Shows (shown.Statistics Json) account text = AreObjects 1 text
+Shows (shown.Statistics Json) account text = IsStatistics text
 
 -- a view of the run of the schedule that bytes are: a text that shows it is printed; or the bytes are no schedule or memory
 -- was wanting, and standard output is as it was

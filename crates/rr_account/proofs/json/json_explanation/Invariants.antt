@@ -1,6 +1,6 @@
-use Rattle.rr_account.specs.Texts.{AreObjects}
+-- The events so far have their objects.
+use Rattle.rr_account.proofs.ExplanationLemmas.{ToldSoFar}
 use Rattle.rr_account.proofs.json.json_explanation.Given as goal
 
--- each event so far has its object
 abbrev pub invariant-loop-event : goal.invariant-loop-event
-invariant-loop-event l = AreObjects l.event-index l.text.items
+invariant-loop-event l = ToldSoFar l.account l.event-index l.at l.told l.text.items

@@ -1,11 +1,10 @@
-use Rattle.std.proofs.Common.{◌≡◌, ◌+◌, ◌++◌, ℕ, List, refl}
-use Rattle.std.proofs.lemmas.Result.{on_ok_weaker}
-use Rattle.rr_account.specs.Texts.{AreObjects, object_line}
-use Rattle.rr_account.proofs.TextLemmas.{objects_on}
+use Rattle.std.proofs.Common.{option_map}
+use Rattle.rr_account.proofs.ExplanationLemmas.{four_more}
 use Rattle.rr_account.proofs.json.push_happening.Goals as goal
 
-pub returns-after-is_idle-clause-ok : goal.returns-after-is_idle-clause-ok
-returns-after-is_idle-clause-ok c =
-    on_ok_weaker c.push_object.result
-    (λ (grew : (object : List ℕ) × (c.push_object.new.text.items ≡ c.args.text.now.items ++ object_line object)). λ (count : ℕ) (before : AreObjects count c.args.text.now.items). objects_on count (count + 1) c.args.text.now.items c.push_object.new.text.items refl before grew)
-    c.push_object.ensures.ok
+pub returns-clause-ok : goal.returns-clause-ok
+returns-clause-ok c = record {
+  idle = c.is_idle.result;
+  note = option_map (λ w. w.items) c.in_ok-note.note;
+  grew = four_more c.args.out.now.items _ _ _ _ _ _ _ c.push_end.new.out.items c.in_ok-push_front.ensures.ok c.in_ok-push_label.ensures.ok c.in_ok-push_event_object.ensures.ok c.in_ok-push_end.ensures.ok;
+}
