@@ -9,7 +9,7 @@ use rr_text::Event;
 use rr_types::{Body, Instance, Message, NodeId};
 
 /// Which events a picture shows: those on the lines `from` to `to` of the schedule, of one node or of all. Of an
-/// instance it shows those alone that send or hear a message which speaks of it.
+/// instance it shows those alone that send or hear a message which speaks of it, or sync or mark a fact of it.
 #[derive(Clone, Copy, Debug)]
 pub struct Cut {
     pub from: u64,
@@ -24,6 +24,14 @@ impl Cut {
         ensures { result ≡ shows self.now line event.now }
     {
         self.from <= line && line <= self.to && self.has_node(node_of(event))
+    }
+
+    /// Whether an instance is the one that is asked for, if one is.
+    pub(crate) fn has_instance(&self, instance: Instance) -> bool {
+        match self.instance {
+            Some(one) => one.number() == instance.number(),
+            None => true,
+        }
     }
 
     fn has_node(&self, node: NodeId) -> bool

@@ -1,23 +1,27 @@
 //! A picture as it grows, event by event.
 
-use crate::glyphs::{
-    class_of, push_arrow, push_fact_name, push_mark, push_message_name, push_text,
-};
+use crate::cut::Cut;
+use crate::glyphs::{class_of, is_quiet, push_arrow, push_facts, push_mark, push_message_name};
 use crate::lane::{Job, Lane, lanes_of, width_of};
 use crate::style::{LEGEND, LEGEND_WIDTH, STYLE};
 use rr_sim::{Cluster, Stance};
 use rr_text::Event;
+use rr_text::text_word::{push_op, push_set};
 use rr_types::{Command, Fact, Message, NodeId, Nodes};
 use std::alloc::Global;
 use std::io;
 use std::io::Write;
 
 /// Where the first event stands.
-const TOP: u64 = 44;
+const TOP: u64 = 56;
 /// How far an event stands below the one before.
 const ROW: u64 = 4;
-/// How high a label is.
-const LABEL: u64 = 8;
+/// How far below an event stands that is folded.
+const FOLDED_ROW: u64 = 1;
+/// How far the numbers of lines stand apart.
+const NUMBERS: u64 = 40;
+/// How many letters of a command are shown.
+const LETTERS: usize = 20;
 
 /// A message that was sent: where, and whether it was heard.
 #[derive(Clone, Copy, Debug)]
@@ -32,6 +36,8 @@ struct Sent {
 pub(crate) struct Art {
     pub(crate) more: Vec<u8>,
     pub(crate) shapes: Vec<u8>,
+    /// Whether a fact of the instance that is asked for is synced or marked here.
+    pub(crate) is_about: bool,
 }
 
 /// A picture as far as it is drawn. What lies below the events is kept apart.
@@ -39,10 +45,17 @@ pub(crate) struct Art {
 pub(crate) struct Drawing {
     alloc: Global,
     nodes: Nodes,
+    cut: Cut,
+    /// Whether there are so many events that those are folded which nobody looks at.
+    is_long: bool,
+    /// Whether the event that is drawn is shown, and has labels.
+    is_shown: bool,
     y: u64,
     lanes: Vec<Lane>,
     sent: Vec<Sent>,
     below: Vec<u8>,
+    /// Where the next number of a line may stand.
+    next_number: u64,
 }
 
 /// A side of a line.
@@ -53,42 +66,109 @@ enum Side {
 }
 
 impl Drawing {
-    /// A picture of `nodes` nodes, without events.
-    pub(crate) fn new(alloc: Global, nodes: Nodes) -> io::Result<Drawing> {
+    /// A picture of `nodes` nodes, without events. Of a long one more is folded.
+    pub(crate) fn new(
+        alloc: Global,
+        nodes: Nodes,
+        cut: &Cut,
+        is_long: bool,
+    ) -> io::Result<Drawing> {
         Ok(Drawing {
             alloc,
             nodes,
+            cut: *cut,
+            is_long,
+            is_shown: false,
             y: TOP,
             lanes: lanes_of(alloc, nodes)?,
             sent: Vec::new(alloc),
             below: Vec::new(alloc),
+            next_number: TOP,
         })
     }
 
-    /// What is drawn of an event that has told these lines, where the cluster is behind it.
+    /// What is drawn of an event that has told these lines, where the cluster is behind it. It speaks of this message, and
+    /// lies within the lines and the node of the cut; `speaks` says whether the message is of its instance.
     pub(crate) fn draw(
         &mut self,
         line: u64,
         event: &Event,
         told: &[u8],
         cluster: &Cluster,
-        is_shown: bool,
+        message: Option<&Message>,
+        shown: (bool, bool),
     ) -> io::Result<Art> {
         let mut art = Art {
             more: Vec::new(self.alloc),
             shapes: Vec::new(self.alloc),
+            is_about: false,
         };
+        let (is_within, speaks) = shown;
         let node = rr_sim::node_of(event);
-        self.draw_input(event, told, cluster.wire(), is_shown, &mut art)?;
-        self.follow(node, event, told, cluster, &mut art.shapes)?;
+        let is_folded = self.is_folded(event, told, cluster, message);
+        self.is_shown = is_within && speaks && !is_folded;
+        self.draw_input(event, told, cluster.wire(), &mut art)?;
+        self.is_shown = is_within && !is_folded;
+        self.follow(node, event, told, cluster, &mut art)?;
         if told.starts_with(b"refuse") {
-            self.draw_refusal(node, event, &mut art.shapes)?;
+            self.draw_refusal(node, event, told, &mut art.shapes)?;
         }
-        self.draw_rest(line, node, &mut art.shapes)?;
+        let is_shown = is_within && (speaks || art.is_about);
+        if is_folded {
+            art.shapes.clear();
+            let (x, y) = (self.x(node), self.y);
+            write!(
+                art.shapes,
+                "<circle class=\"f\" cx=\"{x}\" cy=\"{y}\" r=\".7\"/>"
+            )?;
+        }
+        self.draw_rest(line, node, is_shown, &mut art.shapes)?;
         if is_shown {
-            self.y = self.y.saturating_add(ROW);
+            let down = if is_folded { FOLDED_ROW } else { ROW };
+            self.y = self.y.saturating_add(down);
         }
         Ok(art)
+    }
+
+    /// Whether an event is folded: in a long picture requests, heartbeats, and device calls without a job.
+    fn is_folded(
+        &self,
+        event: &Event,
+        told: &[u8],
+        cluster: &Cluster,
+        message: Option<&Message>,
+    ) -> bool {
+        if !self.is_long {
+            return false;
+        }
+        if let Some(message) = message {
+            return is_quiet(message.body.kind());
+        }
+        if !told.is_empty() {
+            return false;
+        }
+        match event {
+            Event::Tick { .. } => true,
+            Event::Device { node } => {
+                self.is_idle(*node)
+                    && match cluster.node(*node) {
+                        Some(seat) => matches!(seat.stance(), Stance::Resting | Stance::Flushed),
+                        None => false,
+                    }
+            }
+            _ => false,
+        }
+    }
+
+    /// Whether a node has no job, or has synced its group.
+    fn is_idle(&self, node: NodeId) -> bool {
+        match self.lanes.get(usize::from(node.index())) {
+            Some(lane) => match lane.job {
+                Some(job) => job.is_synced,
+                None => true,
+            },
+            None => true,
+        }
     }
 
     /// How far from the left a node's line stands.
@@ -99,22 +179,26 @@ impl Drawing {
         }
     }
 
-    /// Where a label at a node may stand, if there is room for it; the room is taken.
-    fn take_room(&mut self, node: NodeId, side: Side) -> Option<u64> {
-        let y = self.y;
-        let lane = self.lanes.get_mut(usize::from(node.index()))?;
-        let [left, right] = lane.label;
-        let free = if side == Side::Left { left } else { right };
-        if free > y {
-            return None;
+    /// A label at a node, where the event has labels.
+    fn label(
+        &mut self,
+        node: NodeId,
+        side: Side,
+        y: u64,
+        class: &'static str,
+        text: &[u8],
+    ) -> io::Result<()> {
+        if !self.is_shown {
+            return Ok(());
         }
-        let next = y.saturating_add(LABEL);
-        lane.label = if side == Side::Left {
-            [next, right]
-        } else {
-            [left, next]
-        };
-        Some(y)
+        let alloc = self.alloc;
+        if let Some(lane) = self.lanes.get_mut(usize::from(node.index())) {
+            match side {
+                Side::Left => lane.left.add(alloc, y, class, text)?,
+                Side::Right => lane.right.add(alloc, y, class, text)?,
+            }
+        }
+        Ok(())
     }
 
     /// What comes from a client or from another node, or goes there.
@@ -123,7 +207,6 @@ impl Drawing {
         event: &Event,
         told: &[u8],
         wire: &[Message],
-        is_shown: bool,
         art: &mut Art,
     ) -> io::Result<()> {
         match event {
@@ -131,7 +214,7 @@ impl Drawing {
             Event::Hear { node, message } => self.draw_hear(*node, *message, wire, art),
             Event::Send { node } => {
                 if told.starts_with(b"send") {
-                    self.draw_send(*node, wire, is_shown, &mut art.shapes)?;
+                    self.draw_send(*node, wire, &mut art.shapes)?;
                 }
                 Ok(())
             }
@@ -141,9 +224,19 @@ impl Drawing {
                 }
                 Ok(())
             }
-            Event::Suspect { node, .. } => self.draw_word(*node, "suspect", &mut art.shapes),
-            Event::Tick { node } => self.draw_word(*node, "tick", &mut art.shapes),
-            Event::Advance { node } => self.draw_word(*node, "advance", &mut art.shapes),
+            Event::Suspect { node, set } => {
+                push_mark(&mut art.shapes, "v", self.x(*node), self.y)?;
+                let mut text = Vec::new(self.alloc);
+                text.extend_from_slice(b"suspects")?;
+                if set.bits() == 0 {
+                    text.extend_from_slice(b" nobody")?;
+                } else {
+                    push_set(&mut text, *set)?;
+                }
+                self.label(*node, Side::Left, self.y, "v", text.as_slice())
+            }
+            Event::Tick { node } => self.draw_word(*node, b"tick", &mut art.shapes),
+            Event::Advance { node } => self.draw_word(*node, b"advance", &mut art.shapes),
             _ => Ok(()),
         }
     }
@@ -154,17 +247,22 @@ impl Drawing {
         command: &Command,
         out: &mut Vec<u8>,
     ) -> io::Result<()> {
-        let x = self.x(node);
-        push_mark(out, "s", x, self.y)?;
-        if let Some(y) = self.take_room(node, Side::Left) {
-            let (client, seq) = (command.request.client, command.request.seq);
-            let at = x.saturating_sub(11);
-            write!(
-                out,
-                "<text class=\"r\" x=\"{at}\" y=\"{y}\">{client}.{seq}</text>"
-            )?;
+        push_mark(out, "s", self.x(node), self.y)?;
+        let mut words = Vec::new(self.alloc);
+        push_op(&mut words, &command.op)?;
+        let (client, seq) = (command.request.client, command.request.seq);
+        let mut text = Vec::new(self.alloc);
+        write!(text, "{client}.{seq}")?;
+        // The words begin with a space.
+        let letters = words.as_slice();
+        match letters.get(..LETTERS + 1) {
+            Some(some) if letters.len() > LETTERS + 1 => {
+                text.extend_from_slice(some)?;
+                text.extend_from_slice(b"..")?;
+            }
+            _ => text.extend_from_slice(letters)?,
         }
-        Ok(())
+        self.label(node, Side::Left, self.y, "", text.as_slice())
     }
 
     /// A message is heard: an arrow from where it was sent.
@@ -201,16 +299,10 @@ impl Drawing {
     }
 
     /// A message is sent: where its arrow will begin, and its name.
-    fn draw_send(
-        &mut self,
-        node: NodeId,
-        wire: &[Message],
-        is_shown: bool,
-        out: &mut Vec<u8>,
-    ) -> io::Result<()> {
+    fn draw_send(&mut self, node: NodeId, wire: &[Message], out: &mut Vec<u8>) -> io::Result<()> {
         self.sent.push(Sent {
             y: self.y,
-            is_shown,
+            is_shown: self.is_shown,
             is_heard: false,
         })?;
         let Some(message) = wire.last() else {
@@ -228,44 +320,23 @@ impl Drawing {
         } else {
             Side::Left
         };
-        if let Some(y) = self.take_room(node, side) {
-            let (anchor, at) = match side {
-                Side::Left => ("r", x.saturating_sub(8)),
-                Side::Right => ("", x.saturating_add(8)),
-            };
-            write!(out, "<text class=\"{kind} {anchor}\" x=\"{at}\" y=\"{y}\">")?;
-            push_message_name(out, message)?;
-            write!(out, "</text>")?;
-        }
-        Ok(())
+        let mut text = Vec::new(self.alloc);
+        push_message_name(&mut text, message)?;
+        self.label(node, side, y, kind, text.as_slice())
     }
 
-    /// A client is told its reply, at the edge.
+    /// A client is told its reply.
     fn draw_ack(&mut self, node: NodeId, told: &[u8], out: &mut Vec<u8>) -> io::Result<()> {
-        let x = self.x(node);
-        let y = self.y;
-        let edge = width_of(self.nodes).saturating_sub(100);
-        write!(
-            out,
-            "<line class=\"t\" x1=\"{x}\" y1=\"{y}\" x2=\"{edge}\" y2=\"{y}\"/>"
-        )?;
-        let y = y.saturating_add(2);
-        let edge = edge.saturating_add(3);
-        write!(out, "<text class=\"a\" x=\"{edge}\" y=\"{y}\">")?;
-        if let Some(words) = told.get(6..) {
-            out.extend_from_slice(words)?;
-        }
-        write!(out, "</text>")
+        push_mark(out, "t", self.x(node), self.y)?;
+        // The line is `ack P REQUEST REPLY`, where P is one digit.
+        self.label(node, Side::Right, self.y, "a", words_behind(told, 6))
     }
 
-    fn draw_word(&mut self, node: NodeId, word: &str, out: &mut Vec<u8>) -> io::Result<()> {
+    fn draw_word(&mut self, node: NodeId, word: &[u8], out: &mut Vec<u8>) -> io::Result<()> {
         let x = self.x(node);
         let y = self.y;
         write!(out, "<circle class=\"o\" cx=\"{x}\" cy=\"{y}\" r=\"2\"/>")?;
-        if let Some(y) = self.take_room(node, Side::Left) {
-            push_text(out, "o r", x.saturating_sub(8), y, word)?;
-        }
-        Ok(())
+        self.label(node, Side::Left, y, "o", word)
     }
 
     /// What becomes of the node and of its job.
@@ -275,21 +346,19 @@ impl Drawing {
         event: &Event,
         told: &[u8],
         cluster: &Cluster,
-        out: &mut Vec<u8>,
+        art: &mut Art,
     ) -> io::Result<()> {
         let Some(seat) = cluster.nodes().get(usize::from(node.index())) else {
             return Ok(());
         };
         let stance = seat.stance();
         match event {
-            Event::Take { .. } => self.begin(node, stance, false),
-            Event::Snap { .. } => self.begin(node, stance, true),
-            Event::Device { .. } => self.draw_call(node, stance, seat.synced(), told, out)?,
-            Event::Mark { .. } => self.draw_mark(node, out)?,
-            Event::Restart { .. } => self.draw_restart(node, stance, out)?,
-            Event::Crash { .. } => {
-                push_mark(out, "x", self.x(node), self.y)?;
-            }
+            Event::Take { .. } => self.begin(node, stance, false)?,
+            Event::Snap { .. } => self.begin(node, stance, true)?,
+            Event::Device { .. } => self.draw_call(node, stance, seat.synced(), told, art)?,
+            Event::Mark { .. } => self.draw_mark(node, art)?,
+            Event::Restart { .. } => self.draw_restart(node, stance, &mut art.shapes)?,
+            Event::Crash { .. } => self.draw_crash(node, &mut art.shapes)?,
             _ => (),
         }
         if matches!(stance, Stance::Down | Stance::Failed) {
@@ -299,13 +368,39 @@ impl Drawing {
     }
 
     /// A flush or a switch begins, unless one runs or there is nothing to flush.
-    fn begin(&mut self, node: NodeId, stance: Stance, is_switch: bool) {
+    fn begin(&mut self, node: NodeId, stance: Stance, is_switch: bool) -> io::Result<()> {
         let since = self.y;
-        if let Some(lane) = self.lanes.get_mut(usize::from(node.index())) {
-            if stance == Stance::Calling && lane.job.is_none() {
-                lane.job = Some(Job { since, is_switch });
-            }
+        let Some(lane) = self.lanes.get_mut(usize::from(node.index())) else {
+            return Ok(());
+        };
+        if stance != Stance::Calling || lane.job.is_some() {
+            return Ok(());
         }
+        lane.job = Some(Job {
+            since,
+            is_switch,
+            is_synced: false,
+        });
+        if is_switch {
+            self.label(node, Side::Left, since, "", b"snapshot")?;
+        }
+        Ok(())
+    }
+
+    /// A crash: what it cuts short.
+    fn draw_crash(&mut self, node: NodeId, out: &mut Vec<u8>) -> io::Result<()> {
+        push_mark(out, "x", self.x(node), self.y)?;
+        let words: &[u8] = match self.lanes.get(usize::from(node.index())) {
+            Some(lane) => match lane.job {
+                Some(job) if job.is_switch => b"crash cuts a snapshot",
+                Some(job) if job.is_synced => b"crash before a mark",
+                Some(_) => b"crash cuts a flush",
+                None if lane.since.is_some() && !lane.is_up => b"crash cuts an opening",
+                None => b"crash",
+            },
+            None => b"crash",
+        };
+        self.label(node, Side::Left, self.y, "b", words)
     }
 
     /// A device call, and what comes of it.
@@ -315,24 +410,26 @@ impl Drawing {
         stance: Stance,
         synced: &[Fact],
         told: &[u8],
-        out: &mut Vec<u8>,
+        art: &mut Art,
     ) -> io::Result<()> {
         let x = self.x(node);
         let y = self.y;
         let left = x.saturating_sub(4);
         if told.starts_with(b"restart") {
             self.open(node)?;
-            push_mark(out, "u", x, y)?;
+            push_mark(&mut art.shapes, "u", x, y)?;
+            self.draw_opened(node, told)?;
         }
         let has_job = match self.lanes.get(usize::from(node.index())) {
             Some(lane) => lane.job.is_some(),
             None => false,
         };
-        if has_job || stance == Stance::Opening {
-            write!(out, "<path d=\"M{left} {y}h8\"/>")?;
+        let is_idle = self.is_idle(node);
+        if !is_idle || stance == Stance::Opening {
+            write!(art.shapes, "<path d=\"M{left} {y}h8\"/>")?;
         }
-        if stance == Stance::Flushed && has_job {
-            self.draw_facts(node, synced, out)?;
+        if stance == Stance::Flushed && !is_idle {
+            self.draw_facts(node, synced, art)?;
         }
         if stance == Stance::Resting && has_job {
             self.end_job(node)?;
@@ -340,40 +437,53 @@ impl Drawing {
         Ok(())
     }
 
-    /// The facts of a synced group: a tick with its name for each, beside the flush.
-    fn draw_facts(&mut self, node: NodeId, synced: &[Fact], out: &mut Vec<u8>) -> io::Result<()> {
-        let y = self.y;
+    /// What a node has opened with: how many facts, and how many decided commands.
+    fn draw_opened(&mut self, node: NodeId, told: &[u8]) -> io::Result<()> {
+        // The line is `restart P FACTS DECIDED ..`.
+        let mut text = Vec::new(self.alloc);
+        text.extend_from_slice(b"opened: facts ")?;
+        text.extend_from_slice(word_of(told, 2))?;
+        text.extend_from_slice(b", decided ")?;
+        text.extend_from_slice(word_of(told, 3))?;
+        self.label(node, Side::Right, self.y, "", text.as_slice())
+    }
+
+    /// The facts of a synced group: their names beside the flush, of the instance alone that is asked for.
+    fn draw_facts(&mut self, node: NodeId, synced: &[Fact], art: &mut Art) -> io::Result<()> {
+        let alloc = self.alloc;
+        let instance = self.cut.instance;
         let Some(lane) = self.lanes.get_mut(usize::from(node.index())) else {
             return Ok(());
         };
-        lane.decides.clear();
-        let since = match lane.job {
-            Some(job) => job.since,
-            None => y,
+        let Some(job) = lane.job else {
+            return Ok(());
         };
-        let x = lane.x.saturating_add(5);
-        let mut at = since.saturating_add(2);
-        let [left, mut free] = lane.label;
+        lane.job = Some(Job {
+            is_synced: true,
+            ..job
+        });
+        lane.decides.clear();
         for fact in synced {
-            if let Fact::Decide(instance, _) = fact {
-                lane.decides.push(instance.number())?;
+            if let Fact::Decide(decided, _) = fact {
+                if self.cut.has_instance(*decided) {
+                    lane.decides.push(decided.number())?;
+                }
             }
-            write!(out, "<path d=\"M{x} {at}h5\"/>")?;
-            if at >= free && at <= y {
-                let (x, y) = (x.saturating_add(7), at.saturating_add(3));
-                write!(out, "<text x=\"{x}\" y=\"{y}\">")?;
-                push_fact_name(out, fact)?;
-                write!(out, "</text>")?;
-                free = at.saturating_add(LABEL);
-            }
-            at = at.saturating_add(if at < y { LABEL } else { 1 });
         }
-        lane.label = [left, free];
+        for kind in 0..4u8 {
+            let mut text = Vec::new(alloc);
+            push_facts(&mut text, synced, kind, instance)?;
+            if !text.is_empty() {
+                art.is_about = instance.is_some();
+                let at = job.since.saturating_add(2);
+                self.label(node, Side::Right, at, "", text.as_slice())?;
+            }
+        }
         Ok(())
     }
 
     /// A group is marked: the flush has ended, and what it decides is decided for good.
-    fn draw_mark(&mut self, node: NodeId, out: &mut Vec<u8>) -> io::Result<()> {
+    fn draw_mark(&mut self, node: NodeId, art: &mut Art) -> io::Result<()> {
         let y = self.y;
         let alloc = self.alloc;
         let x = self.x(node);
@@ -386,16 +496,17 @@ impl Drawing {
         if decides.is_empty() {
             return Ok(());
         }
-        push_mark(out, "k", x, y)?;
-        if let Some(y) = self.take_room(node, Side::Left) {
-            let at = x.saturating_sub(8);
-            write!(out, "<text class=\"d r\" x=\"{at}\" y=\"{y}\">decided")?;
-            for instance in &decides {
-                write!(out, " {instance}")?;
-            }
-            write!(out, "</text>")?;
+        art.is_about = self.cut.instance.is_some();
+        push_mark(&mut art.shapes, "k", x, y)?;
+        let mut text = Vec::new(alloc);
+        text.extend_from_slice(b"decided")?;
+        for instance in decides.iter().take(4) {
+            write!(text, " {instance}")?;
         }
-        Ok(())
+        if decides.len() > 4 {
+            text.extend_from_slice(b" ..")?;
+        }
+        self.label(node, Side::Left, y, "d", text.as_slice())
     }
 
     /// A job has ended, or is cut short: its block.
@@ -472,31 +583,45 @@ impl Drawing {
         )
     }
 
-    /// An event that was refused.
-    fn draw_refusal(&mut self, node: NodeId, event: &Event, out: &mut Vec<u8>) -> io::Result<()> {
-        let x = self.x(node);
-        let y = self.y;
-        if matches!(event, Event::Fail { .. } | Event::Device { .. }) {
-            write!(out, "<circle class=\"b\" cx=\"{x}\" cy=\"{y}\" r=\"4\"/>")?;
-            if let Some(y) = self.take_room(node, Side::Left) {
-                push_text(out, "b r", x.saturating_sub(8), y, "fails")?;
-            }
-        }
-        let (left, top) = (x.saturating_sub(2), y.saturating_sub(2));
-        write!(out, "<path class=\"b\" d=\"M{left} {top}l4 4m0-4l-4 4\"/>")
+    /// An event that was refused: a red ring with a bar, and the name of the refusal. A call that fails has a larger one.
+    fn draw_refusal(
+        &mut self,
+        node: NodeId,
+        event: &Event,
+        told: &[u8],
+        out: &mut Vec<u8>,
+    ) -> io::Result<()> {
+        let is_call = matches!(event, Event::Fail { .. } | Event::Device { .. });
+        push_mark(out, if is_call { "y" } else { "n" }, self.x(node), self.y)?;
+        let mut text = Vec::new(self.alloc);
+        text.extend_from_slice(if is_call {
+            b"call fails: "
+        } else {
+            b"refused: "
+        })?;
+        // The line is `refuse LINE NUMBER NAME`.
+        text.extend_from_slice(word_of(told, 3))?;
+        self.label(node, Side::Left, self.y, "b", text.as_slice())
     }
 
     /// The number of the line, now and then, and a place for the pointer.
-    fn draw_rest(&mut self, line: u64, node: NodeId, out: &mut Vec<u8>) -> io::Result<()> {
+    fn draw_rest(
+        &mut self,
+        line: u64,
+        node: NodeId,
+        is_shown: bool,
+        out: &mut Vec<u8>,
+    ) -> io::Result<()> {
         let left = self.x(node).saturating_sub(9);
         let top = self.y.saturating_sub(2);
         write!(
             out,
             "<rect class=\"x\" x=\"{left}\" y=\"{top}\" width=\"18\" height=\"4\"/>"
         )?;
-        if line % 10 == 0 {
+        if is_shown && self.y >= self.next_number {
             let y = self.y.saturating_add(3);
             write!(out, "<text class=\"g\" x=\"4\" y=\"{y}\">{line}</text>")?;
+            self.next_number = self.y.saturating_add(NUMBERS);
         }
         Ok(())
     }
@@ -512,9 +637,12 @@ impl Drawing {
         let mut out = Vec::new(self.alloc);
         let width = width_of(self.nodes).max(LEGEND_WIDTH);
         let height = self.y.saturating_add(30);
+        // A label is eight units high, so that three halves of them are twelve dots.
+        let across = width.saturating_mul(3) / 2;
+        let down = height.saturating_mul(3) / 2;
         write!(
             out,
-            "<svg xmlns=\"http://www.w3.org/2000/svg\" viewBox=\"0 0 {width} {height}\" role=\"img\">\n"
+            "<svg xmlns=\"http://www.w3.org/2000/svg\" width=\"{across}\" height=\"{down}\" viewBox=\"0 0 {width} {height}\" role=\"img\">\n"
         )?;
         out.extend_from_slice(STYLE)?;
         out.extend_from_slice(LEGEND)?;
@@ -523,14 +651,14 @@ impl Drawing {
             write!(out, "<path class=\"z\" d=\"M{x} {TOP}V{y}\"/>")?;
             write!(
                 out,
-                "<text class=\"h\" x=\"{x}\" y=\"34\">node {index}</text>\n"
+                "<text class=\"h\" x=\"{x}\" y=\"46\">node {index}</text>\n"
             )?;
         }
         out.extend_from_slice(self.below.as_slice())?;
         Ok(out)
     }
 
-    /// What stands behind the events: the messages that nobody hears.
+    /// What stands behind the events: the messages that nobody hears, and the labels.
     pub(crate) fn back(&self, wire: &[Message]) -> io::Result<Vec<u8>> {
         let mut out = Vec::new(self.alloc);
         for (number, message) in wire.iter().enumerate() {
@@ -539,6 +667,10 @@ impl Drawing {
                     self.draw_lost(message, sent.y, &mut out)?;
                 }
             }
+        }
+        for lane in &self.lanes {
+            lane.left.draw(&mut out, lane.x.saturating_sub(11), " r")?;
+            lane.right.draw(&mut out, lane.x.saturating_add(11), "")?;
         }
         write!(out, "</svg>\n")?;
         Ok(out)
@@ -560,4 +692,31 @@ impl Drawing {
             "<line class=\"{class}\" x1=\"{x}\" y1=\"{y}\" x2=\"{end}\" y2=\"{down}\"/><circle class=\"{class}\" cx=\"{end}\" cy=\"{down}\" r=\"1.6\"/>\n"
         )
     }
+}
+
+/// The words of a line behind its first bytes.
+fn words_behind(line: &[u8], first: usize) -> &[u8] {
+    match line.get(first..line.len().saturating_sub(1)) {
+        Some(words) => words,
+        None => b"",
+    }
+}
+
+/// A word of a line, by its number from 0.
+fn word_of(line: &[u8], number: u64) -> &[u8] {
+    let mut begin = 0usize;
+    let mut at = 0u64;
+    for (place, byte) in line.iter().enumerate() {
+        if *byte == b' ' || *byte == b'\n' {
+            if at == number {
+                return match line.get(begin..place) {
+                    Some(word) => word,
+                    None => b"",
+                };
+            }
+            at = at.saturating_add(1);
+            begin = place.saturating_add(1);
+        }
+    }
+    b""
 }

@@ -1,6 +1,6 @@
 //! The marks of a picture.
 
-use rr_types::{Body, Fact, Message, MessageKind};
+use rr_types::{Body, Fact, Instance, Message, MessageKind};
 use std::io;
 use std::io::Write;
 
@@ -42,45 +42,74 @@ pub(crate) fn push_message_name(out: &mut Vec<u8>, message: &Message) -> io::Res
     }
 }
 
-/// Appends the short name of a fact: what it is, its instance and its round.
-pub(crate) fn push_fact_name(out: &mut Vec<u8>, fact: &Fact) -> io::Result<()> {
+/// Whether messages of a kind are folded in a long picture.
+pub(crate) fn is_quiet(kind: MessageKind) -> bool {
+    matches!(
+        kind,
+        MessageKind::Request | MessageKind::Beat | MessageKind::Suspects
+    )
+}
+
+/// The kind of a fact by number, its instance and its round.
+fn named(fact: &Fact) -> (u8, u32, Option<u32>) {
     match fact {
         Fact::Enter(instance, estimate) => {
-            let (i, r) = (instance.number(), estimate.round().number());
-            write!(out, "Enter {i}.{r}")
+            (0, instance.number(), Some(estimate.round().number()))
         }
-        Fact::Propose(instance, round, _) => {
-            let (i, r) = (instance.number(), round.number());
-            write!(out, "Propose {i}.{r}")
-        }
-        Fact::Adopt(instance, round, _) => {
-            let (i, r) = (instance.number(), round.number());
-            write!(out, "Adopt {i}.{r}")
-        }
-        Fact::Decide(instance, _) => {
-            let i = instance.number();
-            write!(out, "Decide {i}")
-        }
+        Fact::Propose(instance, round, _) => (1, instance.number(), Some(round.number())),
+        Fact::Adopt(instance, round, _) => (2, instance.number(), Some(round.number())),
+        Fact::Decide(instance, _) => (3, instance.number(), None),
     }
+}
+
+/// How many facts of a kind are named.
+const NAMED: u64 = 3;
+
+/// Appends the short names of the facts of a kind, of one instance or of all: what they are, their instances and their rounds.
+/// Of many the first are named and the others counted.
+pub(crate) fn push_facts(
+    out: &mut Vec<u8>,
+    facts: &[Fact],
+    kind: u8,
+    one: Option<Instance>,
+) -> io::Result<()> {
+    let mut count = 0u64;
+    for fact in facts {
+        let (its, instance, round) = named(fact);
+        let is_wanted = match one {
+            Some(one) => one.number() == instance,
+            None => true,
+        };
+        if its != kind || !is_wanted {
+            continue;
+        }
+        if count == 0 {
+            let word = match kind {
+                0 => "Enter",
+                1 => "Propose",
+                2 => "Adopt",
+                _ => "Decide",
+            };
+            write!(out, "{word}")?;
+        }
+        if count < NAMED {
+            write!(out, " {instance}")?;
+            if let Some(round) = round {
+                write!(out, ".{round}")?;
+            }
+        }
+        count = count.saturating_add(1);
+    }
+    if count > NAMED {
+        let others = count - NAMED;
+        write!(out, " +{others}")?;
+    }
+    Ok(())
 }
 
 /// Appends a mark of those that the picture defines.
 pub(crate) fn push_mark(out: &mut Vec<u8>, id: &str, x: u64, y: u64) -> io::Result<()> {
     write!(out, "<use href=\"#{id}\" x=\"{x}\" y=\"{y}\"/>")
-}
-
-/// Appends a text of printable characters without marks of SVG.
-pub(crate) fn push_text(
-    out: &mut Vec<u8>,
-    class: &str,
-    x: u64,
-    y: u64,
-    text: &str,
-) -> io::Result<()> {
-    write!(
-        out,
-        "<text class=\"{class}\" x=\"{x}\" y=\"{y}\">{text}</text>"
-    )
 }
 
 /// Appends the arrow of a message between two lines, or from a line to itself.

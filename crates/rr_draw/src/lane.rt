@@ -1,20 +1,23 @@
 //! The lines of nodes.
 
+use crate::labels::Labels;
 use rr_types::Nodes;
 use std::alloc::{AllocError, Global};
 
 /// Between the lines of two nodes.
-const APART: u64 = 190;
+const APART: u64 = 220;
 /// Before the first line: the room for what clients ask.
-const BEFORE: u64 = 130;
+const BEFORE: u64 = 150;
 /// Behind the last line: the room for what clients are told.
-const BEHIND: u64 = 170;
+const BEHIND: u64 = 130;
 
 /// What a node does with its disk: a flush or a switch, since where.
 #[derive(Clone, Copy, Debug)]
 pub(crate) struct Job {
     pub(crate) since: u64,
     pub(crate) is_switch: bool,
+    /// Whether its group is synced.
+    pub(crate) is_synced: bool,
 }
 
 /// The line of a node, as far as it is drawn.
@@ -29,8 +32,9 @@ pub(crate) struct Lane {
     pub(crate) job: Option<Job>,
     /// The instances that its synced group decides.
     pub(crate) decides: Vec<u32>,
-    /// Where its next label may stand, on the left and on the right.
-    pub(crate) label: [u64; 2],
+    /// Its labels, on the left and on the right.
+    pub(crate) left: Labels,
+    pub(crate) right: Labels,
 }
 
 /// The lines of `nodes` nodes.
@@ -43,7 +47,8 @@ pub(crate) fn lanes_of(alloc: Global, nodes: Nodes) -> Result<Vec<Lane>, AllocEr
             is_up: false,
             job: None,
             decides: Vec::new(alloc),
-            label: [0, 0],
+            left: Labels::new(alloc),
+            right: Labels::new(alloc),
         })?;
     }
     Ok(lanes)

@@ -6,6 +6,7 @@ mod cut;
 mod drawing;
 mod escape;
 mod glyphs;
+mod labels;
 mod lane;
 mod picture;
 mod style;

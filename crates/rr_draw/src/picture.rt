@@ -86,14 +86,17 @@ fn draw_event(
     ensures ok { OnOk result (Adds cut.now line (record { event = event.now; told = told.now }) elements.old.items elements.new.items) }
     ensures err { IfErr result (λ e. e ≡ Refusal.OutOfMemory) }
 {
-    let speaks = cut.speaks(message_of(event, told, cluster.wire()));
+    let message = message_of(event, told, cluster.wire());
+    let speaks = cut.speaks(message);
     let is_shown = cut.shows(line, event);
-    let art = written(drawing.draw(line, event, told, cluster, is_shown && speaks))?;
+    let art = written(drawing.draw(line, event, told, cluster, message, (is_shown, speaks)))?;
     if !is_shown {
         return Ok(());
     }
     if !speaks {
-        return Ok(());
+        if !art.is_about {
+            return Ok(());
+        }
     }
     let title = title_of(alloc, line, event, told)?;
     push_element(elements, title.as_slice(), &art)?;
@@ -141,6 +144,20 @@ fn draw_events<O: Sink>(
     Ok(elements)
 }
 
+/// Beyond so many events a picture is long.
+const MANY: u64 = 300;
+
+/// Whether a cut of a text of lines has many of them.
+fn is_long(bytes: &[u8], cut: &Cut) -> bool {
+    let mut lines = 1u64;
+    for byte in bytes {
+        if *byte == b'\n' {
+            lines = lines.saturating_add(1);
+        }
+    }
+    lines.min(cut.to).saturating_sub(cut.from) > MANY
+}
+
 /// The picture of the run of a schedule on `nodes` nodes, whose lines after the first are `bytes`.
 fn picture_behind<O: Sink>(
     alloc: Global,
@@ -155,7 +172,7 @@ fn picture_behind<O: Sink>(
 {
     let _count = nodes.count();
     let mut cluster = Cluster::new(alloc, nodes)?;
-    let mut drawing = written(Drawing::new(alloc, nodes))?;
+    let mut drawing = written(Drawing::new(alloc, nodes, cut, is_long(bytes, cut)))?;
     let mut report = Vec::new(alloc);
     let elements = draw_events(
         alloc,

@@ -1,0 +1,94 @@
+#!/usr/bin/env python3
+"""Reads the pictures of rr draw with Python's reader of XML, and compares them with the schedule and with what rr sim --explain prints.
+
+    hostile/pictures.py --rr RR [--count N]
+
+Of each example and of N drawn schedules, some of them lively, with values of SVG's own letters, and of cuts by lines, node and
+instance: each event of the cut has its element, in order, and the element's title begins with the line, the event and its lines of the
+report; a cut by instance leaves out some, and changes no other. The picture has the size of what it shows, and no two labels on one
+side of a line lie on each other."""
+import argparse
+import pathlib
+import random
+import subprocess
+import xml.etree.ElementTree as tree
+
+TREE = pathlib.Path(__file__).resolve().parent.parent
+SVG = "{http://www.w3.org/2000/svg}"
+HEIGHT = 8  # of a label
+
+
+def asked(rr, words, text=b""):
+    """What rr prints on standard output."""
+    return subprocess.run([rr, *words], input=text, capture_output=True, check=True).stdout
+
+
+def drawn(rr, seed):
+    """A schedule by a seed."""
+    words = f"random --schedule-only --seed {seed} --steps {(30, 120, 400, 900)[seed % 4]} --nodes {1 + seed % 7}".split()
+    text = asked(rr, [*words, *(f"--lively --faults {seed * 37 % 300}".split() if seed % 3 else [])]).decode()
+    return text.replace(" claim a ", ' claim a <&">')
+
+
+def told_by(rr, text):
+    """The lines of the report that each line of the schedule tells, by its number."""
+    told, waiting = {}, []
+    for line in asked(rr, ["sim", "--explain"], text.encode()).decode().splitlines():
+        if line.startswith("    line "):
+            told[int(line.split()[1].rstrip(":"))], waiting = waiting, []
+        else:
+            waiting.append(line)
+    return told
+
+
+def cut_of(seed, count, nodes):
+    """The first line, the last one, the node and the instance of a cut by a seed, of a schedule of so many lines."""
+    first, last = 2, count
+    if seed % 5 == 4:
+        first = random.Random(seed).randint(2, max(2, count - 5))
+        last = min(count, first + 60)
+    return first, last, seed % nodes if seed % 7 == 6 else None, seed % 3 if seed % 11 == 10 else None
+
+
+def compare(rr, text, seed):
+    """Compares a picture, and tells how many elements and labels it has."""
+    lines = text.splitlines()
+    first, last, node, instance = cut_of(seed, len(lines), int(lines[0].split()[1]))
+    words = ["draw", "--from", str(first), "--to", str(last)]
+    words += ["--node", str(node)] if node is not None else []
+    words += ["--instance", str(instance)] if instance is not None else []
+    picture = tree.fromstring(asked(rr, words, text.encode()))
+    found = [element.find(SVG + "title").text for element in picture.iter(SVG + "g")]
+    told = told_by(rr, text)
+    wanted = ["".join(f"{line}\n" for line in [f"line {k}: {lines[k - 1]}", *told[k]]) for k in range(first, last + 1) if node is None or int(lines[k - 1].split()[1]) == node]
+    if instance is None:
+        assert len(found) == len(wanted), (seed, len(found), len(wanted))
+        assert all(title.startswith(words) for title, words in zip(found, wanted)), seed
+    else:
+        left = iter(wanted)
+        assert all(any(title.startswith(words) for words in left) for title in found), seed
+    across, down = (int(number) for number in picture.get("viewBox").split()[2:])
+    assert (int(picture.get("width")), int(picture.get("height"))) == (across * 3 // 2, down * 3 // 2), seed
+    places = {}
+    for label in picture.iter(SVG + "text"):
+        if "l" in (label.get("class") or "").split():
+            places.setdefault(label.get("x"), []).append(int(label.get("y")))
+    for side in places.values():
+        assert all(below - above >= HEIGHT for above, below in zip(side, side[1:])), seed
+    return len(found), sum(map(len, places.values()))
+
+
+def main():
+    parser = argparse.ArgumentParser(description=__doc__.split("\n")[0])
+    parser.add_argument("--rr", required=True)
+    parser.add_argument("--count", type=int, default=40)
+    given = parser.parse_args()
+    texts = [path.read_text() for path in sorted(TREE.glob("examples/*.schedule"))]
+    texts += [drawn(given.rr, seed) for seed in range(given.count)]
+    sums = [compare(given.rr, text, seed) for seed, text in enumerate(texts)]
+    elements, labels = (sum(numbers) for numbers in zip(*sums))
+    assert elements and labels
+    print(f"hostile/pictures.py: {len(texts)} pictures, {elements} elements and {labels} labels, all as the texts are")
+
+
+main()
