@@ -72,7 +72,6 @@ mod shared;
 mod snapshotting;
 mod submitting;
 mod switches;
-mod wires;
 
 pub use client::{Client, Handle};
 pub use fate::Fate;

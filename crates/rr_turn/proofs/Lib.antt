@@ -1,4 +1,0 @@
-pub mod Runs
-pub mod Sends
-pub mod Hears
-pub mod Marks
