@@ -3,7 +3,7 @@
 use crate::hearing::keep_all;
 use crate::recorder::Recorder;
 use crate::running::Running;
-use crate::switches::Switches;
+use crate::switches::{DOWN, Switches};
 use crate::wires::Mail;
 use rr_types::{NodeId, Nodes};
 use std::sync::Wait;
@@ -37,6 +37,13 @@ impl<'x, T> Shared<'x, T> {
         }
     }
 
+    /// The thread of a node that is down rests until a message comes that is worth waking it, or a short while.
+    fn rest_down<R: Wait>(&self, rt: &R, node: NodeId) {
+        if let Some(bell) = self.running.bell(node) {
+            bell.park_timeout(rt, Duration::from_millis(DOWN));
+        }
+    }
+
     /// Waits until a node that is down is to come up, and answers at which move of its switch. None: it isn't any more. Meanwhile
     /// its inbox is emptied again and again, so that what is kept is late.
     pub fn next_life<R: Wait>(&self, rt: &R, node: NodeId, mail: &mut Option<Mail>) -> Option<u64> {
@@ -50,7 +57,7 @@ impl<'x, T> Shared<'x, T> {
             }
             match switches.moves_if_on(node) {
                 Some(moves) => return Some(moves),
-                None => switches.rest(rt, node),
+                None => self.rest_down(rt, node),
             }
         }
         None

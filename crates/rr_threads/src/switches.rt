@@ -11,15 +11,15 @@ use std::sync::atomic::{AtomicBool, AtomicU64, Ordering};
 use std::thread::Parker;
 use std::time::Duration;
 
-/// How long the thread of a node that is down rests, in milliseconds. Then it empties the node's inbox, which has room for 256.
-const DOWN: u64 = 5;
+/// How long the thread of a node that is down rests, in milliseconds, where no message rings it. Then it empties the node's inbox,
+/// and looks at its switch.
+pub const DOWN: u64 = 5;
 
 /// How often the switch of a node was moved, and whether the node is up. The switch is on where that number is even.
 #[derive(Drop)]
 struct Switch {
     moves: AtomicU64,
     is_up: AtomicBool,
-    bell: Parker,
 }
 
 impl Switch {
@@ -28,7 +28,6 @@ impl Switch {
         Switch {
             moves: AtomicU64::new(0),
             is_up: AtomicBool::new(false),
-            bell: Parker::new(),
         }
     }
 
@@ -41,7 +40,6 @@ impl Switch {
                 .moves
                 .compare_exchange(moves, next, Ordering::SeqCst, Ordering::SeqCst);
         }
-        self.bell.unpark();
     }
 }
 
@@ -142,9 +140,6 @@ impl Switches {
     /// No node is started any more. The clients of those that are down are done. Who waits goes on.
     pub fn close(&self) {
         self.is_closed.store(true, Ordering::SeqCst);
-        for switch in &self.switches {
-            switch.bell.unpark();
-        }
         self.host.unpark();
     }
 
@@ -168,13 +163,6 @@ impl Switches {
     pub(crate) fn moves_if_on(&self, node: NodeId) -> Option<u64> {
         let moves = self.moves(node);
         if is_even(moves) { Some(moves) } else { None }
-    }
-
-    /// Waits until the node's switch is moved, or a short while.
-    pub(crate) fn rest<R: Wait>(&self, rt: &R, node: NodeId) {
-        if let Some(switch) = self.switch(node) {
-            switch.bell.park_timeout(rt, Duration::from_millis(DOWN));
-        }
     }
 
     /// Whether no node is started any more.
