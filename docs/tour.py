@@ -84,6 +84,7 @@ TOUR = [
             "rr migrate v1 --node 0 --nodes 1",
             "rr audit examples/one_command.tape",
             "sed 3d examples/one_command.tape | rr audit",
+            "echo 'submit 1 7 1 claim desk' | rr run --nodes 3 --dir nodes --script -",
         ],
     ),
     (
