@@ -9,7 +9,7 @@ use crate::options::Options;
 use crate::patience::looks_in;
 use crate::promises::promises_of;
 use rr_disk::{FileDisk, OpenedFile};
-use rr_folders::{Folders, Lockable, open_folders};
+use rr_folders::{Folders, Lockable, Locks, open_folders};
 use rr_locked::Open;
 use rr_threads::{Switches, run_switched};
 use rr_types::{Nodes, Refusal};
@@ -26,7 +26,7 @@ const LEAST_TICK: u64 = 10;
 
 const MOST_TICK: u64 = 10_000;
 
-// The guests at their nodes, over disks that are open, until all are done.
+// The guests at their nodes, over disks that are open, until all are done. The folders are locked meanwhile.
 fn run_over<
     F: Read + Write + Seek + FileExt + OpenFile + Drop + Send,
     R: Files + AllocGlobal + Threads + Wait + Clock + Sync,
@@ -34,7 +34,7 @@ fn run_over<
 >(
     rt: &R,
     nodes: Nodes,
-    dir: &str,
+    locks: &Locks<F>,
     options: &Options,
     disks: Vec<FileDisk<OpenedFile<F>>>,
     places: Vec<Place<G>>,
@@ -47,7 +47,7 @@ fn run_over<
     let rows = seat_all(
         rt,
         nodes,
-        dir,
+        locks.dir(),
         looks_in(options.patience),
         &promises,
         &slots,
@@ -96,7 +96,7 @@ pub fn run_cluster<
         Ok(folders) => folders,
         Err(closed) => return Err(error_of(rt.alloc(), closed)),
     };
-    let ran = run_over(rt, nodes, dir, options, disks, places);
+    let ran = run_over(rt, nodes, &locks, options, disks, places);
     drop(locks);
     ran
 }

@@ -1,12 +1,13 @@
 //! The run of a script: what it reads, what it prints and how it ends.
 
-ghost use Rattle.std.specs.Prelude.{◌≡◌, ◌⊎◌, length, Option, None, Some, option_map, IfErr};
+ghost use Rattle.std.specs.Prelude.{◌≡◌, ◌⊎◌, true, length, Option, None, Some, option_map, IfOk, IfErr};
 ghost use Rattle.std.specs.Io.KnownBytes.{Keeps};
 ghost use Rattle.clap.specs.Words.{Text};
 ghost use Rattle.rr_types.specs.declared.refusal.Refusal.TheVariants.{OutOfMemory, Device};
 ghost use Rattle.rr_files.specs.Files.{file_at};
 ghost use Rattle.rr_cli.specs.Ends.{EndsOnInput};
 ghost use Rattle.rr_cli.specs.Refusals.{status_of};
+ghost use Rattle.rr_threads.specs.Reusing.{are_reused};
 ghost use Rattle.rr_run.specs.Runs.{EndsOnFolders, EndsOnScript, EndsOnNamed, EndsOnRun};
 ghost use Rattle.rr_run.specs.Telling.{TellsReused, TellsOfBytes, TellsOfInput, TellsOfNamed};
 
@@ -14,10 +15,10 @@ use crate::closed::end_by_closed;
 use crate::reused::tell_reused;
 use crate::ticking::tick_by;
 use rr_cli::{end_by_refusal, end_by_stream, end_by_text, nodes_of, print_folder_fault};
-use rr_disk::FileDisk;
+use rr_disk::{FileDisk, OpenedFile};
 use rr_explain::print_script_fault;
 use rr_files::FileReader;
-use rr_folders::{Closed, Folders, Lockable, Survey, enter, survey_folders, try_folder};
+use rr_folders::{Closed, Folders, Lockable, Locks, Survey, enter, survey_folders, try_folder};
 use rr_image::inspect;
 use rr_locked::Open;
 use rr_script::{Answers, Script};
@@ -155,6 +156,23 @@ fn end_by_tape<R: Files + AllocGlobal, O: Sink, E: Write>(
     }
 }
 
+// Runs a script over the disks of folders, whose locks are held meanwhile.
+fn run_locked<
+    F: Read + Write + Seek + FileExt + OpenFile + Drop + Send,
+    R: AllocGlobal + Threads + Wait + Clock + Sync,
+>(
+    rt: &R,
+    _locks: &Locks<F>,
+    disks: Vec<FileDisk<OpenedFile<F>>>,
+    script: &Script,
+    recorder: Option<&Recorder>,
+    tick: Duration,
+) -> Result<Ran, Refusal>
+    ensures { IfOk result (λ ran. are_reused script.now.lines ran.reused.items ≡ true) }
+{
+    run_script_told(rt, rt.alloc(), disks, script, &Open, recorder, tick)
+}
+
 // Runs a script over folders as they were found, and prints the answers. The locks are released after the run.
 fn run_in<
     F: Read + Write + Seek + FileExt + OpenFile + Drop + Send + Lockable,
@@ -179,7 +197,7 @@ fn run_in<
         Err(closed) => return end_by_closed(rt, err, dir, nodes, &closed),
     };
     let Folders { locks, disks } = folders;
-    let ran = run_script_told(rt, rt.alloc(), disks, script, &Open, None, tick);
+    let ran = run_locked(rt, &locks, disks, script, None, tick);
     drop(locks);
     match ran {
         Ok(ran) => {
@@ -217,7 +235,7 @@ fn run_taped<
     };
     let Folders { locks, disks } = folders;
     let recorder = Recorder::new(rt.alloc(), nodes);
-    let ran = run_script_told(rt, rt.alloc(), disks, script, &Open, Some(&recorder), tick);
+    let ran = run_locked(rt, &locks, disks, script, Some(&recorder), tick);
     drop(locks);
     match ran {
         Ok(ran) => {
