@@ -1,6 +1,6 @@
 //! Runs in which the disk of a node fails while the others go on.
 
-use super::asking::{Shared, askers, claims, numbered};
+use super::asking::{OPENING_CALLS, Shared, askers, claims, numbered};
 use rr_disk::{AreaFile, FileDisk};
 use rr_locked::{Open, Place, Turnstile};
 use rr_script::{Answers, Script};
@@ -11,6 +11,7 @@ use std::io;
 use std::io::ErrorKind;
 use std::process::Abort;
 use std::sync::Wait;
+use std::sync::atomic::Ordering;
 use std::thread::Threads;
 use std::time::Clock;
 
@@ -21,23 +22,45 @@ struct WornFile {
     left: u32,
 }
 
-fn failure() -> io::Error {
+pub fn failure() -> io::Error {
     io::Error::from(ErrorKind::Unsupported)
+}
+
+/// Reads what these bytes have from a place on.
+pub fn read_held(held: &[u8], at: u64, bytes: &mut [u8]) -> io::Result<()> {
+    let mut place = at as usize;
+    for byte in bytes {
+        *byte = match held.get(place) {
+            Some(held) => *held,
+            None => return Err(failure()),
+        };
+        place = place.saturating_add(1);
+    }
+    Ok(())
+}
+
+/// Writes over these bytes from a place on, and past their end.
+pub fn write_held(held: &mut Vec<u8>, at: u64, bytes: &[u8]) -> io::Result<()> {
+    let mut place = at as usize;
+    for byte in bytes {
+        match held.get_mut(place) {
+            Some(held) => *held = *byte,
+            None => {
+                if held.push(*byte).is_err() {
+                    return Err(failure());
+                }
+            }
+        }
+        place = place.saturating_add(1);
+    }
+    Ok(())
 }
 
 impl AreaFile for WornFile {
     ghost gives = { λ _ _ _. Unit {0} };
 
     fn read_at(&mut self, at: u64, bytes: &mut [u8]) -> io::Result<()> {
-        let mut place = at as usize;
-        for byte in bytes {
-            *byte = match self.bytes.get(place) {
-                Some(held) => *held,
-                None => return Err(failure()),
-            };
-            place = place.saturating_add(1);
-        }
-        Ok(())
+        read_held(&self.bytes, at, bytes)
     }
 
     fn write_at(&mut self, at: u64, bytes: &[u8]) -> io::Result<()> {
@@ -45,19 +68,7 @@ impl AreaFile for WornFile {
             Some(left) => left,
             None => return Err(failure()),
         };
-        let mut place = at as usize;
-        for byte in bytes {
-            match self.bytes.get_mut(place) {
-                Some(held) => *held = *byte,
-                None => {
-                    if self.bytes.push(*byte).is_err() {
-                        return Err(failure());
-                    }
-                }
-            }
-            place = place.saturating_add(1);
-        }
-        Ok(())
+        write_held(&mut self.bytes, at, bytes)
     }
 
     fn sync(&mut self) -> io::Result<()> {
@@ -82,7 +93,8 @@ fn worn_disk(rt: &impl Abort, alloc: Global, left: u32) -> FileDisk<WornFile> {
     FileDisk::over(first, second).expect(rt, "a disk")
 }
 
-/// Runs a script on three nodes. Each file of a node's disk takes the number of writes given for the node.
+/// Runs a script on three nodes. Each file of a node's disk takes the number of writes given for the node. (The clients of a script
+/// are those of `rr run`, which look for a reply up to 10,000,000 times: no test can bound that.)
 fn ran<R: Threads + Wait + Clock + Abort + AllocGlobal + Sync>(
     rt: &R,
     writes: [u32; 3],
@@ -127,14 +139,19 @@ fn a_disk_that_fails_in_an_opening_ends_the_run(rt: HostRuntime) {
 
 /// Holds each flush of the last of three nodes until the clients of the others have their replies.
 #[derive(Drop)]
-struct UntilOthers<'s> {
+struct UntilOthers<'s, R> {
+    rt: &'s R,
     shared: &'s Shared,
 }
 
-impl<'s> Turnstile for UntilOthers<'s> {
+impl<'s, R: Wait> Turnstile for UntilOthers<'s, R> {
     fn pass(&self, node: NodeId, place: Place) {
-        if place == Place::BeforeDevice && node.index() == 2 {
-            self.shared.wait_for(&self.shared.right, 2);
+        let shared = self.shared;
+        if place == Place::AfterSubmit || node.index() != 2 {
+            return;
+        }
+        if shared.first_calls.fetch_add(1, Ordering::SeqCst) >= OPENING_CALLS {
+            shared.wait_for(self.rt, &shared.right, 2);
         }
     }
 }
@@ -150,7 +167,10 @@ fn others_go_on<R: Threads + Wait + Clock + Abort + AllocGlobal + Sync>(
     for left in [1_000_000, 1_000_000, OPENING] {
         disks.push(worn_disk(rt, rt.alloc(), left))?;
     }
-    let turnstile = UntilOthers { shared: &shared };
+    let turnstile = UntilOthers {
+        rt,
+        shared: &shared,
+    };
     let ran = run_clients(rt, rt.alloc(), nodes, disks, clients, &turnstile, None);
     Ok(matches!(ran, Err(Refusal::Device)) && shared.came_to(2))
 }
