@@ -3,52 +3,53 @@
 //! its `Handle`: `submit`, `look`, `sync`, `list`, `ask`, `fate`, `snapshot`. Each node has three threads, and one for each client: one submits, hears,
 //! marks, takes groups, sends and ticks; one flushes; one publishes. Nodes send to one another through inboxes.
 //!
-//! `crates/one_cluster` is this program:
+//! `rr_client` does this for nodes over folders, and counts in milliseconds. A client of your own kind looks so; this one is of the tests
+//! in `crates/turnstile_tests`, which give it to `run_clients`:
 //!
 //! ```rust
-//! use rr_disk::MemDisk;
-//! use rr_locked::{Open, Turnstile};
-//! use rr_script::Answer;
-//! use rr_threads::{Client, Handle, run_clients};
-//! use rr_types::{Command, Name, Nodes, Op, Refusal, RequestNo, Value};
-//! use rr_window::WindowName;
-//! use std::sync::Wait;
-//! use std::sync::atomic::{AtomicBool, Ordering};
-//!
-//! /// A client that claims a name and looks at it.
+//! /// A client that asks the line at `place`, at most `times` times, until the answer says that the name is its own.
 //! #[derive(Drop)]
-//! struct Guest<'s> {
-//!     is_seen: &'s AtomicBool,
+//! pub struct Asker<'s> {
+//!     pub shared: &'s Shared,
+//!     pub place: usize,
+//!     pub times: u32,
+//!     /// Whether it asks only once the node flushes.
+//!     pub waits: bool,
 //! }
 //!
-//! impl<'s> Client for Guest<'s> {
+//! /// Whether an answer says that client 7 has the name, or that the node has claimed it.
+//! fn is_right(answer: &Answer) -> bool {
+//!     match answer {
+//!         Answer::Acknowledged { reply, .. } => matches!(reply, Reply::Claimed),
+//!         Answer::Bound { owner, .. } => *owner == 7,
+//!         _ => false,
+//!     }
+//! }
+//!
+//! impl<'s> Client for Asker<'s> {
 //!     fn run<W: WindowName, T: Turnstile, R: Wait>(
 //!         &mut self,
 //!         handle: &mut Handle<'_, '_, W, T, R>,
 //!     ) -> Result<(), Refusal> {
-//!         let name = Name::new(b"printer")?;
-//!         let request = RequestNo { client: 7, seq: 1 };
-//!         let op = Op::Claim(name, Value::new(b"room-4")?);
-//!         handle.submit(&Command { request, op });
-//!         let is_bound = matches!(handle.look(&name), Answer::Bound { .. });
-//!         self.is_seen.store(is_bound, Ordering::SeqCst);
+//!         let shared = self.shared;
+//!         let Some(line) = shared.lines.get(self.place) else {
+//!             return Ok(());
+//!         };
+//!         if self.waits {
+//!             shared.wait_for(handle.rt(), &shared.first_calls, OPENING_CALLS + 1);
+//!         }
+//!         for _ in 0..self.times {
+//!             if is_right(&handle.ask_within(TURNS, line)) {
+//!                 shared.right.fetch_add(1, Ordering::SeqCst);
+//!                 break;
+//!             }
+//!             if handle.is_over() {
+//!                 break;
+//!             }
+//!             rest(handle.rt());
+//!         }
 //!         Ok(())
 //!     }
-//! }
-//!
-//! fn main(rt: HostRuntime) -> anyhow::Result<()> {
-//!     let alloc = rt.alloc();
-//!     let is_seen = AtomicBool::new(false);
-//!     let disks = vec![in alloc;
-//!         MemDisk::new(alloc),
-//!         MemDisk::new(alloc),
-//!         MemDisk::new(alloc),
-//!     ]?;
-//!     let guest = Guest { is_seen: &is_seen };
-//!     let clients = vec![in alloc; vec![in alloc; guest]?, Vec::new(alloc), Vec::new(alloc)]?;
-//!     run_clients(&rt, alloc, Nodes::new(3)?, disks, clients, &Open, None)?;
-//!     println!(rt; "printer is bound: {}", is_seen.load(Ordering::SeqCst))?;
-//!     Ok(())
 //! }
 //! ```
 #![tactic(auto)]
