@@ -1,1 +1,2 @@
 mod ShellLemmas
+mod ToldLemmas

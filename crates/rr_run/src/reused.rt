@@ -51,7 +51,8 @@ pub(crate) fn tell_reused<E: Write>(
     ensures { are_reused lines.now reused.now ≡ true → TellsReused lines.now (E.contents err.old) (E.contents err.new) }
 {
     let mut text = Vec::new(alloc);
-    if push_reused(&mut text, reused).is_ok() {
-        write_front(err, text.as_slice());
+    match push_reused(&mut text, reused) {
+        Ok(()) => write_front(err, text.as_slice()),
+        Err(_) => {}
     }
 }

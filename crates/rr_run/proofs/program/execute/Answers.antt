@@ -8,6 +8,7 @@ use Rattle.rr_cli.specs.Ends.{mistaken, by_help, by_version}
 use Rattle.rr_cli.proofs.EndLemmas.{kind_cases}
 use Rattle.rr_cli.specs.Views as views
 use Rattle.rr_run.specs.Runs.{AsksForThreads, by_script, by_shell, by_others, out_of_memory}
+use Rattle.rr_run.specs.Telling.{silent, told}
 use Rattle.rr_run.proofs.program.execute.Goals as goal
 
 -- the task that five words make
@@ -133,3 +134,54 @@ returns-in-Ok-Export-clause-ends g c =
     let w = c.in-Ok-Export in
     let task : task_of (map g.S.AsStr.text c.args.words.now) ≡ Export (text_of w.field-0-0) w.field-0-1 = sym w.ensures.task ∙ ap task_in w.field-0-is in
     by_others (λ none asks. subst (λ t. AsksForThreads t) task asks) c.execute_with_views-in-Ok-Export.ensures.ends
+
+pub returns-in-Ok-Run-Some-Some-Some-default-default-default-clause-quiet : goal.returns-in-Ok-Run-Some-Some-Some-default-default-default-clause-quiet
+returns-in-Ok-Run-Some-Some-Some-default-default-default-clause-quiet g c =
+    let w = c.in-Ok-Run-Some-Some-Some-default-default-default in
+    let task : task_of (map g.S.AsStr.text c.args.words.now) ≡ Run (Some w.nodes.now) (Some w.dir.now) (Some w.script.now) (option_map (λ s. s.now) w.tape) (option_map (λ s. s.now) w.tick) w.form = sym w.ensures.task ∙ ap task_in w.field-0-is ∙ run_from _ _ _ _ _ _ _ _ _ w.field-0-0-is w.field-0-1-is w.field-0-2-is in
+    λ ended. told (record { nodes = w.nodes.now; dir = w.dir.now; script = w.script.now; tape = option_map (λ s. s.now) w.tape; tick = option_map (λ s. s.now) w.tick; form = w.form; is = task }) w.ensures.faults (c.run_by_words.ensures.quiet ended)
+
+pub returns-in-Err-clause-quiet : goal.returns-in-Err-clause-quiet
+returns-in-Err-clause-quiet g c = λ ended. silent (c.end_by_words.ensures.quiet ended)
+
+pub returns-in-Ok-Run-None-default-default-default-default-default-clause-quiet : goal.returns-in-Ok-Run-None-default-default-default-default-default-clause-quiet
+returns-in-Ok-Run-None-default-default-default-default-default-clause-quiet g c = λ ended. silent (c.execute_with_views-in-Ok-Run-None-default-default-default-default-default.ensures.quiet ended)
+
+pub returns-in-Ok-Run-default-None-default-default-default-default-clause-quiet : goal.returns-in-Ok-Run-default-None-default-default-default-default-clause-quiet
+returns-in-Ok-Run-default-None-default-default-default-default-clause-quiet g c = λ ended. silent (c.execute_with_views-in-Ok-Run-default-None-default-default-default-default.ensures.quiet ended)
+
+pub returns-in-Ok-Run-default-default-None-default-default-default-clause-quiet : goal.returns-in-Ok-Run-default-default-None-default-default-default-clause-quiet
+returns-in-Ok-Run-default-default-None-default-default-default-clause-quiet g c = λ ended. silent (c.execute_with_views.ensures.quiet ended)
+
+pub returns-in-Ok-Shell-clause-quiet : goal.returns-in-Ok-Shell-clause-quiet
+returns-in-Ok-Shell-clause-quiet g c = λ ended. silent (c.shell_by_words.ensures.quiet ended)
+
+pub returns-in-Ok-Simulate-clause-quiet : goal.returns-in-Ok-Simulate-clause-quiet
+returns-in-Ok-Simulate-clause-quiet g c = λ ended. silent (c.execute_with_views-in-Ok-Simulate.ensures.quiet ended)
+
+pub returns-in-Ok-View-clause-quiet : goal.returns-in-Ok-View-clause-quiet
+returns-in-Ok-View-clause-quiet g c = λ ended. silent (c.execute_with_views-in-Ok-View.ensures.quiet ended)
+
+pub returns-in-Ok-Show-clause-quiet : goal.returns-in-Ok-Show-clause-quiet
+returns-in-Ok-Show-clause-quiet g c = λ ended. silent (c.execute_with_views-in-Ok-Show.ensures.quiet ended)
+
+pub returns-in-Ok-Random-clause-quiet : goal.returns-in-Ok-Random-clause-quiet
+returns-in-Ok-Random-clause-quiet g c = λ ended. silent (c.execute_with_views-in-Ok-Random.ensures.quiet ended)
+
+pub returns-in-Ok-Audit-clause-quiet : goal.returns-in-Ok-Audit-clause-quiet
+returns-in-Ok-Audit-clause-quiet g c = λ ended. silent (c.execute_with_views-in-Ok-Audit.ensures.quiet ended)
+
+pub returns-in-Ok-Sweep-clause-quiet : goal.returns-in-Ok-Sweep-clause-quiet
+returns-in-Ok-Sweep-clause-quiet g c = λ ended. silent (c.execute_with_views-in-Ok-Sweep.ensures.quiet ended)
+
+pub returns-in-Ok-Draw-clause-quiet : goal.returns-in-Ok-Draw-clause-quiet
+returns-in-Ok-Draw-clause-quiet g c = λ ended. silent (c.execute_with_views-in-Ok-Draw.ensures.quiet ended)
+
+pub returns-in-Ok-Migrate-clause-quiet : goal.returns-in-Ok-Migrate-clause-quiet
+returns-in-Ok-Migrate-clause-quiet g c = λ ended. silent (c.execute_with_views-in-Ok-Migrate.ensures.quiet ended)
+
+pub returns-in-Ok-Verify-clause-quiet : goal.returns-in-Ok-Verify-clause-quiet
+returns-in-Ok-Verify-clause-quiet g c = λ ended. silent (c.execute_with_views-in-Ok-Verify.ensures.quiet ended)
+
+pub returns-in-Ok-Export-clause-quiet : goal.returns-in-Ok-Export-clause-quiet
+returns-in-Ok-Export-clause-quiet g c = λ ended. silent (c.execute_with_views-in-Ok-Export.ensures.quiet ended)

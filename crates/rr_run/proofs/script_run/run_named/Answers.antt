@@ -1,10 +1,11 @@
-use Rattle.std.proofs.Common.{◌≡◌, ℕ, Bool, true, false, List, codes, option_map, refl}
+use Rattle.std.proofs.Common.{◌≡◌, ℕ, Bool, true, false, List, codes, option_map, Option, refl}
 use Rattle.std.specs.Str.{bytes_eq}
 use Rattle.clap.specs.Words.{Text}
 use Rattle.rr_stream.specs.Streams.{Printing}
 use Rattle.rr_files.specs.Files.{Readable, file_at}
 use Rattle.rr_cli.specs.Ends.{EndsOnInput}
 use Rattle.rr_run.specs.Runs.{EndsOnNamed, EndsOnScript}
+use Rattle.rr_run.specs.Telling.{TellsOfInput, TellsOfNamed}
 use Rattle.rr_run.proofs.script_run.run_named.Goals as goal
 
 -- a hyphen names the input
@@ -28,3 +29,22 @@ returns-else-eq-clause-ends g c =
     named_file c.args.path.now (EndsOnScript c.args.nodes (option_map (λ s. s.now) c.args.tape))
     (record { input = g.I.Source.reading c.args.input.now; files = g.L.FileReader.held c.args.files.now }) (record { input = g.I.Source.reading c.args.input.now; files = g.L.FileReader.held c.run_file.new.files })
     c.run_file.result (g.O.Sink.printing c.args.out.now) (g.O.Sink.printing c.run_file.new.out) is refl c.run_file.ensures.ends
+
+-- what is told of the script in the input, and of one in a file
+told_input : (word : Text) (from : Readable) (old new : Option (List ℕ)) → bytes_eq word (codes "-") ≡ true → TellsOfInput from.input old new → TellsOfNamed word from old new
+told_input word from old new is tells = rw is tells
+
+told_file : (word : Text) (from : Readable) (old new : Option (List ℕ)) → bytes_eq word (codes "-") ≡ false → TellsOfInput (file_at from.files word) old new → TellsOfNamed word from old new
+told_file word from old new is tells = rw is tells
+
+pub returns-then-eq-clause-quiet : goal.returns-then-eq-clause-quiet
+returns-then-eq-clause-quiet g c =
+    let is : bytes_eq c.args.path.now (codes "-") ≡ true = cc in
+    λ ended.
+    told_input c.args.path.now (record { input = g.I.Source.reading c.args.input.now; files = g.L.FileReader.held c.args.files.now }) (g.E.Write.contents c.args.err.now) (g.E.Write.contents c.run_input.new.err) is (c.run_input.ensures.quiet ended)
+
+pub returns-else-eq-clause-quiet : goal.returns-else-eq-clause-quiet
+returns-else-eq-clause-quiet g c =
+    let is : bytes_eq c.args.path.now (codes "-") ≡ false = cc in
+    λ ended.
+    told_file c.args.path.now (record { input = g.I.Source.reading c.args.input.now; files = g.L.FileReader.held c.args.files.now }) (g.E.Write.contents c.args.err.now) (g.E.Write.contents c.run_file.new.err) is (c.run_file.ensures.quiet ended)
