@@ -12,10 +12,10 @@ ghost use Rattle.rr_run.specs.Runs.{EndsOnFolders, EndsOnScript, EndsOnNamed, En
 use crate::closed::end_by_closed;
 use crate::ticking::tick_by;
 use rr_cli::{end_by_refusal, end_by_stream, end_by_text, nodes_of, print_folder_fault};
-use rr_disk::FileDisk;
+use rr_disk::{FileDisk, OpenedFile};
 use rr_explain::print_script_fault;
 use rr_files::FileReader;
-use rr_folders::{Closed, Folders, Lockable, Survey, enter, survey_folders, try_folder};
+use rr_folders::{Closed, Folders, Lockable, Locks, Survey, enter, survey_folders, try_folder};
 use rr_image::inspect;
 use rr_locked::Open;
 use rr_script::{Answers, Script};
@@ -153,6 +153,21 @@ fn end_by_tape<R: Files + AllocGlobal, O: Sink, E: Write>(
     }
 }
 
+// Runs a script over the disks of folders, whose locks are held meanwhile.
+fn run_locked<
+    F: Read + Write + Seek + FileExt + OpenFile + Drop + Send,
+    R: AllocGlobal + Threads + Wait + Clock + Sync,
+>(
+    rt: &R,
+    _locks: &Locks<F>,
+    disks: Vec<FileDisk<OpenedFile<F>>>,
+    script: &Script,
+    recorder: Option<&Recorder>,
+    tick: Duration,
+) -> Result<Answers, Refusal> {
+    run_script_ticking(rt, rt.alloc(), disks, script, &Open, recorder, tick)
+}
+
 // Runs a script over folders as they were found, and prints the answers. The locks are released after the run.
 fn run_in<
     F: Read + Write + Seek + FileExt + OpenFile + Drop + Send + Lockable,
@@ -177,7 +192,7 @@ fn run_in<
         Err(closed) => return end_by_closed(rt, err, dir, nodes, &closed),
     };
     let Folders { locks, disks } = folders;
-    let ran = run_script_ticking(rt, rt.alloc(), disks, script, &Open, None, tick);
+    let ran = run_locked(rt, &locks, disks, script, None, tick);
     drop(locks);
     match ran {
         Ok(answers) => end_by_answers(rt.alloc(), &answers, out, err),
@@ -211,7 +226,7 @@ fn run_taped<
     };
     let Folders { locks, disks } = folders;
     let recorder = Recorder::new(rt.alloc(), nodes);
-    let ran = run_script_ticking(rt, rt.alloc(), disks, script, &Open, Some(&recorder), tick);
+    let ran = run_locked(rt, &locks, disks, script, Some(&recorder), tick);
     drop(locks);
     match ran {
         Ok(answers) => end_by_tape(rt, path, &recorder.into_tape(), &answers, out, err),

@@ -17,7 +17,7 @@ use crate::script_run::end_by_run_fault;
 use crate::ticking::tick_by;
 use rr_cli::{ShellWords, end_by_refusal, end_by_stream, end_by_unprinted, number_in};
 use rr_disk::{FileDisk, OpenedFile};
-use rr_folders::{Block, Folders, Lockable, open_folders, reserve};
+use rr_folders::{Block, Folders, Lockable, Locks, open_folders};
 use rr_locked::Open;
 use rr_script::Answer;
 use rr_shell::{Listing, NodeStatus, Outcome, Trouble, is_listing_at, is_nearly_full};
@@ -37,12 +37,12 @@ use std::thread;
 use std::thread::{Scope, Threads};
 use std::time::{Clock, Duration};
 
-// The nodes that a shell asks, as this client, with the request numbers of the folder DIR; the command that isn't acknowledged
-// and may be asked again; and what a person is to be told.
+// The nodes that a shell asks, as this client, with the request numbers of a folder that is locked; the command that isn't
+// acknowledged and may be asked again; and what a person is to be told.
 #[derive(Drop)]
-struct Console<'x, R> {
+struct Console<'x, F, R> {
     rt: &'x R,
-    dir: &'x str,
+    locks: &'x Locks<F>,
     nodes: Nodes,
     client: u32,
     block: Block,
@@ -103,7 +103,11 @@ fn hint_behind(outcome: &Outcome, told: &Told, has_warned: bool) -> Option<Hint>
     }
 }
 
-impl<'x, R: Files + AllocGlobal + Wait> Console<'x, R> {
+impl<
+    'x,
+    F: Read + Write + Seek + FileExt + OpenFile + Drop,
+    R: Files<File = F> + AllocGlobal + Wait,
+> Console<'x, F, R> {
     // A request number that was never given. At the end of a block the next one is reserved.
     fn next_request(&mut self) -> Result<RequestNo, Refusal>
         ensures { IfOk result (λ q. q.client ≡ self.old.client) }
@@ -112,7 +116,7 @@ impl<'x, R: Files + AllocGlobal + Wait> Console<'x, R> {
         if let Some(seq) = self.block.take() {
             return Ok(RequestNo { client, seq });
         }
-        self.block = reserve(self.rt, self.dir, 0)?;
+        self.block = self.locks.reserve(self.rt, 0)?;
         match self.block.take() {
             Some(seq) => Ok(RequestNo { client, seq }),
             None => Err(Refusal::TooLarge),
@@ -128,7 +132,7 @@ impl<'x, R: Files + AllocGlobal + Wait> Console<'x, R> {
             return Err(Refusal::TooLarge);
         };
         if !self.block.begin_at(least) {
-            self.block = reserve(self.rt, self.dir, least)?;
+            self.block = self.locks.reserve(self.rt, least)?;
         }
         Ok(())
     }
@@ -168,7 +172,11 @@ impl<'x, R: Files + AllocGlobal + Wait> Console<'x, R> {
     }
 }
 
-impl<'x, R: Files + AllocGlobal + Wait> Asked for Console<'x, R> {
+impl<
+    'x,
+    F: Read + Write + Seek + FileExt + OpenFile + Drop,
+    R: Files<File = F> + AllocGlobal + Wait,
+> Asked for Console<'x, F, R> {
     ghost unanswered = { λ c. c.unanswered };
 
     fn wait_until_ready(&mut self) -> Result<(), Refusal> {
@@ -456,7 +464,7 @@ where
     }
 }
 
-// Talks over folders that are open, and lets their locks go.
+// Talks over folders that are open, and lets their locks go behind the talk: the console borrows them.
 fn shell_in<
     F: Read + Write + Seek + FileExt + OpenFile + Drop + Send,
     R: Files<File = F> + AllocGlobal + Threads + Wait + Clock + Sync,
@@ -480,7 +488,7 @@ fn shell_in<
     ensures quiet { result ≡ 0 → Keeps (E.contents err.old) (E.contents err.new) }
 {
     let Folders { locks, disks } = folders;
-    let block = match reserve(rt, dir, 0) {
+    let block = match locks.reserve(rt, 0) {
         Ok(block) => block,
         Err(refusal) => return end_by_requests(err, dir, &refusal),
     };
@@ -494,7 +502,7 @@ fn shell_in<
     };
     let console = Console {
         rt,
-        dir,
+        locks: &locks,
         nodes,
         client,
         block,
