@@ -12,4 +12,5 @@ mod picture;
 mod style;
 
 pub use cut::Cut;
+pub use escape::push_escaped;
 pub use picture::picture_of;
