@@ -211,7 +211,13 @@ impl Drawing {
     ) -> io::Result<()> {
         match event {
             Event::Submit { node, command } => self.draw_submit(*node, command, &mut art.shapes),
-            Event::Hear { node, message } => self.draw_hear(*node, *message, wire, art),
+            Event::Hear { node, message } => {
+                // A node that is down hears nothing.
+                if !told.starts_with(b"refuse") {
+                    self.draw_hear(*node, *message, wire, art)?;
+                }
+                Ok(())
+            }
             Event::Send { node } => {
                 if told.starts_with(b"send") {
                     self.draw_send(*node, wire, &mut art.shapes)?;
