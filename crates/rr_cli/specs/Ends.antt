@@ -30,6 +30,8 @@ use Rattle.rr_image.specs.Inspect.{Tells, Breaks, inspected}
 use Rattle.rr_cli.specs.Areas.{areas_text}
 use Rattle.rr_cli.specs.Randoms.{IsNumberIn, IsNumberOf, AreNumbers, IsDrawnText}
 use Rattle.rr_cli.specs.Cuts.{IsCutBy}
+use Rattle.rr_finish.specs.declared.finish.Ending.{Ending}
+use Rattle.rr_cli.specs.Finishing.{finished_by, IsFinishedDraw}
 use Rattle.rr_words.specs.Tasks.{CutWords, RandomWords, ShellWords, View, Task, Simulate, Viewing, Show, Random, Audit, Run, Shell, Sweep, Draw, Migrate, Verify, Export}
 use Rattle.rr_words.specs.declared.tasks.Form.{Form}
 use Rattle.rr_verify.specs.declared.folder.Reading as folder
@@ -116,17 +118,21 @@ pub data EndsOnSeat (folder of_node of_nodes : Option Text) (status : ℕ) (old 
       → EndsOnSeat folder of_node of_nodes status old new
 
 -- a run on the numbers of a random schedule, which has faults if it is lively, and is printed alone or with the report of its
--- run; or memory was wanting, and standard output is as it was
-pub data EndsOnRandom (alone : Bool) (faults : Option ℕ) (n seed steps : ℕ) (status : ℕ) (old new : Printing) : Type 0 where
-  drawn : (text : List ℕ) → IsDrawnText alone faults n seed steps text → Prints text status old new
-      → EndsOnRandom alone faults n seed steps status old new
-  cut_off : status ≡ 6 → new ≡ old → EndsOnRandom alone faults n seed steps status old new
+-- run, finished or as it is drawn; where it isn't finished the status says so. Or memory was wanting, and standard output is as
+-- it was
+pub data EndsOnRandom (finish alone : Bool) (faults : Option ℕ) (n seed steps : ℕ) (status : ℕ) (old new : Printing) : Type 0 where
+  drawn : (text : List ℕ) → finish ≡ false → IsDrawnText alone faults n seed steps text → Prints text status old new
+      → EndsOnRandom finish alone faults n seed steps status old new
+  finished : (text : List ℕ) (ending : Ending) (printing : ℕ) → finish ≡ true → IsFinishedDraw alone faults n seed steps text
+      → Prints text printing old new → status ≡ finished_by ending printing
+      → EndsOnRandom finish alone faults n seed steps status old new
+  cut_off : status ≡ 6 → new ≡ old → EndsOnRandom finish alone faults n seed steps status old new
 
 -- a run on the words of a random schedule: by the numbers that they write, or they write none and standard output is as
 -- it was
 pub data EndsOnWords (words : RandomWords) (status : ℕ) (old new : Printing) : Type 0 where
   numbered : (seed steps nodes : ℕ) (faults : Option ℕ) → AreNumbers words seed steps nodes faults
-      → EndsOnRandom words.alone faults nodes seed steps status old new
+      → EndsOnRandom words.finish words.alone faults nodes seed steps status old new
       → EndsOnWords words status old new
   unnumbered : ((seed steps nodes : ℕ) (faults : Option ℕ) → AreNumbers words seed steps nodes faults → ⊥)
       → status ≡ 2 → new ≡ old
@@ -216,7 +222,7 @@ version_text = line (codes "rr 0.1.0, proved with rattle logic dac8208d650f15bf"
 -- the line with which the help ends, behind an empty one
 abbrev pub statuses_text : List ℕ
 statuses_text =
-    10 ∷ codes "Exit status: 0 done, 1 a difference, 2 wrong words, 3 no schedule, 4 a damaged area, 5 a stream, a file or a device, 6 memory, 7 an audit"
+    10 ∷ codes "Exit status: 0 done, 1 a difference, 2 wrong words, 3 no schedule, 4 a damaged area, 5 a stream, a file or a device, 6 memory, 7 an audit, 8 no finish"
     ++ 10 ∷ []
 
 -- the help is printed, which ends with the line on statuses; or memory was wanting, and standard output is as it was

@@ -1,5 +1,6 @@
 pub mod Areas
 pub mod Ends
+pub mod Finishing
 pub mod Refusals
 pub mod Randoms
 pub mod Cuts

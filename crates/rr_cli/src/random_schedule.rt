@@ -5,9 +5,12 @@ ghost use Rattle.std.specs.Io.KnownBytes.{Keeps};
 ghost use Rattle.rr_words.specs.Tasks.{random_words_in};
 ghost use Rattle.rr_cli.specs.Randoms.{IsNumberIn, IsNumberOf, AreFaults, AreNumbers, IsDrawnText};
 ghost use Rattle.rr_cli.specs.Ends.{EndsOnRandom, EndsOnWords};
+ghost use Rattle.rr_cli.specs.Finishing.{IsFinishedDraw};
 
+use crate::finishing::end_by_finish;
 use crate::refusals::end_by_refusal;
 use crate::streams::end_by_text;
+use rr_finish::{Ending, finish_run};
 use rr_lively::{DEFAULT_FAULTS, Recipe, lively_run, lively_schedule};
 use rr_sim::{MAX_STEPS, random, random_run};
 use rr_stream::Sink;
@@ -20,13 +23,14 @@ use std::io::Write;
 const _: () = prove!(rr_words::MAX_STEPS == MAX_STEPS as u64);
 
 /// The numbers of a random schedule: how many nodes it has, the seed of its words, how many steps it has, and if it is
-/// lively, how many steps in a thousand have a fault; and whether it is printed alone.
+/// lively, how many steps in a thousand have a fault; whether it is finished, and whether it is printed alone.
 #[derive(Clone, Copy, Debug)]
 pub(crate) struct RandomNumbers {
     nodes: Nodes,
     seed: u64,
     steps: u32,
     faults: Option<u32>,
+    finish: bool,
     alone: bool,
 }
 
@@ -95,6 +99,7 @@ fn faults_of(lively: bool, word: Option<&str>) -> Option<Option<u32>>
 fn numbers_of(words: &RandomWords) -> Option<RandomNumbers>
     ensures some { IfSome result (λ d. AreNumbers (random_words_in words.now) d.seed d.steps d.nodes d.faults) }
     ensures few { IfSome result (λ d. d.steps ≤ 999930) }
+    ensures finish { IfSome result (λ d. d.finish ≡ words.now.finish) }
     ensures alone { IfSome result (λ d. d.alone ≡ words.now.alone) }
     ensures none { result ≡ None → (s k n : ℕ) (f : Option ℕ) → AreNumbers (random_words_in words.now) s k n f → ⊥ }
 {
@@ -103,12 +108,14 @@ fn numbers_of(words: &RandomWords) -> Option<RandomNumbers>
     let nodes = nodes_of(words.nodes?)?;
     let faults = faults_of(words.lively, words.faults)?;
     let steps = steps as u32;
+    let finish = words.finish;
     let alone = words.alone;
     Some(RandomNumbers {
         nodes,
         seed,
         steps,
         faults,
+        finish,
         alone,
     })
 }
@@ -190,6 +197,53 @@ fn drawn_text<O: Sink>(
     }
 }
 
+// The text of a random schedule and its finish: alone, or with a line `report` and the report of the run of both.
+fn finished_text<O: Sink>(
+    alloc: Global,
+    numbers: RandomNumbers,
+    out: &mut O,
+) -> Result<(Vec<u8>, Ending), Refusal>
+    requires { numbers.steps ≤ 999930 }
+    ensures ok { IfOk result (λ told. IsFinishedDraw numbers.alone numbers.faults numbers.nodes numbers.seed numbers.steps told.0.items) }
+    ensures err { IfErr result (λ e. e ≡ Refusal.OutOfMemory) }
+    ensures unprinted { O.printing out.new ≡ O.printing out.old }
+{
+    let lone = RandomNumbers {
+        alone: true,
+        ..numbers
+    };
+    let mut text = drawn_text(alloc, lone, out)?;
+    // The text is that of a schedule, so only memory may be wanting.
+    let Ok(finish) = finish_run(alloc, text.as_slice(), out) else {
+        return Err(Refusal::OutOfMemory);
+    };
+    text.extend_from_slice(finish.added.as_slice())?;
+    if numbers.alone {
+        return Ok((text, finish.ending));
+    }
+    text.extend_from_slice(b"report\n")?;
+    text.extend_from_slice(finish.report.as_slice())?;
+    Ok((text, finish.ending))
+}
+
+// Prints a random schedule and its finish, alone or with the report of its run.
+fn print_finished<O: Sink, E: Write>(
+    alloc: Global,
+    numbers: RandomNumbers,
+    out: &mut O,
+    err: &mut E,
+) -> u8
+    requires few { numbers.steps ≤ 999930 }
+    requires finish { numbers.finish ≡ true }
+    ensures ends { EndsOnRandom numbers.finish numbers.alone numbers.faults numbers.nodes numbers.seed numbers.steps result (O.printing out.old) (O.printing out.new) }
+    ensures quiet { result ≡ 0 → Keeps (E.contents err.old) (E.contents err.new) }
+{
+    match finished_text(alloc, numbers, out) {
+        Ok((text, ending)) => end_by_finish(out, err, text.as_slice(), ending),
+        Err(refusal) => end_by_refusal(err, &refusal),
+    }
+}
+
 // Prints a random schedule, alone or with the report of its run.
 fn print_random<O: Sink, E: Write>(
     alloc: Global,
@@ -198,9 +252,12 @@ fn print_random<O: Sink, E: Write>(
     err: &mut E,
 ) -> u8
     requires { numbers.steps ≤ 999930 }
-    ensures ends { EndsOnRandom numbers.alone numbers.faults numbers.nodes numbers.seed numbers.steps result (O.printing out.old) (O.printing out.new) }
+    ensures ends { EndsOnRandom numbers.finish numbers.alone numbers.faults numbers.nodes numbers.seed numbers.steps result (O.printing out.old) (O.printing out.new) }
     ensures quiet { result ≡ 0 → Keeps (E.contents err.old) (E.contents err.new) }
 {
+    if numbers.finish {
+        return print_finished(alloc, numbers, out, err);
+    }
     match drawn_text(alloc, numbers, out) {
         Ok(text) => end_by_text(out, err, text.as_slice()),
         Err(refusal) => end_by_refusal(err, &refusal),

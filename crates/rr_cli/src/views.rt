@@ -7,6 +7,7 @@ ghost use Rattle.rr_files.specs.Files.{reading_of};
 ghost use Rattle.rr_cli.specs.Ends.{EndsOnInput};
 ghost use Rattle.rr_cli.specs.Views.{Shows, EndsOnShown, EndsOnCompared, EndsOnView, left_behind, different};
 
+use crate::finishing::finish_file;
 use crate::input::{name_of, read_file};
 use crate::refusals::{TextKind, end_by_fault, end_by_refusal};
 use crate::streams::end_by_text;
@@ -33,7 +34,7 @@ pub(crate) enum Shown {
 }
 
 // The text that shows an account.
-fn shown_text(alloc: Global, how: Shown, account: &Account) -> Result<Vec<u8>, Refusal>
+pub(crate) fn shown_text(alloc: Global, how: Shown, account: &Account) -> Result<Vec<u8>, Refusal>
     ensures ok { IfOk result (λ text. Shows how account.now text.items) }
     ensures err { IfErr result (λ e. e ≡ Refusal.OutOfMemory) }
 {
@@ -206,6 +207,7 @@ pub(crate) fn show_view<F: FileReader, I: Source, O: Sink, E: Write>(
                 err,
             )
         }
+        View::Finish(what, file) => finish_file(alloc, files, what, file, input, out, err),
         View::Statistics(form, file) => {
             show_file(alloc, files, Shown::Statistics(form), file, input, out, err)
         }

@@ -56,12 +56,16 @@ unfoldable pub with_arg : App → Rule → App
 with_arg line rule = with_rule line rule
 
 -- the subcommand sim, with a FILE that may be left out, and the options for reasons and for JSON
-unfoldable pub sim_line : App
-sim_line =
+unfoldable pub told_line : App
+told_line =
     with_arg (with_arg (with_arg (new_app (codes "sim"))
     (word_rule (codes "FILE") false))
     (flag_rule (codes "EXPLAIN") (codes "explain")))
     (flag_rule (codes "JSON") (codes "json"))
+
+-- the same with the options for a finish, and for its events alone
+unfoldable pub sim_line : App
+sim_line = with_arg (with_arg told_line (flag_rule (codes "FINISH") (codes "finish"))) (flag_rule (codes "ALONE") (codes "schedule-only"))
 
 -- the subcommand stats, with a FILE that may be left out, and the option for JSON
 unfoldable pub stats_line : App
@@ -83,13 +87,14 @@ numbers_line =
     (number_rule (codes "STEPS") (codes "steps") 0 999930))
     (number_rule (codes "NODES") (codes "nodes") 1 7)
 
--- the same with the option for lively schedules, the number of their faults, which may be left out, and the option for the
--- schedule alone
+-- the same with the option for lively schedules, the number of their faults, which may be left out, and the options for a
+-- finish and for the schedule alone
 unfoldable pub random_line : App
 random_line =
-    with_arg (with_arg (with_arg numbers_line
+    with_arg (with_arg (with_arg (with_arg numbers_line
     (flag_rule (codes "LIVELY") (codes "lively")))
     (optional_number_rule (codes "FAULTS") (codes "faults") 0 1000))
+    (flag_rule (codes "FINISH") (codes "finish")))
     (flag_rule (codes "ALONE") (codes "schedule-only"))
 
 -- the subcommand audit, with a FILE that may be left out

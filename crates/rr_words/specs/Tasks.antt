@@ -1,5 +1,5 @@
 -- What words ask for.
-use Rattle.std.specs.Prelude.{List, [], Bool, false, Option, None, Some, codes, if◌then◌else◌, map, option_map, unwrap_or}
+use Rattle.std.specs.Prelude.{List, [], Bool, false, ◌||◌, Option, None, Some, codes, if◌then◌else◌, map, option_map, unwrap_or}
 use Rattle.std.specs.Option.{option_map_or}
 use Rattle.std.specs.Str.{bytes_eq}
 use Rattle.clap.specs.Words.{Row, Text, all_of, first_of, subcommand_of}
@@ -9,6 +9,8 @@ use Rattle.rr_words.specs.Lines.{rr_line}
 use Rattle.rr_words.specs.declared.tasks.CutWords as code_words
 use Rattle.rr_words.specs.declared.tasks.RandomWords as code_randoms
 use Rattle.rr_words.specs.declared.tasks.ShellWords as code_shells
+use Rattle.rr_words.specs.declared.tasks.FinishView.{FinishView}
+use Rattle.rr_words.specs.declared.tasks.FinishView.TheVariants as finished
 use Rattle.rr_words.specs.declared.tasks.Form.{Form}
 use Rattle.rr_words.specs.declared.tasks.Form.TheVariants.{Plain, Json}
 use Rattle.rr_words.specs.declared.tasks.Task as code
@@ -32,13 +34,14 @@ pub record CutWords : Type 0 where
   pub instance : Option Text
 
 -- the words of a random schedule: a seed, a number of steps and a number of nodes, which only wrong words leave out; whether
--- it is lively, and a number of faults, which may be left out; and whether it is printed alone
+-- it is lively, and a number of faults, which may be left out; whether it is finished; and whether it is printed alone
 pub record RandomWords : Type 0 where
   pub seed : Option Text
   pub steps : Option Text
   pub nodes : Option Text
   pub lively : Bool
   pub faults : Option Text
+  pub finish : Bool
   pub alone : Bool
 
 -- the words of a shell: a number of nodes, the folder of their folders, a client and the milliseconds between two ticks, which may
@@ -54,10 +57,11 @@ pub record ShellWords : Type 0 where
   pub json : Bool
 
 -- what is shown of the run of the schedule in a file or else in standard input: its report as JSON; or its report with events
--- and reasons; or its statistics; or where its report isn't the text in a second file or else in standard input
+-- and reasons; or its finish; or its statistics; or where its report isn't the text in a second file or else in standard input
 pub data View : Type 0 where
   Report : Option Text → View
   Explanation : Form → Option Text → View
+  Finish : FinishView → Option Text → View
   Statistics : Form → Option Text → View
   Comparison : Option Text → Option Text → View
 
@@ -111,11 +115,28 @@ abbrev pub told_by : Form → Option Text → Task
 told_by Plain file = Simulate file
 told_by Json file = Viewing (Report file)
 
+-- what is shown of a finish without reasons
+abbrev pub finish_by : Form → FinishView
+finish_by Plain = finished.Report
+finish_by Json = finished.Objects
+
+-- what is shown of a finish: its events alone, or the report with reasons, or the report
+abbrev pub finish_view : List Row → FinishView
+finish_view rows =
+    if is_set (codes "ALONE") rows then finished.Events
+    else (if is_set (codes "EXPLAIN") rows then finished.Explanation (form_of rows) else finish_by (form_of rows))
+
+-- what sim asks for of a schedule as it is
+abbrev pub told_task : List Row → Task
+told_task rows =
+    if is_set (codes "EXPLAIN") rows then Viewing (Explanation (form_of rows) (file_of (first_of (codes "FILE") rows)))
+    else told_by (form_of rows) (file_of (first_of (codes "FILE") rows))
+
 -- what sim, stats, check, random, run, shell, sweep, draw, migrate, verify and export ask for
 abbrev pub simulate_task : List Row → Task
 simulate_task rows =
-    if is_set (codes "EXPLAIN") rows then Viewing (Explanation (form_of rows) (file_of (first_of (codes "FILE") rows)))
-    else told_by (form_of rows) (file_of (first_of (codes "FILE") rows))
+    if is_set (codes "FINISH") rows || is_set (codes "ALONE") rows then Viewing (Finish (finish_view rows) (file_of (first_of (codes "FILE") rows)))
+    else told_task rows
 
 abbrev pub stats_task : List Row → Task
 stats_task rows = Viewing (Statistics (form_of rows) (file_of (first_of (codes "FILE") rows)))
@@ -131,6 +152,7 @@ random_task rows =
       nodes = first_of (codes "NODES") rows;
       lively = is_set (codes "LIVELY") rows;
       faults = first_of (codes "FAULTS") rows;
+      finish = is_set (codes "FINISH") rows;
       alone = is_set (codes "ALONE") rows;
     })
 
@@ -209,6 +231,7 @@ random_words_in words =
       nodes = option_map (λ s. s.now) words.nodes;
       lively = words.lively;
       faults = option_map (λ s. s.now) words.faults;
+      finish = words.finish;
       alone = words.alone;
     }
 
@@ -229,6 +252,7 @@ shell_words_in words =
 abbrev pub view_in : view.View → View
 view_in (shown.Report file) = Report (option_map (λ s. s.now) file)
 view_in (shown.Explanation f file) = Explanation f (option_map (λ s. s.now) file)
+view_in (shown.Finish what file) = Finish what (option_map (λ s. s.now) file)
 view_in (shown.Statistics f file) = Statistics f (option_map (λ s. s.now) file)
 view_in (shown.Comparison file report) = Comparison (option_map (λ s. s.now) file) (option_map (λ s. s.now) report)
 

@@ -11,6 +11,11 @@ pub(crate) fn explain<'a>() -> &'a str {
     "Tells the event behind each line, and why others were refused or came to nothing"
 }
 
+/// The help of the option for a finish.
+pub(crate) fn finish<'a>() -> &'a str {
+    "Goes on from the schedule's end, without faults, until nothing is left to do"
+}
+
 /// The help of the program.
 pub(crate) fn program<'a>() -> &'a str {
     "\
@@ -33,8 +38,14 @@ message that is sent, each acknowledgement, each node that has opened its disk, 
 with `decided N` and the list of the N decided commands. With --explain an indented line for each event has its line, its
 text, and what it did or why it was refused or came to nothing. With --json each line is an object.
 
+With --finish the run goes on, by events that are added to the schedule: nodes that are down restart, nobody is suspected
+or fails, and what is sent is heard. It ends when each request that a node was asked for since it is up is acknowledged, and
+each instance that it has begun is decided. The report is that of all events. With --schedule-only the lines of the added
+events are printed alone. If it can't be finished, this is told, what there is is printed, and the status is 8.
+
 Examples:
   rr sim --explain examples/one_command.schedule
+  rr sim --finish --schedule-only examples/suspected_coordinator.schedule
   rr random --lively --schedule-only --seed 1 --steps 200 --nodes 3 | rr sim"
 }
 
@@ -121,7 +132,8 @@ Examples:
 pub(crate) fn random<'a>() -> &'a str {
     "\
 Printed is the text of a schedule, a line `report`, and the report of its run, as `rr sim` prints it. With
---schedule-only it is the text of the schedule alone, which `rr sim` reads. The same words print the same bytes. Most of
+--schedule-only it is the text of the schedule alone, which `rr sim` reads. With --finish the events that `rr sim --finish`
+adds stand behind those that are drawn. The same words print the same bytes. Most of
 the events come to nothing: hardly anything is decided. With --lively each event is drawn among those that do something at
 that moment. Then --faults of a thousand steps have a fault: a crash, a failing call, a lost message, a suspicion or the like.
 

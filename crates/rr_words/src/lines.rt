@@ -2,7 +2,7 @@
 
 ghost use Rattle.std.specs.Prelude.{◌≡◌, IfOk, codes};
 ghost use Rattle.clap.specs.Words.{App, app_of, new_app};
-ghost use Rattle.rr_words.specs.Lines.{IsArg, IsLine, and_also, rr_line, schedule_lines, rr_settings, with_version, named_rule, sim_line, stats_line, check_line, show_line, migrate_line, word_rule, number_rule, option_rule, optional_number_rule, flag_rule, tick_rule, numbers_line, random_line, audit_line, run_line, lines_rule, asking_line, shell_line, sweep_line, draw_line, verify_line, export_line};
+ghost use Rattle.rr_words.specs.Lines.{IsArg, IsLine, and_also, rr_line, schedule_lines, rr_settings, with_version, named_rule, told_line, sim_line, stats_line, check_line, show_line, migrate_line, word_rule, number_rule, option_rule, optional_number_rule, flag_rule, tick_rule, numbers_line, random_line, audit_line, run_line, lines_rule, asking_line, shell_line, sweep_line, draw_line, verify_line, export_line};
 
 use crate::helps;
 use clap::builder::ValueParser;
@@ -174,9 +174,9 @@ fn tick_arg<'a>(alloc: Global) -> Arg<'a>
     )
 }
 
-// The command line of `rr sim`.
-fn sim_line<'a>(alloc: Global) -> Result<Command<'a>, AllocError>
-    ensures { IfOk result (IsLine sim_line) }
+// The command line of `rr sim` without what finishes a schedule.
+fn told_line<'a>(alloc: Global) -> Result<Command<'a>, AllocError>
+    ensures { IfOk result (IsLine told_line) }
 {
     bare_line(
         alloc,
@@ -192,6 +192,20 @@ fn sim_line<'a>(alloc: Global) -> Result<Command<'a>, AllocError>
         "json",
         "Prints an object of JSON for each line",
     ))
+}
+
+// The command line of `rr sim`.
+fn sim_line<'a>(alloc: Global) -> Result<Command<'a>, AllocError>
+    ensures { IfOk result (IsLine sim_line) }
+{
+    told_line(alloc)?
+        .arg(flag_arg(alloc, "FINISH", "finish", helps::finish()))?
+        .arg(flag_arg(
+            alloc,
+            "ALONE",
+            "schedule-only",
+            "Prints the events that --finish adds, alone; implies --finish",
+        ))
 }
 
 // The command line of `rr stats`.
@@ -309,6 +323,7 @@ fn random_line<'a>(alloc: Global) -> Result<Command<'a>, AllocError>
             0,
             MAX_FAULTS,
         ))?
+        .arg(flag_arg(alloc, "FINISH", "finish", helps::finish()))?
         .arg(flag_arg(
             alloc,
             "ALONE",

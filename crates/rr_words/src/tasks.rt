@@ -2,7 +2,7 @@
 
 ghost use Rattle.std.specs.Prelude.{◌≡◌, [], IfOk, map, option_map, unwrap_or};
 ghost use Rattle.clap.specs.Words.{all_of, first_of, found_of, rows_of};
-ghost use Rattle.rr_words.specs.Tasks.{file_of, is_set, form_of, cut_words_of, cut_words_in, simulate_task, stats_task, check_task, random_task, run_task, shell_task, sweep_task, draw_task, migrate_task, other_task_by, task_by, task_in, verify_task, export_task};
+ghost use Rattle.rr_words.specs.Tasks.{file_of, is_set, form_of, cut_words_of, cut_words_in, finish_view, simulate_task, told_task, stats_task, check_task, random_task, run_task, shell_task, sweep_task, draw_task, migrate_task, other_task_by, task_by, task_in, verify_task, export_task};
 
 use clap::ArgMatches;
 use std::alloc::{AllocError, Global};
@@ -33,6 +33,8 @@ pub struct RandomWords<'a> {
     pub lively: bool,
     /// How many steps in a thousand of a lively schedule have a fault.
     pub faults: Option<&'a str>,
+    /// Whether it is finished, without faults, before it is printed.
+    pub finish: bool,
     /// Whether the schedule is printed alone, without the report of its run.
     pub alone: bool,
 }
@@ -65,6 +67,19 @@ pub enum Form {
     Json,
 }
 
+/// What is shown of the finish of a schedule: the events that go on from its end, without faults, until nothing is left to do.
+#[derive(Clone, Copy, Debug, PartialEq, Eq)]
+pub enum FinishView {
+    /// The lines of the events that were added.
+    Events,
+    /// The report of the run of all events.
+    Report,
+    /// That report, an object a line.
+    Objects,
+    /// That report, with each event and what came of it.
+    Explanation(Form),
+}
+
 /// What is shown of the run of a schedule. Where the file is `None`, standard input is meant.
 #[derive(Clone, Copy, Debug, PartialEq, Eq)]
 pub enum View<'a> {
@@ -72,6 +87,8 @@ pub enum View<'a> {
     Report(Option<&'a str>),
     /// `rr sim --explain [--json] [FILE]`: its report, with each event and what came of it.
     Explanation(Form, Option<&'a str>),
+    /// `rr sim --finish [--schedule-only] [--explain] [--json] [FILE]`: its finish.
+    Finish(FinishView, Option<&'a str>),
     /// `rr stats [--json] [FILE]`: its statistics.
     Statistics(Form, Option<&'a str>),
     /// `rr check FILE REPORT`: where its report differs first from the text in the second file.
@@ -87,8 +104,8 @@ pub enum Task<'a> {
     View(View<'a>),
     /// `rr show DIR`: what the areas hold of the disk in this folder.
     Show(Option<&'a str>),
-    /// `rr random --seed SEED --steps STEPS --nodes NODES [--lively [--faults FAULTS]] [--schedule-only]`: a random schedule,
-    /// and the report of its run unless the schedule is printed alone.
+    /// `rr random --seed SEED --steps STEPS --nodes NODES [--lively [--faults FAULTS]] [--finish] [--schedule-only]`: a random
+    /// schedule, finished or as it is drawn, and the report of its run unless the schedule is printed alone.
     Random(RandomWords<'a>),
     /// `rr audit [FILE]`: whether the events are what nodes do of the tape in this file, or else in standard input.
     Audit(Option<&'a str>),
@@ -164,9 +181,37 @@ fn form_of(matches: &ArgMatches<'_>) -> Form
     }
 }
 
+// What is shown of a finish.
+fn finish_view(matches: &ArgMatches<'_>) -> FinishView
+    ensures { result ≡ finish_view (rows_of (found_of matches.now)) }
+{
+    if is_set(matches, "ALONE") {
+        return FinishView::Events;
+    }
+    let form = form_of(matches);
+    if is_set(matches, "EXPLAIN") {
+        return FinishView::Explanation(form);
+    }
+    match form {
+        Form::Json => FinishView::Objects,
+        Form::Plain => FinishView::Report,
+    }
+}
+
 // What `rr sim` is asked for.
 fn simulate_task<'a>(matches: &ArgMatches<'a>) -> Task<'a>
     ensures { task_in result ≡ simulate_task (rows_of (found_of matches.now)) }
+{
+    if is_set(matches, "FINISH") || is_set(matches, "ALONE") {
+        let file = file_of(word_of(matches, "FILE"));
+        return Task::View(View::Finish(finish_view(matches), file));
+    }
+    told_task(matches)
+}
+
+// What `rr sim` is asked for of a schedule as it is.
+fn told_task<'a>(matches: &ArgMatches<'a>) -> Task<'a>
+    ensures { task_in result ≡ told_task (rows_of (found_of matches.now)) }
 {
     let file = file_of(word_of(matches, "FILE"));
     let form = form_of(matches);
@@ -206,6 +251,7 @@ fn random_task<'a>(matches: &ArgMatches<'a>) -> Task<'a>
         nodes: word_of(matches, "NODES"),
         lively: is_set(matches, "LIVELY"),
         faults: word_of(matches, "FAULTS"),
+        finish: is_set(matches, "FINISH"),
         alone: is_set(matches, "ALONE"),
     })
 }

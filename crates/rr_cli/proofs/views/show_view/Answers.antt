@@ -14,6 +14,11 @@ returns-in-Explanation-clause-ends g c =
     subst (λ (view : View). EndsOnView (view_in view) (record { input = g.I.Source.reading c.args.input.now; files = g.F.FileReader.held c.args.files.now }) (record { input = g.I.Source.reading c.show_file-in-Explanation.new.input; files = g.F.FileReader.held c.show_file-in-Explanation.new.files }) c.show_file-in-Explanation.result (g.O.Sink.printing c.args.out.now) (g.O.Sink.printing c.show_file-in-Explanation.new.out))
     (sym c.in-Explanation.is) c.show_file-in-Explanation.ensures.ends
 
+pub returns-in-Finish-clause-ends : goal.returns-in-Finish-clause-ends
+returns-in-Finish-clause-ends g c =
+    subst (λ (view : View). EndsOnView (view_in view) (record { input = g.I.Source.reading c.args.input.now; files = g.F.FileReader.held c.args.files.now }) (record { input = g.I.Source.reading c.finish_file.new.input; files = g.F.FileReader.held c.finish_file.new.files }) c.finish_file.result (g.O.Sink.printing c.args.out.now) (g.O.Sink.printing c.finish_file.new.out))
+    (sym c.in-Finish.is) c.finish_file.ensures.ends
+
 pub returns-in-Statistics-clause-ends : goal.returns-in-Statistics-clause-ends
 returns-in-Statistics-clause-ends g c =
     subst (λ (view : View). EndsOnView (view_in view) (record { input = g.I.Source.reading c.args.input.now; files = g.F.FileReader.held c.args.files.now }) (record { input = g.I.Source.reading c.show_file-in-Statistics.new.input; files = g.F.FileReader.held c.show_file-in-Statistics.new.files }) c.show_file-in-Statistics.result (g.O.Sink.printing c.args.out.now) (g.O.Sink.printing c.show_file-in-Statistics.new.out))
