@@ -1,6 +1,9 @@
+pub mod AreaObjects
 pub mod Areas
+pub mod AuditObjects
 pub mod Ends
 pub mod Refusals
+pub mod RandomObjects
 pub mod Randoms
 pub mod Cuts
 pub mod Tapes

@@ -3,7 +3,9 @@
 //! `execute_with_views` does so with views of the run of a schedule too: `rr sim --explain` and `--json`, `rr stats`, `rr check`.
 #![tactic(auto)]
 
+mod area_objects;
 mod audit;
+mod audit_objects;
 mod exporting;
 mod folder_faults;
 mod folders;
@@ -11,6 +13,7 @@ mod input;
 mod migrate;
 mod picture;
 mod program;
+mod random_objects;
 mod random_schedule;
 mod refusals;
 mod show;
@@ -29,7 +32,7 @@ pub use refusals::{TextKind, end_by_fault, end_by_refusal, print_refusal, status
 pub use rr_audit::audit_on;
 pub use rr_sim::{random_run, report_on};
 pub use rr_words::{CutWords, Form, RandomWords, ShellWords, Task, View, read_words};
-pub use show::show_disk;
+pub use show::{show_disk, show_disk_in};
 pub use streams::{end_by_stream, end_by_text, end_by_unprinted, end_without_words};
 pub use viewing::execute_with_views;
 pub use words::end_by_words;
