@@ -46,6 +46,7 @@ TOUR = [
             "printf 104857 > talk/requests; echo 'look printer' | rr shell --nodes 3 --dir talk",
             "rr shell -c 'claim printer room-4' -c 'look printer'; ls rr-data",
             "rr shell --strict -c 'claim printer' -c 'look printer'",
+            "printf 'look printer\\r\\nclaim a.b\\nclaim a_b\\nexit\\nlook printer\\n' | rr shell",
             "printf 'stop 0\\nat 1\\nstop 2\\nclaim bell\\nstart 2\\nagain\\n' | rr shell",
         ],
     ),
@@ -77,12 +78,14 @@ TOUR = [
         "`rr run` runs nodes in threads. `rr show` reads the two files of a node's disk, `rr migrate` opens one of version 1, and `rr audit` reads a record of what nodes did.",
         [
             "rr run --nodes 3 --dir nodes --script examples/three_clients.script",
-            "mkdir node; bench/areas.py node 64; rr show node",
+            "printf 'submit 0 8 2 claim printer\\nlook 0 printer\\nlook 0 attic\\n' | rr run --nodes 3 --dir nodes --script - --json",
+            "mkdir node; bench/areas.py node 64; rr show node; rr show --json node",
             "printf '\\377' | dd of=node/a0 bs=1 seek=7 conv=notrunc status=none; rr show node",
             "cp -r examples/version_1 v1; rr show v1",
             "rr migrate v1 --node 0 --nodes 1",
             "rr audit examples/one_command.tape",
             "sed 3d examples/one_command.tape | rr audit",
+            "rr audit --json examples/one_command.tape; sed 3d examples/one_command.tape | rr audit --json 2> told",
         ],
     ),
     (
@@ -91,6 +94,7 @@ TOUR = [
         "a new cluster goes on from it, also if a folder is lost.",
         [
             "rr verify nodes | sed 's/ facts.*//'",
+            "rr verify --json nodes | sed 's/,\"facts.*/}/'",
             "rr export nodes > claims.script; cat claims.script",
             "rr run --nodes 5 --dir new --script claims.script; rr export new | cmp - claims.script",
             "cp -r nodes odd; sed -i 's/room-4/room-9/g' odd/2/a0 odd/2/a1; echo 'look printer' | rr shell --nodes 3 --dir odd",
@@ -134,6 +138,8 @@ TOUR = [
         "Most events of a random schedule do nothing. Most of a lively one do something, and much is decided.",
         [
             "rr random --seed 1 --steps 3 --nodes 1",
+            "rr random --json --seed 1 --steps 3 --nodes 1",
+            "rr random --json --schedule-only --seed 1 --steps 3 --nodes 1",
             "rr random --schedule-only --seed 1 --steps 2000 --nodes 3 | rr sim | grep '^decided'",
             "rr random --schedule-only --lively --seed 1 --steps 2000 --nodes 3 | rr stats",
             "rr random --lively --faults 1001 --seed 1 --steps 3 --nodes 3",

@@ -2,6 +2,7 @@ pub mod EndLemmas
 pub mod ShowLemmas
 pub mod TapeLemmas
 pub mod SweepLemmas
+pub mod RandomLemmas
 pub mod ReadLemmas
 pub mod MigrateLemmas
 mod WordLaws

@@ -1,7 +1,10 @@
+pub mod AreaObjects
 pub mod Areas
+pub mod AuditObjects
 pub mod Ends
 pub mod Finishing
 pub mod Refusals
+pub mod RandomObjects
 pub mod Randoms
 pub mod Cuts
 pub mod Tapes

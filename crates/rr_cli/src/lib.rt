@@ -4,7 +4,9 @@
 //! `rr check`.
 #![tactic(auto)]
 
+mod area_objects;
 mod audit;
+mod audit_objects;
 mod exporting;
 mod finishing;
 mod folder_faults;
@@ -13,6 +15,7 @@ mod input;
 mod migrate;
 mod picture;
 mod program;
+mod random_objects;
 mod random_schedule;
 mod refusals;
 mod show;
@@ -31,7 +34,7 @@ pub use refusals::{TextKind, end_by_fault, end_by_refusal, print_refusal, status
 pub use rr_audit::audit_on;
 pub use rr_sim::{random_run, report_on};
 pub use rr_words::{CutWords, FinishView, Form, RandomWords, ShellWords, Task, View, read_words};
-pub use show::show_disk;
+pub use show::{show_disk, show_disk_in};
 pub use streams::{end_by_stream, end_by_text, end_by_unprinted, end_without_words};
 pub use viewing::execute_with_views;
 pub use words::end_by_words;

@@ -42,10 +42,10 @@ where
     match read_words(rt.alloc(), words) {
         Ok(Task::View(view)) => show_view(rt.alloc(), files, view, input, out, err),
         Ok(Task::Simulate(_)) => execute(rt, words, files, input, out, err),
-        Ok(Task::Show(_)) => execute(rt, words, files, input, out, err),
+        Ok(Task::Show(_, _)) => execute(rt, words, files, input, out, err),
         Ok(Task::Random(_)) => execute(rt, words, files, input, out, err),
-        Ok(Task::Audit(_)) => execute(rt, words, files, input, out, err),
-        Ok(Task::Run(_, _, _, _, _)) => execute(rt, words, files, input, out, err),
+        Ok(Task::Audit(_, _)) => execute(rt, words, files, input, out, err),
+        Ok(Task::Run(_, _, _, _, _, _)) => execute(rt, words, files, input, out, err),
         Ok(Task::Shell(_)) => execute(rt, words, files, input, out, err),
         Ok(Task::Sweep(_, _)) => execute(rt, words, files, input, out, err),
         Ok(Task::Draw(_, _)) => execute(rt, words, files, input, out, err),

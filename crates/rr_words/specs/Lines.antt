@@ -75,9 +75,9 @@ stats_line = with_arg (with_arg (new_app (codes "stats")) (word_rule (codes "FIL
 unfoldable pub check_line : App
 check_line = with_arg (with_arg (new_app (codes "check")) (word_rule (codes "FILE") true)) (word_rule (codes "REPORT") true)
 
--- the subcommand show, with a DIR
+-- the subcommand show, with a DIR and the option for JSON
 unfoldable pub show_line : App
-show_line = with_arg (new_app (codes "show")) (word_rule (codes "DIR") true)
+show_line = with_arg (with_arg (new_app (codes "show")) (word_rule (codes "DIR") true)) (flag_rule (codes "JSON") (codes "json"))
 
 -- the subcommand random, with a seed, a number of steps and a number of nodes
 unfoldable pub numbers_line : App
@@ -88,31 +88,34 @@ numbers_line =
     (number_rule (codes "NODES") (codes "nodes") 1 7)
 
 -- the same with the option for lively schedules, the number of their faults, which may be left out, and the options for a
--- finish and for the schedule alone
+-- finish, for the schedule alone and for JSON
 unfoldable pub random_line : App
 random_line =
-    with_arg (with_arg (with_arg (with_arg numbers_line
+    with_arg (with_arg (with_arg (with_arg (with_arg numbers_line
     (flag_rule (codes "LIVELY") (codes "lively")))
     (optional_number_rule (codes "FAULTS") (codes "faults") 0 1000))
     (flag_rule (codes "FINISH") (codes "finish")))
-    (flag_rule (codes "ALONE") (codes "schedule-only"))
+    (flag_rule (codes "ALONE") (codes "schedule-only")))
+    (flag_rule (codes "JSON") (codes "json"))
 
--- the subcommand audit, with a FILE that may be left out
+-- the subcommand audit, with a FILE that may be left out, and the option for JSON
 unfoldable pub audit_line : App
-audit_line = with_arg (new_app (codes "audit")) (word_rule (codes "FILE") false)
+audit_line = with_arg (with_arg (new_app (codes "audit")) (word_rule (codes "FILE") false)) (flag_rule (codes "JSON") (codes "json"))
 
--- the subcommand run, with a number of nodes, the folder of their folders, the file of a script, and the file for a tape and
--- the time between ticks, which may be left out
+-- the subcommand run, with a number of nodes, the folder of their folders, the file of a script, the file for a tape and the
+-- time between ticks, which may be left out, and the option for JSON
 unfoldable pub run_line : App
 run_line =
     with_arg
+    (with_arg
     (with_arg
     (with_arg (with_arg (with_arg (new_app (codes "run"))
     (number_rule (codes "NODES") (codes "nodes") 1 7))
     (option_rule (codes "DIR") (codes "dir") true))
     (option_rule (codes "SCRIPT") (codes "script") true))
     (option_rule (codes "TAPE") (codes "tape") false))
-    tick_rule
+    tick_rule)
+    (flag_rule (codes "JSON") (codes "json"))
 
 -- the subcommand shell, with a number of nodes, the folder of their folders, the number of a client and lines, all of which
 -- may be left out

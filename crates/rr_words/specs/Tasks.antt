@@ -34,7 +34,8 @@ pub record CutWords : Type 0 where
   pub instance : Option Text
 
 -- the words of a random schedule: a seed, a number of steps and a number of nodes, which only wrong words leave out; whether
--- it is lively, and a number of faults, which may be left out; whether it is finished; and whether it is printed alone
+-- it is lively, and a number of faults, which may be left out; whether it is finished; whether it is printed alone; and how the
+-- report is printed
 pub record RandomWords : Type 0 where
   pub seed : Option Text
   pub steps : Option Text
@@ -43,6 +44,7 @@ pub record RandomWords : Type 0 where
   pub faults : Option Text
   pub finish : Bool
   pub alone : Bool
+  pub form : Form
 
 -- the words of a shell: a number of nodes, the folder of their folders, a client and the milliseconds between two ticks, which may
 -- be left out; its lines, or none
@@ -68,7 +70,7 @@ pub data View : Type 0 where
 -- what a command asks for: the report of the schedule in this file or else in standard input; or a view of its run; or the
 -- areas of the disk in this folder; or a random schedule by these words; or the audit of the tape in this file or else in
 -- standard input; or a run of this number of nodes in threads, over the folders in this folder, by the script in this file,
--- with its tape in this file or none, and so many milliseconds between two ticks; or a shell by these words; or a sweep of the schedule in this file or else in standard
+-- with its tape in this file or none, so many milliseconds between two ticks, and answers in this form; or a shell by these words; or a sweep of the schedule in this file or else in standard
 -- input, with this seed, which only wrong words leave out; or the picture of the schedule in this file or else in standard
 -- input, of the cut that these words write; or an opening of the disk in this folder as that of this node of so many, all of
 -- which only wrong words leave out, and its areas then; or whether the folders in this folder agree; or the registry that they
@@ -76,10 +78,10 @@ pub data View : Type 0 where
 pub data Task : Type 0 where
   Simulate : Option Text → Task
   Viewing : View → Task
-  Show : Option Text → Task
+  Show : Option Text → Form → Task
   Random : RandomWords → Task
-  Audit : Option Text → Task
-  Run : Option Text → Option Text → Option Text → Option Text → Option Text → Task
+  Audit : Option Text → Form → Task
+  Run : Option Text → Option Text → Option Text → Option Text → Option Text → Form → Task
   Shell : ShellWords → Task
   Sweep : Option Text → Option Text → Task
   Draw : Option Text → CutWords → Task
@@ -154,12 +156,13 @@ random_task rows =
       faults = first_of (codes "FAULTS") rows;
       finish = is_set (codes "FINISH") rows;
       alone = is_set (codes "ALONE") rows;
+      form = form_of rows;
     })
 
 abbrev pub run_task : List Row → Task
 run_task rows =
     Run (first_of (codes "NODES") rows) (first_of (codes "DIR") rows) (first_of (codes "SCRIPT") rows) (first_of (codes "TAPE") rows)
-    (first_of (codes "TICK") rows)
+    (first_of (codes "TICK") rows) (form_of rows)
 
 abbrev pub shell_task : List Row → Task
 shell_task rows =
@@ -193,9 +196,9 @@ abbrev pub other_task_by : Text × List Row → Task
 other_task_by p =
     if bytes_eq p.0 (codes "stats") then stats_task p.1
     else (if bytes_eq p.0 (codes "check") then check_task p.1
-    else (if bytes_eq p.0 (codes "show") then Show (first_of (codes "DIR") p.1)
+    else (if bytes_eq p.0 (codes "show") then Show (first_of (codes "DIR") p.1) (form_of p.1)
     else (if bytes_eq p.0 (codes "random") then random_task p.1
-    else (if bytes_eq p.0 (codes "audit") then Audit (file_of (first_of (codes "FILE") p.1))
+    else (if bytes_eq p.0 (codes "audit") then Audit (file_of (first_of (codes "FILE") p.1)) (form_of p.1)
     else (if bytes_eq p.0 (codes "run") then run_task p.1
     else (if bytes_eq p.0 (codes "sweep") then sweep_task p.1
     else (if bytes_eq p.0 (codes "draw") then draw_task p.1
@@ -233,6 +236,7 @@ random_words_in words =
       faults = option_map (λ s. s.now) words.faults;
       finish = words.finish;
       alone = words.alone;
+      form = words.form;
     }
 
 -- the words of a shell that were read so
@@ -260,12 +264,12 @@ view_in (shown.Comparison file report) = Comparison (option_map (λ s. s.now) fi
 abbrev pub task_in : code.Task → Task
 task_in (read.Simulate file) = Simulate (option_map (λ s. s.now) file)
 task_in (read.View v) = Viewing (view_in v)
-task_in (read.Show folder) = Show (option_map (λ s. s.now) folder)
+task_in (read.Show folder form) = Show (option_map (λ s. s.now) folder) form
 task_in (read.Random words) = Random (random_words_in words)
-task_in (read.Audit file) = Audit (option_map (λ s. s.now) file)
-task_in (read.Run nodes dir script tape tick) =
+task_in (read.Audit file form) = Audit (option_map (λ s. s.now) file) form
+task_in (read.Run nodes dir script tape tick form) =
     Run (option_map (λ s. s.now) nodes) (option_map (λ s. s.now) dir) (option_map (λ s. s.now) script)
-    (option_map (λ s. s.now) tape) (option_map (λ s. s.now) tick)
+    (option_map (λ s. s.now) tape) (option_map (λ s. s.now) tick) form
 task_in (read.Shell words) = Shell (shell_words_in words)
 task_in (read.Sweep file seed) = Sweep (option_map (λ s. s.now) file) (option_map (λ s. s.now) seed)
 task_in (read.Draw file words) = Draw (option_map (λ s. s.now) file) (cut_words_in words)

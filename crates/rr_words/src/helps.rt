@@ -79,7 +79,7 @@ pub(crate) fn show<'a>() -> &'a str {
     "\
 DIR is the folder of one node's disk, whose two areas are the files a0 and a1. Printed is a line for each area:
 `area A unformatted`, or `area A epoch E node P of N facts F decided D`. F is the number of the node's next fact, and D
-the number of commands that it knows as decided. Nothing is written.
+the number of commands that it knows as decided. With --json each line is an object. Nothing is written.
 
 Examples:
   rr show /tmp/nodes/0
@@ -133,9 +133,10 @@ pub(crate) fn random<'a>() -> &'a str {
     "\
 Printed is the text of a schedule, a line `report`, and the report of its run, as `rr sim` prints it. With
 --schedule-only it is the text of the schedule alone, which `rr sim` reads. With --finish the events that `rr sim --finish`
-adds stand behind those that are drawn. The same words print the same bytes. Most of
-the events come to nothing: hardly anything is decided. With --lively each event is drawn among those that do something at
-that moment. Then --faults of a thousand steps have a fault: a crash, a failing call, a lost message, a suspicion or the like.
+adds stand behind those that are drawn. With --json it is the report alone, as `rr sim --json` prints it; that goes with
+neither of the two. The same words print the same bytes. Most of the events come to nothing: hardly anything is decided.
+With --lively each event is drawn among those that do something at that moment. Then --faults of a thousand steps have a
+fault: a crash, a failing call, a lost message, a suspicion or the like.
 
 Examples:
   rr random --lively --seed 1 --steps 1000 --nodes 3
@@ -147,7 +148,8 @@ pub(crate) fn audit<'a>() -> &'a str {
     "\
 FILE is a tape, a record of what nodes did: a first line `nodes N`, and then one event a line, in the words of a schedule
 or a report, as `submit 0 7 1 claim a x` or `send 0 0 1 beat`. Printed is `audit yes K` where its K events are what nodes
-do, in this order, from an empty start. Otherwise standard error names the first event that isn't.
+do, in this order, from an empty start. Otherwise standard error names the first event that isn't. With --json an object
+is printed in either case.
 
 Examples:
   rr audit crates/worked_rows/data/tapes-one_command.tape
@@ -159,8 +161,8 @@ pub(crate) fn run<'a>() -> &'a str {
     "\
 SCRIPT has a line for each thing that clients ask, as `submit 0 7 1 claim a x` or `look 1 a`. A SCRIPT that is - is
 standard input. Each node runs in threads, node P over the files in the folder DIR/P, which are made where they are missing. Printed is an answer for each line of
-the script, in its order: `ack P C.S REPLY`, `none P C.S`, or `look P NAME` and what the name is bound to. With --tape
-the folders have to be fresh, and what the nodes did is recorded for `rr audit`.
+the script, in its order: `ack P C.S REPLY`, `none P C.S`, or `look P NAME` and what the name is bound to. With --json
+each answer is an object. With --tape the folders have to be fresh, and what the nodes did is recorded for `rr audit`.
 
 Examples:
   rr run --nodes 3 --dir /tmp/nodes --script examples/three_clients.script

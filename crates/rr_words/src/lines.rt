@@ -246,7 +246,13 @@ fn show_line<'a>(alloc: Global) -> Result<Command<'a>, AllocError>
         "Tells what the areas of a node's disk hold",
         helps::show(),
     )
-    .arg(word_arg(alloc, "DIR", "The folder of the node", true))
+    .arg(word_arg(alloc, "DIR", "The folder of the node", true))?
+    .arg(flag_arg(
+        alloc,
+        "JSON",
+        "json",
+        "Prints an object of JSON for each area",
+    ))
 }
 
 // The command line of `rr verify`.
@@ -329,6 +335,12 @@ fn random_line<'a>(alloc: Global) -> Result<Command<'a>, AllocError>
             "ALONE",
             "schedule-only",
             "Prints the schedule alone, without the report",
+        ))?
+        .arg(flag_arg(
+            alloc,
+            "JSON",
+            "json",
+            "Prints the report alone, an object of JSON for each line",
         ))
 }
 
@@ -342,7 +354,13 @@ fn audit_line<'a>(alloc: Global) -> Result<Command<'a>, AllocError>
         "Says whether the events of a tape are what nodes do",
         helps::audit(),
     )
-    .arg(word_arg(alloc, "FILE", "The tape [default: standard input]", false))
+    .arg(word_arg(alloc, "FILE", "The tape [default: standard input]", false))?
+    .arg(flag_arg(
+        alloc,
+        "JSON",
+        "json",
+        "Prints the verdict as an object of JSON",
+    ))
 }
 
 // The command line of `rr run`.
@@ -371,7 +389,13 @@ fn run_line<'a>(alloc: Global) -> Result<Command<'a>, AllocError>
         true,
     ))?
     .arg(option_arg(alloc, "TAPE", "tape", "Where the tape is written", false))?
-    .arg(tick_arg(alloc))
+    .arg(tick_arg(alloc))?
+    .arg(flag_arg(
+        alloc,
+        "JSON",
+        "json",
+        "Prints an object of JSON for each answer",
+    ))
 }
 
 // The command line of `rr shell` without how it answers.

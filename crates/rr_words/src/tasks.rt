@@ -37,6 +37,8 @@ pub struct RandomWords<'a> {
     pub finish: bool,
     /// Whether the schedule is printed alone, without the report of its run.
     pub alone: bool,
+    /// How the report is printed. As JSON it stands without the schedule.
+    pub form: Form,
 }
 
 /// The words of a shell.
@@ -102,16 +104,16 @@ pub enum Task<'a> {
     Simulate(Option<&'a str>),
     /// `rr sim` with an option, `rr stats` or `rr check`: a view of the run of a schedule.
     View(View<'a>),
-    /// `rr show DIR`: what the areas hold of the disk in this folder.
-    Show(Option<&'a str>),
-    /// `rr random --seed SEED --steps STEPS --nodes NODES [--lively [--faults FAULTS]] [--finish] [--schedule-only]`: a random
-    /// schedule, finished or as it is drawn, and the report of its run unless the schedule is printed alone.
+    /// `rr show DIR [--json]`: what the areas hold of the disk in this folder.
+    Show(Option<&'a str>, Form),
+    /// `rr random --seed SEED --steps STEPS --nodes NODES [--lively [--faults FAULTS]] [--finish] [--schedule-only] [--json]`: a
+    /// random schedule, finished or as it is drawn, and the report of its run unless the schedule is printed alone.
     Random(RandomWords<'a>),
-    /// `rr audit [FILE]`: whether the events are what nodes do of the tape in this file, or else in standard input.
-    Audit(Option<&'a str>),
-    /// `rr run --nodes NODES --dir DIR --script SCRIPT [--tape TAPE] [--tick MILLISECONDS]`: a run of nodes in threads by the
-    /// script in this file, its tape into this file, and how many milliseconds are between two ticks of a node.
-    Run(Option<&'a str>, Option<&'a str>, Option<&'a str>, Option<&'a str>, Option<&'a str>),
+    /// `rr audit [FILE] [--json]`: whether the events are what nodes do of the tape in this file, or else in standard input.
+    Audit(Option<&'a str>, Form),
+    /// `rr run --nodes NODES --dir DIR --script SCRIPT [--tape TAPE] [--tick MILLISECONDS] [--json]`: a run of nodes in threads
+    /// by the script in this file, its tape into this file, and how many milliseconds are between two ticks of a node.
+    Run(Option<&'a str>, Option<&'a str>, Option<&'a str>, Option<&'a str>, Option<&'a str>, Form),
     /// `rr shell [--nodes NODES] [--dir DIR] [--client CLIENT] [--tick MILLISECONDS] [-c LINE].. [--strict] [--json]`: a run of nodes in threads, whom
     /// these lines or those of standard input ask as this client.
     Shell(ShellWords<'a>),
@@ -253,6 +255,7 @@ fn random_task<'a>(matches: &ArgMatches<'a>) -> Task<'a>
         faults: word_of(matches, "FAULTS"),
         finish: is_set(matches, "FINISH"),
         alone: is_set(matches, "ALONE"),
+        form: form_of(matches),
     })
 }
 
@@ -266,6 +269,7 @@ fn run_task<'a>(matches: &ArgMatches<'a>) -> Task<'a>
         word_of(matches, "SCRIPT"),
         word_of(matches, "TAPE"),
         word_of(matches, "TICK"),
+        form_of(matches),
     )
 }
 
@@ -350,11 +354,11 @@ fn other_task<'a>(name: &str, matches: &ArgMatches<'a>) -> Task<'a>
     } else if name == "check" {
         check_task(matches)
     } else if name == "show" {
-        Task::Show(word_of(matches, "DIR"))
+        Task::Show(word_of(matches, "DIR"), form_of(matches))
     } else if name == "random" {
         random_task(matches)
     } else if name == "audit" {
-        Task::Audit(file_of(word_of(matches, "FILE")))
+        Task::Audit(file_of(word_of(matches, "FILE")), form_of(matches))
     } else if name == "run" {
         run_task(matches)
     } else if name == "sweep" {
