@@ -67,11 +67,15 @@ fn cut_of(words: &CutWords) -> Option<Cut>
     let to = line_or(words.to, u64::MAX)?;
     let node = node_if_any(words.node)?;
     let instance = instance_if_any(words.instance)?;
+    if to < from {
+        return None;
+    }
     Some(Cut {
         from,
         to,
         node,
         instance,
+        requests: words.requests,
     })
 }
 
@@ -149,10 +153,11 @@ fn print_picture<O: Sink, E: Write>(
     }
 }
 
-// Ends where a word names no number of its range, which the command line doesn't let through.
+// Ends where words write no cut. The command line lets no number through that is out of its range, so the cut ends before it
+// begins.
 fn end_without_cut<E: Write>(err: &mut E) -> u8
     ensures { result ≡ 2 }
 {
-    let _ = writeln!(err, "rr: draw: a number is out of its range");
+    let _ = writeln!(err, "rr: draw: the line of --from is behind that of --to");
     2
 }

@@ -1,7 +1,7 @@
 //! A picture as it grows, event by event.
 
 use crate::cut::Cut;
-use crate::glyphs::{class_of, is_quiet, push_arrow, push_facts, push_mark, push_message_name};
+use crate::glyphs::{class_of, push_arrow, push_facts, push_mark, push_message_name};
 use crate::lane::{Job, Lane, lanes_of, width_of};
 use crate::style::{LEGEND, LEGEND_WIDTH, STYLE};
 use rr_sim::{Cluster, Stance};
@@ -130,7 +130,8 @@ impl Drawing {
         Ok(art)
     }
 
-    /// Whether an event is folded: in a long picture requests, heartbeats, and device calls without a job.
+    /// Whether an event is folded: in a long picture heartbeats, device calls without a job, and requests unless they are
+    /// asked for.
     fn is_folded(
         &self,
         event: &Event,
@@ -142,7 +143,7 @@ impl Drawing {
             return false;
         }
         if let Some(message) = message {
-            return is_quiet(message.body.kind());
+            return self.cut.folds(message.body.kind());
         }
         if !told.is_empty() {
             return false;

@@ -128,17 +128,20 @@ shell_line = with_arg (with_arg (with_arg asking_line tick_rule) (flag_rule (cod
 unfoldable pub sweep_line : App
 sweep_line = with_arg (with_arg (new_app (codes "sweep")) (word_rule (codes "FILE") false)) (number_rule (codes "SEED") (codes "seed") 0 18446744073709551615)
 
--- the subcommand draw, with a FILE, the first line and the last one, a node and an instance, all of which may be left out
+-- the subcommand draw, with a FILE, the first line and the last one, a node and an instance, and the option for requests, all
+-- of which may be left out
 unfoldable pub draw_line : App
 draw_line =
     with_arg
+    (with_arg
     (with_arg
     (with_arg (with_arg (with_arg (new_app (codes "draw"))
     (word_rule (codes "FILE") false))
     (optional_number_rule (codes "FROM") (codes "from") 1 4294967295))
     (optional_number_rule (codes "TO") (codes "to") 1 4294967295))
     (optional_number_rule (codes "NODE") (codes "node") 0 6))
-    (optional_number_rule (codes "INSTANCE") (codes "instance") 0 1048575)
+    (optional_number_rule (codes "INSTANCE") (codes "instance") 0 1048575))
+    (flag_rule (codes "REQUESTS") (codes "requests"))
 
 -- the subcommand migrate, with a DIR, the number of a node and a number of nodes
 unfoldable pub migrate_line : App

@@ -24,12 +24,13 @@ faults_of words = fault_of rr_line words
 unfoldable pub found_in : List Text → Option (Text × List Row)
 found_in words = subcommand_of rr_line words
 
--- the words of a cut: its first line and its last one, its node and its instance
+-- the words of a cut: its first line and its last one, its node and its instance; and whether requests are never folded
 pub record CutWords : Type 0 where
   pub from : Option Text
   pub to : Option Text
   pub node : Option Text
   pub instance : Option Text
+  pub requests : Bool
 
 -- the words of a random schedule: a seed, a number of steps and a number of nodes, which only wrong words leave out; whether
 -- it is lively, and a number of faults, which may be left out; and whether it is printed alone
@@ -100,6 +101,7 @@ cut_words_of rows =
       to = first_of (codes "TO") rows;
       node = first_of (codes "NODE") rows;
       instance = first_of (codes "INSTANCE") rows;
+      requests = is_set (codes "REQUESTS") rows;
     }
 
 -- how something is printed, by the option for JSON
@@ -198,6 +200,7 @@ cut_words_in words =
       to = option_map (λ s. s.now) words.to;
       node = option_map (λ s. s.now) words.node;
       instance = option_map (λ s. s.now) words.instance;
+      requests = words.requests;
     }
 
 -- the words of a random schedule that were read so

@@ -197,7 +197,8 @@ pub(crate) fn draw<'a>() -> &'a str {
     "\
 FILE is a schedule, as `rr sim` reads it. Printed is a picture of its run, in SVG. Time goes down, and each node has a
 line. An arrow is a message, a box a flush, and a diamond a decision; docs/FORMATS.md has all symbols. Each event tells
-its line and what came of it, where the pointer rests on it. Lines count from 1, and the first event is on line 2.
+its line and what came of it, where the pointer rests on it. Lines count from 1, and the first event is on line 2. In a
+picture of more than 300 lines, requests are folded into dots. With --requests they are arrows.
 
 Examples:
   rr draw examples/suspected_coordinator.schedule > run.svg

@@ -477,7 +477,8 @@ fn draw_line<'a>(alloc: Global) -> Result<Command<'a>, AllocError>
         "The instance of the messages [default: all events]",
         0,
         1_048_575,
-    ))
+    ))?
+    .arg(flag_arg(alloc, "REQUESTS", "requests", "Folds no requests"))
 }
 
 // The command line of `rr migrate`.

@@ -18,6 +18,8 @@ pub struct CutWords<'a> {
     pub node: Option<&'a str>,
     /// The instance whose messages are shown.
     pub instance: Option<&'a str>,
+    /// Whether requests are never folded.
+    pub requests: bool,
 }
 
 /// The words of a random schedule.
@@ -101,8 +103,8 @@ pub enum Task<'a> {
     /// `rr sweep [FILE] --seed SEED`: what a node restarts with after a crash behind each device call of the schedule in
     /// this file, or else in standard input; with the seed of the words of the last ending.
     Sweep(Option<&'a str>, Option<&'a str>),
-    /// `rr draw [FILE] [--from FROM] [--to TO] [--node NODE] [--instance INSTANCE]`: the picture of the schedule in this
-    /// file, or else in standard input, of the cut that these words write.
+    /// `rr draw [FILE] [--from FROM] [--to TO] [--node NODE] [--instance INSTANCE] [--requests]`: the picture of the schedule
+    /// in this file, or else in standard input, of the cut that these words write.
     Draw(Option<&'a str>, CutWords<'a>),
     /// `rr migrate DIR --node NODE --nodes NODES`: an opening of the disk in this folder, and what its areas hold then.
     /// The disk is that of node NODE of NODES nodes.
@@ -150,6 +152,7 @@ fn cut_words<'a>(matches: &ArgMatches<'a>) -> CutWords<'a>
         to: word_of(matches, "TO"),
         node: word_of(matches, "NODE"),
         instance: word_of(matches, "INSTANCE"),
+        requests: is_set(matches, "REQUESTS"),
     }
 }
 
