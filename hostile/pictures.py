@@ -5,7 +5,8 @@
 
 Of each example and of N drawn schedules, some of them lively, with values of SVG's own letters, and of cuts by lines, node and
 instance: each event of the cut has its element, in order, and the element's title begins with the line, the event and its lines of the
-report; a cut by instance leaves out some, and changes no other. The picture has the size of what it shows, and no two labels on one
+report; a cut by instance leaves out some, and changes no other. In a long picture each event that sends or hears a request is folded,
+and with --requests none is. A cut that ends before it begins has status 2. The picture has the size of what it shows, and no two labels on one
 side of a line lie on each other."""
 import argparse
 import pathlib
@@ -16,6 +17,7 @@ import xml.etree.ElementTree as tree
 TREE = pathlib.Path(__file__).resolve().parent.parent
 SVG = "{http://www.w3.org/2000/svg}"
 HEIGHT = 8  # of a label
+MANY = 300  # lines of a cut, beyond which some events are folded
 
 
 def asked(rr, words, text=b""):
@@ -57,8 +59,10 @@ def compare(rr, text, seed):
     words = ["draw", "--from", str(first), "--to", str(last)]
     words += ["--node", str(node)] if node is not None else []
     words += ["--instance", str(instance)] if instance is not None else []
+    words += ["--requests"] if seed % 2 else []
     picture = tree.fromstring(asked(rr, words, text.encode()))
     found = [element.find(SVG + "title").text for element in picture.iter(SVG + "g")]
+    check_requests(picture, last - first > MANY and seed % 2 == 0, seed)
     told = told_by(rr, text)
     wanted = ["".join(f"{line}\n" for line in [f"line {k}: {lines[k - 1]}", *told[k]]) for k in range(first, last + 1) if node is None or int(lines[k - 1].split()[1]) == node]
     if instance is None:
@@ -78,6 +82,15 @@ def compare(rr, text, seed):
     return len(found), sum(map(len, places.values()))
 
 
+def check_requests(picture, are_folded, seed):
+    """Each event that sends or hears a request is folded, or none is."""
+    for element in picture.iter(SVG + "g"):
+        title = element.find(SVG + "title").text
+        if any(line.startswith("send ") and line.split()[4:5] == ["request"] for line in title.splitlines()) or ": request " in title:
+            folded = any(shape.get("class") == "f" for shape in element)
+            assert folded == are_folded, (seed, title)
+
+
 def main():
     parser = argparse.ArgumentParser(description=__doc__.split("\n")[0])
     parser.add_argument("--rr", required=True)
@@ -87,6 +100,8 @@ def main():
     texts += [drawn(given.rr, seed) for seed in range(given.count)]
     sums = [compare(given.rr, text, seed) for seed, text in enumerate(texts)]
     elements, labels = (sum(numbers) for numbers in zip(*sums))
+    ended = subprocess.run([given.rr, "draw", "--from", "3", "--to", "2"], input=texts[0].encode(), capture_output=True)
+    assert (ended.returncode, ended.stdout, ended.stderr) == (2, b"", b"rr: draw: the line of --from is behind that of --to\n"), ended
     assert elements and labels
     print(f"hostile/pictures.py: {len(texts)} pictures, {elements} elements and {labels} labels, all as the texts are")
 
