@@ -59,6 +59,7 @@ pub(crate) fn picture_file<F: FileReader, O: Sink, E: Write>(
 }
 
 // The cut that words write.
+#[tactic(auto, using(crate::proofs::CutLemmas::no_cut))]
 fn cut_of(words: &CutWords) -> Option<Cut>
     ensures some { IfSome result (λ cut. IsCutBy (cut_words_in words.now) cut) }
     ensures none { result ≡ None → (cut : SomeCut) → IsCutBy (cut_words_in words.now) cut → ⊥ }
