@@ -3,6 +3,8 @@ pub mod Ends
 pub mod Refusals
 pub mod Randoms
 pub mod Cuts
+pub mod Shown
+pub mod Recognised
 pub mod Tapes
 pub mod Sweeping
 pub mod Migrations

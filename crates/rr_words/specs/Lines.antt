@@ -63,9 +63,13 @@ sim_line =
     (flag_rule (codes "EXPLAIN") (codes "explain")))
     (flag_rule (codes "JSON") (codes "json"))
 
--- the subcommand stats, with a FILE that may be left out, and the option for JSON
+-- the subcommand stats, with a FILE that may be left out, and the options for JSON and for a tape
 unfoldable pub stats_line : App
-stats_line = with_arg (with_arg (new_app (codes "stats")) (word_rule (codes "FILE") false)) (flag_rule (codes "JSON") (codes "json"))
+stats_line =
+    with_arg (with_arg (with_arg (new_app (codes "stats"))
+    (word_rule (codes "FILE") false))
+    (flag_rule (codes "JSON") (codes "json")))
+    (flag_rule (codes "TAPE") (codes "tape"))
 
 -- the subcommand check, with a FILE and a REPORT
 unfoldable pub check_line : App
@@ -92,9 +96,13 @@ random_line =
     (optional_number_rule (codes "FAULTS") (codes "faults") 0 1000))
     (flag_rule (codes "ALONE") (codes "schedule-only"))
 
--- the subcommand audit, with a FILE that may be left out
+-- the subcommand audit, with a FILE that may be left out, and the options for reasons and for JSON
 unfoldable pub audit_line : App
-audit_line = with_arg (new_app (codes "audit")) (word_rule (codes "FILE") false)
+audit_line =
+    with_arg (with_arg (with_arg (new_app (codes "audit"))
+    (word_rule (codes "FILE") false))
+    (flag_rule (codes "EXPLAIN") (codes "explain")))
+    (flag_rule (codes "JSON") (codes "json"))
 
 -- the subcommand run, with a number of nodes, the folder of their folders, the file of a script, and the file for a tape and
 -- the time between ticks, which may be left out
@@ -128,11 +136,12 @@ shell_line = with_arg (with_arg (with_arg asking_line tick_rule) (flag_rule (cod
 unfoldable pub sweep_line : App
 sweep_line = with_arg (with_arg (new_app (codes "sweep")) (word_rule (codes "FILE") false)) (number_rule (codes "SEED") (codes "seed") 0 18446744073709551615)
 
--- the subcommand draw, with a FILE, the first line and the last one, a node and an instance, and the option for requests, all
--- of which may be left out
+-- the subcommand draw, with a FILE, the first line and the last one, a node and an instance, and the options for requests and
+-- for a tape, all of which may be left out
 unfoldable pub draw_line : App
 draw_line =
     with_arg
+    (with_arg
     (with_arg
     (with_arg
     (with_arg (with_arg (with_arg (new_app (codes "draw"))
@@ -141,7 +150,8 @@ draw_line =
     (optional_number_rule (codes "TO") (codes "to") 1 4294967295))
     (optional_number_rule (codes "NODE") (codes "node") 0 6))
     (optional_number_rule (codes "INSTANCE") (codes "instance") 0 1048575))
-    (flag_rule (codes "REQUESTS") (codes "requests"))
+    (flag_rule (codes "REQUESTS") (codes "requests")))
+    (flag_rule (codes "TAPE") (codes "tape"))
 
 -- the subcommand migrate, with a DIR, the number of a node and a number of nodes
 unfoldable pub migrate_line : App
