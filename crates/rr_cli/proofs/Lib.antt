@@ -1,6 +1,7 @@
 pub mod EndLemmas
 pub mod ShowLemmas
 pub mod TapeLemmas
+pub mod TapedLemmas
 pub mod CutLemmas
 pub mod SweepLemmas
 pub mod ReadLemmas
