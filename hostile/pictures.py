@@ -6,7 +6,8 @@
 Of each example and of N drawn schedules, some of them lively, with values of SVG's own letters, and of cuts by lines, node and
 instance: each event of the cut has its element, in order, and the element's title begins with the line, the event and its lines of the
 report; a cut by instance leaves out some, and changes no other. In a long picture each event that sends or hears a request is folded,
-and with --requests none is. A cut that ends before it begins has status 2. The picture has the size of what it shows, and no two labels on one
+and with --requests none is. A cut that ends before it begins has status 2. Each tape has the
+elements of its events too. The picture has the size of what it shows, and no two labels on one
 side of a line lie on each other."""
 import argparse
 import pathlib
@@ -82,6 +83,22 @@ def compare(rr, text, seed):
     return len(found), sum(map(len, places.values()))
 
 
+def compare_tape(rr, text):
+    """Compares the picture of a tape with its lines, and tells how many elements it has."""
+    picture = tree.fromstring(asked(rr, ["draw", "--tape"], text.encode()))
+    found = [element.find(SVG + "title").text for element in picture.iter(SVG + "g")]
+    lines = text.splitlines()[1:]
+    assert len(found) == len(lines)
+    for place, (line, title) in enumerate(zip(lines, found), 2):
+        kind, *words = line.split(" ")
+        event = {"send": f"send {words[1:2][0] if words[1:] else ''}", "ack": f"ack {words[0]}"}.get(kind, line)
+        wanted = f"line {place}: {event}\n" + (f"{line}\n" if event != line else "")
+        assert title.startswith(wanted), (wanted, title)
+    boxes = sum("j" == (shape.get("class") or "") for shape in picture.iter(SVG + "rect"))
+    assert boxes == sum(line.startswith("take ") for line in lines), boxes
+    return len(found)
+
+
 def check_requests(picture, are_folded, seed):
     """Each event that sends or hears a request is folded, or none is."""
     for element in picture.iter(SVG + "g"):
@@ -103,7 +120,9 @@ def main():
     ended = subprocess.run([given.rr, "draw", "--from", "3", "--to", "2"], input=texts[0].encode(), capture_output=True)
     assert (ended.returncode, ended.stdout, ended.stderr) == (2, b"", b"rr: draw: the line of --from is behind that of --to\n"), ended
     assert elements and labels
-    print(f"hostile/pictures.py: {len(texts)} pictures, {elements} elements and {labels} labels, all as the texts are")
+    tapes = [path.read_text() for path in sorted([*TREE.glob("examples/*.tape"), TREE / "hostile/each_kind.tape"])]
+    elements += sum(compare_tape(given.rr, text) for text in tapes)
+    print(f"hostile/pictures.py: {len(texts) + len(tapes)} pictures, {elements} elements and {labels} labels, all as the texts are")
 
 
 main()
