@@ -48,6 +48,23 @@ fn told_fault(of_schedule: Refusal, of_tape: Refusal, bytes: &[u8]) -> Recognise
     }
 }
 
+// What bytes are that are no schedule, as this fault says.
+fn recognise_tape(
+    alloc: Global,
+    bytes: &[u8],
+    of_schedule: Refusal,
+) -> Result<Recognised, Refusal>
+    requires fault { IsFault IsEvent event_line bytes.now of_schedule }
+    requires other { of_schedule ≢ Refusal.OutOfMemory }
+    ensures { IsRecognised bytes.now result }
+{
+    match Tape::parse(alloc, bytes) {
+        Ok(tape) => Ok(Recognised::Tape(tape)),
+        Err(Refusal::OutOfMemory) => Err(Refusal::OutOfMemory),
+        Err(of_tape) => Ok(told_fault(of_schedule, of_tape, bytes)),
+    }
+}
+
 /// What bytes are: a schedule, or else a tape, or neither.
 ///
 /// # Errors
@@ -55,14 +72,9 @@ fn told_fault(of_schedule: Refusal, of_tape: Refusal, bytes: &[u8]) -> Recognise
 pub(crate) fn recognise(alloc: Global, bytes: &[u8]) -> Result<Recognised, Refusal>
     ensures { IsRecognised bytes.now result }
 {
-    let of_schedule = match Schedule::parse(alloc, bytes) {
-        Ok(_) => return Ok(Recognised::Schedule),
-        Err(Refusal::OutOfMemory) => return Err(Refusal::OutOfMemory),
-        Err(refusal) => refusal,
-    };
-    match Tape::parse(alloc, bytes) {
-        Ok(tape) => Ok(Recognised::Tape(tape)),
+    match Schedule::parse(alloc, bytes) {
+        Ok(_schedule) => Ok(Recognised::Schedule),
         Err(Refusal::OutOfMemory) => Err(Refusal::OutOfMemory),
-        Err(of_tape) => Ok(told_fault(of_schedule, of_tape, bytes)),
+        Err(of_schedule) => recognise_tape(alloc, bytes, of_schedule),
     }
 }
