@@ -1,3 +1,4 @@
 pub mod ExplanationLemmas
 pub mod TextLemmas
 mod WatchLaws
+pub mod TapeLaws

@@ -44,7 +44,11 @@ use Rattle.rr_verify.specs.Texts.{verdict_text}
 use Rattle.rr_cli.specs.Clusters.{AreRead, HoldsNothing, IsExportOf, form_in, unlike}
 use Rattle.rr_cli.specs.Migrations.{IsUnmigrated}
 use Rattle.rr_cli.specs.Refusals.{status_of}
+use Rattle.rr_cli.specs.Recognised.{IsScheduleText, IsTextOf, IsNoSchedule, IsNoTape}
+use Rattle.rr_cli.specs.Shown.{ShowsTape}
 use Rattle.rr_cli.specs.Tapes.{yes_text}
+use Rattle.rr_cli.specs.declared.taped.TapeView.{TapeView}
+use Rattle.rr_cli.specs.declared.taped.TapeView.TheVariants.{Picture}
 
 -- the status of a stream that failed, by a device or by memory
 abbrev pub IsStreamStatus : ℕ → Type 0
@@ -191,10 +195,37 @@ pub data EndsOnPicture (cut : Cut) (bytes : List ℕ) (status : ℕ) (old new : 
       → new ≡ old
       → EndsOnPicture cut bytes status old new
 
+-- what is shown of the tape that bytes are: a text that shows it is printed, as its events are a tape run and agree with one list;
+-- or the world doesn't give some event next; or the bytes are no tape or memory was wanting. Unless it is printed, standard output
+-- is as it was
+pub data EndsOnTaped (what : TapeView) (bytes : List ℕ) (status : ℕ) (old new : Printing) : Type 0 where
+  taped : (tape : Taped) (text : List ℕ) → IsTextOf tape bytes → IsTapeRun tape.nodes tape.events
+      → tapes.AgreesWithOneList tape.nodes tape.events → ShowsTape what tape text → Prints text status old new
+      → EndsOnTaped what bytes status old new
+  strange : (tape : Taped) (number : ℕ) → IsTextOf tape bytes → StopsAt tape.nodes tape.events number → status ≡ 7 → new ≡ old
+      → EndsOnTaped what bytes status old new
+  untaped : (refusal : Refusal) → IsFault IsTapeEvent tape_line bytes refusal → status ≡ status_of refusal → new ≡ old
+      → EndsOnTaped what bytes status old new
+
+-- a run on bytes that are a schedule, or else a tape: in its way; or they are neither or memory was wanting, and standard output is
+-- as it was
+pub data EndsOnEither (OnSchedule OnTape : List ℕ → ℕ → Printing → Printing → Type 0) (bytes : List ℕ) (status : ℕ)
+    (old new : Printing) : Type 0 where
+  as_schedule : IsScheduleText bytes → OnSchedule bytes status old new → EndsOnEither OnSchedule OnTape bytes status old new
+  as_tape : (tape : Taped) → IsNoSchedule bytes → IsTextOf tape bytes → OnTape bytes status old new
+      → EndsOnEither OnSchedule OnTape bytes status old new
+  as_neither : IsNoSchedule bytes → IsNoTape bytes → status ≡ 3 → new ≡ old → EndsOnEither OnSchedule OnTape bytes status old new
+  unrecognised : status ≡ 6 → new ≡ old → EndsOnEither OnSchedule OnTape bytes status old new
+
+-- a picture of this cut of bytes that are read as a tape, or of a schedule or else a tape
+abbrev pub EndsOnDrawn : Bool → Cut → List ℕ → ℕ → Printing → Printing → Type 0
+EndsOnDrawn true cut bytes status old new = EndsOnTaped (Picture cut) bytes status old new
+EndsOnDrawn false cut bytes status old new = EndsOnEither (EndsOnPicture cut) (EndsOnTaped (Picture cut)) bytes status old new
+
 -- a picture of an input, of the cut that words write; or they write none, and standard output is as it was
 pub data EndsOnCut (On : (List ℕ → ℕ → Printing → Printing → Type 0) → ℕ → Printing → Printing → Type 0)
     (words : CutWords) (status : ℕ) (old new : Printing) : Type 0 where
-  cut_so : (cut : Cut) → IsCutBy words cut → On (EndsOnPicture cut) status old new → EndsOnCut On words status old new
+  cut_so : (cut : Cut) → IsCutBy words cut → On (EndsOnDrawn words.tape cut) status old new → EndsOnCut On words status old new
   uncut : ((cut : Cut) → IsCutBy words cut → ⊥) → status ≡ 2 → new ≡ old → EndsOnCut On words status old new
 
 -- what was read of folders is printed: they agree, and then what they have decided are beginnings of one list; or they don't;

@@ -7,6 +7,8 @@ pub mod Refusals
 pub mod RandomObjects
 pub mod Randoms
 pub mod Cuts
+pub mod Shown
+pub mod Recognised
 pub mod Tapes
 pub mod Sweeping
 pub mod Migrations

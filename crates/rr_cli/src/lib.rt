@@ -1,7 +1,8 @@
 //! The commands of `rr`, except `rr run` and `rr shell` (`rr_run`). `run` takes the words and the streams of a program, and gives
 //! its exit status. `execute` does it for words that could be read: `read_words` names the task, and a module here does it.
 //! `execute_with_views` does so with views of the run of a schedule too: `rr sim --explain`, `--json` and `--finish`, `rr stats`,
-//! `rr check`.
+//! `rr check`; and with those of a tape: `rr audit --explain`, `rr stats`. A text that is a schedule or a tape is told by itself
+//! (`recognising`).
 #![tactic(auto)]
 
 mod area_objects;
@@ -17,10 +18,12 @@ mod picture;
 mod program;
 mod random_objects;
 mod random_schedule;
+mod recognising;
 mod refusals;
 mod show;
 mod streams;
 mod sweep;
+mod taped;
 mod verification;
 mod viewing;
 mod views;

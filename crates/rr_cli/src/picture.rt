@@ -1,17 +1,19 @@
-//! The picture of a schedule's run, of the cut that words write.
+//! The picture of a schedule's run or of a tape, of the cut that words write.
 
-ghost use Rattle.std.specs.Prelude.{◌≡◌, ℕ, None, IfSome, Option, option_map};
+ghost use Rattle.std.specs.Prelude.{◌≡◌, ℕ, None, IfSome, Option, option_map, false};
 ghost use Rattle.std.specs.Io.KnownBytes.{Keeps};
 ghost use Rattle.rr_draw.specs.declared.cut.Cut.{Cut as SomeCut};
 ghost use Rattle.rr_cli.specs.Cuts.{IsNumberOr, IsNumberIfAny, IsCutBy};
 ghost use Rattle.rr_files.specs.Files.{file_at};
-ghost use Rattle.rr_cli.specs.Ends.{EndsOnPicture, EndsOnCut, EndsOnInput};
+ghost use Rattle.rr_cli.specs.Ends.{EndsOnPicture, EndsOnDrawn, EndsOnCut, EndsOnInput};
 ghost use Rattle.rr_words.specs.Tasks.{cut_words_in};
 
 use crate::input::STANDARD_INPUT;
 use crate::random_schedule::number_in;
-use crate::refusals::{TextKind, end_by_fault};
+use crate::recognising::{Recognised, recognise};
+use crate::refusals::{TextKind, end_by_fault, end_by_refusal};
 use crate::streams::{end_by_stream, end_by_text};
+use crate::taped::{TapeView, show_tape, show_tape_bytes};
 use rr_draw::{Cut, picture_of};
 use rr_files::FileReader;
 use rr_stream::{Sink, Source, read_all};
@@ -32,7 +34,7 @@ pub(crate) fn picture_input<I: Source, O: Sink, E: Write>(
     ensures quiet { result ≡ 0 → Keeps (E.contents err.old) (E.contents err.new) }
 {
     match cut_of(words) {
-        Some(cut) => print_input(alloc, &cut, input, out, err),
+        Some(cut) => print_input(alloc, &cut, words.tape, input, out, err),
         None => end_without_cut(err),
     }
 }
@@ -53,12 +55,13 @@ pub(crate) fn picture_file<F: FileReader, O: Sink, E: Write>(
         return end_without_cut(err);
     };
     match files.read_file(alloc, path) {
-        Ok(bytes) => print_picture(alloc, path, bytes.as_slice(), &cut, out, err),
+        Ok(bytes) => print_drawn(alloc, path, bytes.as_slice(), &cut, words.tape, out, err),
         Err(failure) => end_by_stream(err, path, &failure),
     }
 }
 
 // The cut that words write.
+#[tactic(auto, using(crate::proofs::CutLemmas::no_cut))]
 fn cut_of(words: &CutWords) -> Option<Cut>
     ensures some { IfSome result (λ cut. IsCutBy (cut_words_in words.now) cut) }
     ensures none { result ≡ None → (cut : SomeCut) → IsCutBy (cut_words_in words.now) cut → ⊥ }
@@ -67,11 +70,15 @@ fn cut_of(words: &CutWords) -> Option<Cut>
     let to = line_or(words.to, u64::MAX)?;
     let node = node_if_any(words.node)?;
     let instance = instance_if_any(words.instance)?;
+    if to < from {
+        return None;
+    }
     Some(Cut {
         from,
         to,
         node,
         instance,
+        requests: words.requests,
     })
 }
 
@@ -114,20 +121,73 @@ fn instance_if_any(word: Option<&str>) -> Option<Option<Instance>>
     }
 }
 
-// Prints the picture of the schedule on standard input, of a cut.
+// Prints the picture of what is on standard input, of a cut: of a tape, or of a schedule or else a tape.
 fn print_input<I: Source, O: Sink, E: Write>(
     alloc: Global,
     cut: &Cut,
+    is_tape: bool,
     input: &mut I,
     out: &mut O,
     err: &mut E,
 ) -> u8
-    ensures ends { EndsOnInput (EndsOnPicture cut.now) (I.reading input.old) (I.reading input.new) result (O.printing out.old) (O.printing out.new) }
+    ensures ends { EndsOnInput (EndsOnDrawn is_tape cut.now) (I.reading input.old) (I.reading input.new) result (O.printing out.old) (O.printing out.new) }
     ensures quiet { result ≡ 0 → Keeps (E.contents err.old) (E.contents err.new) }
 {
     match read_all(alloc, input) {
-        Ok(bytes) => print_picture(alloc, STANDARD_INPUT, bytes.as_slice(), cut, out, err),
+        Ok(bytes) => {
+            let name = STANDARD_INPUT;
+            print_drawn(alloc, name, bytes.as_slice(), cut, is_tape, out, err)
+        }
         Err(failure) => end_by_stream(err, STANDARD_INPUT, &failure),
+    }
+}
+
+// Prints the picture of what the bytes are, of a cut: of a tape, or of a schedule or else a tape.
+fn print_drawn<O: Sink, E: Write>(
+    alloc: Global,
+    name: &str,
+    bytes: &[u8],
+    cut: &Cut,
+    is_tape: bool,
+    out: &mut O,
+    err: &mut E,
+) -> u8
+    ensures ends { EndsOnDrawn is_tape cut.now bytes.now result (O.printing out.old) (O.printing out.new) }
+    ensures quiet { result ≡ 0 → Keeps (E.contents err.old) (E.contents err.new) }
+{
+    if is_tape {
+        show_tape_bytes(alloc, TapeView::Picture(*cut), name, bytes, out, err)
+    } else {
+        print_either(alloc, name, bytes, cut, out, err)
+    }
+}
+
+// Prints the picture of the schedule that the bytes are, or else of the tape that they are, of a cut.
+fn print_either<O: Sink, E: Write>(
+    alloc: Global,
+    name: &str,
+    bytes: &[u8],
+    cut: &Cut,
+    out: &mut O,
+    err: &mut E,
+) -> u8
+    ensures ends { EndsOnDrawn false cut.now bytes.now result (O.printing out.old) (O.printing out.new) }
+    ensures quiet { result ≡ 0 → Keeps (E.contents err.old) (E.contents err.new) }
+{
+    match recognise(alloc, bytes) {
+        Ok(Recognised::Schedule) => print_picture(alloc, name, bytes, cut, out, err),
+        Ok(Recognised::Tape(tape)) => {
+            show_tape(
+                alloc,
+                TapeView::Picture(*cut),
+                bytes,
+                &tape,
+                out,
+                err,
+            )
+        }
+        Ok(Recognised::Neither(kind, refusal)) => end_by_fault(err, kind, name, bytes, &refusal),
+        Err(refusal) => end_by_refusal(err, &refusal),
     }
 }
 
@@ -149,10 +209,11 @@ fn print_picture<O: Sink, E: Write>(
     }
 }
 
-// Ends where a word names no number of its range, which the command line doesn't let through.
+// Ends where words write no cut. The command line lets no number through that is out of its range, so the cut ends before it
+// begins.
 fn end_without_cut<E: Write>(err: &mut E) -> u8
     ensures { result ≡ 2 }
 {
-    let _ = writeln!(err, "rr: draw: a number is out of its range");
+    let _ = writeln!(err, "rr: draw: the line of --from is behind that of --to");
     2
 }

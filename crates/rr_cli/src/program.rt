@@ -96,8 +96,8 @@ fn simulate_file<F: FileReader, O: Sink, E: Write>(
 /// `rr audit [FILE] [--json]` reads a tape as `rr sim` does a schedule, and prints whether its events are what nodes do.
 /// `rr sweep [FILE] --seed SEED` reads a schedule, crashes a node after each device call, and prints what it restarts
 /// with, as it goes.
-/// `rr draw [FILE] [--from FROM] [--to TO] [--node NODE] [--instance INSTANCE]` reads a schedule, and prints the picture
-/// of its run: of the lines FROM to TO, of one node or of all, and of the messages of one instance or of every event.
+/// `rr draw [FILE] [--from FROM] [--to TO] [--node NODE] [--instance INSTANCE] [--requests]` reads a schedule, and prints the
+/// picture of its run: of the lines FROM to TO, of one node or of all, and of the messages of one instance or of every event.
 /// `rr migrate DIR --node NODE --nodes NODES` opens the disk in the folder DIR, and prints what its areas hold then.
 /// The disk is that of node NODE of NODES nodes.
 /// `rr verify DIR [--json]` reads the folders of a cluster in DIR, and prints what they hold and whether they agree.

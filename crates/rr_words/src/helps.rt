@@ -6,6 +6,21 @@ pub(crate) fn schedule<'a>() -> &'a str {
     "The schedule [default: standard input]"
 }
 
+/// The help of a FILE that is a schedule or a tape.
+pub(crate) fn recorded<'a>() -> &'a str {
+    "The schedule, or the tape [default: standard input]"
+}
+
+/// The help of the option that takes a text as a tape.
+pub(crate) fn as_tape<'a>() -> &'a str {
+    "Reads FILE as a tape, also where it could be a schedule"
+}
+
+/// The help of the option for reasons on a tape.
+pub(crate) fn explain_tape<'a>() -> &'a str {
+    "Tells the event behind each line, and what it did"
+}
+
 /// The help of the option for reasons.
 pub(crate) fn explain<'a>() -> &'a str {
     "Tells the event behind each line, and why others were refused or came to nothing"
@@ -52,10 +67,11 @@ Examples:
 /// The help of `rr stats`.
 pub(crate) fn stats<'a>() -> &'a str {
     "\
-FILE is a schedule, as `rr sim` reads it. Printed is a table of its run: the events of each kind, and how many of them the
-report tells, were refused or came to nothing; the messages of each kind, and how many were heard, heard again and never
-heard; the refusals of each name; and how many rounds and device calls there were for each decision. With --json it is one
-object.
+FILE is a schedule, as `rr sim` reads it, or a tape, as `rr audit` reads it. Bytes that could be both are a schedule, unless
+--tape is given. Printed is a table of the run: the events of each kind, and how many of them the report tells, were refused
+or came to nothing; the messages of each kind, and how many were heard, heard again and never heard; the refusals of each
+name; and how many rounds and device calls there were for each decision. A tape has no device calls. One with an event that
+isn't next is refused as by `rr audit`. With --json printed is one object.
 
 Examples:
   rr stats examples/tie_of_two_commands.schedule
@@ -149,7 +165,8 @@ pub(crate) fn audit<'a>() -> &'a str {
 FILE is a tape, a record of what nodes did: a first line `nodes N`, and then one event a line, in the words of a schedule
 or a report, as `submit 0 7 1 claim a x` or `send 0 0 1 beat`. Printed is `audit yes K` where its K events are what nodes
 do, in this order, from an empty start. Otherwise standard error names the first event that isn't. With --json an object
-is printed in either case.
+is printed in either case. With --explain printed are the messages and replies of the tape and its decided list instead. An
+indented line for each event has its line, its text, and what it did; with --json each of these lines is an object.
 
 Examples:
   rr audit crates/worked_rows/data/tapes-one_command.tape
@@ -209,9 +226,10 @@ Examples:
 /// The help of `rr draw`.
 pub(crate) fn draw<'a>() -> &'a str {
     "\
-FILE is a schedule, as `rr sim` reads it. Printed is a picture of its run, in SVG. Time goes down, and each node has a
-line. An arrow is a message, a box a flush, and a diamond a decision; docs/FORMATS.md has all symbols. Each event tells
-its line and what came of it, where the pointer rests on it. Lines count from 1, and the first event is on line 2.
+FILE is a schedule, as `rr sim` reads it, or a tape, as `rr audit` reads it. Bytes that could be both are a schedule, unless
+--tape is given. Printed is a picture of the run, in SVG. Time goes down, and each node has a line. An arrow is a message, a box a flush, and a diamond a decision; docs/FORMATS.md has all symbols. Each event tells
+its line and what came of it, where the pointer rests on it. Lines count from 1, and the first event is on line 2. In a
+picture of more than 300 lines, requests are folded into dots. With --requests they are arrows.
 
 Examples:
   rr draw examples/suspected_coordinator.schedule > run.svg

@@ -215,11 +215,12 @@ fn stats_line<'a>(alloc: Global) -> Result<Command<'a>, AllocError>
     bare_line(
         alloc,
         "stats",
-        "Runs a schedule and counts what happens in its run",
+        "Counts what happens in the run of a schedule, or on a tape",
         helps::stats(),
     )
-    .arg(word_arg(alloc, "FILE", helps::schedule(), false))?
-    .arg(flag_arg(alloc, "JSON", "json", "Prints an object of JSON"))
+    .arg(word_arg(alloc, "FILE", helps::recorded(), false))?
+    .arg(flag_arg(alloc, "JSON", "json", "Prints an object of JSON"))?
+    .arg(flag_arg(alloc, "TAPE", "tape", helps::as_tape()))
 }
 
 // The command line of `rr check`.
@@ -355,11 +356,12 @@ fn audit_line<'a>(alloc: Global) -> Result<Command<'a>, AllocError>
         helps::audit(),
     )
     .arg(word_arg(alloc, "FILE", "The tape [default: standard input]", false))?
+    .arg(flag_arg(alloc, "EXPLAIN", "explain", helps::explain_tape()))?
     .arg(flag_arg(
         alloc,
         "JSON",
         "json",
-        "Prints the verdict as an object of JSON",
+        "Prints the verdict as an object of JSON, or an object for each line",
     ))
 }
 
@@ -488,10 +490,10 @@ fn draw_line<'a>(alloc: Global) -> Result<Command<'a>, AllocError>
     bare_line(
         alloc,
         "draw",
-        "Draws the run of a schedule as an SVG picture",
+        "Draws the run of a schedule, or a tape, as an SVG picture",
         helps::draw(),
     )
-    .arg(word_arg(alloc, "FILE", helps::schedule(), false))?
+    .arg(word_arg(alloc, "FILE", helps::recorded(), false))?
     .arg(optional_number_arg(
         alloc,
         "FROM",
@@ -516,7 +518,9 @@ fn draw_line<'a>(alloc: Global) -> Result<Command<'a>, AllocError>
         "The instance of the messages [default: all events]",
         0,
         1_048_575,
-    ))
+    ))?
+    .arg(flag_arg(alloc, "REQUESTS", "requests", "Folds no requests"))?
+    .arg(flag_arg(alloc, "TAPE", "tape", helps::as_tape()))
 }
 
 // The command line of `rr migrate`.
