@@ -73,7 +73,7 @@ fn push_sent(wire: &mut Vec<Message>, event: &TapeEvent) -> Result<(), AllocErro
     ensures { OnOk result (wire.new.items ≡ wire.old.items ++ sent_by event.now) }
 {
     match event {
-        TapeEvent::Send { message, .. } => wire.push(*message),
+        TapeEvent::Send { message, .. } => Ok(wire.push(*message)?),
         _ => Ok(()),
     }
 }

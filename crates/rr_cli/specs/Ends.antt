@@ -20,7 +20,6 @@ use Rattle.rr_sweep.specs.declared.sweeping.SweepLine.{SweepLine}
 use Rattle.rr_sweep.specs.Sweeps.{IsSweep}
 use Rattle.rr_sweep.specs.SweepTexts.{sweep_line}
 use Rattle.rr_draw.specs.declared.cut.Cut.{Cut}
-use Rattle.rr_draw.specs.Pictures.{IsPictureOf}
 use Rattle.rr_types.specs.Counts.{Grew}
 use Rattle.rr_disk.specs.declared.area.Area.{Area}
 use Rattle.rr_stream.specs.Streams.{Printing, Reading, IsPrinted, IsFrontPrinted, AreAllOf}
@@ -45,10 +44,10 @@ use Rattle.rr_cli.specs.Clusters.{AreRead, HoldsNothing, IsExportOf, form_in, un
 use Rattle.rr_cli.specs.Migrations.{IsUnmigrated}
 use Rattle.rr_cli.specs.Refusals.{status_of}
 use Rattle.rr_cli.specs.Recognised.{IsScheduleText, IsTextOf, IsNoSchedule, IsNoTape}
-use Rattle.rr_cli.specs.Shown.{ShowsTape}
+use Rattle.rr_cli.specs.Shown.{ShowsTape, IsPictured}
 use Rattle.rr_cli.specs.Tapes.{yes_text}
 use Rattle.rr_cli.specs.declared.taped.TapeView.{TapeView}
-use Rattle.rr_cli.specs.declared.taped.TapeView.TheVariants.{Picture}
+use Rattle.rr_cli.specs.declared.taped.TapeView.TheVariants.{Picture, Page}
 
 -- the status of a stream that failed, by a device or by memory
 abbrev pub IsStreamStatus : ℕ → Type 0
@@ -187,13 +186,13 @@ pub data EndsOnSeed (On : (List ℕ → ℕ → Printing → Printing → Type 0
   unseeded : ((seed : ℕ) → IsNumberIn 0 (2 ^ 64 - 1) of_seed seed → ⊥) → status ≡ 2 → new ≡ old
       → EndsOnSeed On of_seed status old new
 
--- a picture of this cut of these bytes: it is printed; or the bytes are no schedule or memory was wanting, and standard
--- output is as it was
-pub data EndsOnPicture (cut : Cut) (bytes : List ℕ) (status : ℕ) (old new : Printing) : Type 0 where
-  pictured : (text : List ℕ) → IsPictureOf cut bytes text → Prints text status old new → EndsOnPicture cut bytes status old new
+-- a picture of this cut of these bytes, or a page with it: it is printed; or the bytes are no schedule or memory was wanting, and
+-- standard output is as it was
+pub data EndsOnPicture (html : Bool) (cut : Cut) (bytes : List ℕ) (status : ℕ) (old new : Printing) : Type 0 where
+  pictured : (text : List ℕ) → IsPictured html cut bytes text → Prints text status old new → EndsOnPicture html cut bytes status old new
   unpictured : (refusal : Refusal) → IsFault IsEvent event_line bytes refusal → status ≡ status_of refusal
       → new ≡ old
-      → EndsOnPicture cut bytes status old new
+      → EndsOnPicture html cut bytes status old new
 
 -- what is shown of the tape that bytes are: a text that shows it is printed, as its events are a tape run and agree with one list;
 -- or the world doesn't give some event next; or the bytes are no tape or memory was wanting. Unless it is printed, standard output
@@ -217,15 +216,21 @@ pub data EndsOnEither (OnSchedule OnTape : List ℕ → ℕ → Printing → Pri
   as_neither : IsNoSchedule bytes → IsNoTape bytes → status ≡ 3 → new ≡ old → EndsOnEither OnSchedule OnTape bytes status old new
   unrecognised : status ≡ 6 → new ≡ old → EndsOnEither OnSchedule OnTape bytes status old new
 
--- a picture of this cut of bytes that are read as a tape, or of a schedule or else a tape
-abbrev pub EndsOnDrawn : Bool → Cut → List ℕ → ℕ → Printing → Printing → Type 0
-EndsOnDrawn true cut bytes status old new = EndsOnTaped (Picture cut) bytes status old new
-EndsOnDrawn false cut bytes status old new = EndsOnEither (EndsOnPicture cut) (EndsOnTaped (Picture cut)) bytes status old new
+-- what is drawn of a tape: its picture, or a page with it
+abbrev pub drawn_of_tape : Bool → Cut → TapeView
+drawn_of_tape false cut = Picture cut
+drawn_of_tape true cut = Page cut
+
+-- a picture of this cut, or a page with it, of bytes that are read as a tape, or of a schedule or else a tape
+abbrev pub EndsOnDrawn : Bool → Bool → Cut → List ℕ → ℕ → Printing → Printing → Type 0
+EndsOnDrawn true html cut bytes status old new = EndsOnTaped (drawn_of_tape html cut) bytes status old new
+EndsOnDrawn false html cut bytes status old new =
+    EndsOnEither (EndsOnPicture html cut) (EndsOnTaped (drawn_of_tape html cut)) bytes status old new
 
 -- a picture of an input, of the cut that words write; or they write none, and standard output is as it was
 pub data EndsOnCut (On : (List ℕ → ℕ → Printing → Printing → Type 0) → ℕ → Printing → Printing → Type 0)
     (words : CutWords) (status : ℕ) (old new : Printing) : Type 0 where
-  cut_so : (cut : Cut) → IsCutBy words cut → On (EndsOnDrawn words.tape cut) status old new → EndsOnCut On words status old new
+  cut_so : (cut : Cut) → IsCutBy words cut → On (EndsOnDrawn words.tape words.html cut) status old new → EndsOnCut On words status old new
   uncut : ((cut : Cut) → IsCutBy words cut → ⊥) → status ≡ 2 → new ≡ old → EndsOnCut On words status old new
 
 -- what was read of folders is printed: they agree, and then what they have decided are beginnings of one list; or they don't;

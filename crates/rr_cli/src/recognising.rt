@@ -49,11 +49,7 @@ fn told_fault(of_schedule: Refusal, of_tape: Refusal, bytes: &[u8]) -> Recognise
 }
 
 // What bytes are that are no schedule, as this fault says.
-fn recognise_tape(
-    alloc: Global,
-    bytes: &[u8],
-    of_schedule: Refusal,
-) -> Result<Recognised, Refusal>
+fn recognise_tape(alloc: Global, bytes: &[u8], of_schedule: Refusal) -> Result<Recognised, Refusal>
     requires fault { IsFault IsEvent event_line bytes.now of_schedule }
     requires other { of_schedule ≢ Refusal.OutOfMemory }
     ensures { IsRecognised bytes.now result }

@@ -15,6 +15,7 @@ use crate::views::{Shown, show_bytes, shown_text};
 use rr_account::account_of_tape;
 use rr_audit::{Verdict, watch_tape};
 use rr_draw::{Cut, tape_picture};
+use rr_page::tape_page;
 use rr_stream::Sink;
 use rr_tape::Tape;
 use rr_types::Refusal;
@@ -28,6 +29,8 @@ pub(crate) enum TapeView {
     Account(Shown),
     /// Its picture.
     Picture(Cut),
+    /// A page with its picture.
+    Page(Cut),
 }
 
 /// As what a text is read.
@@ -58,6 +61,7 @@ fn tape_text(alloc: Global, what: TapeView, tape: &Tape) -> Result<Vec<u8>, Refu
     match what {
         TapeView::Account(how) => account_text(alloc, how, tape),
         TapeView::Picture(cut) => tape_picture(alloc, tape, &cut),
+        TapeView::Page(cut) => tape_page(alloc, tape, &cut),
     }
 }
 
@@ -117,14 +121,7 @@ fn show_either<O: Sink, E: Write>(
     match recognise(alloc, bytes) {
         Ok(Recognised::Schedule) => show_bytes(alloc, how, name, bytes, out, err),
         Ok(Recognised::Tape(tape)) => {
-            show_tape(
-                alloc,
-                TapeView::Account(how),
-                bytes,
-                &tape,
-                out,
-                err,
-            )
+            show_tape(alloc, TapeView::Account(how), bytes, &tape, out, err)
         }
         Ok(Recognised::Neither(kind, refusal)) => end_by_fault(err, kind, name, bytes, &refusal),
         Err(refusal) => end_by_refusal(err, &refusal),

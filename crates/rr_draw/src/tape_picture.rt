@@ -30,7 +30,7 @@ fn told_by(alloc: Global, event: &TapeEvent) -> Result<Vec<u8>, AllocError>
 /// A message that an event of a tape sends joins the wire.
 fn push_sent(wire: &mut Vec<Message>, event: &TapeEvent) -> Result<(), AllocError> {
     match event {
-        TapeEvent::Send { message, .. } => wire.push(*message),
+        TapeEvent::Send { message, .. } => Ok(wire.push(*message)?),
         _ => Ok(()),
     }
 }

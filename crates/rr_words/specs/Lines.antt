@@ -144,11 +144,12 @@ shell_line = with_arg (with_arg (with_arg asking_line tick_rule) (flag_rule (cod
 unfoldable pub sweep_line : App
 sweep_line = with_arg (with_arg (new_app (codes "sweep")) (word_rule (codes "FILE") false)) (number_rule (codes "SEED") (codes "seed") 0 18446744073709551615)
 
--- the subcommand draw, with a FILE, the first line and the last one, a node and an instance, and the options for requests and
--- for a tape, all of which may be left out
+-- the subcommand draw, with a FILE, the first line and the last one, a node and an instance, and the options for requests, for a
+-- tape and for a page, all of which may be left out
 unfoldable pub draw_line : App
 draw_line =
     with_arg
+    (with_arg
     (with_arg
     (with_arg
     (with_arg
@@ -159,7 +160,8 @@ draw_line =
     (optional_number_rule (codes "NODE") (codes "node") 0 6))
     (optional_number_rule (codes "INSTANCE") (codes "instance") 0 1048575))
     (flag_rule (codes "REQUESTS") (codes "requests")))
-    (flag_rule (codes "TAPE") (codes "tape"))
+    (flag_rule (codes "TAPE") (codes "tape")))
+    (flag_rule (codes "HTML") (codes "html"))
 
 -- the subcommand migrate, with a DIR, the number of a node and a number of nodes
 unfoldable pub migrate_line : App

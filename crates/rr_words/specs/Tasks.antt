@@ -26,8 +26,8 @@ faults_of words = fault_of rr_line words
 unfoldable pub found_in : List Text → Option (Text × List Row)
 found_in words = subcommand_of rr_line words
 
--- the words of a cut: its first line and its last one, its node and its instance; whether requests are never folded; and whether
--- it is one of a tape in any case
+-- the words of a cut: its first line and its last one, its node and its instance; whether requests are never folded; whether it is
+-- one of a tape in any case; and whether its picture stands in a page
 pub record CutWords : Type 0 where
   pub from : Option Text
   pub to : Option Text
@@ -35,6 +35,7 @@ pub record CutWords : Type 0 where
   pub instance : Option Text
   pub requests : Bool
   pub tape : Bool
+  pub html : Bool
 
 -- the words of a random schedule: a seed, a number of steps and a number of nodes, which only wrong words leave out; whether
 -- it is lively, and a number of faults, which may be left out; whether it is finished; whether it is printed alone; and how the
@@ -114,6 +115,7 @@ cut_words_of rows =
       instance = first_of (codes "INSTANCE") rows;
       requests = is_set (codes "REQUESTS") rows;
       tape = is_set (codes "TAPE") rows;
+      html = is_set (codes "HTML") rows;
     }
 
 -- how something is printed, by the option for JSON
@@ -240,6 +242,7 @@ cut_words_in words =
       instance = option_map (λ s. s.now) words.instance;
       requests = words.requests;
       tape = words.tape;
+      html = words.html;
     }
 
 -- the words of a random schedule that were read so

@@ -227,11 +227,14 @@ Examples:
 pub(crate) fn draw<'a>() -> &'a str {
     "\
 FILE is a schedule, as `rr sim` reads it, or a tape, as `rr audit` reads it. Bytes that could be both are a schedule, unless
---tape is given. Printed is a picture of the run, in SVG. Time goes down, and each node has a line. An arrow is a message, a box a flush, and a diamond a decision; docs/FORMATS.md has all symbols. Each event tells
-its line and what came of it, where the pointer rests on it. Lines count from 1, and the first event is on line 2. In a
-picture of more than 300 lines, requests are folded into dots. With --requests they are arrows.
+--tape is given. Printed is a picture of the run, in SVG. Time goes down, and each node has a line. An arrow is a message,
+a box a flush, and a diamond a decision; docs/FORMATS.md has all symbols. Each event tells its line and what came of it,
+where the pointer rests on it. Lines count from 1, and the first event is on line 2. In a picture of more than 300 lines,
+requests are folded into dots. With --requests they are arrows. With --html it is a page that a browser opens without a
+network: a click on an event tells what came of it, and marks what it depends on.
 
 Examples:
+  rr draw --html examples/suspected_coordinator.schedule > run.html
   rr draw examples/suspected_coordinator.schedule > run.svg
   rr draw --from 20 --to 60 --node 1 examples/suspected_coordinator.schedule > part.svg"
 }

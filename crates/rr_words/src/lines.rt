@@ -520,7 +520,13 @@ fn draw_line<'a>(alloc: Global) -> Result<Command<'a>, AllocError>
         1_048_575,
     ))?
     .arg(flag_arg(alloc, "REQUESTS", "requests", "Folds no requests"))?
-    .arg(flag_arg(alloc, "TAPE", "tape", helps::as_tape()))
+    .arg(flag_arg(alloc, "TAPE", "tape", helps::as_tape()))?
+    .arg(flag_arg(
+        alloc,
+        "HTML",
+        "html",
+        "Prints a page for a browser, with the picture",
+    ))
 }
 
 // The command line of `rr migrate`.

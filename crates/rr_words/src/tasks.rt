@@ -22,6 +22,8 @@ pub struct CutWords<'a> {
     pub requests: bool,
     /// Whether the text is read as a tape, also where it could be a schedule.
     pub tape: bool,
+    /// Whether the picture stands in a page for a browser.
+    pub html: bool,
 }
 
 /// The words of a random schedule.
@@ -128,8 +130,8 @@ pub enum Task<'a> {
     /// `rr sweep [FILE] --seed SEED`: what a node restarts with after a crash behind each device call of the schedule in
     /// this file, or else in standard input; with the seed of the words of the last ending.
     Sweep(Option<&'a str>, Option<&'a str>),
-    /// `rr draw [FILE] [--from FROM] [--to TO] [--node NODE] [--instance INSTANCE] [--requests] [--tape]`: the picture of the
-    /// schedule or tape in this file, or else in standard input, of the cut that these words write.
+    /// `rr draw [FILE] [--from FROM] [--to TO] [--node NODE] [--instance INSTANCE] [--requests] [--tape] [--html]`: the
+    /// picture, or a page with it, of the schedule or tape in this file, or else in standard input, of the cut that these words write.
     Draw(Option<&'a str>, CutWords<'a>),
     /// `rr migrate DIR --node NODE --nodes NODES`: an opening of the disk in this folder, and what its areas hold then.
     /// The disk is that of node NODE of NODES nodes.
@@ -179,6 +181,7 @@ fn cut_words<'a>(matches: &ArgMatches<'a>) -> CutWords<'a>
         instance: word_of(matches, "INSTANCE"),
         requests: is_set(matches, "REQUESTS"),
         tape: is_set(matches, "TAPE"),
+        html: is_set(matches, "HTML"),
     }
 }
 
