@@ -1,4 +1,5 @@
 pub mod Listings
 pub mod Runs
 pub mod Shells
+pub mod Submits
 pub mod Ticking
