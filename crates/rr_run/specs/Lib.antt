@@ -2,4 +2,5 @@ pub mod AnswerObjects
 pub mod Listings
 pub mod Runs
 pub mod Shells
+pub mod Submits
 pub mod Ticking

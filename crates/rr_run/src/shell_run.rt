@@ -7,7 +7,7 @@ ghost use Rattle.rr_types.specs.declared.refusal.Refusal.TheVariants.{OutOfMemor
 ghost use Rattle.rr_words.specs.Tasks.{shell_words_in};
 ghost use Rattle.rr_cli.specs.Refusals.{status_of};
 ghost use Rattle.rr_shell.specs.Troubles.{ending_status};
-ghost use Rattle.rr_talk.specs.Talks.{is_outcome_at, IsOf, IsKept, Talks};
+ghost use Rattle.rr_talk.specs.Talks.{is_outcome_at, IsOf, IsKept, IsSyncBy, Talks};
 ghost use Rattle.rr_run.specs.Shells.{IsClientBy, EndsOnTalk, EndsOnShell, EndsOnLines, EndsOnShellWords, lines_text};
 
 use crate::closed::end_by_closed;
@@ -52,12 +52,11 @@ struct Console<'x, F, R> {
     has_warned: bool,
 }
 
-// What a submit of a command at a node has come to, by what is told of it.
-fn outcome_told(node: NodeId, command: &Command, told: &Told) -> Outcome
+// What a submit of a request at a node has come to, by what is told of it.
+fn outcome_told(node: NodeId, request: RequestNo, told: &Told) -> Outcome
     ensures outcome { is_outcome_at node result ≡ true }
-    ensures of { IsOf command.now result }
+    ensures of { IsOf request result }
 {
-    let request = command.request;
     match told {
         Told::Outcome(
             Outcome::Answered(
@@ -84,10 +83,18 @@ fn outcome_told(node: NodeId, command: &Command, told: &Told) -> Outcome
 
 // The command that is kept to be asked again, behind what a submit of it has come to.
 fn kept_behind(command: &Command, outcome: &Outcome) -> Option<Command>
-    ensures { IsOf command.now outcome.now → IsKept command.now.op result outcome.now }
+    ensures { IsOf command.now.request outcome.now → IsKept command.now.op result outcome.now }
 {
     match outcome {
         Outcome::Answered(Answer::Unacknowledged { .. }) => Some(*command),
+        _ => None,
+    }
+}
+
+// What a person is told once few commands are left.
+fn hint_of_room(told: &Told, has_warned: bool) -> Option<Hint> {
+    match told {
+        Told::Outcome(_, left) if !has_warned && is_nearly_full(*left) => Some(Hint::Left(*left)),
         _ => None,
     }
 }
@@ -97,10 +104,7 @@ fn hint_behind(outcome: &Outcome, told: &Told, has_warned: bool) -> Option<Hint>
     if matches!(outcome, Outcome::Answered(Answer::Unacknowledged { .. })) {
         return Some(Hint::Again);
     }
-    match told {
-        Told::Outcome(_, left) if !has_warned && is_nearly_full(*left) => Some(Hint::Left(*left)),
-        _ => None,
-    }
+    hint_of_room(told, has_warned)
 }
 
 impl<
@@ -110,7 +114,8 @@ impl<
 > Console<'x, F, R> {
     // A request number that was never given. At the end of a block the next one is reserved.
     fn next_request(&mut self) -> Result<RequestNo, Refusal>
-        ensures { IfOk result (λ q. q.client ≡ self.old.client) }
+        ensures own { IfOk result (λ q. q.client ≡ self.old.client) }
+        ensures kept { self.new.unanswered ≡ self.old.unanswered }
     {
         let client = self.client;
         if let Some(seq) = self.block.take() {
@@ -158,13 +163,13 @@ impl<
     // Submits a command at a node.
     fn put(&mut self, node: NodeId, command: &Command) -> Result<Outcome, Refusal>
         ensures outcome { IfOk result (λ o. is_outcome_at node o ≡ true) }
-        ensures of { IfOk result (IsOf command.now) }
+        ensures of { IfOk result (IsOf command.now.request) }
         ensures kept { IfOk result (λ o. IsKept command.now.op self.new.unanswered o) }
     {
         made_of!(Answer, Command, Op, Name, Reply, Value);
         let command = *command;
         let told = self.post.ask(self.rt, &Question::Submit { node, command })?;
-        let outcome = outcome_told(node, &command, &told);
+        let outcome = outcome_told(node, command.request, &told);
         self.unanswered = kept_behind(&command, &outcome);
         self.hint = hint_behind(&outcome, &told, self.has_warned);
         self.has_warned = self.has_warned || matches!(self.hint, Some(Hint::Left(_)));
@@ -178,6 +183,8 @@ impl<
     R: Files<File = F> + AllocGlobal + Wait,
 > Asked for Console<'x, F, R> {
     ghost unanswered = { λ c. c.unanswered };
+
+    ghost syncs = { λ c. IsSyncBy c.client };
 
     fn wait_until_ready(&mut self) -> Result<(), Refusal> {
         self.post.wait_until_begun(self.rt)?;
@@ -196,6 +203,14 @@ impl<
             Some(command) => self.put(node, &command),
             None => Ok(Outcome::Nothing),
         }
+    }
+
+    fn sync(&mut self, node: NodeId) -> Result<Outcome, Refusal> {
+        let request = self.next_request()?;
+        let told = self.post.ask(self.rt, &Question::Sync { node, request })?;
+        self.hint = hint_of_room(&told, self.has_warned);
+        self.has_warned = self.has_warned || self.hint.is_some();
+        Ok(outcome_told(node, request, &told))
     }
 
     fn hint(&mut self) -> Option<Hint> {
