@@ -8,8 +8,10 @@ ghost use Rattle.rr_files.specs.Files.{file_at};
 ghost use Rattle.rr_cli.specs.Ends.{EndsOnInput};
 ghost use Rattle.rr_cli.specs.Refusals.{status_of};
 ghost use Rattle.rr_run.specs.Runs.{EndsOnFolders, EndsOnScript, EndsOnNamed, EndsOnRun};
+ghost use Rattle.rr_run.specs.Telling.{TellsReused, TellsOfBytes, TellsOfInput, TellsOfNamed};
 
 use crate::closed::end_by_closed;
+use crate::reused::tell_reused;
 use crate::ticking::tick_by;
 use rr_cli::{end_by_refusal, end_by_stream, end_by_text, nodes_of, print_folder_fault};
 use rr_disk::FileDisk;
@@ -21,7 +23,7 @@ use rr_locked::Open;
 use rr_script::{Answers, Script};
 use rr_stream::{Sink, Source, read_all};
 use rr_tape::Tape;
-use rr_threads::{Recorder, run_script_ticking};
+use rr_threads::{Ran, Recorder, run_script_told};
 use rr_types::{Nodes, Refusal};
 use std::alloc::Global;
 use std::fs::OpenFile;
@@ -169,7 +171,7 @@ fn run_in<
     err: &mut E,
 ) -> u8
     ensures ends { EndsOnFolders None result (O.printing out.old) (O.printing out.new) }
-    ensures quiet { result ≡ 0 → Keeps (E.contents err.old) (E.contents err.new) }
+    ensures quiet { result ≡ 0 → TellsReused script.now.lines (E.contents err.old) (E.contents err.new) }
 {
     let nodes = script.nodes();
     let folders = match enter(rt, nodes, dir, survey) {
@@ -177,10 +179,14 @@ fn run_in<
         Err(closed) => return end_by_closed(rt, err, dir, nodes, &closed),
     };
     let Folders { locks, disks } = folders;
-    let ran = run_script_ticking(rt, rt.alloc(), disks, script, &Open, None, tick);
+    let ran = run_script_told(rt, rt.alloc(), disks, script, &Open, None, tick);
     drop(locks);
     match ran {
-        Ok(answers) => end_by_answers(rt.alloc(), &answers, out, err),
+        Ok(ran) => {
+            let Ran { answers, reused } = ran;
+            tell_reused(rt.alloc(), err, script.lines(), reused.as_slice());
+            end_by_answers(rt.alloc(), &answers, out, err)
+        }
         Err(refusal) => end_by_run_fault(rt, err, dir, nodes, &refusal),
     }
 }
@@ -202,7 +208,7 @@ fn run_taped<
     err: &mut E,
 ) -> u8
     ensures ends { EndsOnFolders (Some path.now) result (O.printing out.old) (O.printing out.new) }
-    ensures quiet { result ≡ 0 → Keeps (E.contents err.old) (E.contents err.new) }
+    ensures quiet { result ≡ 0 → TellsReused script.now.lines (E.contents err.old) (E.contents err.new) }
 {
     let nodes = script.nodes();
     let folders = match enter(rt, nodes, dir, survey) {
@@ -211,10 +217,14 @@ fn run_taped<
     };
     let Folders { locks, disks } = folders;
     let recorder = Recorder::new(rt.alloc(), nodes);
-    let ran = run_script_ticking(rt, rt.alloc(), disks, script, &Open, Some(&recorder), tick);
+    let ran = run_script_told(rt, rt.alloc(), disks, script, &Open, Some(&recorder), tick);
     drop(locks);
     match ran {
-        Ok(answers) => end_by_tape(rt, path, &recorder.into_tape(), &answers, out, err),
+        Ok(ran) => {
+            let Ran { answers, reused } = ran;
+            tell_reused(rt.alloc(), err, script.lines(), reused.as_slice());
+            end_by_tape(rt, path, &recorder.into_tape(), &answers, out, err)
+        }
         Err(refusal) => end_by_run_fault(rt, err, dir, nodes, &refusal),
     }
 }
@@ -236,7 +246,7 @@ fn run_if_fresh<
     err: &mut E,
 ) -> u8
     ensures ends { EndsOnFolders (Some path.now) result (O.printing out.old) (O.printing out.new) }
-    ensures quiet { result ≡ 0 → Keeps (E.contents err.old) (E.contents err.new) }
+    ensures quiet { result ≡ 0 → TellsReused script.now.lines (E.contents err.old) (E.contents err.new) }
 {
     if !survey.is_fresh() {
         let _ = writeln!(err, "rr: --tape wants fresh folders");
@@ -261,7 +271,7 @@ fn run_over<
     err: &mut E,
 ) -> u8
     ensures ends { EndsOnFolders (option_map (λ s. s.now) tape.entry) result (O.printing out.old) (O.printing out.new) }
-    ensures quiet { result ≡ 0 → Keeps (E.contents err.old) (E.contents err.new) }
+    ensures quiet { result ≡ 0 → TellsReused script.now.lines (E.contents err.old) (E.contents err.new) }
 {
     let nodes = script.nodes();
     let survey = match survey_folders(rt, nodes, dir) {
@@ -292,7 +302,7 @@ fn run_bytes<
     err: &mut E,
 ) -> u8
     ensures ends { EndsOnScript nodes (option_map (λ s. s.now) tape.entry) bytes.now result (O.printing out.old) (O.printing out.new) }
-    ensures quiet { result ≡ 0 → Keeps (E.contents err.old) (E.contents err.new) }
+    ensures quiet { result ≡ 0 → TellsOfBytes bytes.now (E.contents err.old) (E.contents err.new) }
 {
     match Script::parse(rt.alloc(), nodes, bytes) {
         Ok(script) => run_over(rt, dir, &script, tape, tick, out, err),
@@ -319,7 +329,7 @@ fn run_input<
     err: &mut E,
 ) -> u8
     ensures ends { EndsOnInput (EndsOnScript nodes (option_map (λ s. s.now) tape.entry)) (I.reading input.old) (I.reading input.new) result (O.printing out.old) (O.printing out.new) }
-    ensures quiet { result ≡ 0 → Keeps (E.contents err.old) (E.contents err.new) }
+    ensures quiet { result ≡ 0 → TellsOfInput (I.reading input.old) (E.contents err.old) (E.contents err.new) }
 {
     match read_all(rt.alloc(), input) {
         Ok(bytes) => run_bytes(rt, nodes, dir, tape, tick, name, bytes.as_slice(), out, err),
@@ -346,7 +356,7 @@ fn run_file<
     err: &mut E,
 ) -> u8
     ensures ends { EndsOnInput (EndsOnScript nodes (option_map (λ s. s.now) tape.entry)) (file_at (L.held files.old) path.now) (file_at (L.held files.new) path.now) result (O.printing out.old) (O.printing out.new) }
-    ensures quiet { result ≡ 0 → Keeps (E.contents err.old) (E.contents err.new) }
+    ensures quiet { result ≡ 0 → TellsOfInput (file_at (L.held files.old) path.now) (E.contents err.old) (E.contents err.new) }
 {
     match files.read_file(rt.alloc(), path) {
         Ok(bytes) => run_bytes(rt, nodes, dir, tape, tick, path, bytes.as_slice(), out, err),
@@ -375,7 +385,7 @@ fn run_named<
     err: &mut E,
 ) -> u8
     ensures ends { EndsOnNamed path.now (EndsOnScript nodes (option_map (λ s. s.now) tape.entry)) (record { input = I.reading input.old; files = L.held files.old }) (record { input = I.reading input.new; files = L.held files.new }) result (O.printing out.old) (O.printing out.new) }
-    ensures quiet { result ≡ 0 → Keeps (E.contents err.old) (E.contents err.new) }
+    ensures quiet { result ≡ 0 → TellsOfNamed path.now (record { input = I.reading input.old; files = L.held files.old }) (E.contents err.old) (E.contents err.new) }
 {
     if path == "-" {
         run_input(
@@ -417,7 +427,7 @@ pub(crate) fn run_by_words<
     err: &mut E,
 ) -> u8
     ensures ends { EndsOnRun nodes.now path.now (option_map (λ s. s.now) tape.entry) (record { input = I.reading input.old; files = L.held files.old }) (record { input = I.reading input.new; files = L.held files.new }) result (O.printing out.old) (O.printing out.new) }
-    ensures quiet { result ≡ 0 → Keeps (E.contents err.old) (E.contents err.new) }
+    ensures quiet { result ≡ 0 → TellsOfNamed path.now (record { input = I.reading input.old; files = L.held files.old }) (E.contents err.old) (E.contents err.new) }
 {
     match nodes_of(nodes) {
         Some(nodes) => {
