@@ -80,6 +80,7 @@ TOUR = [
         [
             "rr run --nodes 3 --dir nodes --script examples/three_clients.script",
             "printf 'submit 0 8 2 claim printer\\nlook 0 printer\\nlook 0 attic\\n' | rr run --nodes 3 --dir nodes --script - --json",
+            "echo 'submit 1 7 1 claim desk' | rr run --nodes 3 --dir nodes --script -",
             "mkdir node; bench/areas.py node 64; rr show node; rr show --json node",
             "printf '\\377' | dd of=node/a0 bs=1 seek=7 conv=notrunc status=none; rr show node",
             "cp -r examples/version_1 v1; rr show v1",
