@@ -1,47 +1,45 @@
-//! Three nodes in threads, over disks in memory, and a client of one of them.
+//! Three nodes over the files of folders, a client at each, and a restart.
 #![tactic(auto)]
 
-use rr_disk::MemDisk;
-use rr_locked::{Open, Turnstile};
-use rr_script::Answer;
-use rr_threads::{Client, Handle, run_clients};
-use rr_types::{Command, Name, Nodes, Op, Refusal, RequestNo, Value};
-use rr_window::WindowName;
-use std::sync::Wait;
-use std::sync::atomic::{AtomicBool, Ordering};
+use rr_client::{ClusterError, Guest, Names, Options, Place, run_cluster};
+use rr_types::{Name, Nodes, Reply, Value};
 
-/// A client that claims a name and looks at it.
+/// Someone who claims a desk, and counts the desks once it has one.
 #[derive(Drop)]
-struct Guest<'s> {
-    is_seen: &'s AtomicBool,
+struct Clerk {
+    desk: Name,
+    desks: usize,
 }
 
-impl<'s> Client for Guest<'s> {
-    fn run<W: WindowName, T: Turnstile, R: Wait>(
-        &mut self,
-        handle: &mut Handle<'_, '_, W, T, R>,
-    ) -> Result<(), Refusal> {
-        let name = Name::new(b"printer")?;
-        let request = RequestNo { client: 7, seq: 1 };
-        let op = Op::Claim(name, Value::new(b"room-4")?);
-        handle.submit(&Command { request, op });
-        let is_bound = matches!(handle.look(&name), Answer::Bound { .. });
-        self.is_seen.store(is_bound, Ordering::SeqCst);
+impl Guest for Clerk {
+    fn run<N: Names>(&mut self, names: &mut N) -> Result<(), ClusterError> {
+        let reply = names.claim(&self.desk, &Value::new(b"room-4")?)?;
+        if !matches!(reply, Reply::Claimed) {
+            names.sync()?;
+            self.desks = names.list(b"desk-")?.len();
+        }
         Ok(())
     }
 }
 
+/// Puts a clerk at each node, and takes it back once it has asked.
 fn main(rt: HostRuntime) -> anyhow::Result<()> {
-    let alloc = rt.alloc();
-    let is_seen = AtomicBool::new(false);
-    let disks = vec![in alloc;
-        MemDisk::new(alloc),
-        MemDisk::new(alloc),
-        MemDisk::new(alloc),
-    ]?;
-    let guest = Guest { is_seen: &is_seen };
-    let clients = vec![in alloc; vec![in alloc; guest]?, Vec::new(alloc), Vec::new(alloc)]?;
-    run_clients(&rt, alloc, Nodes::new(3)?, disks, clients, &Open, None)?;
-    println!(rt; "printer is bound: {}", is_seen.load(Ordering::SeqCst))?;
+    for life in ["the first life", "behind a restart"] {
+        let mut clerks = Vec::new(rt.alloc());
+        for (node, desk) in [b"desk-0", b"desk-1", b"desk-2"].iter().enumerate() {
+            let guest = Clerk {
+                desk: Name::new(*desk)?,
+                desks: 0,
+            };
+            clerks.push(Place {
+                node: node as u8,
+                client: node as u32,
+                guest,
+            })?;
+        }
+        for clerk in run_cluster(&rt, Nodes::new(3)?, "nodes", &Options::usual(), clerks)? {
+            println!(rt; "{life}: {} desks", clerk.desks)?;
+        }
+    }
     Ok(())
 }
