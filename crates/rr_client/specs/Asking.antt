@@ -30,6 +30,11 @@ GoesOn a b = (b.node ≡ a.node) × (b.client ≡ a.client) × IsPrefix a.known 
 abbrev pub last_request : Asker → RequestNo
 last_request a = record { client = a.client; seq = a.next - 1 }
 
+-- that there is no request number
+abbrev pub IsNumberless : ClusterError → Type 0
+IsNumberless (Numbers refusal) = Unit {0}
+IsNumberless _ = ⊥
+
 -- why a command isn't acknowledged
 abbrev pub IsUnanswered : Command → ClusterError → Type 0
 IsUnanswered c (Unacknowledged d) = d ≡ c

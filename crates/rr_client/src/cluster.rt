@@ -23,6 +23,7 @@ use std::time::{Clock, Duration};
 
 /// The least and the greatest tick, in milliseconds.
 const LEAST_TICK: u64 = 10;
+
 const MOST_TICK: u64 = 10_000;
 
 // The guests at their nodes, over disks that are open, until all are done.

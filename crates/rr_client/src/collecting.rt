@@ -94,5 +94,9 @@ pub(crate) fn collect_all<G: Drop>(
             Some((_, Err(error))) => return Err(error),
         }
     }
-    if is_missing { Ok(None) } else { Ok(Some(guests)) }
+    if is_missing {
+        Ok(None)
+    } else {
+        Ok(Some(guests))
+    }
 }

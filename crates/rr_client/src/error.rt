@@ -15,13 +15,20 @@ pub enum ClusterError {
     OutOfMemory,
     /// A tick that isn't from 10 to 10,000 milliseconds.
     #[error("a tick of {tick} milliseconds is asked for, but it is from 10 to 10000")]
-    BadTick { tick: u64 },
+    BadTick {
+        tick: u64,
+    },
     /// A guest asks a node that isn't there.
     #[error("a guest asks node {node}, but the last of the nodes is {last}")]
-    NoNode { node: u8, last: u8 },
+    NoNode {
+        node: u8,
+        last: u8,
+    },
     /// Another program has locked the folder of this path.
     #[error("{path}: another program has locked it")]
-    InUse { path: String },
+    InUse {
+        path: String,
+    },
     /// This call on this path failed.
     #[error("{path}: {call}: {error}")]
     Failed {
@@ -31,31 +38,35 @@ pub enum ClusterError {
     },
     /// The folder of this node may not be opened.
     #[error("the folder of node {}: {}", .node.index(), fault_text(.fault))]
-    Refused { node: NodeId, fault: Fault },
+    Refused {
+        node: NodeId,
+        fault: Fault,
+    },
     /// The disk of this node can't be opened.
     #[error("the disk of node {} can't be opened: {}", .node.index(), refusal_text(.refusal))]
-    Unopened { node: NodeId, refusal: Refusal },
+    Unopened {
+        node: NodeId,
+        refusal: Refusal,
+    },
     /// The folder's file `requests` gives no request number.
     #[error("the file requests in the folder: {}", numbers_text(.refusal))]
-    Numbers { refusal: Refusal },
+    Numbers {
+        refusal: Refusal,
+    },
     /// The node hasn't acknowledged this command in time. It may come to be decided; `again` asks it once more.
-    #[error(
-        "request {} of client {} isn't acknowledged yet, but it may still be decided",
-        .command.request.seq,
-        .command.request.client
-    )]
-    Unacknowledged { command: Command },
+    #[error("request {} of client {} isn't acknowledged yet, but it may still be decided", .command.request.seq, .command.request.client)]
+    Unacknowledged {
+        command: Command,
+    },
     /// There is no command that isn't acknowledged, and that `again` could ask once more.
     #[error("no command waits to be asked again")]
     NothingToAsk,
     /// The request number of this command belongs to another one, which counts for it. Somebody else was this client, or the file
     /// `requests` was put back.
-    #[error(
-        "request {} of client {} is another command: its number was used before",
-        .command.request.seq,
-        .command.request.client
-    )]
-    NumberUsed { command: Command },
+    #[error("request {} of client {} is another command: its number was used before", .command.request.seq, .command.request.client)]
+    NumberUsed {
+        command: Command,
+    },
     /// As many commands are decided as a cluster can decide: this one never is.
     #[error("the list of commands is full: the command is never decided")]
     ListFull,
@@ -67,10 +78,14 @@ pub enum ClusterError {
     Unseen,
     /// The nodes' run has failed.
     #[error("the run has failed: {}", refusal_text(.refusal))]
-    Run { refusal: Refusal },
+    Run {
+        refusal: Refusal,
+    },
     /// Bytes that are no name, no value or no number of nodes.
     #[error("{}", refusal_text(.refusal))]
-    Unfit { refusal: Refusal },
+    Unfit {
+        refusal: Refusal,
+    },
 }
 
 // What a refusal means.
@@ -95,7 +110,8 @@ fn fault_text(fault: &Fault) -> &'static str {
     match fault {
         Fault::Missing => "it is gone, so the node can't know any more what it promised",
         Fault::Blank => "its disk is blank, so the node can't know any more what it promised",
-        Fault::Cut => "a file of its disk is gone or cut, so the node can't know any more what it promised",
+        Fault::Cut =>
+            "a file of its disk is gone or cut, so the node can't know any more what it promised",
         Fault::OtherNode(_) => "it is another node's; put each folder back in its place",
         Fault::OtherNodes(_) => "its cluster has another number of nodes",
         Fault::OtherCluster => "it is another cluster's; put that of this one back",
@@ -106,7 +122,8 @@ fn fault_text(fault: &Fault) -> &'static str {
 // Why there is no request number.
 fn numbers_text(refusal: &Refusal) -> &'static str {
     match refusal {
-        Refusal::Malformed(_) => "it should hold the first number that is not reserved, and a line feed",
+        Refusal::Malformed(_) =>
+            "it should hold the first number that is not reserved, and a line feed",
         Refusal::TooLarge => "all request numbers are reserved",
         Refusal::Device => "it can't be read or written",
         other => refusal_text(other),

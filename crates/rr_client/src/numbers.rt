@@ -1,7 +1,7 @@
 //! Request numbers that no client has had.
 
 ghost use Rattle.std.specs.Prelude.{◌≡◌, ◌+◌, ◌≤◌, IfOk, IfErr, OnErr};
-ghost use Rattle.rr_client.specs.declared.error.ClusterError.TheVariants.{Numbers};
+ghost use Rattle.rr_client.specs.Asking.{IsNumberless};
 
 use crate::error::ClusterError;
 use rr_folders::{Block, reserve};
@@ -30,7 +30,7 @@ impl<'x, R: Files + AllocGlobal + Wait> NumberFile<'x, R> {
     // Reserves the next block, from this number on.
     fn reserve(&self, least: u64) -> Result<Block, ClusterError>
         ensures least { IfOk result (λ b. least ≤ b.next) }
-        ensures err { IfErr result (λ e. (refusal : _) × (e ≡ Numbers refusal)) }
+        ensures err { IfErr result IsNumberless }
     {
         let _turn = self.turn.lock(self.rt);
         match reserve(self.rt, self.dir, least) {
@@ -40,7 +40,10 @@ impl<'x, R: Files + AllocGlobal + Wait> NumberFile<'x, R> {
     }
 
     /// Numbers from this one on, none of which has been given before.
-    pub(crate) fn numbers_from<'n>(&'n self, least: u64) -> Result<NumbersOf<'n, 'x, R>, ClusterError>
+    pub(crate) fn numbers_from<'n>(
+        &'n self,
+        least: u64,
+    ) -> Result<NumbersOf<'n, 'x, R>, ClusterError>
         ensures { IfOk result (λ n. n ≡ least) }
     {
         let block = self.reserve(least)?;
@@ -78,7 +81,7 @@ impl<'n, 'x, R: Files + AllocGlobal + Wait> NumbersOf<'n, 'x, R> {
     pub(crate) fn take(&mut self) -> Result<u64, ClusterError>
         ensures some { IfOk result (λ n. (self.old ≤ n) × (self.new ≡ n + 1)) }
         ensures kept { OnErr result (self.new ≡ self.old) }
-        ensures err { IfErr result (λ e. (refusal : _) × (e ≡ Numbers refusal)) }
+        ensures err { IfErr result IsNumberless }
     {
         if let Some(number) = self.block.take() {
             self.next = number + 1;

@@ -30,7 +30,10 @@ fn looks_in(millis: u64) -> u32 {
 // The time that is left until the end, in milliseconds: none where the clock can't be read.
 fn millis_until<Q: Clock>(rt: &Q, end: Duration) -> u64 {
     match rt.monotonic() {
-        Ok(now) => end.saturating_sub(now).as_millis().min(u128::from(u64::MAX)) as u64,
+        Ok(now) => end
+            .saturating_sub(now)
+            .as_millis()
+            .min(u128::from(u64::MAX)) as u64,
         Err(_) => 0,
     }
 }

@@ -2,8 +2,7 @@
 
 ghost use Rattle.std.specs.Prelude.{◌≡◌, ◌<◌, Some, IfOk, IfErr, OnErr};
 ghost use Rattle.rr_types.specs.Registry.{reply_of};
-ghost use Rattle.rr_client.specs.declared.error.ClusterError.TheVariants.{Numbers};
-ghost use Rattle.rr_client.specs.Asking.{GoesOn, IsUnanswered, ComesTo, IsSubmitted, last_request};
+ghost use Rattle.rr_client.specs.Asking.{GoesOn, IsNumberless, IsUnanswered, ComesTo, IsSubmitted, last_request};
 
 use crate::error::ClusterError;
 use crate::guest::Guest;
@@ -62,9 +61,17 @@ impl<'h, 'd, 'y, 'x, 'r, W: WindowName, T, R, Q> Model for Caller<'h, 'd, 'y, 'x
 /// The name of the command by which a client learns what was acknowledged. It stays as it is.
 const SYNC: &[u8] = b"sync";
 
-impl<'h, 'd, 'y, 'x, 'r, W: WindowName, T: Turnstile, R: Wait, Q: Files + AllocGlobal + Wait + Clock>
-    Caller<'h, 'd, 'y, 'x, 'r, W, T, R, Q>
-{
+impl<
+    'h,
+    'd,
+    'y,
+    'x,
+    'r,
+    W: WindowName,
+    T: Turnstile,
+    R: Wait,
+    Q: Files + AllocGlobal + Wait + Clock,
+> Caller<'h, 'd, 'y, 'x, 'r, W, T, R, Q> {
     // Why a command isn't acknowledged.
     fn error_behind(&self, command: &Command) -> ClusterError
         ensures { IsUnanswered command.now result }
@@ -119,7 +126,7 @@ impl<'h, 'd, 'y, 'x, 'r, W: WindowName, T: Turnstile, R: Wait, Q: Files + AllocG
         ensures later { GoesOn self.old self.new }
         ensures same { (self.new.unanswered ≡ self.old.unanswered) × (self.new.known ≡ self.old.known) }
         ensures kept { OnErr result (self.new ≡ self.old) }
-        ensures err { IfErr result (λ e. (refusal : _) × (e ≡ Numbers refusal)) }
+        ensures err { IfErr result IsNumberless }
     {
         Ok(RequestNo {
             client: self.client,
@@ -137,9 +144,17 @@ impl<'h, 'd, 'y, 'x, 'r, W: WindowName, T: Turnstile, R: Wait, Q: Files + AllocG
     }
 }
 
-impl<'h, 'd, 'y, 'x, 'r, W: WindowName, T: Turnstile, R: Wait, Q: Files + AllocGlobal + Wait + Clock> Names
-    for Caller<'h, 'd, 'y, 'x, 'r, W, T, R, Q>
-{
+impl<
+    'h,
+    'd,
+    'y,
+    'x,
+    'r,
+    W: WindowName,
+    T: Turnstile,
+    R: Wait,
+    Q: Files + AllocGlobal + Wait + Clock,
+> Names for Caller<'h, 'd, 'y, 'x, 'r, W, T, R, Q> {
     ghost asker = { λ c. c };
 
     fn node(&self) -> NodeId {
@@ -213,7 +228,8 @@ fn refusal_behind(told: &Result<(), ClusterError>) -> Result<(), Refusal> {
     }
 }
 
-impl<'x, 'd, G: Guest + Drop, Q: Files + AllocGlobal + Wait + Clock> Client for Seated<'x, 'd, G, Q> {
+impl<'x, 'd, G: Guest + Drop, Q: Files + AllocGlobal + Wait + Clock> Client
+    for Seated<'x, 'd, G, Q> {
     fn run<W: WindowName, T: Turnstile, R: Wait>(
         &mut self,
         handle: &mut Handle<'_, '_, W, T, R>,
