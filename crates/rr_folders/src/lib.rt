@@ -15,5 +15,5 @@ pub use closed::Closed;
 pub use folder::{Folders, Survey, enter, open_folders, survey_folders};
 pub use forming::try_folder;
 pub use lock::{Lockable, Locks};
-pub use number_file::NumberFile;
+pub use number_file::{NumberFile, reserve};
 pub use requests::{Block, greatest_in, reserve_in};

@@ -3,8 +3,8 @@
 ghost use Rattle.std.specs.Prelude.{◌≡◌, ◌+◌, ◌≤◌, IfOk};
 
 use crate::closed::{Closed, done};
-use crate::number_file::FolderNumbers;
-use crate::requests::{Block, reserve_in};
+use crate::number_file::reserve;
+use crate::requests::Block;
 use rr_types::Refusal;
 use std::fs::{File, OpenFile, TryLockError};
 use std::io::{Read, Seek, Write};
@@ -92,7 +92,6 @@ impl<F: Read + Write + Seek + FileExt + OpenFile + Drop> Locks<F> {
         ensures whole { IfOk result (λ b. b.end ≡ b.next + 1048576) }
         ensures least { IfOk result (λ b. least ≤ b.next) }
     {
-        let mut file = FolderNumbers::new(rt, self.dir())?;
-        reserve_in(rt.alloc(), &mut file, least)
+        reserve(rt, self.dir(), least)
     }
 }

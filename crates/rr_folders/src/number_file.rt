@@ -1,10 +1,10 @@
 //! The file of request numbers: what a reservation asks of it.
 
-ghost use Rattle.std.specs.Prelude.{is_ok};
+ghost use Rattle.std.specs.Prelude.{◌≡◌, ◌+◌, ◌≤◌, is_ok, IfOk};
 ghost use Rattle.rr_folders.specs.NumberCalls.{NumberCall, reads, writes, syncs, renames, syncs_folder, found_by};
 
+use crate::requests::{Block, reserve_in};
 use rr_types::Refusal;
-use std::alloc::Global;
 use std::fs::OpenFile;
 use std::io::{ErrorKind, Write};
 use std::marker::Model;
@@ -108,4 +108,17 @@ impl<'x, R: Files + AllocGlobal> NumberFile for FolderNumbers<'x, R> {
     fn sync_folder(&mut self) -> io::Result<()> {
         fs::open(self.rt, self.dir)?.sync_all()
     }
+}
+
+/// Reserves the next block of request numbers, from `least` on, by the file `requests` of a folder that is locked. No earlier block
+/// has any of them. `Locks::reserve` is the same, for a program that has the locks at hand.
+///
+/// # Errors
+/// Those of `reserve_in`.
+pub fn reserve<R: Files + AllocGlobal>(rt: &R, dir: &str, least: u64) -> Result<Block, Refusal>
+    ensures whole { IfOk result (λ b. b.end ≡ b.next + 1048576) }
+    ensures least { IfOk result (λ b. least ≤ b.next) }
+{
+    let mut file = FolderNumbers::new(rt, dir)?;
+    reserve_in(rt.alloc(), &mut file, least)
 }
