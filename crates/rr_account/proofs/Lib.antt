@@ -1,3 +1,5 @@
 pub mod ExplanationLemmas
+pub mod ShareLaws
+pub mod StepLaws
 pub mod TextLemmas
 mod WatchLaws

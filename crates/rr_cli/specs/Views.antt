@@ -12,7 +12,7 @@ use Rattle.rr_stream.specs.Streams.{Printing, Reading}
 use Rattle.rr_files.specs.Files.{Readable, file_at, reading_of}
 use Rattle.rr_account.specs.Accounts.{Accounted, IsAccountOn}
 use Rattle.rr_account.specs.Objects.{IsExplanation, IsStatistics}
-use Rattle.rr_account.specs.Texts.{IsNoted}
+use Rattle.rr_account.specs.Texts.{IsExplained}
 use Rattle.rr_cli.specs.Ends.{EndsBy, EndsOnInput, Prints}
 use Rattle.rr_words.specs.declared.tasks.Form.TheVariants.{Plain, Json}
 use Rattle.rr_words.specs.Tasks.{View, Report, Explanation, Statistics, Comparison, Task, Viewing}
@@ -36,7 +36,7 @@ different (suc n) = suc n
 -- events and its decided list; or as statistics, which as JSON are one object
 abbrev pub Shows : Shown → Accounted → List ℕ → Type 0
 Shows shown.Report account text = text ≡ report_objects account.report
-Shows (shown.Explanation Plain) account text = IsNoted account.schedule.events (report_text account.report) text
+Shows (shown.Explanation Plain) account text = IsExplained account text
 Shows (shown.Explanation Json) account text = IsExplanation account text
 Shows (shown.Statistics Plain) account text = Unit {0}
 Shows (shown.Statistics Json) account text = IsStatistics text

@@ -2,5 +2,6 @@ mod asking;
 mod catching;
 mod failing;
 mod nodes;
+mod opening;
 mod switched;
 mod taped;
