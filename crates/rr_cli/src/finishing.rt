@@ -56,15 +56,15 @@ fn account_text<O: Sink>(
     alloc: Global,
     how: Shown,
     bytes: &[u8],
-    added: &Vec<u8>,
+    added: &[u8],
     out: &mut O,
 ) -> Result<Vec<u8>, Refusal>
-    ensures ok { IfOk result (λ text. ShowsBoth how bytes.now added.now.items text.items) }
+    ensures ok { IfOk result (λ text. ShowsBoth how bytes.now added.now text.items) }
     ensures err { IfErr result (λ e. e ≡ Refusal.OutOfMemory) }
     ensures unprinted { O.printing out.new ≡ O.printing out.old }
 {
     let mut whole = Vec::from_slice(alloc, bytes)?;
-    whole.extend_from_slice(added.as_slice())?;
+    whole.extend_from_slice(added)?;
     // The whole is the text of a schedule, so only memory may be wanting.
     let Ok(account) = account_on(alloc, whole.as_slice(), out) else {
         return Err(Refusal::OutOfMemory);
