@@ -106,13 +106,17 @@ TOUR = [
     ),
     (
         "A run, and its explanation",
-        "`rr sim` runs a schedule and reports what happened. `--explain` adds a note on each event, also on one that was refused or did nothing.",
+        "`rr sim` runs a schedule and reports what happened. `--explain` adds a note on each event, also on one that was refused or did nothing. "
+        "`--finish` goes on from the end of a schedule: here from the first lines of an example, up to the example's own end.",
         [
             "rr sim examples/failed_write.schedule",
             "rr sim --explain examples/failed_write.schedule | sed -n '/line 27/,/line 31/p'",
             "printf 'nodes 2\\nsend 0\\nrestart 0\\nhear 1 5\\nfail 0 A5\\nack 0\\n' > lost.schedule; rr sim --explain lost.schedule",
             "rr sim --json lost.schedule",
             "rr sim --json --explain lost.schedule | head -3",
+            "head -30 examples/one_command.schedule > cut.schedule; rr sim --finish --schedule-only cut.schedule",
+            "rr sim --finish cut.schedule | rr check examples/one_command.schedule -",
+            "head -120 examples/two_of_seven_down.schedule > cut.schedule; rr sim cut.schedule | tail -1; rr sim --finish cut.schedule | tail -2",
         ],
     ),
     (

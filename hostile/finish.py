@@ -46,7 +46,7 @@ def left_by(explained):
         requests = left.setdefault(node, set())
         if kind == "submit" and not is_refused:
             requests.add(f"{words[4]}.{words[5]}")
-        elif kind in ("crash", "restart") or kind == "fail" and any(told[0] == "refuse" and told[3] == "Device" for told in waiting):
+        elif kind == "crash" or kind == "restart" and not is_refused or kind == "fail" and any(told[-1] == "Device" for told in waiting):
             requests.clear()
             down.add(node)
         for told in waiting:
@@ -62,6 +62,8 @@ def left_by(explained):
 
 def fault_of(rr, text, words):
     """What is wrong with the finish of a schedule, or nothing; and how many events were added."""
+    if asked(rr, ["sim"], text)[0] == 3:
+        return "a fault is told otherwise" if asked(rr, ["sim", "--finish"], text) != asked(rr, ["sim"], text) else None, 0
     status, added, told = asked(rr, ["sim", "--finish", "--schedule-only"], text)
     if status != 0 or told:
         return f"status {status}, {told[:200]!r}", 0

@@ -6,10 +6,10 @@ _rr() {
     return
   fi
   case ${COMP_WORDS[1]} in
-    sim) words='--explain --json -h --help'; takes=files ;;
+    sim) words='--explain --json --finish --schedule-only -h --help'; takes=files ;;
     stats) words='--json -h --help'; takes=files ;;
     check) words='-h --help'; takes=files ;;
-    random) words='--seed --steps --nodes --lively --faults --schedule-only -h --help'; takes=nothing ;;
+    random) words='--seed --steps --nodes --lively --faults --finish --schedule-only -h --help'; takes=nothing ;;
     sweep) words='--seed -h --help'; takes=files ;;
     draw) words='--from --to --node --instance -h --help'; takes=files ;;
     run) words='--nodes --dir --script --tape --tick -h --help'; takes=nothing ;;

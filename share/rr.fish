@@ -6,6 +6,8 @@ for program in rr rr-unproved
   complete -c $program -n __fish_use_subcommand -a sim -d 'Runs a schedule and prints its report'
   complete -c $program -n '__fish_seen_subcommand_from sim' -l explain -d 'Tells the event behind each line, and why others were refused or came to nothing'
   complete -c $program -n '__fish_seen_subcommand_from sim' -l json -d 'Prints an object of JSON for each line'
+  complete -c $program -n '__fish_seen_subcommand_from sim' -l finish -d 'Goes on from the schedule\'s end, without faults, until nothing is left to do'
+  complete -c $program -n '__fish_seen_subcommand_from sim' -l schedule-only -d 'Prints the events that --finish adds, alone; implies --finish'
   complete -c $program -n '__fish_seen_subcommand_from sim' -s h -l help -d 'Print help'
   complete -c $program -n '__fish_seen_subcommand_from sim' -F
   complete -c $program -n __fish_use_subcommand -a stats -d 'Runs a schedule and counts what happens in its run'
@@ -21,6 +23,7 @@ for program in rr rr-unproved
   complete -c $program -n '__fish_seen_subcommand_from random' -l nodes -x -d 'How many nodes there are'
   complete -c $program -n '__fish_seen_subcommand_from random' -l lively -d 'Draws among the events that do something'
   complete -c $program -n '__fish_seen_subcommand_from random' -l faults -x -d 'With --lively, how many steps in a thousand have a fault [default: 10]'
+  complete -c $program -n '__fish_seen_subcommand_from random' -l finish -d 'Goes on from the schedule\'s end, without faults, until nothing is left to do'
   complete -c $program -n '__fish_seen_subcommand_from random' -l schedule-only -d 'Prints the schedule alone, without the report'
   complete -c $program -n '__fish_seen_subcommand_from random' -s h -l help -d 'Print help'
   complete -c $program -n __fish_use_subcommand -a sweep -d 'Crashes a node after each device call of a schedule, and tells what it restarts with'
