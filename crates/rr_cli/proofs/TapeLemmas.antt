@@ -1,5 +1,6 @@
 -- An audit ends as defined: a yes is printed, or a no has its status.
-use Rattle.std.proofs.Common.{◌≡◌, ◌≤◌, ◌<◌, ◌⊎◌, ℕ, List, ◌++◌, ◌∷◌, length, subst, refl, inl, inr}
+use Rattle.std.proofs.Common.{◌≡◌, ◌∙◌, ◌≤◌, ◌+◌, ◌⊎◌, ℕ, suc, List, ◌∷◌, length, ap, arith, subst, inl, inr}
+use Rattle.std.proofs.lemmas.List.{length-append}
 use Rattle.rr_stream.specs.Streams.{Printing}
 use Rattle.rr_types.specs.declared.refusal.Refusal.TheVariants.{OutOfMemory}
 use Rattle.rr_audit.specs.declared.given.Given.{Given}
@@ -27,5 +28,5 @@ no_object_ends bytes number p given status old new on (inr tells) = no_ends Json
 pub few_events : (bytes : List ℕ) (number p : ℕ) (given : Given) → IsVerdictOn bytes (No number p given) → number ≤ 1000000
 few_events bytes number p given on =
     let stops = on.found in
-    let all : length on.tape.events ≡ length stops.before + suc (length stops.after) = ap length stops.split ∙ append_length stops.before (stops.event ∷ stops.after) in
+    let all : length on.tape.events ≡ length stops.before + suc (length stops.after) = ap length stops.split ∙ length-append stops.before (stops.event ∷ stops.after) in
     omega (stops.counted, all, on.lawful.short)

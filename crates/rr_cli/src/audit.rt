@@ -158,7 +158,7 @@ fn end_by_no_object<O: Sink, E: Write>(
     err: &mut E,
 ) -> u8
     requires { number ≤ 1000000 }
-    ensures ends { (result ≡ 6) × (O.printing out.new ≡ O.printing out.old) ⊎ TellsNo Form.Json number result (O.printing out.old) (O.printing out.new) }
+    ensures ends { ((result ≡ 6) × (O.printing out.new ≡ O.printing out.old)) ⊎ TellsNo Form.Json number result (O.printing out.old) (O.printing out.new) }
 {
     match no_object(alloc, number, node, given) {
         Ok(text) => {
