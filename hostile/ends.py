@@ -20,7 +20,7 @@ NAME = b"n"
 
 
 def tasks(options):
-    return [] if options.short else ["lines", "people"]
+    return ["lines"] if options.short else ["lines", "people"]
 
 
 def work(rig, options, task):
@@ -37,16 +37,15 @@ def work(rig, options, task):
 
 
 def fill(folder, decided):
-    """The disk of node 0 of 1 that has decided so many commands."""
+    """The disk of node 0 of 1 that has decided so many commands: area 0 is its first one, and area 1 the snapshot behind it."""
     shutil.rmtree(folder, ignore_errors=True)
     os.makedirs(os.path.join(folder, "0"))
     op = struct.pack(">BB", 1, len(NAME)) + NAME + b"\0"
     entries = b"".join(struct.pack(">IBIQ", place, 1, 7, place) + op for place in range(decided))
-    payload = struct.pack(">BBBQQI", 2, 0, 1, 1, 4 * decided, decided) + entries
-    with open(os.path.join(folder, "0", "a0"), "wb") as area:
-        area.write(struct.pack(">BI", 0xA5, len(payload)) + payload)
-    with open(os.path.join(folder, "0", "a1"), "wb"):
-        pass
+    for name, epoch, count, told in (("a0", 1, 0, b""), ("a1", 2, decided, entries)):
+        payload = struct.pack(">BBBQQI", 2, 0, 1, epoch, 4 * count, count) + told
+        with open(os.path.join(folder, "0", name), "wb") as area:
+            area.write(struct.pack(">BI", 0xA5, len(payload)) + payload + b"\0")
 
 
 def shell(rig, folder, *words):
