@@ -78,13 +78,13 @@ TOUR = [
         "`rr run` runs nodes in threads. `rr show` reads the two files of a node's disk, `rr migrate` opens one of version 1, and `rr audit` reads a record of what nodes did.",
         [
             "rr run --nodes 3 --dir nodes --script examples/three_clients.script",
-            "echo 'submit 1 7 1 claim desk' | rr run --nodes 3 --dir nodes --script -",
             "mkdir node; bench/areas.py node 64; rr show node",
             "printf '\\377' | dd of=node/a0 bs=1 seek=7 conv=notrunc status=none; rr show node",
             "cp -r examples/version_1 v1; rr show v1",
             "rr migrate v1 --node 0 --nodes 1",
             "rr audit examples/one_command.tape",
             "sed 3d examples/one_command.tape | rr audit",
+            "echo 'submit 1 7 1 claim desk' | rr run --nodes 3 --dir nodes --script -",
         ],
     ),
     (
