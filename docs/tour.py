@@ -80,7 +80,6 @@ TOUR = [
         [
             "rr run --nodes 3 --dir nodes --script examples/three_clients.script",
             "printf 'submit 0 8 2 claim printer\\nlook 0 printer\\nlook 0 attic\\n' | rr run --nodes 3 --dir nodes --script - --json",
-            "echo 'submit 1 7 1 claim desk' | rr run --nodes 3 --dir nodes --script -",
             "mkdir node; bench/areas.py node 64; rr show node; rr show --json node",
             "printf '\\377' | dd of=node/a0 bs=1 seek=7 conv=notrunc status=none; rr show node",
             "cp -r examples/version_1 v1; rr show v1",
@@ -88,6 +87,21 @@ TOUR = [
             "rr audit examples/one_command.tape",
             "sed 3d examples/one_command.tape | rr audit",
             "rr audit --json examples/one_command.tape; sed 3d examples/one_command.tape | rr audit --json 2> told",
+            "echo 'submit 1 7 1 claim desk' | rr run --nodes 3 --dir nodes --script -",
+        ],
+    ),
+    (
+        "Tapes, explained, counted and drawn",
+        "`examples/three_clients.tape` is a tape of the script above. It is explained and counted as the run of a schedule is, and drawn: here "
+        "are the first titles of the picture.",
+        [
+            "rr audit --explain examples/three_clients.tape | head -9",
+            "rr audit --explain --json examples/three_clients.tape | head -2",
+            "rr stats examples/three_clients.tape",
+            "rr draw examples/three_clients.tape | grep -o '<title>[^<]*' | head -3",
+            "sed 3d examples/one_command.tape | rr stats",
+            "sed '8s/hear/here/' examples/three_clients.tape | rr draw",
+            "printf 'nodes 1\\ntick 0\\n' | rr stats --tape | head -2",
         ],
     ),
     (
@@ -157,6 +171,8 @@ TOUR = [
         [
             "rr sweep --seed 0 examples/one_command.schedule | grep '^40 '",
             "rr draw examples/suspected_coordinator.schedule | grep -o '<title>[^<]*' | head -2",
+            "rr draw --from 9 --to 8 examples/suspected_coordinator.schedule",
+            "rr draw --html examples/suspected_coordinator.schedule > run.html; head -2 run.html; rr sim --explain --json examples/suspected_coordinator.schedule | sed 's/\"/\\&quot;/g' | head -1 | grep -cFf - run.html",
         ],
     ),
 ]
