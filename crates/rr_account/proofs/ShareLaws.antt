@@ -84,7 +84,7 @@ share_here account shares index count out within at =
     let (first, lies, both, fits) = middle account.report.lines (joined (take index shares)) share (joined (drop (suc index) shares)) count whole at.count_is in
     let after : count + length share ≡ length (joined (take (index + 1) shares)) =
     (let step : index + 1 ≡ suc index = omega arith in
-        omega (arith, at.count_is, length-append (joined (take index shares)) share, ap length (ap (λ (k : ℕ). joined (take k shares)) step ∙ one_more shares index share here))) in
+    omega (arith, at.count_is, length-append (joined (take index shares)) share, ap length (ap (λ (k : ℕ). joined (take k shares)) step ∙ one_more shares index share here))) in
     record {
       share = share;
       outcome = outcome;

@@ -12,7 +12,7 @@ use rr_audit::{as_reported, as_scheduled};
 use rr_sim::decided_list;
 use rr_tape::{Tape, TapeEvent};
 use rr_text::{Event, Report, ReportLine, Schedule};
-use rr_types::{Message, Refusal};
+use rr_types::{Body, Command, Estimate, Message, Op, Refusal, made_of};
 use std::alloc::{AllocError, Global};
 
 // The events of a schedule that events of a tape are.
@@ -72,6 +72,7 @@ fn lines_on(alloc: Global, events: &[TapeEvent]) -> Result<Vec<ReportLine>, Allo
 fn push_sent(wire: &mut Vec<Message>, event: &TapeEvent) -> Result<(), AllocError>
     ensures { OnOk result (wire.new.items ≡ wire.old.items ++ sent_by event.now) }
 {
+    made_of!(Body, Command, Estimate, Message, Op);
     match event {
         TapeEvent::Send { message, .. } => Ok(wire.push(*message)?),
         _ => Ok(()),

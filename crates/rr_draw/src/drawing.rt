@@ -3,8 +3,8 @@
 use crate::cut::Cut;
 use crate::glyphs::{class_of, push_arrow, push_facts, push_mark, push_message_name};
 use crate::lane::{Job, Lane, lanes_of, width_of};
-use crate::style::{LEGEND, LEGEND_WIDTH, STYLE};
 use crate::scene::Scene;
+use crate::style::{LEGEND, LEGEND_WIDTH, STYLE};
 use rr_sim::Stance;
 use rr_text::Event;
 use rr_text::text_word::{push_op, push_set};

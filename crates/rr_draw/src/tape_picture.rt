@@ -12,7 +12,7 @@ use rr_audit::{Replay, as_reported, as_scheduled, node_of};
 use rr_tape::{Tape, TapeEvent};
 use rr_text::text_report::push_report_words;
 use rr_text::text_word::{push_byte, push_bytes};
-use rr_types::{Message, Refusal};
+use rr_types::{Body, Command, Estimate, Message, Op, Refusal, made_of};
 use std::alloc::{AllocError, Global};
 
 /// The lines of a report that an event of a tape is: one or none.
@@ -29,6 +29,7 @@ fn told_by(alloc: Global, event: &TapeEvent) -> Result<Vec<u8>, AllocError>
 
 /// A message that an event of a tape sends joins the wire.
 fn push_sent(wire: &mut Vec<Message>, event: &TapeEvent) -> Result<(), AllocError> {
+    made_of!(Body, Command, Estimate, Message, Op);
     match event {
         TapeEvent::Send { message, .. } => Ok(wire.push(*message)?),
         _ => Ok(()),
@@ -107,12 +108,7 @@ pub fn tape_picture(alloc: Global, tape: &Tape, cut: &Cut) -> Result<Vec<u8>, Re
     ensures err { IfErr result (λ e. e ≡ Refusal.OutOfMemory) }
 {
     let lines = (tape.events().len() as u64).saturating_add(1);
-    let mut drawing = written(Drawing::of_tape(
-        alloc,
-        tape.nodes(),
-        cut,
-        has_many(lines, cut),
-    ))?;
+    let mut drawing = written(Drawing::of_tape(alloc, tape.nodes(), cut, has_many(lines, cut)))?;
     let mut wire = Vec::new(alloc);
     let elements = draw_tape_events(alloc, tape, cut, &mut drawing, &mut wire)?;
     let mut picture = written(drawing.front())?;
