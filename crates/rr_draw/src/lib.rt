@@ -11,9 +11,9 @@ mod lane;
 mod picture;
 mod scene;
 mod style;
-mod tape_picture;
+mod taped;
 
 pub use cut::Cut;
 pub use escape::push_escaped;
 pub use picture::picture_of;
-pub use tape_picture::tape_picture;
+pub use taped::tape_picture;

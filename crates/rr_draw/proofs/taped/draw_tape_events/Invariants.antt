@@ -1,7 +1,7 @@
 use Rattle.std.proofs.Common.{◌≡◌, ◌+◌, take, map}
 use Rattle.rr_draw.specs.Pictures.{AreDrawn}
 use Rattle.rr_draw.specs.TapePictures.{row_of}
-use Rattle.rr_draw.proofs.tape_picture.draw_tape_events.Given as goal
+use Rattle.rr_draw.proofs.taped.draw_tape_events.Given as goal
 
 -- the events so far are drawn
 abbrev pub invariant-loop-event : goal.invariant-loop-event

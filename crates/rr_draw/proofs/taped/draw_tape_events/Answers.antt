@@ -5,7 +5,7 @@ use Rattle.rr_tape.specs.declared.tape_event.TapeEvent.{TapeEvent}
 use Rattle.rr_draw.specs.Pictures.{AreDrawn}
 use Rattle.rr_draw.specs.TapePictures.{row_of}
 use Rattle.rr_draw.proofs.TapeLaws.{drawn_more}
-use Rattle.rr_draw.proofs.tape_picture.draw_tape_events.Goals as goal
+use Rattle.rr_draw.proofs.taped.draw_tape_events.Goals as goal
 
 pub loop-event-preserved : goal.loop-event-preserved
 loop-event-preserved c =
