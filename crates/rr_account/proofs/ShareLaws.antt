@@ -108,7 +108,7 @@ next_left items events index e same within is =
 
 -- so much of a list, and the element behind it
 pub take_next : {X : Type 0} (xs : List X) (index : ℕ) (x : X) → slice_get xs index ≡ Some x → take (index + 1) xs ≡ take index xs ++ x ∷ []
-take_next xs index x is = ap (λ (k : ℕ). take k xs) next ∙ by xs index is
+take_next {X = X} xs index x is = ap (λ (k : ℕ). take k xs) next ∙ by xs index is
   where
     next : index + 1 ≡ suc index
     next = omega arith

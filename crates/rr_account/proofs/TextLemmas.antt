@@ -94,8 +94,8 @@ explained_more at k [] [] e ls words text is none one = (
   ap (λ (t : List ℕ). t ++ (told_lines ls ++ note_line words)) none ∙ ap (λ (t : List ℕ). told_lines ls ++ t) (sym (append-nil (note_line words))),
   refl,
 )
-explained_more at k [] (s ∷ ss) e ls words text is no one = absurd no
-explained_more at k (x ∷ xs) [] e ls words text is no one = absurd no
+explained_more at k [] (s ∷ ss) e ls words text is bad one = absurd bad
+explained_more at k (x ∷ xs) [] e ls words text is bad one = absurd bad
 explained_more at k (x ∷ xs) (s ∷ ss) e ls words text is (own, rest, first, split, others) one =
     let more = told_lines ls ++ note_line words in (
       own,
@@ -145,7 +145,8 @@ explained_end account shares index count text all out s past is =
       explained = text;
       each = subst (λ (es : List Event). AreExplained 2 es shares text) (take_all index account.schedule.events past)
           (subst (λ (ss : List (List ReportLine)). AreExplained 2 (take index account.schedule.events) ss text) whole s.explained);
-      whole = is ∙ ap (λ (ls : List ReportLine). text ++ told_lines ls ++ line (codes "decided" ∷ decimal (length account.report.decided) ∷ []) ++ decided_lines 0 account.report.decided) none;
+      whole = is ∙ ap (λ (ls : List ReportLine). text ++ told_lines ls ++ line (codes "decided" ∷ decimal (length account.report.decided) ∷ []) ++ decided_lines 0 account.report.decided) none
+          ∙ ap (λ (t : List ℕ). t ++ line (codes "decided" ∷ decimal (length account.report.decided) ∷ []) ++ decided_lines 0 account.report.decided) (append-nil text);
     }
 
 -- the events so far have their notes, and so many lines of the report stand in the text
