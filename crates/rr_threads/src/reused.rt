@@ -1,6 +1,6 @@
 //! Request numbers of a script that its nodes have decided as other commands.
 
-ghost use Rattle.std.specs.Prelude.{◌≡◌};
+ghost use Rattle.std.specs.Prelude.{◌≡◌, option_map};
 ghost use Rattle.rr_threads.specs.Reusing.{is_reused_by, is_reused, follow, are_reused};
 
 use rr_core::Core;
@@ -86,7 +86,7 @@ pub(crate) fn reused_at(
 
 // Whether a line submits a command whose request number another command has.
 fn is_reused_by(line: Option<&ScriptLine>, other: &Command) -> bool
-    ensures { result ≡ is_reused_by line.entry other.now }
+    ensures { result ≡ is_reused_by (option_map (λ l. l.now) line.entry) other.now }
 {
     match line {
         Some(ScriptLine::Submit { command, .. }) => {
