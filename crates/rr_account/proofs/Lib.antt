@@ -1,6 +1,4 @@
 pub mod ExplanationLemmas
-pub mod ShareLaws
-pub mod StepLaws
 pub mod TextLemmas
 mod WatchLaws
 pub mod TapeLaws
