@@ -2,7 +2,7 @@
 use Rattle.std.proofs.Common.{◌≡◌, ℕ, ◌+◌, ◌≤◌, List, [], ◌∷◌, ◌++◌, length, drop, refl, ap, sym, ◌∙◌, subst, arith}
 use Rattle.std.specs.Prelude.{codes, decimal}
 use Rattle.std.specs.List.{AllByRecursion, flat_map}
-use Rattle.std.proofs.lemmas.List.{append_assoc, append-nil}
+use Rattle.std.proofs.lemmas.List.{append_assoc, append-nil, length-append}
 use Rattle.rr_types.specs.declared.command.Command.{Command}
 use Rattle.rr_model.specs.Sound.{IsDecidedList}
 use Rattle.rr_text.specs.declared.event.Event.{Event}
@@ -40,6 +40,9 @@ adds_both n xs ys zs first second = record {
       ∙ ap (λ (t : List ℕ). xs ++ t) (sym (lines_both first.more second.more));
 }
 
+pub adds_more : (n : ℕ) (xs ys : List ℕ) → Adds n xs ys → length xs ≤ length ys
+adds_more n xs ys adds = (let l = length-append xs (flat_map event_line adds.more) in omega (arith, ap length adds.grown, l))
+
 -- ---- a schedule that was read whole
 
 pub read_whole : (n at : ℕ) (lines rest : List ℕ) (kept : Cluster) (text : List ℕ) → ToldSoFar n lines (new_cluster n) [] at rest kept text → rest ≡ []
@@ -54,6 +57,19 @@ read_whole n at lines rest kept text h none = record {
   printed = ap (λ (t : List ℕ). nodes_line n ++ t) (h.so_far.split ∙ ap (λ (t : List ℕ). flat_map event_line h.events ++ t) none ∙ append-nil (flat_map event_line h.events));
   is_told = h.is_told;
 }
+
+pub read_as : (n at : ℕ) (bytes lines rest schedule : List ℕ) (kept : Cluster) (text : List ℕ) → ToldSoFar n lines (new_cluster n) [] at rest kept text → rest ≡ []
+    → bytes ≡ nodes_line n ++ lines → schedule ≡ bytes → IsSoFar n at kept schedule text
+read_as n at bytes lines rest schedule kept text h none split same =
+    subst (λ (t : List ℕ). IsSoFar n at kept t text) (sym (same ∙ split)) (read_whole n at lines rest kept text h none)
+
+pub read_below : (n at : ℕ) (lines rest : List ℕ) (kept : Cluster) (text : List ℕ) → ToldSoFar n lines (new_cluster n) [] at rest kept text → at ≤ 1000002
+read_below n at lines rest kept text h = (let c = h.counted in let s = h.so_far.short in omega (arith, c, s))
+
+pub read_to : (n at : ℕ) (bytes lines rest : List ℕ) (kept : Cluster) (text : List ℕ) → 1 ≤ n → n ≤ 7 → ToldSoFar n lines (new_cluster n) [] at rest kept text → rest ≡ []
+    → bytes ≡ nodes_line n ++ lines → IsScheduleTo n at bytes
+read_to n at bytes lines rest kept text some few h none split =
+    is_schedule_to n at kept bytes text some few (read_below n at lines rest kept text h) (read_as n at bytes lines rest bytes kept text h none split refl)
 
 -- ---- the end
 

@@ -48,6 +48,7 @@ pub struct Finish {
 
 /// The run of a schedule on `nodes` nodes, whose text `bytes` is and whose lines after the first are `lines`. Those who watch
 /// `out` are told how far it is.
+#[tactic(auto, using(rr_sim::proofs::ToldLaws::told_stop, crate::proofs::FinishLaws::read_below))]
 fn read_run<O: Sink>(
     alloc: Global,
     nodes: Nodes,
@@ -64,6 +65,7 @@ fn read_run<O: Sink>(
     ensures err { IfErr result (λ e. IsStop (IsEvent nodes) event_line lines.now e) }
     ensures unprinted { O.printing out.new ≡ O.printing out.old }
 {
+    let _count = nodes.count();
     let mut cluster = Cluster::new(alloc, nodes)?;
     let mut report = Vec::new(alloc);
     let mut line = 2u64;
@@ -115,7 +117,8 @@ fn go_on<O: Sink>(
     Ok(Ending::Stuck)
 }
 
-/// What a run has come to, whose schedule has this many given bytes.
+/// What a run has come to, of whose schedule these bytes were given.
+#[tactic(auto, using(crate::proofs::FinishLaws::adds_more))]
 fn finish_of(
     alloc: Global,
     nodes: Nodes,
@@ -134,15 +137,12 @@ fn finish_of(
     let Going {
         cluster,
         line: _,
-        schedule,
+        mut schedule,
         mut report,
     } = going;
     let decided = decided_list(alloc, nodes, cluster.wire())?;
     push_decided_list(&mut report, decided.as_slice())?;
-    let added = match schedule.as_slice().get(given.len()..) {
-        Some(added) => Vec::from_slice(alloc, added)?,
-        None => Vec::new(alloc),
-    };
+    let added = schedule.split_off(given.len())?;
     Ok(Finish {
         added,
         report,

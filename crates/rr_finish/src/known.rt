@@ -204,9 +204,12 @@ impl Known {
 
     /// The number of the next message that it hears, if there is one.
     fn next_heard(&mut self, wire: &[Message]) -> Result<Option<u32>, AllocError> {
-        while self.opened < self.mail.len() {
-            let number = self.mail[self.opened];
-            self.opened += 1;
+        for at in self.opened..self.mail.len() {
+            let Some(number) = self.mail.get(at) else {
+                return Ok(None);
+            };
+            let number = *number;
+            self.opened = at + 1;
             if let Some(message) = wire.get(number as usize) {
                 if self.may_do(&message.body) {
                     if let Body::Decision(instance, _) = &message.body {
