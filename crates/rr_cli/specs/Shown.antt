@@ -1,12 +1,11 @@
 -- What texts show of a run or of a tape.
 use Rattle.std.specs.Prelude.{◌≡◌, ℕ, Bool, true, false, List}
-use Rattle.rr_text.specs.ReportTexts.{report_text}
 use Rattle.rr_json.specs.Objects.{report_objects}
 use Rattle.rr_tape.specs.Taped.{Taped}
 use Rattle.rr_account.specs.Accounts.{Accounted}
 use Rattle.rr_account.specs.Objects.{IsExplanation, IsStatistics}
 use Rattle.rr_account.specs.TapeAccounts.{IsTapeAccount}
-use Rattle.rr_account.specs.Texts.{IsNoted}
+use Rattle.rr_account.specs.Texts.{IsExplained}
 use Rattle.rr_draw.specs.declared.cut.Cut.{Cut}
 use Rattle.rr_draw.specs.Pictures.{IsPictureOf}
 use Rattle.rr_draw.specs.TapePictures.{IsTapePicture}
@@ -21,7 +20,7 @@ use Rattle.rr_cli.specs.declared.taped.TapeView.TheVariants.{Account, Picture, P
 -- events and its decided list; or as statistics, which as JSON are one object
 abbrev pub Shows : Shown → Accounted → List ℕ → Type 0
 Shows shown.Report account text = text ≡ report_objects account.report
-Shows (shown.Explanation Plain) account text = IsNoted account.schedule.events (report_text account.report) text
+Shows (shown.Explanation Plain) account text = IsExplained account text
 Shows (shown.Explanation Json) account text = IsExplanation account text
 Shows (shown.Statistics Plain) account text = Unit {0}
 Shows (shown.Statistics Json) account text = IsStatistics text
