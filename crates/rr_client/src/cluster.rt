@@ -3,7 +3,7 @@
 ghost use Rattle.std.specs.Prelude.{◌≡◌, length, IfOk};
 
 use crate::collecting::{collect_all, open_slots, seat_all};
-use crate::error::ClusterError;
+use crate::error::{ClusterError, error_of};
 use crate::guest::{Guest, Place};
 use crate::numbers::NumberFile;
 use crate::options::Options;
@@ -28,13 +28,14 @@ const MOST_TICK: u64 = 10_000;
 
 // The guests at their nodes, over disks that are open, until all are done. The folders are locked meanwhile.
 fn run_over<
+    'x,
     F: Read + Write + Seek + FileExt + OpenFile + Drop + Send,
     R: Files + AllocGlobal + Threads + Wait + Clock + Sync,
     G: Guest + Drop + Send,
 >(
-    rt: &R,
+    rt: &'x R,
     nodes: Nodes,
-    locks: &Locks<F>,
+    locks: &'x Locks<F>,
     options: &Options,
     disks: Vec<FileDisk<OpenedFile<F>>>,
     places: Vec<Place<G>>,
@@ -57,10 +58,13 @@ fn run_over<
     let tick = Duration::from_millis(options.tick);
     let switches = Switches::new(alloc, nodes)?.with_tick(tick);
     let ran = run_switched(rt, alloc, nodes, disks, rows, &Open, &switches);
-    match (collect_all(alloc, slots)?, ran) {
-        (Some(guests), Ok(())) => Ok(guests),
-        (_, Err(refusal)) => Err(ClusterError::Run { refusal }),
-        (None, Ok(())) => Err(ClusterError::Over),
+    let guests = collect_all(alloc, slots)?;
+    match ran {
+        Err(refusal) => Err(ClusterError::Run { refusal }),
+        Ok(()) => match guests {
+            Some(guests) => Ok(guests),
+            None => Err(ClusterError::Over),
+        },
     }
 }
 
@@ -74,13 +78,14 @@ fn run_over<
 /// The first error that a guest has given. `BadTick`; `NoNode`; `InUse`, `Failed`, `Refused`, `Unopened`, of the folder; `Numbers`;
 /// `OutOfMemory`; `Run`, where the nodes' run has failed.
 pub fn run_cluster<
+    'x,
     F: Read + Write + Seek + FileExt + OpenFile + Drop + Send + Lockable,
     R: Files<File = F> + AllocGlobal + Threads + Wait + Clock + Sync,
     G: Guest + Drop + Send,
 >(
-    rt: &R,
+    rt: &'x R,
     nodes: Nodes,
-    dir: &str,
+    dir: &'x str,
     options: &Options,
     places: Vec<Place<G>>,
 ) -> Result<Vec<G>, ClusterError>
@@ -90,7 +95,10 @@ pub fn run_cluster<
     if tick < LEAST_TICK || tick > MOST_TICK {
         return Err(ClusterError::BadTick { tick });
     }
-    let Folders { locks, disks } = open_folders(rt, nodes, dir)?;
+    let Folders { locks, disks } = match open_folders(rt, nodes, dir) {
+        Ok(folders) => folders,
+        Err(closed) => return Err(error_of(rt.alloc(), closed)),
+    };
     let ran = run_over(rt, nodes, &locks, options, disks, places);
     drop(locks);
     ran

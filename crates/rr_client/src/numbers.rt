@@ -40,10 +40,7 @@ impl<'x, R: Files + AllocGlobal + Wait> NumberFile<'x, R> {
     }
 
     /// Numbers from this one on, none of which has been given before.
-    pub(crate) fn numbers_from<'n>(
-        &'n self,
-        least: u64,
-    ) -> Result<NumbersOf<'n, 'x, R>, ClusterError>
+    pub(crate) fn numbers_from(&'x self, least: u64) -> Result<NumbersOf<'x, R>, ClusterError>
         ensures { IfOk result (λ n. n ≡ least) }
     {
         let block = self.reserve(least)?;
@@ -55,15 +52,28 @@ impl<'x, R: Files + AllocGlobal + Wait> NumberFile<'x, R> {
     }
 }
 
+// The number behind this one. That there is none can't be: a number is below the end of its block.
+fn number_behind(number: u64) -> Result<u64, ClusterError>
+    ensures some { IfOk result (λ n. n ≡ number + 1) }
+    ensures err { IfErr result IsNumberless }
+{
+    match number.checked_add(1) {
+        Some(next) => Ok(next),
+        None => Err(ClusterError::Numbers {
+            refusal: Refusal::TooLarge,
+        }),
+    }
+}
+
 /// The request numbers of a guest. Contracts see the least that may still be given.
 #[derive(Drop)]
-pub(crate) struct NumbersOf<'n, 'x, R> {
-    file: &'n NumberFile<'x, R>,
+pub(crate) struct NumbersOf<'x, R> {
+    file: &'x NumberFile<'x, R>,
     next: u64,
     block: Block,
 }
 
-impl<'n, 'x, R> Model for NumbersOf<'n, 'x, R> {
+impl<'x, R> Model for NumbersOf<'x, R> {
     ghost use Rattle.std.specs.Prelude.{ℕ, ◌≤◌};
 
     ghost Value = { ℕ };
@@ -73,7 +83,7 @@ impl<'n, 'x, R> Model for NumbersOf<'n, 'x, R> {
     ghost invariant = { λ n. n.next ≤ n.block.next };
 }
 
-impl<'n, 'x, R: Files + AllocGlobal + Wait> NumbersOf<'n, 'x, R> {
+impl<'x, R: Files + AllocGlobal + Wait> NumbersOf<'x, R> {
     /// A new number. At the end of a block the next one is reserved.
     ///
     /// # Errors
@@ -84,7 +94,7 @@ impl<'n, 'x, R: Files + AllocGlobal + Wait> NumbersOf<'n, 'x, R> {
         ensures err { IfErr result IsNumberless }
     {
         if let Some(number) = self.block.take() {
-            self.next = number + 1;
+            self.next = number_behind(number)?;
             return Ok(number);
         }
         let mut block = self.file.reserve(self.next)?;
@@ -93,8 +103,8 @@ impl<'n, 'x, R: Files + AllocGlobal + Wait> NumbersOf<'n, 'x, R> {
                 refusal: Refusal::TooLarge,
             });
         };
+        self.next = number_behind(number)?;
         self.block = block;
-        self.next = number + 1;
         Ok(number)
     }
 }

@@ -48,6 +48,7 @@ fn time_behind<Q: Clock>(rt: &Q, millis: u64) -> Duration {
 
 /// Submits a command, and waits for its reply for so many milliseconds. It is woken by other replies too, so it submits again until
 /// the time is over or the node goes down.
+#[tactic(auto, using(crate::proofs::Lists::further, crate::proofs::Lists::itself))]
 pub(crate) fn submit_for<W: WindowName, T: Turnstile, R: Wait, Q: Clock>(
     rt: &Q,
     handle: &mut Handle<'_, '_, W, T, R>,
@@ -60,16 +61,20 @@ pub(crate) fn submit_for<W: WindowName, T: Turnstile, R: Wait, Q: Clock>(
 {
     made_of!(Answer, Op, Name, Reply, Value);
     let end = time_behind(rt, millis);
-    let mut answer = handle.submit_within(looks_in(millis), command);
-    for _ in 0..u64::MAX {
+    let mut left = millis;
+    let mut answer = Answer::Unacknowledged {
+        node: handle.node(),
+        request: command.request,
+    };
+    'turns: for _ in 0..u64::MAX {
+        answer = handle.submit_within(looks_in(left), command);
         if !matches!(answer, Answer::Unacknowledged { .. }) || handle.is_over() {
             break;
         }
-        let left = millis_until(rt, end);
+        left = millis_until(rt, end);
         if left == 0 {
             break;
         }
-        answer = handle.submit_again(looks_in(left), command);
     }
     answer
 }

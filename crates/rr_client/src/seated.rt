@@ -2,7 +2,7 @@
 
 ghost use Rattle.std.specs.Prelude.{◌≡◌, ◌<◌, Some, IfOk, IfErr, OnErr};
 ghost use Rattle.rr_types.specs.Registry.{reply_of};
-ghost use Rattle.rr_client.specs.Asking.{GoesOn, IsNumberless, IsUnanswered, ComesTo, IsSubmitted, last_request};
+ghost use Rattle.rr_client.specs.Asking.{GoesOn, IsUnanswered, kept_behind, ComesTo, IsSubmitted};
 
 use crate::error::ClusterError;
 use crate::guest::Guest;
@@ -24,38 +24,49 @@ pub(crate) type Slot<G> = Mutex<Option<(G, Result<(), ClusterError>)>>;
 
 /// A guest that hasn't asked yet.
 #[derive(Drop)]
-pub(crate) struct Coming<'x, 'd, G, Q> {
+pub(crate) struct Coming<'x, G, Q> {
     pub(crate) guest: G,
     pub(crate) client: u32,
-    pub(crate) numbers: NumbersOf<'x, 'd, Q>,
+    pub(crate) numbers: NumbersOf<'x, Q>,
 }
 
 /// A guest at its node.
 #[derive(Drop)]
-pub(crate) struct Seated<'x, 'd, G, Q> {
-    pub(crate) rt: &'d Q,
+pub(crate) struct Seated<'x, G, Q> {
+    pub(crate) rt: &'x Q,
     pub(crate) patience: u64,
     pub(crate) slot: &'x Slot<G>,
-    pub(crate) coming: Option<Coming<'x, 'd, G, Q>>,
+    pub(crate) coming: Option<Coming<'x, G, Q>>,
 }
 
 /// The names that a guest asks for, by its handle at a node.
 #[derive(Drop)]
-struct Caller<'h, 'd, 'y, 'x, 'r, W: WindowName, T, R, Q> {
+struct Caller<'h, 'd, 'y, 'x, W: WindowName, T, R, Q> {
     handle: &'h mut Handle<'d, 'y, W, T, R>,
-    rt: &'r Q,
+    rt: &'x Q,
     patience: u64,
     client: u32,
-    numbers: NumbersOf<'x, 'r, Q>,
+    numbers: NumbersOf<'x, Q>,
     unanswered: Option<Command>,
 }
 
-impl<'h, 'd, 'y, 'x, 'r, W: WindowName, T, R, Q> Model for Caller<'h, 'd, 'y, 'x, 'r, W, T, R, Q> {
+impl<'h, 'd, 'y, 'x, W: WindowName, T, R, Q> Model for Caller<'h, 'd, 'y, 'x, W, T, R, Q> {
     ghost use Rattle.rr_client.specs.Asking.{Asker};
 
     ghost Value = { Asker };
 
     ghost view = { λ c. record { node = c.handle.now.node; client = c.client; known = c.handle.now.known; next = c.numbers; unanswered = c.unanswered } };
+}
+
+// The command that is kept to be asked again behind what a submit of it has come to.
+fn kept_behind(command: &Command, told: &Result<Reply, ClusterError>) -> Option<Command>
+    ensures { result ≡ kept_behind command.now told.now }
+{
+    made_of!(Op, Name, Value);
+    match told {
+        Err(ClusterError::Unacknowledged { .. }) | Err(ClusterError::Over) => Some(*command),
+        _ => None,
+    }
 }
 
 /// The name of the command by which a client learns what was acknowledged. It stays as it is.
@@ -66,12 +77,11 @@ impl<
     'd,
     'y,
     'x,
-    'r,
     W: WindowName,
     T: Turnstile,
     R: Wait,
     Q: Files + AllocGlobal + Wait + Clock,
-> Caller<'h, 'd, 'y, 'x, 'r, W, T, R, Q> {
+> Caller<'h, 'd, 'y, 'x, W, T, R, Q> {
     // Why a command isn't acknowledged.
     fn error_behind(&self, command: &Command) -> ClusterError
         ensures { IsUnanswered command.now result }
@@ -111,35 +121,21 @@ impl<
         ensures later { GoesOn self.old self.new }
         ensures kept { self.new.next ≡ self.old.next }
     {
-        made_of!(Op, Name, Value);
         let told = self.ask(command);
-        self.unanswered = match &told {
-            Err(ClusterError::Unacknowledged { .. } | ClusterError::Over) => Some(*command),
-            _ => None,
-        };
+        self.unanswered = kept_behind(command, &told);
         told
     }
 
-    // A request number that was never given.
-    fn next_request(&mut self) -> Result<RequestNo, ClusterError>
-        ensures request { IfOk result (λ request. (request ≡ last_request self.new) × (self.old.next < self.new.next)) }
-        ensures later { GoesOn self.old self.new }
-        ensures same { (self.new.unanswered ≡ self.old.unanswered) × (self.new.known ≡ self.old.known) }
-        ensures kept { OnErr result (self.new ≡ self.old) }
-        ensures err { IfErr result IsNumberless }
-    {
-        Ok(RequestNo {
-            client: self.client,
-            seq: self.numbers.take()?,
-        })
-    }
-
     // Submits an operation under a new number.
+    #[tactic(auto, using(crate::proofs::Submits::submitted))]
     fn submit(&mut self, op: Op) -> Result<Reply, ClusterError>
         ensures reply { IsSubmitted op self.old self.new result }
         ensures later { GoesOn self.old self.new }
     {
-        let request = self.next_request()?;
+        let request = RequestNo {
+            client: self.client,
+            seq: self.numbers.take()?,
+        };
         self.put(&Command { request, op })
     }
 }
@@ -149,12 +145,11 @@ impl<
     'd,
     'y,
     'x,
-    'r,
     W: WindowName,
     T: Turnstile,
     R: Wait,
     Q: Files + AllocGlobal + Wait + Clock,
-> Names for Caller<'h, 'd, 'y, 'x, 'r, W, T, R, Q> {
+> Names for Caller<'h, 'd, 'y, 'x, W, T, R, Q> {
     ghost asker = { λ c. c };
 
     fn node(&self) -> NodeId {
@@ -193,9 +188,13 @@ impl<
         }
     }
 
+    #[tactic(auto, using(crate::proofs::Submits::synced))]
     fn sync(&mut self) -> Result<(), ClusterError> {
         let name = Name::new(SYNC)?;
-        let request = self.next_request()?;
+        let request = RequestNo {
+            client: self.client,
+            seq: self.numbers.take()?,
+        };
         let op = Op::Transfer(name, self.client);
         let _ = self.ask(&Command { request, op })?;
         Ok(())
@@ -228,31 +227,51 @@ fn refusal_behind(told: &Result<(), ClusterError>) -> Result<(), Refusal> {
     }
 }
 
-impl<'x, 'd, G: Guest + Drop, Q: Files + AllocGlobal + Wait + Clock> Client
-    for Seated<'x, 'd, G, Q> {
+// Has a guest ask for names by a handle, and puts it into its slot.
+fn serve<
+    'h,
+    'd,
+    'y,
+    'x,
+    W: WindowName,
+    T: Turnstile,
+    R: Wait,
+    G: Guest + Drop,
+    Q: Files + AllocGlobal + Wait + Clock,
+>(
+    handle: &'h mut Handle<'d, 'y, W, T, R>,
+    rt: &'x Q,
+    patience: u64,
+    slot: &'x Slot<G>,
+    coming: Coming<'x, G, Q>,
+) -> Result<(), Refusal> {
+    let Coming {
+        mut guest,
+        client,
+        numbers,
+    } = coming;
+    let mut caller = Caller {
+        handle,
+        rt,
+        patience,
+        client,
+        numbers,
+        unanswered: None,
+    };
+    let told = guest.run(&mut caller);
+    let ends = refusal_behind(&told);
+    *slot.lock(rt) = Some((guest, told));
+    ends
+}
+
+impl<'x, G: Guest + Drop, Q: Files + AllocGlobal + Wait + Clock> Client for Seated<'x, G, Q> {
     fn run<W: WindowName, T: Turnstile, R: Wait>(
         &mut self,
         handle: &mut Handle<'_, '_, W, T, R>,
     ) -> Result<(), Refusal> {
-        let Some(coming) = self.coming.take() else {
-            return Err(Refusal::Down);
-        };
-        let Coming {
-            mut guest,
-            client,
-            numbers,
-        } = coming;
-        let mut caller = Caller {
-            handle,
-            rt: self.rt,
-            patience: self.patience,
-            client,
-            numbers,
-            unanswered: None,
-        };
-        let told = guest.run(&mut caller);
-        let ends = refusal_behind(&told);
-        *self.slot.lock(self.rt) = Some((guest, told));
-        ends
+        match self.coming.take() {
+            Some(coming) => serve(handle, self.rt, self.patience, self.slot, coming),
+            None => Err(Refusal::Down),
+        }
     }
 }
