@@ -1,2 +1,1 @@
-mod Lists
 mod Submits

@@ -1,5 +1,5 @@
 -- A guest as a client, and what its calls give.
-use Rattle.std.specs.Prelude.{◌≡◌, ◌⊎◌, ◌+◌, ◌-◌, ◌<◌, ◌≤◌, ℕ, List, Option, None, Some, Result, Ok, Err, IfOk, IfErr, IsErrAnd, Vec}
+use Rattle.std.specs.Prelude.{◌≡◌, ◌⊎◌, ◌-◌, ◌<◌, ◌≤◌, ℕ, List, Option, None, Some, Result, Ok, Err, IfOk, IfErr, IsErrAnd, Vec}
 use Rattle.std.specs.declared.alloc.Global.{Global}
 use mathlib.Core.List.{IsPrefix}
 use Rattle.rr_types.specs.declared.binding.Binding.{Binding}

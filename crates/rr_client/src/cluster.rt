@@ -5,8 +5,8 @@ ghost use Rattle.std.specs.Prelude.{◌≡◌, length, IfOk};
 use crate::collecting::{collect_all, open_slots, seat_all};
 use crate::error::{ClusterError, error_of};
 use crate::guest::{Guest, Place};
-use crate::numbers::NumberFile;
 use crate::options::Options;
+use crate::patience::looks_in;
 use crate::promises::promises_of;
 use rr_disk::{FileDisk, OpenedFile};
 use rr_folders::{Folders, Lockable, Locks, open_folders};
@@ -28,14 +28,13 @@ const MOST_TICK: u64 = 10_000;
 
 // The guests at their nodes, over disks that are open, until all are done. The folders are locked meanwhile.
 fn run_over<
-    'x,
     F: Read + Write + Seek + FileExt + OpenFile + Drop + Send,
     R: Files + AllocGlobal + Threads + Wait + Clock + Sync,
     G: Guest + Drop + Send,
 >(
-    rt: &'x R,
+    rt: &R,
     nodes: Nodes,
-    locks: &'x Locks<F>,
+    locks: &Locks<F>,
     options: &Options,
     disks: Vec<FileDisk<OpenedFile<F>>>,
     places: Vec<Place<G>>,
@@ -44,14 +43,13 @@ fn run_over<
 {
     let alloc = rt.alloc();
     let (promises, disks) = promises_of(alloc, nodes, disks)?;
-    let file = NumberFile::new(rt, locks.dir());
     let slots = open_slots(alloc, places.len())?;
     let rows = seat_all(
         rt,
         nodes,
-        options.patience,
+        locks.dir(),
+        looks_in(options.patience),
         &promises,
-        &file,
         &slots,
         places,
     )?;
@@ -78,14 +76,13 @@ fn run_over<
 /// The first error that a guest has given. `BadTick`; `NoNode`; `InUse`, `Failed`, `Refused`, `Unopened`, of the folder; `Numbers`;
 /// `OutOfMemory`; `Run`, where the nodes' run has failed.
 pub fn run_cluster<
-    'x,
     F: Read + Write + Seek + FileExt + OpenFile + Drop + Send + Lockable,
     R: Files<File = F> + AllocGlobal + Threads + Wait + Clock + Sync,
     G: Guest + Drop + Send,
 >(
-    rt: &'x R,
+    rt: &R,
     nodes: Nodes,
-    dir: &'x str,
+    dir: &str,
     options: &Options,
     places: Vec<Place<G>>,
 ) -> Result<Vec<G>, ClusterError>

@@ -4,13 +4,13 @@ ghost use Rattle.std.specs.Prelude.{◌≡◌, length, IfOk, IfSome};
 
 use crate::error::ClusterError;
 use crate::guest::Place;
-use crate::numbers::NumberFile;
+use crate::numbers::block_from;
 use crate::promises::least_free;
 use crate::seated::{Coming, Seated, Slot};
 use rr_types::{Nodes, Promise, Refusal};
 use std::alloc::Global;
 use std::rt::Files;
-use std::sync::{Mutex, Wait};
+use std::sync::Mutex;
 
 /// A slot for each of so many guests.
 pub(crate) fn open_slots<G: Drop>(alloc: Global, count: usize) -> Result<Vec<Slot<G>>, ClusterError>
@@ -38,15 +38,15 @@ fn open_rows<C: Drop>(alloc: Global, nodes: Nodes) -> Result<Vec<Vec<C>>, Cluste
 ///
 /// # Errors
 /// `NoNode`, `Numbers`, `OutOfMemory`.
-pub(crate) fn seat_all<'x, G: Drop, Q: Files + AllocGlobal + Wait>(
-    rt: &'x Q,
+pub(crate) fn seat_all<'x, G: Drop, R: Files + AllocGlobal>(
+    rt: &R,
     nodes: Nodes,
-    patience: u64,
+    dir: &str,
+    looks: u32,
     promises: &[Promise],
-    file: &'x NumberFile<'x, Q>,
     slots: &'x [Slot<G>],
     places: Vec<Place<G>>,
-) -> Result<Vec<Vec<Seated<'x, G, Q>>>, ClusterError>
+) -> Result<Vec<Vec<Seated<'x, G>>>, ClusterError>
     ensures { IfOk result (λ rows. length rows.items ≡ nodes) }
 {
     let mut rows = open_rows(rt.alloc(), nodes)?;
@@ -60,14 +60,14 @@ pub(crate) fn seat_all<'x, G: Drop, Q: Files + AllocGlobal + Wait>(
             let refusal = Refusal::TooLarge;
             return Err(ClusterError::Numbers { refusal });
         };
-        let numbers = file.numbers_from(least)?;
+        let numbers = block_from(rt, dir, least)?;
         let Some(row) = rows.get_mut(usize::from(node)) else {
             let last = nodes.count() - 1;
             return Err(ClusterError::NoNode { node, last });
         };
         row.push(Seated {
-            rt,
-            patience,
+            alloc: rt.alloc(),
+            looks,
             slot,
             coming: Some(Coming {
                 guest,

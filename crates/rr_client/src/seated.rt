@@ -7,55 +7,54 @@ ghost use Rattle.rr_client.specs.Asking.{GoesOn, IsUnanswered, kept_behind, Come
 use crate::error::ClusterError;
 use crate::guest::Guest;
 use crate::names::Names;
-use crate::numbers::NumbersOf;
-use crate::patience::submit_for;
+use crate::numbers::take_number;
+use rr_folders::Block;
 use rr_locked::Turnstile;
 use rr_script::Answer;
 use rr_threads::{Client, Fate, Handle};
 use rr_types::{Binding, Command, Name, NodeId, Op, Refusal, Reply, RequestNo, Value, made_of};
 use rr_window::{Sight, WindowName};
+use std::alloc::Global;
 use std::marker::Model;
-use std::rt::Files;
 use std::sync::{Mutex, Wait};
-use std::time::Clock;
 
 /// Where a guest lies that is done, with what it gave.
 pub(crate) type Slot<G> = Mutex<Option<(G, Result<(), ClusterError>)>>;
 
 /// A guest that hasn't asked yet.
 #[derive(Drop)]
-pub(crate) struct Coming<'x, G, Q> {
+pub(crate) struct Coming<G> {
     pub(crate) guest: G,
     pub(crate) client: u32,
-    pub(crate) numbers: NumbersOf<'x, Q>,
+    pub(crate) numbers: Block,
 }
 
 /// A guest at its node.
 #[derive(Drop)]
-pub(crate) struct Seated<'x, G, Q> {
-    pub(crate) rt: &'x Q,
-    pub(crate) patience: u64,
+pub(crate) struct Seated<'x, G> {
+    pub(crate) alloc: Global,
+    pub(crate) looks: u32,
     pub(crate) slot: &'x Slot<G>,
-    pub(crate) coming: Option<Coming<'x, G, Q>>,
+    pub(crate) coming: Option<Coming<G>>,
 }
 
-/// The names that a guest asks for, by its handle at a node.
+/// What a guest asks its node with: it has the calls of `Names`.
 #[derive(Drop)]
-struct Caller<'h, 'd, 'y, 'x, W: WindowName, T, R, Q> {
+pub struct Caller<'h, 'd, 'y, W: WindowName, T, R> {
     handle: &'h mut Handle<'d, 'y, W, T, R>,
-    rt: &'x Q,
-    patience: u64,
+    alloc: Global,
+    looks: u32,
     client: u32,
-    numbers: NumbersOf<'x, Q>,
+    numbers: Block,
     unanswered: Option<Command>,
 }
 
-impl<'h, 'd, 'y, 'x, W: WindowName, T, R, Q> Model for Caller<'h, 'd, 'y, 'x, W, T, R, Q> {
+impl<'h, 'd, 'y, W: WindowName, T, R> Model for Caller<'h, 'd, 'y, W, T, R> {
     ghost use Rattle.rr_client.specs.Asking.{Asker};
 
     ghost Value = { Asker };
 
-    ghost view = { λ c. record { node = c.handle.now.node; client = c.client; known = c.handle.now.known; next = c.numbers; unanswered = c.unanswered } };
+    ghost view = { λ c. record { node = c.handle.now.node; client = c.client; known = c.handle.now.known; next = c.numbers.next; unanswered = c.unanswered } };
 }
 
 // The command that is kept to be asked again behind what a submit of it has come to.
@@ -72,16 +71,7 @@ fn kept_behind(command: &Command, told: &Result<Reply, ClusterError>) -> Option<
 /// The name of the command by which a client learns what was acknowledged. It stays as it is.
 const SYNC: &[u8] = b"sync";
 
-impl<
-    'h,
-    'd,
-    'y,
-    'x,
-    W: WindowName,
-    T: Turnstile,
-    R: Wait,
-    Q: Files + AllocGlobal + Wait + Clock,
-> Caller<'h, 'd, 'y, 'x, W, T, R, Q> {
+impl<'h, 'd, 'y, W: WindowName, T: Turnstile, R: Wait> Caller<'h, 'd, 'y, W, T, R> {
     // Why a command isn't acknowledged.
     fn error_behind(&self, command: &Command) -> ClusterError
         ensures { IsUnanswered command.now result }
@@ -108,7 +98,7 @@ impl<
         if let Fate::Used(_) = self.handle.fate(command) {
             return Err(ClusterError::NumberUsed { command: *command });
         }
-        let answer = submit_for(self.rt, self.handle, self.patience, command);
+        let answer = self.handle.submit_within(self.looks, command);
         match answer {
             Answer::Acknowledged { reply, .. } => Ok(reply),
             _ => Err(self.error_behind(command)),
@@ -134,22 +124,13 @@ impl<
     {
         let request = RequestNo {
             client: self.client,
-            seq: self.numbers.take()?,
+            seq: take_number(&mut self.numbers)?,
         };
         self.put(&Command { request, op })
     }
 }
 
-impl<
-    'h,
-    'd,
-    'y,
-    'x,
-    W: WindowName,
-    T: Turnstile,
-    R: Wait,
-    Q: Files + AllocGlobal + Wait + Clock,
-> Names for Caller<'h, 'd, 'y, 'x, W, T, R, Q> {
+impl<'h, 'd, 'y, W: WindowName, T: Turnstile, R: Wait> Names for Caller<'h, 'd, 'y, W, T, R> {
     ghost asker = { λ c. c };
 
     fn node(&self) -> NodeId {
@@ -193,7 +174,7 @@ impl<
         let name = Name::new(SYNC)?;
         let request = RequestNo {
             client: self.client,
-            seq: self.numbers.take()?,
+            seq: take_number(&mut self.numbers)?,
         };
         let op = Op::Transfer(name, self.client);
         let _ = self.ask(&Command { request, op })?;
@@ -210,7 +191,7 @@ impl<
     }
 
     fn list(&mut self, prefix: &[u8]) -> Result<Vec<Binding>, ClusterError> {
-        match self.handle.list(self.rt.alloc(), prefix) {
+        match self.handle.list(self.alloc, prefix) {
             Ok(bindings) => Ok(bindings),
             Err(Refusal::OutOfMemory) => Err(ClusterError::OutOfMemory),
             Err(_) => Err(ClusterError::Unseen),
@@ -228,22 +209,12 @@ fn refusal_behind(told: &Result<(), ClusterError>) -> Result<(), Refusal> {
 }
 
 // Has a guest ask for names by a handle, and puts it into its slot.
-fn serve<
-    'h,
-    'd,
-    'y,
-    'x,
-    W: WindowName,
-    T: Turnstile,
-    R: Wait,
-    G: Guest + Drop,
-    Q: Files + AllocGlobal + Wait + Clock,
->(
+fn serve<'h, 'd, 'y, 'x, W: WindowName, T: Turnstile, R: Wait, G: Guest + Drop>(
     handle: &'h mut Handle<'d, 'y, W, T, R>,
-    rt: &'x Q,
-    patience: u64,
+    alloc: Global,
+    looks: u32,
     slot: &'x Slot<G>,
-    coming: Coming<'x, G, Q>,
+    coming: Coming<G>,
 ) -> Result<(), Refusal> {
     let Coming {
         mut guest,
@@ -252,25 +223,25 @@ fn serve<
     } = coming;
     let mut caller = Caller {
         handle,
-        rt,
-        patience,
+        alloc,
+        looks,
         client,
         numbers,
         unanswered: None,
     };
     let told = guest.run(&mut caller);
     let ends = refusal_behind(&told);
-    *slot.lock(rt) = Some((guest, told));
+    *slot.lock(caller.handle.rt()) = Some((guest, told));
     ends
 }
 
-impl<'x, G: Guest + Drop, Q: Files + AllocGlobal + Wait + Clock> Client for Seated<'x, G, Q> {
+impl<'x, G: Guest + Drop> Client for Seated<'x, G> {
     fn run<W: WindowName, T: Turnstile, R: Wait>(
         &mut self,
         handle: &mut Handle<'_, '_, W, T, R>,
     ) -> Result<(), Refusal> {
         match self.coming.take() {
-            Some(coming) => serve(handle, self.rt, self.patience, self.slot, coming),
+            Some(coming) => serve(handle, self.alloc, self.looks, self.slot, coming),
             None => Err(Refusal::Down),
         }
     }
