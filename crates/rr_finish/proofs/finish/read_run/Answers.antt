@@ -40,7 +40,7 @@ loop-report-preserved g c =
 
 pub returns-clause-so_far : goal.returns-clause-so_far
 returns-clause-so_far g c =
-    read_as c.args.nodes c.loop-report.line c.args.bytes.now c.args.lines.now c.loop-report.rest.now _ c.loop-report.cluster c.loop-report.report.items c.loop-report.invariant.told (search rules) c.requires (search rules)
+    read_as c.args.nodes c.loop-report.line c.args.bytes.now c.args.lines.now c.loop-report.rest.now _ c.loop-report.cluster _ c.loop-report.report.items c.loop-report.invariant.told (search rules) c.requires (search rules) c.cluster.view_is
 
 pub returns-clause-read : goal.returns-clause-read
 returns-clause-read g c =
