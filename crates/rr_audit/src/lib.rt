@@ -1,6 +1,7 @@
 //! The auditor of tapes: whether what a tape records is what nodes of the world do, event by event. `audit` says yes or
 //! no of a tape, and `examine` also what the world gives instead of an event. `audit_on` does the same while the text
-//! is read.
+//! is read, and `watch_tape` while its progress is told. A `Replay` takes one event at a time, and tells what a node flushes.
+//! `as_scheduled` and `as_reported` say what an event of a tape is in a schedule and in a report.
 #![tactic(auto)]
 
 mod auditing;
@@ -10,10 +11,12 @@ mod progress;
 mod reading;
 mod replay;
 mod replay_node;
+mod rows;
 mod same;
 
-pub use auditing::{Verdict, audit, examine};
+pub use auditing::{Verdict, audit, examine, watch_tape};
 pub use given::Given;
 pub use reading::audit_on;
-pub use replay::Replay;
+pub use replay::{Replay, node_of};
 pub use replay_node::ReplayNode;
+pub use rows::{as_reported, as_scheduled};
