@@ -34,7 +34,6 @@ fn is_later(of_tape: &Refusal, of_schedule: &Refusal) -> bool {
 }
 
 // The fault that is told of bytes that are neither.
-#[tactic(auto, using(crate::proofs::TapedLemmas::told_as_schedule, crate::proofs::TapedLemmas::told_as_tape))]
 fn told_fault(of_schedule: Refusal, of_tape: Refusal, bytes: &[u8]) -> Recognised
     requires schedule { IsFault IsEvent event_line bytes.now of_schedule }
     requires no_schedule { of_schedule ≢ Refusal.OutOfMemory }
@@ -50,7 +49,6 @@ fn told_fault(of_schedule: Refusal, of_tape: Refusal, bytes: &[u8]) -> Recognise
 }
 
 // What bytes are that are no schedule, as this fault says.
-#[tactic(auto, using(crate::proofs::TapedLemmas::is_tape))]
 fn recognise_tape(alloc: Global, bytes: &[u8], of_schedule: Refusal) -> Result<Recognised, Refusal>
     requires fault { IsFault IsEvent event_line bytes.now of_schedule }
     requires other { of_schedule ≢ Refusal.OutOfMemory }
@@ -67,7 +65,6 @@ fn recognise_tape(alloc: Global, bytes: &[u8], of_schedule: Refusal) -> Result<R
 ///
 /// # Errors
 /// `OutOfMemory`.
-#[tactic(auto, using(crate::proofs::TapedLemmas::is_schedule))]
 pub(crate) fn recognise(alloc: Global, bytes: &[u8]) -> Result<Recognised, Refusal>
     ensures { IsRecognised bytes.now result }
 {
