@@ -1,5 +1,5 @@
 -- A guest as a client, and what its calls give.
-use Rattle.std.specs.Prelude.{◌≡◌, ◌⊎◌, ◌+◌, ◌-◌, ◌<◌, ◌≤◌, ℕ, List, Option, None, Some, IsSome, Result, Ok, Err, Vec}
+use Rattle.std.specs.Prelude.{◌≡◌, ◌⊎◌, ◌-◌, ◌<◌, ◌≤◌, ℕ, List, Option, None, Some, Result, Ok, Err, IfOk, IfErr, IsErrAnd, Vec}
 use Rattle.std.specs.declared.alloc.Global.{Global}
 use mathlib.Core.List.{IsPrefix}
 use Rattle.rr_types.specs.declared.binding.Binding.{Binding}
@@ -43,20 +43,21 @@ IsUnanswered c Over = Unit {0}
 IsUnanswered c ListFull = Unit {0}
 IsUnanswered c _ = ⊥
 
--- what a submit of a command comes to: its reply by the list that the client then knows, or it isn't acknowledged and is kept to be
--- asked again, or it never is
+-- the command that is kept to be asked again behind what a submit of it has come to
+abbrev pub kept_behind : Command → Result Reply ClusterError → Option Command
+kept_behind c (Err (Unacknowledged d)) = Some c
+kept_behind c (Err Over) = Some c
+kept_behind c _ = None
+
+-- what a submit of a command comes to: a reply is that of the list that the client then knows
 abbrev pub ComesTo : Command → Asker → Result Reply ClusterError → Type 0
-ComesTo c b (Ok reply) = (reply_of b.known c.request ≡ Some reply) × (b.unanswered ≡ None)
-ComesTo c b (Err (Unacknowledged d)) = (d ≡ c) × (b.unanswered ≡ Some c)
-ComesTo c b (Err Over) = b.unanswered ≡ Some c
-ComesTo c b (Err (NumberUsed d)) = (d ≡ c) × (b.unanswered ≡ None)
-ComesTo c b (Err ListFull) = b.unanswered ≡ None
-ComesTo c b (Err _) = ⊥
+ComesTo c b result =
+    IfOk result (λ reply. reply_of b.known c.request ≡ Some reply) × IfErr result (IsUnanswered c) × (b.unanswered ≡ kept_behind c result)
 
 -- a submit of an operation: as a command with the next request number, which is new; or there is no number, and nothing has changed
 abbrev pub IsSubmitted : Op → Asker → Asker → Result Reply ClusterError → Type 0
-IsSubmitted op a b (Err (Numbers refusal)) = b ≡ a
-IsSubmitted op a b result = (a.next < b.next) × ComesTo (record { request = last_request b; op = op }) b result
+IsSubmitted op a b result =
+    (IsErrAnd result IsNumberless × (b ≡ a)) ⊎ ((a.next < b.next) × ComesTo (record { request = last_request b; op = op }) b result)
 
 -- one more submit of the command that is kept
 abbrev pub IsAskedAgain : Option Command → Asker → Asker → Result Reply ClusterError → Type 0
@@ -68,7 +69,7 @@ IsSubmittedAgain a b result = IsAskedAgain a.unanswered a b result
 
 -- a sync: a request with the next number has a reply by the list that the client then knows. What is kept stays
 abbrev pub IsSynced : Asker → Asker → Result (Unit {0}) ClusterError → Type 0
-IsSynced a b (Ok _) = (b.unanswered ≡ a.unanswered) × (a.next < b.next) × IsSome (reply_of b.known (last_request b))
+IsSynced a b (Ok _) = (b.unanswered ≡ a.unanswered) × (a.next < b.next) × ((reply : Reply) × (reply_of b.known (last_request b) ≡ Some reply))
 IsSynced a b (Err _) = b.unanswered ≡ a.unanswered
 
 -- a look at a name: who has it by the list that the client then knows. Where nothing is seen, nothing has changed

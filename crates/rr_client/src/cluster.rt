@@ -3,10 +3,10 @@
 ghost use Rattle.std.specs.Prelude.{◌≡◌, length, IfOk};
 
 use crate::collecting::{collect_all, open_slots, seat_all};
-use crate::error::ClusterError;
+use crate::error::{ClusterError, error_of};
 use crate::guest::{Guest, Place};
-use crate::numbers::NumberFile;
 use crate::options::Options;
+use crate::patience::looks_in;
 use crate::promises::promises_of;
 use rr_disk::{FileDisk, OpenedFile};
 use rr_folders::{Folders, Lockable, Locks, open_folders};
@@ -43,24 +43,26 @@ fn run_over<
 {
     let alloc = rt.alloc();
     let (promises, disks) = promises_of(alloc, nodes, disks)?;
-    let file = NumberFile::new(rt, locks.dir());
     let slots = open_slots(alloc, places.len())?;
     let rows = seat_all(
         rt,
         nodes,
-        options.patience,
+        locks.dir(),
+        looks_in(options.patience),
         &promises,
-        &file,
         &slots,
         places,
     )?;
     let tick = Duration::from_millis(options.tick);
     let switches = Switches::new(alloc, nodes)?.with_tick(tick);
     let ran = run_switched(rt, alloc, nodes, disks, rows, &Open, &switches);
-    match (collect_all(alloc, slots)?, ran) {
-        (Some(guests), Ok(())) => Ok(guests),
-        (_, Err(refusal)) => Err(ClusterError::Run { refusal }),
-        (None, Ok(())) => Err(ClusterError::Over),
+    let guests = collect_all(alloc, slots)?;
+    match ran {
+        Err(refusal) => Err(ClusterError::Run { refusal }),
+        Ok(()) => match guests {
+            Some(guests) => Ok(guests),
+            None => Err(ClusterError::Over),
+        },
     }
 }
 
@@ -90,7 +92,10 @@ pub fn run_cluster<
     if tick < LEAST_TICK || tick > MOST_TICK {
         return Err(ClusterError::BadTick { tick });
     }
-    let Folders { locks, disks } = open_folders(rt, nodes, dir)?;
+    let Folders { locks, disks } = match open_folders(rt, nodes, dir) {
+        Ok(folders) => folders,
+        Err(closed) => return Err(error_of(rt.alloc(), closed)),
+    };
     let ran = run_over(rt, nodes, &locks, options, disks, places);
     drop(locks);
     ran

@@ -1,23 +1,23 @@
 //! Guests get their seats, and come back.
 
-ghost use Rattle.std.specs.Prelude.{◌≡◌, length, IfOk, OnOk};
+ghost use Rattle.std.specs.Prelude.{◌≡◌, length, IfOk, IfSome};
 
 use crate::error::ClusterError;
 use crate::guest::Place;
-use crate::numbers::NumberFile;
+use crate::numbers::block_from;
 use crate::promises::least_free;
 use crate::seated::{Coming, Seated, Slot};
-use rr_types::{Nodes, Promise};
+use rr_types::{Nodes, Promise, Refusal};
 use std::alloc::Global;
 use std::rt::Files;
-use std::sync::{Mutex, Wait};
+use std::sync::Mutex;
 
 /// A slot for each of so many guests.
 pub(crate) fn open_slots<G: Drop>(alloc: Global, count: usize) -> Result<Vec<Slot<G>>, ClusterError>
     ensures { IfOk result (λ slots. length slots.items ≡ count) }
 {
     let mut slots = Vec::new(alloc);
-    for _ in 0..count {
+    'slots: for _ in 0..count {
         slots.push(Mutex::new(None))?;
     }
     Ok(slots)
@@ -28,7 +28,7 @@ fn open_rows<C: Drop>(alloc: Global, nodes: Nodes) -> Result<Vec<Vec<C>>, Cluste
     ensures { IfOk result (λ rows. length rows.items ≡ nodes) }
 {
     let mut rows = Vec::new(alloc);
-    for _ in 0..nodes.count() {
+    'rows: for _ in 0..nodes.count() {
         rows.push(Vec::new(alloc))?;
     }
     Ok(rows)
@@ -38,32 +38,36 @@ fn open_rows<C: Drop>(alloc: Global, nodes: Nodes) -> Result<Vec<Vec<C>>, Cluste
 ///
 /// # Errors
 /// `NoNode`, `Numbers`, `OutOfMemory`.
-pub(crate) fn seat_all<'x, 'd, G: Drop, Q: Files + AllocGlobal + Wait>(
-    rt: &'d Q,
+pub(crate) fn seat_all<'x, G: Drop, R: Files + AllocGlobal>(
+    rt: &R,
     nodes: Nodes,
-    patience: u64,
+    dir: &str,
+    looks: u32,
     promises: &[Promise],
-    file: &'x NumberFile<'d, Q>,
     slots: &'x [Slot<G>],
     places: Vec<Place<G>>,
-) -> Result<Vec<Vec<Seated<'x, 'd, G, Q>>>, ClusterError>
+) -> Result<Vec<Vec<Seated<'x, G>>>, ClusterError>
     ensures { IfOk result (λ rows. length rows.items ≡ nodes) }
 {
     let mut rows = open_rows(rt.alloc(), nodes)?;
-    for (place, slot) in places.into_iter().zip(slots) {
+    'places: for (place, slot) in places.into_iter().zip(slots) {
         let Place {
             node,
             client,
             guest,
         } = place;
-        let numbers = file.numbers_from(least_free(client, promises)?)?;
+        let Some(least) = least_free(client, promises) else {
+            let refusal = Refusal::TooLarge;
+            return Err(ClusterError::Numbers { refusal });
+        };
+        let numbers = block_from(rt, dir, least)?;
         let Some(row) = rows.get_mut(usize::from(node)) else {
             let last = nodes.count() - 1;
             return Err(ClusterError::NoNode { node, last });
         };
         row.push(Seated {
-            rt,
-            patience,
+            alloc: rt.alloc(),
+            looks,
             slot,
             coming: Some(Coming {
                 guest,
@@ -75,10 +79,28 @@ pub(crate) fn seat_all<'x, 'd, G: Drop, Q: Files + AllocGlobal + Wait>(
     Ok(rows)
 }
 
+// The guest that lies in a slot. None: there is none, or it was called off as the run came to its end.
+fn came_back<G: Drop>(slot: Slot<G>) -> Result<Option<G>, ClusterError> {
+    let Some(done) = slot.into_inner() else {
+        return Ok(None);
+    };
+    let (guest, told) = done;
+    match told {
+        Ok(()) => Ok(Some(guest)),
+        Err(error) => {
+            if matches!(&error, ClusterError::Over) {
+                Ok(None)
+            } else {
+                Err(error)
+            }
+        }
+    }
+}
+
 /// The guests that lie in these slots, in their order. None: one is missing.
 ///
 /// # Errors
-/// The first that a guest has given, but `Over` only where none has given another.
+/// The first that a guest has given, but `Over`.
 pub(crate) fn collect_all<G: Drop>(
     alloc: Global,
     slots: Vec<Slot<G>>,
@@ -87,11 +109,10 @@ pub(crate) fn collect_all<G: Drop>(
 {
     let mut guests = Vec::new(alloc);
     let mut is_missing = false;
-    for slot in slots {
-        match slot.into_inner() {
-            Some((guest, Ok(()))) => guests.push(guest)?,
-            Some((_, Err(ClusterError::Over))) | None => is_missing = true,
-            Some((_, Err(error))) => return Err(error),
+    'slots: for slot in slots {
+        match came_back(slot)? {
+            Some(guest) => guests.push(guest)?,
+            None => is_missing = true,
         }
     }
     if is_missing {

@@ -3,8 +3,7 @@
 use rr_cluster::Fault;
 use rr_folders::Closed;
 use rr_types::{Command, NodeId, Refusal};
-use std::alloc::{AllocError, AllocFailed};
-use std::io;
+use std::alloc::{AllocError, AllocFailed, Global};
 use thiserror::Error;
 
 /// What goes wrong with a cluster and its names.
@@ -15,58 +14,35 @@ pub enum ClusterError {
     OutOfMemory,
     /// A tick that isn't from 10 to 10,000 milliseconds.
     #[error("a tick of {tick} milliseconds is asked for, but it is from 10 to 10000")]
-    BadTick {
-        tick: u64,
-    },
+    BadTick { tick: u64 },
     /// A guest asks a node that isn't there.
     #[error("a guest asks node {node}, but the last of the nodes is {last}")]
-    NoNode {
-        node: u8,
-        last: u8,
-    },
+    NoNode { node: u8, last: u8 },
     /// Another program has locked the folder of this path.
     #[error("{path}: another program has locked it")]
-    InUse {
-        path: String,
-    },
-    /// This call on this path failed.
-    #[error("{path}: {call}: {error}")]
-    Failed {
-        path: String,
-        call: &'static str,
-        error: io::Error,
-    },
+    InUse { path: String },
+    /// A call on this path failed. The reason names the call.
+    #[error("{path}: {reason}")]
+    Failed { path: String, reason: String },
     /// The folder of this node may not be opened.
     #[error("the folder of node {}: {}", .node.index(), fault_text(.fault))]
-    Refused {
-        node: NodeId,
-        fault: Fault,
-    },
+    Refused { node: NodeId, fault: Fault },
     /// The disk of this node can't be opened.
     #[error("the disk of node {} can't be opened: {}", .node.index(), refusal_text(.refusal))]
-    Unopened {
-        node: NodeId,
-        refusal: Refusal,
-    },
+    Unopened { node: NodeId, refusal: Refusal },
     /// The folder's file `requests` gives no request number.
     #[error("the file requests in the folder: {}", numbers_text(.refusal))]
-    Numbers {
-        refusal: Refusal,
-    },
+    Numbers { refusal: Refusal },
     /// The node hasn't acknowledged this command in time. It may come to be decided; `again` asks it once more.
     #[error("request {} of client {} isn't acknowledged yet, but it may still be decided", .command.request.seq, .command.request.client)]
-    Unacknowledged {
-        command: Command,
-    },
+    Unacknowledged { command: Command },
     /// There is no command that isn't acknowledged, and that `again` could ask once more.
     #[error("no command waits to be asked again")]
     NothingToAsk,
     /// The request number of this command belongs to another one, which counts for it. Somebody else was this client, or the file
     /// `requests` was put back.
     #[error("request {} of client {} is another command: its number was used before", .command.request.seq, .command.request.client)]
-    NumberUsed {
-        command: Command,
-    },
+    NumberUsed { command: Command },
     /// As many commands are decided as a cluster can decide: this one never is.
     #[error("the list of commands is full: the command is never decided")]
     ListFull,
@@ -78,14 +54,10 @@ pub enum ClusterError {
     Unseen,
     /// The nodes' run has failed.
     #[error("the run has failed: {}", refusal_text(.refusal))]
-    Run {
-        refusal: Refusal,
-    },
+    Run { refusal: Refusal },
     /// Bytes that are no name, no value or no number of nodes.
     #[error("{}", refusal_text(.refusal))]
-    Unfit {
-        refusal: Refusal,
-    },
+    Unfit { refusal: Refusal },
 }
 
 // What a refusal means.
@@ -151,14 +123,16 @@ impl From<Refusal> for ClusterError {
     }
 }
 
-impl From<Closed> for ClusterError {
-    fn from(closed: Closed) -> ClusterError {
-        match closed {
-            Closed::OutOfMemory => ClusterError::OutOfMemory,
-            Closed::InUse(path) => ClusterError::InUse { path },
-            Closed::Failed { path, call, error } => ClusterError::Failed { path, call, error },
-            Closed::Unopened(node, refusal) => ClusterError::Unopened { node, refusal },
-            Closed::Refused(node, fault) => ClusterError::Refused { node, fault },
-        }
+/// Why the folders of a cluster aren't opened.
+pub(crate) fn error_of(alloc: Global, closed: Closed) -> ClusterError {
+    match closed {
+        Closed::OutOfMemory => ClusterError::OutOfMemory,
+        Closed::InUse(path) => ClusterError::InUse { path },
+        Closed::Failed { path, call, error } => match format!(in alloc; "{call}: {error}") {
+            Ok(reason) => ClusterError::Failed { path, reason },
+            Err(_) => ClusterError::OutOfMemory,
+        },
+        Closed::Unopened(node, refusal) => ClusterError::Unopened { node, refusal },
+        Closed::Refused(node, fault) => ClusterError::Refused { node, fault },
     }
 }

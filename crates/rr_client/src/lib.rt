@@ -1,5 +1,5 @@
 //! A registry that survives crashes, in your own program: begin here. `run_cluster` opens a cluster in a folder, or makes it there,
-//! runs its nodes in threads, and gives each of your guests a client's names (`Names`) at a node: `claim`, `update`, `release`,
+//! runs its nodes in threads, and has each of your guests ask a node as a client (`Caller`), by the calls of `Names`: `claim`, `update`, `release`,
 //! `transfer`, `look`, `list`, `sync`. It takes request numbers by itself, and times are milliseconds. Once all guests are done, it
 //! closes the folder and gives them back.
 //!
@@ -9,9 +9,12 @@
 //! `crates/one_cluster` is this program:
 //!
 //! ```rust
-//! use rr_client::{ClusterError, Guest, Names, Options, Place, run_cluster};
+//! use rr_client::{
+//!     Caller, ClusterError, Guest, Names, Options, Place, Turnstile, WindowName, run_cluster,
+//! };
 //! use rr_types::{Name, Nodes, Reply, Value};
 //! use std::fs;
+//! use std::sync::Wait;
 //!
 //! /// Someone who claims a desk, and counts the desks where it has one already.
 //! #[derive(Drop)]
@@ -21,7 +24,10 @@
 //! }
 //!
 //! impl Guest for Clerk {
-//!     fn run<N: Names>(&mut self, names: &mut N) -> Result<(), ClusterError> {
+//!     fn run<W: WindowName, T: Turnstile, R: Wait>(
+//!         &mut self,
+//!         names: &mut Caller<'_, '_, '_, W, T, R>,
+//!     ) -> Result<(), ClusterError> {
 //!         if let Reply::Taken(_) = names.claim(&self.desk, &Value::new(b"room-4")?)? {
 //!             names.sync()?;
 //!             self.desks = Some(names.list(b"desk-")?.len());
@@ -34,10 +40,12 @@
 //!     let _ = fs::remove_dir_all(&rt, "one_cluster.nodes"); // to begin anew; a registry keeps its folder
 //!     for life in ["at first", "behind a restart"] {
 //!         let mut places = Vec::new(rt.alloc());
-//!         for (node, desk) in [b"desk-0", b"desk-1", b"desk-2"].iter().enumerate() {
-//!             let desk = Name::new(*desk)?;
-//!             let guest = Clerk { desk, desks: None };
-//!             let (node, client) = (node as u8, node as u32);
+//!         for (node, desk) in [(0u8, b"desk-0"), (1, b"desk-1"), (2, b"desk-2")] {
+//!             let guest = Clerk {
+//!                 desk: Name::new(desk)?,
+//!                 desks: None,
+//!             };
+//!             let client = u32::from(node);
 //!             places.push(Place {
 //!                 node,
 //!                 client,
@@ -73,4 +81,6 @@ pub use error::ClusterError;
 pub use guest::{Guest, Place};
 pub use names::Names;
 pub use options::Options;
-pub use rr_window::Sight;
+pub use rr_locked::Turnstile;
+pub use rr_window::{Sight, WindowName};
+pub use seated::Caller;

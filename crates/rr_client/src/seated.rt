@@ -2,76 +2,76 @@
 
 ghost use Rattle.std.specs.Prelude.{◌≡◌, ◌<◌, Some, IfOk, IfErr, OnErr};
 ghost use Rattle.rr_types.specs.Registry.{reply_of};
-ghost use Rattle.rr_client.specs.Asking.{GoesOn, IsNumberless, IsUnanswered, ComesTo, IsSubmitted, last_request};
+ghost use Rattle.rr_client.specs.Asking.{GoesOn, IsUnanswered, kept_behind, ComesTo, IsSubmitted};
 
 use crate::error::ClusterError;
 use crate::guest::Guest;
 use crate::names::Names;
-use crate::numbers::NumbersOf;
-use crate::patience::submit_for;
+use crate::numbers::take_number;
+use rr_folders::Block;
 use rr_locked::Turnstile;
 use rr_script::Answer;
 use rr_threads::{Client, Fate, Handle};
 use rr_types::{Binding, Command, Name, NodeId, Op, Refusal, Reply, RequestNo, Value, made_of};
 use rr_window::{Sight, WindowName};
+use std::alloc::Global;
 use std::marker::Model;
-use std::rt::Files;
 use std::sync::{Mutex, Wait};
-use std::time::Clock;
 
 /// Where a guest lies that is done, with what it gave.
 pub(crate) type Slot<G> = Mutex<Option<(G, Result<(), ClusterError>)>>;
 
 /// A guest that hasn't asked yet.
 #[derive(Drop)]
-pub(crate) struct Coming<'x, 'd, G, Q> {
+pub(crate) struct Coming<G> {
     pub(crate) guest: G,
     pub(crate) client: u32,
-    pub(crate) numbers: NumbersOf<'x, 'd, Q>,
+    pub(crate) numbers: Block,
 }
 
 /// A guest at its node.
 #[derive(Drop)]
-pub(crate) struct Seated<'x, 'd, G, Q> {
-    pub(crate) rt: &'d Q,
-    pub(crate) patience: u64,
+pub(crate) struct Seated<'x, G> {
+    pub(crate) alloc: Global,
+    pub(crate) looks: u32,
     pub(crate) slot: &'x Slot<G>,
-    pub(crate) coming: Option<Coming<'x, 'd, G, Q>>,
+    pub(crate) coming: Option<Coming<G>>,
 }
 
-/// The names that a guest asks for, by its handle at a node.
+/// What a guest asks its node with: it has the calls of `Names`.
 #[derive(Drop)]
-struct Caller<'h, 'd, 'y, 'x, 'r, W: WindowName, T, R, Q> {
+pub struct Caller<'h, 'd, 'y, W: WindowName, T, R> {
     handle: &'h mut Handle<'d, 'y, W, T, R>,
-    rt: &'r Q,
-    patience: u64,
+    alloc: Global,
+    looks: u32,
     client: u32,
-    numbers: NumbersOf<'x, 'r, Q>,
+    numbers: Block,
     unanswered: Option<Command>,
 }
 
-impl<'h, 'd, 'y, 'x, 'r, W: WindowName, T, R, Q> Model for Caller<'h, 'd, 'y, 'x, 'r, W, T, R, Q> {
+impl<'h, 'd, 'y, W: WindowName, T, R> Model for Caller<'h, 'd, 'y, W, T, R> {
     ghost use Rattle.rr_client.specs.Asking.{Asker};
 
     ghost Value = { Asker };
 
-    ghost view = { λ c. record { node = c.handle.now.node; client = c.client; known = c.handle.now.known; next = c.numbers; unanswered = c.unanswered } };
+    ghost view = { λ c. record { node = c.handle.now.node; client = c.client; known = c.handle.now.known; next = c.numbers.next; unanswered = c.unanswered } };
+}
+
+// The command that is kept to be asked again behind what a submit of it has come to.
+fn kept_behind(command: &Command, told: &Result<Reply, ClusterError>) -> Option<Command>
+    ensures { result ≡ kept_behind command.now told.now }
+{
+    made_of!(Op, Name, Value);
+    match told {
+        Err(ClusterError::Unacknowledged { .. }) | Err(ClusterError::Over) => Some(*command),
+        _ => None,
+    }
 }
 
 /// The name of the command by which a client learns what was acknowledged. It stays as it is.
 const SYNC: &[u8] = b"sync";
 
-impl<
-    'h,
-    'd,
-    'y,
-    'x,
-    'r,
-    W: WindowName,
-    T: Turnstile,
-    R: Wait,
-    Q: Files + AllocGlobal + Wait + Clock,
-> Caller<'h, 'd, 'y, 'x, 'r, W, T, R, Q> {
+impl<'h, 'd, 'y, W: WindowName, T: Turnstile, R: Wait> Caller<'h, 'd, 'y, W, T, R> {
     // Why a command isn't acknowledged.
     fn error_behind(&self, command: &Command) -> ClusterError
         ensures { IsUnanswered command.now result }
@@ -98,7 +98,7 @@ impl<
         if let Fate::Used(_) = self.handle.fate(command) {
             return Err(ClusterError::NumberUsed { command: *command });
         }
-        let answer = submit_for(self.rt, self.handle, self.patience, command);
+        let answer = self.handle.submit_within(self.looks, command);
         match answer {
             Answer::Acknowledged { reply, .. } => Ok(reply),
             _ => Err(self.error_behind(command)),
@@ -111,50 +111,26 @@ impl<
         ensures later { GoesOn self.old self.new }
         ensures kept { self.new.next ≡ self.old.next }
     {
-        made_of!(Op, Name, Value);
         let told = self.ask(command);
-        self.unanswered = match &told {
-            Err(ClusterError::Unacknowledged { .. } | ClusterError::Over) => Some(*command),
-            _ => None,
-        };
+        self.unanswered = kept_behind(command, &told);
         told
     }
 
-    // A request number that was never given.
-    fn next_request(&mut self) -> Result<RequestNo, ClusterError>
-        ensures request { IfOk result (λ request. (request ≡ last_request self.new) × (self.old.next < self.new.next)) }
-        ensures later { GoesOn self.old self.new }
-        ensures same { (self.new.unanswered ≡ self.old.unanswered) × (self.new.known ≡ self.old.known) }
-        ensures kept { OnErr result (self.new ≡ self.old) }
-        ensures err { IfErr result IsNumberless }
-    {
-        Ok(RequestNo {
-            client: self.client,
-            seq: self.numbers.take()?,
-        })
-    }
-
     // Submits an operation under a new number.
+    #[tactic(auto, using(crate::proofs::Submits::submitted))]
     fn submit(&mut self, op: Op) -> Result<Reply, ClusterError>
         ensures reply { IsSubmitted op self.old self.new result }
         ensures later { GoesOn self.old self.new }
     {
-        let request = self.next_request()?;
+        let request = RequestNo {
+            client: self.client,
+            seq: take_number(&mut self.numbers)?,
+        };
         self.put(&Command { request, op })
     }
 }
 
-impl<
-    'h,
-    'd,
-    'y,
-    'x,
-    'r,
-    W: WindowName,
-    T: Turnstile,
-    R: Wait,
-    Q: Files + AllocGlobal + Wait + Clock,
-> Names for Caller<'h, 'd, 'y, 'x, 'r, W, T, R, Q> {
+impl<'h, 'd, 'y, W: WindowName, T: Turnstile, R: Wait> Names for Caller<'h, 'd, 'y, W, T, R> {
     ghost asker = { λ c. c };
 
     fn node(&self) -> NodeId {
@@ -193,9 +169,13 @@ impl<
         }
     }
 
+    #[tactic(auto, using(crate::proofs::Submits::synced))]
     fn sync(&mut self) -> Result<(), ClusterError> {
         let name = Name::new(SYNC)?;
-        let request = self.next_request()?;
+        let request = RequestNo {
+            client: self.client,
+            seq: take_number(&mut self.numbers)?,
+        };
         let op = Op::Transfer(name, self.client);
         let _ = self.ask(&Command { request, op })?;
         Ok(())
@@ -211,7 +191,7 @@ impl<
     }
 
     fn list(&mut self, prefix: &[u8]) -> Result<Vec<Binding>, ClusterError> {
-        match self.handle.list(self.rt.alloc(), prefix) {
+        match self.handle.list(self.alloc, prefix) {
             Ok(bindings) => Ok(bindings),
             Err(Refusal::OutOfMemory) => Err(ClusterError::OutOfMemory),
             Err(_) => Err(ClusterError::Unseen),
@@ -228,31 +208,41 @@ fn refusal_behind(told: &Result<(), ClusterError>) -> Result<(), Refusal> {
     }
 }
 
-impl<'x, 'd, G: Guest + Drop, Q: Files + AllocGlobal + Wait + Clock> Client
-    for Seated<'x, 'd, G, Q> {
+// Has a guest ask for names by a handle, and puts it into its slot.
+fn serve<'h, 'd, 'y, 'x, W: WindowName, T: Turnstile, R: Wait, G: Guest + Drop>(
+    handle: &'h mut Handle<'d, 'y, W, T, R>,
+    alloc: Global,
+    looks: u32,
+    slot: &'x Slot<G>,
+    coming: Coming<G>,
+) -> Result<(), Refusal> {
+    let Coming {
+        mut guest,
+        client,
+        numbers,
+    } = coming;
+    let mut caller = Caller {
+        handle,
+        alloc,
+        looks,
+        client,
+        numbers,
+        unanswered: None,
+    };
+    let told = guest.run(&mut caller);
+    let ends = refusal_behind(&told);
+    *slot.lock(caller.handle.rt()) = Some((guest, told));
+    ends
+}
+
+impl<'x, G: Guest + Drop> Client for Seated<'x, G> {
     fn run<W: WindowName, T: Turnstile, R: Wait>(
         &mut self,
         handle: &mut Handle<'_, '_, W, T, R>,
     ) -> Result<(), Refusal> {
-        let Some(coming) = self.coming.take() else {
-            return Err(Refusal::Down);
-        };
-        let Coming {
-            mut guest,
-            client,
-            numbers,
-        } = coming;
-        let mut caller = Caller {
-            handle,
-            rt: self.rt,
-            patience: self.patience,
-            client,
-            numbers,
-            unanswered: None,
-        };
-        let told = guest.run(&mut caller);
-        let ends = refusal_behind(&told);
-        *self.slot.lock(self.rt) = Some((guest, told));
-        ends
+        match self.coming.take() {
+            Some(coming) => serve(handle, self.alloc, self.looks, self.slot, coming),
+            None => Err(Refusal::Down),
+        }
     }
 }

@@ -1,0 +1,6 @@
+-- There are so many rows so far.
+use Rattle.std.proofs.Common.{◌≡◌, length}
+use Rattle.rr_client.proofs.collecting.open_rows.Given as goal
+
+abbrev pub invariant-rows : goal.invariant-rows
+invariant-rows g l = length l.rows.items ≡ l.counter
