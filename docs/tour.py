@@ -32,7 +32,7 @@ TOUR = [
     (
         "A registry to talk to",
         "`rr shell` answers line by line, to a person or through a pipe. What it answered holds after a restart, and request numbers continue. "
-        "A look answers from what its node has seen, which may be less than another node has acknowledged. "
+        "A look answers from what its node has seen, which may be less than another node has acknowledged; behind a `sync` it has all of that. "
         "A node that is stopped goes down as by a crash, and opens its folder when it is started. Without a majority nothing is decided: the "
         "command `claim bell` may count later, or not.",
         [
@@ -40,6 +40,7 @@ TOUR = [
             "printf 'look printer\\ntransfer printer 9\\nrelease printer\\n' | rr shell --nodes 3 --dir talk --client 7; cat talk/requests",
             "printf 'claim room-5 desk\\nclaim room-12\\nlist room-\\nlist\\n' | rr shell --nodes 3 --dir talk --client 7",
             "printf 'stop 2\\nclaim lamp hall\\nat 2\\nlook lamp\\nstart 2\\nclaim desk\\nlook lamp\\n' | rr shell --nodes 3 --dir talk --client 7",
+            "printf 'claim key hook\\nat 2\\nsync\\nlook key\\n' | rr shell --nodes 3 --dir talk --client 8",
             "printf 'stop 1\\nstop 2\\nstatus\\nclaim bell\\nlook lamp\\nstart 1\\nclaim clock\\n' | rr shell --nodes 3 --dir talk --client 7 --tick 20 | sed 's/ facts.*//'",
             "printf 'look lamp\\nclaim lamp\\nclaim LAMP\\n' | rr shell --nodes 3 --dir talk --client 8 --json",
             "echo 'snapshot 0' | rr shell --nodes 3 --dir talk; rr show talk/0 | sed 's/ facts.*//'",
@@ -86,6 +87,21 @@ TOUR = [
             "rr audit examples/one_command.tape",
             "sed 3d examples/one_command.tape | rr audit",
             "rr audit --json examples/one_command.tape; sed 3d examples/one_command.tape | rr audit --json 2> told",
+            "echo 'submit 1 7 1 claim desk' | rr run --nodes 3 --dir nodes --script -",
+        ],
+    ),
+    (
+        "Tapes, explained, counted and drawn",
+        "`examples/three_clients.tape` is a tape of the script above. It is explained and counted as the run of a schedule is, and drawn: here "
+        "are the first titles of the picture.",
+        [
+            "rr audit --explain examples/three_clients.tape | head -9",
+            "rr audit --explain --json examples/three_clients.tape | head -2",
+            "rr stats examples/three_clients.tape",
+            "rr draw examples/three_clients.tape | grep -o '<title>[^<]*' | head -3",
+            "sed 3d examples/one_command.tape | rr stats",
+            "sed '8s/hear/here/' examples/three_clients.tape | rr draw",
+            "printf 'nodes 1\\ntick 0\\n' | rr stats --tape | head -2",
         ],
     ),
     (
@@ -104,13 +120,17 @@ TOUR = [
     ),
     (
         "A run, and its explanation",
-        "`rr sim` runs a schedule and reports what happened. `--explain` adds a note on each event, also on one that was refused or did nothing.",
+        "`rr sim` runs a schedule and reports what happened. `--explain` adds a note on each event, also on one that was refused or did nothing. "
+        "`--finish` goes on from the end of a schedule: here from the first lines of an example, up to the example's own end.",
         [
             "rr sim examples/failed_write.schedule",
             "rr sim --explain examples/failed_write.schedule | sed -n '/line 27/,/line 31/p'",
             "printf 'nodes 2\\nsend 0\\nrestart 0\\nhear 1 5\\nfail 0 A5\\nack 0\\n' > lost.schedule; rr sim --explain lost.schedule",
             "rr sim --json lost.schedule",
             "rr sim --json --explain lost.schedule | head -3",
+            "head -30 examples/one_command.schedule > cut.schedule; rr sim --finish --schedule-only cut.schedule",
+            "rr sim --finish cut.schedule | rr check examples/one_command.schedule -",
+            "head -120 examples/two_of_seven_down.schedule > cut.schedule; rr sim cut.schedule | tail -1; rr sim --finish cut.schedule | tail -2",
         ],
     ),
     (
@@ -151,6 +171,8 @@ TOUR = [
         [
             "rr sweep --seed 0 examples/one_command.schedule | grep '^40 '",
             "rr draw examples/suspected_coordinator.schedule | grep -o '<title>[^<]*' | head -2",
+            "rr draw --from 9 --to 8 examples/suspected_coordinator.schedule",
+            "rr draw --html examples/suspected_coordinator.schedule > run.html; sed 2q run.html; grep -c '<title>line' run.html",
         ],
     ),
 ]

@@ -5,7 +5,8 @@
 
 For each schedule of examples and of worked_rows, for one with each kind of event and for some lively ones: each line of `rr sim --json` has
 to be the object that the line of the report makes here; each line of `rr sim --explain --json` that object with the event of a line of
-the schedule, or the event alone; `rr stats --json` one object, whose counts are those of the schedule and the report.
+the schedule, or the event alone; `rr stats --json` one object, whose counts are those of the schedule and the report. Of each tape that
+the audit accepts, and of one of a drawn run in threads, the same of `rr audit --explain`, with --json too, and of `rr stats`.
 `rr random --json` has to print the objects of the report that `rr random` prints. `rr show --json`, `rr run --json` and
 `rr audit --json` have to print the objects that their lines of words make here: an audit also of tapes that lack a line, or have
 two in the wrong order."""
@@ -282,6 +283,41 @@ def of_random_schedules(run):
     return lines
 
 
+def taped(run, tape):
+    """Whether a tape is explained and counted as its own lines say: the lines `send` and `ack` are its report, and each event has its note.
+    It tells how many lines were read."""
+    lines = tape[:-1].split("\n")[1:]
+    told = [line for line in lines if line.split(" ")[0] in ("send", "ack")]
+    events = [" ".join(("send", line.split(" ")[2]) if line.startswith("send ") else line.split(" ")[: 2 if line.startswith("ack ") else None]) for line in lines]
+    explanation = run("audit", "--explain", text=tape)[:-1].split("\n")
+    report, wanted = [line for line in explanation if not line.startswith("    ")], list(told)
+    assert report[: len(told)] == told and report[len(told)].startswith("decided "), "the report of a tape differs"
+    notes = [(place, line) for place, line in enumerate(explanation) if line.startswith("    ")]
+    assert len(notes) == len(events)
+    for place, (event, (at, note)) in enumerate(zip(events, notes), 2):
+        assert f"{note}:".startswith(f"    line {place}: {event}:"), (event, note)
+        if event.split(" ")[0] in ("send", "ack"):
+            assert explanation[at - 1] == wanted.pop(0), note
+    objects = read(run("audit", "--explain", "--json", text=tape))
+    for words in (["--json", "--tape"], ["--json"]) if told else (["--json", "--tape"],):
+        (statistics,) = read(run("stats", *words, text=tape))
+        counted(events, report, statistics)
+        counted_in_play(events, objects, statistics)
+        assert statistics["device_calls"] == 0
+    explained(events, [object_of(line) for line in report], objects)
+    return len(explanation) + len(events) + len(report) - len(told)
+
+
+def recorded(rr, folder):
+    """The tape of a run in threads, in this folder."""
+    asked = [f"submit {at % 3} {at % 5} {at + 1} {('claim', 'update', 'release')[at % 4 % 3]} {'abcd'[at % 3]}{'' if at % 4 == 2 else ' v'}" for at in range(40)]
+    script = pathlib.Path(folder, "script")
+    script.write_text("".join(line + "\n" for line in asked))
+    words = f"run --nodes 3 --dir {folder}/nodes --script {script} --tape {folder}/tape --tick 10"
+    subprocess.run([rr, *words.split()], capture_output=True, check=True)
+    return pathlib.Path(folder, "tape").read_text()
+
+
 def main():
     parser = argparse.ArgumentParser()
     parser.add_argument("--rr", required=True)
@@ -292,6 +328,9 @@ def main():
 
     def is_schedule(text):
         return subprocess.run([rr, "sim"], input=text, capture_output=True, text=True).returncode == 0
+
+    def is_tape(text):
+        return subprocess.run([rr, "audit"], input=text, capture_output=True, text=True).returncode == 0
 
     paths = [*sorted(TREE.glob("examples/*.schedule")), *sorted(TREE.glob("crates/worked_rows/data/*.schedule")), TREE / "hostile/each_kind.schedule"]
     schedules = [text for text in (path.read_text() for path in paths) if is_schedule(text)] + [run(*words.split()) for words in LIVELY]
@@ -314,7 +353,12 @@ def main():
     tapes = [path.read_text() for path in (TREE / "examples/one_command.tape", *sorted(TREE.glob("crates/worked_rows/data/tapes-*.tape")))]
     found = audited(rr, [other for tape in tapes for other in spoilt(tape)])
     lines_read += sum(found.values())
-    print(f"hostile/json_lines.py: {len(schedules)} schedules, {sum(found.values())} tapes, {lines_read} lines of JSON, all as the texts are")
+    paths = [*sorted(TREE.glob("examples/*.tape")), *sorted(TREE.glob("crates/worked_rows/data/*.tape")), TREE / "hostile/each_kind.tape"]
+    tapes = [text for text in (path.read_text() for path in paths) if is_tape(text)]
+    with tempfile.TemporaryDirectory() as folder:
+        tapes.append(recorded(rr, folder))
+    lines_read += sum(taped(run, tape) for tape in tapes)
+    print(f"hostile/json_lines.py: {len(schedules)} schedules, {len(tapes)} tapes and {sum(found.values())} verdicts, {lines_read} lines of JSON, all as the texts are")
 
 
 if __name__ == "__main__":

@@ -5,9 +5,12 @@
 
 Of each example and of N drawn schedules, some of them lively, with values of SVG's own letters, and of cuts by lines, node and
 instance: each event of the cut has its element, in order, and the element's title begins with the line, the event and its lines of the
-report; a cut by instance leaves out some, and changes no other. The picture has the size of what it shows, and no two labels on one
-side of a line lie on each other."""
+report; a cut by instance has just the events that send or hear a message on it, and syncs and marks. In a long picture each event that
+sends or hears a request is folded, and with --requests none is. A message has an arrow where it is heard, a dashed one where it is heard
+again, and else a dot. A cut that ends before it begins has status 2. Each tape has the elements of its events too. The picture has the
+size of what it shows, and no two labels on one side of a line lie on each other."""
 import argparse
+import json
 import pathlib
 import random
 import subprocess
@@ -16,6 +19,7 @@ import xml.etree.ElementTree as tree
 TREE = pathlib.Path(__file__).resolve().parent.parent
 SVG = "{http://www.w3.org/2000/svg}"
 HEIGHT = 8  # of a label
+MANY = 300  # lines of a cut, beyond which some events are folded
 
 
 def asked(rr, words, text=b""):
@@ -41,6 +45,43 @@ def told_by(rr, text):
     return told
 
 
+class Hearings:
+    """Which message each event of a run sends or hears, by the JSON that explains it."""
+
+    def __init__(self, rr, text):
+        objects = [json.loads(line) for line in asked(rr, ["sim", "--explain", "--json"], text.encode()).splitlines()]
+        self.sent = {it["number"]: it["event"]["line"] for it in objects if it["kind"] == "send"}
+        self.instances = {it["number"]: it["message"].get("instance") for it in objects if it["kind"] == "send"}
+        self.numbers = {line: number for number, line in self.sent.items()}
+        self.first, self.again = {}, {}
+        for it in objects:
+            words = it.get("event", {"text": ""})["text"].split()
+            if words[:1] == ["hear"]:
+                self.numbers[it["event"]["line"]] = int(words[2])
+                if it["kind"] == "done":
+                    (self.again if int(words[2]) in self.first.values() else self.first)[it["event"]["line"]] = int(words[2])
+
+    def compare(self, picture, shown, instance, seed):
+        """Compares the shapes of a picture without folded events, which shows these lines."""
+        found = {int(element.find(SVG + "title").text.split()[1].rstrip(":")): element for element in picture.iter(SVG + "g")}
+        for line, element in found.items():
+            arrows = ["again" in it.get("class").split() for it in element if it.get("marker-end")]
+            assert arrows == ([False] if line in self.first else [True] if line in self.again else []), (seed, line, arrows)
+        heard = {*self.first.values()}
+        lost = [line for number, line in self.sent.items() if number not in heard and line in shown and (instance is None or self.instances[number] == instance)]
+        assert sum(it.tag == SVG + "line" and "v" not in (it.get("class") or "") for it in picture) == len(lost), (seed, lost)
+        if instance is not None:
+            of_it = {line for line, number in self.numbers.items() if line in shown and self.instances.get(number, -1) == instance}
+            assert of_it <= found.keys(), (seed, of_it - found.keys())
+            others = {found[line].find(SVG + "title").text.split()[2] for line in found.keys() - of_it}
+            assert others <= {"dev", "mark"}, (seed, others)
+        return len(arrows_of(picture)), len(lost)
+
+
+def arrows_of(picture):
+    return [it for it in picture.iter() if it.get("marker-end")]
+
+
 def cut_of(seed, count, nodes):
     """The first line, the last one, the node and the instance of a cut by a seed, of a schedule of so many lines."""
     first, last = 2, count
@@ -51,14 +92,16 @@ def cut_of(seed, count, nodes):
 
 
 def compare(rr, text, seed):
-    """Compares a picture, and tells how many elements and labels it has."""
+    """Compares a picture, and tells how many elements and labels it has, and how many arrows and lost messages were compared."""
     lines = text.splitlines()
     first, last, node, instance = cut_of(seed, len(lines), int(lines[0].split()[1]))
     words = ["draw", "--from", str(first), "--to", str(last)]
     words += ["--node", str(node)] if node is not None else []
     words += ["--instance", str(instance)] if instance is not None else []
+    words += ["--requests"] if seed % 2 else []
     picture = tree.fromstring(asked(rr, words, text.encode()))
     found = [element.find(SVG + "title").text for element in picture.iter(SVG + "g")]
+    check_requests(picture, last - first > MANY and seed % 2 == 0, seed)
     told = told_by(rr, text)
     wanted = ["".join(f"{line}\n" for line in [f"line {k}: {lines[k - 1]}", *told[k]]) for k in range(first, last + 1) if node is None or int(lines[k - 1].split()[1]) == node]
     if instance is None:
@@ -67,6 +110,10 @@ def compare(rr, text, seed):
     else:
         left = iter(wanted)
         assert all(any(title.startswith(words) for words in left) for title in found), seed
+    shapes = 0, 0
+    if last - first < 300:
+        shown = {k for k in range(first, last + 1) if node is None or int(lines[k - 1].split()[1]) == node}
+        shapes = Hearings(rr, text).compare(picture, shown, instance, seed)
     across, down = (int(number) for number in picture.get("viewBox").split()[2:])
     assert (int(picture.get("width")), int(picture.get("height"))) == (across * 3 // 2, down * 3 // 2), seed
     places = {}
@@ -75,7 +122,32 @@ def compare(rr, text, seed):
             places.setdefault(label.get("x"), []).append(int(label.get("y")))
     for side in places.values():
         assert all(below - above >= HEIGHT for above, below in zip(side, side[1:])), seed
-    return len(found), sum(map(len, places.values()))
+    return len(found), sum(map(len, places.values())), *shapes
+
+
+def compare_tape(rr, text):
+    """Compares the picture of a tape with its lines, and tells how many elements it has."""
+    picture = tree.fromstring(asked(rr, ["draw", "--tape"], text.encode()))
+    found = [element.find(SVG + "title").text for element in picture.iter(SVG + "g")]
+    lines = text.splitlines()[1:]
+    assert len(found) == len(lines)
+    for place, (line, title) in enumerate(zip(lines, found), 2):
+        kind, *words = line.split(" ")
+        event = f"send {words[1]}" if kind == "send" else f"ack {words[0]}" if kind == "ack" else line
+        wanted = f"line {place}: {event}\n" + (f"{line}\n" if event != line else "")
+        assert title.startswith(wanted), (wanted, title)
+    boxes = sum("j" == (shape.get("class") or "") for shape in picture.iter(SVG + "rect"))
+    assert boxes == sum(line.startswith("take ") for line in lines), boxes
+    return len(found)
+
+
+def check_requests(picture, are_folded, seed):
+    """Each event that sends or hears a request is folded, or none is."""
+    for element in picture.iter(SVG + "g"):
+        title = element.find(SVG + "title").text
+        if any(line.startswith("send ") and line.split()[4:5] == ["request"] for line in title.splitlines()) or ": request " in title:
+            folded = any(shape.get("class") == "f" for shape in element)
+            assert folded == are_folded, (seed, title)
 
 
 def main():
@@ -86,9 +158,13 @@ def main():
     texts = [path.read_text() for path in sorted(TREE.glob("examples/*.schedule"))]
     texts += [drawn(given.rr, seed) for seed in range(given.count)]
     sums = [compare(given.rr, text, seed) for seed, text in enumerate(texts)]
-    elements, labels = (sum(numbers) for numbers in zip(*sums))
-    assert elements and labels
-    print(f"hostile/pictures.py: {len(texts)} pictures, {elements} elements and {labels} labels, all as the texts are")
+    elements, labels, arrows, lost = (sum(numbers) for numbers in zip(*sums))
+    ended = subprocess.run([given.rr, "draw", "--from", "3", "--to", "2"], input=texts[0].encode(), capture_output=True)
+    assert (ended.returncode, ended.stdout, ended.stderr) == (2, b"", b"rr: draw: the line of --from is behind that of --to\n"), ended
+    assert elements and labels and arrows and lost
+    tapes = [path.read_text() for path in sorted(TREE.glob("examples/*.tape"))]
+    elements += sum(compare_tape(given.rr, text) for text in tapes)
+    print(f"hostile/pictures.py: {len(texts) + len(tapes)} pictures, {elements} elements and {labels} labels, {arrows} arrows and {lost} lost messages, all as the texts are")
 
 
 main()

@@ -6,10 +6,13 @@ for program in rr rr-unproved
   complete -c $program -n __fish_use_subcommand -a sim -d 'Runs a schedule and prints its report'
   complete -c $program -n '__fish_seen_subcommand_from sim' -l explain -d 'Tells the event behind each line, and why others were refused or came to nothing'
   complete -c $program -n '__fish_seen_subcommand_from sim' -l json -d 'Prints an object of JSON for each line'
+  complete -c $program -n '__fish_seen_subcommand_from sim' -l finish -d 'Goes on from the schedule\'s end, without faults, until nothing is left to do'
+  complete -c $program -n '__fish_seen_subcommand_from sim' -l schedule-only -d 'Prints the events that --finish adds, alone; implies --finish'
   complete -c $program -n '__fish_seen_subcommand_from sim' -s h -l help -d 'Print help'
   complete -c $program -n '__fish_seen_subcommand_from sim' -F
-  complete -c $program -n __fish_use_subcommand -a stats -d 'Runs a schedule and counts what happens in its run'
+  complete -c $program -n __fish_use_subcommand -a stats -d 'Counts what happens in the run of a schedule, or on a tape'
   complete -c $program -n '__fish_seen_subcommand_from stats' -l json -d 'Prints an object of JSON'
+  complete -c $program -n '__fish_seen_subcommand_from stats' -l tape -d 'Reads FILE as a tape, also where it could be a schedule'
   complete -c $program -n '__fish_seen_subcommand_from stats' -s h -l help -d 'Print help'
   complete -c $program -n '__fish_seen_subcommand_from stats' -F
   complete -c $program -n __fish_use_subcommand -a check -d 'Runs a schedule and compares its report with a file'
@@ -21,6 +24,7 @@ for program in rr rr-unproved
   complete -c $program -n '__fish_seen_subcommand_from random' -l nodes -x -d 'How many nodes there are'
   complete -c $program -n '__fish_seen_subcommand_from random' -l lively -d 'Draws among the events that do something'
   complete -c $program -n '__fish_seen_subcommand_from random' -l faults -x -d 'With --lively, how many steps in a thousand have a fault [default: 10]'
+  complete -c $program -n '__fish_seen_subcommand_from random' -l finish -d 'Goes on from the schedule\'s end, without faults, until nothing is left to do'
   complete -c $program -n '__fish_seen_subcommand_from random' -l schedule-only -d 'Prints the schedule alone, without the report'
   complete -c $program -n '__fish_seen_subcommand_from random' -l json -d 'Prints the report alone, an object of JSON for each line'
   complete -c $program -n '__fish_seen_subcommand_from random' -s h -l help -d 'Print help'
@@ -28,11 +32,14 @@ for program in rr rr-unproved
   complete -c $program -n '__fish_seen_subcommand_from sweep' -l seed -x -d 'The seed of the last ending\'s words'
   complete -c $program -n '__fish_seen_subcommand_from sweep' -s h -l help -d 'Print help'
   complete -c $program -n '__fish_seen_subcommand_from sweep' -F
-  complete -c $program -n __fish_use_subcommand -a draw -d 'Draws the run of a schedule as an SVG picture'
+  complete -c $program -n __fish_use_subcommand -a draw -d 'Draws the run of a schedule, or a tape, as an SVG picture'
   complete -c $program -n '__fish_seen_subcommand_from draw' -l from -x -d 'The first line [default: 1]'
   complete -c $program -n '__fish_seen_subcommand_from draw' -l to -x -d 'The last line [default: the end]'
   complete -c $program -n '__fish_seen_subcommand_from draw' -l node -x -d 'The node [default: all nodes]'
   complete -c $program -n '__fish_seen_subcommand_from draw' -l instance -x -d 'The instance of the messages [default: all events]'
+  complete -c $program -n '__fish_seen_subcommand_from draw' -l requests -d 'Folds no requests'
+  complete -c $program -n '__fish_seen_subcommand_from draw' -l tape -d 'Reads FILE as a tape, also where it could be a schedule'
+  complete -c $program -n '__fish_seen_subcommand_from draw' -l html -d 'Prints a page for a browser, with the picture'
   complete -c $program -n '__fish_seen_subcommand_from draw' -s h -l help -d 'Print help'
   complete -c $program -n '__fish_seen_subcommand_from draw' -F
   complete -c $program -n __fish_use_subcommand -a run -d 'Runs nodes in threads over folders, and prints the answers to a script'
@@ -53,7 +60,8 @@ for program in rr rr-unproved
   complete -c $program -n '__fish_seen_subcommand_from shell' -l json -d 'Answers with an object of JSON for each line'
   complete -c $program -n '__fish_seen_subcommand_from shell' -s h -l help -d 'Print help'
   complete -c $program -n __fish_use_subcommand -a audit -d 'Says whether the events of a tape are what nodes do'
-  complete -c $program -n '__fish_seen_subcommand_from audit' -l json -d 'Prints the verdict as an object of JSON'
+  complete -c $program -n '__fish_seen_subcommand_from audit' -l explain -d 'Tells the event behind each line, and what it did'
+  complete -c $program -n '__fish_seen_subcommand_from audit' -l json -d 'Prints the verdict as an object of JSON, or an object for each line'
   complete -c $program -n '__fish_seen_subcommand_from audit' -s h -l help -d 'Print help'
   complete -c $program -n '__fish_seen_subcommand_from audit' -F
   complete -c $program -n __fish_use_subcommand -a show -d 'Tells what the areas of a node\'s disk hold'

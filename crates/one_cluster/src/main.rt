@@ -1,47 +1,48 @@
-//! Three nodes in threads, over disks in memory, and a client of one of them.
+//! Three nodes over the files of folders, a client at each, and a restart.
 #![tactic(auto)]
 
-use rr_disk::MemDisk;
-use rr_locked::{Open, Turnstile};
-use rr_script::Answer;
-use rr_threads::{Client, Handle, run_clients};
-use rr_types::{Command, Name, Nodes, Op, Refusal, RequestNo, Value};
-use rr_window::WindowName;
-use std::sync::Wait;
-use std::sync::atomic::{AtomicBool, Ordering};
+use rr_client::{ClusterError, Guest, Names, Options, Place, run_cluster};
+use rr_types::{Name, Nodes, Reply, Value};
+use std::fs;
 
-/// A client that claims a name and looks at it.
+/// Someone who claims a desk, and counts the desks where it has one already.
 #[derive(Drop)]
-struct Guest<'s> {
-    is_seen: &'s AtomicBool,
+struct Clerk {
+    desk: Name,
+    desks: Option<usize>,
 }
 
-impl<'s> Client for Guest<'s> {
-    fn run<W: WindowName, T: Turnstile, R: Wait>(
-        &mut self,
-        handle: &mut Handle<'_, '_, W, T, R>,
-    ) -> Result<(), Refusal> {
-        let name = Name::new(b"printer")?;
-        let request = RequestNo { client: 7, seq: 1 };
-        let op = Op::Claim(name, Value::new(b"room-4")?);
-        handle.submit(&Command { request, op });
-        let is_bound = matches!(handle.look(&name), Answer::Bound { .. });
-        self.is_seen.store(is_bound, Ordering::SeqCst);
+impl Guest for Clerk {
+    fn run<N: Names>(&mut self, names: &mut N) -> Result<(), ClusterError> {
+        if let Reply::Taken(_) = names.claim(&self.desk, &Value::new(b"room-4")?)? {
+            names.sync()?;
+            self.desks = Some(names.list(b"desk-")?.len());
+        }
         Ok(())
     }
 }
 
 fn main(rt: HostRuntime) -> anyhow::Result<()> {
-    let alloc = rt.alloc();
-    let is_seen = AtomicBool::new(false);
-    let disks = vec![in alloc;
-        MemDisk::new(alloc),
-        MemDisk::new(alloc),
-        MemDisk::new(alloc),
-    ]?;
-    let guest = Guest { is_seen: &is_seen };
-    let clients = vec![in alloc; vec![in alloc; guest]?, Vec::new(alloc), Vec::new(alloc)]?;
-    run_clients(&rt, alloc, Nodes::new(3)?, disks, clients, &Open, None)?;
-    println!(rt; "printer is bound: {}", is_seen.load(Ordering::SeqCst))?;
+    let _ = fs::remove_dir_all(&rt, "one_cluster.nodes"); // to begin anew; a registry keeps its folder
+    for life in ["at first", "behind a restart"] {
+        let mut places = Vec::new(rt.alloc());
+        for (node, desk) in [b"desk-0", b"desk-1", b"desk-2"].iter().enumerate() {
+            let desk = Name::new(*desk)?;
+            let guest = Clerk { desk, desks: None };
+            let (node, client) = (node as u8, node as u32);
+            places.push(Place {
+                node,
+                client,
+                guest,
+            })?;
+        }
+        let (nodes, options) = (Nodes::new(3)?, Options::usual());
+        for clerk in run_cluster(&rt, nodes, "one_cluster.nodes", &options, places)? {
+            match clerk.desks {
+                None => println!(rt; "{life}: a clerk has claimed its desk")?,
+                Some(desks) => println!(rt; "{life}: a clerk has one of {desks} desks")?,
+            }
+        }
+    }
     Ok(())
 }

@@ -1,13 +1,16 @@
 -- The objects of events, one after the other.
-use Rattle.std.proofs.Common.{◌≡◌, ◌≤◌, ◌++◌, ◌+◌, ◌∷◌, [], ℕ, List, Option, length, take, drop, map, refl, ap, subst, sym, ◌∙◌, arith}
+use Rattle.std.proofs.Common.{◌≡◌, ◌≤◌, ◌++◌, ◌+◌, ◌-◌, ◌<◌, ◌∷◌, [], ℕ, List, Option, Some, length, take, drop, map, refl, ap, subst, sym, ◌∙◌, arith}
+use Rattle.std.specs.Prelude.{slice_get, if◌then◌else◌, Bool}
 use Rattle.std.specs.List.{flat_map}
-use Rattle.std.proofs.lemmas.List.{append_assoc, append-nil, length-append}
+use Rattle.std.proofs.lemmas.List.{append_assoc, append-nil, append_cancel_left, length-append, map-append, take_all}
 use Rattle.std.proofs.lemmas.Grind.{flat_map-append}
 use Rattle.rr_text.specs.declared.event.Event.{Event}
 use Rattle.rr_text.specs.declared.report.ReportLine.{ReportLine}
 use Rattle.rr_json.specs.Objects.{decided_objects}
-use Rattle.rr_account.specs.Accounts.{Accounted}
+use Rattle.rr_account.specs.declared.outcome.Outcome.{Outcome}
+use Rattle.rr_account.specs.Accounts.{Accounted, lines_told, IsSharedOut}
 use Rattle.rr_account.specs.Objects.{Happening, happening_object, happening_objects, lines_of, IsAnObject, IsExplanation}
+use Rattle.rr_account.proofs.ShareLaws.{StandsAt, stands_first, share_here, take_next}
 
 objects_more : (at : ℕ) (hs : List Happening) (h : Happening) → happening_objects at (hs ++ h ∷ []) ≡ happening_objects at hs ++ happening_object (at + length hs) h
 objects_more at [] h = append-nil (happening_object at h) ∙ ap (λ (k : ℕ). happening_object k h) (omega arith)
@@ -22,6 +25,30 @@ events_more : (hs : List Happening) (h : Happening) (rest : List Event) → map 
 events_more [] h rest = refl
 events_more (x ∷ xs) h rest = ap (λ (t : List Event). x.event ∷ t) (events_more xs h rest)
 
+-- by any shares, the objects so far have the lines of their events
+pub record SharedSoFar (shares : List (List ReportLine)) (index count : ℕ) (happenings : List Happening) : Type 0 where
+  pub stands : StandsAt shares index count
+  pub lines : map (λ (h : Happening). lines_of h.line) happenings ≡ take index shares
+
+shared_next : (account : Accounted) (shares : List (List ReportLine)) (index at count next : ℕ) (is_told : Bool) (l : Option ReportLine) (happenings : List Happening) (h : Happening)
+    → IsSharedOut account shares → SharedSoFar shares index count happenings → at ≡ index + 2 → index < length account.schedule.events → h.line ≡ l
+    → take next account.report.lines ≡ take count account.report.lines ++ lines_of l
+    → (count + (if is_told then 1 else 0) ≤ length account.report.lines → next ≡ count + (if is_told then 1 else 0))
+    → ((outcome : Outcome) → slice_get account.outcomes (at - 2) ≡ Some outcome → count + lines_told outcome ≤ length account.report.lines → (if is_told then 1 else 0) ≡ lines_told outcome)
+    → SharedSoFar shares (index + 1) next (happenings ++ h ∷ [])
+shared_next account shares index at count next is_told l happenings h out s line_is within own on counted came =
+    let mine = share_here account shares index count out within s.stands in
+    let place : at - 2 ≡ index = omega (arith, line_is) in
+    let size : (if is_told then 1 else 0) ≡ lines_told mine.outcome = came mine.outcome (ap (slice_get account.outcomes) place ∙ mine.outcome_here) mine.fits in
+    let goes : next ≡ count + length mine.share = omega (arith, size, mine.size, counted (omega (arith, size, mine.fits))) in
+    let is : lines_of l ≡ mine.share =
+    append_cancel_left (take count account.report.lines) (lines_of l) mine.share (sym on ∙ ap (λ (k : ℕ). take k account.report.lines) goes ∙ sym mine.front) in
+    record {
+      stands = subst (λ (k : ℕ). StandsAt shares (index + 1) k) (sym goes) mine.next;
+      lines = map-append (λ (x : Happening). lines_of x.line) happenings (h ∷ []) ∙ ap (λ (ss : List (List ReportLine)). ss ++ lines_of h.line ∷ []) s.lines
+          ∙ ap (λ (ls : List ReportLine). take index shares ++ ls ∷ []) (ap lines_of own ∙ is) ∙ sym (take_next shares index mine.share mine.here);
+    }
+
 -- the events so far have their objects, and so many lines of the report stand in them
 pub record ToldSoFar (account : Accounted) (index at count : ℕ) (text : List ℕ) : Type 0 where
   pub happenings : List Happening
@@ -29,32 +56,38 @@ pub record ToldSoFar (account : Accounted) (index at count : ℕ) (text : List �
   pub counted : length happenings ≡ index
   pub line_is : at ≡ index + 2
   pub lines : flat_map (λ (h : Happening). lines_of h.line) happenings ≡ take count account.report.lines
+  pub each : (shares : List (List ReportLine)) → IsSharedOut account shares → SharedSoFar shares index count happenings
   pub text_is : text ≡ happening_objects 2 happenings
 
 pub told_none : (account : Accounted) → ToldSoFar account 0 2 0 []
-told_none account = record { happenings = []; split = refl; counted = refl; line_is = refl; lines = refl; text_is = refl }
+told_none account = record { happenings = []; split = refl; counted = refl; line_is = refl; lines = refl; each = λ shares out. record { stands = stands_first shares; lines = refl }; text_is = refl }
 
-pub told_more : (account : Accounted) (index at count next : ℕ) (e : Event) (l : Option ReportLine) (text all : List ℕ) → ToldSoFar account index at count text
+pub told_more : (account : Accounted) (index at count next : ℕ) (is_told : Bool) (e : Event) (l : Option ReportLine) (text all : List ℕ) → ToldSoFar account index at count text
     → drop index account.schedule.events ≡ e ∷ drop (index + 1) account.schedule.events → take next account.report.lines ≡ take count account.report.lines ++ lines_of l
-    → IsAnObject at e l text all → ToldSoFar account (index + 1) (at + 1) next all
-told_more account index at count next e l text all s first on one =
+    → IsAnObject at e l text all → index < length account.schedule.events
+    → (count + (if is_told then 1 else 0) ≤ length account.report.lines → next ≡ count + (if is_told then 1 else 0))
+    → ((outcome : Outcome) → slice_get account.outcomes (at - 2) ≡ Some outcome → count + lines_told outcome ≤ length account.report.lines → (if is_told then 1 else 0) ≡ lines_told outcome)
+    → ToldSoFar account (index + 1) (at + 1) next all
+told_more account index at count next is_told e l text all s first on one inside counted came =
     let h : Happening = record { event = e; line = l; idle = one.idle; note = one.note } in
     record {
       happenings = s.happenings ++ h ∷ [];
       split = events_more s.happenings h (drop (index + 1) account.schedule.events) ∙ ap (λ (es : List Event). map (λ (x : Happening). x.event) s.happenings ++ es) (sym first) ∙ s.split;
       counted = (let k = length-append s.happenings (h ∷ []) in omega (k, s.counted, arith));
       line_is = omega (s.line_is, arith);
+      each = λ shares out. shared_next account shares index at count next is_told l s.happenings h out (s.each shares out) s.line_is inside refl on counted came;
       lines = lines_more s.happenings h ∙ ap (λ (ls : List ReportLine). ls ++ lines_of l) s.lines ∙ sym on;
       text_is = one.grew ∙ ap (λ (t : List ℕ). t ++ happening_object at h) s.text_is ∙ ap (λ (k : ℕ). happening_objects 2 s.happenings ++ happening_object k h) (omega (s.line_is, s.counted, arith)) ∙ sym (objects_more 2 s.happenings h);
     }
 
 pub told_end : (account : Accounted) (index at count : ℕ) (text all : List ℕ) → ToldSoFar account index at count text → drop index account.schedule.events ≡ []
-    → all ≡ text ++ decided_objects account.report.decided → IsExplanation account all
-told_end account index at count text all s none is = record {
+    → all ≡ text ++ decided_objects account.report.decided → length account.schedule.events ≤ index → IsExplanation account all
+told_end account index at count text all s none is past = record {
   happenings = s.happenings;
   count = count;
   events = sym (append-nil (map (λ (h : Happening). h.event) s.happenings)) ∙ ap (λ (es : List Event). map (λ (h : Happening). h.event) s.happenings ++ es) (sym none) ∙ s.split;
   lines = s.lines;
+  each = λ shares out. (s.each shares out).lines ∙ take_all index shares (omega (arith, past, out.one_each));
   text_is = is ∙ ap (λ (t : List ℕ). t ++ decided_objects account.report.decided) s.text_is;
 }
 

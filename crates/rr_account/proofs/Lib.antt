@@ -1,3 +1,6 @@
 pub mod ExplanationLemmas
+pub mod ShareLaws
+pub mod StepLaws
 pub mod TextLemmas
 mod WatchLaws
+pub mod TapeLaws

@@ -1,11 +1,15 @@
 -- The account of a run.
-use Rattle.std.specs.Prelude.{◌≡◌, ℕ, List}
+use Rattle.std.specs.Prelude.{◌≡◌, ℕ, ◌+◌, List, [], ◌∷◌, ◌++◌, length, map}
+use Rattle.std.specs.List.{flat_map}
+use Rattle.rr_text.specs.declared.event.Event.{Event}
+use Rattle.rr_text.specs.declared.report.ReportLine.{ReportLine}
 use Rattle.rr_text.specs.Scheduled.{Scheduled, IsSchedule}
 use Rattle.rr_text.specs.ScheduleTexts.{schedule_text}
 use Rattle.rr_text.specs.Reported.{Reported}
-use Rattle.rr_sim.specs.Clusters.{IsOnlyOneIfClean}
+use Rattle.rr_sim.specs.Clusters.{Cluster, new_cluster, Steps, IsOnlyOneIfClean}
 use Rattle.rr_sim.specs.Headline.{IsRunOfTheWorld, AgreesWithOneList, KeepsRealTime}
 use Rattle.rr_account.specs.declared.outcome.Outcome.{Outcome}
+use Rattle.rr_account.specs.declared.outcome.Outcome.TheVariants.{Quiet, Told, Idle}
 
 -- a schedule, what came of each of its events in turn, and the report of its run
 pub record Accounted : Type 0 where
@@ -21,8 +25,43 @@ pub record IsReportOf (schedule : Scheduled) (report : Reported) : Type 0 where
   pub real_time : KeepsRealTime schedule.nodes schedule.events report
   pub clean : IsOnlyOneIfClean schedule.nodes schedule.events report
 
+-- how many lines a report has of an event of which this came
+abbrev pub lines_told : Outcome → ℕ
+lines_told Quiet = 0
+lines_told Told = 1
+lines_told (Idle why) = 0
+
+-- the lines of the report are those of the events in turn: each has these, as many as its outcome says
+pub record IsSharedOut (account : Accounted) (shares : List (List ReportLine)) : Type 0 where
+  pub all : account.report.lines ≡ flat_map (λ ls. ls) shares
+  pub one_each : length shares ≡ length account.schedule.events
+  pub counts : map length shares ≡ map lines_told account.outcomes
+
+-- the events, of which the first stands on this line, lead from one cluster to another, and the step at each adds these lines
+-- to the report
+abbrev pub AddEach : ℕ → List Event → List (List ReportLine) → Cluster → Cluster → Type 0
+AddEach at [] [] old new = new ≡ old
+AddEach at [] (ls ∷ shares) old new = ⊥
+AddEach at (e ∷ es) [] old new = ⊥
+AddEach at (e ∷ es) (ls ∷ shares) old new =
+    (next : Cluster) × Steps at e old next × (next.lines ≡ old.lines ++ ls) × AddEach (at + 1) es shares next new
+
+-- these came of the events: a share of lines for each, which the step at it adds, as many as the outcome says
+pub record AreWatched (at : ℕ) (events : List Event) (outcomes : List Outcome) (old new : Cluster) : Type 0 where
+  pub shares : List (List ReportLine)
+  pub add : AddEach at events shares old new
+  pub counts : map length shares ≡ map lines_told outcomes
+
+-- the account is of one run: the report has the lines that the steps at its events add, in turn, and no others
+pub record IsOfOneRun (account : Accounted) : Type 0 where
+  pub shares : List (List ReportLine)
+  pub at_the_end : Cluster
+  pub add : AddEach 2 account.schedule.events shares (new_cluster account.schedule.nodes) at_the_end
+  pub shared_out : IsSharedOut account shares
+
 -- the bytes are the text of a schedule, and the account is that of its run
 pub record IsAccountOn (bytes : List ℕ) (account : Accounted) : Type 0 where
   pub lawful : IsSchedule account.schedule
   pub read : bytes ≡ schedule_text account.schedule
   pub run : IsReportOf account.schedule account.report
+  pub of_one_run : IsOfOneRun account

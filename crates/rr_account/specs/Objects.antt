@@ -8,7 +8,7 @@ use Rattle.rr_text.specs.declared.report.ReportLine.{ReportLine}
 use Rattle.rr_text.specs.ScheduleTexts.{event_text}
 use Rattle.rr_json.specs.Json.{quoted, label, begun, number_member, words_member, opened, listed}
 use Rattle.rr_json.specs.Objects.{line_front, decided_objects}
-use Rattle.rr_account.specs.Accounts.{Accounted}
+use Rattle.rr_account.specs.Accounts.{Accounted, IsSharedOut}
 use Rattle.rr_account.specs.declared.statistics.EventCount.{EventCount}
 use Rattle.rr_account.specs.declared.statistics.MessageCount.{MessageCount}
 use Rattle.rr_account.specs.declared.statistics.RefusalCount.{RefusalCount}
@@ -57,12 +57,13 @@ lines_of None = []
 lines_of (Some l) = l ∷ []
 
 -- a text is the account as JSON: an object for each event, in their order, then those of the decided commands. The lines of
--- the report that the objects have are its first ones, in their order
+-- the report that the objects have are its first ones, in their order; each has those of its event
 pub record IsExplanation (account : Accounted) (text : List ℕ) : Type 0 where
   pub happenings : List Happening
   pub count : ℕ
   pub events : map (λ h. h.event) happenings ≡ account.schedule.events
   pub lines : flat_map (λ h. lines_of h.line) happenings ≡ take count account.report.lines
+  pub each : (shares : List (List ReportLine)) → IsSharedOut account shares → map (λ h. lines_of h.line) happenings ≡ shares
   pub text_is : text ≡ happening_objects 2 happenings ++ decided_objects account.report.decided
 
 -- the counts of a kind of events

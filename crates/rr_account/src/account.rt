@@ -1,6 +1,8 @@
 //! The account of a run.
 
-ghost use Rattle.std.specs.Prelude.{◌≡◌, ◌≤◌, length};
+ghost use Rattle.std.specs.Prelude.{◌≡◌, ◌≤◌, ◌+◌, ◌-◌, length, slice_get, Some, if◌then◌else◌};
+ghost use Rattle.rr_account.specs.declared.outcome.Outcome as came;
+ghost use Rattle.rr_account.specs.Accounts.{lines_told};
 
 use crate::outcome::Outcome;
 use crate::reasons::Reason;
@@ -82,7 +84,9 @@ impl Account {
     }
 
     /// What came of the event of a line of the schedule.
-    pub fn outcome_of(&self, line: u64) -> Outcome {
+    pub fn outcome_of(&self, line: u64) -> Outcome
+        ensures { (outcome : came.Outcome) → slice_get self.now.outcomes (line - 2) ≡ Some outcome → result ≡ outcome }
+    {
         // Line 1 of a schedule has the number of nodes, so the first event stands on line 2.
         match self.outcomes.get(line.saturating_sub(2) as usize) {
             Some(outcome) => *outcome,
@@ -92,7 +96,10 @@ impl Account {
 
     /// Whether the event on line `line` of the schedule has a line in the report, and what is said of the event. The
     /// events before it have `told` lines there.
-    pub(crate) fn happening(&self, line: u64, told: usize) -> (bool, Reason) {
+    pub(crate) fn happening(&self, line: u64, told: usize) -> (bool, Reason)
+        ensures { (outcome : came.Outcome) → slice_get self.now.outcomes (line - 2) ≡ Some outcome
+            → told + lines_told outcome ≤ length self.now.report.lines → (if result.0 then 1 else 0) ≡ lines_told outcome }
+    {
         match self.outcome_of(line) {
             Outcome::Quiet => (false, Reason::Done),
             Outcome::Idle(idle) => (false, Reason::Idle(idle)),

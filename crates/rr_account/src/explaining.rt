@@ -1,9 +1,10 @@
 //! A report with a note on each event: what it did, or why it was refused or came to nothing.
 
-ghost use Rattle.std.specs.Prelude.{◌≡◌, ◌≤◌, ◌+◌, ◌++◌, ◌∷◌, [], List, take, length, slice_range, OnOk, IfOk, IfErr};
+ghost use Rattle.std.specs.Prelude.{◌≡◌, ◌≤◌, ◌+◌, ◌-◌, ◌++◌, ◌∷◌, [], ℕ, List, take, length, slice_get, slice_range, Some, if◌then◌else◌, OnOk, IfOk, IfErr};
 ghost use Rattle.rr_text.specs.declared.event.Event.{Event};
-ghost use Rattle.rr_text.specs.ReportTexts.{report_text};
-ghost use Rattle.rr_account.specs.Texts.{IsNoted, told_lines};
+ghost use Rattle.rr_account.specs.declared.outcome.Outcome.{Outcome};
+ghost use Rattle.rr_account.specs.Accounts.{lines_told};
+ghost use Rattle.rr_account.specs.Texts.{IsNoteOn, note_line, IsNoted, IsExplained, told_lines};
 
 use crate::account::Account;
 use crate::note::push_note;
@@ -19,7 +20,7 @@ use std::alloc::Global;
 /// # Errors
 /// `OutOfMemory`.
 pub fn explanation(alloc: Global, account: &Account) -> Result<Vec<u8>, Refusal>
-    ensures ok { IfOk result (λ text. IsNoted account.now.schedule.events (report_text account.now.report) text.items) }
+    ensures ok { IfOk result (λ text. IsExplained account.now text.items) }
     ensures err { IfErr result (λ e. e ≡ Refusal.OutOfMemory) }
 {
     let lines = account.lines();
@@ -49,6 +50,10 @@ fn push_happening(
     requires { told ≤ length account.now.report.lines }
     ensures range { IfOk result (λ next. next ≤ length account.now.report.lines) }
     ensures ok { IfOk result (λ next. (events : List Event) → line ≡ 2 + length events → IsNoted events (told_lines (take told account.now.report.lines)) text.old.items → IsNoted (events ++ event.now ∷ []) (told_lines (take next account.now.report.lines)) text.new.items) }
+    ensures noted { IfOk result (λ next. (words : List ℕ) × IsNoteOn line event.now words
+        × (text.new.items ≡ text.old.items ++ (told_lines (slice_range account.now.report.lines told next) ++ note_line words))) }
+    ensures counted { IfOk result (λ next. (outcome : Outcome) → slice_get account.now.outcomes (line - 2) ≡ Some outcome
+        → told + lines_told outcome ≤ length account.now.report.lines → next ≡ told + lines_told outcome) }
     ensures err { IfErr result (λ e. e ≡ Refusal.OutOfMemory) }
 {
     let (is_told, reason) = account.happening(line, told);
@@ -68,6 +73,7 @@ fn push_told(
 ) -> Result<usize, Refusal>
     requires { told ≤ length lines.now }
     ensures range { IfOk result (λ next. (told ≤ next) × (next ≤ length lines.now)) }
+    ensures counted { IfOk result (λ next. told + (if is_told then 1 else 0) ≤ length lines.now → next ≡ told + (if is_told then 1 else 0)) }
     ensures ok { IfOk result (λ next. text.new.items ≡ text.old.items ++ told_lines (slice_range lines.now told next)) }
     ensures err { IfErr result (λ e. e ≡ Refusal.OutOfMemory) }
 {

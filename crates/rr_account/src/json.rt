@@ -1,6 +1,6 @@
 //! A report as JSON, an object a line.
 
-ghost use Rattle.std.specs.Prelude.{◌≡◌, ◌++◌, ◌∷◌, [], ◌+◌, ◌≤◌, ℕ, List, Bool, Option, option_map, take, length, map, codes, OnOk, IfOk, IfErr};
+ghost use Rattle.std.specs.Prelude.{◌≡◌, ◌++◌, ◌∷◌, [], ◌+◌, ◌≤◌, ℕ, List, Bool, Option, option_map, take, length, map, codes, if◌then◌else◌, OnOk, IfOk, IfErr};
 ghost use Rattle.std.specs.List.{flat_map};
 ghost use Rattle.rr_json.specs.Json.{opened};
 ghost use Rattle.rr_json.specs.Objects.{line_front, report_objects};
@@ -99,7 +99,8 @@ fn push_happening(
 
 // The line behind the first `told` lines of a report, if an event has one; and how many lines are told then.
 fn next_line(lines: &[ReportLine], told: usize, is_told: bool) -> (Option<&ReportLine>, usize)
-    ensures { take result.1 lines.now ≡ take told lines.now ++ lines_of (option_map (λ l. l.now) result.0) }
+    ensures line { take result.1 lines.now ≡ take told lines.now ++ lines_of (option_map (λ l. l.now) result.0) }
+    ensures counted { told + (if is_told then 1 else 0) ≤ length lines.now → result.1 ≡ told + (if is_told then 1 else 0) }
 {
     if is_told && told < lines.len() {
         (Some(&lines[told]), told + 1)

@@ -1,16 +1,18 @@
 //! A run that is watched: what comes of each event.
 
-ghost use Rattle.std.specs.Prelude.{◌≡◌, IfOk, IfErr};
+ghost use Rattle.std.specs.Prelude.{◌≡◌, ◌≤◌, ◌++◌, List, length, IfOk, IfErr};
+ghost use Rattle.rr_text.specs.declared.report.ReportLine.{ReportLine};
 ghost use Rattle.rr_text.specs.Lines.{IsFault};
 ghost use Rattle.rr_text.specs.Scheduled.{IsEvent};
 ghost use Rattle.rr_text.specs.ScheduleTexts.{event_line};
-ghost use Rattle.rr_account.specs.Accounts.{IsAccountOn, IsReportOf};
+ghost use Rattle.rr_sim.specs.Clusters.{Steps, LeadsSpelt, IsSpeltBehind};
+ghost use Rattle.rr_account.specs.Accounts.{lines_told, AreWatched, IsAccountOn, IsOfOneRun, IsReportOf};
 
 use crate::account::Account;
 use crate::outcome::{Idle, Outcome};
-use rr_sim::{Cluster, Stance, node_of, simulate};
+use rr_sim::{Cluster, Stance, decided_list, node_of};
 use rr_stream::{Sink, tell_step};
-use rr_text::{Event, Schedule};
+use rr_text::{Event, Report, Schedule};
 use rr_types::Refusal;
 use std::alloc::Global;
 
@@ -33,53 +35,83 @@ pub fn account_on<O: Sink>(alloc: Global, bytes: &[u8], out: &mut O) -> Result<A
     }
 }
 
-/// The account of the run of a schedule. It is run twice: to see what comes of each event, and for its report. Those
-/// who watch `out` are told how far it is: half-way when the second run begins. `out` takes nothing.
+/// The account of the run of a schedule. Those who watch `out` are told how far it is. `out` takes nothing.
 ///
 /// # Errors
 /// `OutOfMemory`.
 pub fn watch<O: Sink>(alloc: Global, schedule: Schedule, out: &mut O) -> Result<Account, Refusal>
     ensures schedule { IfOk result (λ account. account.schedule ≡ schedule) }
     ensures run { IfOk result (λ account. IsReportOf schedule account.report) }
+    ensures of_one_run { IfOk result (λ account. IsOfOneRun account) }
     ensures err { IfErr result (λ e. e ≡ Refusal.OutOfMemory) }
     ensures unprinted { O.printing out.new ≡ O.printing out.old }
 {
-    let nodes = schedule.nodes().count();
-    let outcomes = outcomes_of(alloc, &schedule, out);
-    let report = simulate(alloc, nodes, &schedule);
+    let watched = watched_run(alloc, &schedule, out);
     out.tell_progress(1, 1);
-    Ok(Account::new(schedule, outcomes?, report?))
+    let (outcomes, report) = watched?;
+    Ok(Account::new(schedule, outcomes, report))
 }
 
-// What comes of each event of a schedule, in turn. Its progress is told as half of the work.
-fn outcomes_of<O: Sink>(
+// What comes of each event of a schedule, in turn, and the report of the run.
+fn watched_run<O: Sink>(
     alloc: Global,
     schedule: &Schedule,
     out: &mut O,
-) -> Result<Vec<Outcome>, Refusal>
+) -> Result<(Vec<Outcome>, Report), Refusal>
+    ensures run { IfOk result (λ r. IsReportOf schedule.now r.1) }
+    ensures of_one_run { IfOk result (λ r. IsOfOneRun (record { schedule = schedule.now; outcomes = r.0.items; report = r.1 })) }
     ensures err { IfErr result (λ e. e ≡ Refusal.OutOfMemory) }
     ensures unprinted { O.printing out.new ≡ O.printing out.old }
 {
-    let mut cluster = Cluster::new(alloc, schedule.nodes())?;
-    let mut told = Vec::new(alloc);
+    let nodes = schedule.nodes();
+    let mut cluster = Cluster::new(alloc, nodes)?;
+    let outcomes = watch_events(alloc, schedule.events(), &mut cluster, out)?;
+    let decided = decided_list(alloc, nodes, cluster.wire())?;
+    Ok((outcomes, Report::new(cluster.into_lines(), decided)))
+}
+
+// Makes the events, of which the first stands on line 2, and gives what comes of each.
+fn watch_events<O: Sink>(
+    alloc: Global,
+    events: &[Event],
+    cluster: &mut Cluster,
+    out: &mut O,
+) -> Result<Vec<Outcome>, Refusal>
+    requires { length events.now ≤ 1000000 }
+    ensures spelt { IfOk result (λ _. LeadsSpelt 2 events.now cluster.old cluster.new) }
+    ensures watched { IfOk result (λ outcomes. AreWatched 2 events.now outcomes.items cluster.old cluster.new) }
+    ensures err { IfErr result (λ e. e ≡ Refusal.OutOfMemory) }
+    ensures unprinted { O.printing out.new ≡ O.printing out.old }
+{
     let mut outcomes = Vec::new(alloc);
     let mut line = 2u64;
-    let work = (schedule.events().len() as u64).saturating_mul(2);
-    for event in schedule.events() {
-        tell_step(line, line, work, out);
-        let before = stance_at(&cluster, event);
-        cluster.step(alloc, line, event)?;
-        told.clear();
-        cluster.tell(&mut told)?;
-        let outcome = if told.is_empty() {
-            untold_outcome(&cluster, event, before)
-        } else {
-            Outcome::Told
-        };
-        outcomes.push(outcome)?;
-        line = line.saturating_add(1);
+    for event in events {
+        tell_step(line, line, events.len() as u64, out);
+        outcomes.push(watch_event(alloc, cluster, line, event)?)?;
+        line += 1;
     }
     Ok(outcomes)
+}
+
+// Makes the event of a line, and gives what comes of it.
+fn watch_event(
+    alloc: Global,
+    cluster: &mut Cluster,
+    line: u64,
+    event: &Event,
+) -> Result<Outcome, Refusal>
+    ensures steps { IfOk result (λ _. Steps line event.now cluster.old cluster.new × IsSpeltBehind event.now cluster.old cluster.new) }
+    ensures adds { IfOk result (λ outcome. (added : List ReportLine) × (cluster.new.lines ≡ cluster.old.lines ++ added) × (length added ≡ lines_told outcome)) }
+    ensures err { IfErr result (λ e. e ≡ Refusal.OutOfMemory) }
+{
+    let told = cluster.lines().len();
+    let before = stance_at(cluster, event);
+    cluster.step(alloc, line, event)?;
+    if cluster.lines().len() == told {
+        Ok(untold_outcome(cluster, event, before))
+    } else {
+        Ok(Outcome::Told)
+    }
 }
 
 // What the node of an event waits for.
@@ -91,7 +123,9 @@ fn stance_at(cluster: &Cluster, event: &Event) -> Option<Stance> {
 }
 
 // What has come of an event that has no line in the report, by what its node waited for before it.
-fn untold_outcome(cluster: &Cluster, event: &Event, before: Option<Stance>) -> Outcome {
+fn untold_outcome(cluster: &Cluster, event: &Event, before: Option<Stance>) -> Outcome
+    ensures { lines_told result ≡ 0 }
+{
     match event {
         Event::Hear { node, message } => match cluster.wire().get(*message as usize) {
             None => Outcome::Idle(Idle::NoMessage(*message, cluster.wire().len() as u64)),

@@ -123,7 +123,7 @@ fn yes_text(alloc: Global, count: u64) -> Result<String, AllocError>
 }
 
 // Ends by a no to the event of this number. A second line tells it in plain words, where memory suffices for it.
-fn end_by_no<E: Write>(
+pub(crate) fn end_by_no<E: Write>(
     alloc: Global,
     bytes: &[u8],
     number: u64,

@@ -89,21 +89,22 @@ fn simulate_file<F: FileReader, O: Sink, E: Write>(
 ///
 /// `rr sim [FILE]` reads a schedule from FILE, or else from `input`, and prints its report on `out`. `rr show DIR [--json]`
 /// prints what the areas of the disk in the folder DIR hold. `rr random --seed SEED --steps STEPS --nodes NODES` prints
-/// a random schedule, a line `report` and the report of its run. With `--schedule-only` it prints the schedule alone.
-/// With `--json` it prints that report as JSON instead; `--schedule-only` and `--json` together are wrong words.
+/// a random schedule, a line `report` and the report of its run. With `--schedule-only` it prints the schedule alone. With
+/// `--finish` the events that finish it stand behind it. With `--json` it prints that report as JSON instead; this goes with
+/// neither of the other two.
 /// With `--lively` it is a schedule in which something happens, and `--faults` of a thousand steps have a fault.
 /// `rr audit [FILE] [--json]` reads a tape as `rr sim` does a schedule, and prints whether its events are what nodes do.
 /// `rr sweep [FILE] --seed SEED` reads a schedule, crashes a node after each device call, and prints what it restarts
 /// with, as it goes.
-/// `rr draw [FILE] [--from FROM] [--to TO] [--node NODE] [--instance INSTANCE]` reads a schedule, and prints the picture
-/// of its run: of the lines FROM to TO, of one node or of all, and of the messages of one instance or of every event.
+/// `rr draw [FILE] [--from FROM] [--to TO] [--node NODE] [--instance INSTANCE] [--requests]` reads a schedule, and prints the
+/// picture of its run: of the lines FROM to TO, of one node or of all, and of the messages of one instance or of every event.
 /// `rr migrate DIR --node NODE --nodes NODES` opens the disk in the folder DIR, and prints what its areas hold then.
 /// The disk is that of node NODE of NODES nodes.
 /// `rr verify DIR [--json]` reads the folders of a cluster in DIR, and prints what they hold and whether they agree.
 /// `rr export DIR [--list]` prints the registry of the longest list that they have decided as a script, or else the list.
 /// What goes wrong is told on `err`, but for a reader of `out` that has gone. The statuses: 0 done, 2 wrong words, 3 no
 /// schedule or tape, 4 a damaged area or folders that don't agree, 5 a device, a file or a stream, 6 memory, 7 a tape with an event that isn't what
-/// its node does next.
+/// its node does next, 8 a schedule that isn't finished.
 pub fn execute<R: Files + AllocGlobal, S: AsStr, F: FileReader, I: Source, O: Sink, E: Write>(
     rt: &R,
     words: &[S],

@@ -6,10 +6,13 @@ ghost use Rattle.rr_words.specs.Tasks.{random_words_in};
 ghost use Rattle.rr_cli.specs.Randoms.{IsNumberIn, IsNumberOf, AreFaults, FitsForm, AreNumbers, IsDrawnText};
 ghost use Rattle.rr_cli.specs.RandomObjects.{IsDrawnIn};
 ghost use Rattle.rr_cli.specs.Ends.{EndsOnRandom, EndsOnWords};
+ghost use Rattle.rr_cli.specs.Finishing.{IsFinishedDraw};
 
+use crate::finishing::end_by_finish;
 use crate::random_objects::drawn_objects;
 use crate::refusals::end_by_refusal;
 use crate::streams::end_by_text;
+use rr_finish::{Ending, finish_run};
 use rr_lively::{DEFAULT_FAULTS, Recipe, lively_run, lively_schedule};
 use rr_sim::{MAX_STEPS, random, random_run};
 use rr_stream::Sink;
@@ -22,13 +25,15 @@ use std::io::Write;
 const _: () = prove!(rr_words::MAX_STEPS == MAX_STEPS as u64);
 
 /// The numbers of a random schedule: how many nodes it has, the seed of its words, how many steps it has, and if it is
-/// lively, how many steps in a thousand have a fault; whether it is printed alone; and how the report is printed.
+/// lively, how many steps in a thousand have a fault; whether it is finished; whether it is printed alone; and how the report is
+/// printed.
 #[derive(Clone, Copy, Debug)]
 pub(crate) struct RandomNumbers {
     pub(crate) nodes: Nodes,
     pub(crate) seed: u64,
     pub(crate) steps: u32,
     pub(crate) faults: Option<u32>,
+    pub(crate) finish: bool,
     pub(crate) alone: bool,
     pub(crate) form: Form,
 }
@@ -94,14 +99,14 @@ fn faults_of(lively: bool, word: Option<&str>) -> Option<Option<u32>>
     }
 }
 
-// Whether a form fits: a schedule that is printed alone has no JSON.
-fn fits_form(alone: bool, form: Form) -> bool
-    ensures yes { result ≡ true → FitsForm alone form }
-    ensures no { result ≡ false → FitsForm alone form → ⊥ }
+// Whether a form fits: where the schedule is printed itself there is no JSON.
+fn fits_form(itself: bool, form: Form) -> bool
+    ensures yes { result ≡ true → FitsForm itself form }
+    ensures no { result ≡ false → FitsForm itself form → ⊥ }
 {
     match form {
         Form::Plain => true,
-        Form::Json => !alone,
+        Form::Json => !itself,
     }
 }
 
@@ -109,6 +114,7 @@ fn fits_form(alone: bool, form: Form) -> bool
 fn numbers_of(words: &RandomWords) -> Option<RandomNumbers>
     ensures some { IfSome result (λ d. AreNumbers (random_words_in words.now) d.seed d.steps d.nodes d.faults) }
     ensures few { IfSome result (λ d. d.steps ≤ 999930) }
+    ensures finish { IfSome result (λ d. d.finish ≡ words.now.finish) }
     ensures alone { IfSome result (λ d. d.alone ≡ words.now.alone) }
     ensures form { IfSome result (λ d. d.form ≡ words.now.form) }
     ensures none { result ≡ None → (s k n : ℕ) (f : Option ℕ) → AreNumbers (random_words_in words.now) s k n f → ⊥ }
@@ -117,7 +123,7 @@ fn numbers_of(words: &RandomWords) -> Option<RandomNumbers>
     let steps = number_of(words.steps, 0, u64::from(MAX_STEPS))?;
     let nodes = nodes_of(words.nodes?)?;
     let faults = faults_of(words.lively, words.faults)?;
-    if !fits_form(words.alone, words.form) {
+    if !fits_form(words.finish || words.alone, words.form) {
         return None;
     }
     Some(RandomNumbers {
@@ -125,6 +131,7 @@ fn numbers_of(words: &RandomWords) -> Option<RandomNumbers>
         seed,
         steps: steps as u32,
         faults,
+        finish: words.finish,
         alone: words.alone,
         form: words.form,
     })
@@ -207,6 +214,53 @@ fn drawn_text<O: Sink>(
     }
 }
 
+// The text of a random schedule and its finish: alone, or with a line `report` and the report of the run of both.
+fn finished_text<O: Sink>(
+    alloc: Global,
+    numbers: RandomNumbers,
+    out: &mut O,
+) -> Result<(Vec<u8>, Ending), Refusal>
+    requires { numbers.steps ≤ 999930 }
+    ensures ok { IfOk result (λ told. IsFinishedDraw numbers.alone numbers.faults numbers.nodes numbers.seed numbers.steps told.0.items) }
+    ensures err { IfErr result (λ e. e ≡ Refusal.OutOfMemory) }
+    ensures unprinted { O.printing out.new ≡ O.printing out.old }
+{
+    let lone = RandomNumbers {
+        alone: true,
+        ..numbers
+    };
+    let mut text = drawn_text(alloc, lone, out)?;
+    // The text is that of a schedule, so only memory may be wanting.
+    let Ok(finish) = finish_run(alloc, text.as_slice(), out) else {
+        return Err(Refusal::OutOfMemory);
+    };
+    text.extend_from_slice(finish.added.as_slice())?;
+    if numbers.alone {
+        return Ok((text, finish.ending));
+    }
+    text.extend_from_slice(b"report\n")?;
+    text.extend_from_slice(finish.report.as_slice())?;
+    Ok((text, finish.ending))
+}
+
+// Prints a random schedule and its finish, alone or with the report of its run.
+fn print_finished<O: Sink, E: Write>(
+    alloc: Global,
+    numbers: RandomNumbers,
+    out: &mut O,
+    err: &mut E,
+) -> u8
+    requires few { numbers.steps ≤ 999930 }
+    requires finish { numbers.finish ≡ true }
+    ensures ends { EndsOnRandom numbers.form numbers.finish numbers.alone numbers.faults numbers.nodes numbers.seed numbers.steps result (O.printing out.old) (O.printing out.new) }
+    ensures quiet { result ≡ 0 → Keeps (E.contents err.old) (E.contents err.new) }
+{
+    match finished_text(alloc, numbers, out) {
+        Ok((text, ending)) => end_by_finish(out, err, text.as_slice(), ending),
+        Err(refusal) => end_by_refusal(err, &refusal),
+    }
+}
+
 // What is printed of a random schedule, in the form that is asked for.
 fn text_in_form<O: Sink>(
     alloc: Global,
@@ -232,9 +286,12 @@ fn print_random<O: Sink, E: Write>(
     err: &mut E,
 ) -> u8
     requires { numbers.steps ≤ 999930 }
-    ensures ends { EndsOnRandom numbers.form numbers.alone numbers.faults numbers.nodes numbers.seed numbers.steps result (O.printing out.old) (O.printing out.new) }
+    ensures ends { EndsOnRandom numbers.form numbers.finish numbers.alone numbers.faults numbers.nodes numbers.seed numbers.steps result (O.printing out.old) (O.printing out.new) }
     ensures quiet { result ≡ 0 → Keeps (E.contents err.old) (E.contents err.new) }
 {
+    if numbers.finish {
+        return print_finished(alloc, numbers, out, err);
+    }
     match text_in_form(alloc, numbers, out) {
         Ok(text) => end_by_text(out, err, text.as_slice()),
         Err(refusal) => end_by_refusal(err, &refusal),
@@ -245,15 +302,15 @@ fn print_random<O: Sink, E: Write>(
 fn fault_of(words: &RandomWords) -> &'static str {
     if words.faults.is_some() && !words.lively {
         "--faults wants --lively"
-    } else if !fits_form(words.alone, words.form) {
-        "--json prints the report, which --schedule-only leaves out"
+    } else if !fits_form(words.finish || words.alone, words.form) {
+        "--json prints the report alone, so it goes with neither --schedule-only nor --finish"
     } else {
         "a number is missing or out of its range"
     }
 }
 
 /// Prints the random schedule that words name by their numbers, alone or with the report of its run; or that report as JSON.
-/// Words that are no such numbers, or ask for JSON of a schedule alone, end with 2.
+/// Words that are no such numbers, or ask for JSON of a schedule that is finished or printed alone, end with 2.
 pub(crate) fn random_by_words<O: Sink, E: Write>(
     alloc: Global,
     words: &RandomWords,

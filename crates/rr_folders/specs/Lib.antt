@@ -1,1 +1,2 @@
+pub mod NumberCalls
 pub mod Requests

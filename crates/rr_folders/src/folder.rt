@@ -4,7 +4,7 @@ ghost use Rattle.std.specs.Prelude.{◌≡◌, length, IfOk};
 
 use crate::closed::{Closed, done};
 use crate::forming::{are_formatted, begin, conclude, open_disks, take_on, tidy};
-use crate::lock::Lockable;
+use crate::lock::{Lockable, Locks};
 use crate::seen::{Seen, cluster_in, is_there, look_at};
 use rr_cluster::{Cluster, Content, Verdict, judge};
 use rr_disk::{FileDisk, OpenedFile, make_folder};
@@ -19,14 +19,14 @@ use std::rt::Files;
 /// The folders of a cluster: DIR and those in it, locked while `locks` is there, and the disks in them, ascending.
 #[derive(Drop)]
 pub struct Folders<F> {
-    pub locks: Vec<F>,
+    pub locks: Locks<F>,
     pub disks: Vec<FileDisk<OpenedFile<F>>>,
 }
 
 /// What was found in the folder DIR, which is locked while this is there. Contracts see how many nodes it was looked through for.
 #[derive(Drop)]
 pub struct Survey<F> {
-    pub(crate) locks: Vec<F>,
+    pub(crate) locks: Locks<F>,
     pub(crate) seen: Vec<Seen>,
     pub(crate) has_cluster_file: bool,
     // where the path of the first folder ends that was made for DIR
@@ -48,7 +48,7 @@ impl<F> Survey<F> {
         self.seen.iter().all(|seen| matches!(seen.found.content, Content::Absent | Content::Blank))
     }
     // The locks alone.
-    fn into_locks(self) -> Vec<F> {
+    fn into_locks(self) -> Locks<F> {
         let Survey {
             locks,
             seen: _,
@@ -57,22 +57,6 @@ impl<F> Survey<F> {
             verdict: _,
         } = self;
         locks
-    }
-}
-
-/// Opens a folder and locks it.
-pub(crate) fn lock_folder<F: Lockable, R: Files<File = F> + AllocGlobal>(
-    rt: &R,
-    path: &str,
-) -> Result<F, Closed>
-where
-    F: Read + Write + Seek + FileExt + OpenFile + Drop,
-{
-    let folder = done(rt, path, "opening the folder", fs::open(rt, path))?;
-    if done(rt, path, "locking", folder.lock_now())? {
-        Ok(folder)
-    } else {
-        Err(Closed::InUse(format!(in rt.alloc(); "{path}")?))
     }
 }
 
@@ -124,21 +108,20 @@ fn look_in<
 >(rt: &R, nodes: Nodes, dir: &str, made: Option<usize>) -> Result<Survey<F>, Closed>
     ensures { IfOk result (λ s. s ≡ nodes) }
 {
-    let mut locks = Vec::new(rt.alloc());
-    locks.push(lock_folder(rt, dir)?)?;
+    let mut locks = Locks::on(rt, dir)?;
     let mut seen = Vec::new(rt.alloc());
     let mut found = Vec::new(rt.alloc());
     for node in 0..nodes.count() {
         let path = format!(in rt.alloc(); "{dir}/{node}")?;
         if is_there(rt, path.as_str())? {
-            locks.push(lock_folder(rt, path.as_str())?)?;
+            locks.add(rt, path.as_str())?;
         }
-        let look = look_at(rt, path.as_str())?;
+        let look = look_at(rt, &locks, path.as_str())?;
         found.push(look.found)?;
         seen.push(look)?;
     }
     let path = format!(in rt.alloc(); "{dir}/cluster")?;
-    let cluster = cluster_in(rt, dir)?;
+    let cluster = cluster_in(rt, &locks)?;
     let verdict = judge(nodes, cluster.as_ref(), found.as_slice());
     Ok(Survey {
         locks,

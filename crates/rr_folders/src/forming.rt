@@ -4,8 +4,8 @@
 ghost use Rattle.std.specs.Prelude.{◌≡◌, ◌<◌, length, IfOk};
 
 use crate::closed::{Closed, done};
-use crate::folder::{Survey, lock_folder, remove_made};
-use crate::lock::Lockable;
+use crate::folder::{Survey, remove_made};
+use crate::lock::{Lockable, Locks};
 use crate::seen::Seen;
 use rr_cluster::{AreaFront, Cluster, Identity, Mark};
 use rr_disk::{FileDisk, OpenedFile, make_folder};
@@ -169,7 +169,7 @@ fn form_folder<
     identity: Identity,
     node: NodeId,
     seen: &Seen,
-    locks: &mut Vec<F>,
+    locks: &mut Locks<F>,
 ) -> Result<(), Closed> {
     let index = node.index();
     let folder = format!(in rt.alloc(); "{dir}/{index}")?;
@@ -180,7 +180,7 @@ fn form_folder<
             "making the folder",
             make_folder(rt, folder.as_str()),
         )?;
-        locks.push(lock_folder(rt, folder.as_str())?)?;
+        locks.add(rt, folder.as_str())?;
     }
     write_mark(rt, dir, node, identity, seen)
 }

@@ -1,17 +1,19 @@
 //! The folders of a cluster, as a program opens them: node P's is `DIR/P`, and `DIR/cluster` says which cluster they are.
 //! `open_folders` locks them, judges what it finds as `rr_cluster` says, and writes what is missing where a cluster begins.
-//! `survey_folders` and `enter` are its two halves. `reserve` reserves request numbers in a locked folder.
+//! `survey_folders` and `enter` are its two halves. `Locks` holds their locks, and reserves request numbers in a locked folder.
 #![tactic(auto)]
 
 mod closed;
 mod folder;
 mod forming;
 mod lock;
+mod number_file;
 mod requests;
 mod seen;
 
 pub use closed::Closed;
 pub use folder::{Folders, Survey, enter, open_folders, survey_folders};
 pub use forming::try_folder;
-pub use lock::Lockable;
-pub use requests::{Block, greatest_in, reserve};
+pub use lock::{Lockable, Locks};
+pub use number_file::{NumberFile, reserve};
+pub use requests::{Block, greatest_in, reserve_in};

@@ -1,7 +1,16 @@
 //! Locks on folders, by which a program keeps others off.
 
-use std::fs::{File, TryLockError};
-use std::io;
+ghost use Rattle.std.specs.Prelude.{◌≡◌, ◌+◌, ◌≤◌, IfOk};
+
+use crate::closed::{Closed, done};
+use crate::number_file::reserve;
+use crate::requests::Block;
+use rr_types::Refusal;
+use std::fs::{File, OpenFile, TryLockError};
+use std::io::{Read, Seek, Write};
+use std::os::unix::fs::FileExt;
+use std::rt::Files;
+use std::{fs, io};
 
 /// A folder or file that is open. A program can lock it for as long as it is.
 pub trait Lockable {
@@ -19,5 +28,70 @@ impl Lockable for File {
             Err(TryLockError::WouldBlock) => Ok(false),
             Err(TryLockError::Error(error)) => Err(error),
         }
+    }
+}
+
+/// The locks on the folder DIR of a cluster and on those in it that are there. They are held for as long as this is there, so whoever
+/// reads or writes in the folders borrows it meanwhile.
+#[derive(Drop)]
+pub struct Locks<F> {
+    dir: String,
+    held: Vec<F>,
+}
+
+impl<F: Read + Write + Seek + FileExt + OpenFile + Drop> Locks<F> {
+    /// Locks the folder DIR.
+    pub(crate) fn on<R: Files<File = F> + AllocGlobal>(
+        rt: &R,
+        dir: &str,
+    ) -> Result<Locks<F>, Closed>
+    where
+        F: Lockable,
+    {
+        let mut locks = Locks {
+            dir: format!(in rt.alloc(); "{dir}")?,
+            held: Vec::new(rt.alloc()),
+        };
+        locks.add(rt, dir)?;
+        Ok(locks)
+    }
+
+    /// Locks another folder.
+    pub(crate) fn add<R: Files<File = F> + AllocGlobal>(
+        &mut self,
+        rt: &R,
+        path: &str,
+    ) -> Result<(), Closed>
+    where
+        F: Lockable,
+    {
+        let folder = done(rt, path, "opening the folder", fs::open(rt, path))?;
+        if done(rt, path, "locking", folder.lock_now())? {
+            self.held.push(folder)?;
+            Ok(())
+        } else {
+            Err(Closed::InUse(format!(in rt.alloc(); "{path}")?))
+        }
+    }
+
+    /// The path of the folder DIR.
+    pub fn dir(&self) -> &str {
+        self.dir.as_str()
+    }
+
+    /// Reserves the next block of request numbers, from `least` on, by the file `requests` of the folder DIR. No earlier block has any of
+    /// them.
+    ///
+    /// # Errors
+    /// Those of `reserve_in`.
+    pub fn reserve<R: Files<File = F> + AllocGlobal>(
+        &self,
+        rt: &R,
+        least: u64,
+    ) -> Result<Block, Refusal>
+        ensures whole { IfOk result (λ b. b.end ≡ b.next + 1048576) }
+        ensures least { IfOk result (λ b. least ≤ b.next) }
+    {
+        reserve(rt, self.dir(), least)
     }
 }

@@ -1,18 +1,18 @@
 //! Request numbers that are unique over a program's restarts, whatever the clock does. The file `DIR/requests` holds the first
 //! number that is not reserved, in decimal, and a line feed.
 
-ghost use Rattle.std.specs.Prelude.{◌≡◌, ◌+◌, ◌^◌, ◌<◌, ◌≤◌, max, true, false, Some, ◌++◌, ◌∷◌, [], IfOk, IfErr, IfSome, decimal};
+ghost use Rattle.std.specs.Prelude.{◌≡◌, ◌+◌, ◌^◌, ◌<◌, ◌≤◌, max, true, false, Some, List, IfOk, IfErr, IfSome, IsOk, IsErr};
 ghost use Rattle.rr_folders.specs.Requests.{stored_number, greater, greatest_with, greatest_at, greatest_in};
+ghost use Rattle.rr_folders.specs.NumberCalls.{NumberCall, bytes_of, free_by, number_text, replaced, IsCutShort, IsAsked, Reserves, ReservesNone};
 
+use crate::number_file::NumberFile;
 use rr_text::text_read::{cut, number};
 use rr_text::text_word::{push_byte, push_number};
 use rr_types::{Command, Entry, Refusal, Standing};
 use std::alloc::Global;
-use std::fs::OpenFile;
-use std::io::{ErrorKind, Write};
+use std::io;
+use std::io::ErrorKind;
 use std::marker::Model;
-use std::rt::Files;
-use std::{fs, io};
 
 /// How many numbers are reserved at a time.
 const BLOCK: u64 = 1_048_576;
@@ -132,7 +132,7 @@ fn stored_number(bytes: &[u8]) -> Option<u64>
 
 // The bytes of the file that hold a number.
 fn number_text(alloc: Global, stored: u64) -> Result<Vec<u8>, Refusal>
-    ensures ok { IfOk result (λ v. v.items ≡ decimal stored ++ 10 ∷ []) }
+    ensures ok { IfOk result (λ v. v.items ≡ number_text stored) }
     ensures err { IfErr result (λ e. e ≡ Refusal.OutOfMemory) }
 {
     let mut text = Vec::new(alloc);
@@ -141,53 +141,50 @@ fn number_text(alloc: Global, stored: u64) -> Result<Vec<u8>, Refusal>
     Ok(text)
 }
 
-// The first number that the file says is not reserved: 0 where there is no file.
-fn first_free<R: Files + AllocGlobal>(rt: &R, path: &str) -> Result<u64, Refusal> {
-    match fs::read(rt, path) {
-        Ok(bytes) => match stored_number(bytes.as_slice()) {
-            Some(first) => Ok(first),
-            None => Err(Refusal::Malformed(0)),
-        },
-        Err(error) => match error.kind() {
-            ErrorKind::NotFound => Ok(0),
-            ErrorKind::OutOfMemory => Err(Refusal::OutOfMemory),
-            _ => Err(Refusal::Device),
-        },
+// The first number that is not reserved, by what a read found.
+fn free_by(found: &Option<Vec<u8>>) -> Option<u64>
+    ensures { result ≡ free_by (bytes_of found.now) }
+{
+    match found {
+        Some(bytes) => stored_number(bytes.as_slice()),
+        None => Some(0),
     }
 }
 
-// Replaces a file of a folder with a text. A crash leaves the file as it was or with the text, never with part of it.
-fn replace_file<R: Files>(
-    rt: &R,
-    dir: &str,
-    fresh: &str,
-    path: &str,
-    text: &[u8],
-) -> io::Result<()> {
-    let mut file = fs::create(rt, fresh)?;
-    file.write_all(text)?;
-    file.sync_all()?;
-    fs::rename(rt, fresh, path)?;
-    fs::open(rt, dir)?.sync_all()
+// Puts a text in the file's place. A crash leaves the file as it was or with the text, never with part of it.
+fn replace<N: NumberFile>(file: &mut N, text: &[u8]) -> io::Result<()>
+    ensures ok { IsOk result → IsAsked N.gives (replaced text.now) file.old file.new }
+    ensures err { IsErr result → (calls : List NumberCall) × IsCutShort text.now calls × IsAsked N.gives calls file.old file.new }
+{
+    file.write_fresh(text)?;
+    file.sync_fresh()?;
+    file.rename_fresh()?;
+    file.sync_folder()
 }
 
-/// Reserves the next block of request numbers, from `least` on, of a folder that is locked. No earlier block has any of them.
+/// Reserves the next block of request numbers, from `least` on, by this file. No earlier block has any of them, since the file says
+/// so, and lasts, before the block is given.
 ///
 /// # Errors
-/// `OutOfMemory`. `Malformed`, where the file holds no number: it is left as it is. `TooLarge`, where numbers are out. `Device`,
-/// where a file can't be read or written; the file may hold either number then.
-pub fn reserve<R: Files + AllocGlobal>(rt: &R, dir: &str, least: u64) -> Result<Block, Refusal>
-    ensures whole { IfOk result (λ b. b.end ≡ b.next + 1048576) }
-    ensures least { IfOk result (λ b. least ≤ b.next) }
+/// `OutOfMemory`: nothing was written. `Malformed`, where the file holds no number: it is left as it is. `TooLarge`, where numbers are
+/// out. `Device`, where a call failed; the file may hold either number then.
+pub fn reserve_in<N: NumberFile>(alloc: Global, file: &mut N, least: u64) -> Result<Block, Refusal>
+    ensures ok { IfOk result (λ b. Reserves N.gives least b file.old file.new) }
+    ensures err { IfErr result (λ e. ReservesNone N.gives least file.old file.new e) }
 {
-    let path = format!(in rt.alloc(); "{dir}/requests")?;
-    let fresh = format!(in rt.alloc(); "{dir}/requests.new")?;
-    let first = first_free(rt, path.as_str())?.max(least);
-    let Some(block) = Block::from(first) else {
+    let found = match file.read() {
+        Ok(found) => found,
+        Err(error) if error.kind() == ErrorKind::OutOfMemory => return Err(Refusal::OutOfMemory),
+        Err(_) => return Err(Refusal::Device),
+    };
+    let Some(first) = free_by(&found) else {
+        return Err(Refusal::Malformed(0));
+    };
+    let Some(block) = Block::from(first.max(least)) else {
         return Err(Refusal::TooLarge);
     };
-    let text = number_text(rt.alloc(), block.end)?;
-    match replace_file(rt, dir, fresh.as_str(), path.as_str(), text.as_slice()) {
+    let text = number_text(alloc, block.end)?;
+    match replace(file, text.as_slice()) {
         Ok(()) => Ok(block),
         Err(_) => Err(Refusal::Device),
     }

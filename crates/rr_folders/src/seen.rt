@@ -1,10 +1,13 @@
 //! What is found of a cluster's folders before any is opened. Nothing is written.
 
 use crate::closed::{Closed, done, failed};
+use crate::lock::Locks;
 use rr_cluster::{AreaFront, Cluster, Content, Found, Mark, content_of, front_of};
 use rr_types::Nodes;
 use std::fs;
-use std::io::{ErrorKind, Read};
+use std::fs::OpenFile;
+use std::io::{ErrorKind, Read, Seek, Write};
+use std::os::unix::fs::FileExt;
 use std::rt::Files;
 
 /// How many bytes an area's front has.
@@ -50,8 +53,12 @@ fn front_in<R: Files + AllocGlobal>(rt: &R, path: &str) -> Result<AreaFront, Clo
     Ok(front_of(length, &room[..count]))
 }
 
-/// What is found of a node's folder.
-pub(crate) fn look_at<R: Files + AllocGlobal>(rt: &R, folder: &str) -> Result<Seen, Closed> {
+/// What is found of a node's folder, while these locks are held.
+pub(crate) fn look_at<R: Files + AllocGlobal>(
+    rt: &R,
+    _locks: &Locks<R::File>,
+    folder: &str,
+) -> Result<Seen, Closed> {
     if !is_there(rt, folder)? {
         return Ok(Seen {
             found: Found {
@@ -84,10 +91,14 @@ pub(crate) fn look_at<R: Files + AllocGlobal>(rt: &R, folder: &str) -> Result<Se
 }
 
 /// What the cluster's file says. None: it is missing, or says nothing.
-pub(crate) fn cluster_in<R: Files + AllocGlobal>(
+pub(crate) fn cluster_in<F, R: Files<File = F> + AllocGlobal>(
     rt: &R,
-    dir: &str,
-) -> Result<Option<Cluster>, Closed> {
+    locks: &Locks<F>,
+) -> Result<Option<Cluster>, Closed>
+where
+    F: Read + Write + Seek + FileExt + OpenFile + Drop,
+{
+    let dir = locks.dir();
     let path = format!(in rt.alloc(); "{dir}/cluster")?;
     match bytes_of(rt, path.as_str())? {
         Some(bytes) => Ok(Cluster::parse(bytes.as_slice())),

@@ -1,3 +1,4 @@
 pub mod Counting
 pub mod Flushes
+pub mod OpeningLaws
 pub mod Takes

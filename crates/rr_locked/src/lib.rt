@@ -1,4 +1,5 @@
-//! What a node's threads share, and what each does in a turn; `rr_threads` has the loops. `Locked` is a core under its lock:
+//! What a node's threads share, and what each does in a turn; `rr_threads` has the loops. `recover_through` opens a node's disk.
+//! `Locked` is a core under its lock:
 //! clients and the node's loop call `step`, and the loop `mark`, `take_group` and `next_message`. `carry` flushes a group,
 //! and a `Follower` shows what is decided. The calls named `.._on` also note their event on the tape (`Recording`).
 #![tactic(auto)]
@@ -10,6 +11,7 @@ mod flusher;
 mod following;
 mod kept;
 mod locked;
+mod opening;
 mod recorded;
 mod recording;
 mod sent;
@@ -23,6 +25,7 @@ pub use flusher::{Unflushed, carry, flush};
 pub use following::Follower;
 pub use kept::Kept;
 pub use locked::Locked;
+pub use opening::recover_through;
 pub use recorded::{ack_on, hear_on, input_on, mark_on, send_on, take_on};
 pub use recording::Recording;
 pub use sent::{Sent, send};

@@ -5,7 +5,7 @@ use rr_types::NodeId;
 /// A place in a run.
 #[derive(Clone, Copy, Debug, PartialEq, Eq)]
 pub enum Place {
-    /// A flush of the node is about to call its disk.
+    /// An opening, a flush or a snapshot of the node is about to call its disk.
     BeforeDevice,
     /// The node has answered a submit.
     AfterSubmit,

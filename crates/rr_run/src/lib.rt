@@ -7,6 +7,7 @@ mod closed;
 mod defaults;
 mod post;
 mod program;
+mod reused;
 mod script_run;
 mod shell_run;
 mod ticking;

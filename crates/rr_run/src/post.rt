@@ -3,7 +3,9 @@
 ghost use Rattle.std.specs.Prelude.{◌≡◌, IfOk, IfErr, IfSome};
 ghost use Rattle.rr_types.specs.Registry.{registry_of};
 ghost use Rattle.rr_window.specs.Sights.{bindings_with};
+ghost use Rattle.rr_threads.specs.Asking.{IsAnswered};
 ghost use Rattle.rr_run.specs.Listings.{bytes_of};
+ghost use Rattle.rr_run.specs.Submits.{IsOutcome};
 
 use rr_folders::greatest_in;
 use rr_locked::Turnstile;
@@ -11,7 +13,9 @@ use rr_script::Answer;
 use rr_shell::{Listing, Outcome, left_behind};
 use rr_text::BoundNames;
 use rr_threads::{Client, Fate, Handle, Switches};
-use rr_types::{Command, Name, NodeId, NodeSummary, Nodes, Op, Refusal, Reply, Value, made_of};
+use rr_types::{
+    Command, Name, NodeId, NodeSummary, Nodes, Op, Refusal, Reply, RequestNo, Value, made_of,
+};
 use rr_window::WindowName;
 use std::alloc::Global;
 use std::mem;
@@ -26,11 +30,16 @@ const REST: u64 = 50_000;
 /// How many times a node's client looks for the reply to a submit before it gives up: some five seconds.
 const LOOKS: u32 = 120;
 
+/// The name that a sync transfers from its client to its client. Any would do.
+const SYNC: &[u8] = b"sync";
+
 /// What a shell asks a node.
 #[derive(Clone, Copy, Debug)]
 pub(crate) enum Question {
     /// To submit a command.
     Submit { node: NodeId, command: Command },
+    /// To decide a command that changes nothing, under this request number.
+    Sync { node: NodeId, request: RequestNo },
     /// Who has a name.
     Look { node: NodeId, name: Name },
     /// Which bound names begin so, or all.
@@ -47,6 +56,7 @@ impl Question {
     fn node(&self) -> NodeId {
         match self {
             Question::Submit { node, .. } => *node,
+            Question::Sync { node, .. } => *node,
             Question::Look { node, .. } => *node,
             Question::Names { node, .. } => *node,
             Question::Summary { node } => *node,
@@ -59,7 +69,7 @@ impl Question {
 /// What a node tells.
 #[derive(Debug, Drop)]
 pub(crate) enum Told {
-    /// What came of a submit, and how many commands can still be decided then.
+    /// What came of a submit or a sync, and how many commands can still be decided then.
     Outcome(Outcome, u64),
     Sight(Answer),
     Listing(Listing),
@@ -290,15 +300,15 @@ fn names_at<W: WindowName, T: Turnstile, R: Wait>(
     }
 }
 
-// What comes of a submit. None: the node goes down, or the run has failed, and its refusal is the answer.
-fn outcome_of<W: WindowName, T: Turnstile, R: Wait>(
-    handle: &mut Handle<'_, '_, W, T, R>,
+// What a submit of a command has come to, by its answer. None: the node goes down, or the run has failed, and its refusal is the
+// answer.
+fn outcome_behind<W: WindowName, T: Turnstile, R: Wait>(
+    handle: &Handle<'_, '_, W, T, R>,
     command: &Command,
-) -> Option<Outcome> {
-    if let Fate::Used(other) = handle.fate(command) {
-        return Some(Outcome::Used(other));
-    }
-    let answer = handle.submit_within(LOOKS, command);
+    answer: Answer,
+) -> Option<Outcome>
+    ensures { IsAnswered command.now.request handle.now answer → IfSome result (IsOutcome command.now.request handle.now) }
+{
     if !matches!(answer, Answer::Unacknowledged { .. }) {
         return Some(Outcome::Answered(answer));
     }
@@ -312,6 +322,48 @@ fn outcome_of<W: WindowName, T: Turnstile, R: Wait>(
     }
 }
 
+// What comes of a submit. None: as of `outcome_behind`.
+fn outcome_of<W: WindowName, T: Turnstile, R: Wait>(
+    handle: &mut Handle<'_, '_, W, T, R>,
+    command: &Command,
+) -> Option<Outcome>
+    ensures { IfSome result (IsOutcome command.now.request handle.new) }
+{
+    if let Fate::Used(other) = handle.fate(command) {
+        return Some(Outcome::Used(other));
+    }
+    let answer = handle.submit_within(LOOKS, command);
+    outcome_behind(handle, command, answer)
+}
+
+// What comes of a sync under a request number that the node's list doesn't have yet. None: as of `outcome_behind`.
+fn outcome_of_sync<W: WindowName, T: Turnstile, R: Wait>(
+    handle: &mut Handle<'_, '_, W, T, R>,
+    request: RequestNo,
+) -> Result<Option<Outcome>, Refusal>
+    ensures { IfOk result (λ outcome. IfSome outcome (IsOutcome request handle.new)) }
+{
+    let name = Name::new(SYNC)?;
+    let op = Op::Transfer(name, request.client);
+    let command = Command { request, op };
+    match handle.fate(&command) {
+        Fate::Used(other) => return Ok(Some(Outcome::Used(other))),
+        Fate::Decided => return Ok(Some(Outcome::Used(command))),
+        Fate::Open | Fate::Never => {}
+    }
+    let answer = handle.sync(LOOKS, request, &name);
+    Ok(outcome_behind(handle, &command, answer))
+}
+
+// What is told of what a submit has come to.
+fn told_of<W: WindowName, T: Turnstile, R: Wait>(
+    handle: &Handle<'_, '_, W, T, R>,
+    outcome: Option<Outcome>,
+) -> Option<Told> {
+    let left = left_behind(handle.summary().decided);
+    Some(Told::Outcome(outcome?, left))
+}
+
 // What a node tells. None: the node goes down, or the run has failed, and its refusal is the answer.
 fn answer_to<W: WindowName, T: Turnstile, R: Wait>(
     alloc: Global,
@@ -320,13 +372,14 @@ fn answer_to<W: WindowName, T: Turnstile, R: Wait>(
 ) -> Result<Option<Told>, Refusal> {
     made_of!(Answer, Command, Op, Name, Reply, Value);
     match question {
-        Question::Submit { node: _, command } => match outcome_of(handle, command) {
-            Some(outcome) => {
-                let left = left_behind(handle.summary().decided);
-                Ok(Some(Told::Outcome(outcome, left)))
-            }
-            None => Ok(None),
-        },
+        Question::Submit { node: _, command } => {
+            let outcome = outcome_of(handle, command);
+            Ok(told_of(handle, outcome))
+        }
+        Question::Sync { node: _, request } => {
+            let outcome = outcome_of_sync(handle, *request)?;
+            Ok(told_of(handle, outcome))
+        }
         Question::Look { node: _, name } => Ok(Some(Told::Sight(handle.look(name)))),
         Question::Names { node: _, prefix } => {
             Ok(Some(Told::Listing(names_at(alloc, handle, prefix)?)))

@@ -5,6 +5,7 @@ ghost use Rattle.std.specs.Io.KnownBytes.{Keeps};
 ghost use Rattle.std.specs.IoError.{error_kind};
 ghost use Rattle.rr_words.specs.Tasks.{faults_of, task_of};
 ghost use Rattle.rr_run.specs.Runs.{EndsWithThreads};
+ghost use Rattle.rr_run.specs.Telling.{IsQuiet};
 
 use crate::script_run::run_by_words;
 use crate::shell_run::shell_by_words;
@@ -29,8 +30,9 @@ use std::time::Clock;
 /// `rr run --nodes NODES --dir DIR --script SCRIPT [--tape TAPE] [--tick MILLISECONDS] [--json]` reads a script from the file SCRIPT, or from
 /// `input` where SCRIPT is `-`. It runs that many nodes in threads, node P over the disk in the folder DIR/P, and prints the answers to the
 /// script, in words or with JSON. Folders and files that are missing are made. With a TAPE all areas have to be unformatted, and the tape
-/// of the run is written to that file before the answers are printed. What goes wrong is told on `err`: the words, then the file, then its text, then
-/// the folders, ascending, then areas that are formatted, then the run, then the file TAPE.
+/// of the run is written to that file before the answers are printed. What goes wrong is told on `err`: the words, then the file, then its
+/// text, then the folders, ascending, then areas that are formatted, then the run, then request numbers that are decided as other
+/// commands, then the file TAPE.
 ///
 /// `rr shell [--nodes NODES] [--dir DIR] [--client CLIENT] [--tick MILLISECONDS] [-c LINE].. [--strict] [--json]` runs nodes over folders in the same
 /// way, and reads commands from `input`, or else answers each LINE. A line is answered on `out` before the next is read, in words
@@ -47,7 +49,8 @@ pub fn execute<
 >(rt: &R, words: &[S], files: &mut L, input: &mut I, out: &mut O, err: &mut E) -> u8
     ensures ends { EndsWithThreads (faults_of (map S.text words.now)) (task_of (map S.text words.now))
         (record { input = I.reading input.old; files = L.held files.old }) (record { input = I.reading input.new; files = L.held files.new }) result (O.printing out.old) (O.printing out.new) }
-    ensures quiet { result ≡ 0 → Keeps (E.contents err.old) (E.contents err.new) }
+    ensures quiet { result ≡ 0 → IsQuiet (faults_of (map S.text words.now)) (task_of (map S.text words.now)) (record { input = I.reading input.old; files = L.held files.old })
+        (E.contents err.old) (E.contents err.new) }
 {
     match read_words(rt.alloc(), words) {
         Ok(Task::Run(Some(nodes), Some(dir), Some(script), tape, tick, form)) => {
@@ -101,7 +104,9 @@ pub fn run<
     ensures memory { IfErr words (λ error. error_kind error ≡ ErrorKind.OutOfMemory → result ≡ 6) }
     ensures no_text { IfErr words (λ error. error_kind error ≢ ErrorKind.OutOfMemory → result ≡ 2) }
     ensures unprinted { OnErr words (O.printing out.new ≡ O.printing out.old) }
-    ensures quiet { result ≡ 0 → Keeps (E.contents err.old) (E.contents err.new) }
+    ensures quiet { IfOk words (λ words. result ≡ 0 → IsQuiet (faults_of (map string_bytes words.items)) (task_of (map string_bytes words.items))
+        (record { input = I.reading input.old; files = L.held files.old }) (E.contents err.old) (E.contents err.new)) }
+    ensures silent { OnErr words (result ≡ 0 → Keeps (E.contents err.old) (E.contents err.new)) }
 {
     match words {
         Ok(words) => execute(rt, words.as_slice(), files, input, out, err),

@@ -1,28 +1,31 @@
 //! The run of a script: what it reads, what it prints and how it ends.
 
-ghost use Rattle.std.specs.Prelude.{◌≡◌, ◌⊎◌, length, Option, None, Some, option_map, IfErr};
+ghost use Rattle.std.specs.Prelude.{◌≡◌, ◌⊎◌, true, length, Option, None, Some, option_map, IfOk, IfErr};
 ghost use Rattle.std.specs.Io.KnownBytes.{Keeps};
 ghost use Rattle.clap.specs.Words.{Text};
 ghost use Rattle.rr_types.specs.declared.refusal.Refusal.TheVariants.{OutOfMemory, Device};
 ghost use Rattle.rr_files.specs.Files.{file_at};
 ghost use Rattle.rr_cli.specs.Ends.{EndsOnInput};
 ghost use Rattle.rr_cli.specs.Refusals.{status_of};
+ghost use Rattle.rr_threads.specs.Reusing.{are_reused};
 ghost use Rattle.rr_run.specs.Runs.{EndsOnFolders, EndsOnScript, EndsOnNamed, EndsOnRun};
+ghost use Rattle.rr_run.specs.Telling.{TellsReused, TellsOfBytes, TellsOfInput, TellsOfNamed};
 
 use crate::answer_objects::answers_in;
 use crate::closed::end_by_closed;
+use crate::reused::tell_reused;
 use crate::ticking::tick_by;
 use rr_cli::{Form, end_by_refusal, end_by_stream, end_by_text, nodes_of, print_folder_fault};
-use rr_disk::FileDisk;
+use rr_disk::{FileDisk, OpenedFile};
 use rr_explain::print_script_fault;
 use rr_files::FileReader;
-use rr_folders::{Closed, Folders, Lockable, Survey, enter, survey_folders, try_folder};
+use rr_folders::{Closed, Folders, Lockable, Locks, Survey, enter, survey_folders, try_folder};
 use rr_image::inspect;
 use rr_locked::Open;
 use rr_script::{Answers, Script};
 use rr_stream::{Sink, Source, read_all};
 use rr_tape::Tape;
-use rr_threads::{Recorder, run_script_ticking};
+use rr_threads::{Ran, Recorder, run_script_told};
 use rr_types::{Nodes, Refusal};
 use std::alloc::Global;
 use std::fs::OpenFile;
@@ -163,6 +166,23 @@ fn end_by_tape<R: Files + AllocGlobal, O: Sink, E: Write>(
     }
 }
 
+// Runs a script over the disks of folders, whose locks are held meanwhile.
+fn run_locked<
+    F: Read + Write + Seek + FileExt + OpenFile + Drop + Send,
+    R: AllocGlobal + Threads + Wait + Clock + Sync,
+>(
+    rt: &R,
+    _locks: &Locks<F>,
+    disks: Vec<FileDisk<OpenedFile<F>>>,
+    script: &Script,
+    recorder: Option<&Recorder>,
+    tick: Duration,
+) -> Result<Ran, Refusal>
+    ensures { IfOk result (λ ran. are_reused script.now.lines ran.reused.items ≡ true) }
+{
+    run_script_told(rt, rt.alloc(), disks, script, &Open, recorder, tick)
+}
+
 // Runs a script over folders as they were found, and prints the answers. The locks are released after the run.
 fn run_in<
     F: Read + Write + Seek + FileExt + OpenFile + Drop + Send + Lockable,
@@ -179,7 +199,7 @@ fn run_in<
     err: &mut E,
 ) -> u8
     ensures ends { EndsOnFolders manner.form None result (O.printing out.old) (O.printing out.new) }
-    ensures quiet { result ≡ 0 → Keeps (E.contents err.old) (E.contents err.new) }
+    ensures quiet { result ≡ 0 → TellsReused script.now.lines (E.contents err.old) (E.contents err.new) }
 {
     let nodes = script.nodes();
     let folders = match enter(rt, nodes, dir, survey) {
@@ -187,10 +207,14 @@ fn run_in<
         Err(closed) => return end_by_closed(rt, err, dir, nodes, &closed),
     };
     let Folders { locks, disks } = folders;
-    let ran = run_script_ticking(rt, rt.alloc(), disks, script, &Open, None, manner.tick);
+    let ran = run_locked(rt, &locks, disks, script, None, manner.tick);
     drop(locks);
     match ran {
-        Ok(answers) => end_by_answers(rt.alloc(), manner.form, &answers, out, err),
+        Ok(ran) => {
+            let Ran { answers, reused } = ran;
+            tell_reused(rt.alloc(), err, script.lines(), reused.as_slice());
+            end_by_answers(rt.alloc(), manner.form, &answers, out, err)
+        }
         Err(refusal) => end_by_run_fault(rt, err, dir, nodes, &refusal),
     }
 }
@@ -212,7 +236,7 @@ fn run_taped<
     err: &mut E,
 ) -> u8
     ensures ends { EndsOnFolders manner.form (Some path.now) result (O.printing out.old) (O.printing out.new) }
-    ensures quiet { result ≡ 0 → Keeps (E.contents err.old) (E.contents err.new) }
+    ensures quiet { result ≡ 0 → TellsReused script.now.lines (E.contents err.old) (E.contents err.new) }
 {
     let nodes = script.nodes();
     let folders = match enter(rt, nodes, dir, survey) {
@@ -221,26 +245,22 @@ fn run_taped<
     };
     let Folders { locks, disks } = folders;
     let recorder = Recorder::new(rt.alloc(), nodes);
-    let ran = run_script_ticking(
-        rt,
-        rt.alloc(),
-        disks,
-        script,
-        &Open,
-        Some(&recorder),
-        manner.tick,
-    );
+    let ran = run_locked(rt, &locks, disks, script, Some(&recorder), manner.tick);
     drop(locks);
     match ran {
-        Ok(answers) => end_by_tape(
-            rt,
-            manner.form,
-            path,
-            &recorder.into_tape(),
-            &answers,
-            out,
-            err,
-        ),
+        Ok(ran) => {
+            let Ran { answers, reused } = ran;
+            tell_reused(rt.alloc(), err, script.lines(), reused.as_slice());
+            end_by_tape(
+                rt,
+                manner.form,
+                path,
+                &recorder.into_tape(),
+                &answers,
+                out,
+                err,
+            )
+        }
         Err(refusal) => end_by_run_fault(rt, err, dir, nodes, &refusal),
     }
 }
@@ -262,7 +282,7 @@ fn run_if_fresh<
     err: &mut E,
 ) -> u8
     ensures ends { EndsOnFolders manner.form (Some path.now) result (O.printing out.old) (O.printing out.new) }
-    ensures quiet { result ≡ 0 → Keeps (E.contents err.old) (E.contents err.new) }
+    ensures quiet { result ≡ 0 → TellsReused script.now.lines (E.contents err.old) (E.contents err.new) }
 {
     if !survey.is_fresh() {
         let _ = writeln!(err, "rr: --tape wants fresh folders");
@@ -287,7 +307,7 @@ fn run_over<
     err: &mut E,
 ) -> u8
     ensures ends { EndsOnFolders manner.form (option_map (λ s. s.now) tape.entry) result (O.printing out.old) (O.printing out.new) }
-    ensures quiet { result ≡ 0 → Keeps (E.contents err.old) (E.contents err.new) }
+    ensures quiet { result ≡ 0 → TellsReused script.now.lines (E.contents err.old) (E.contents err.new) }
 {
     let nodes = script.nodes();
     let survey = match survey_folders(rt, nodes, dir) {
@@ -318,7 +338,7 @@ fn run_bytes<
     err: &mut E,
 ) -> u8
     ensures ends { EndsOnScript manner.form nodes (option_map (λ s. s.now) tape.entry) bytes.now result (O.printing out.old) (O.printing out.new) }
-    ensures quiet { result ≡ 0 → Keeps (E.contents err.old) (E.contents err.new) }
+    ensures quiet { result ≡ 0 → TellsOfBytes bytes.now (E.contents err.old) (E.contents err.new) }
 {
     match Script::parse(rt.alloc(), nodes, bytes) {
         Ok(script) => run_over(rt, dir, &script, tape, manner, out, err),
@@ -345,7 +365,7 @@ fn run_input<
     err: &mut E,
 ) -> u8
     ensures ends { EndsOnInput (EndsOnScript manner.form nodes (option_map (λ s. s.now) tape.entry)) (I.reading input.old) (I.reading input.new) result (O.printing out.old) (O.printing out.new) }
-    ensures quiet { result ≡ 0 → Keeps (E.contents err.old) (E.contents err.new) }
+    ensures quiet { result ≡ 0 → TellsOfInput (I.reading input.old) (E.contents err.old) (E.contents err.new) }
 {
     match read_all(rt.alloc(), input) {
         Ok(bytes) => run_bytes(
@@ -382,7 +402,7 @@ fn run_file<
     err: &mut E,
 ) -> u8
     ensures ends { EndsOnInput (EndsOnScript manner.form nodes (option_map (λ s. s.now) tape.entry)) (file_at (L.held files.old) path.now) (file_at (L.held files.new) path.now) result (O.printing out.old) (O.printing out.new) }
-    ensures quiet { result ≡ 0 → Keeps (E.contents err.old) (E.contents err.new) }
+    ensures quiet { result ≡ 0 → TellsOfInput (file_at (L.held files.old) path.now) (E.contents err.old) (E.contents err.new) }
 {
     match files.read_file(rt.alloc(), path) {
         Ok(bytes) => run_bytes(
@@ -421,7 +441,7 @@ fn run_named<
     err: &mut E,
 ) -> u8
     ensures ends { EndsOnNamed path.now (EndsOnScript manner.form nodes (option_map (λ s. s.now) tape.entry)) (record { input = I.reading input.old; files = L.held files.old }) (record { input = I.reading input.new; files = L.held files.new }) result (O.printing out.old) (O.printing out.new) }
-    ensures quiet { result ≡ 0 → Keeps (E.contents err.old) (E.contents err.new) }
+    ensures quiet { result ≡ 0 → TellsOfNamed path.now (record { input = I.reading input.old; files = L.held files.old }) (E.contents err.old) (E.contents err.new) }
 {
     if path == "-" {
         run_input(
@@ -464,7 +484,7 @@ pub(crate) fn run_by_words<
     err: &mut E,
 ) -> u8
     ensures ends { EndsOnRun form nodes.now path.now (option_map (λ s. s.now) tape.entry) (record { input = I.reading input.old; files = L.held files.old }) (record { input = I.reading input.new; files = L.held files.new }) result (O.printing out.old) (O.printing out.new) }
-    ensures quiet { result ≡ 0 → Keeps (E.contents err.old) (E.contents err.new) }
+    ensures quiet { result ≡ 0 → TellsOfNamed path.now (record { input = I.reading input.old; files = L.held files.old }) (E.contents err.old) (E.contents err.new) }
 {
     match nodes_of(nodes) {
         Some(nodes) => {

@@ -7,7 +7,7 @@ ghost use Rattle.rr_types.specs.declared.refusal.Refusal.TheVariants.{OutOfMemor
 ghost use Rattle.rr_words.specs.Tasks.{shell_words_in};
 ghost use Rattle.rr_cli.specs.Refusals.{status_of};
 ghost use Rattle.rr_shell.specs.Troubles.{ending_status};
-ghost use Rattle.rr_talk.specs.Talks.{is_outcome_at, IsOf, IsKept, Talks};
+ghost use Rattle.rr_talk.specs.Talks.{is_outcome_at, IsOf, IsKept, IsSyncBy, Talks};
 ghost use Rattle.rr_run.specs.Shells.{IsClientBy, EndsOnTalk, EndsOnShell, EndsOnLines, EndsOnShellWords, lines_text};
 
 use crate::closed::end_by_closed;
@@ -17,7 +17,7 @@ use crate::script_run::end_by_run_fault;
 use crate::ticking::tick_by;
 use rr_cli::{ShellWords, end_by_refusal, end_by_stream, end_by_unprinted, number_in};
 use rr_disk::{FileDisk, OpenedFile};
-use rr_folders::{Block, Folders, Lockable, open_folders, reserve};
+use rr_folders::{Block, Folders, Lockable, Locks, open_folders};
 use rr_locked::Open;
 use rr_script::Answer;
 use rr_shell::{Listing, NodeStatus, Outcome, Trouble, is_listing_at, is_nearly_full};
@@ -37,12 +37,12 @@ use std::thread;
 use std::thread::{Scope, Threads};
 use std::time::{Clock, Duration};
 
-// The nodes that a shell asks, as this client, with the request numbers of the folder DIR; the command that isn't acknowledged
-// and may be asked again; and what a person is to be told.
+// The nodes that a shell asks, as this client, with the request numbers of a folder that is locked; the command that isn't
+// acknowledged and may be asked again; and what a person is to be told.
 #[derive(Drop)]
-struct Console<'x, R> {
+struct Console<'x, F, R> {
     rt: &'x R,
-    dir: &'x str,
+    locks: &'x Locks<F>,
     nodes: Nodes,
     client: u32,
     block: Block,
@@ -52,12 +52,11 @@ struct Console<'x, R> {
     has_warned: bool,
 }
 
-// What a submit of a command at a node has come to, by what is told of it.
-fn outcome_told(node: NodeId, command: &Command, told: &Told) -> Outcome
+// What a submit of a request at a node has come to, by what is told of it.
+fn outcome_told(node: NodeId, request: RequestNo, told: &Told) -> Outcome
     ensures outcome { is_outcome_at node result ≡ true }
-    ensures of { IsOf command.now result }
+    ensures of { IsOf request result }
 {
-    let request = command.request;
     match told {
         Told::Outcome(
             Outcome::Answered(
@@ -84,10 +83,18 @@ fn outcome_told(node: NodeId, command: &Command, told: &Told) -> Outcome
 
 // The command that is kept to be asked again, behind what a submit of it has come to.
 fn kept_behind(command: &Command, outcome: &Outcome) -> Option<Command>
-    ensures { IsOf command.now outcome.now → IsKept command.now.op result outcome.now }
+    ensures { IsOf command.now.request outcome.now → IsKept command.now.op result outcome.now }
 {
     match outcome {
         Outcome::Answered(Answer::Unacknowledged { .. }) => Some(*command),
+        _ => None,
+    }
+}
+
+// What a person is told once few commands are left.
+fn hint_of_room(told: &Told, has_warned: bool) -> Option<Hint> {
+    match told {
+        Told::Outcome(_, left) if !has_warned && is_nearly_full(*left) => Some(Hint::Left(*left)),
         _ => None,
     }
 }
@@ -97,22 +104,24 @@ fn hint_behind(outcome: &Outcome, told: &Told, has_warned: bool) -> Option<Hint>
     if matches!(outcome, Outcome::Answered(Answer::Unacknowledged { .. })) {
         return Some(Hint::Again);
     }
-    match told {
-        Told::Outcome(_, left) if !has_warned && is_nearly_full(*left) => Some(Hint::Left(*left)),
-        _ => None,
-    }
+    hint_of_room(told, has_warned)
 }
 
-impl<'x, R: Files + AllocGlobal + Wait> Console<'x, R> {
+impl<
+    'x,
+    F: Read + Write + Seek + FileExt + OpenFile + Drop,
+    R: Files<File = F> + AllocGlobal + Wait,
+> Console<'x, F, R> {
     // A request number that was never given. At the end of a block the next one is reserved.
     fn next_request(&mut self) -> Result<RequestNo, Refusal>
-        ensures { IfOk result (λ q. q.client ≡ self.old.client) }
+        ensures own { IfOk result (λ q. q.client ≡ self.old.client) }
+        ensures kept { self.new.unanswered ≡ self.old.unanswered }
     {
         let client = self.client;
         if let Some(seq) = self.block.take() {
             return Ok(RequestNo { client, seq });
         }
-        self.block = reserve(self.rt, self.dir, 0)?;
+        self.block = self.locks.reserve(self.rt, 0)?;
         match self.block.take() {
             Some(seq) => Ok(RequestNo { client, seq }),
             None => Err(Refusal::TooLarge),
@@ -128,7 +137,7 @@ impl<'x, R: Files + AllocGlobal + Wait> Console<'x, R> {
             return Err(Refusal::TooLarge);
         };
         if !self.block.begin_at(least) {
-            self.block = reserve(self.rt, self.dir, least)?;
+            self.block = self.locks.reserve(self.rt, least)?;
         }
         Ok(())
     }
@@ -154,13 +163,13 @@ impl<'x, R: Files + AllocGlobal + Wait> Console<'x, R> {
     // Submits a command at a node.
     fn put(&mut self, node: NodeId, command: &Command) -> Result<Outcome, Refusal>
         ensures outcome { IfOk result (λ o. is_outcome_at node o ≡ true) }
-        ensures of { IfOk result (IsOf command.now) }
+        ensures of { IfOk result (IsOf command.now.request) }
         ensures kept { IfOk result (λ o. IsKept command.now.op self.new.unanswered o) }
     {
         made_of!(Answer, Command, Op, Name, Reply, Value);
         let command = *command;
         let told = self.post.ask(self.rt, &Question::Submit { node, command })?;
-        let outcome = outcome_told(node, &command, &told);
+        let outcome = outcome_told(node, command.request, &told);
         self.unanswered = kept_behind(&command, &outcome);
         self.hint = hint_behind(&outcome, &told, self.has_warned);
         self.has_warned = self.has_warned || matches!(self.hint, Some(Hint::Left(_)));
@@ -168,8 +177,14 @@ impl<'x, R: Files + AllocGlobal + Wait> Console<'x, R> {
     }
 }
 
-impl<'x, R: Files + AllocGlobal + Wait> Asked for Console<'x, R> {
+impl<
+    'x,
+    F: Read + Write + Seek + FileExt + OpenFile + Drop,
+    R: Files<File = F> + AllocGlobal + Wait,
+> Asked for Console<'x, F, R> {
     ghost unanswered = { λ c. c.unanswered };
+
+    ghost syncs = { λ c. IsSyncBy c.client };
 
     fn wait_until_ready(&mut self) -> Result<(), Refusal> {
         self.post.wait_until_begun(self.rt)?;
@@ -188,6 +203,14 @@ impl<'x, R: Files + AllocGlobal + Wait> Asked for Console<'x, R> {
             Some(command) => self.put(node, &command),
             None => Ok(Outcome::Nothing),
         }
+    }
+
+    fn sync(&mut self, node: NodeId) -> Result<Outcome, Refusal> {
+        let request = self.next_request()?;
+        let told = self.post.ask(self.rt, &Question::Sync { node, request })?;
+        self.hint = hint_of_room(&told, self.has_warned);
+        self.has_warned = self.has_warned || self.hint.is_some();
+        Ok(outcome_told(node, request, &told))
     }
 
     fn hint(&mut self) -> Option<Hint> {
@@ -456,7 +479,7 @@ where
     }
 }
 
-// Talks over folders that are open, and lets their locks go.
+// Talks over folders that are open, and lets their locks go behind the talk: the console borrows them.
 fn shell_in<
     F: Read + Write + Seek + FileExt + OpenFile + Drop + Send,
     R: Files<File = F> + AllocGlobal + Threads + Wait + Clock + Sync,
@@ -480,7 +503,7 @@ fn shell_in<
     ensures quiet { result ≡ 0 → Keeps (E.contents err.old) (E.contents err.new) }
 {
     let Folders { locks, disks } = folders;
-    let block = match reserve(rt, dir, 0) {
+    let block = match locks.reserve(rt, 0) {
         Ok(block) => block,
         Err(refusal) => return end_by_requests(err, dir, &refusal),
     };
@@ -494,7 +517,7 @@ fn shell_in<
     };
     let console = Console {
         rt,
-        dir,
+        locks: &locks,
         nodes,
         client,
         block,

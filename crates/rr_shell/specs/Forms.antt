@@ -3,14 +3,15 @@ use Rattle.std.specs.Prelude.{ℕ, Bool, if◌then◌else◌, List, [], ◌∷�
 use Rattle.std.specs.List.{flat_map}
 use Rattle.rr_types.specs.declared.binding.Binding.{Binding}
 use Rattle.rr_script.specs.declared.answer.Answer.{Answer}
+use Rattle.rr_script.specs.declared.answer.Answer.TheVariants.{Acknowledged}
 use Rattle.rr_shell.specs.declared.status.NodeStatus.{NodeStatus}
 use Rattle.rr_shell.specs.declared.shell_line.LineFault.{LineFault}
-use Rattle.rr_shell.specs.Texts.{answer_line, list_lines, move_line, stop_line, start_line, snapshot_line, no_snapshot_line, no_snapshot_text, down_line, down_text, status_line, help_line, help_text, fault_line, fault_text, used_text, full_text, nothing_text}
+use Rattle.rr_shell.specs.Texts.{answer_line, synced_line, list_lines, move_line, stop_line, start_line, snapshot_line, no_snapshot_line, no_snapshot_text, down_line, down_text, status_line, help_line, help_text, fault_line, fault_text, used_text, full_text, nothing_text}
 use Rattle.rr_types.specs.declared.command.Command.{Command}
 use Rattle.rr_shell.specs.declared.outcome.Outcome.{Outcome}
 use Rattle.rr_shell.specs.declared.outcome.Outcome.TheVariants.{Answered, ListFull, Used, Nothing}
 use Rattle.rr_json.specs.Json.{escaped_byte}
-use Rattle.rr_shell.specs.Objects.{answer_object, list_objects, node_object, status_object, text_object}
+use Rattle.rr_shell.specs.Objects.{answer_object, synced_object, list_objects, node_object, status_object, text_object}
 
 -- an answer
 abbrev pub answer_said : Bool → Answer → List ℕ
@@ -34,6 +35,15 @@ outcome_said json (Answered a) = answer_said json a
 outcome_said json ListFull = full_said json
 outcome_said json (Used c) = used_said json c
 outcome_said json Nothing = nothing_said json
+
+-- that a node has learned what was acknowledged anywhere
+abbrev pub synced_said : Bool → List ℕ
+synced_said json = if json then synced_object else synced_line
+
+-- what comes of a sync: that it is done, where its command is acknowledged, whatever the reply; else what comes of a submit
+abbrev pub sync_said : Bool → Outcome → List ℕ
+sync_said json (Answered (Acknowledged p q reply)) = synced_said json
+sync_said json o = outcome_said json o
 
 -- the bound names that were seen
 abbrev pub list_said : Bool → Option (List Binding) → List ℕ

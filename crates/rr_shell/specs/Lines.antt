@@ -5,7 +5,7 @@ use Rattle.rr_types.specs.declared.command.OpKind.{OpKind}
 use Rattle.rr_types.specs.declared.command.OpKind.TheVariants.{Claim, Update, Release, Transfer}
 use Rattle.rr_text.specs.Reading.{cut_at, name_at, node_at, op_kind_at, op_at}
 use Rattle.rr_shell.specs.declared.shell_line.ShellLine.{ShellLine}
-use Rattle.rr_shell.specs.declared.shell_line.ShellLine.TheVariants.{Submit, Look, Names, At, Stop, Start, Snapshot, Status, Again, Help, Quit}
+use Rattle.rr_shell.specs.declared.shell_line.ShellLine.TheVariants.{Submit, Look, Names, Sync, At, Stop, Start, Snapshot, Status, Again, Help, Quit}
 use Rattle.rr_shell.specs.declared.shell_line.LineFault.{LineFault}
 use Rattle.rr_shell.specs.declared.shell_line.LineFault.TheVariants.{NoCommand, BadName, BadValue, BadOwner, NoNode}
 
@@ -71,9 +71,10 @@ control_from n text parts =
     else (if bytes_eq parts.0 (codes "snapshot") then snapshot_at n parts.1
     else (if bytes_eq text (codes "status") then Ok Status
     else (if bytes_eq text (codes "again") then Ok Again
+    else (if bytes_eq text (codes "sync") then Ok Sync
     else (if bytes_eq text (codes "help") then Ok Help
     else (if bytes_eq text (codes "quit") || bytes_eq text (codes "exit") then Ok Quit
-    else command_at text parts.0 parts.1))))))
+    else command_at text parts.0 parts.1)))))))
 
 -- what a line of these parts asks for
 abbrev pub line_from : ℕ → List ℕ → List ℕ × List ℕ → Result ShellLine LineFault

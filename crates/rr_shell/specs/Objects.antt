@@ -34,6 +34,10 @@ answer_object (Free p name) = object_line (codes "free") (text_member (codes "na
 answer_object (Bound p name owner value) = bound_object name owner value
 answer_object (Unseen p name) = object_line (codes "unseen") (text_member (codes "name") name)
 
+-- that a node has learned what was acknowledged anywhere
+abbrev pub synced_object : List ℕ
+synced_object = object_line (codes "synced") []
+
 -- a bound name, as the answer to a look at it
 abbrev pub binding_object : Binding → List ℕ
 binding_object b = bound_object b.name b.owner b.value

@@ -30,6 +30,10 @@ answer_words (Unseen p name) = name ∷ codes "unseen" ∷ []
 abbrev pub answer_line : Answer → List ℕ
 answer_line a = spaced (answer_words a) ++ 10 ∷ []
 
+-- the line that a node has learned what was acknowledged anywhere
+abbrev pub synced_line : List ℕ
+synced_line = codes "synced" ++ 10 ∷ []
+
 -- the line of a bound name, which is that of the answer to a look at it
 abbrev pub bound_line : Binding → List ℕ
 bound_line b = spaced (bound_words b.name b.owner b.value) ++ 10 ∷ []
@@ -115,7 +119,7 @@ status_line s = spaced (codes "node" ∷ decimal s.node ∷ summary_words s.summ
 -- the commands
 abbrev pub help_text : List ℕ
 help_text =
-    codes "claim NAME [VALUE], update NAME [VALUE], release NAME, transfer NAME OWNER, look NAME, list [PREFIX], at NODE, stop NODE, start NODE, snapshot NODE, status, again, help, quit or exit"
+    codes "claim NAME [VALUE], update NAME [VALUE], release NAME, transfer NAME OWNER, look NAME, list [PREFIX], sync, at NODE, stop NODE, start NODE, snapshot NODE, status, again, help, quit or exit"
 
 -- the line that names them
 abbrev pub help_line : List ℕ
@@ -127,7 +131,7 @@ no_node_text n = codes "no such node: a number is expected that is below" ++ 32 
 
 -- what is wrong with a line, and what is expected, of n nodes
 abbrev pub fault_text : ℕ → LineFault → List ℕ
-fault_text n NoCommand = codes "no such command: claim, update, release, transfer, look, list, at, stop, start, snapshot, status, again, help, quit or exit is expected"
+fault_text n NoCommand = codes "no such command: claim, update, release, transfer, look, list, sync, at, stop, start, snapshot, status, again, help, quit or exit is expected"
 fault_text n BadName = codes "no name: 1 to 64 bytes of a to z, 0 to 9 and - are expected"
 fault_text n BadValue = codes "no value: 1 to 64 bytes from ! to ~ are expected, and no space"
 fault_text n BadOwner = codes "no owner: a number below 4294967296 is expected"

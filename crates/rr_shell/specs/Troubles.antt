@@ -36,6 +36,11 @@ outcome_trouble outcome.ListFull = Some ListFull
 outcome_trouble (outcome.Used c) = Some Error
 outcome_trouble outcome.Nothing = Some Error
 
+-- why what comes of a sync isn't what its line asked for; none where its command is acknowledged, whatever the reply
+abbrev pub sync_trouble : Outcome → Option Trouble
+sync_trouble (outcome.Answered (answer.Acknowledged p q r)) = None
+sync_trouble o = outcome_trouble o
+
 -- why a list isn't what its line asked for; none where it is
 abbrev pub listing_trouble : Option (List Binding) → Option Trouble
 listing_trouble None = Some Unseen

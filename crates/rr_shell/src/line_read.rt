@@ -119,6 +119,8 @@ fn control(nodes: Nodes, text: &[u8], word: &[u8], rest: &[u8]) -> Result<ShellL
         Ok(ShellLine::Status)
     } else if text == b"again".as_slice() {
         Ok(ShellLine::Again)
+    } else if text == b"sync".as_slice() {
+        Ok(ShellLine::Sync)
     } else if text == b"help".as_slice() {
         Ok(ShellLine::Help)
     } else if text == b"quit".as_slice() || text == b"exit".as_slice() {

@@ -5,7 +5,7 @@ ghost use Rattle.std.specs.List.{flat_map};
 ghost use Rattle.rr_text.specs.ReportTexts.{reply_words};
 ghost use Rattle.rr_shell.specs.Texts.{down_text, no_snapshot_text, help_text, fault_text, used_text, full_text, nothing_text, left_behind};
 ghost use Rattle.rr_json.specs.Json.{escaped_byte, label, text_member, number_member, opened, object_line};
-ghost use Rattle.rr_shell.specs.Objects.{reply_members, bound_members, bound_object, answer_object, binding_object, list_objects, node_object, summary_members, status_object, text_opened, text_closed, text_object};
+ghost use Rattle.rr_shell.specs.Objects.{reply_members, bound_members, bound_object, answer_object, synced_object, binding_object, list_objects, node_object, summary_members, status_object, text_opened, text_closed, text_object};
 
 use crate::line_text::{push_down_text, push_fault_text, push_help_text, push_no_snapshot_text};
 use crate::listing::Listing;
@@ -105,6 +105,16 @@ pub fn push_answer_object(out: &mut Vec<u8>, answer: &Answer) -> Result<(), Allo
         } => push_bound(out, name, *owner, value),
         Answer::Unseen { name, .. } => push_name(out, b"unseen", name),
     }
+}
+
+/// Appends that a node has learned what was acknowledged anywhere as an object.
+///
+/// # Errors
+/// Bytes of the line may then stand at the end.
+pub fn push_synced_object(out: &mut Vec<u8>) -> Result<(), AllocError>
+    ensures ok { OnOk result (out.new.items ≡ out.old.items ++ synced_object) }
+{
+    push_kind(out, b"synced")
 }
 
 fn push_bound_objects(out: &mut Vec<u8>, names: &[Binding]) -> Result<(), AllocError>

@@ -1,4 +1,4 @@
-//! What comes of a submit.
+//! What comes of a submit, or of a sync.
 
 ghost use Rattle.std.specs.Prelude.{◌≡◌, ◌++◌, ◌∷◌, OnOk};
 ghost use Rattle.rr_text.specs.Words.{spaced};
@@ -10,7 +10,7 @@ use rr_text::text_word::{push_bytes, push_op};
 use rr_types::{Command, RequestNo};
 use std::alloc::AllocError;
 
-/// What comes of a submit, or of the line that asks one again.
+/// What comes of a submit, of the line that asks one again, or of a sync.
 #[derive(Clone, Copy, Debug)]
 pub enum Outcome {
     /// What the node answered.
@@ -32,7 +32,10 @@ fn push_numbered(out: &mut Vec<u8>, request: RequestNo) -> Result<(), AllocError
 }
 
 /// Appends that a request number was already used for this command.
-pub(crate) fn push_used_text(out: &mut Vec<u8>, command: &Command) -> Result<(), AllocError>
+///
+/// # Errors
+/// Bytes of the text may then stand at the end.
+pub fn push_used_text(out: &mut Vec<u8>, command: &Command) -> Result<(), AllocError>
     ensures ok { OnOk result (out.new.items ≡ out.old.items ++ used_text command.now) }
 {
     push_numbered(out, command.request)?;

@@ -1,17 +1,17 @@
 //! What is said to a line, in words or with JSON.
 
 ghost use Rattle.std.specs.Prelude.{◌≡◌, ◌++◌, OnOk};
-ghost use Rattle.rr_shell.specs.Forms.{answer_said, full_said, used_said, nothing_said, outcome_said, list_said, move_said, stop_said, start_said, snapshot_said, no_snapshot_said, down_said, status_said, help_said, fault_said};
+ghost use Rattle.rr_shell.specs.Forms.{answer_said, full_said, used_said, nothing_said, outcome_said, synced_said, sync_said, list_said, move_said, stop_said, start_said, snapshot_said, no_snapshot_said, down_said, status_said, help_said, fault_said};
 
 use crate::line_text::{
     push_answer, push_down, push_fault, push_help, push_listing, push_move, push_no_snapshot,
-    push_snapshot, push_start, push_status, push_stop,
+    push_snapshot, push_start, push_status, push_stop, push_synced,
 };
 use crate::listing::Listing;
 use crate::object_text::{
     push_answer_object, push_down_object, push_fault_object, push_full_object, push_help_object,
     push_listing_objects, push_no_snapshot_object, push_node_object, push_nothing_object,
-    push_status_object, push_used_object,
+    push_status_object, push_synced_object, push_used_object,
 };
 use crate::outcome::{Outcome, push_full_text, push_nothing_text, push_used_text};
 use crate::shell_line::LineFault;
@@ -93,6 +93,35 @@ pub fn say_outcome(
         Outcome::ListFull => say_full(out, json),
         Outcome::Used(command) => say_used(alloc, out, json, command),
         Outcome::Nothing => say_nothing(out, json),
+    }
+}
+
+// Appends that a node has learned what was acknowledged anywhere.
+fn say_synced(out: &mut Vec<u8>, json: bool) -> Result<(), AllocError>
+    ensures ok { OnOk result (out.new.items ≡ out.old.items ++ synced_said json) }
+{
+    if json {
+        push_synced_object(out)
+    } else {
+        push_synced(out)
+    }
+}
+
+/// Appends what came of a sync.
+///
+/// # Errors
+/// Bytes of the line may then stand at the end.
+pub fn say_sync(
+    alloc: Global,
+    out: &mut Vec<u8>,
+    json: bool,
+    outcome: &Outcome,
+) -> Result<(), AllocError>
+    ensures ok { OnOk result (out.new.items ≡ out.old.items ++ sync_said json outcome.now) }
+{
+    match outcome {
+        Outcome::Answered(Answer::Acknowledged { .. }) => say_synced(out, json),
+        _ => say_outcome(alloc, out, json, outcome),
     }
 }
 

@@ -1,7 +1,7 @@
 //! Lines that weren't answered as they asked.
 
 ghost use Rattle.std.specs.Prelude.{◌≡◌};
-ghost use Rattle.rr_shell.specs.Troubles.{reply_trouble, answer_trouble, outcome_trouble, listing_trouble, strict_status};
+ghost use Rattle.rr_shell.specs.Troubles.{reply_trouble, answer_trouble, outcome_trouble, sync_trouble, listing_trouble, strict_status};
 
 use crate::listing::Listing;
 use crate::outcome::Outcome;
@@ -79,6 +79,16 @@ pub fn outcome_trouble(outcome: &Outcome) -> Option<Trouble>
         Outcome::Answered(answer) => answer_trouble(answer),
         Outcome::ListFull => Some(Trouble::ListFull),
         Outcome::Used(_) | Outcome::Nothing => Some(Trouble::Error),
+    }
+}
+
+/// Why what came of a sync isn't what its line asked for. None where its command is acknowledged, whatever the reply.
+pub fn sync_trouble(outcome: &Outcome) -> Option<Trouble>
+    ensures { result ≡ sync_trouble outcome.now }
+{
+    match outcome {
+        Outcome::Answered(Answer::Acknowledged { .. }) => None,
+        _ => outcome_trouble(outcome),
     }
 }
 

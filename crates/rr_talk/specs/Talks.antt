@@ -16,7 +16,7 @@ use Rattle.rr_shell.specs.declared.outcome.Outcome.{Outcome}
 use Rattle.rr_shell.specs.declared.outcome.Outcome.TheVariants as outcome
 use Rattle.rr_shell.specs.declared.status.NodeStatus.{NodeStatus}
 use Rattle.rr_shell.specs.declared.shell_line.ShellLine.{ShellLine}
-use Rattle.rr_shell.specs.declared.shell_line.ShellLine.TheVariants.{Submit, Look, Names, At, Stop, Start, Snapshot, Status, Again, Help, Quit}
+use Rattle.rr_shell.specs.declared.shell_line.ShellLine.TheVariants.{Submit, Look, Names, Sync, At, Stop, Start, Snapshot, Status, Again, Help, Quit}
 use Rattle.rr_shell.specs.declared.shell_line.LineFault.{LineFault}
 use Rattle.rr_shell.specs.declared.shell_line.LineFault.TheVariants.{TooLong}
 use Rattle.rr_talk.specs.declared.saying.Said.{Said}
@@ -24,11 +24,11 @@ use Rattle.rr_talk.specs.declared.talking.Turn.{Turn}
 use Rattle.rr_talk.specs.declared.talking.Stop as breaks
 use Rattle.rr_talk.specs.Hearings.{Hears}
 use Rattle.rr_shell.specs.Lines.{shell_line_at}
-use Rattle.rr_shell.specs.Troubles.{answer_trouble, outcome_trouble, listing_trouble}
+use Rattle.rr_shell.specs.Troubles.{answer_trouble, outcome_trouble, sync_trouble, listing_trouble}
 use Rattle.rr_shell.specs.declared.troubles.Trouble.{Trouble}
 use Rattle.rr_shell.specs.declared.troubles.Trouble.TheVariants.{Error}
 use Rattle.rr_shell.specs.Listings.{is_listing_at}
-use Rattle.rr_shell.specs.Forms.{answer_said, outcome_said, list_said, move_said, stop_said, start_said, snapshot_said, no_snapshot_said, down_said, status_said, help_said, fault_said}
+use Rattle.rr_shell.specs.Forms.{answer_said, outcome_said, sync_said, list_said, move_said, stop_said, start_said, snapshot_said, no_snapshot_said, down_said, status_said, help_said, fault_said}
 
 -- whether an answer is node p's to a submit
 abbrev pub is_reply_at : ℕ → Answer → Bool
@@ -47,12 +47,12 @@ abbrev pub is_outcome_at : ℕ → Outcome → Bool
 is_outcome_at p (outcome.Answered a) = is_reply_at p a
 is_outcome_at p o = true
 
--- what came of a submit is of this command: an answer or another command names its request number
-abbrev pub IsOf : Command → Outcome → Type 0
-IsOf c (outcome.Answered a) = request_of a ≡ Some c.request
-IsOf c outcome.ListFull = Unit {0}
-IsOf c (outcome.Used other) = other.request ≡ c.request
-IsOf c outcome.Nothing = ⊥
+-- what came of a submit is of this request: an answer or another command names its number
+abbrev pub IsOf : RequestNo → Outcome → Type 0
+IsOf q (outcome.Answered a) = request_of a ≡ Some q
+IsOf q outcome.ListFull = Unit {0}
+IsOf q (outcome.Used other) = other.request ≡ q
+IsOf q outcome.Nothing = ⊥
 
 -- what is kept to be asked again behind a submit of this operation: the command with the request number of the answer where
 -- that isn't acknowledged; else nothing
@@ -64,7 +64,11 @@ IsKept op kept o = kept ≡ None
 -- as behind a submit of it
 abbrev pub IsAskedAgain : Option Command → Option Command → Outcome → Type 0
 IsAskedAgain None kept o = (o ≡ outcome.Nothing) × (kept ≡ None)
-IsAskedAgain (Some c) kept o = IsOf c o × IsKept c.op kept o
+IsAskedAgain (Some c) kept o = IsOf c.request o × IsKept c.op kept o
+
+-- what may come of a sync by client c at node p: it came of a submit of a request of this client there
+abbrev pub IsSyncBy : ℕ → ℕ → Outcome → Type 0
+IsSyncBy c p o = (q : RequestNo) × (q.client ≡ c) × IsOf q o × (is_outcome_at p o ≡ true)
 
 -- whether an answer is node p's to a look at this name
 abbrev pub is_sight_at : ℕ → List ℕ → Answer → Bool
@@ -83,16 +87,18 @@ abbrev pub asks_node : ShellLine → Bool
 asks_node (Submit op) = true
 asks_node (Look name) = true
 asks_node (Names prefix) = true
+asks_node Sync = true
 asks_node Again = true
 asks_node _ = false
 
 -- what is said to a line that asks for something at node p of n nodes, the node that is asked then, and why that isn't what it
--- asks for, if it isn't: what comes of a submit or a look at node p, or that this node is down; the names that it lists; the node that
+-- asks for, if it isn't: what comes of a submit, a look or a sync at node p, or that this node is down; the names that it lists; the node that
 -- it moves to, stops or starts; that a node has written a snapshot, or hasn't; what each node tells; or the commands
 pub data Grants (json : Bool) (n p : ℕ) : ShellLine → ℕ → List ℕ → Option Trouble → Type 0 where
   submitted : (op : Op) (o : Outcome) → is_outcome_at p o ≡ true → Grants json n p (Submit op) p (outcome_said json o) (outcome_trouble o)
   again : (o : Outcome) → is_outcome_at p o ≡ true → Grants json n p Again p (outcome_said json o) (outcome_trouble o)
   looked : (name : List ℕ) (a : Answer) → is_sight_at p name a ≡ true → Grants json n p (Look name) p (answer_said json a) (answer_trouble a)
+  synced : (o : Outcome) → is_outcome_at p o ≡ true → Grants json n p Sync p (sync_said json o) (sync_trouble o)
   listed : (prefix : Option (List ℕ)) (l : Listing) → is_listing_at p prefix l ≡ true
       → Grants json n p (Names prefix) p (list_said json l.names) (listing_trouble l.names)
   is_down : (asks : ShellLine) → asks_node asks ≡ true → Grants json n p asks p (down_said json p) (Some Error)
@@ -129,6 +135,11 @@ IsLast n heard.End = Unit {0}
 abbrev pub IsSaidToRequest : Bool → ℕ → ℕ → ShellLine → Option Said → Type 0
 IsSaidToRequest json n p asks None = asks ≡ Quit
 IsSaidToRequest json n p asks (Some said) = Grants json n p asks said.node said.text.items said.trouble
+
+-- what is said to a sync at node p: what came of it there, of what may come of one
+abbrev pub IsSaidToSync : Bool → ℕ → (ℕ → Outcome → Type 0) → Said → Type 0
+IsSaidToSync json p May said =
+    (o : Outcome) × May p o × (is_outcome_at p o ≡ true) × (said.node ≡ p) × (said.text.items ≡ sync_said json o) × (said.trouble ≡ sync_trouble o)
 
 -- what is said to what was heard where node p is asked; none where the talk is over
 abbrev pub IsSaidTo : Bool → ℕ → ℕ → Heard → Option Said → Type 0

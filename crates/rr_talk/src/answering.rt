@@ -1,8 +1,9 @@
 //! Whom a shell asks.
 
-ghost use Rattle.std.specs.Prelude.{◌≡◌, true, Option, IfOk};
+ghost use Rattle.std.specs.Prelude.{◌≡◌, ℕ, true, Option, IfOk};
 ghost use Rattle.rr_types.specs.declared.command.Command.{Command};
 ghost use Rattle.rr_shell.specs.Listings.{is_listing_at};
+ghost use Rattle.rr_shell.specs.declared.outcome.Outcome.{Outcome};
 ghost use Rattle.rr_talk.specs.Talks.{is_reply_at, is_outcome_at, is_sight_at, IsKept, IsAskedAgain};
 
 use rr_script::Answer;
@@ -36,6 +37,19 @@ pub trait Asked {
     fn again(&mut self, node: NodeId) -> Result<Outcome, Refusal>
         ensures outcome { IfOk result (λ o. is_outcome_at node o ≡ true) }
         ensures kept { IfOk result (λ o. IsAskedAgain (unanswered self.old) (unanswered self.new) o) };
+
+    /// What may come of a sync at a node.
+    ghost syncs: { Self → ℕ → Outcome → Type 0 };
+
+    /// Waits until a look at a node has all that was acknowledged anywhere before. For that a command that changes nothing is
+    /// decided, under a request number of its own. It isn't kept to be asked again.
+    ///
+    /// # Errors
+    /// Why the nodes can't be asked any more.
+    fn sync(&mut self, node: NodeId) -> Result<Outcome, Refusal>
+        ensures outcome { IfOk result (λ o. is_outcome_at node o ≡ true) }
+        ensures own { IfOk result (λ o. syncs self.old node o) }
+        ensures kept { unanswered self.new ≡ unanswered self.old };
 
     /// What a person is told behind an answer, in a second line.
     fn hint(&mut self) -> Option<Hint>

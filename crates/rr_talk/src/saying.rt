@@ -1,7 +1,7 @@
 //! What is said to a line that asks for something.
 
 ghost use Rattle.std.specs.Prelude.{◌≡◌, ◌<◌, true, Some, None, IfOk};
-ghost use Rattle.rr_talk.specs.Talks.{Stated, asks_node, IsSaidToRequest};
+ghost use Rattle.rr_talk.specs.Talks.{Stated, asks_node, IsSaidToSync, IsSaidToRequest};
 ghost use Rattle.rr_shell.specs.Troubles.{answer_trouble, outcome_trouble, listing_trouble};
 ghost use Rattle.rr_shell.specs.Forms.{answer_said, outcome_said, list_said, move_said, stop_said, start_said, snapshot_said, no_snapshot_said, down_said, help_said, fault_said};
 
@@ -10,7 +10,8 @@ use rr_script::Answer;
 use rr_shell::{
     LineFault, Listing, Outcome, ShellLine, Trouble, answer_trouble, listing_trouble,
     outcome_trouble, say_answer, say_down, say_fault, say_help, say_listing, say_move,
-    say_no_snapshot, say_outcome, say_snapshot, say_start, say_status, say_stop,
+    say_no_snapshot, say_outcome, say_snapshot, say_start, say_status, say_stop, say_sync,
+    sync_trouble,
 };
 use rr_types::{Name, NodeId, Nodes, Op, Refusal, Reply, Value, made_of};
 use std::alloc::Global;
@@ -43,6 +44,21 @@ fn submitted(alloc: Global, json: bool, node: NodeId, outcome: &Outcome) -> Resu
     let mut text = Vec::new(alloc);
     say_outcome(alloc, &mut text, json, outcome)?;
     let trouble = outcome_trouble(outcome);
+    Ok(Said {
+        node,
+        text,
+        trouble,
+    })
+}
+
+// Asks a node for a sync. What came of it.
+fn synced<A: Asked>(alloc: Global, json: bool, node: NodeId, asked: &mut A) -> Result<Said, Refusal>
+    ensures { IfOk result (IsSaidToSync json node (A.syncs asked.old)) }
+{
+    let outcome = asked.sync(node)?;
+    let mut text = Vec::new(alloc);
+    say_sync(alloc, &mut text, json, &outcome)?;
+    let trouble = sync_trouble(&outcome);
     Ok(Said {
         node,
         text,
@@ -208,6 +224,7 @@ fn asks_node(line: &ShellLine) -> bool
         ShellLine::Submit(_) => true,
         ShellLine::Look(_) => true,
         ShellLine::Names(_) => true,
+        ShellLine::Sync => true,
         ShellLine::Again => true,
         _ => false,
     }
@@ -239,6 +256,7 @@ pub fn said_to_request<A: Asked>(
         ShellLine::Submit(op) => Ok(Some(submitted(alloc, json, node, &asked.submit(node, op)?)?)),
         ShellLine::Again => Ok(Some(submitted(alloc, json, node, &asked.again(node)?)?)),
         ShellLine::Look(name) => Ok(Some(answered(alloc, json, node, &asked.look(node, name)?)?)),
+        ShellLine::Sync => Ok(Some(synced(alloc, json, node, asked)?)),
         ShellLine::Names(prefix) => Ok(Some(listed(
             alloc,
             json,

@@ -1,4 +1,5 @@
 pub mod Agreeing
 pub mod Asking
 pub mod Fates
+pub mod Reusing
 pub mod Syncing

@@ -11,6 +11,7 @@ ghost use Rattle.rr_threads.specs.Syncing.{to_itself};
 use crate::desk::{Counter, Desk};
 use crate::fate::{Fate, fate_in};
 use crate::rest::{FIRST, LONG, Rest};
+use crate::reused::{Reused, reused_at};
 use crate::shared::Shared;
 use rr_locked::Turnstile;
 use rr_script::{Answer, ScriptLine};
@@ -221,6 +222,16 @@ impl<'d, 'x, W: WindowName, T: Turnstile, R: Wait> Handle<'d, 'x, W, T, R> {
     pub fn fate(&self, command: &Command) -> Fate {
         let locked = self.desk.locked.lock(self.rt);
         fate_in(locked.core(), command)
+    }
+
+    /// The submits of a script at this node, in its order, for whose request numbers this node's list of decided commands has
+    /// other commands.
+    ///
+    /// # Errors
+    /// `OutOfMemory`.
+    pub fn reused(&self, alloc: Global, lines: &[ScriptLine]) -> Result<Vec<Reused>, Refusal> {
+        let locked = self.desk.locked.lock(self.rt);
+        Ok(reused_at(alloc, locked.core(), self.node, lines)?)
     }
 
     /// Where each instance stands by the facts that this node knows to be on its disk.

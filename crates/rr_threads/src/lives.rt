@@ -3,20 +3,20 @@
 ghost use Rattle.std.specs.Prelude.{◌≡◌, ◌<◌};
 
 use crate::client::Client;
-use crate::node_loop::Mail;
 use crate::node_run::{Part, Remains, run_part};
 use crate::shared::Shared;
-use rr_core::recover;
+use crate::wires::Mail;
 use rr_disk::Disk;
-use rr_locked::Turnstile;
+use rr_locked::{Turnstile, recover_through};
 use rr_types::{NodeId, Nodes, Refusal};
 use std::alloc::Global;
 use std::sync::Wait;
 use std::thread::Threads;
 use std::time::Clock;
 
-/// Opens a node of this disk. The errors are those of `recover`.
-pub fn open_part<D: Disk + Drop>(
+/// Opens a node of this disk, with the turnstile before each device call. The errors are those of `recover_through`.
+pub fn open_part<D: Disk + Drop, T: Turnstile>(
+    turnstile: &T,
     alloc: Global,
     nodes: Nodes,
     node: NodeId,
@@ -26,7 +26,7 @@ pub fn open_part<D: Disk + Drop>(
     requires exists { node < nodes }
     requires alike { (one other : D) → D.tells one → D.tells other }
 {
-    match recover(alloc, nodes, node, disk) {
+    match recover_through(turnstile, alloc, nodes, node, disk) {
         Ok((core, journal)) => Ok(Part {
             node,
             core,
@@ -37,25 +37,26 @@ pub fn open_part<D: Disk + Drop>(
     }
 }
 
-/// Opens a node again of what is left of it. None: the run is over. The errors are those of `recover`.
-fn open_again<D: Disk + Drop>(
+/// Opens a node again of what is left of it. None: the run is over. The errors are those of `recover_through`.
+fn open_again<D: Disk + Drop, T: Turnstile>(
     alloc: Global,
-    nodes: Nodes,
+    shared: &Shared<'_, T>,
     node: NodeId,
     disk: Option<D>,
     mail: Option<Mail>,
 ) -> Result<Option<Part<D>>, Refusal>
     requires alike { (one other : D) → D.tells one → D.tells other }
 {
-    let (Some(node), Some(disk), Some(mail)) = (NodeId::new(nodes, node.index()), disk, mail) else {
+    let (Some(node), Some(disk), Some(mail)) = (NodeId::new(shared.nodes, node.index()), disk, mail)
+    else {
         return Ok(None);
     };
-    let part = open_part(alloc, nodes, node, disk, mail)?;
+    let part = open_part(shared.turnstile, alloc, shared.nodes, node, disk, mail)?;
     Ok(Some(part))
 }
 
 /// Runs a node through its lives: until the run is over, or it is down and isn't started any more. Then its clients are done. The
-/// errors are those of `recover`, `OutOfMemory` and `SeatsTaken`.
+/// errors are those of `recover_through`, `OutOfMemory` and `SeatsTaken`.
 fn live<
     D: Disk + Drop + Send,
     T: Turnstile + Sync,
@@ -88,7 +89,7 @@ fn live<
                 return Ok(());
             }
         }
-        match open_again(alloc, shared.nodes, node, disk, mail)? {
+        match open_again(alloc, shared, node, disk, mail)? {
             Some(next) => part = next,
             None => return Ok(()),
         }

@@ -7,12 +7,12 @@ ghost use Rattle.std.specs.Thread.{IsSend};
 use crate::agreeing::all_agree;
 use crate::client::Client;
 use crate::lives::{open_part, run_lives};
-use crate::node_loop::Mail;
 use crate::node_run::Part;
 use crate::recorder::Recorder;
 use crate::running::Running;
 use crate::shared::Shared;
 use crate::switches::Switches;
+use crate::wires::Mail;
 use rr_disk::Disk;
 use rr_inbox::{Outlet, Port};
 use rr_locked::{Kept, Sent, Turnstile};
@@ -73,7 +73,8 @@ fn open_rows(
 }
 
 /// Opens the nodes of these disks, the lowest first, each with its clients.
-fn open_parts<D: Disk + Drop, C: Drop>(
+fn open_parts<D: Disk + Drop, T: Turnstile, C: Drop>(
+    turnstile: &T,
     alloc: Global,
     nodes: Nodes,
     disks: Vec<D>,
@@ -95,7 +96,7 @@ fn open_parts<D: Disk + Drop, C: Drop>(
         };
         let kept = Kept::new();
         let mail = Mail { inbox, ports, kept };
-        let part = open_part(alloc, nodes, node, disk, mail)?;
+        let part = open_part(turnstile, alloc, nodes, node, disk, mail)?;
         parts.push((part, clients))?;
         index = index.saturating_add(1);
     }
@@ -209,7 +210,7 @@ pub fn run_all<
     if disks.len() != count || clients.len() != count {
         return Err(Refusal::BadNodes);
     }
-    let parts = open_parts(alloc, nodes, disks, clients)?;
+    let parts = open_parts(turnstile, alloc, nodes, disks, clients)?;
     if !all_agree(&parts) {
         return Err(DIFFERENT);
     }

@@ -1,9 +1,11 @@
 //! Runs of a script: a client of each node asks what the lines ask of it.
 
-ghost use Rattle.std.specs.Prelude.{◌≡◌, length, IfOk};
+ghost use Rattle.std.specs.Prelude.{◌≡◌, true, length, IfOk};
+ghost use Rattle.rr_threads.specs.Reusing.{are_reused};
 
 use crate::client::{Client, Handle};
 use crate::recorder::Recorder;
+use crate::reused::{Reused, are_reused};
 use crate::run::{run_all, usual_tick};
 use rr_disk::Disk;
 use rr_locked::Turnstile;
@@ -22,11 +24,22 @@ struct Answered {
     answer: Answer,
 }
 
+/// What a run of a script gives.
+#[derive(Debug, Drop)]
+pub struct Ran {
+    /// The answers to its lines.
+    pub answers: Answers,
+    /// The submits whose request numbers are decided as other commands, in the order of the script.
+    pub reused: Vec<Reused>,
+}
+
 /// The client that asks what the lines of a script ask of its node.
 #[derive(Drop)]
 struct Reader<'x> {
+    alloc: Global,
     lines: &'x [ScriptLine],
     answers: &'x Mutex<Vec<Answered>>,
+    reused: &'x Mutex<Vec<Reused>>,
 }
 
 impl<'x> Client for Reader<'x> {
@@ -50,6 +63,10 @@ impl<'x> Client for Reader<'x> {
                     break;
                 }
             }
+        }
+        let mut found = handle.reused(self.alloc, self.lines)?;
+        if self.reused.lock(handle.rt()).append(&mut found).is_err() {
+            return Err(Refusal::OutOfMemory);
         }
         Ok(())
     }
@@ -82,16 +99,54 @@ fn in_order(alloc: Global, count: usize, answered: &[Answered]) -> Result<Answer
     Ok(Answers::new(answers))
 }
 
+/// Those whose request numbers are decided as other commands, in the order of their lines.
+fn reused_in_order(
+    alloc: Global,
+    lines: &[ScriptLine],
+    found: &[Reused],
+) -> Result<Vec<Reused>, Refusal>
+    ensures { IfOk result (λ reused. are_reused lines.now reused.items ≡ true) }
+{
+    made_of!(Command, Op, Name, Value);
+    let mut slots: Vec<Option<Reused>> = Vec::new(alloc);
+    for _ in 0..lines.len() {
+        slots.push(None)?;
+    }
+    for one in found {
+        if let Some(slot) = slots.get_mut(one.place) {
+            *slot = Some(*one);
+        }
+    }
+    let mut reused = Vec::new(alloc);
+    for slot in &slots {
+        if let Some(one) = slot {
+            reused.push(*one)?;
+        }
+    }
+    if are_reused(lines, reused.as_slice()) {
+        Ok(reused)
+    } else {
+        Ok(Vec::new(alloc))
+    }
+}
+
 /// A client of each node, that asks what the lines ask of it.
 fn readers<'x>(
     alloc: Global,
     nodes: Nodes,
     lines: &'x [ScriptLine],
     answers: &'x Mutex<Vec<Answered>>,
+    reused: &'x Mutex<Vec<Reused>>,
 ) -> Result<Vec<Vec<Reader<'x>>>, Refusal> {
     let mut readers = Vec::new(alloc);
     for _ in 0..nodes.count() {
-        readers.push(vec![in alloc; Reader { lines, answers }]?)?;
+        let reader = Reader {
+            alloc,
+            lines,
+            answers,
+            reused,
+        };
+        readers.push(vec![in alloc; reader]?)?;
     }
     Ok(readers)
 }
@@ -136,12 +191,41 @@ pub fn run_script_ticking<
     requires alike { (one other : D) → D.tells one → D.tells other }
     ensures counts { IfOk result (λ _. length disks.items ≡ script.now.nodes) }
 {
+    let ran = run_script_told(rt, alloc, disks, script, turnstile, recorder, tick)?;
+    Ok(ran.answers)
+}
+
+/// As `run_script_ticking`, but it also tells which request numbers of the script are decided as other commands. Each node's client
+/// looks for those of its lines once it has asked them all.
+///
+/// # Errors
+/// As of `run_script`.
+pub fn run_script_told<
+    D: Disk + Drop + Send,
+    T: Turnstile + Sync,
+    R: Threads + Wait + Clock + Sync,
+>(
+    rt: &R,
+    alloc: Global,
+    disks: Vec<D>,
+    script: &Script,
+    turnstile: &T,
+    recorder: Option<&Recorder>,
+    tick: Duration,
+) -> Result<Ran, Refusal>
+    requires alike { (one other : D) → D.tells one → D.tells other }
+    ensures counts { IfOk result (λ _. length disks.items ≡ script.now.nodes) }
+    ensures reused { IfOk result (λ ran. are_reused script.now.lines ran.reused.items ≡ true) }
+{
     let nodes = script.nodes();
     let lines = script.lines();
     let answers: Mutex<Vec<Answered>> = Mutex::new(Vec::new(alloc));
-    let clients = readers(alloc, nodes, lines, &answers)?;
+    let found: Mutex<Vec<Reused>> = Mutex::new(Vec::new(alloc));
+    let clients = readers(alloc, nodes, lines, &answers, &found)?;
     run_all(
         rt, alloc, nodes, disks, clients, turnstile, recorder, None, tick,
     )?;
-    in_order(alloc, lines.len(), answers.into_inner().as_slice())
+    let answers = in_order(alloc, lines.len(), answers.into_inner().as_slice())?;
+    let reused = reused_in_order(alloc, lines, found.into_inner().as_slice())?;
+    Ok(Ran { answers, reused })
 }

@@ -10,17 +10,28 @@ use std::alloc::Global;
 use std::process::Abort;
 use std::sync::Wait;
 use std::sync::atomic::{AtomicBool, AtomicU64, Ordering};
-use std::thread::{Threads, yield_now};
-use std::time::Clock;
+use std::thread::{Parker, Threads};
+use std::time::{Clock, Duration};
 
-/// How many times, at most, a thread looks whether a number has been reached.
-const LOOKS: u32 = 30_000_000;
+/// How many turns, at most, a thread of a test waits for something. In a turn it looks once, and rests if that is vain.
+pub const TURNS: u32 = 10_000;
+
+/// How long a thread rests in a turn, in milliseconds: so it waits for twenty seconds, and a test may take sixty.
+const REST: u64 = 2;
+
+/// How many device calls an opening makes that formats a disk.
+pub const OPENING_CALLS: u64 = 9;
+
+/// The rest in a turn of a thread that waits.
+pub fn rest<R: Wait>(rt: &R) {
+    Parker::new().park_timeout(rt, Duration::from_millis(REST));
+}
 
 /// What the threads of a test share: the lines that are asked, and what is counted.
 #[derive(Drop)]
 pub struct Shared {
     pub lines: Vec<ScriptLine>,
-    /// The device calls of flushes: of node 0, and of the other nodes.
+    /// The device calls: of the node that the test is about, and of the other nodes.
     pub first_calls: AtomicU64,
     pub other_calls: AtomicU64,
     /// The submits that were answered.
@@ -44,12 +55,12 @@ impl Shared {
     }
 
     /// Waits until a number is at least `least`, or gives up.
-    pub fn wait_for(&self, number: &AtomicU64, least: u64) {
-        for _ in 0..LOOKS {
+    pub fn wait_for<R: Wait>(&self, rt: &R, number: &AtomicU64, least: u64) {
+        for _ in 0..TURNS {
             if number.load(Ordering::SeqCst) >= least {
                 return;
             }
-            yield_now();
+            rest(rt);
         }
         self.gave_up.store(true, Ordering::SeqCst);
     }
@@ -66,7 +77,7 @@ pub struct Asker<'s> {
     pub shared: &'s Shared,
     pub place: usize,
     pub times: u32,
-    /// Whether it asks only once node 0 flushes.
+    /// Whether it asks only once the node flushes.
     pub waits: bool,
 }
 
@@ -89,16 +100,17 @@ impl<'s> Client for Asker<'s> {
             return Ok(());
         };
         if self.waits {
-            shared.wait_for(&shared.first_calls, 1);
+            shared.wait_for(handle.rt(), &shared.first_calls, OPENING_CALLS + 1);
         }
         for _ in 0..self.times {
-            if is_right(&handle.ask(line)) {
+            if is_right(&handle.ask_within(TURNS, line)) {
                 shared.right.fetch_add(1, Ordering::SeqCst);
                 break;
             }
             if handle.is_over() {
                 break;
             }
+            rest(handle.rt());
         }
         Ok(())
     }

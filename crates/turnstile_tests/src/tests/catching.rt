@@ -1,6 +1,6 @@
 //! A run in which a node is stopped while many commands are decided.
 
-use super::asking::{disks_for, node_of, numbered};
+use super::asking::{TURNS, disks_for, node_of, numbered, rest};
 use rr_locked::{Open, Turnstile};
 use rr_script::Answer;
 use rr_threads::{Client, Handle, Switches, run_switched};
@@ -9,14 +9,11 @@ use rr_window::WindowName;
 use std::process::Abort;
 use std::sync::Wait;
 use std::sync::atomic::{AtomicU64, Ordering};
-use std::thread::{Threads, yield_now};
+use std::thread::Threads;
 use std::time::Clock;
 
 /// How many commands are decided while the node is down: at one a tick they would take longer than a test may.
 const COMMANDS: u64 = 2_000;
-
-/// How many times, at most, a client waits for something.
-const WAITS: u32 = 1_000_000_000;
 
 /// The switches, the node that is stopped, and how many commands were answered as they have to be.
 #[derive(Drop)]
@@ -52,14 +49,15 @@ fn ask_all<W: WindowName, T: Turnstile, R: Wait>(
     handle: &mut Handle<'_, '_, W, T, R>,
 ) -> Result<(), Refusal> {
     shared.switches.stop(shared.node);
-    for _ in 0..WAITS {
+    for _ in 0..TURNS {
         if !shared.switches.is_up(shared.node) {
             break;
         }
         shared.switches.wait(handle.rt());
     }
     for seq in 0..COMMANDS + 1 {
-        if matches!(handle.submit(&command(seq)?), Answer::Acknowledged { .. }) {
+        let answer = handle.submit_within(TURNS, &command(seq)?);
+        if matches!(answer, Answer::Acknowledged { .. }) {
             shared.right.fetch_add(1, Ordering::SeqCst);
         }
     }
@@ -73,12 +71,12 @@ fn look_for_the_last<W: WindowName, T: Turnstile, R: Wait>(
     handle: &mut Handle<'_, '_, W, T, R>,
 ) -> Result<(), Refusal> {
     let name = Name::new(b"b")?;
-    for _ in 0..WAITS {
+    for _ in 0..TURNS {
         if matches!(handle.look(&name), Answer::Bound { .. }) {
             shared.right.fetch_add(1, Ordering::SeqCst);
             break;
         }
-        yield_now();
+        rest(handle.rt());
     }
     Ok(())
 }
@@ -94,11 +92,11 @@ impl<'s> Client for Guest<'s> {
         }
         self.lives = self.lives.saturating_add(1);
         if self.lives == 1 {
-            for _ in 0..WAITS {
+            for _ in 0..TURNS {
                 if handle.is_over() {
                     break;
                 }
-                yield_now();
+                rest(handle.rt());
             }
             return Err(Refusal::Down);
         }

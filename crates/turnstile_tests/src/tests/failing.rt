@@ -1,6 +1,6 @@
 //! Runs in which the disk of a node fails while the others go on.
 
-use super::asking::{Shared, askers, claims, numbered};
+use super::asking::{OPENING_CALLS, Shared, askers, claims, numbered};
 use rr_disk::{AreaFile, FileDisk};
 use rr_locked::{Open, Place, Turnstile};
 use rr_script::{Answers, Script};
@@ -11,6 +11,7 @@ use std::io;
 use std::io::ErrorKind;
 use std::process::Abort;
 use std::sync::Wait;
+use std::sync::atomic::Ordering;
 use std::thread::Threads;
 use std::time::Clock;
 
@@ -82,7 +83,8 @@ fn worn_disk(rt: &impl Abort, alloc: Global, left: u32) -> FileDisk<WornFile> {
     FileDisk::over(first, second).expect(rt, "a disk")
 }
 
-/// Runs a script on three nodes. Each file of a node's disk takes the number of writes given for the node.
+/// Runs a script on three nodes. Each file of a node's disk takes the number of writes given for the node. (The clients of a script
+/// are those of `rr run`, which look for a reply up to 10,000,000 times: no test can bound that.)
 fn ran<R: Threads + Wait + Clock + Abort + AllocGlobal + Sync>(
     rt: &R,
     writes: [u32; 3],
@@ -127,14 +129,19 @@ fn a_disk_that_fails_in_an_opening_ends_the_run(rt: HostRuntime) {
 
 /// Holds each flush of the last of three nodes until the clients of the others have their replies.
 #[derive(Drop)]
-struct UntilOthers<'s> {
+struct UntilOthers<'s, R> {
+    rt: &'s R,
     shared: &'s Shared,
 }
 
-impl<'s> Turnstile for UntilOthers<'s> {
+impl<'s, R: Wait> Turnstile for UntilOthers<'s, R> {
     fn pass(&self, node: NodeId, place: Place) {
-        if place == Place::BeforeDevice && node.index() == 2 {
-            self.shared.wait_for(&self.shared.right, 2);
+        let shared = self.shared;
+        if place == Place::AfterSubmit || node.index() != 2 {
+            return;
+        }
+        if shared.first_calls.fetch_add(1, Ordering::SeqCst) >= OPENING_CALLS {
+            shared.wait_for(self.rt, &shared.right, 2);
         }
     }
 }
@@ -150,7 +157,10 @@ fn others_go_on<R: Threads + Wait + Clock + Abort + AllocGlobal + Sync>(
     for left in [1_000_000, 1_000_000, OPENING] {
         disks.push(worn_disk(rt, rt.alloc(), left))?;
     }
-    let turnstile = UntilOthers { shared: &shared };
+    let turnstile = UntilOthers {
+        rt,
+        shared: &shared,
+    };
     let ran = run_clients(rt, rt.alloc(), nodes, disks, clients, &turnstile, None);
     Ok(matches!(ran, Err(Refusal::Device)) && shared.came_to(2))
 }

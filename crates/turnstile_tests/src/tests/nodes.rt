@@ -1,6 +1,8 @@
 //! Runs of nodes, some of which are held up at a turnstile.
 
-use super::asking::{Asker, Shared, askers, claim, claims, node_of, numbered, runs};
+use super::asking::{
+    Asker, OPENING_CALLS, Shared, TURNS, askers, claim, claims, node_of, numbered, runs,
+};
 use rr_locked::{Open, Place, Turnstile};
 use rr_script::ScriptLine;
 use rr_types::{Name, NodeId, Refusal};
@@ -10,16 +12,14 @@ use std::sync::atomic::Ordering;
 use std::thread::Threads;
 use std::time::Clock;
 
-/// More looks than any test needs.
-const LOOKS: u32 = 10_000_000;
-
 /// Holds the first device call of a flush until two submits are answered.
 #[derive(Drop)]
-struct UntilAnswered<'s> {
+struct UntilAnswered<'s, R> {
+    rt: &'s R,
     shared: &'s Shared,
 }
 
-impl<'s> Turnstile for UntilAnswered<'s> {
+impl<'s, R: Wait> Turnstile for UntilAnswered<'s, R> {
     fn pass(&self, _node: NodeId, place: Place) {
         let shared = self.shared;
         match place {
@@ -27,8 +27,8 @@ impl<'s> Turnstile for UntilAnswered<'s> {
                 shared.submitted.fetch_add(1, Ordering::SeqCst);
             }
             Place::BeforeDevice => {
-                if shared.first_calls.fetch_add(1, Ordering::SeqCst) == 0 {
-                    shared.wait_for(&shared.submitted, 2);
+                if shared.first_calls.fetch_add(1, Ordering::SeqCst) == OPENING_CALLS {
+                    shared.wait_for(self.rt, &shared.submitted, 2);
                 }
             }
         }
@@ -53,7 +53,10 @@ fn answers_while_it_flushes<R: Threads + Wait + Clock + Abort + AllocGlobal + Sy
         })?;
     }
     let clients = vec![in rt.alloc(); own]?;
-    let turnstile = UntilAnswered { shared: &shared };
+    let turnstile = UntilAnswered {
+        rt,
+        shared: &shared,
+    };
     Ok(runs(rt, nodes, clients, &turnstile) && shared.came_to(2))
 }
 
@@ -64,11 +67,12 @@ fn a_node_answers_two_clients_while_its_flush_is_held(rt: HostRuntime) {
 
 /// Holds the first device call of each of two nodes' flushes until the other's is reached.
 #[derive(Drop)]
-struct UntilBoth<'s> {
+struct UntilBoth<'s, R> {
+    rt: &'s R,
     shared: &'s Shared,
 }
 
-impl<'s> Turnstile for UntilBoth<'s> {
+impl<'s, R: Wait> Turnstile for UntilBoth<'s, R> {
     fn pass(&self, node: NodeId, place: Place) {
         if place == Place::AfterSubmit {
             return;
@@ -79,8 +83,8 @@ impl<'s> Turnstile for UntilBoth<'s> {
         } else {
             (&shared.other_calls, &shared.first_calls)
         };
-        if own.fetch_add(1, Ordering::SeqCst) == 0 {
-            shared.wait_for(other, 1);
+        if own.fetch_add(1, Ordering::SeqCst) == OPENING_CALLS {
+            shared.wait_for(self.rt, other, OPENING_CALLS + 1);
         }
     }
 }
@@ -92,7 +96,10 @@ fn two_flush_at_once<R: Threads + Wait + Clock + Abort + AllocGlobal + Sync>(
     let nodes = numbered(rt, 2);
     let shared = Shared::new(claims(rt, rt.alloc(), nodes)?);
     let clients = askers(rt.alloc(), nodes, &shared)?;
-    let turnstile = UntilBoth { shared: &shared };
+    let turnstile = UntilBoth {
+        rt,
+        shared: &shared,
+    };
     Ok(runs(rt, nodes, clients, &turnstile) && shared.came_to(2))
 }
 
@@ -115,7 +122,7 @@ fn a_seat_elsewhere_shows_it<R: Threads + Wait + Clock + Abort + AllocGlobal + S
         let asker = Asker {
             shared: &shared,
             place,
-            times: if place == 0 { 1 } else { LOOKS },
+            times: if place == 0 { 1 } else { TURNS },
             waits: false,
         };
         clients.push(vec![in rt.alloc(); asker]?)?;

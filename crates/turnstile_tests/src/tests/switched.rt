@@ -1,6 +1,6 @@
 //! A run of which a node is stopped and started again.
 
-use super::asking::{claim, disks_for, node_of, numbered};
+use super::asking::{TURNS, claim, disks_for, node_of, numbered, rest};
 use rr_locked::{Open, Turnstile};
 use rr_script::{Answer, ScriptLine};
 use rr_threads::{Client, Handle, Switches, run_switched};
@@ -9,11 +9,8 @@ use rr_window::WindowName;
 use std::process::Abort;
 use std::sync::Wait;
 use std::sync::atomic::{AtomicU64, Ordering};
-use std::thread::{Threads, yield_now};
+use std::thread::Threads;
 use std::time::Clock;
-
-/// How many times, at most, a client waits for something.
-const WAITS: u32 = 10_000_000;
 
 /// What the clients share: the switches, the node that is stopped, a claim at that node and one at another, and how many claims
 /// and looks were answered as they have to be.
@@ -29,18 +26,18 @@ struct Shared {
 
 impl Shared {
     /// Waits until so many were right.
-    fn wait_for(&self, right: u64) {
-        for _ in 0..WAITS {
+    fn wait_for<R: Wait>(&self, rt: &R, right: u64) {
+        for _ in 0..TURNS {
             if self.right.load(Ordering::SeqCst) >= right {
                 break;
             }
-            yield_now();
+            rest(rt);
         }
     }
 
     /// Waits until the node is up, or down.
     fn wait_until<R: Wait>(&self, rt: &R, is_up: bool) {
-        for _ in 0..WAITS {
+        for _ in 0..TURNS {
             if self.switches.is_up(self.node) == is_up {
                 break;
             }
@@ -76,13 +73,13 @@ fn live_first<W: WindowName, T: Turnstile, R: Wait>(
     shared: &Shared,
     handle: &mut Handle<'_, '_, W, T, R>,
 ) {
-    let answer = handle.ask(&shared.early);
+    let answer = handle.ask_within(TURNS, &shared.early);
     shared.count(matches!(answer, Answer::Acknowledged { .. }));
-    for _ in 0..WAITS {
+    for _ in 0..TURNS {
         if handle.is_over() {
             break;
         }
-        yield_now();
+        rest(handle.rt());
     }
 }
 
@@ -100,10 +97,10 @@ fn stop_and_start<W: WindowName, T: Turnstile, R: Wait>(
     shared: &Shared,
     handle: &mut Handle<'_, '_, W, T, R>,
 ) {
-    shared.wait_for(1);
+    shared.wait_for(handle.rt(), 1);
     shared.switches.stop(shared.node);
     shared.wait_until(handle.rt(), false);
-    let answer = handle.ask(&shared.late);
+    let answer = handle.ask_within(TURNS, &shared.late);
     shared.count(matches!(answer, Answer::Acknowledged { .. }));
     shared.switches.start(shared.node);
     shared.wait_until(handle.rt(), true);

@@ -33,7 +33,8 @@ fn claims(alloc: Global, nodes: u8, count: u8) -> Result<(String, String), Alloc
     Ok((script, answers))
 }
 
-/// Runs such a script and holds its answers and its tape against what they have to be.
+/// Runs such a script and holds its answers and its tape against what they have to be. (The clients of a script are those of
+/// `rr run`, which look for a reply up to 10,000,000 times: no test can bound that.)
 fn runs_as_it_has_to<R: Threads + Wait + Clock + Abort + AllocGlobal + Sync>(
     rt: &R,
     count: u8,

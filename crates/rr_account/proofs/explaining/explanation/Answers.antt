@@ -1,7 +1,8 @@
-use Rattle.std.proofs.Common.{◌≡◌, ◌<◌, ◌+◌, ◌∷◌, ◌++◌, ◌-◌, [], List, ℕ, ap, arith, drop, get_or, length, length-drop, rules, subst, suc, sym, take, ◌∙◌}
+use Rattle.std.proofs.Common.{◌≡◌, ◌<◌, ◌+◌, ◌∷◌, ◌++◌, ◌-◌, [], List, ℕ, ap, arith, drop, get_or, length, length-drop, refl, rules, subst, suc, sym, take, ◌∙◌}
 use Rattle.std.proofs.Math.ListN.{drop_of_length-le}
 use Rattle.std.proofs.Math.Seq.{drop-cons}
 use Rattle.std.proofs.lemmas.List.{take_all}
+use Rattle.std.proofs.lemmas.Option.{slice_get_read}
 use Rattle.std.specs.Prelude.{codes, decimal}
 use Rattle.rr_types.specs.declared.command.Command.{Command}
 use Rattle.rr_text.specs.declared.event.Event.{Event}
@@ -35,7 +36,9 @@ pub loop-event-preserved : goal.loop-event-preserved
 loop-event-preserved c =
     so_far_more c.args.account.now c.loop-event.event-index c.loop-event.line c.loop-event.told c.in_ok-next.next c.event-item.result c.loop-event.text.items c.push_happening.new.text.items c.loop-event.invariant
     (first_left c.events-event-items.result.now c.args.account.now.schedule.events c.loop-event.event-index c.event-item.result c.events-event-items.ensures.value (search rules) c.event-item.is)
-    c.in_ok-next.ensures.range c.in_ok-next.ensures.ok
+    c.in_ok-next.ensures.range c.in_ok-next.ensures.ok (search rules)
+    (slice_get_read c.args.account.now.schedule.events (length c.args.account.now.schedule.events) c.loop-event.event-index c.event-item.result refl (search rules) (search rules))
+    c.in_ok-next.ensures.noted c.in_ok-next.ensures.counted
 
 pub returns-clause-ok : goal.returns-clause-ok
 returns-clause-ok c =
@@ -45,3 +48,4 @@ returns-clause-ok c =
     (subst (λ (es : List Event). drop c.loop-event.event-index es ≡ []) c.events-event-items.ensures.value none)
     (ended c.args.account.now.report.lines c.lines-lines.result.now c.args.account.now.report.decided c.decided.result.now c.loop-event.told c.loop-event.text.items c.push_report_lines.new.out.items _
     c.lines-lines.ensures c.decided.ensures c.in_ok-push_report_lines.ensures.ok c.in_ok-push_decided_list.ensures.ok)
+    (search rules)

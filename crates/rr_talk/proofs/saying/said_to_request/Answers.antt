@@ -1,4 +1,4 @@
-use Rattle.rr_talk.specs.Talks.{submitted, again, looked, listed, is_down, moved, stopped, started, written, unwritten, stated, helped}
+use Rattle.rr_talk.specs.Talks.{submitted, again, looked, synced, listed, is_down, moved, stopped, started, written, unwritten, stated, helped}
 use Rattle.rr_talk.proofs.saying.said_to_request.Goals as goal
 
 pub returns-then-asks_in_vain : goal.returns-then-asks_in_vain
@@ -12,6 +12,11 @@ returns-in_ok-submitted-in-Again g c = rw (c.in-Again.is, c.in_ok-submitted-in-A
 
 pub returns-in_ok-answered-in-Look : goal.returns-in_ok-answered-in-Look
 returns-in_ok-answered-in-Look g c = rw (c.in-Look.is, c.in_ok-answered-in-Look.ensures.0, c.in_ok-answered-in-Look.ensures.1, c.in_ok-answered-in-Look.ensures.2) (looked c.in-Look.name c.in_ok-look-in-Look.field-0 c.in_ok-look-in-Look.ensures)
+
+pub returns-in_ok-synced-in-Sync : goal.returns-in_ok-synced-in-Sync
+returns-in_ok-synced-in-Sync g c =
+    let (o, may, at, node, text, trouble) = c.in_ok-synced-in-Sync.ensures in
+    rw (c.in-Sync.is, node, text, trouble) (synced o at)
 
 pub returns-in_ok-listed-in-Names : goal.returns-in_ok-listed-in-Names
 returns-in_ok-listed-in-Names g c = rw (c.in-Names.is, c.in_ok-listed-in-Names.ensures.0, c.in_ok-listed-in-Names.ensures.1, c.in_ok-listed-in-Names.ensures.2) (listed c.in-Names.prefix c.in_ok-list-in-Names.field-0 c.in_ok-list-in-Names.ensures)

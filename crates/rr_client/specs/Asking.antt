@@ -1,0 +1,82 @@
+-- A guest as a client, and what its calls give.
+use Rattle.std.specs.Prelude.{◌≡◌, ◌⊎◌, ◌+◌, ◌-◌, ◌<◌, ◌≤◌, ℕ, List, Option, None, Some, IsSome, Result, Ok, Err, Vec}
+use Rattle.std.specs.declared.alloc.Global.{Global}
+use mathlib.Core.List.{IsPrefix}
+use Rattle.rr_types.specs.declared.binding.Binding.{Binding}
+use Rattle.rr_types.specs.declared.command.Op.{Op}
+use Rattle.rr_types.specs.declared.command.Command.{Command}
+use Rattle.rr_types.specs.declared.command.RequestNo.{RequestNo}
+use Rattle.rr_types.specs.declared.command.Reply.{Reply}
+use Rattle.rr_types.specs.Registry.{registry_of, holding_of, reply_of}
+use Rattle.rr_window.specs.declared.sight.Sight.{Sight}
+use Rattle.rr_window.specs.Sights.{sight_of, bindings_with}
+use Rattle.rr_client.specs.declared.error.ClusterError.{ClusterError}
+use Rattle.rr_client.specs.declared.error.ClusterError.TheVariants.{Numbers, Unacknowledged, NothingToAsk, ListFull, NumberUsed, Over, Unseen, OutOfMemory}
+
+-- a client: its node, its number, the longest list that it has seen or learned, the least number that its next request may have,
+-- and the command that isn't acknowledged yet
+pub record Asker : Type 0 where
+  pub node : ℕ
+  pub client : ℕ
+  pub known : List Command
+  pub next : ℕ
+  pub unanswered : Option Command
+
+-- from one state of a client to a later one: it is the same client at the same node, it knows no less, and gives no number twice
+abbrev pub GoesOn : Asker → Asker → Type 0
+GoesOn a b = (b.node ≡ a.node) × (b.client ≡ a.client) × IsPrefix a.known b.known × (a.next ≤ b.next)
+
+-- the number of the last request of a client
+abbrev pub last_request : Asker → RequestNo
+last_request a = record { client = a.client; seq = a.next - 1 }
+
+-- that there is no request number
+abbrev pub IsNumberless : ClusterError → Type 0
+IsNumberless (Numbers refusal) = Unit {0}
+IsNumberless _ = ⊥
+
+-- why a command isn't acknowledged
+abbrev pub IsUnanswered : Command → ClusterError → Type 0
+IsUnanswered c (Unacknowledged d) = d ≡ c
+IsUnanswered c (NumberUsed d) = d ≡ c
+IsUnanswered c Over = Unit {0}
+IsUnanswered c ListFull = Unit {0}
+IsUnanswered c _ = ⊥
+
+-- what a submit of a command comes to: its reply by the list that the client then knows, or it isn't acknowledged and is kept to be
+-- asked again, or it never is
+abbrev pub ComesTo : Command → Asker → Result Reply ClusterError → Type 0
+ComesTo c b (Ok reply) = (reply_of b.known c.request ≡ Some reply) × (b.unanswered ≡ None)
+ComesTo c b (Err (Unacknowledged d)) = (d ≡ c) × (b.unanswered ≡ Some c)
+ComesTo c b (Err Over) = b.unanswered ≡ Some c
+ComesTo c b (Err (NumberUsed d)) = (d ≡ c) × (b.unanswered ≡ None)
+ComesTo c b (Err ListFull) = b.unanswered ≡ None
+ComesTo c b (Err _) = ⊥
+
+-- a submit of an operation: as a command with the next request number, which is new; or there is no number, and nothing has changed
+abbrev pub IsSubmitted : Op → Asker → Asker → Result Reply ClusterError → Type 0
+IsSubmitted op a b (Err (Numbers refusal)) = b ≡ a
+IsSubmitted op a b result = (a.next < b.next) × ComesTo (record { request = last_request b; op = op }) b result
+
+-- one more submit of the command that is kept
+abbrev pub IsAskedAgain : Option Command → Asker → Asker → Result Reply ClusterError → Type 0
+IsAskedAgain None a b result = (result ≡ Err NothingToAsk) × (b ≡ a)
+IsAskedAgain (Some c) a b result = (b.next ≡ a.next) × ComesTo c b result
+
+abbrev pub IsSubmittedAgain : Asker → Asker → Result Reply ClusterError → Type 0
+IsSubmittedAgain a b result = IsAskedAgain a.unanswered a b result
+
+-- a sync: a request with the next number has a reply by the list that the client then knows. What is kept stays
+abbrev pub IsSynced : Asker → Asker → Result (Unit {0}) ClusterError → Type 0
+IsSynced a b (Ok _) = (b.unanswered ≡ a.unanswered) × (a.next < b.next) × IsSome (reply_of b.known (last_request b))
+IsSynced a b (Err _) = b.unanswered ≡ a.unanswered
+
+-- a look at a name: who has it by the list that the client then knows. Where nothing is seen, nothing has changed
+abbrev pub IsLooked : List ℕ → Asker → Asker → Result Sight ClusterError → Type 0
+IsLooked name a b (Ok sight) = (sight ≡ sight_of (holding_of (registry_of b.known) name)) × (b.unanswered ≡ a.unanswered) × (b.next ≡ a.next)
+IsLooked name a b (Err e) = (e ≡ Unseen) × (b ≡ a)
+
+-- a list of the names that begin with these bytes, by the list that the client then knows. Where nothing is seen, nothing has changed
+abbrev pub IsListed : List ℕ → Asker → Asker → Result (Vec Binding Global) ClusterError → Type 0
+IsListed prefix a b (Ok v) = (v.items ≡ bindings_with prefix (registry_of b.known)) × (b.unanswered ≡ a.unanswered) × (b.next ≡ a.next)
+IsListed prefix a b (Err e) = ((e ≡ Unseen) ⊎ (e ≡ OutOfMemory)) × (b ≡ a)

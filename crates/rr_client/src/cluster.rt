@@ -1,0 +1,97 @@
+//! A cluster over a folder, from its opening to its end.
+
+ghost use Rattle.std.specs.Prelude.{◌≡◌, length, IfOk};
+
+use crate::collecting::{collect_all, open_slots, seat_all};
+use crate::error::ClusterError;
+use crate::guest::{Guest, Place};
+use crate::numbers::NumberFile;
+use crate::options::Options;
+use crate::promises::promises_of;
+use rr_disk::{FileDisk, OpenedFile};
+use rr_folders::{Folders, Lockable, Locks, open_folders};
+use rr_locked::Open;
+use rr_threads::{Switches, run_switched};
+use rr_types::{Nodes, Refusal};
+use std::fs::OpenFile;
+use std::io::{Read, Seek, Write};
+use std::os::unix::fs::FileExt;
+use std::rt::Files;
+use std::sync::Wait;
+use std::thread::Threads;
+use std::time::{Clock, Duration};
+
+/// The least and the greatest tick, in milliseconds.
+const LEAST_TICK: u64 = 10;
+
+const MOST_TICK: u64 = 10_000;
+
+// The guests at their nodes, over disks that are open, until all are done. The folders are locked meanwhile.
+fn run_over<
+    F: Read + Write + Seek + FileExt + OpenFile + Drop + Send,
+    R: Files + AllocGlobal + Threads + Wait + Clock + Sync,
+    G: Guest + Drop + Send,
+>(
+    rt: &R,
+    nodes: Nodes,
+    locks: &Locks<F>,
+    options: &Options,
+    disks: Vec<FileDisk<OpenedFile<F>>>,
+    places: Vec<Place<G>>,
+) -> Result<Vec<G>, ClusterError>
+    ensures { IfOk result (λ guests. length guests.items ≡ length places.items) }
+{
+    let alloc = rt.alloc();
+    let (promises, disks) = promises_of(alloc, nodes, disks)?;
+    let file = NumberFile::new(rt, locks.dir());
+    let slots = open_slots(alloc, places.len())?;
+    let rows = seat_all(
+        rt,
+        nodes,
+        options.patience,
+        &promises,
+        &file,
+        &slots,
+        places,
+    )?;
+    let tick = Duration::from_millis(options.tick);
+    let switches = Switches::new(alloc, nodes)?.with_tick(tick);
+    let ran = run_switched(rt, alloc, nodes, disks, rows, &Open, &switches);
+    match (collect_all(alloc, slots)?, ran) {
+        (Some(guests), Ok(())) => Ok(guests),
+        (_, Err(refusal)) => Err(ClusterError::Run { refusal }),
+        (None, Ok(())) => Err(ClusterError::Over),
+    }
+}
+
+/// Opens the cluster of so many nodes in the folder DIR, or makes it where there is none, and runs its nodes in threads. Each guest
+/// asks its node, in a thread of its own. Once all guests have returned, the nodes end, and the guests come back in the order of
+/// their places. What they were acknowledged is on the disks.
+///
+/// While it runs, no other program opens the folder. A node has 64 guests at most.
+///
+/// # Errors
+/// The first error that a guest has given. `BadTick`; `NoNode`; `InUse`, `Failed`, `Refused`, `Unopened`, of the folder; `Numbers`;
+/// `OutOfMemory`; `Run`, where the nodes' run has failed.
+pub fn run_cluster<
+    F: Read + Write + Seek + FileExt + OpenFile + Drop + Send + Lockable,
+    R: Files<File = F> + AllocGlobal + Threads + Wait + Clock + Sync,
+    G: Guest + Drop + Send,
+>(
+    rt: &R,
+    nodes: Nodes,
+    dir: &str,
+    options: &Options,
+    places: Vec<Place<G>>,
+) -> Result<Vec<G>, ClusterError>
+    ensures { IfOk result (λ guests. length guests.items ≡ length places.items) }
+{
+    let tick = options.tick;
+    if tick < LEAST_TICK || tick > MOST_TICK {
+        return Err(ClusterError::BadTick { tick });
+    }
+    let Folders { locks, disks } = open_folders(rt, nodes, dir)?;
+    let ran = run_over(rt, nodes, &locks, options, disks, places);
+    drop(locks);
+    ran
+}

@@ -1,0 +1,164 @@
+//! What goes wrong with a cluster and its names.
+
+use rr_cluster::Fault;
+use rr_folders::Closed;
+use rr_types::{Command, NodeId, Refusal};
+use std::alloc::{AllocError, AllocFailed};
+use std::io;
+use thiserror::Error;
+
+/// What goes wrong with a cluster and its names.
+#[derive(Debug, Drop, Error)]
+pub enum ClusterError {
+    /// Memory was refused.
+    #[error("memory was refused")]
+    OutOfMemory,
+    /// A tick that isn't from 10 to 10,000 milliseconds.
+    #[error("a tick of {tick} milliseconds is asked for, but it is from 10 to 10000")]
+    BadTick {
+        tick: u64,
+    },
+    /// A guest asks a node that isn't there.
+    #[error("a guest asks node {node}, but the last of the nodes is {last}")]
+    NoNode {
+        node: u8,
+        last: u8,
+    },
+    /// Another program has locked the folder of this path.
+    #[error("{path}: another program has locked it")]
+    InUse {
+        path: String,
+    },
+    /// This call on this path failed.
+    #[error("{path}: {call}: {error}")]
+    Failed {
+        path: String,
+        call: &'static str,
+        error: io::Error,
+    },
+    /// The folder of this node may not be opened.
+    #[error("the folder of node {}: {}", .node.index(), fault_text(.fault))]
+    Refused {
+        node: NodeId,
+        fault: Fault,
+    },
+    /// The disk of this node can't be opened.
+    #[error("the disk of node {} can't be opened: {}", .node.index(), refusal_text(.refusal))]
+    Unopened {
+        node: NodeId,
+        refusal: Refusal,
+    },
+    /// The folder's file `requests` gives no request number.
+    #[error("the file requests in the folder: {}", numbers_text(.refusal))]
+    Numbers {
+        refusal: Refusal,
+    },
+    /// The node hasn't acknowledged this command in time. It may come to be decided; `again` asks it once more.
+    #[error("request {} of client {} isn't acknowledged yet, but it may still be decided", .command.request.seq, .command.request.client)]
+    Unacknowledged {
+        command: Command,
+    },
+    /// There is no command that isn't acknowledged, and that `again` could ask once more.
+    #[error("no command waits to be asked again")]
+    NothingToAsk,
+    /// The request number of this command belongs to another one, which counts for it. Somebody else was this client, or the file
+    /// `requests` was put back.
+    #[error("request {} of client {} is another command: its number was used before", .command.request.seq, .command.request.client)]
+    NumberUsed {
+        command: Command,
+    },
+    /// As many commands are decided as a cluster can decide: this one never is.
+    #[error("the list of commands is full: the command is never decided")]
+    ListFull,
+    /// The run is over, or comes to its end: return.
+    #[error("the run is over")]
+    Over,
+    /// A look or a list saw nothing: look again.
+    #[error("the node showed nothing: look again")]
+    Unseen,
+    /// The nodes' run has failed.
+    #[error("the run has failed: {}", refusal_text(.refusal))]
+    Run {
+        refusal: Refusal,
+    },
+    /// Bytes that are no name, no value or no number of nodes.
+    #[error("{}", refusal_text(.refusal))]
+    Unfit {
+        refusal: Refusal,
+    },
+}
+
+// What a refusal means.
+fn refusal_text(refusal: &Refusal) -> &'static str {
+    match refusal {
+        Refusal::OutOfMemory => "memory was refused",
+        Refusal::Device => "a file couldn't be read or written, or the clock couldn't be read",
+        Refusal::Damaged { .. } => {
+            "what the disk holds isn't what a node wrote, or two disks decide an instance differently"
+        }
+        Refusal::BadNodes => "there are 1 to 7 nodes",
+        Refusal::BadName => "a name has 1 to 64 bytes of a-z, 0-9 and hyphen",
+        Refusal::BadValue => "a value has up to 64 bytes of printable ASCII without spaces",
+        Refusal::SeatsTaken => "a node has at most 64 guests",
+        Refusal::TooLarge => "an area, an epoch or the facts of a node are at their end",
+        other => other.name(),
+    }
+}
+
+// Why a folder isn't opened.
+fn fault_text(fault: &Fault) -> &'static str {
+    match fault {
+        Fault::Missing => "it is gone, so the node can't know any more what it promised",
+        Fault::Blank => "its disk is blank, so the node can't know any more what it promised",
+        Fault::Cut =>
+            "a file of its disk is gone or cut, so the node can't know any more what it promised",
+        Fault::OtherNode(_) => "it is another node's; put each folder back in its place",
+        Fault::OtherNodes(_) => "its cluster has another number of nodes",
+        Fault::OtherCluster => "it is another cluster's; put that of this one back",
+        Fault::Unmarked => "no cluster has marked it; put the folder of this one back",
+    }
+}
+
+// Why there is no request number.
+fn numbers_text(refusal: &Refusal) -> &'static str {
+    match refusal {
+        Refusal::Malformed(_) =>
+            "it should hold the first number that is not reserved, and a line feed",
+        Refusal::TooLarge => "all request numbers are reserved",
+        Refusal::Device => "it can't be read or written",
+        other => refusal_text(other),
+    }
+}
+
+impl From<AllocError> for ClusterError {
+    fn from(_error: AllocError) -> ClusterError {
+        ClusterError::OutOfMemory
+    }
+}
+
+impl<T: Drop> From<AllocFailed<T>> for ClusterError {
+    fn from(_error: AllocFailed<T>) -> ClusterError {
+        ClusterError::OutOfMemory
+    }
+}
+
+impl From<Refusal> for ClusterError {
+    fn from(refusal: Refusal) -> ClusterError {
+        match refusal {
+            Refusal::OutOfMemory => ClusterError::OutOfMemory,
+            refusal => ClusterError::Unfit { refusal },
+        }
+    }
+}
+
+impl From<Closed> for ClusterError {
+    fn from(closed: Closed) -> ClusterError {
+        match closed {
+            Closed::OutOfMemory => ClusterError::OutOfMemory,
+            Closed::InUse(path) => ClusterError::InUse { path },
+            Closed::Failed { path, call, error } => ClusterError::Failed { path, call, error },
+            Closed::Unopened(node, refusal) => ClusterError::Unopened { node, refusal },
+            Closed::Refused(node, fault) => ClusterError::Refused { node, fault },
+        }
+    }
+}

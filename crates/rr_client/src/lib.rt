@@ -1,0 +1,76 @@
+//! A registry that survives crashes, in your own program: begin here. `run_cluster` opens a cluster in a folder, or makes it there,
+//! runs its nodes in threads, and gives each of your guests a client's names (`Names`) at a node: `claim`, `update`, `release`,
+//! `transfer`, `look`, `list`, `sync`. It takes request numbers by itself, and times are milliseconds. Once all guests are done, it
+//! closes the folder and gives them back.
+//!
+//! Names belong to clients, which are numbers. Let no two programs be one client. A guest that is the same client later has its
+//! names still.
+//!
+//! `crates/one_cluster` is this program:
+//!
+//! ```rust
+//! use rr_client::{ClusterError, Guest, Names, Options, Place, run_cluster};
+//! use rr_types::{Name, Nodes, Reply, Value};
+//! use std::fs;
+//!
+//! /// Someone who claims a desk, and counts the desks where it has one already.
+//! #[derive(Drop)]
+//! struct Clerk {
+//!     desk: Name,
+//!     desks: Option<usize>,
+//! }
+//!
+//! impl Guest for Clerk {
+//!     fn run<N: Names>(&mut self, names: &mut N) -> Result<(), ClusterError> {
+//!         if let Reply::Taken(_) = names.claim(&self.desk, &Value::new(b"room-4")?)? {
+//!             names.sync()?;
+//!             self.desks = Some(names.list(b"desk-")?.len());
+//!         }
+//!         Ok(())
+//!     }
+//! }
+//!
+//! fn main(rt: HostRuntime) -> anyhow::Result<()> {
+//!     let _ = fs::remove_dir_all(&rt, "one_cluster.nodes"); // to begin anew; a registry keeps its folder
+//!     for life in ["at first", "behind a restart"] {
+//!         let mut places = Vec::new(rt.alloc());
+//!         for (node, desk) in [b"desk-0", b"desk-1", b"desk-2"].iter().enumerate() {
+//!             let desk = Name::new(*desk)?;
+//!             let guest = Clerk { desk, desks: None };
+//!             let (node, client) = (node as u8, node as u32);
+//!             places.push(Place {
+//!                 node,
+//!                 client,
+//!                 guest,
+//!             })?;
+//!         }
+//!         let (nodes, options) = (Nodes::new(3)?, Options::usual());
+//!         for clerk in run_cluster(&rt, nodes, "one_cluster.nodes", &options, places)? {
+//!             match clerk.desks {
+//!                 None => println!(rt; "{life}: a clerk has claimed its desk")?,
+//!                 Some(desks) => println!(rt; "{life}: a clerk has one of {desks} desks")?,
+//!             }
+//!         }
+//!     }
+//!     Ok(())
+//! }
+//! ```
+#![tactic(auto)]
+
+mod cluster;
+mod collecting;
+mod error;
+mod guest;
+mod names;
+mod numbers;
+mod options;
+mod patience;
+mod promises;
+mod seated;
+
+pub use cluster::run_cluster;
+pub use error::ClusterError;
+pub use guest::{Guest, Place};
+pub use names::Names;
+pub use options::Options;
+pub use rr_window::Sight;

@@ -1,0 +1,93 @@
+//! What a guest asks a node.
+
+ghost use Rattle.std.specs.Prelude.{◌≡◌};
+ghost use Rattle.rr_types.specs.declared.command.Op.TheVariants.{Claim, Update, Release, Transfer};
+ghost use Rattle.rr_client.specs.Asking.{Asker, GoesOn, IsSubmitted, IsSubmittedAgain, IsSynced, IsLooked, IsListed};
+
+use crate::error::ClusterError;
+use rr_types::{Binding, Name, NodeId, Reply, Value};
+use rr_window::Sight;
+
+/// The names of a cluster, as a client at a node asks for them. Each change has a request number of its own, so it counts once.
+///
+/// A call that waits gives up behind the patience of `Options`.
+pub trait Names {
+    /// The client, its node, and what it knows.
+    ghost asker: { Self → Asker };
+
+    /// The node that is asked.
+    fn node(&self) -> NodeId
+        ensures { result ≡ (asker self.now).node };
+
+    /// The client that asks.
+    fn client(&self) -> u32
+        ensures { result ≡ (asker self.now).client };
+
+    /// Whether the run comes to its end. Then no command is acknowledged any more.
+    fn is_over(&self) -> bool;
+
+    /// Binds a free name to the client, with a value. The reply is `Claimed`, `Taken` by its owner, or `Full`.
+    ///
+    /// # Errors
+    /// `Unacknowledged`, `ListFull`, `NumberUsed`, `Over`, `Numbers`.
+    fn claim(&mut self, name: &Name, value: &Value) -> Result<Reply, ClusterError>
+        ensures reply { IsSubmitted (Claim name.now value.now) (asker self.old) (asker self.new) result }
+        ensures later { GoesOn (asker self.old) (asker self.new) };
+
+    /// Sets the value of a name that the client has. The reply is `Updated`, `NotOwner` or `Unknown`.
+    ///
+    /// # Errors
+    /// As of `claim`.
+    fn update(&mut self, name: &Name, value: &Value) -> Result<Reply, ClusterError>
+        ensures reply { IsSubmitted (Update name.now value.now) (asker self.old) (asker self.new) result }
+        ensures later { GoesOn (asker self.old) (asker self.new) };
+
+    /// Frees a name that the client has. The reply is `Released`, `NotOwner` or `Unknown`.
+    ///
+    /// # Errors
+    /// As of `claim`.
+    fn release(&mut self, name: &Name) -> Result<Reply, ClusterError>
+        ensures reply { IsSubmitted (Release name.now) (asker self.old) (asker self.new) result }
+        ensures later { GoesOn (asker self.old) (asker self.new) };
+
+    /// Gives a name that the client has to another client. The reply is `Transferred`, `NotOwner` or `Unknown`.
+    ///
+    /// # Errors
+    /// As of `claim`.
+    fn transfer(&mut self, name: &Name, owner: u32) -> Result<Reply, ClusterError>
+        ensures reply { IsSubmitted (Transfer name.now owner) (asker self.old) (asker self.new) result }
+        ensures later { GoesOn (asker self.old) (asker self.new) };
+
+    /// Asks the last command once more that wasn't acknowledged, under its request number. However often it is asked, it counts once.
+    ///
+    /// # Errors
+    /// As of `claim`, and `NothingToAsk`.
+    fn again(&mut self) -> Result<Reply, ClusterError>
+        ensures reply { IsSubmittedAgain (asker self.old) (asker self.new) result }
+        ensures later { GoesOn (asker self.old) (asker self.new) };
+
+    /// Waits until the client knows all that was acknowledged anywhere before: a look or a list behind it has that. It takes a place
+    /// of the list of commands, and changes no name.
+    ///
+    /// # Errors
+    /// As of `claim`. Then nothing is told. The command that `again` asks stays the same.
+    fn sync(&mut self) -> Result<(), ClusterError>
+        ensures synced { IsSynced (asker self.old) (asker self.new) result }
+        ensures later { GoesOn (asker self.old) (asker self.new) };
+
+    /// Who has a name, by what the node has published: all that this client has seen, and what it was acknowledged. It doesn't wait.
+    ///
+    /// # Errors
+    /// `Unseen`.
+    fn look(&mut self, name: &Name) -> Result<Sight, ClusterError>
+        ensures sight { IsLooked name.now (asker self.old) (asker self.new) result }
+        ensures later { GoesOn (asker self.old) (asker self.new) };
+
+    /// The bound names that begin with these bytes, in byte order, by what the node has published. It doesn't wait.
+    ///
+    /// # Errors
+    /// `Unseen`, `OutOfMemory`.
+    fn list(&mut self, prefix: &[u8]) -> Result<Vec<Binding>, ClusterError>
+        ensures bindings { IsListed prefix.now (asker self.old) (asker self.new) result }
+        ensures later { GoesOn (asker self.old) (asker self.new) };
+}

@@ -1,0 +1,124 @@
+//! The file of request numbers: what a reservation asks of it.
+
+ghost use Rattle.std.specs.Prelude.{◌≡◌, ◌+◌, ◌≤◌, is_ok, IfOk};
+ghost use Rattle.rr_folders.specs.NumberCalls.{NumberCall, reads, writes, syncs, renames, syncs_folder, found_by};
+
+use crate::requests::{Block, reserve_in};
+use rr_types::Refusal;
+use std::fs::OpenFile;
+use std::io::{ErrorKind, Write};
+use std::marker::Model;
+use std::rt::Files;
+use std::{fs, io};
+
+/// The file that says which request numbers are reserved. A reservation changes it by these calls alone, so its clauses can name the
+/// calls that it made, in their order.
+pub trait NumberFile {
+    /// That a call, with its bytes and whether it succeeded, may have brought the file from one state to another.
+    ghost gives: { Self → NumberCall → Self → Type 0 };
+
+    /// The bytes of the file. None: there is no file.
+    ///
+    /// # Errors
+    /// Those of the system.
+    fn read(&mut self) -> io::Result<Option<Vec<u8>>>
+        ensures { gives self.old (reads (found_by result) (is_ok result)) self.new };
+
+    /// Writes a new file beside it, which replaces one that an earlier attempt left.
+    ///
+    /// # Errors
+    /// Those of the system; part of the text may then be written.
+    fn write_fresh(&mut self, text: &[u8]) -> io::Result<()>
+        ensures { gives self.old (writes text.now (is_ok result)) self.new };
+
+    /// Makes what the new file holds last.
+    ///
+    /// # Errors
+    /// Those of the system.
+    fn sync_fresh(&mut self) -> io::Result<()>
+        ensures { gives self.old (syncs (is_ok result)) self.new };
+
+    /// Puts the new file in place of the file. A crash leaves one of them.
+    ///
+    /// # Errors
+    /// Those of the system; it may have been renamed all the same.
+    fn rename_fresh(&mut self) -> io::Result<()>
+        ensures { gives self.old (renames (is_ok result)) self.new };
+
+    /// Makes the names in the folder last.
+    ///
+    /// # Errors
+    /// Those of the system.
+    fn sync_folder(&mut self) -> io::Result<()>
+        ensures { gives self.old (syncs_folder (is_ok result)) self.new };
+}
+
+/// The file `requests` of a folder. No contract knows what it holds.
+#[derive(Drop)]
+pub(crate) struct FolderNumbers<'x, R: Files> {
+    rt: &'x R,
+    dir: &'x str,
+    path: String,
+    fresh_path: String,
+    fresh: Option<R::File>,
+}
+
+impl<'x, R: Files + AllocGlobal> FolderNumbers<'x, R> {
+    /// That of this folder.
+    pub(crate) fn new(rt: &'x R, dir: &'x str) -> Result<FolderNumbers<'x, R>, Refusal> {
+        Ok(FolderNumbers {
+            rt,
+            dir,
+            path: format!(in rt.alloc(); "{dir}/requests")?,
+            fresh_path: format!(in rt.alloc(); "{dir}/requests.new")?,
+            fresh: None,
+        })
+    }
+}
+
+impl<'x, R: Files + AllocGlobal> NumberFile for FolderNumbers<'x, R> {
+    ghost gives = { λ _ _ _. Unit {0} };
+
+    fn read(&mut self) -> io::Result<Option<Vec<u8>>> {
+        match fs::read(self.rt, self.path.as_str()) {
+            Ok(bytes) => Ok(Some(bytes)),
+            Err(error) if error.kind() == ErrorKind::NotFound => Ok(None),
+            Err(error) => Err(error),
+        }
+    }
+
+    fn write_fresh(&mut self, text: &[u8]) -> io::Result<()> {
+        let mut file = fs::create(self.rt, self.fresh_path.as_str())?;
+        file.write_all(text)?;
+        self.fresh = Some(file);
+        Ok(())
+    }
+
+    fn sync_fresh(&mut self) -> io::Result<()> {
+        match &self.fresh {
+            Some(file) => file.sync_all(),
+            None => Err(io::Error::from(ErrorKind::NotFound)),
+        }
+    }
+
+    fn rename_fresh(&mut self) -> io::Result<()> {
+        fs::rename(self.rt, self.fresh_path.as_str(), self.path.as_str())
+    }
+
+    fn sync_folder(&mut self) -> io::Result<()> {
+        fs::open(self.rt, self.dir)?.sync_all()
+    }
+}
+
+/// Reserves the next block of request numbers, from `least` on, by the file `requests` of a folder that is locked. No earlier block
+/// has any of them. `Locks::reserve` is the same, for a program that has the locks at hand.
+///
+/// # Errors
+/// Those of `reserve_in`.
+pub fn reserve<R: Files + AllocGlobal>(rt: &R, dir: &str, least: u64) -> Result<Block, Refusal>
+    ensures whole { IfOk result (λ b. b.end ≡ b.next + 1048576) }
+    ensures least { IfOk result (λ b. least ≤ b.next) }
+{
+    let mut file = FolderNumbers::new(rt, dir)?;
+    reserve_in(rt.alloc(), &mut file, least)
+}

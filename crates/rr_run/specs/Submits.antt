@@ -1,0 +1,12 @@
+-- What a node's client finds that a submit has come to.
+use Rattle.rr_types.specs.declared.command.RequestNo.{RequestNo}
+use Rattle.rr_threads.specs.Asking.{Asking, IsAnswered}
+use Rattle.rr_shell.specs.declared.outcome.Outcome.{Outcome}
+use Rattle.rr_shell.specs.declared.outcome.Outcome.TheVariants.{Answered, ListFull, Used, Nothing}
+
+-- what a submit of a request has come to, as a client has it: an answer is one to this request, by the list that the client knows
+abbrev pub IsOutcome : RequestNo → Asking → Outcome → Type 0
+IsOutcome q a (Answered answer) = IsAnswered q a answer
+IsOutcome q a ListFull = Unit {0}
+IsOutcome q a (Used other) = Unit {0}
+IsOutcome q a Nothing = ⊥

@@ -1,0 +1,57 @@
+//! What standard error gets of request numbers that were used for other commands.
+
+ghost use Rattle.std.specs.Prelude.{◌≡◌, ◌++◌, true, OnOk};
+ghost use Rattle.std.specs.List.{flat_map};
+ghost use Rattle.rr_threads.specs.Reusing.{are_reused};
+ghost use Rattle.rr_run.specs.Telling.{reused_line, GrowsByFront, TellsReused};
+
+use rr_script::ScriptLine;
+use rr_shell::push_used_text;
+use rr_text::text_word::{push_byte, push_bytes};
+use rr_threads::Reused;
+use std::alloc::{AllocError, Global};
+use std::io::Write;
+
+// Appends a line for each.
+fn push_reused(out: &mut Vec<u8>, reused: &[Reused]) -> Result<(), AllocError>
+    ensures ok { OnOk result (out.new.items ≡ out.old.items ++ flat_map reused_line reused.now) }
+{
+    for one in reused {
+        push_bytes(out, b"rr: ")?;
+        push_used_text(out, &one.command)?;
+        push_byte(out, b'\n')?;
+    }
+    Ok(())
+}
+
+// Writes a text. Where the stream fails it has taken a front of it.
+fn write_front<E: Write>(err: &mut E, text: &[u8])
+    ensures { GrowsByFront (E.contents err.old) (E.contents err.new) text.now }
+{
+    let mut rest = text;
+    while !rest.is_empty() {
+        let Ok(taken) = err.write(rest) else {
+            return;
+        };
+        if taken == 0 {
+            return;
+        }
+        rest = &rest[taken..];
+    }
+}
+
+/// Tells of request numbers of these lines that were used for other commands, a line each. Where memory or the stream fails,
+/// people aren't told.
+pub(crate) fn tell_reused<E: Write>(
+    alloc: Global,
+    err: &mut E,
+    lines: &[ScriptLine],
+    reused: &[Reused],
+)
+    ensures { are_reused lines.now reused.now ≡ true → TellsReused lines.now (E.contents err.old) (E.contents err.new) }
+{
+    let mut text = Vec::new(alloc);
+    if push_reused(&mut text, reused).is_ok() {
+        write_front(err, text.as_slice());
+    }
+}
