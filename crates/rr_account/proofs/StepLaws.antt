@@ -149,15 +149,15 @@ all_lead events outcomes index at old now s none = s.leads_on now (subst (λ (es
 
 added_all : (at : ℕ) (events : List Event) (shares : List (List ReportLine)) (old new : Cluster) → AddEach at events shares old new → new.lines ≡ old.lines ++ joined shares
 added_all at [] [] old new same = ap (λ (c : Cluster). c.lines) same ∙ sym (append-nil old.lines)
-added_all at [] (ls ∷ shares) old new bad = absurd bad
-added_all at (e ∷ es) [] old new bad = absurd bad
+added_all at [] (ls ∷ shares) old new never = absurd never
+added_all at (e ∷ es) [] old new never = absurd never
 added_all at (e ∷ es) (ls ∷ shares) old new (next, steps, grew, rest) =
     added_all (at + 1) es shares next new rest ∙ ap (λ (all : List ReportLine). all ++ joined shares) grew ∙ append_assoc old.lines ls (joined shares)
 
 as_many : (at : ℕ) (events : List Event) (shares : List (List ReportLine)) (old new : Cluster) → AddEach at events shares old new → length shares ≡ length events
 as_many at [] [] old new same = refl
-as_many at [] (ls ∷ shares) old new bad = absurd bad
-as_many at (e ∷ es) [] old new bad = absurd bad
+as_many at [] (ls ∷ shares) old new never = absurd never
+as_many at (e ∷ es) [] old new never = absurd never
 as_many at (e ∷ es) (ls ∷ shares) old new (next, steps, grew, rest) = let more = as_many (at + 1) es shares next new rest in omega (arith, more)
 
 pub is_of_one_run : (schedule : Scheduled) (outcomes : List Outcome) (report : Reported) (end : Cluster) → AreWatched 2 schedule.events outcomes (new_cluster schedule.nodes) end → report.lines ≡ end.lines

@@ -94,8 +94,8 @@ explained_more at k [] [] e ls words text is none one = (
   ap (λ (t : List ℕ). t ++ (told_lines ls ++ note_line words)) none ∙ ap (λ (t : List ℕ). told_lines ls ++ t) (sym (append-nil (note_line words))),
   refl,
 )
-explained_more at k [] (s ∷ ss) e ls words text is bad one = absurd bad
-explained_more at k (x ∷ xs) [] e ls words text is bad one = absurd bad
+explained_more at k [] (s ∷ ss) e ls words text is never one = absurd never
+explained_more at k (x ∷ xs) [] e ls words text is never one = absurd never
 explained_more at k (x ∷ xs) (s ∷ ss) e ls words text is (own, rest, first, split, others) one =
     let more = told_lines ls ++ note_line words in (
       own,

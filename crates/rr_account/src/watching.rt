@@ -87,7 +87,8 @@ fn watch_events<O: Sink>(
     let mut line = 2u64;
     for event in events {
         tell_step(line, line, events.len() as u64, out);
-        outcomes.push(watch_event(alloc, cluster, line, event)?)?;
+        let outcome = watch_event(alloc, cluster, line, event)?;
+        outcomes.push(outcome)?;
         line += 1;
     }
     Ok(outcomes)
