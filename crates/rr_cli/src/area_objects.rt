@@ -1,11 +1,20 @@
 //! The areas of a disk as JSON.
 
-ghost use Rattle.std.specs.Prelude.{◌≡◌, ◌++◌, Some, OnOk, IfOk};
+ghost use Rattle.std.specs.Prelude.{◌≡◌, ◌++◌, None, Some, OnOk, IfOk};
 ghost use Rattle.rr_cli.specs.AreaObjects.{area_object, areas_objects};
 
 use rr_image::AreaReport;
 use rr_json::{push_end, push_number_member, push_open};
 use std::alloc::{AllocError, Global};
+
+// Appends that an area isn't formatted, as an object.
+fn push_unformatted(out: &mut Vec<u8>, area: u64) -> Result<(), AllocError>
+    ensures ok { OnOk result (out.new.items ≡ out.old.items ++ area_object area None) }
+{
+    push_open(out, b"unformatted")?;
+    push_number_member(out, b"area", area)?;
+    push_end(out)
+}
 
 // Appends what is told of a formatted area, as an object.
 fn push_formatted(out: &mut Vec<u8>, area: u64, told: AreaReport) -> Result<(), AllocError>
@@ -31,11 +40,7 @@ fn push_area_object(
     ensures ok { OnOk result (out.new.items ≡ out.old.items ++ area_object area told) }
 {
     match told {
-        None => {
-            push_open(out, b"unformatted")?;
-            push_number_member(out, b"area", area)?;
-            push_end(out)
-        }
+        None => push_unformatted(out, area),
         Some(told) => push_formatted(out, area, told),
     }
 }
