@@ -1,6 +1,31 @@
 //! The auditor of tapes: whether what a tape records is what nodes of the world do, event by event. `audit` says yes or
 //! no of a tape, and `examine` also what the world gives instead of an event. `audit_on` does the same while the text
 //! is read.
+//!
+//! So a program audits the text of a tape:
+//!
+//! ```rust
+//! use rr_audit::audit;
+//! use rr_tape::Tape;
+//! use rr_types::Refusal;
+//! use std::alloc::Global;
+//! use std::io;
+//!
+//! /// Audits the tape that has this text, and answers how many events it has.
+//! fn audit_text(alloc: Global, text: &[u8]) -> Result<u64, Refusal> {
+//!     let tape = Tape::parse(alloc, text)?;
+//!     audit(alloc, &tape)
+//! }
+//!
+//! /// Prints what an audit of a tape's text finds.
+//! pub fn print_audit(rt: &HostRuntime, text: &[u8]) -> io::Result<()> {
+//!     match audit_text(rt.alloc(), text) {
+//!         Ok(count) => println!(rt; "nodes can do these {count} events"),
+//!         Err(Refusal::AuditNo(number)) => println!(rt; "event {number} isn't what nodes do next"),
+//!         Err(refusal) => println!(rt; "{refusal}"),
+//!     }
+//! }
+//! ```
 #![tactic(auto)]
 
 mod auditing;
