@@ -72,7 +72,8 @@ fn a_decided_instance_opens_the_next(rt: HostRuntime) {
     let mut table = Instances::restored(alloc, &[], 0).expect(&rt, "memory");
     assert_open(&rt, &table, [0, 1, 2, 3, 4, 5, 6, 7]);
     let mut rows = Vec::new(alloc);
-    rows.push(Row::promised(alloc, 0, &decided(2, 1).expect(&rt, "memory")))
+    let row = Row::promised(alloc, 0, &decided(2, 1).expect(&rt, "memory"));
+    rows.push(row.expect(&rt, "memory"))
         .expect(&rt, "memory");
     table.absorb(alloc, &mut rows).expect(&rt, "memory");
     assert_open(&rt, &table, [0, 1, 3, 4, 5, 6, 7, 8]);
