@@ -286,6 +286,19 @@ impl Rows {
         }
     }
 
+    /// The command that the instance with this number has decided, lent.
+    pub(crate) fn decided_command(&self, number: u32) -> Option<&Command>
+        ensures { MatchOption result (decision_at self.now number ≡ None) (λ v. decision_at self.now number ≡ Some v.now) }
+    {
+        match self.row(number) {
+            Some(row) => match &row.standing {
+                Standing::Decided(command) => Some(command),
+                Standing::Open(_) => None,
+            },
+            None => None,
+        }
+    }
+
     /// Whether some instance has decided a command with this request number.
     pub(crate) fn has_decided(&self, request: RequestNo) -> bool
         ensures { result ≡ list_any (has_decided request) self.now }
