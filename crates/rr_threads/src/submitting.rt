@@ -3,7 +3,6 @@
 use crate::desk::{Counter, Desk};
 use crate::recorder::Scribe;
 use crate::shared::Shared;
-use rr_locked::{Place, Turnstile};
 use rr_turn::Notes;
 use rr_types::{Command, Input, Op, Refusal, made_of};
 use rr_window::WindowName;
@@ -66,15 +65,4 @@ pub fn submit_all<W: WindowName, T, R: Wait>(
         }
     }
     count
-}
-
-/// The node has answered so many submits.
-pub fn pass_submits<W: WindowName, T: Turnstile>(
-    shared: &Shared<'_, T>,
-    desk: &Desk<W>,
-    count: usize,
-) {
-    for _ in 0..count {
-        shared.turnstile.pass(desk.node, Place::AfterSubmit);
-    }
 }

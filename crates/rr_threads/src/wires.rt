@@ -4,10 +4,11 @@
 ghost use Rattle.rr_turn.specs.Asked.{Call};
 
 use crate::desk::Desk;
-use crate::running::Running;
+use crate::shared::Shared;
+use crate::submitting::submit_all;
 use rr_inbox::{Giver, Outlet, Port, Taker, TrySendError};
 use rr_journal::Synced;
-use rr_locked::{Kept, Sent, Unflushed};
+use rr_locked::{Kept, Place, Sent, Turnstile, Unflushed};
 use rr_turn::Links;
 use rr_types::{Group, NodeId};
 use rr_window::WindowName;
@@ -29,23 +30,16 @@ pub struct NodeEnds {
     pub backs: Taker<Result<Synced, Unflushed>>,
 }
 
-/// The ends of a node's thread, which it owns, and the bells that it rings.
+/// The ends of a node's thread, which it owns, the bells that it rings, and its clients.
 #[derive(Drop)]
-pub struct Wires<'x, W: WindowName, R> {
+pub struct Wires<'x, 'y, W: WindowName, T, R> {
     pub rt: &'x R,
-    pub running: &'x Running,
+    pub shared: &'x Shared<'y, T>,
     pub desk: &'x Desk<W>,
     pub ends: NodeEnds,
 }
 
-impl<'x, W: WindowName, R> Wires<'x, W, R> {
-    /// Whether nothing waits in the inbox. To ask is cheaper than to make room for a message.
-    pub fn is_idle(&mut self) -> bool {
-        self.ends.mail.inbox.is_empty()
-    }
-}
-
-impl<'x, W: WindowName, R: Wait> Links for Wires<'x, W, R> {
+impl<'x, 'y, W: WindowName, T: Turnstile, R: Wait> Links for Wires<'x, 'y, W, T, R> {
     ghost gives = { λ _ _ _. Unit {0} };
 
     fn put(&mut self, to: NodeId, sent: Sent) {
@@ -56,7 +50,11 @@ impl<'x, W: WindowName, R: Wait> Links for Wires<'x, W, R> {
     }
 
     fn ring(&mut self, node: NodeId) {
-        self.running.ring(node);
+        self.shared.running.ring(node);
+    }
+
+    fn is_idle(&mut self) -> bool {
+        self.ends.mail.inbox.is_empty()
     }
 
     fn take(&mut self) -> Option<Sent> {
@@ -84,5 +82,21 @@ impl<'x, W: WindowName, R: Wait> Links for Wires<'x, W, R> {
 
     fn wake_publisher(&mut self) {
         self.desk.publisher.unpark();
+    }
+
+    fn is_wanted(&mut self) -> bool {
+        self.desk.take_note()
+    }
+
+    fn submit_all(&mut self) -> usize {
+        submit_all(self.rt, self.shared, self.desk)
+    }
+
+    fn pass_submits(&mut self, count: usize) {
+        for _ in 0..count {
+            self.shared
+                .turnstile
+                .pass(self.desk.node, Place::AfterSubmit);
+        }
     }
 }

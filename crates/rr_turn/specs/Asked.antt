@@ -1,6 +1,8 @@
--- The calls that a node's thread makes, and what they were answered.
-use Rattle.std.specs.Prelude.{ℕ, List, [], ◌∷◌, Option, Result}
+-- The calls that the threads of a node make, and what they were answered.
+use Rattle.std.specs.Prelude.{ℕ, List, [], ◌∷◌, Bool, Option, Result}
 use Rattle.rr_types.specs.Groups.{Grouped}
+use Rattle.rr_types.specs.declared.command.RequestNo.{RequestNo}
+use Rattle.rr_types.specs.declared.command.Reply.{Reply}
 use Rattle.rr_journal.specs.Flushes.{Kept}
 use Rattle.rr_locked.specs.Recorded.{Sent}
 use Rattle.rr_locked.specs.declared.flusher.Unflushed.{Unflushed}
@@ -9,11 +11,19 @@ use Rattle.rr_locked.specs.declared.flusher.Unflushed.{Unflushed}
 pub data Call : Type 0 where
   puts : (to : ℕ) (sent : Sent) → Call
   rings : (node : ℕ) → Call
+  sees : (is_idle : Bool) → Call
   takes : (sent : Option Sent) → Call
   comes : (back : Option (Result Kept Unflushed)) → Call
   hands : (group : Grouped) → Call
   wakes_flusher : Call
   wakes_publisher : Call
+  notices : (is_wanted : Bool) → Call
+  submits : (count : ℕ) → Call
+  passes : (count : ℕ) → Call
+  tells : (request : RequestNo) (reply : Reply) → Call
+  receives : (group : Option Grouped) → Call
+  hands_back : (back : Result Kept Unflushed) → Call
+  wakes_loop : Call
 
 -- these calls, in this order and no others, bring the links from one state to another
 pub data Ran {L : Type 0} (gives : L → Call → L → Type 0) : List Call → L → L → Type 0 where

@@ -1,2 +1,5 @@
 pub mod Asked
 pub mod Turns
+pub mod Looks
+pub mod Tells
+pub mod Carries

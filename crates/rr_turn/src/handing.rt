@@ -1,12 +1,10 @@
 //! Groups go to the flusher and come back.
 
-ghost use Rattle.std.specs.Prelude.{◌≡◌, Option, Some, length, is_some, nat_lt, IfOk, IfSome, OnOk};
-ghost use Rattle.rr_types.specs.Groups.{Grouped};
+ghost use Rattle.std.specs.Prelude.{◌≡◌, Some, length, nat_lt, IfOk, IfSome};
 ghost use Rattle.rr_model.specs.NodeState.{NodeState, decided_prefix};
 ghost use Rattle.rr_model.specs.NodeStep.{marked_running, running_group, group_taken};
-ghost use Rattle.rr_journal.specs.Flushes.{Kept};
-ghost use Rattle.rr_turn.specs.Asked.{Ran};
-ghost use Rattle.rr_turn.specs.Turns.{Marked, giving, Runs};
+ghost use Rattle.rr_turn.specs.Turns.{Runs};
+ghost use Rattle.rr_turn.specs.Looks.{Marks, Flushes};
 
 use crate::links::Links;
 use crate::notes::Notes;
@@ -47,7 +45,7 @@ pub fn mark_next<N: Notes, L: Links, R: Wait>(
     notes: &mut N,
     links: &mut L,
 ) -> Result<bool, Refusal>
-    ensures { IfOk result (λ has. (back : Option Kept) × (has ≡ is_some back) × Marked L.gives back links.old links.new) }
+    ensures { IfOk result (λ has. Marks L.gives has links.old links.new) }
 {
     match links.back() {
         None => Ok(false),
@@ -87,8 +85,7 @@ pub fn flush_next<N: Notes, L: Links, R: Wait>(
     notes: &mut N,
     links: &mut L,
 ) -> Result<bool, Refusal>
-    ensures { IfOk result (λ has. (group : Option Grouped) × (has ≡ is_some group)
-        × Ran L.gives (giving group) links.old links.new × IfSome group (λ g. (s : NodeState) × Runs (Some g) (group_taken s))) }
+    ensures { IfOk result (λ has. Flushes L.gives has links.old links.new) }
 {
     match take_in(rt, node, notes)? {
         None => Ok(false),

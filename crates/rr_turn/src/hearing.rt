@@ -3,12 +3,14 @@
 ghost use Rattle.std.specs.Prelude.{◌≡◌, ◌≤◌, List, length, nat_lt, IfOk, OnOk};
 ghost use Rattle.rr_locked.specs.Recorded.{Sent};
 ghost use Rattle.rr_turn.specs.Asked.{Ran};
+ghost use Rattle.rr_turn.specs.Looks.{Hears, Looks};
 ghost use Rattle.rr_turn.specs.Turns.{taking, met, met_chase, all_met, all_met_chase};
 
 use crate::links::Links;
 use crate::notes::Notes;
 use rr_locked::{Chase, Hearing, Locked, Sent};
 use rr_types::Refusal;
+use std::sync::{Mutex, Wait};
 
 /// A message comes: the node hears it, or what its chase has it hear.
 pub fn meet<N: Notes>(
@@ -57,4 +59,36 @@ pub fn hear_all<N: Notes, L: Links>(
         }
     }
     Ok(has_heard)
+}
+
+/// As `hear_all`, in one section of the node's lock.
+fn hear_in<N: Notes, L: Links, R: Wait>(
+    rt: &R,
+    node: &Mutex<Locked>,
+    notes: &mut N,
+    chase: &mut Chase,
+    links: &mut L,
+    most: usize,
+) -> Result<bool, Refusal>
+    ensures { IfOk result (λ has. Hears L.gives most has chase.old links.old chase.new links.new) }
+{
+    let mut locked = node.lock(rt);
+    hear_all(&mut *locked, notes, chase, links, most)
+}
+
+/// As `hear_all`, in one section of the node's lock, unless nothing waits.
+pub fn hear_next<N: Notes, L: Links, R: Wait>(
+    rt: &R,
+    node: &Mutex<Locked>,
+    notes: &mut N,
+    chase: &mut Chase,
+    links: &mut L,
+    most: usize,
+) -> Result<bool, Refusal>
+    ensures { IfOk result (λ has. Looks L.gives most has chase.old links.old chase.new links.new) }
+{
+    if links.is_idle() {
+        return Ok(false);
+    }
+    hear_in(rt, node, notes, chase, links, most)
 }

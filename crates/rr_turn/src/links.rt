@@ -1,6 +1,6 @@
 //! What a node's thread calls.
 
-ghost use Rattle.rr_turn.specs.Asked.{Call, puts, rings, takes, comes, hands, wakes_flusher, wakes_publisher};
+ghost use Rattle.rr_turn.specs.Asked.{Call, puts, rings, sees, takes, comes, hands, wakes_flusher, wakes_publisher, notices, submits, passes};
 
 use rr_journal::Synced;
 use rr_locked::{Sent, Unflushed};
@@ -19,6 +19,10 @@ pub trait Links {
     /// Rings for a node's thread.
     fn ring(&mut self, node: NodeId)
         ensures { gives self.old (rings node) self.new };
+
+    /// Whether nothing waits in the own inbox. To ask is cheaper than to take.
+    fn is_idle(&mut self) -> bool
+        ensures { gives self.old (sees result) self.new };
 
     /// Takes the oldest message of the own inbox.
     fn take(&mut self) -> Option<Sent>
@@ -39,4 +43,16 @@ pub trait Links {
     /// Rings for the publisher.
     fn wake_publisher(&mut self)
         ensures { gives self.old wakes_publisher self.new };
+
+    /// Whether a client wanted a submit since the last call.
+    fn is_wanted(&mut self) -> bool
+        ensures { gives self.old (notices result) self.new };
+
+    /// The node is asked for what its clients want. Gives how many commands these were.
+    fn submit_all(&mut self) -> usize
+        ensures { gives self.old (submits result) self.new };
+
+    /// The node has answered so many submits.
+    fn pass_submits(&mut self, count: usize)
+        ensures { gives self.old (passes count) self.new };
 }

@@ -1,9 +1,10 @@
 //! The events of a node, recorded or not.
 
-ghost use Rattle.std.specs.Prelude.{◌≡◌, [], Some, None, IfOk, IfNone, IfSome, IsSome, OnOk};
+ghost use Rattle.std.specs.Prelude.{◌≡◌, [], Some, None, IfOk, IfErr, IfNone, IfSome, IsSome, OnOk};
 ghost use Rattle.rr_model.specs.NodeState.{decided_prefix};
-ghost use Rattle.rr_model.specs.NodeStep.{node_step, next_leaving, message_left, group_taken, running_group, marked_running, next_acknowledged, acknowledged};
+ghost use Rattle.rr_model.specs.NodeStep.{node_step, refusal_of, next_leaving, message_left, group_taken, running_group, marked_running, next_acknowledged, acknowledged};
 ghost use Rattle.rr_types.specs.declared.input.Input.TheVariants as told;
+ghost use Rattle.rr_types.specs.declared.refusal.Refusal.TheVariants.{RoundsOut};
 ghost use Rattle.rr_types.specs.Registry.{reply_of};
 ghost use Rattle.rr_locked.specs.Recorded.{IsNoMessage};
 
@@ -17,7 +18,8 @@ pub trait Notes {
     /// The node is told this, which is no message.
     fn tell(&mut self, locked: &mut Locked, input: &Input) -> Result<(), Refusal>
         requires { IsNoMessage input.now }
-        ensures step { OnOk result (locked.new ≡ node_step input.now locked.old) };
+        ensures step { OnOk result (locked.new ≡ node_step input.now locked.old) }
+        ensures rounds { IfErr result (λ e. e ≡ RoundsOut → (locked.new ≡ locked.old) × (refusal_of input.now locked.old ≡ Some RoundsOut)) };
 
     /// The node hears a message.
     fn hear(&mut self, locked: &mut Locked, sent: &Sent) -> Result<(), Refusal>

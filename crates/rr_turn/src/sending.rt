@@ -4,7 +4,8 @@ ghost use Rattle.std.specs.Prelude.{◌≡◌, List, length, map, nat_lt, IfOk};
 ghost use Rattle.rr_model.specs.NodeState.{NodeState};
 ghost use Rattle.rr_locked.specs.Recorded.{Sent};
 ghost use Rattle.rr_turn.specs.Asked.{Ran};
-ghost use Rattle.rr_turn.specs.Turns.{wakes, leaving, left, noted, noted_one, put_of, woken_with, woken_by, rings_from, sending};
+ghost use Rattle.rr_turn.specs.Turns.{wakes, leaving, left, noted, noted_one, put_of, woken_with, woken_by, rings_from};
+ghost use Rattle.rr_turn.specs.Looks.{Sends};
 
 use crate::links::Links;
 use crate::notes::Notes;
@@ -87,7 +88,7 @@ pub fn ring_each<L: Links>(links: &mut L, nodes: NodeSet)
 }
 
 /// As `put_all`, in one section of the node's lock.
-fn put_in<N: Notes, L: Links, R: Wait>(
+pub fn put_in<N: Notes, L: Links, R: Wait>(
     rt: &R,
     node: &Mutex<Locked>,
     notes: &mut N,
@@ -113,8 +114,7 @@ pub fn send_all<N: Notes, L: Links, R: Wait>(
     links: &mut L,
     most: usize,
 ) -> Result<bool, Refusal>
-    ensures { IfOk result (λ has. (s : NodeState) × (sents : List Sent) × (map (λ s. s.message) sents ≡ leaving most s)
-        × Ran L.gives (sending sents) links.old links.new × (has ≡ nat_lt 0 (length sents)) × (chase.new ≡ noted sents chase.old)) }
+    ensures { IfOk result (λ has. Sends L.gives most has chase.old links.old chase.new links.new) }
 {
     let receivers = put_in(rt, node, notes, chase, links, most)?;
     ring_each(links, receivers.woken);
