@@ -5,12 +5,12 @@ ghost use Rattle.rr_turn.specs.Asked.{Call};
 
 use crate::desk::Desk;
 use crate::shared::Shared;
-use crate::submitting::submit_all;
+use crate::submitting::refuse;
 use rr_inbox::{Giver, Outlet, Port, Taker, TrySendError};
 use rr_journal::Synced;
 use rr_locked::{Kept, Place, Sent, Turnstile, Unflushed};
 use rr_turn::Links;
-use rr_types::{Group, NodeId};
+use rr_types::{Command, Group, NodeId, Refusal};
 use rr_window::WindowName;
 use std::sync::Wait;
 
@@ -88,8 +88,21 @@ impl<'x, 'y, W: WindowName, T: Turnstile, R: Wait> Links for Wires<'x, 'y, W, T,
         self.desk.take_note()
     }
 
-    fn submit_all(&mut self) -> usize {
-        submit_all(self.rt, self.shared, self.desk)
+    fn clients(&mut self) -> usize {
+        self.desk.counters.len()
+    }
+
+    fn take_wanted(&mut self, place: usize) -> Option<Command> {
+        match self.desk.counter(place) {
+            Some(counter) => counter.take_wanted(self.rt),
+            None => None,
+        }
+    }
+
+    fn refuse(&mut self, place: usize, refusal: Refusal) {
+        if let Some(counter) = self.desk.counter(place) {
+            refuse(self.rt, self.shared, self.desk, counter, refusal);
+        }
     }
 
     fn pass_submits(&mut self, count: usize) {

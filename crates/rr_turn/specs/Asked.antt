@@ -1,8 +1,10 @@
 -- The calls that the threads of a node make, and what they were answered.
 use Rattle.std.specs.Prelude.{ℕ, List, [], ◌∷◌, Bool, Option, Result}
 use Rattle.rr_types.specs.Groups.{Grouped}
+use Rattle.rr_types.specs.declared.command.Command.{Command}
 use Rattle.rr_types.specs.declared.command.RequestNo.{RequestNo}
 use Rattle.rr_types.specs.declared.command.Reply.{Reply}
+use Rattle.rr_types.specs.declared.refusal.Refusal.{Refusal}
 use Rattle.rr_journal.specs.Flushes.{Kept}
 use Rattle.rr_locked.specs.Recorded.{Sent}
 use Rattle.rr_locked.specs.declared.flusher.Unflushed.{Unflushed}
@@ -18,7 +20,9 @@ pub data Call : Type 0 where
   wakes_flusher : Call
   wakes_publisher : Call
   notices : (is_wanted : Bool) → Call
-  submits : (count : ℕ) → Call
+  counts : (clients : ℕ) → Call
+  wants : (place : ℕ) (command : Option Command) → Call
+  refuses : (place : ℕ) (refusal : Refusal) → Call
   passes : (count : ℕ) → Call
   tells : (request : RequestNo) (reply : Reply) → Call
   receives : (group : Option Grouped) → Call

@@ -3,3 +3,4 @@ pub mod Turns
 pub mod Looks
 pub mod Tells
 pub mod Carries
+pub mod Wants

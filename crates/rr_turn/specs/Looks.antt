@@ -9,7 +9,8 @@ use Rattle.rr_model.specs.NodeStep.{node_step, advance_refusal, group_taken}
 use Rattle.rr_locked.specs.Recorded.{Sent}
 use Rattle.rr_locked.specs.Chases.{Chase, again, chase_again, is_gaining}
 use Rattle.rr_locked.specs.Ticks.{Standstill, is_advance_due, standstill_after}
-use Rattle.rr_turn.specs.Asked.{Call, Ran, sees, notices, submits, passes}
+use Rattle.rr_turn.specs.Asked.{Call, Ran, sees, notices, passes}
+use Rattle.rr_turn.specs.Wants.{AsksAll}
 use Rattle.rr_turn.specs.Turns.{leaving, noted, put_of, woken_with, rings_from, sending, taking, all_met, all_met_chase, Marked, giving, Runs}
 
 module _ {L : Type 0} (gives : L → Call → L → Type 0) where
@@ -42,7 +43,7 @@ module _ {L : Type 0} (gives : L → Call → L → Type 0) where
   -- what waits is heard, the node is asked for what its clients want, so many commands, and what it owes is put into inboxes, which
   -- wakes these
   abbrev pub Submitted : ℕ → ℕ → ℕ → Chase → L → Chase → L → Type 0
-  Submitted most count woken c from k to = (heard : Bool) × (sents : List Sent) × (b : Chase) × (v w : L) × Looks most heard c from b v × gives v (submits count) w
+  Submitted most count woken c from k to = (heard : Bool) × (sents : List Sent) × (b : Chase) × (v w : L) × Looks most heard c from b v × AsksAll gives count v w
       × Puts most sents b w k to × (woken ≡ woken_with 0 sents)
 
   -- where a client wants something, the same is done, and those are rung who are woken

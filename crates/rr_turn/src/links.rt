@@ -1,10 +1,10 @@
 //! What a node's thread calls.
 
-ghost use Rattle.rr_turn.specs.Asked.{Call, puts, rings, sees, takes, comes, hands, wakes_flusher, wakes_publisher, notices, submits, passes};
+ghost use Rattle.rr_turn.specs.Asked.{Call, puts, rings, sees, takes, comes, hands, wakes_flusher, wakes_publisher, notices, counts, wants, refuses, passes};
 
 use rr_journal::Synced;
 use rr_locked::{Sent, Unflushed};
-use rr_types::{Group, NodeId};
+use rr_types::{Command, Group, NodeId, Refusal};
 
 /// The ends of a node's thread: those of inboxes and hand-overs, and bells. A function over any such ends can change them by
 /// these calls alone, so its clauses can name the calls that it made, in their order.
@@ -48,9 +48,17 @@ pub trait Links {
     fn is_wanted(&mut self) -> bool
         ensures { gives self.old (notices result) self.new };
 
-    /// The node is asked for what its clients want. Gives how many commands these were.
-    fn submit_all(&mut self) -> usize
-        ensures { gives self.old (submits result) self.new };
+    /// How many clients the node has.
+    fn clients(&mut self) -> usize
+        ensures { gives self.old (counts result) self.new };
+
+    /// The command that the client at this place wants to be submitted, if there is one. It waits for the reply from now on.
+    fn take_wanted(&mut self, place: usize) -> Option<Command>
+        ensures { gives self.old (wants place result) self.new };
+
+    /// The client at this place is told that its command is refused.
+    fn refuse(&mut self, place: usize, refusal: Refusal)
+        ensures { gives self.old (refuses place refusal) self.new };
 
     /// The node has answered so many submits.
     fn pass_submits(&mut self, count: usize)
