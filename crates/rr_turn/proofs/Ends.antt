@@ -13,3 +13,8 @@ pub both : {A E : Type 0} {P Q : A → Type 0} {R S : E → Type 0} (back : Resu
     → IfOk back (λ x. P x × Q x) × IfErr back (λ e. R e × S e)
 both (Ok x) p q r s = ((p, q), tt)
 both (Err e) p q r s = (tt, (r, s))
+
+-- what follows of a value
+pub ok_then : {A E : Type 0} {P Q : A → Type 0} → ((a : A) → P a → Q a) → (back : Result A E) → IfOk back P → IfOk back Q
+ok_then f (Ok a) p = f a p
+ok_then f (Err e) p = tt
