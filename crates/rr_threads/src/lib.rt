@@ -72,6 +72,7 @@ mod shared;
 mod snapshotting;
 mod submitting;
 mod switches;
+mod wires;
 
 pub use client::{Client, Handle};
 pub use fate::Fate;

@@ -3,9 +3,9 @@
 ghost use Rattle.std.specs.Prelude.{◌≡◌, ◌<◌};
 
 use crate::client::Client;
-use crate::node_loop::Mail;
 use crate::node_run::{Part, Remains, run_part};
 use crate::shared::Shared;
+use crate::wires::Mail;
 use rr_core::recover;
 use rr_disk::Disk;
 use rr_locked::Turnstile;

@@ -1,23 +1,17 @@
 //! The loop of a node.
 
-ghost use Rattle.rr_locked.specs.Recorded.{IsNoMessage};
-
 use crate::desk::Desk;
-use crate::hearing::{hear_again, hear_all, hear_kept};
-use crate::recorder::Recorder;
+use crate::hearing::{hear_again, hear_kept, hear_next};
+use crate::recorder::Scribe;
 use crate::rest::Rest;
 use crate::running::Running;
 use crate::shared::Shared;
 use crate::submitting::{pass_submits, submit_all};
-use rr_inbox::{Giver, Outlet, Port, ROOM, Taker, TrySendError};
-use rr_journal::Synced;
-use rr_locked::{
-    Chase, Kept, Locked, Sent, Standstill, Ticks, Turnstile, Unflushed, input_on, mark_on, send,
-    send_on, take_on,
-};
-use rr_types::{
-    Body, Command, Estimate, Group, Input, Message, NodeId, NodeSet, Op, Refusal, made_of,
-};
+use crate::wires::{Mail, NodeEnds, Wires};
+use rr_inbox::ROOM;
+use rr_locked::{Chase, Locked, Standstill, Ticks, Turnstile};
+use rr_turn::{Notes, flush_next, mark_next, put_all, ring_each, send_all};
+use rr_types::{Input, NodeId, Refusal};
 use rr_window::WindowName;
 use std::sync::{Mutex, Wait};
 use std::time::{Clock, Duration};
@@ -25,202 +19,18 @@ use std::time::{Clock, Duration};
 /// The most messages that are heard in a turn, and the most that are sent.
 const BATCH: usize = 64;
 
-/// A node's inbox, its end of each node's inbox, and what it kept while it was down.
-#[derive(Drop)]
-pub struct Mail {
-    pub inbox: Outlet<Sent>,
-    pub ports: Vec<Port<Sent>>,
-    pub kept: Kept,
-}
-
-/// What the loop of a node owns: its mail, what it chases by, and its ends of the hand-overs.
+/// What the loop of a node owns: its ends, and what it chases by.
 #[derive(Drop)]
 pub struct Runner {
-    pub mail: Mail,
+    pub ends: NodeEnds,
     pub chase: Chase,
-    pub groups: Giver<Group>,
-    pub backs: Taker<Result<Synced, Unflushed>>,
 }
 
-/// The node is told this, which is no message.
-pub fn tell<R: Wait>(
-    rt: &R,
-    locked: &mut Locked,
-    recorder: Option<&Recorder>,
-    input: &Input,
-) -> Result<(), Refusal>
-    requires { IsNoMessage input.now }
-{
-    match recorder {
-        None => locked.step(input),
-        Some(recorder) => input_on(locked, &mut recorder.recording().lock(rt), input),
-    }
-}
-
-/// The node's group, synced, is marked. Answers whether more is decided by it.
-fn mark<R: Wait>(
-    rt: &R,
-    node: &Mutex<Locked>,
-    recorder: Option<&Recorder>,
-    synced: Synced,
-) -> Result<bool, Refusal> {
-    let mut locked = node.lock(rt);
-    let before = locked.core().decided_count();
-    match recorder {
-        None => {
-            if let Err((refusal, _)) = locked.mark(synced) {
-                return Err(refusal);
-            }
-        }
-        Some(recorder) => mark_on(&mut locked, &mut recorder.recording().lock(rt), synced)?,
-    }
-    Ok(before < locked.core().decided_count())
-}
-
-/// What comes back from the flusher is marked, and the publisher is rung where more is decided. Answers whether
-/// something came. A group that wasn't flushed ends the run: the refusal is that of its flush.
-fn mark_next<W: WindowName, R: Wait>(
-    rt: &R,
-    desk: &Desk<W>,
-    recorder: Option<&Recorder>,
-    backs: &mut Taker<Result<Synced, Unflushed>>,
-) -> Result<bool, Refusal> {
-    match backs.take(rt) {
-        None => Ok(false),
-        Some(Ok(synced)) => {
-            if mark(rt, &desk.locked, recorder, synced)? {
-                desk.publisher.unpark();
-            }
-            Ok(true)
-        }
-        Some(Err(Unflushed::Refused(refusal, _))) => Err(refusal),
-        Some(Err(Unflushed::Failed(refusal))) => Err(refusal),
-    }
-}
-
-/// The node's oldest staged facts, as a group; none where a group runs.
-fn take<R: Wait>(
-    rt: &R,
-    node: &Mutex<Locked>,
-    recorder: Option<&Recorder>,
-) -> Result<Option<Group>, Refusal> {
-    let taken = {
-        let mut locked = node.lock(rt);
-        match recorder {
-            None => locked.take_group(),
-            Some(recorder) => take_on(&mut locked, &mut recorder.recording().lock(rt)),
-        }
-    };
-    match taken {
-        Err(Refusal::Busy) => Ok(None),
-        _ => taken,
-    }
-}
-
-/// Gives a group to the flusher. There is room for it, since the flusher has given back what it had.
-fn give<G: Drop, R: Wait>(rt: &R, groups: &mut Giver<G>, group: G) {
-    let mut waiting = group;
-    for _ in rt.forever() {
-        match groups.give(rt, waiting) {
-            Err(TrySendError::Full(refused)) => waiting = refused,
-            _ => break,
-        }
-    }
-}
-
-/// The oldest staged facts go to the flusher. Answers whether there were any.
-fn flush_next<R: Wait>(
-    rt: &R,
-    node: &Mutex<Locked>,
-    recorder: Option<&Recorder>,
-    groups: &mut Giver<Group>,
-) -> Result<bool, Refusal> {
-    match take(rt, node, recorder)? {
-        None => Ok(false),
-        Some(group) => {
-            give(rt, groups, group);
-            Ok(true)
-        }
-    }
-}
-
-/// The oldest message that may leave, with its number.
-fn leave<R: Wait>(
-    rt: &R,
-    locked: &mut Locked,
-    recorder: Option<&Recorder>,
-) -> Result<Option<Sent>, Refusal> {
-    match recorder {
-        None => Ok(send(locked)),
-        Some(recorder) => send_on(locked, &mut recorder.recording().lock(rt)),
-    }
-}
-
-/// Whether a message is worth waking its receiver. What says that its sender is up and suspects nobody is heard at the
-/// receiver's next tick, which is before it counts.
-fn wakes(message: &Message) -> bool {
-    made_of!(Command, Estimate, Op);
-    match &message.body {
-        Body::Beat => false,
-        Body::Suspects(set) => set.bits() != 0,
-        _ => true,
-    }
-}
-
-/// A message goes into the inbox of its receiver, and is lost where that is full.
-fn put<R: Wait>(rt: &R, ports: &mut Vec<Port<Sent>>, sent: Sent) {
-    if let Some(port) = ports.get_mut(usize::from(sent.message().to.index())) {
-        let _lost = port.put(rt, sent);
-    }
-}
-
-/// Who gets messages, and who is woken by them.
-#[derive(Clone, Copy, Debug)]
-struct Receivers {
-    all: NodeSet,
-    woken: NodeSet,
-}
-
-/// The messages that may leave go into the inboxes of their receivers, of more than `most` the oldest.
-fn put_all<R: Wait>(
-    rt: &R,
-    node: &Mutex<Locked>,
-    recorder: Option<&Recorder>,
-    runner: &mut Runner,
-    most: usize,
-) -> Result<Receivers, Refusal> {
-    let mut receivers = Receivers {
-        all: NodeSet::empty(),
-        woken: NodeSet::empty(),
-    };
-    let mut locked = node.lock(rt);
-    for _ in 0..most {
-        let Some(sent) = leave(rt, &mut locked, recorder)? else {
-            break;
-        };
-        let to = sent.message().to;
-        receivers.all = receivers.all.with(to);
-        if wakes(sent.message()) {
-            receivers.woken = receivers.woken.with(to);
-        }
-        runner.chase.note(&sent);
-        put(rt, &mut runner.mail.ports, sent);
-    }
-    Ok(receivers)
-}
-
-/// The messages that may leave are sent. Their receivers are rung once all are there, so that each wakes once. Answers
-/// whether there was one.
-fn send_all<R: Wait>(
-    rt: &R,
-    running: &Running,
-    node: &Mutex<Locked>,
-    recorder: Option<&Recorder>,
-    runner: &mut Runner,
-) -> Result<bool, Refusal> {
-    let receivers = put_all(rt, node, recorder, runner, BATCH)?;
-    running.ring_each(receivers.woken);
-    Ok(receivers.all.bits() != 0)
+/// The same, with what is called over the ends.
+#[derive(Drop)]
+struct Lane<'x, W: WindowName, R> {
+    wires: Wires<'x, W, R>,
+    chase: Chase,
 }
 
 /// What clients of the node want is submitted, one node after another: the node hears what came, submits, and puts what
@@ -230,35 +40,28 @@ fn submit_next<W: WindowName, T: Turnstile, R: Wait>(
     rt: &R,
     shared: &Shared<'_, T>,
     desk: &Desk<W>,
-    runner: &mut Runner,
+    chase: &mut Chase,
+    wires: &mut Wires<'_, W, R>,
 ) -> Result<bool, Refusal> {
     if !desk.take_note() {
         return Ok(false);
     }
-    let (node, recorder) = (&desk.locked, shared.recorder);
+    let mut notes = Scribe::new(rt, shared.recorder);
     let (count, receivers) = {
         let _order = shared.running.order().lock(rt);
-        hear_all(rt, node, recorder, runner, ROOM)?;
+        hear_next(rt, &desk.locked, &mut notes, chase, wires, ROOM)?;
         let count = submit_all(rt, shared, desk);
-        (count, put_all(rt, node, recorder, runner, ROOM)?)
+        let mut locked = desk.locked.lock(rt);
+        (count, put_all(&mut locked, &mut notes, chase, wires, ROOM)?)
     };
-    shared.running.ring_each(receivers.woken);
+    ring_each(wires, receivers.woken);
     pass_submits(shared, desk, count);
     Ok(true)
 }
 
-/// The node ticks.
-fn tick<R: Wait>(rt: &R, node: &Mutex<Locked>, recorder: Option<&Recorder>) -> Result<(), Refusal> {
-    tell(rt, &mut node.lock(rt), recorder, &Input::Tick)
-}
-
 /// The node enters the next round of its lowest open instance, if that has one.
-fn advance<R: Wait>(
-    rt: &R,
-    node: &Mutex<Locked>,
-    recorder: Option<&Recorder>,
-) -> Result<(), Refusal> {
-    match tell(rt, &mut node.lock(rt), recorder, &Input::Advance) {
+fn advance<N: Notes, R: Wait>(rt: &R, node: &Mutex<Locked>, notes: &mut N) -> Result<(), Refusal> {
+    match notes.tell(&mut node.lock(rt), &Input::Advance) {
         Err(Refusal::RoundsOut) => Ok(()),
         advanced => advanced,
     }
@@ -281,24 +84,26 @@ fn now<R: Clock>(rt: &R) -> Result<Duration, Refusal> {
 
 /// The node ticks where it is time to and it isn't catching up, and advances where it has got no further. What has come is heard
 /// before.
-fn tick_next<R: Wait + Clock>(
+fn tick_next<W: WindowName, T, R: Wait + Clock>(
     rt: &R,
-    node: &Mutex<Locked>,
-    recorder: Option<&Recorder>,
-    runner: &mut Runner,
+    shared: &Shared<'_, T>,
+    desk: &Desk<W>,
+    lane: &mut Lane<'_, W, R>,
     clockwork: &mut Clockwork,
 ) -> Result<(), Refusal> {
     if !clockwork.ticks.look(now(rt)?) {
         return Ok(());
     }
-    hear_all(rt, node, recorder, runner, ROOM)?;
-    if hear_again(rt, node, recorder, &mut runner.chase)? {
+    let mut notes = Scribe::new(rt, shared.recorder);
+    let (node, chase, wires) = (&desk.locked, &mut lane.chase, &mut lane.wires);
+    hear_next(rt, node, &mut notes, chase, wires, ROOM)?;
+    if hear_again(rt, node, &mut notes, chase)? {
         return Ok(());
     }
-    tick(rt, node, recorder)?;
+    notes.tell(&mut node.lock(rt), &Input::Tick)?;
     let decided = node.lock(rt).core().decided_count();
     if clockwork.standstill.count(decided) {
-        advance(rt, node, recorder)?;
+        advance(rt, node, &mut notes)?;
     }
     Ok(())
 }
@@ -324,17 +129,15 @@ fn look<W: WindowName, T: Turnstile, R: Wait>(
     rt: &R,
     shared: &Shared<'_, T>,
     desk: &Desk<W>,
-    runner: &mut Runner,
+    lane: &mut Lane<'_, W, R>,
 ) -> Result<bool, Refusal> {
-    let (node, recorder) = (&desk.locked, shared.recorder);
-    let has_marked = mark_next(rt, desk, recorder, &mut runner.backs)?;
-    let has_submitted = submit_next(rt, shared, desk, runner)?;
-    let has_sent = send_all(rt, &shared.running, node, recorder, runner)?;
-    let has_heard = hear_all(rt, node, recorder, runner, BATCH)?;
-    let has_staged = flush_next(rt, node, recorder, &mut runner.groups)?;
-    if has_staged {
-        desk.flusher.unpark();
-    }
+    let mut notes = Scribe::new(rt, shared.recorder);
+    let (node, chase, wires) = (&desk.locked, &mut lane.chase, &mut lane.wires);
+    let has_marked = mark_next(rt, node, &mut notes, wires)?;
+    let has_submitted = submit_next(rt, shared, desk, chase, wires)?;
+    let has_sent = send_all(rt, node, &mut notes, chase, wires, BATCH)?;
+    let has_heard = hear_next(rt, node, &mut notes, chase, wires, BATCH)?;
+    let has_staged = flush_next(rt, node, &mut notes, wires)?;
     Ok(has_marked || has_submitted || has_sent || has_heard || has_staged)
 }
 
@@ -343,16 +146,16 @@ fn turn<W: WindowName, T: Turnstile, R: Wait + Clock>(
     rt: &R,
     shared: &Shared<'_, T>,
     desk: &Desk<W>,
-    runner: &mut Runner,
+    lane: &mut Lane<'_, W, R>,
     clockwork: &mut Clockwork,
     rest: &mut Rest,
 ) -> Result<(), Refusal> {
-    if look(rt, shared, desk, runner)? {
+    if look(rt, shared, desk, lane)? {
         rest.end();
     } else {
         rest_until_tick(rt, &shared.running, desk.node, rest, &clockwork.ticks)?;
     }
-    tick_next(rt, &desk.locked, shared.recorder, runner, clockwork)
+    tick_next(rt, shared, desk, lane, clockwork)
 }
 
 /// What a node begins with: it hears what was kept while it was down, and its clock starts.
@@ -360,9 +163,11 @@ fn begin<W: WindowName, T, R: Wait + Clock>(
     rt: &R,
     shared: &Shared<'_, T>,
     desk: &Desk<W>,
-    runner: &mut Runner,
+    lane: &mut Lane<'_, W, R>,
 ) -> Result<Clockwork, Refusal> {
-    hear_kept(rt, &desk.locked, shared.recorder, runner)?;
+    let mut notes = Scribe::new(rt, shared.recorder);
+    let (chase, mail) = (&mut lane.chase, &mut lane.wires.ends.mail);
+    hear_kept(rt, &desk.locked, &mut notes, chase, mail)?;
     Ok(Clockwork {
         ticks: Ticks::new(now(rt)?, shared.tick),
         standstill: Standstill::new(),
@@ -374,15 +179,15 @@ fn run_turns<W: WindowName, T: Turnstile, R: Wait + Clock>(
     rt: &R,
     shared: &Shared<'_, T>,
     desk: &Desk<W>,
-    runner: &mut Runner,
+    lane: &mut Lane<'_, W, R>,
 ) -> Result<(), Refusal> {
-    let mut clockwork = begin(rt, shared, desk, runner)?;
+    let mut clockwork = begin(rt, shared, desk, lane)?;
     let mut rest = Rest::rung();
     for _ in rt.forever() {
         if desk.is_ending(shared) {
             break;
         }
-        turn(rt, shared, desk, runner, &mut clockwork, &mut rest)?;
+        turn(rt, shared, desk, lane, &mut clockwork, &mut rest)?;
     }
     Ok(())
 }
@@ -394,16 +199,31 @@ pub fn run_node<W: WindowName, T: Turnstile, R: Wait + Clock>(
     desk: &Desk<W>,
     runner: Runner,
 ) -> Mail {
-    let mut runner = runner;
-    if let Err(refusal) = run_turns(rt, shared, desk, &mut runner) {
+    let Runner { ends, chase } = runner;
+    let mut lane = Lane {
+        wires: Wires {
+            rt,
+            running: &shared.running,
+            desk,
+            ends,
+        },
+        chase,
+    };
+    if let Err(refusal) = run_turns(rt, shared, desk, &mut lane) {
         shared.running.fail(rt, desk.node, refusal);
     }
     desk.ring_all();
-    let Runner {
+    let Lane { wires, chase: _ } = lane;
+    let Wires {
+        rt: _,
+        running: _,
+        desk: _,
+        ends,
+    } = wires;
+    let NodeEnds {
         mail,
-        chase: _,
         groups: _,
         backs: _,
-    } = runner;
+    } = ends;
     mail
 }

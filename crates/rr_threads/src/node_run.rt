@@ -6,9 +6,10 @@ ghost use Rattle.std.specs.Thread.{IsSend};
 use crate::client::{Client, serve};
 use crate::desk::{Counter, Desk};
 use crate::flushing::{Flusher, flush_all};
-use crate::node_loop::{Mail, Runner, run_node};
+use crate::node_loop::{Runner, run_node};
 use crate::publishing::{publish_all, publish_first};
 use crate::shared::Shared;
+use crate::wires::{Mail, NodeEnds};
 use rr_core::Core;
 use rr_disk::Disk;
 use rr_inbox::{Giver, Taker, hand_over};
@@ -151,10 +152,12 @@ fn share_out<D: Disk>(part: Part<D>, hand_overs: HandOvers) -> Crew<D> {
             backs: back_giver,
         },
         runner: Runner {
-            mail,
+            ends: NodeEnds {
+                mail,
+                groups: group_giver,
+                backs: back_taker,
+            },
             chase: Chase::new(),
-            groups: group_giver,
-            backs: back_taker,
         },
     }
 }

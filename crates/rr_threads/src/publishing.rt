@@ -1,10 +1,11 @@
 //! A publisher.
 
 use crate::desk::Desk;
-use crate::recorder::Recorder;
+use crate::recorder::{Recorder, Scribe};
 use crate::rest::Rest;
 use crate::shared::Shared;
-use rr_locked::{Follower, ack_on};
+use rr_locked::Follower;
+use rr_turn::Notes;
 use rr_types::{Refusal, Reply, RequestNo};
 use rr_window::WindowName;
 use std::alloc::Global;
@@ -20,10 +21,7 @@ fn follow_node<W: WindowName, R: Wait>(
 ) -> Result<Option<(RequestNo, Reply)>, Refusal> {
     let mut locked = desk.locked.lock(rt);
     follower.follow(locked.core())?;
-    match recorder {
-        None => Ok(locked.acknowledge()),
-        Some(recorder) => ack_on(&mut locked, &mut recorder.recording().lock(rt)),
-    }
+    Scribe::new(rt, recorder).acknowledge(&mut locked)
 }
 
 /// Publishes what a node has from its disk, so that no client looks at less.

@@ -1,10 +1,10 @@
 //! What all threads of a run share.
 
 use crate::hearing::keep_all;
-use crate::node_loop::Mail;
 use crate::recorder::Recorder;
 use crate::running::Running;
 use crate::switches::Switches;
+use crate::wires::Mail;
 use rr_types::{NodeId, Nodes};
 use std::sync::Wait;
 use std::time::Duration;

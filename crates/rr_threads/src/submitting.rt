@@ -1,9 +1,10 @@
 //! What clients want is submitted.
 
 use crate::desk::{Counter, Desk};
-use crate::node_loop::tell;
+use crate::recorder::Scribe;
 use crate::shared::Shared;
 use rr_locked::{Place, Turnstile};
+use rr_turn::Notes;
 use rr_types::{Command, Input, Op, Refusal, made_of};
 use rr_window::WindowName;
 use std::sync::Wait;
@@ -40,7 +41,8 @@ fn submit<W: WindowName, T, R: Wait>(
 ) {
     made_of!(Op);
     let mut locked = desk.locked.lock(rt);
-    match tell(rt, &mut locked, shared.recorder, &Input::Submit(*command)) {
+    let mut notes = Scribe::new(rt, shared.recorder);
+    match notes.tell(&mut locked, &Input::Submit(*command)) {
         Err(refusal) => refuse(rt, shared, desk, counter, refusal),
         Ok(()) => {
             if locked.reply(command.request).is_some() {

@@ -1,0 +1,88 @@
+//! What the thread of a node calls in a turn, over the real inboxes, hand-overs and bells. No contract knows what these hold:
+//! each call is one line, to be read.
+
+ghost use Rattle.rr_turn.specs.Asked.{Call};
+
+use crate::desk::Desk;
+use crate::running::Running;
+use rr_inbox::{Giver, Outlet, Port, Taker, TrySendError};
+use rr_journal::Synced;
+use rr_locked::{Kept, Sent, Unflushed};
+use rr_turn::Links;
+use rr_types::{Group, NodeId};
+use rr_window::WindowName;
+use std::sync::Wait;
+
+/// A node's inbox, its end of each node's inbox, and what it kept while it was down.
+#[derive(Drop)]
+pub struct Mail {
+    pub inbox: Outlet<Sent>,
+    pub ports: Vec<Port<Sent>>,
+    pub kept: Kept,
+}
+
+/// A node's mail, and its ends of the hand-overs.
+#[derive(Drop)]
+pub struct NodeEnds {
+    pub mail: Mail,
+    pub groups: Giver<Group>,
+    pub backs: Taker<Result<Synced, Unflushed>>,
+}
+
+/// The ends of a node's thread, which it owns, and the bells that it rings.
+#[derive(Drop)]
+pub struct Wires<'x, W: WindowName, R> {
+    pub rt: &'x R,
+    pub running: &'x Running,
+    pub desk: &'x Desk<W>,
+    pub ends: NodeEnds,
+}
+
+impl<'x, W: WindowName, R> Wires<'x, W, R> {
+    /// Whether nothing waits in the inbox. To ask is cheaper than to make room for a message.
+    pub fn is_idle(&mut self) -> bool {
+        self.ends.mail.inbox.is_empty()
+    }
+}
+
+impl<'x, W: WindowName, R: Wait> Links for Wires<'x, W, R> {
+    ghost gives = { λ _ _ _. Unit {0} };
+
+    fn put(&mut self, to: NodeId, sent: Sent) {
+        let ports: &mut Vec<Port<Sent>> = &mut self.ends.mail.ports;
+        if let Some(port) = ports.get_mut(usize::from(to.index())) {
+            let _lost = port.put(self.rt, sent);
+        }
+    }
+
+    fn ring(&mut self, node: NodeId) {
+        self.running.ring(node);
+    }
+
+    fn take(&mut self) -> Option<Sent> {
+        self.ends.mail.inbox.take(self.rt)
+    }
+
+    fn back(&mut self) -> Option<Result<Synced, Unflushed>> {
+        self.ends.backs.take(self.rt)
+    }
+
+    // There is room for it, since the flusher has given back what it had.
+    fn give(&mut self, group: Group) {
+        let mut waiting = group;
+        for _ in self.rt.forever() {
+            match self.ends.groups.give(self.rt, waiting) {
+                Err(TrySendError::Full(refused)) => waiting = refused,
+                _ => break,
+            }
+        }
+    }
+
+    fn wake_flusher(&mut self) {
+        self.desk.flusher.unpark();
+    }
+
+    fn wake_publisher(&mut self) {
+        self.desk.publisher.unpark();
+    }
+}

@@ -1,0 +1,4 @@
+pub mod Runs
+pub mod Sends
+pub mod Hears
+pub mod Marks
