@@ -1,5 +1,5 @@
 //! The account of a run: what came of each event of its schedule, and its report. `account_on` makes one from bytes, `watch`
-//! from a schedule. `explanation`, `json_report` and `json_explanation` print it. `statistics_of` counts, for
+//! from a schedule, `account_of_tape` from a tape. `explanation`, `json_report` and `json_explanation` print it. `statistics_of` counts, for
 //! `statistics_table` or `json_statistics`. `difference_of` says where two texts first differ, and `push_difference` tells it
 //! in words.
 #![tactic(auto)]
@@ -14,6 +14,7 @@ mod outcome;
 mod reasons;
 mod statistics;
 mod table;
+mod taped;
 mod watching;
 
 pub use account::Account;
@@ -23,4 +24,5 @@ pub use json::{json_explanation, json_report};
 pub use outcome::{Idle, Outcome};
 pub use statistics::{EventCount, MessageCount, RefusalCount, Statistics, statistics_of};
 pub use table::{json_statistics, statistics_table};
+pub use taped::account_of_tape;
 pub use watching::{account_on, watch};

@@ -13,17 +13,17 @@ none_among kind kinds among none = subst (λ ks. IsAmong kind ks) none among
 pub no_simulate : (file : Option Text) (view : View) → Simulate file ≡ Viewing view → ⊥
 no_simulate file view is = absurd cc
 
-pub no_show : (folder : Option Text) (view : View) → Show folder ≡ Viewing view → ⊥
-no_show folder view is = absurd cc
+pub no_show : (folder : Option Text) (form : Form) (view : View) → Show folder form ≡ Viewing view → ⊥
+no_show folder form view is = absurd cc
 
 pub no_random : (words : RandomWords) (view : View) → Random words ≡ Viewing view → ⊥
 no_random words view is = absurd cc
 
-pub no_audit : (file : Option Text) (view : View) → Audit file ≡ Viewing view → ⊥
-no_audit file view is = absurd cc
+pub no_audit : (file : Option Text) (form : Form) (view : View) → Audit file form ≡ Viewing view → ⊥
+no_audit file form view is = absurd cc
 
-pub no_run : (nodes dir script tape tick : Option Text) (view : View) → Run nodes dir script tape tick ≡ Viewing view → ⊥
-no_run nodes dir script tape tick view is = absurd cc
+pub no_run : (nodes dir script tape tick : Option Text) (form : Form) (view : View) → Run nodes dir script tape tick form ≡ Viewing view → ⊥
+no_run nodes dir script tape tick form view is = absurd cc
 
 pub no_shell : (words : ShellWords) (view : View) → Shell words ≡ Viewing view → ⊥
 no_shell words view is = absurd cc

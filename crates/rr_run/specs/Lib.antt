@@ -1,3 +1,4 @@
+pub mod AnswerObjects
 pub mod Listings
 pub mod Runs
 pub mod Shells

@@ -2,6 +2,7 @@
 //! brings threads to the program. `run` takes the words and streams of `main`. It passes every other command to `rr_cli`.
 #![tactic(auto)]
 
+mod answer_objects;
 mod closed;
 mod defaults;
 mod post;

@@ -27,12 +27,12 @@ use std::time::Clock;
 /// Runs the program `rr` by these words, the first of which is its name, and gives its exit status. It is
 /// `rr_cli::execute_with_views` with two more commands.
 ///
-/// `rr run --nodes NODES --dir DIR --script SCRIPT [--tape TAPE] [--tick MILLISECONDS]` reads a script from the file SCRIPT, or from `input` where
-/// SCRIPT is `-`. It runs that many nodes in threads, node P over the disk in the folder DIR/P, and prints the answers to the script. Folders and files
-/// that are missing are made. With a TAPE all areas have to be unformatted, and the tape of the run is written to that
-/// file before the answers are printed. What goes wrong is told on `err`: the words, then the file, then its text, then
-/// the folders, ascending, then areas that are formatted, then the run, then request numbers that are decided as other commands,
-/// then the file TAPE.
+/// `rr run --nodes NODES --dir DIR --script SCRIPT [--tape TAPE] [--tick MILLISECONDS] [--json]` reads a script from the file SCRIPT, or from
+/// `input` where SCRIPT is `-`. It runs that many nodes in threads, node P over the disk in the folder DIR/P, and prints the answers to the
+/// script, in words or with JSON. Folders and files that are missing are made. With a TAPE all areas have to be unformatted, and the tape
+/// of the run is written to that file before the answers are printed. What goes wrong is told on `err`: the words, then the file, then its
+/// text, then the folders, ascending, then areas that are formatted, then the run, then request numbers that are decided as other
+/// commands, then the file TAPE.
 ///
 /// `rr shell [--nodes NODES] [--dir DIR] [--client CLIENT] [--tick MILLISECONDS] [-c LINE].. [--strict] [--json]` runs nodes over folders in the same
 /// way, and reads commands from `input`, or else answers each LINE. A line is answered on `out` before the next is read, in words
@@ -53,24 +53,26 @@ pub fn execute<
         (E.contents err.old) (E.contents err.new) }
 {
     match read_words(rt.alloc(), words) {
-        Ok(Task::Run(Some(nodes), Some(dir), Some(script), tape, tick)) => {
-            run_by_words(rt, files, nodes, dir, tape, tick, script, input, out, err)
+        Ok(Task::Run(Some(nodes), Some(dir), Some(script), tape, tick, form)) => {
+            run_by_words(
+                rt, files, nodes, dir, tape, tick, form, script, input, out, err,
+            )
         }
-        Ok(Task::Run(None, _, _, _, _)) => rr_cli::execute_with_views(
+        Ok(Task::Run(None, _, _, _, _, _)) => rr_cli::execute_with_views(
             rt, words, files, input, out, err,
         ),
-        Ok(Task::Run(_, None, _, _, _)) => rr_cli::execute_with_views(
+        Ok(Task::Run(_, None, _, _, _, _)) => rr_cli::execute_with_views(
             rt, words, files, input, out, err,
         ),
-        Ok(Task::Run(_, _, None, _, _)) => rr_cli::execute_with_views(
+        Ok(Task::Run(_, _, None, _, _, _)) => rr_cli::execute_with_views(
             rt, words, files, input, out, err,
         ),
         Ok(Task::Shell(asked)) => shell_by_words(rt, &asked, input, out, err),
         Ok(Task::View(_)) => rr_cli::execute_with_views(rt, words, files, input, out, err),
         Ok(Task::Simulate(_)) => rr_cli::execute_with_views(rt, words, files, input, out, err),
-        Ok(Task::Show(_)) => rr_cli::execute_with_views(rt, words, files, input, out, err),
+        Ok(Task::Show(_, _)) => rr_cli::execute_with_views(rt, words, files, input, out, err),
         Ok(Task::Random(_)) => rr_cli::execute_with_views(rt, words, files, input, out, err),
-        Ok(Task::Audit(_)) => rr_cli::execute_with_views(rt, words, files, input, out, err),
+        Ok(Task::Audit(_, _)) => rr_cli::execute_with_views(rt, words, files, input, out, err),
         Ok(Task::Sweep(_, _)) => rr_cli::execute_with_views(rt, words, files, input, out, err),
         Ok(Task::Draw(_, _)) => rr_cli::execute_with_views(rt, words, files, input, out, err),
         Ok(Task::Migrate(_, _, _)) => rr_cli::execute_with_views(rt, words, files, input, out, err),
