@@ -58,10 +58,11 @@ read_whole n at lines rest kept text h none = record {
   is_told = h.is_told;
 }
 
-pub read_as : (n at : ℕ) (bytes lines rest schedule : List ℕ) (kept : Cluster) (text : List ℕ) → ToldSoFar n lines (new_cluster n) [] at rest kept text → rest ≡ []
-    → bytes ≡ nodes_line n ++ lines → schedule ≡ bytes → IsSoFar n at kept schedule text
-read_as n at bytes lines rest schedule kept text h none split same =
-    subst (λ (t : List ℕ). IsSoFar n at kept t text) (sym (same ∙ split)) (read_whole n at lines rest kept text h none)
+pub read_as : (n at : ℕ) (bytes lines rest schedule : List ℕ) (kept cluster : Cluster) (text : List ℕ) → ToldSoFar n lines (new_cluster n) [] at rest kept text → rest ≡ []
+    → bytes ≡ nodes_line n ++ lines → schedule ≡ bytes → cluster ≡ kept → IsSoFar n at cluster schedule text
+read_as n at bytes lines rest schedule kept cluster text h none split same is =
+    subst (λ (c : Cluster). IsSoFar n at c schedule text) (sym is)
+    (subst (λ (t : List ℕ). IsSoFar n at kept t text) (sym (same ∙ split)) (read_whole n at lines rest kept text h none))
 
 pub read_below : (n at : ℕ) (lines rest : List ℕ) (kept : Cluster) (text : List ℕ) → ToldSoFar n lines (new_cluster n) [] at rest kept text → at ≤ 1000002
 read_below n at lines rest kept text h = (let c = h.counted in let s = h.so_far.short in omega (arith, c, s))
@@ -69,7 +70,7 @@ read_below n at lines rest kept text h = (let c = h.counted in let s = h.so_far.
 pub read_to : (n at : ℕ) (bytes lines rest : List ℕ) (kept : Cluster) (text : List ℕ) → 1 ≤ n → n ≤ 7 → ToldSoFar n lines (new_cluster n) [] at rest kept text → rest ≡ []
     → bytes ≡ nodes_line n ++ lines → IsScheduleTo n at bytes
 read_to n at bytes lines rest kept text some few h none split =
-    is_schedule_to n at kept bytes text some few (read_below n at lines rest kept text h) (read_as n at bytes lines rest bytes kept text h none split refl)
+    is_schedule_to n at kept bytes text some few (read_below n at lines rest kept text h) (read_as n at bytes lines rest bytes kept kept text h none split refl refl)
 
 -- ---- the end
 
