@@ -29,4 +29,4 @@ pub few_events : (bytes : List ℕ) (number p : ℕ) (given : Given) → IsVerdi
 few_events bytes number p given on =
     let stops = on.found in
     let all : length on.tape.events ≡ length stops.before + suc (length stops.after) = ap length stops.split ∙ length-append stops.before (stops.event ∷ stops.after) in
-    omega (stops.counted, all, on.lawful.short)
+    omega (arith, stops.counted, all, on.lawful.short)

@@ -1,5 +1,6 @@
 -- What an audit finds as JSON: one object.
 use Rattle.std.specs.Prelude.{ℕ, zero, suc, ◌+◌, List, [], ◌∷◌, ◌++◌, codes}
+use Rattle.std.specs.Box.{box_value}
 use Rattle.rr_types.specs.declared.refusal.Refusal.{Refusal}
 use Rattle.rr_types.specs.declared.refusal.Refusal.TheVariants.{AuditNo}
 use Rattle.rr_types.specs.Refusal.{number_of, name_of}
@@ -28,16 +29,21 @@ given_front p given.StillFlushing = opened (codes "still flushing")
 given_front p given.NothingFlushed = opened (codes "nothing to mark")
 given_front p (given.Number next) = opened (codes "other number") ++ number_member (codes "number") next
 given_front p given.NothingToSend = opened (codes "nothing to send")
-given_front p (given.Sends k m) = line_front (lines.Send k m)
+given_front p (given.Sends k m) = line_front (lines.Send k (box_value m))
 given_front p given.NothingToAcknowledge = opened (codes "nothing to acknowledge")
 given_front p (given.Acknowledges q r) = line_front (lines.Ack p q r)
 
--- a no: the number of the event, from 1, its line, the refusal, the event's node, and what that gives instead
+-- the members of an event that isn't next: its number, from 1, its line, and the refusal
+abbrev pub stop_members : ℕ → List ℕ
+stop_members number = number_member (codes "event") number ++ number_member (codes "line") (number + 1) ++ refusal_members (AuditNo number)
+
+-- the members of what is next: the event's node, and what that gives instead
+abbrev pub given_members : ℕ → Given → List ℕ
+given_members p instead = number_member (codes "node") p ++ label (codes "given") ++ given_front p instead ++ 125 ∷ []
+
+-- a no to the event of this number
 abbrev pub no_object : ℕ → ℕ → Given → List ℕ
-no_object number p instead =
-    object_line (codes "no")
-    (number_member (codes "event") number ++ number_member (codes "line") (number + 1) ++ refusal_members (AuditNo number)
-    ++ number_member (codes "node") p ++ label (codes "given") ++ given_front p instead ++ 125 ∷ [])
+no_object number p instead = object_line (codes "no") (stop_members number ++ given_members p instead)
 
 -- the status of a no that was to be printed, by that of the printing
 abbrev pub no_status : ℕ → ℕ

@@ -1,7 +1,7 @@
 //! What an audit finds, as JSON.
 
 ghost use Rattle.std.specs.Prelude.{◌≡◌, ◌≤◌, ◌∷◌, ◌++◌, [], OnOk, IfOk, codes};
-ghost use Rattle.rr_cli.specs.AuditObjects.{yes_object, refusal_members, given_front, no_object};
+ghost use Rattle.rr_cli.specs.AuditObjects.{yes_object, refusal_members, given_front, stop_members, given_members, no_object};
 
 use rr_audit::Given;
 use rr_json::{
@@ -81,6 +81,31 @@ fn push_given(
     }
 }
 
+// The members of an event that isn't next: its number, its line, and the refusal.
+fn push_stop_members(out: &mut Vec<u8>, number: u64) -> Result<(), AllocError>
+    requires { number ≤ 1000000 }
+    ensures ok { OnOk result (out.new.items ≡ out.old.items ++ stop_members number) }
+{
+    push_number_member(out, b"event", number)?;
+    push_number_member(out, b"line", number + 1)?;
+    push_refusal_members(out, Refusal::AuditNo(number))
+}
+
+// The members of what is next: the event's node, and what that gives instead.
+fn push_given_members(
+    alloc: Global,
+    out: &mut Vec<u8>,
+    node: NodeId,
+    given: &Given,
+) -> Result<(), AllocError>
+    ensures ok { OnOk result (out.new.items ≡ out.old.items ++ given_members node given.now) }
+{
+    push_number_member(out, b"node", u64::from(node.index()))?;
+    push_label(out, b"given")?;
+    push_given(alloc, out, node, given)?;
+    push_byte(out, b'}')
+}
+
 /// The object of a no to the event of this number: its line, the refusal, its node, and what that gives instead.
 pub(crate) fn no_object(
     alloc: Global,
@@ -93,13 +118,8 @@ pub(crate) fn no_object(
 {
     let mut text = Vec::new(alloc);
     push_open(&mut text, b"no")?;
-    push_number_member(&mut text, b"event", number)?;
-    push_number_member(&mut text, b"line", number + 1)?;
-    push_refusal_members(&mut text, Refusal::AuditNo(number))?;
-    push_number_member(&mut text, b"node", u64::from(node.index()))?;
-    push_label(&mut text, b"given")?;
-    push_given(alloc, &mut text, node, given)?;
-    push_byte(&mut text, b'}')?;
+    push_stop_members(&mut text, number)?;
+    push_given_members(alloc, &mut text, node, given)?;
     push_end(&mut text)?;
     Ok(text)
 }

@@ -2,6 +2,9 @@
 
 ghost use Rattle.std.specs.Prelude.{◌≡◌, ◌≤◌, true, None, Some, IfOk, IfErr};
 ghost use Rattle.rr_text.specs.ScheduleTexts.{schedule_text};
+ghost use Rattle.rr_json.specs.Objects.{report_objects};
+ghost use Rattle.rr_sim.specs.Clusters.{IsOnlyOneIfClean};
+ghost use Rattle.rr_sim.specs.Headline.{IsRunOfTheWorld, AgreesWithOneList, KeepsRealTime};
 ghost use Rattle.rr_cli.specs.Randoms.{IsDrawnText};
 ghost use Rattle.rr_cli.specs.RandomObjects.{AreDrawnObjects};
 
@@ -10,9 +13,9 @@ use rr_json::push_report_objects;
 use rr_lively::{Recipe, lively_schedule};
 use rr_sim::{random, simulate};
 use rr_stream::Sink;
-use rr_text::Schedule;
+use rr_text::{Report, Schedule};
 use rr_types::Refusal;
-use std::alloc::Global;
+use std::alloc::{AllocError, Global};
 
 // The lively schedule of these numbers.
 fn drawn_lively<O: Sink>(
@@ -53,6 +56,27 @@ fn drawn_schedule<O: Sink>(
     }
 }
 
+// The report of the run of a schedule, on as many nodes as it has.
+fn run_of(alloc: Global, schedule: &Schedule) -> Result<Report, Refusal>
+    ensures world { IfOk result (λ report. IsRunOfTheWorld schedule.now.nodes schedule.now.events report) }
+    ensures one_list { IfOk result (λ report. AgreesWithOneList schedule.now.events report) }
+    ensures real_time { IfOk result (λ report. KeepsRealTime schedule.now.nodes schedule.now.events report) }
+    ensures clean { IfOk result (λ report. IsOnlyOneIfClean schedule.now.nodes schedule.now.events report) }
+    ensures err { IfErr result (λ e. e ≡ Refusal.OutOfMemory) }
+{
+    let nodes = schedule.nodes().count();
+    simulate(alloc, nodes, schedule)
+}
+
+// A report as JSON.
+fn objects_of(alloc: Global, report: &Report) -> Result<Vec<u8>, AllocError>
+    ensures { IfOk result (λ text. text.items ≡ report_objects report.now) }
+{
+    let mut text = Vec::new(alloc);
+    push_report_objects(alloc, &mut text, report)?;
+    Ok(text)
+}
+
 /// The report of the run of the schedule of these numbers, as JSON: an object for each line. The schedule is drawn, and
 /// then run from the beginning. Those who watch `out` are told how far the drawing is; `out` takes nothing.
 ///
@@ -69,8 +93,7 @@ pub(crate) fn drawn_objects<O: Sink>(
     ensures unprinted { O.printing out.new ≡ O.printing out.old }
 {
     let schedule = drawn_schedule(alloc, numbers, out)?;
-    let report = simulate(alloc, schedule.nodes().count(), &schedule)?;
-    let mut text = Vec::new(alloc);
-    push_report_objects(alloc, &mut text, &report)?;
+    let report = run_of(alloc, &schedule)?;
+    let text = objects_of(alloc, &report)?;
     Ok(text)
 }

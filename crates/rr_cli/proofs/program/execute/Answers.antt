@@ -2,7 +2,7 @@ use Rattle.std.proofs.Common.{◌≡◌, ◌∙◌, ℕ, List, Option, option_ma
 use Rattle.clap.specs.Words.{Text, kind_of}
 use Rattle.rr_words.specs.declared.tasks.Task.TheVariants as read
 use Rattle.rr_words.specs.Tasks.{Simulate, Viewing, Show, Random, Audit, Run, Shell, Sweep, Draw, Migrate, cut_words_in, random_words_in, shell_words_in, view_in, task_of, task_in, Verify, Export}
-use Rattle.rr_cli.specs.Ends.{mistaken, by_help, by_version, out_of_memory, by_standard_input, by_file, by_folder, by_numbers, by_migration, by_tape_in_standard_input, by_tape_in_a_file, by_sweep_of_standard_input, by_sweep_of_a_file, by_picture_of_standard_input, by_picture_of_a_file, without_seed, without_views, without_threads, without_shell, by_verification, by_export}
+use Rattle.rr_cli.specs.Ends.{mistaken, by_help, by_version, out_of_memory, by_standard_input, by_file, by_folder, without_folder, by_numbers, by_migration, by_tape_in_standard_input, by_tape_in_a_file, by_sweep_of_standard_input, by_sweep_of_a_file, by_picture_of_standard_input, by_picture_of_a_file, without_seed, without_views, without_threads, without_shell, by_verification, by_export}
 use Rattle.rr_cli.proofs.EndLemmas.{kind_cases}
 use Rattle.rr_cli.proofs.program.execute.Goals as goal
 
@@ -23,6 +23,12 @@ returns-in-Ok-Show-Some-default-clause-ends g c =
     let w = c.in-Ok-Show-Some-default in
     let task : task_of (map g.S.AsStr.text c.args.words.now) ≡ Show (Some w.folder.now) w.form = sym w.ensures.task ∙ ap task_in w.field-0-is ∙ ap (λ folder. task_in (read.Show folder w.form)) w.field-0-0-is in
     by_folder w.folder.now w.form w.ensures.faults task c.show_folder.ensures.ends
+
+pub returns-in-Ok-Show-None-default-clause-ends : goal.returns-in-Ok-Show-None-default-clause-ends
+returns-in-Ok-Show-None-default-clause-ends g c =
+    let w = c.in-Ok-Show-None-default in
+    let task : task_of (map g.S.AsStr.text c.args.words.now) ≡ Show None w.field-0-1 = sym w.ensures.task ∙ ap task_in w.field-0-is ∙ ap (λ folder. task_in (read.Show folder w.field-0-1)) w.field-0-0-is in
+    without_folder w.field-0-1 w.ensures.faults task c.end_without_folder.ensures refl
 
 pub returns-in-Ok-Audit-None-default-clause-ends : goal.returns-in-Ok-Audit-None-default-clause-ends
 returns-in-Ok-Audit-None-default-clause-ends g c =
