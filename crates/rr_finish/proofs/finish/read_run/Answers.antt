@@ -1,4 +1,3 @@
-use Rattle.rr_lively.specs.Lively.{IsSoFar}
 use Rattle.std.proofs.Common.{◌∙◌, ◌≤◌, List, [], ℕ, rules, refl, subst, sym}
 use Rattle.rr_sim.specs.Clusters.{Cluster, new_cluster}
 use Rattle.rr_sim.proofs.ToldLaws.{ToldSoFar, told_none, told_more}
@@ -41,8 +40,7 @@ loop-report-preserved g c =
 
 pub returns-clause-so_far : goal.returns-clause-so_far
 returns-clause-so_far g c =
-    subst (λ (now : Cluster). IsSoFar c.args.nodes c.loop-report.line now c.in_ok-from_slice.field-0.items c.loop-report.report.items) (sym c.cluster.view_is)
-    (read_as c.args.nodes c.loop-report.line c.args.bytes.now c.args.lines.now c.loop-report.rest.now c.in_ok-from_slice.field-0.items c.loop-report.cluster c.loop-report.report.items c.loop-report.invariant.told (search rules) c.requires (search rules))
+    read_as c.args.nodes c.loop-report.line c.args.bytes.now c.args.lines.now c.loop-report.rest.now _ c.loop-report.cluster _ c.loop-report.report.items c.loop-report.invariant.told (search rules) c.requires (search rules) c.cluster.view_is
 
 pub returns-clause-read : goal.returns-clause-read
 returns-clause-read g c =
