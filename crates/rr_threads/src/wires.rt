@@ -11,13 +11,53 @@ use rr_locked::{Kept, Sent, Unflushed};
 use rr_turn::Links;
 use rr_types::{Group, NodeId};
 use rr_window::WindowName;
+use std::mem;
 use std::sync::Wait;
+
+/// A node's end of an inbox, and what found no room there: the last messages by which the receiver can tell that it is behind.
+#[derive(Drop)]
+pub struct Way {
+    port: Port<Sent>,
+    late: Kept,
+}
+
+impl Way {
+    /// Nothing was put yet.
+    pub fn new(port: Port<Sent>) -> Way {
+        Way {
+            port,
+            late: Kept::new(),
+        }
+    }
+
+    /// Puts a message. It is lost where there is no room for it, or late if it is one of the last that tell where its sender is.
+    fn put<R: Wait>(&mut self, rt: &R, sent: Sent) {
+        if let Err(refused) = self.port.put(rt, sent) {
+            self.late.keep(refused);
+        }
+    }
+
+    /// Puts a message that may have been late.
+    fn put_some<R: Wait>(&mut self, rt: &R, late: Option<Sent>) {
+        if let Some(sent) = late {
+            self.put(rt, sent);
+        }
+    }
+
+    /// Puts what is late, which stays so where there is no room still.
+    fn put_late<R: Wait>(&mut self, rt: &R) {
+        let late = mem::replace(&mut self.late, Kept::new());
+        self.put_some(rt, late.request());
+        self.put_some(rt, late.opening());
+        self.put_some(rt, late.decision());
+    }
+}
 
 /// A node's inbox, its end of each node's inbox, and what it kept while it was down.
 #[derive(Drop)]
 pub struct Mail {
     pub inbox: Outlet<Sent>,
-    pub ports: Vec<Port<Sent>>,
+    pub ways: Vec<Way>,
     pub kept: Kept,
 }
 
@@ -45,13 +85,23 @@ impl<'x, W: WindowName, R> Wires<'x, W, R> {
     }
 }
 
+impl<'x, W: WindowName, R: Wait> Wires<'x, W, R> {
+    /// Puts what is late into the inboxes. Nobody is rung: their nodes hear it at their next ticks.
+    pub fn put_late(&mut self) {
+        let ways: &mut Vec<Way> = &mut self.ends.mail.ways;
+        for way in ways.iter_mut() {
+            way.put_late(self.rt);
+        }
+    }
+}
+
 impl<'x, W: WindowName, R: Wait> Links for Wires<'x, W, R> {
     ghost gives = { λ _ _ _. Unit {0} };
 
     fn put(&mut self, to: NodeId, sent: Sent) {
-        let ports: &mut Vec<Port<Sent>> = &mut self.ends.mail.ports;
-        if let Some(port) = ports.get_mut(usize::from(to.index())) {
-            let _lost = port.put(self.rt, sent);
+        let ways: &mut Vec<Way> = &mut self.ends.mail.ways;
+        if let Some(way) = ways.get_mut(usize::from(to.index())) {
+            way.put(self.rt, sent);
         }
     }
 
