@@ -82,5 +82,5 @@ pub use guest::{Guest, Place};
 pub use names::Names;
 pub use options::Options;
 pub use rr_locked::Turnstile;
-pub use rr_window::{Sight, WindowName};
+pub use rr_window::{Change, Sight, WindowName};
 pub use seated::Caller;
