@@ -201,13 +201,9 @@ impl<'h, 'd, 'y, W: WindowName, T: Turnstile, R: Wait> Names for Caller<'h, 'd, 
     }
 
     fn watch(&mut self, prefix: &[u8]) -> Result<Vec<Binding>, ClusterError> {
-        match self.handle.list(self.alloc, prefix) {
-            Ok(bindings) => {
-                self.watch = self.handle.watch();
-                Ok(bindings)
-            }
-            Err(refusal) => Err(unseen(&refusal)),
-        }
+        let bindings = self.list(prefix)?;
+        self.watch = self.handle.watch();
+        Ok(bindings)
     }
 
     fn changes(&mut self, prefix: &[u8]) -> Result<Vec<Change>, ClusterError> {
