@@ -1,7 +1,7 @@
 use Rattle.std.proofs.Common.{◌∙◌, refl, subst}
 use Rattle.rr_cli.specs.Ends.{Prints}
 use Rattle.rr_audit.specs.AuditTexts.{IsVerdictOn}
-use Rattle.rr_cli.proofs.TapeLemmas.{yes_ends, no_ends, few_events}
+use Rattle.rr_cli.proofs.TapeLemmas.{yes_ends, no_ends, no_object_ends, no_object_some, few_events}
 use Rattle.rr_cli.proofs.audit.end_by_verdict.Goals as goal
 
 pub returns-in-Ok-clause-ends : goal.returns-in-Ok-clause-ends
@@ -17,3 +17,12 @@ returns-in-Plain-clause-ends g c =
 
 pub end_by_no_object-requires : goal.end_by_no_object-requires
 end_by_no_object-requires g c = few_events c.args.bytes.now c.in-No.number c.in-No.node c.in-No.given (subst (λ verdict. IsVerdictOn c.args.bytes.now verdict) c.in-No.is c.requires)
+
+pub returns-in-Json-clause-ends : goal.returns-in-Json-clause-ends
+returns-in-Json-clause-ends g c =
+    rw c.in-Json.is (no_object_ends c.args.bytes.now c.in-No.number c.in-No.node c.in-No.given c.end_by_no_object.result (g.O.Sink.printing c.args.out.now) (g.O.Sink.printing c.end_by_no_object.new.out)
+    (subst (λ verdict. IsVerdictOn c.args.bytes.now verdict) c.in-No.is c.requires) c.end_by_no_object.ensures.ends)
+
+pub returns-in-Json-clause-quiet : goal.returns-in-Json-clause-quiet
+returns-in-Json-clause-quiet g c = λ zero.
+    absurd (no_object_some c.in-No.number c.end_by_no_object.result (g.O.Sink.printing c.args.out.now) (g.O.Sink.printing c.end_by_no_object.new.out) c.end_by_no_object.ensures.ends zero)
