@@ -2,11 +2,12 @@
 use Rattle.std.proofs.Common.{◌≡◌, ℕ, zero, suc, ◌+◌, ◌-◌, ◌<◌, ◌≤◌, nat_lt, Bool, true, false, if◌then◌else◌, List, [], ◌∷◌, ◌++◌, length, drop, get_or, refl, ap, sym, ◌∙◌, subst, arith, append_assoc, length-append}
 use Rattle.std.proofs.lemmas.List.{append-nil, length-drop, drop-drop, drop-append-le, at_drop_more, at_drop_all}
 use Rattle.std.proofs.lemmas.Bool.Decides.{nat_tests}
+use mathlib.Core.List.{IsPrefix}
 use Rattle.logbook.specs.Pages.{Book}
 use Rattle.rr_types.specs.declared.command.Command.{Command}
 use Rattle.rr_window.specs.declared.change.Change.{Change}
 use Rattle.rr_window.specs.Changes.{change_of, told, changes_with}
-use Rattle.rr_window.specs.Watches.{Trace, trace_of, traces_of, with_trace, kept_traces, told_of, told_behind}
+use Rattle.rr_window.specs.Watches.{Trace, IsWatched, trace_of, traces_of, with_trace, kept_traces, told_of, told_behind}
 
 -- there is a trace for each command
 pub traces_length : (b : Book) (list cs : List Command) → length (traces_of b list cs) ≡ length cs
@@ -100,3 +101,25 @@ kept_more b list c =
     let pushed = push_kept ts t (nat_lt (length (drop (length ts - 1024) ts)) 1024) refl in
     subst (λ k. with_trace (drop (k - 1024) ts) t ≡ kept_traces b (list ++ c ∷ [])) n
     (pushed ∙ ap (λ k. drop (k - 1024) (ts ++ t ∷ [])) m ∙ ap (drop (length (list ++ c ∷ []) - 1024)) (sym all))
+
+-- how many traces are kept of a list
+kept_length : (b : Book) (list : List Command) → length (kept_traces b list) ≡ length list - (length list - 1024)
+kept_length b list = length-drop (length list - 1024) (traces_of b [] list) ∙ ap (λ n. n - (length list - 1024)) (traces_length b [] list)
+
+-- a list that is longer by more than what is kept is longer by more than 1,024
+pub is_late : (b : Book) (old new : List Command) (recent : List Trace) → recent ≡ kept_traces b new → length recent < length new - length old → length old + 1024 < length new
+is_late b old new recent is less =
+    let kept : length recent ≡ length new - (length new - 1024) = ap length is ∙ kept_length b new in
+    omega arith
+
+-- what is kept tells one who watched up to a beginning of the list, where it reaches back to that
+pub is_watched : (prefix : List ℕ) (b : Book) (old new : List Command) (recent : List Trace) → IsPrefix old new → recent ≡ kept_traces b new
+    → length new - length old ≤ length recent → IsWatched prefix old new (told_behind prefix (length old) recent)
+is_watched prefix b old new recent begins is le =
+    let piece = begins.0 in
+    let whole : new ≡ old ++ piece = sym begins.1 in
+    let kept : length recent ≡ length new - (length new - 1024) = ap length is ∙ kept_length b new in
+    let reaches : length new - 1024 ≤ length old = omega (arith, ap length whole, length-append old piece) in
+    let told : told_behind prefix (length old) (kept_traces b (old ++ piece)) ≡ changes_with prefix old piece =
+    told_piece prefix b old piece (subst (λ (l : List Command). length l - 1024 ≤ length old) whole reaches) in
+    (piece, whole, ap (told_behind prefix (length old)) (is ∙ ap (kept_traces b) whole) ∙ told)
