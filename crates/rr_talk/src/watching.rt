@@ -145,7 +145,7 @@ fn show_changes<O: Sink, A: Asked>(
 ) -> Result<(), Stop>
     requires { A.told asked.old ≡ [] }
     ensures told { OnOk result (IsToldOf json (bytes_of prefix.now) (O.printing out.old) (O.printing out.new)) }
-    ensures front { OnErr result (IsFrontSaid (O.printing out.old) (O.printing out.new)) }
+    ensures front { IsFrontSaid (O.printing out.old) (O.printing out.new) }
 {
     'looks: for _ in 0..u64::MAX {
         let is_last = is_heard.load(Ordering::SeqCst);
@@ -187,11 +187,13 @@ fn hear_beside<I: Prompting, O: Sink + Send, A: Asked + Send, H: Beside>(
     requires { A.told asked.old ≡ [] }
     ensures heard { IfOk result (Hears (I.reading input.old) (I.reading input.new)) }
     ensures told { OnOk result (IsToldOf json (bytes_of prefix.now) (O.printing out.old) (O.printing out.new)) }
-    ensures front { OnErr result (IsFrontSaid (O.printing out.old) (O.printing out.new)) }
+    ensures front { IsFrontSaid (O.printing out.old) (O.printing out.new) }
 {
     let is_heard = AtomicBool::new(false);
     let (shown, heard) = host.both(
-        &mut || show_changes(alloc, json, prefix, asked, out, &is_heard),
+        &mut ||
+            requires { A.told asked.now ≡ [] }
+        { show_changes(alloc, json, prefix, asked, out, &is_heard) },
         &mut || hear_and_tell(alloc, input, &is_heard),
     );
     shown?;

@@ -6,6 +6,6 @@ use Rattle.rr_talk.proofs.watching.show_changes.Given as goal
 abbrev pub invariant-looks : goal.invariant-looks
 invariant-looks g l =
     record {
-      piece : IsPiece (bytes_of l.prefix.now) (g.A.Asked.told l.asked);
-      added : IsAdded (g.O.Sink.printing l.initial.out) (g.O.Sink.printing l.out) (flat_map (change_said l.fn.json) (g.A.Asked.told l.asked));
+      piece : IsPiece (bytes_of l.prefix) (g.A.Asked.told l.asked);
+      added : IsAdded (g.O.Sink.printing l.initial.out) (g.O.Sink.printing l.out) (flat_map (change_said l.json) (g.A.Asked.told l.asked));
     }
