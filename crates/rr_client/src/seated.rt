@@ -3,7 +3,7 @@
 ghost use Rattle.std.specs.Prelude.{◌≡◌, ◌<◌, Some, IfOk, IfErr, OnErr};
 ghost use Rattle.rr_types.specs.Registry.{reply_of};
 ghost use Rattle.rr_client.specs.declared.error.ClusterError.TheVariants.{OutOfMemory, Unseen};
-ghost use Rattle.rr_types.specs.declared.refusal.Refusal;
+ghost use Rattle.rr_types.specs.declared.refusal.Refusal.TheVariants as refusals;
 ghost use Rattle.rr_client.specs.Asking.{GoesOn, IsUnanswered, kept_behind, ComesTo, IsSubmitted};
 
 use crate::error::ClusterError;
@@ -201,13 +201,9 @@ impl<'h, 'd, 'y, W: WindowName, T: Turnstile, R: Wait> Names for Caller<'h, 'd, 
     }
 
     fn watch(&mut self, prefix: &[u8]) -> Result<Vec<Binding>, ClusterError> {
-        match self.handle.list(self.alloc, prefix) {
-            Ok(bindings) => {
-                self.watch = self.handle.watch();
-                Ok(bindings)
-            }
-            Err(refusal) => Err(unseen(&refusal)),
-        }
+        let bindings = self.list(prefix)?;
+        self.watch = self.handle.watch();
+        Ok(bindings)
     }
 
     fn changes(&mut self, prefix: &[u8]) -> Result<Vec<Change>, ClusterError> {
@@ -221,8 +217,8 @@ impl<'h, 'd, 'y, W: WindowName, T: Turnstile, R: Wait> Names for Caller<'h, 'd, 
 
 // Why a client sees nothing.
 fn unseen(refusal: &Refusal) -> ClusterError
-    ensures memory { refusal.now ≡ Refusal.OutOfMemory → result ≡ OutOfMemory }
-    ensures guard { refusal.now ≡ Refusal.NoGuard → result ≡ Unseen }
+    ensures memory { refusal.now ≡ refusals.OutOfMemory → result ≡ OutOfMemory }
+    ensures guard { refusal.now ≡ refusals.NoGuard → result ≡ Unseen }
 {
     match refusal {
         Refusal::OutOfMemory => ClusterError::OutOfMemory,
