@@ -57,6 +57,7 @@ struct Console<'x, F, R> {
 }
 
 // A host that does two works in two threads.
+#[derive(Drop)]
 struct TwoThreads<'x, R> {
     rt: &'x R,
 }
