@@ -4,6 +4,7 @@
 
 mod answer_objects;
 mod closed;
+mod console;
 mod defaults;
 mod news;
 mod post;
