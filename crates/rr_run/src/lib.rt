@@ -3,6 +3,7 @@
 #![tactic(auto)]
 
 mod answer_objects;
+mod beside;
 mod closed;
 mod console;
 mod defaults;
