@@ -92,7 +92,7 @@ pub fn show_disks(rt: &HostRuntime, instance: Instance, command: Command) {
     print_text(
         rt,
         "rr_verify",
-        verify::verdict(alloc, &[Reading::Blank]).ok(),
+        verify::verdict(alloc, slice::from_ref(&blank)).ok(),
     );
 }
 
