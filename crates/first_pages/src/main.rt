@@ -51,8 +51,8 @@ fn main(rt: HostRuntime) {
     model::agreement_of_three();
     if let (Ok(command), Some(instance)) = (types::claim_of(b"printer"), Instance::new(0)) {
         showing::show_values(&rt, &command);
-        showing::show_disks(&rt, instance, command);
-        showing::show_nodes(&rt, command);
+        showing::show_disks(&rt, instance, &command);
+        showing::show_nodes(&rt, &command);
         let shown = showing::shows_claim::<Brand, _>(&rt, rt.alloc(), NewList::new(), command);
         print(&rt, "rr_window", shown.ok());
     }

@@ -53,11 +53,12 @@ pub fn show_values(rt: &HostRuntime, command: &Command) {
     print(rt, "rr_list", list::waits(alloc, REQUEST).ok());
 }
 
-/// How many facts a new journal has once it has this one.
-fn count_appended(alloc: Global, fact: Fact) -> Option<u64> {
+/// How many facts a new journal has once it has one: that an instance has decided on this command.
+fn count_appended(alloc: Global, instance: Instance, command: &Command) -> Option<u64> {
+    made_of!(Command, Op);
     let (nodes, node) = only_node()?;
     let mut facts = Vec::new(alloc);
-    facts.push(fact).ok()?;
+    facts.push(Fact::Decide(instance, *command)).ok()?;
     let group = Group::new(0, facts).ok()?;
     match Journal::open(alloc, nodes, node, MemDisk::new(alloc)) {
         Ok((mut journal, _)) => journal::append(alloc, &mut journal, group).ok(),
@@ -66,7 +67,8 @@ fn count_appended(alloc: Global, fact: Fact) -> Option<u64> {
 }
 
 /// Of the libraries of disks.
-pub fn show_disks(rt: &HostRuntime, instance: Instance, command: Command) {
+pub fn show_disks(rt: &HostRuntime, instance: Instance, command: &Command) {
+    made_of!(Command, Op);
     let alloc = rt.alloc();
     print(
         rt,
@@ -76,14 +78,10 @@ pub fn show_disks(rt: &HostRuntime, instance: Instance, command: Command) {
     print(
         rt,
         "rr_frame",
-        frame::adoption(alloc, instance, command).ok(),
+        frame::adoption(alloc, instance, *command).ok(),
     );
     print(rt, "rr_image", image::epoch_of(alloc, b"", b"").ok());
-    print(
-        rt,
-        "rr_journal",
-        count_appended(alloc, Fact::Decide(instance, command)),
-    );
+    print(rt, "rr_journal", count_appended(alloc, instance, command));
     print(
         rt,
         "rr_cluster",
@@ -92,7 +90,7 @@ pub fn show_disks(rt: &HostRuntime, instance: Instance, command: Command) {
     print_text(
         rt,
         "rr_verify",
-        verify::verdict(alloc, slice::from_ref(&blank)).ok(),
+        verify::verdict(alloc, &[Reading::Blank]).ok(),
     );
 }
 
@@ -105,16 +103,16 @@ fn count_waiting(alloc: Global) -> Option<usize> {
 }
 
 /// How many facts a new node stages for a command.
-fn count_staged(alloc: Global, command: Command) -> Option<usize> {
+fn count_staged(alloc: Global, command: &Command) -> Option<usize> {
     let (nodes, node) = only_node()?;
     match recover(alloc, nodes, node, MemDisk::new(alloc)) {
-        Ok((core, _journal)) => locked::submit(&mut Locked::new(core), command).ok(),
+        Ok((core, _journal)) => locked::submit(&mut Locked::new(core), *command).ok(),
         Err(_) => None,
     }
 }
 
 /// Of the libraries of a node.
-pub fn show_nodes(rt: &HostRuntime, command: Command) {
+pub fn show_nodes(rt: &HostRuntime, command: &Command) {
     let alloc = rt.alloc();
     print(rt, "rr_behaviour and rr_step", count_waiting(alloc));
     print(rt, "rr_locked", count_staged(alloc, command));
