@@ -19,5 +19,5 @@ returns-in-Ok-Neither-clause-ends g c =
     let found = rw c.in-Ok-Neither.field-0-is at c.in-Ok-Neither.ensures in
     as_neither found.0 found.1 (c.end_by_fault.ensures ∙ found.2) refl
 
-pub returns-clause-ends : goal.returns-clause-ends
-returns-clause-ends g c = unrecognised (c.end_by_refusal.ensures ∙ ap status_of c.in-Err.ensures) refl
+pub returns-in-Err-clause-ends : goal.returns-in-Err-clause-ends
+returns-in-Err-clause-ends g c = unrecognised (c.end_by_refusal.ensures ∙ ap status_of c.in-Err.ensures) refl
