@@ -5,12 +5,14 @@
 mod answer_objects;
 mod closed;
 mod defaults;
+mod news;
 mod post;
 mod program;
 mod reused;
 mod script_run;
 mod shell_run;
 mod ticking;
+mod watcher;
 
 pub use program::{execute, run};
 pub use rr_folders::Lockable;

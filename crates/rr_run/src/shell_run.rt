@@ -8,10 +8,12 @@ ghost use Rattle.rr_words.specs.Tasks.{shell_words_in};
 ghost use Rattle.rr_cli.specs.Refusals.{status_of};
 ghost use Rattle.rr_shell.specs.Troubles.{ending_status};
 ghost use Rattle.rr_talk.specs.Talks.{is_outcome_at, IsOf, IsKept, IsSyncBy, Talks};
+ghost use Rattle.rr_run.specs.Ears.{heard_by};
 ghost use Rattle.rr_run.specs.Shells.{IsClientBy, EndsOnTalk, EndsOnShell, EndsOnLines, EndsOnShellWords, lines_text};
 
 use crate::closed::end_by_closed;
 use crate::defaults::{FOLDER, nodes_by, show_defaults};
+use crate::news::{Ear, next_changes};
 use crate::post::{Post, Question, Teller, Told, tellers};
 use crate::script_run::end_by_run_fault;
 use crate::ticking::tick_by;
@@ -22,10 +24,11 @@ use rr_locked::Open;
 use rr_script::Answer;
 use rr_shell::{Listing, NodeStatus, Outcome, Trouble, is_listing_at, is_nearly_full};
 use rr_stream::{Counted, Sink};
-use rr_talk::{Asked, Hint, Prompting, Stop, is_sight_at, talk};
+use rr_talk::{Asked, Beside, Hint, Prompting, Stop, is_sight_at, talk};
 use rr_text::text_word::{push_byte, push_bytes};
 use rr_threads::run_switched;
 use rr_types::{Command, Name, NodeId, Nodes, Op, Refusal, Reply, RequestNo, Value, made_of};
+use rr_window::Change;
 use rr_words::LAST_CLIENT;
 use std::alloc::Global;
 use std::fs::OpenFile;
@@ -34,15 +37,15 @@ use std::os::unix::fs::FileExt;
 use std::rt::Files;
 use std::sync::Wait;
 use std::thread;
-use std::thread::{Scope, Threads};
+use std::thread::{Scope, Threads, join_mut};
 use std::time::{Clock, Duration};
 
 // The nodes that a shell asks, as this client, with the request numbers of a folder that is locked; the command that isn't
-// acknowledged and may be asked again; and what a person is to be told.
+// acknowledged and may be asked again; what a person is to be told; and where the changes are heard that are watched.
 #[derive(Drop)]
 struct Console<'x, F, R> {
     rt: &'x R,
-    locks: &'x Locks<F>,
+    locks: Locks<F>,
     nodes: Nodes,
     client: u32,
     block: Block,
@@ -50,6 +53,22 @@ struct Console<'x, F, R> {
     unanswered: Option<Command>,
     hint: Option<Hint>,
     has_warned: bool,
+    ear: Option<Ear>,
+}
+
+// A host that does two works in two threads.
+struct TwoThreads<'x, R> {
+    rt: &'x R,
+}
+
+impl<'x, R: Threads> Beside for TwoThreads<'x, R> {
+    fn both<F: FnMut() -> A + Send, G: FnMut() -> B, A: Send, B>(
+        &self,
+        first: &mut F,
+        second: &mut G,
+    ) -> (A, B) {
+        join_mut(self.rt, first, second)
+    }
 }
 
 // What a submit of a request at a node has come to, by what is told of it.
@@ -186,6 +205,8 @@ impl<
 
     ghost syncs = { λ c. IsSyncBy c.client };
 
+    ghost told = { λ c. heard_by c.ear };
+
     fn wait_until_ready(&mut self) -> Result<(), Refusal> {
         self.post.wait_until_begun(self.rt)?;
         self.pass_numbers()
@@ -237,6 +258,33 @@ impl<
             }
         }
         Ok(Listing { node, names: None })
+    }
+
+    fn watch(&mut self, node: NodeId, prefix: &Option<Name>) -> Result<(), Refusal> {
+        made_of!(Name);
+        let prefix = *prefix;
+        self.ear = None;
+        let told = self.post.ask(self.rt, &Question::Watch { node, prefix })?;
+        if let Told::Watching(new) = told {
+            self.ear = Some(new.ear);
+        }
+        Ok(())
+    }
+
+    fn changes(&mut self, prefix: &Option<Name>) -> Result<Option<Vec<Change>>, Refusal> {
+        let Some(ear) = &mut self.ear else {
+            return Ok(None);
+        };
+        let node = ear.node;
+        let told = self.post.ask(self.rt, &Question::Changes { node })?;
+        if !matches!(told, Told::Changed(true)) {
+            return Ok(None);
+        }
+        Ok(next_changes(&mut ear.news, prefix))
+    }
+
+    fn rest(&mut self) {
+        self.post.rest(self.rt);
     }
 
     fn is_on(&self, node: NodeId) -> bool {
@@ -416,8 +464,8 @@ fn talk_beside<
     F: Read + Write + Seek + FileExt + OpenFile + Drop + Send,
     R: AllocGlobal + Threads + Wait + Clock + Sync,
     I: Prompting,
-    O: Sink,
-    A: Asked + Drop,
+    O: Sink + Send,
+    A: Asked + Send + Drop,
 >(
     rt: &R,
     nodes: Nodes,
@@ -434,13 +482,14 @@ fn talk_beside<
 {
     let alloc = rt.alloc();
     let mut asked = asked;
+    let host = TwoThreads { rt };
     call_beside(
         rt,
         nodes,
         disks,
         clients,
         post,
-        &mut || talk(alloc, nodes, json, strict, &mut asked, input, out),
+        &mut || talk(alloc, nodes, json, strict, &mut asked, &host, input, out),
     )
 }
 
@@ -479,12 +528,12 @@ where
     }
 }
 
-// Talks over folders that are open, and lets their locks go behind the talk: the console borrows them.
+// Talks over folders that are open, and lets their locks go behind the talk, with the console.
 fn shell_in<
     F: Read + Write + Seek + FileExt + OpenFile + Drop + Send,
     R: Files<File = F> + AllocGlobal + Threads + Wait + Clock + Sync,
     I: Prompting,
-    O: Sink,
+    O: Sink + Send,
     E: Write,
 >(
     rt: &R,
@@ -517,7 +566,7 @@ fn shell_in<
     };
     let console = Console {
         rt,
-        locks: &locks,
+        locks,
         nodes,
         client,
         block,
@@ -525,11 +574,11 @@ fn shell_in<
         unanswered: None,
         hint: None,
         has_warned: false,
+        ear: None,
     };
     let talked = talk_beside(
         rt, nodes, disks, clients, &post, json, strict, console, input, out,
     );
-    drop(locks);
     end_by_talk(rt, err, dir, nodes, talked, post.into_refusal())
 }
 
@@ -571,7 +620,7 @@ fn shell_over<
     F: Read + Write + Seek + FileExt + OpenFile + Drop + Send + Lockable,
     R: Files<File = F> + AllocGlobal + Threads + Wait + Clock + Sync,
     I: Prompting,
-    O: Sink,
+    O: Sink + Send,
     E: Write,
 >(
     rt: &R,
@@ -613,7 +662,7 @@ fn lines_text(alloc: Global, lines: &[&str]) -> Result<Vec<u8>, Refusal>
 fn shell_by_lines<
     F: Read + Write + Seek + FileExt + OpenFile + Drop + Send + Lockable,
     R: Files<File = F> + AllocGlobal + Threads + Wait + Clock + Sync,
-    O: Sink,
+    O: Sink + Send,
     E: Write,
 >(
     rt: &R,
@@ -656,7 +705,7 @@ pub(crate) fn shell_by_words<
     F: Read + Write + Seek + FileExt + OpenFile + Drop + Send + Lockable,
     R: Files<File = F> + AllocGlobal + Threads + Wait + Clock + Sync,
     I: Prompting,
-    O: Sink,
+    O: Sink + Send,
     E: Write,
 >(rt: &R, words: &ShellWords<'_>, input: &mut I, out: &mut O, err: &mut E) -> u8
     ensures ends { EndsOnShellWords (shell_words_in words.now) (I.reading input.old) (I.reading input.new) result (O.printing out.old) (O.printing out.new) }
