@@ -34,7 +34,7 @@ no_sweep file seed view is = absurd cc
 pub no_draw : (file : Option Text) (words : CutWords) (view : View) → Draw file words ≡ Viewing view → ⊥
 no_draw file words view is = absurd cc
 
-pub no_migrate : (folder seat nodes : Option Text) (view : View) → Migrate folder node nodes ≡ Viewing view → ⊥
+pub no_migrate : (folder seat nodes : Option Text) (view : View) → Migrate folder seat nodes ≡ Viewing view → ⊥
 no_migrate folder seat nodes view is = absurd cc
 
 pub no_verify : (dir : Option Text) (form : Form) (view : View) → Verify dir form ≡ Viewing view → ⊥
