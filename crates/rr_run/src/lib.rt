@@ -3,7 +3,9 @@
 #![tactic(auto)]
 
 mod answer_objects;
+mod beside;
 mod closed;
+mod console;
 mod defaults;
 mod news;
 mod post;

@@ -107,19 +107,21 @@ kept_length : (b : Book) (list : List Command) → length (kept_traces b list) �
 kept_length b list = length-drop (length list - 1024) (traces_of b [] list) ∙ ap (λ n. n - (length list - 1024)) (traces_length b [] list)
 
 -- a list that is longer by more than what is kept is longer by more than 1,024
-pub is_late : (b : Book) (old new : List Command) (recent : List Trace) → recent ≡ kept_traces b new → length recent < length new - length old → length old + 1024 < length new
-is_late b old new recent is less =
+pub is_late : (b : Book) (old new : List Command) (recent : List Trace) → length recent < length new - length old → recent ≡ kept_traces b new → length old + 1024 < length new
+is_late b old new recent less is =
     let kept : length recent ≡ length new - (length new - 1024) = ap length is ∙ kept_length b new in
     omega arith
 
 -- what is kept tells one who watched up to a beginning of the list, where it reaches back to that
-pub is_watched : (prefix : List ℕ) (b : Book) (old new : List Command) (recent : List Trace) → IsPrefix old new → recent ≡ kept_traces b new
-    → length new - length old ≤ length recent → IsWatched prefix old new (told_behind prefix (length old) recent)
-is_watched prefix b old new recent begins is le =
+pub is_watched : (prefix : List ℕ) (b : Book) (old new : List Command) (recent : List Trace) (n : ℕ) (changes : List Change) → changes ≡ told_behind prefix n recent → n ≡ length old
+    → recent ≡ kept_traces b new → IsPrefix old new → length new - length old ≤ length recent → IsWatched prefix old new changes
+is_watched prefix b old new recent n changes told count is begins le =
     let piece = begins.0 in
     let whole : new ≡ old ++ piece = sym begins.1 in
     let kept : length recent ≡ length new - (length new - 1024) = ap length is ∙ kept_length b new in
     let reaches : length new - 1024 ≤ length old = omega (arith, ap length whole, length-append old piece) in
-    let told : told_behind prefix (length old) (kept_traces b (old ++ piece)) ≡ changes_with prefix old piece =
+    let all : told_behind prefix (length old) (kept_traces b (old ++ piece)) ≡ changes_with prefix old piece =
     told_piece prefix b old piece (subst (λ (l : List Command). length l - 1024 ≤ length old) whole reaches) in
-    (piece, whole, ap (told_behind prefix (length old)) (is ∙ ap (kept_traces b) whole) ∙ told)
+    let same : told_behind prefix n recent ≡ told_behind prefix (length old) (kept_traces b (old ++ piece)) =
+    ap (λ k. told_behind prefix k recent) count ∙ ap (told_behind prefix (length old)) (is ∙ ap (kept_traces b) whole) in
+    (piece, whole, told ∙ same ∙ all)

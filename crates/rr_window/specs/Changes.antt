@@ -1,7 +1,6 @@
 -- The changes of names that commands make, one after another.
 use Rattle.std.specs.Prelude.{ℕ, Bool, true, false, ◌&&◌, ◌==◌, if◌then◌else◌, List, [], ◌∷◌, ◌++◌, Option, None, Some}
 use Rattle.std.specs.Str.{bytes_eq}
-use Rattle.rr_types.specs.declared.binding.Binding.{Binding}
 use Rattle.rr_types.specs.declared.command.Op.{Op}
 use Rattle.rr_types.specs.declared.command.Op.TheVariants.{Claim, Update, Release, Transfer}
 use Rattle.rr_types.specs.declared.command.Command.{Command}

@@ -1,5 +1,5 @@
 -- What is told to those who watch a list.
-use Rattle.std.specs.Prelude.{◌≡◌, ℕ, ◌+◌, ◌-◌, ◌<◌, nat_lt, if◌then◌else◌, List, [], ◌∷◌, ◌++◌, length, drop, Option, None, Some}
+use Rattle.std.specs.Prelude.{◌≡◌, ℕ, ◌-◌, nat_lt, if◌then◌else◌, List, [], ◌∷◌, ◌++◌, length, drop, Option}
 use Rattle.logbook.specs.Pages.{Book}
 use Rattle.rr_types.specs.declared.command.Command.{Command}
 use Rattle.rr_window.specs.declared.change.Change.{Change}

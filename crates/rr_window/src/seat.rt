@@ -1,25 +1,26 @@
 //! Readers of a window.
 
-ghost use Rattle.std.specs.Prelude.{◌≡◌, ◌⊎◌, ◌+◌, ◌<◌, None, [], length, IfOk, OnOk, OnErr, IfErr, IfSome};
+ghost use Rattle.std.specs.Prelude.{◌≡◌, ◌⊎◌, ◌+◌, ◌-◌, ◌<◌, ◌≤◌, None, [], length, IfOk, OnOk, OnErr, IfErr, IfSome};
 ghost use mathlib.Core.List.{IsPrefix};
 ghost use Rattle.rr_types.specs.declared.refusal.Refusal.TheVariants.{NoGuard, OutOfMemory, SeatsTaken};
 ghost use Rattle.rr_types.specs.Registry.{registry_of, holding_of};
 ghost use Rattle.rr_window.specs.Lists.{beginning};
 ghost use Rattle.rr_window.specs.Windows.{IsServed};
 ghost use Rattle.rr_window.specs.Sights.{sight_of, bindings_with};
-ghost use Rattle.rr_window.specs.Watches.{IsWatched};
+ghost use Rattle.rr_window.specs.Watches.{IsWatched, kept_traces};
 
 use crate::change::Change;
 use crate::list::{Beginning, WindowName};
 use crate::receipt::Receipt;
 use crate::served::{Served, WindowRule};
 use crate::sight::Sight;
-use crate::trace::changes_behind;
+use crate::trace::{Trace, changes_behind};
 use crate::watch::Watch;
 use core::mem::replace_with;
 use left_right::reader::{Factory, Reader};
 use rr_types::{Binding, Name, Refusal};
-use std::alloc::Global;
+use std::alloc::{AllocError, Global};
+use std::collections::VecDeque;
 use std::marker::Model;
 
 /// The places of a window's readers, at most 64 at a time. Threads may share it.
@@ -232,13 +233,48 @@ fn watch_in(
     if seen.count() < position.count() {
         return Err(Refusal::NoGuard);
     }
-    position.begins(seen);
-    let recent = served.recent();
+    let changes = changes_between(alloc, prefix, position, seen, served.recent())?;
+    Ok((changes, seen.again()))
+}
+
+// Tells the changes of what is seen behind a position. None: the traces that are kept don't reach back to it.
+#[tactic(auto, using(crate::proofs::Watching::is_late))]
+fn changes_between(
+    alloc: Global,
+    prefix: &[u8],
+    position: &Beginning,
+    seen: &Beginning,
+    recent: &VecDeque<Trace>,
+) -> Result<Option<Vec<Change>>, AllocError>
+    requires one { seen.now.book ≡ position.now.book }
+    requires shorter { length position.now.list ≤ length seen.now.list }
+    requires recent { recent.now.items ≡ kept_traces seen.now.book seen.now.list }
+    ensures told { IfOk result (λ r. IfSome r (λ changes. IsWatched prefix.now position.now.list seen.now.list changes.items)) }
+    ensures late { IfOk result (λ r. r ≡ None → length position.now.list + 1024 < length seen.now.list) }
+{
     if seen.count() - position.count() > recent.len() as u64 {
-        return Ok((None, seen.again()));
+        return Ok(None);
     }
-    let changes = changes_behind(alloc, prefix, position.count(), recent)?;
-    Ok((Some(changes), seen.again()))
+    let changes = changes_within(alloc, prefix, position, seen, recent)?;
+    Ok(Some(changes))
+}
+
+// Tells the changes of what is seen behind a position, to which the traces that are kept reach back.
+fn changes_within(
+    alloc: Global,
+    prefix: &[u8],
+    position: &Beginning,
+    seen: &Beginning,
+    recent: &VecDeque<Trace>,
+) -> Result<Vec<Change>, AllocError>
+    requires one { seen.now.book ≡ position.now.book }
+    requires shorter { length position.now.list ≤ length seen.now.list }
+    requires recent { recent.now.items ≡ kept_traces seen.now.book seen.now.list }
+    requires reach { length seen.now.list - length position.now.list ≤ length recent.now.items }
+    ensures { IfOk result (λ changes. IsWatched prefix.now position.now.list seen.now.list changes.items) }
+{
+    position.begins(seen);
+    changes_behind(alloc, prefix, position.count(), recent)
 }
 
 impl<W: WindowName> Seat<W> {
