@@ -6,7 +6,7 @@ use Rattle.rr_types.specs.declared.refusal.Refusal.TheVariants.{OutOfMemory}
 use Rattle.rr_audit.specs.declared.given.Given.{Given}
 use Rattle.rr_audit.specs.declared.auditing.Verdict.TheVariants.{Yes, No}
 use Rattle.rr_words.specs.declared.tasks.Form.{Form}
-use Rattle.rr_words.specs.declared.tasks.Form.TheVariants.{Plain, Json}
+use Rattle.rr_words.specs.declared.tasks.Form.TheVariants.{Json}
 use Rattle.rr_cli.specs.Ends.{Prints, EndsOnTape, TellsNo, agreed, stopped, no_tape, yes_in}
 use Rattle.rr_audit.specs.AuditTexts.{IsVerdictOn}
 use Rattle.rr_cli.specs.AuditObjects.{no_status}
