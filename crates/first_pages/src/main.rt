@@ -44,8 +44,6 @@ mod words;
 
 use crate::printing::print;
 use rr_types::Instance;
-use rr_window::NewList;
-use std::marker::Brand;
 
 fn main(rt: HostRuntime) {
     model::agreement_of_three();
@@ -53,8 +51,8 @@ fn main(rt: HostRuntime) {
         showing::show_values(&rt, &command);
         showing::show_disks(&rt, instance, &command);
         showing::show_nodes(&rt, &command);
-        let shown = showing::shows_claim::<Brand, _>(&rt, rt.alloc(), NewList::new(), command);
-        print(&rt, "rr_window", shown.ok());
+        let shown = showing::is_shown(&rt, rt.alloc(), command);
+        print(&rt, "rr_window", shown);
     }
     let taken = inbox::put_and_take(&rt, rt.alloc(), 5);
     print(&rt, "rr_inbox", taken.ok());

@@ -17,6 +17,7 @@ use rr_node::Node;
 use rr_parts::Heartbeat;
 use rr_places::Numbered;
 use rr_registry::Registry;
+use rr_step::State;
 use rr_stream::Counted;
 use rr_text::Schedule;
 use rr_types::{
@@ -26,6 +27,7 @@ use rr_types::{
 use rr_verify::Reading;
 use rr_window::{NewList, Sight, WindowName, open};
 use std::alloc::Global;
+use std::marker::Brand;
 use std::sync::Wait;
 
 /// A schedule of one node that begins to open its disk.
@@ -94,12 +96,17 @@ pub fn show_disks(rt: &HostRuntime, instance: Instance, command: &Command) {
     );
 }
 
-/// How many requests a new node waits for behind a step.
+/// How many requests a node waits for by a step.
+fn count_changes(alloc: Global, state: &State) -> Option<usize> {
+    let changes = step::wait_for(alloc, state, REQUEST).ok()?;
+    Some(changes.waiting.len())
+}
+
+/// How many requests a new node waits for by a step.
 fn count_waiting(alloc: Global) -> Option<usize> {
     let (nodes, node) = only_node()?;
     let state = behaviour::of_new_node(alloc, nodes, node).ok()?;
-    let changes = step::wait_for(alloc, &state, REQUEST).ok()?;
-    Some(changes.waiting.len())
+    count_changes(alloc, &state)
 }
 
 /// How many facts a new node stages for a command.
@@ -212,7 +219,7 @@ pub fn show_runs(rt: &HostRuntime) {
 }
 
 /// Whether a new window shows client 7's claim.
-pub fn shows_claim<W: WindowName, R: Wait>(
+fn shows_claim<W: WindowName, R: Wait>(
     rt: &R,
     alloc: Global,
     list: NewList,
@@ -229,6 +236,12 @@ pub fn shows_claim<W: WindowName, R: Wait>(
     };
     publisher.close(rt);
     Ok(matches!(sight, Ok(Sight::Bound(7, _))))
+}
+
+/// Whether a window on the list that is made here shows client 7's claim.
+pub fn is_shown<R: Wait>(rt: &R, alloc: Global, command: Command) -> Option<bool> {
+    let shown = shows_claim::<Brand, _>(rt, alloc, NewList::new(), command);
+    shown.ok()
 }
 
 /// Of the libraries of the program.
