@@ -1,5 +1,5 @@
 -- Bytes that are a schedule or a tape are told apart, and a tape that is shown ends as defined.
-use Rattle.std.proofs.Common.{◌≡◌, ◌≢◌, ℕ, List, Result, Ok, refl, sym, subst}
+use Rattle.std.proofs.Common.{◌≡◌, ◌≢◌, ℕ, List, Ok, refl, sym, subst}
 use Rattle.rr_types.specs.declared.refusal.Refusal.{Refusal}
 use Rattle.rr_types.specs.declared.refusal.Refusal.TheVariants as because
 use Rattle.rr_text.specs.Lines.{IsFault}
@@ -11,12 +11,11 @@ use Rattle.rr_audit.specs.Audits.{IsVerdict}
 use Rattle.rr_audit.specs.declared.given.Given.{Given}
 use Rattle.rr_audit.specs.declared.auditing.Verdict.TheVariants.{Yes, No}
 use Rattle.rr_stream.specs.Streams.{Printing}
-use Rattle.rr_cli.specs.Ends.{Prints, EndsOnTaped, taped, strange, untaped, EndsOnEither, as_schedule, as_tape, as_neither, unrecognised}
-use Rattle.rr_cli.specs.Recognised.{IsRecognised, IsScheduleText, IsTextOf, IsNoSchedule, IsNoTape}
+use Rattle.rr_cli.specs.Ends.{Prints, EndsOnTaped, taped, strange, untaped}
+use Rattle.rr_cli.specs.Recognised.{IsRecognised, IsTextOf}
 use Rattle.rr_cli.specs.Refusals.{status_of}
 use Rattle.rr_cli.specs.Shown.{ShowsTape}
 use Rattle.rr_cli.specs.declared.taped.TapeView.{TapeView}
-use Rattle.rr_cli.specs.declared.recognising.Recognised.{Recognised}
 use Rattle.rr_cli.specs.declared.recognising.Recognised.TheVariants as are
 use Rattle.rr_cli.specs.declared.refusals.TextKind.{TextKind}
 

@@ -1,5 +1,5 @@
 -- Words that ask for no view.
-use Rattle.std.proofs.Common.{◌≡◌, Bool, List, [], Option, subst}
+use Rattle.std.proofs.Common.{◌≡◌, Bool, [], Option, subst}
 use Rattle.clap.specs.Words.{Text}
 use Rattle.clap.specs.Kinds.{Kinds, IsAmong}
 use Rattle.clap.specs.declared.error.kind.ErrorKind.{ErrorKind}
@@ -34,8 +34,8 @@ no_sweep file seed view is = absurd cc
 pub no_draw : (file : Option Text) (words : CutWords) (view : View) → Draw file words ≡ Viewing view → ⊥
 no_draw file words view is = absurd cc
 
-pub no_migrate : (folder node nodes : Option Text) (view : View) → Migrate folder node nodes ≡ Viewing view → ⊥
-no_migrate folder node nodes view is = absurd cc
+pub no_migrate : (folder seat nodes : Option Text) (view : View) → Migrate folder seat nodes ≡ Viewing view → ⊥
+no_migrate folder seat nodes view is = absurd cc
 
 pub no_verify : (dir : Option Text) (form : Form) (view : View) → Verify dir form ≡ Viewing view → ⊥
 no_verify dir form view is = absurd cc

@@ -56,8 +56,10 @@ fn recognise_tape(alloc: Global, bytes: &[u8], of_schedule: Refusal) -> Result<R
 {
     match Tape::parse(alloc, bytes) {
         Ok(tape) => Ok(Recognised::Tape(tape)),
-        Err(Refusal::OutOfMemory) => Err(Refusal::OutOfMemory),
-        Err(of_tape) => Ok(told_fault(of_schedule, of_tape, bytes)),
+        Err(of_tape) => match of_tape {
+            Refusal::OutOfMemory => Err(Refusal::OutOfMemory),
+            _ => Ok(told_fault(of_schedule, of_tape, bytes)),
+        },
     }
 }
 
@@ -70,7 +72,9 @@ pub(crate) fn recognise(alloc: Global, bytes: &[u8]) -> Result<Recognised, Refus
 {
     match Schedule::parse(alloc, bytes) {
         Ok(_schedule) => Ok(Recognised::Schedule),
-        Err(Refusal::OutOfMemory) => Err(Refusal::OutOfMemory),
-        Err(of_schedule) => recognise_tape(alloc, bytes, of_schedule),
+        Err(of_schedule) => match of_schedule {
+            Refusal::OutOfMemory => Err(Refusal::OutOfMemory),
+            _ => recognise_tape(alloc, bytes, of_schedule),
+        },
     }
 }

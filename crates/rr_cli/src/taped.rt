@@ -2,6 +2,7 @@
 
 ghost use Rattle.std.specs.Prelude.{◌≡◌, IfOk, IfErr};
 ghost use Rattle.std.specs.Io.KnownBytes.{Keeps};
+ghost use Rattle.rr_audit.specs.Audits.{IsVerdict};
 ghost use Rattle.rr_cli.specs.Ends.{EndsOnTaped};
 ghost use Rattle.rr_cli.specs.Recognised.{IsTextOf};
 ghost use Rattle.rr_cli.specs.Shown.{Shows, ShowsTape};
@@ -65,6 +66,30 @@ fn tape_text(alloc: Global, what: TapeView, tape: &Tape) -> Result<Vec<u8>, Refu
     }
 }
 
+// Shows the tape that the bytes are, of which this is found: where its events are what nodes do. Else it tells the first that isn't.
+fn show_found<O: Sink, E: Write>(
+    alloc: Global,
+    what: TapeView,
+    bytes: &[u8],
+    tape: &Tape,
+    verdict: Verdict,
+    out: &mut O,
+    err: &mut E,
+) -> u8
+    requires text { IsTextOf tape.now bytes.now }
+    requires found { IsVerdict tape.now.nodes tape.now.events verdict }
+    ensures ends { EndsOnTaped what bytes.now result (O.printing out.old) (O.printing out.new) }
+    ensures quiet { result ≡ 0 → Keeps (E.contents err.old) (E.contents err.new) }
+{
+    match verdict {
+        Verdict::Yes(_) => match tape_text(alloc, what, tape) {
+            Ok(text) => end_by_text(out, err, text.as_slice()),
+            Err(refusal) => end_by_refusal(err, &refusal),
+        },
+        Verdict::No(number, node, given) => end_by_no(alloc, bytes, number, node, &given, err),
+    }
+}
+
 /// Shows the tape that the bytes are, where its events are what nodes do. Else it tells the first that isn't.
 pub(crate) fn show_tape<O: Sink, E: Write>(
     alloc: Global,
@@ -79,11 +104,7 @@ pub(crate) fn show_tape<O: Sink, E: Write>(
     ensures quiet { result ≡ 0 → Keeps (E.contents err.old) (E.contents err.new) }
 {
     match watch_tape(alloc, tape, out) {
-        Ok(Verdict::Yes(_)) => match tape_text(alloc, what, tape) {
-            Ok(text) => end_by_text(out, err, text.as_slice()),
-            Err(refusal) => end_by_refusal(err, &refusal),
-        },
-        Ok(Verdict::No(number, node, given)) => end_by_no(alloc, bytes, number, node, &given, err),
+        Ok(verdict) => show_found(alloc, what, bytes, tape, verdict, out, err),
         Err(refusal) => end_by_refusal(err, &refusal),
     }
 }

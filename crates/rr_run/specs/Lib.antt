@@ -1,5 +1,6 @@
 pub mod AnswerObjects
-pub mod Listings
+pub mod Ears
+pub mod News
 pub mod Runs
 pub mod Shells
 pub mod Submits

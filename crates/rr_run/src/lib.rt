@@ -3,14 +3,18 @@
 #![tactic(auto)]
 
 mod answer_objects;
+mod beside;
 mod closed;
+mod console;
 mod defaults;
+mod news;
 mod post;
 mod program;
 mod reused;
 mod script_run;
 mod shell_run;
 mod ticking;
+mod watcher;
 
 pub use program::{execute, run};
 pub use rr_folders::Lockable;

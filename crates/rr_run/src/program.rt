@@ -44,7 +44,7 @@ pub fn execute<
     S: AsStr,
     L: FileReader,
     I: Prompting,
-    O: Sink,
+    O: Sink + Send,
     E: Write,
 >(rt: &R, words: &[S], files: &mut L, input: &mut I, out: &mut O, err: &mut E) -> u8
     ensures ends { EndsWithThreads (faults_of (map S.text words.now)) (task_of (map S.text words.now))
@@ -89,7 +89,7 @@ pub fn run<
     R: Files<File = F> + AllocGlobal + Threads + Wait + Clock + Sync,
     L: FileReader,
     I: Prompting,
-    O: Sink,
+    O: Sink + Send,
     E: Write,
 >(
     rt: &R,

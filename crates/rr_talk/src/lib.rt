@@ -7,8 +7,10 @@ mod hearing;
 mod prompting;
 mod saying;
 mod talking;
+mod watching;
 
 pub use answering::{Asked, Hint, is_outcome_at, is_reply_at, is_sight_at};
 pub use hearing::{Heard, hear};
 pub use prompting::{Prompted, Prompting};
 pub use talking::{Stop, Turn, talk};
+pub use watching::{Beside, Watched};

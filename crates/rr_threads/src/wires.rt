@@ -1,7 +1,9 @@
 //! What the thread of a node calls in a turn, over the real inboxes, hand-overs and bells. No contract knows what these hold:
-//! each call is one line, to be read.
+//! each call is one line, to be read. Of a message that finds no room a contract says what becomes of it.
 
+ghost use Rattle.std.specs.Prelude.{◌≡◌, None};
 ghost use Rattle.rr_turn.specs.Asked.{Call};
+ghost use Rattle.rr_threads.specs.Ways.{IsPut, IsPutIfAny, IsPutLate};
 
 use crate::desk::Desk;
 use crate::running::Running;
@@ -23,7 +25,9 @@ pub struct Way {
 
 impl Way {
     /// Nothing was put yet.
-    pub fn new(port: Port<Sent>) -> Way {
+    pub fn new(port: Port<Sent>) -> Way
+        ensures { result ≡ record { port = port; late = record { opening = None; request = None; decision = None } } }
+    {
         Way {
             port,
             late: Kept::new(),
@@ -31,21 +35,27 @@ impl Way {
     }
 
     /// Puts a message. It is lost where there is no room for it, or late if it is one of the last that tell where its sender is.
-    fn put<R: Wait>(&mut self, rt: &R, sent: Sent) {
+    fn put<R: Wait>(&mut self, rt: &R, sent: Sent)
+        ensures { IsPut self.old sent self.new }
+    {
         if let Err(refused) = self.port.put(rt, sent) {
             self.late.keep(refused);
         }
     }
 
     /// Puts a message that may have been late.
-    fn put_some<R: Wait>(&mut self, rt: &R, late: Option<Sent>) {
+    fn put_some<R: Wait>(&mut self, rt: &R, late: Option<Sent>)
+        ensures { IsPutIfAny self.old late self.new }
+    {
         if let Some(sent) = late {
             self.put(rt, sent);
         }
     }
 
     /// Puts what is late, which stays so where there is no room still.
-    fn put_late<R: Wait>(&mut self, rt: &R) {
+    fn put_late<R: Wait>(&mut self, rt: &R)
+        ensures { IsPutLate self.old self.new }
+    {
         let late = mem::replace(&mut self.late, Kept::new());
         self.put_some(rt, late.request());
         self.put_some(rt, late.opening());

@@ -19,7 +19,7 @@ returns-in-Ok-text_of-clause-ends g c =
     let from_old = subst (λ (old : Printing). Prints c.in-Ok-text_of.text.items printed.0 old (g.O.Sink.printing c.end_by_finish.new.out)) same of_text in
     finished_so f.added.items f.report.items c.in-Ok-text_of.text.items f.ending printed.0 c.in-Ok.ensures.ok c.in-Ok-text_of.ensures.ok from_old printed.2
 
-pub returns-clause-ends : goal.returns-clause-ends
-returns-clause-ends g c =
+pub returns-in-Err-text_of-clause-ends : goal.returns-in-Err-text_of-clause-ends
+returns-in-Err-text_of-clause-ends g c =
     refused c.in-Err-text_of.refusal (subst (λ e. IsFault IsEvent event_line c.args.bytes.now e) (sym c.in-Err-text_of.ensures.err) tt)
     c.end_by_refusal.ensures (c.text_of.ensures.unprinted ∙ c.finish_run.ensures.unprinted)

@@ -1,4 +1,4 @@
-use Rattle.std.proofs.Common.{sym, subst}
+use Rattle.std.proofs.Common.{subst}
 use Rattle.std.specs.Io.KnownBytes.{Keeps}
 use Rattle.rr_cli.specs.Ends.{read}
 use Rattle.rr_cli.specs.Views.{EndsOnFinish}

@@ -1,4 +1,4 @@
-use Rattle.std.proofs.Common.{◌≡◌, Bool, refl, subst}
+use Rattle.std.proofs.Common.{Bool, refl, subst}
 use Rattle.rr_words.specs.declared.tasks.Form.{Form}
 use Rattle.rr_cli.specs.Ends.{EndsOnRandom, numbered, unnumbered}
 use Rattle.rr_cli.proofs.random_schedule.random_by_words.Goals as goal

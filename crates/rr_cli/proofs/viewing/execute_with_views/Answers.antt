@@ -1,4 +1,4 @@
-use Rattle.std.proofs.Common.{◌≡◌, ◌∙◌, ℕ, List, Option, option_map, Bor, refl, sym, ap, map, inl, inr}
+use Rattle.std.proofs.Common.{◌≡◌, ◌∙◌, ℕ, List, Option, option_map, Bor, sym, ap, map, inl, inr}
 use Rattle.clap.specs.Words.{Text, kind_of}
 use Rattle.rr_words.specs.Tasks.{Simulate, Viewing, Show, Random, Audit, Run, Shell, Sweep, Draw, Migrate, cut_words_in, random_words_in, shell_words_in, task_of, task_in, view_in, Verify, Export}
 use Rattle.rr_cli.specs.Ends.{mistaken, by_help, by_version}

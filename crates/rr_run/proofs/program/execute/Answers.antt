@@ -136,23 +136,23 @@ returns-in-Ok-Export-clause-ends g c =
     let task : task_of (map g.S.AsStr.text c.args.words.now) ≡ Export (text_of w.field-0-0) w.field-0-1 = sym w.ensures.task ∙ ap task_in w.field-0-is in
     by_others (λ none asks. subst (λ t. AsksForThreads t) task asks) c.execute_with_views-in-Ok-Export.ensures.ends
 
-pub returns-in-Ok-Run-Some-Some-Some-default-default-clause-quiet : goal.returns-in-Ok-Run-Some-Some-Some-default-default-clause-quiet
-returns-in-Ok-Run-Some-Some-Some-default-default-clause-quiet g c =
-    let w = c.in-Ok-Run-Some-Some-Some-default-default in
-    let task : task_of (map g.S.AsStr.text c.args.words.now) ≡ Run (Some w.nodes.now) (Some w.dir.now) (Some w.script.now) (option_map (λ s. s.now) w.tape) (option_map (λ s. s.now) w.tick) = sym w.ensures.task ∙ ap task_in w.field-0-is ∙ run_from _ _ _ _ _ _ _ _ w.field-0-0-is w.field-0-1-is w.field-0-2-is in
-    λ ended. told (record { nodes = w.nodes.now; dir = w.dir.now; script = w.script.now; tape = option_map (λ s. s.now) w.tape; tick = option_map (λ s. s.now) w.tick; is = task }) w.ensures.faults (c.run_by_words.ensures.quiet ended)
+pub returns-in-Ok-Run-Some-Some-Some-default-default-default-clause-quiet : goal.returns-in-Ok-Run-Some-Some-Some-default-default-default-clause-quiet
+returns-in-Ok-Run-Some-Some-Some-default-default-default-clause-quiet g c =
+    let w = c.in-Ok-Run-Some-Some-Some-default-default-default in
+    let task : task_of (map g.S.AsStr.text c.args.words.now) ≡ Run (Some w.nodes.now) (Some w.dir.now) (Some w.script.now) (option_map (λ s. s.now) w.tape) (option_map (λ s. s.now) w.tick) w.form = sym w.ensures.task ∙ ap task_in w.field-0-is ∙ run_from _ _ _ _ _ _ _ _ _ w.field-0-0-is w.field-0-1-is w.field-0-2-is in
+    λ ended. told (record { nodes = w.nodes.now; dir = w.dir.now; script = w.script.now; tape = option_map (λ s. s.now) w.tape; tick = option_map (λ s. s.now) w.tick; form = w.form; is = task }) w.ensures.faults (c.run_by_words.ensures.quiet ended)
 
 pub returns-in-Err-clause-quiet : goal.returns-in-Err-clause-quiet
 returns-in-Err-clause-quiet g c = λ ended. silent (c.end_by_words.ensures.quiet ended)
 
-pub returns-in-Ok-Run-None-default-default-default-default-clause-quiet : goal.returns-in-Ok-Run-None-default-default-default-default-clause-quiet
-returns-in-Ok-Run-None-default-default-default-default-clause-quiet g c = λ ended. silent (c.execute_with_views-in-Ok-Run-None-default-default-default-default.ensures.quiet ended)
+pub returns-in-Ok-Run-None-default-default-default-default-default-clause-quiet : goal.returns-in-Ok-Run-None-default-default-default-default-default-clause-quiet
+returns-in-Ok-Run-None-default-default-default-default-default-clause-quiet g c = λ ended. silent (c.execute_with_views-in-Ok-Run-None-default-default-default-default-default.ensures.quiet ended)
 
-pub returns-in-Ok-Run-default-None-default-default-default-clause-quiet : goal.returns-in-Ok-Run-default-None-default-default-default-clause-quiet
-returns-in-Ok-Run-default-None-default-default-default-clause-quiet g c = λ ended. silent (c.execute_with_views-in-Ok-Run-default-None-default-default-default.ensures.quiet ended)
+pub returns-in-Ok-Run-default-None-default-default-default-default-clause-quiet : goal.returns-in-Ok-Run-default-None-default-default-default-default-clause-quiet
+returns-in-Ok-Run-default-None-default-default-default-default-clause-quiet g c = λ ended. silent (c.execute_with_views-in-Ok-Run-default-None-default-default-default-default.ensures.quiet ended)
 
-pub returns-in-Ok-Run-default-default-None-default-default-clause-quiet : goal.returns-in-Ok-Run-default-default-None-default-default-clause-quiet
-returns-in-Ok-Run-default-default-None-default-default-clause-quiet g c = λ ended. silent (c.execute_with_views.ensures.quiet ended)
+pub returns-in-Ok-Run-default-default-None-default-default-default-clause-quiet : goal.returns-in-Ok-Run-default-default-None-default-default-default-clause-quiet
+returns-in-Ok-Run-default-default-None-default-default-default-clause-quiet g c = λ ended. silent (c.execute_with_views.ensures.quiet ended)
 
 pub returns-in-Ok-Shell-clause-quiet : goal.returns-in-Ok-Shell-clause-quiet
 returns-in-Ok-Shell-clause-quiet g c = λ ended. silent (c.shell_by_words.ensures.quiet ended)
