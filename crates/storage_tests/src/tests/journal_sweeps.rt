@@ -22,6 +22,27 @@ fn payload_at(bytes: &[u8], gate: usize) -> Option<&[u8]> {
     reader.take(count as usize).ok()
 }
 
+/// The version of an area and the spelling of what is read of a frame: of its first, where no version is known yet, or of a
+/// group. The versions have one spelling of a snapshot, but for its number.
+fn respelled(
+    alloc: Global,
+    version: Option<Version>,
+    payload: &[u8],
+) -> Result<(Version, Vec<u8>), Refusal> {
+    match version {
+        None => {
+            let (version, snapshot) = decode_snapshot(alloc, payload)?;
+            let mut again = encode_snapshot(alloc, &snapshot)?;
+            put_at(&mut again, 0, version.number());
+            Ok((version, again))
+        }
+        Some(version) => {
+            let group = decode_group(alloc, version, payload)?;
+            Ok((version, encode_group(alloc, &group)?))
+        }
+    }
+}
+
 /// Asserts that the frames up to the last gate of an area are the spelling of what is read there.
 fn assert_spelled(
     rt: &impl Abort,
@@ -30,29 +51,20 @@ fn assert_spelled(
     last: usize,
 ) -> Result<(), Refusal> {
     let mut gate = 0;
-    let mut version = Version::Two;
-    for frame in 0..bytes.len() {
+    let mut version = None;
+    for _ in 0..bytes.len() {
         if gate == last {
             return Ok(());
         }
         let Some(payload) = payload_at(bytes, gate) else {
             break;
         };
-        let again = if frame == 0 {
-            let (read, snapshot) = decode_snapshot(alloc, payload)?;
-            version = read;
-            let mut again = encode_snapshot(alloc, &snapshot)?;
-            // The versions have one spelling, but for its number.
-            put_at(&mut again, 0, version.number());
-            again
-        } else {
-            encode_group(alloc, &decode_group(alloc, version, payload)?)?
-        };
-        assert_eq!(rt; again.as_slice(), payload);
+        let (read, again) = respelled(alloc, version, payload)?;
+        assert_same(rt, &again, payload, "a frame");
+        version = Some(read);
         gate = gate.saturating_add(payload.len()).saturating_add(5);
     }
-    assert!(rt; false, "no frame ends at the last gate");
-    Ok(())
+    rt.panic("no frame ends at the last gate")
 }
 
 /// The active area of an image, and the place of its last gate, if an area is active.
@@ -175,32 +187,35 @@ fn an_unformatted_area_is_formatted_anew(rt: HostRuntime) {
     assert_same(&rt, &bytes, &expected, "area 0");
 }
 
+/// Asserts the same of area 0 alone, and beside the area with the snapshot.
+fn assert_first(rt: &impl Abort, alloc: Global, first: &[u8]) {
+    assert_exact(rt, alloc, first, &[]).expect(rt, "memory");
+    assert_exact(rt, alloc, first, snapshot()).expect(rt, "memory");
+}
+
 #[test]
 fn each_byte_of_area_0(rt: HostRuntime) {
     let alloc = rt.alloc();
-    let mut bytes = area().to_vec(alloc).expect(&rt, "memory");
-    for (place, kept) in area().iter().enumerate() {
-        assert_exact(&rt, alloc, cut(area(), place), &[]).expect(&rt, "memory");
-        assert_exact(&rt, alloc, cut(area(), place), snapshot()).expect(&rt, "memory");
+    for (place, _) in area().iter().enumerate() {
+        assert_first(&rt, alloc, cut(area(), place));
         for byte in 0..=255 {
-            put_at(&mut bytes, place, byte);
-            assert_exact(&rt, alloc, &bytes, &[]).expect(&rt, "memory");
-            assert_exact(&rt, alloc, &bytes, snapshot()).expect(&rt, "memory");
+            assert_first(&rt, alloc, &changed(&rt, alloc, area(), place, byte));
         }
-        put_at(&mut bytes, place, *kept);
     }
+}
+
+/// Asserts the same of the area with the snapshot, beside area 0.
+fn assert_second(rt: &impl Abort, alloc: Global, second: &[u8]) {
+    assert_exact(rt, alloc, area(), second).expect(rt, "memory");
 }
 
 #[test]
 fn each_byte_of_area_1(rt: HostRuntime) {
     let alloc = rt.alloc();
-    let mut bytes = snapshot().to_vec(alloc).expect(&rt, "memory");
-    for (place, kept) in snapshot().iter().enumerate() {
-        assert_exact(&rt, alloc, area(), cut(snapshot(), place)).expect(&rt, "memory");
+    for (place, _) in snapshot().iter().enumerate() {
+        assert_second(&rt, alloc, cut(snapshot(), place));
         for byte in 0..=255 {
-            put_at(&mut bytes, place, byte);
-            assert_exact(&rt, alloc, area(), &bytes).expect(&rt, "memory");
+            assert_second(&rt, alloc, &changed(&rt, alloc, snapshot(), place, byte));
         }
-        put_at(&mut bytes, place, *kept);
     }
 }
