@@ -21,6 +21,7 @@ PLACED = {
 }
 # An item of a file: the line with which it begins, of its doc comment or its own. It ends with the first line that is a brace alone.
 ITEMS = {
+    "rr_cli": ("many_answers/src/answering.rt", "/// What `rr` gives by these words"),
     "rr_run": ("rr/src/main.rt", "fn main("),
     "rr_turn": ("rr_threads/src/node_loop.rt", "/// A look at what there is to do:"),
 }

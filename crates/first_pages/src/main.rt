@@ -4,7 +4,6 @@
 
 mod account;
 mod behaviour;
-mod cli;
 mod cluster;
 mod disk;
 mod draw;
