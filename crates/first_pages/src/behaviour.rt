@@ -1,7 +1,5 @@
 //! What the first page of `rr_behaviour` shows.
 
-ghost use Rattle.std.specs.Prelude.{◌<◌};
-
 use rr_behaviour::started;
 use rr_step::State;
 use rr_types::{NodeId, Nodes, Promise};
