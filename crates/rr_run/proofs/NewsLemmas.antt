@@ -60,3 +60,11 @@ piece_on prefix begun reached new before changes from tells watched =
 pub told_more : (news : List News) (one : News) → told_by (news ++ one ∷ []) ≡ told_by news ++ one.changes.items
 told_more news one =
     flat_map-append (λ (n : News). n.changes.items) news (one ∷ []) ∙ ap (λ (l : List Change). told_by news ++ l) (append-nil one.changes.items)
+
+-- the news with one more tell the changes up to there
+pub news_on : (prefix : List ℕ) (begun reached new : List Command) (first old now : List News) (one : News) → old ≡ first → now ≡ old ++ one ∷ []
+    → reached ≡ begun ++ drop (length begun) reached → told_by first ≡ changes_with prefix begun (drop (length begun) reached)
+    → IsWatched prefix reached new one.changes.items → told_by now ≡ changes_with prefix begun (drop (length begun) new)
+news_on prefix begun reached new first old now one same more from tells watched =
+    ap told_by (more ∙ ap (λ (l : List News). l ++ one ∷ []) same) ∙ told_more first one
+    ∙ tells_on prefix begun reached new (told_by first) one.changes.items from tells watched
