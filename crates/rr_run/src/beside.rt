@@ -9,7 +9,7 @@ use rr_disk::{FileDisk, OpenedFile};
 use rr_locked::Open;
 use rr_shell::Trouble;
 use rr_stream::Sink;
-use rr_talk::{Asked, Beside, Prompting, Stop, talk};
+use rr_talk::{Asked, Prompting, Stop, talk};
 use rr_threads::run_switched;
 use rr_types::{Nodes, Refusal};
 use std::fs::OpenFile;
@@ -17,24 +17,8 @@ use std::io::{Read, Seek, Write};
 use std::os::unix::fs::FileExt;
 use std::sync::Wait;
 use std::thread;
-use std::thread::{Scope, Threads, join_mut};
+use std::thread::{Scope, Threads};
 use std::time::Clock;
-
-// A host that does two works in two threads.
-#[derive(Drop)]
-struct TwoThreads<'x, R> {
-    rt: &'x R,
-}
-
-impl<'x, R: Threads> Beside for TwoThreads<'x, R> {
-    fn both<F: FnMut() -> A + Send, G: FnMut() -> B, A: Send, B>(
-        &self,
-        first: &mut F,
-        second: &mut G,
-    ) -> (A, B) {
-        join_mut(self.rt, first, second)
-    }
-}
 
 // Work that is done during a run. After a thread's scope, a reference is known only by what comes back from the scope,
 // by this trait.
@@ -190,13 +174,12 @@ pub(crate) fn talk_beside<
 {
     let alloc = rt.alloc();
     let mut asked = asked;
-    let host = TwoThreads { rt };
     call_beside(
         rt,
         nodes,
         disks,
         clients,
         post,
-        &mut || talk(alloc, nodes, json, strict, &mut asked, &host, input, out),
+        &mut || talk(alloc, nodes, json, strict, &mut asked, rt, input, out),
     )
 }

@@ -1,7 +1,8 @@
 //! The nodes that a shell asks, through its post.
 
-ghost use Rattle.std.specs.Prelude.{◌≡◌, ◌<◌, true, IfOk, OnOk};
+ghost use Rattle.std.specs.Prelude.{◌≡◌, ◌<◌, ◌++◌, true, IfOk, IfSome, OnOk};
 ghost use Rattle.rr_talk.specs.Talks.{is_outcome_at, IsOf, IsKept, IsSyncBy};
+ghost use Rattle.rr_talk.specs.Watches.{bytes_of, IsPiece};
 ghost use Rattle.rr_run.specs.Ears.{heard_by};
 
 use crate::news::{Ear, next_changes};
@@ -70,6 +71,17 @@ fn kept_behind(command: &Command, outcome: &Outcome) -> Option<Command>
     match outcome {
         Outcome::Answered(Answer::Unacknowledged { .. }) => Some(*command),
         _ => None,
+    }
+}
+
+// The changes that are heard next, of the names that begin so.
+fn next_heard(ear: &mut Option<Ear>, prefix: &Option<Name>) -> Option<Vec<Change>>
+    ensures more { IfSome result (λ changes. heard_by ear.new ≡ heard_by ear.old ++ changes.items) }
+    ensures piece { IfSome result (λ changes. IsPiece (bytes_of prefix.now) (heard_by ear.new)) }
+{
+    match ear {
+        Some(ear) => next_changes(&mut ear.news, prefix),
+        None => None,
     }
 }
 
@@ -235,7 +247,7 @@ impl<
     }
 
     fn changes(&mut self, prefix: &Option<Name>) -> Result<Option<Vec<Change>>, Refusal> {
-        let Some(ear) = &mut self.ear else {
+        let Some(ear) = &self.ear else {
             return Ok(None);
         };
         let node = ear.node;
@@ -243,7 +255,7 @@ impl<
         if !matches!(told, Told::Changed(true)) {
             return Ok(None);
         }
-        Ok(next_changes(&mut ear.news, prefix))
+        Ok(next_heard(&mut self.ear, prefix))
     }
 
     fn rest(&mut self) {

@@ -90,14 +90,14 @@ impl<W: WindowName> Watcher<W> {
             Err(Refusal::OutOfMemory) => return Err(Refusal::OutOfMemory),
             Err(_) => return Ok(None),
         };
-        if news.push(News { prefix, changes }).is_err() {
-            return Ok(None);
+        match news.push(News { prefix, changes }) {
+            Ok(()) => Ok(Some(Watcher {
+                prefix,
+                begun,
+                reached,
+                news,
+            })),
+            Err(_) => Ok(None),
         }
-        Ok(Some(Watcher {
-            prefix,
-            begun,
-            reached,
-            news,
-        }))
     }
 }

@@ -10,12 +10,13 @@ use crate::answering::{Asked, Hint};
 use crate::hearing::{Heard, hear};
 use crate::prompting::Prompting;
 use crate::saying::{Said, faulted, said_to_request};
-use crate::watching::{Beside, Watched, watch_and_hear};
+use crate::watching::{Watched, watch_and_hear};
 use rr_shell::{LineFault, Trouble, read_shell_line};
 use rr_stream::{Sink, print_all};
 use rr_types::{NodeId, Nodes, Refusal};
 use std::alloc::Global;
 use std::io;
+use std::thread::Threads;
 
 /// Why a talk is broken off.
 #[derive(Debug)]
@@ -97,13 +98,13 @@ fn show_hint<I: Prompting>(alloc: Global, input: &mut I, hint: Hint)
 }
 
 // Hears the next line. Until then what is watched is shown.
-fn hear_next<I: Prompting, O: Sink + Send, A: Asked + Send, H: Beside>(
+fn hear_next<I: Prompting, O: Sink + Send, A: Asked + Send, R: Threads>(
     alloc: Global,
     json: bool,
     node: NodeId,
     watched: Option<Watched>,
     asked: &mut A,
-    host: &H,
+    rt: &R,
     input: &mut I,
     out: &mut O,
 ) -> Result<Heard, Stop>
@@ -112,7 +113,7 @@ fn hear_next<I: Prompting, O: Sink + Send, A: Asked + Send, H: Beside>(
     ensures front { OnErr result (IsFrontSaid (O.printing out.old) (O.printing out.new)) }
 {
     match &watched {
-        Some(watched) => watch_and_hear(alloc, json, node, watched, asked, host, input, out),
+        Some(watched) => watch_and_hear(alloc, json, node, watched, asked, rt, input, out),
         None => {
             input.prompt();
             match hear(alloc, input) {
@@ -124,21 +125,21 @@ fn hear_next<I: Prompting, O: Sink + Send, A: Asked + Send, H: Beside>(
 }
 
 // Hears a line and says what there is to say to it, where this node is asked and this is watched until then. None: the talk is over.
-fn take_turn<I: Prompting, O: Sink + Send, A: Asked + Send, H: Beside>(
+fn take_turn<I: Prompting, O: Sink + Send, A: Asked + Send, R: Threads>(
     alloc: Global,
     json: bool,
     nodes: Nodes,
     node: NodeId,
     watched: Option<Watched>,
     asked: &mut A,
-    host: &H,
+    rt: &R,
     input: &mut I,
     out: &mut O,
 ) -> Result<Option<Turn>, Stop>
     ensures turn { IfOk result (IsTurn json nodes node watched (I.reading input.old) (I.reading input.new) (O.printing out.old) (O.printing out.new)) }
     ensures front { OnErr result (IsFrontSaid (O.printing out.old) (O.printing out.new)) }
 {
-    let heard = hear_next(alloc, json, node, watched, asked, host, input, out)?;
+    let heard = hear_next(alloc, json, node, watched, asked, rt, input, out)?;
     let said = match said_to(alloc, json, nodes, node, asked, &heard) {
         Ok(Some(said)) => said,
         Ok(None) => return Ok(None),
@@ -182,19 +183,19 @@ fn ending_trouble(strict: bool, trouble: Option<Trouble>) -> Option<Trouble>
 
 /// Waits until the nodes can be asked. Then it hears line after line, each behind a prompt where somebody types, and says to each
 /// what there is to say, in words or with JSON, before it hears the next. Behind a line that asks for a watch it says what changes
-/// while the next line is heard, beside that by the host. It ends with a line that asks for that, or with the
+/// while the next line is heard, in a thread of its own. It ends with a line that asks for that, or with the
 /// input. Strict, it also ends behind the first line that isn't answered as it asked, and tells why. Node 0 is asked first.
 ///
 /// # Errors
 /// `Refused`: what `asked` refuses with, or `OutOfMemory`; `Unread` and `Unprinted`: those of the streams. By then a front of
 /// one more line may have been said.
-pub fn talk<I: Prompting, O: Sink + Send, A: Asked + Send, H: Beside>(
+pub fn talk<I: Prompting, O: Sink + Send, A: Asked + Send, R: Threads>(
     alloc: Global,
     nodes: Nodes,
     json: bool,
     strict: bool,
     asked: &mut A,
-    host: &H,
+    rt: &R,
     input: &mut I,
     out: &mut O,
 ) -> Result<Option<Trouble>, Stop>
@@ -207,7 +208,7 @@ pub fn talk<I: Prompting, O: Sink + Send, A: Asked + Send, H: Beside>(
     let mut watched = None;
     'turns: for _ in 0..u64::MAX {
         match take_turn(
-            alloc, json, nodes, node, watched, asked, host, input, out,
+            alloc, json, nodes, node, watched, asked, rt, input, out,
         )? {
             None => return Ok(None),
             Some(turn) => {

@@ -18,23 +18,12 @@ use rr_window::Change;
 use std::alloc::{AllocError, Global};
 use std::io;
 use std::sync::atomic::{AtomicBool, Ordering};
+use std::thread::{Threads, join_mut};
 
 /// What is watched: the names that begin so, or all.
 #[derive(Clone, Copy, Debug)]
 pub struct Watched {
     pub prefix: Option<Name>,
-}
-
-/// A host that does two works at the same time.
-pub trait Beside {
-    /// Does both works, the first beside the second. Where it can't, it does the first behind the second.
-    fn both<F: FnMut() -> A + Send, G: FnMut() -> B, A: Send, B>(
-        &self,
-        first: &mut F,
-        second: &mut G,
-    ) -> (A, B)
-        requires { F.pre first.old × G.pre second.old }
-        ensures { F.step first.old result.0 first.new × G.step second.old result.1 second.new };
 }
 
 // Appends what is said of a change.
@@ -174,13 +163,13 @@ fn hear_and_tell<I: Source>(
     heard
 }
 
-// Hears the next line. Beside that the changes are said.
-fn hear_beside<I: Prompting, O: Sink + Send, A: Asked + Send, H: Beside>(
+// Hears the next line. Beside that the changes are said, in a thread of their own; where none can be made, they are said then.
+fn hear_beside<I: Prompting, O: Sink + Send, A: Asked + Send, R: Threads>(
     alloc: Global,
     json: bool,
     prefix: &Option<Name>,
     asked: &mut A,
-    host: &H,
+    rt: &R,
     input: &mut I,
     out: &mut O,
 ) -> Result<Heard, Stop>
@@ -190,7 +179,8 @@ fn hear_beside<I: Prompting, O: Sink + Send, A: Asked + Send, H: Beside>(
     ensures front { IsFrontSaid (O.printing out.old) (O.printing out.new) }
 {
     let is_heard = AtomicBool::new(false);
-    let (shown, heard) = host.both(
+    let (shown, heard) = join_mut(
+        rt,
         &mut ||
             requires { A.told asked.now ≡ [] }
         { show_changes(alloc, json, prefix, asked, out, &is_heard) },
@@ -204,13 +194,13 @@ fn hear_beside<I: Prompting, O: Sink + Send, A: Asked + Send, H: Beside>(
 }
 
 /// Begins a watch at a node, says so, and hears the next line. Beside that the changes are said.
-pub(crate) fn watch_and_hear<I: Prompting, O: Sink + Send, A: Asked + Send, H: Beside>(
+pub(crate) fn watch_and_hear<I: Prompting, O: Sink + Send, A: Asked + Send, R: Threads>(
     alloc: Global,
     json: bool,
     node: NodeId,
     watched: &Watched,
     asked: &mut A,
-    host: &H,
+    rt: &R,
     input: &mut I,
     out: &mut O,
 ) -> Result<Heard, Stop>
@@ -223,5 +213,5 @@ pub(crate) fn watch_and_hear<I: Prompting, O: Sink + Send, A: Asked + Send, H: B
     }
     print_watching(alloc, json, out)?;
     input.prompt();
-    hear_beside(alloc, json, &watched.prefix, asked, host, input, out)
+    hear_beside(alloc, json, &watched.prefix, asked, rt, input, out)
 }
