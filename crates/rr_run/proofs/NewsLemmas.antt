@@ -1,13 +1,12 @@
 -- A watch goes on: what was told before and what is told now are the changes of one piece of a list.
-use Rattle.std.proofs.Common.{◌≡◌, ◌∙◌, ℕ, List, [], ◌∷◌, ◌++◌, length, drop, refl, ap, ap₂, sym, subst, append_assoc}
+use Rattle.std.proofs.Common.{◌≡◌, ◌∙◌, ℕ, List, [], ◌∷◌, ◌++◌, length, drop, refl, ap, ap₂, sym, append_assoc}
 use Rattle.std.proofs.lemmas.List.{append-nil}
 use Rattle.std.proofs.lemmas.List.Concat.{flat_map-append}
-use Rattle.std.specs.List.{flat_map}
 use Rattle.rr_types.specs.declared.command.Command.{Command}
 use Rattle.rr_window.specs.declared.change.Change.{Change}
 use Rattle.rr_window.specs.Changes.{change_of, told, changes_with}
 use Rattle.rr_window.specs.Watches.{IsWatched}
-use Rattle.rr_talk.specs.Watches.{bytes_of, IsPiece}
+use Rattle.rr_talk.specs.Watches.{IsPiece}
 use Rattle.rr_run.specs.declared.news.News.{News}
 use Rattle.rr_run.specs.News.{told_by}
 

@@ -1,5 +1,5 @@
 -- What was told of a watch.
-use Rattle.std.specs.Prelude.{List, [], Option, None, Some}
+use Rattle.std.specs.Prelude.{List}
 use Rattle.std.specs.List.{flat_map}
 use Rattle.rr_window.specs.declared.change.Change.{Change}
 use Rattle.rr_run.specs.declared.news.News.{News}

@@ -47,6 +47,8 @@ pub fn execute<
     O: Sink + Send,
     E: Write,
 >(rt: &R, words: &[S], files: &mut L, input: &mut I, out: &mut O, err: &mut E) -> u8
+where
+    R::Dir: Send,
     ensures ends { EndsWithThreads (faults_of (map S.text words.now)) (task_of (map S.text words.now))
         (record { input = I.reading input.old; files = L.held files.old }) (record { input = I.reading input.new; files = L.held files.new }) result (O.printing out.old) (O.printing out.new) }
     ensures quiet { result ≡ 0 → IsQuiet (faults_of (map S.text words.now)) (task_of (map S.text words.now)) (record { input = I.reading input.old; files = L.held files.old })
@@ -99,6 +101,8 @@ pub fn run<
     out: &mut O,
     err: &mut E,
 ) -> u8
+where
+    R::Dir: Send,
     ensures ends { IfOk words (λ words. EndsWithThreads (faults_of (map string_bytes words.items)) (task_of (map string_bytes words.items))
         (record { input = I.reading input.old; files = L.held files.old }) (record { input = I.reading input.new; files = L.held files.new }) result (O.printing out.old) (O.printing out.new)) }
     ensures memory { IfErr words (λ error. error_kind error ≡ ErrorKind.OutOfMemory → result ≡ 6) }

@@ -87,6 +87,8 @@ fn shell_in<
     out: &mut O,
     err: &mut E,
 ) -> u8
+where
+    R::Dir: Send,
     ensures ends { EndsOnShell json strict nodes (I.reading input.old) (I.reading input.new) result (O.printing out.old) (O.printing out.new) }
     ensures quiet { result ≡ 0 → Keeps (E.contents err.old) (E.contents err.new) }
 {
@@ -173,6 +175,8 @@ fn shell_over<
     out: &mut O,
     err: &mut E,
 ) -> u8
+where
+    R::Dir: Send,
     ensures ends { EndsOnShell json strict nodes (I.reading input.old) (I.reading input.new) result (O.printing out.old) (O.printing out.new) }
     ensures quiet { result ≡ 0 → Keeps (E.contents err.old) (E.contents err.new) }
 {
@@ -215,6 +219,8 @@ fn shell_by_lines<
     out: &mut O,
     err: &mut E,
 ) -> u8
+where
+    R::Dir: Send,
     ensures ends { EndsOnLines json strict nodes (map (λ s. s.now) lines.now) result (O.printing out.old) (O.printing out.new) }
     ensures quiet { result ≡ 0 → Keeps (E.contents err.old) (E.contents err.new) }
 {
@@ -247,6 +253,8 @@ pub(crate) fn shell_by_words<
     O: Sink + Send,
     E: Write,
 >(rt: &R, words: &ShellWords<'_>, input: &mut I, out: &mut O, err: &mut E) -> u8
+where
+    R::Dir: Send,
     ensures ends { EndsOnShellWords (shell_words_in words.now) (I.reading input.old) (I.reading input.new) result (O.printing out.old) (O.printing out.new) }
     ensures quiet { result ≡ 0 → Keeps (E.contents err.old) (E.contents err.new) }
 {
