@@ -16,8 +16,8 @@ pub use listing::{Listing, is_listing_at};
 pub use outcome::{Outcome, push_used_text};
 pub use said_text::{
     say_answer, say_changed, say_down, say_fault, say_freed, say_help, say_late, say_listing,
-    say_move, say_no_snapshot, say_outcome, say_snapshot, say_start, say_status, say_stop, say_sync,
-    say_watching,
+    say_move, say_no_snapshot, say_outcome, say_snapshot, say_start, say_status, say_stop,
+    say_sync, say_watching,
 };
 pub use shell_line::{LineFault, MAX_LINE, ShellLine};
 pub use status::{NodeStatus, is_nearly_full, left_behind};

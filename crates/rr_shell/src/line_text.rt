@@ -158,10 +158,7 @@ pub fn push_freed(out: &mut Vec<u8>, name: &Name) -> Result<(), AllocError>
 pub(crate) fn push_late_text(out: &mut Vec<u8>) -> Result<(), AllocError>
     ensures ok { OnOk result (out.new.items ≡ out.old.items ++ late_text) }
 {
-    push_bytes(
-        out,
-        b"changes were missed: list the names, and watch again",
-    )
+    push_bytes(out, b"changes were missed: list the names, and watch again")
 }
 
 /// Appends the line that a watch is over, as changes were missed.
