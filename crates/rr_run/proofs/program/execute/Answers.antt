@@ -1,4 +1,4 @@
-use Rattle.std.proofs.Common.{◌≡◌, ◌∙◌, List, Bool, Option, None, Some, [], option_map, refl, Bor, ℕ, sym, ap, subst, map, inl, inr}
+use Rattle.std.proofs.Common.{◌≡◌, ◌∙◌, List, Option, None, Some, [], option_map, refl, Bor, ℕ, sym, ap, subst, map, inl, inr}
 use Rattle.clap.specs.Words.{Text, kind_of}
 use Rattle.clap.specs.Kinds.{Kinds, IsAmong}
 use Rattle.clap.specs.declared.error.kind.ErrorKind.{ErrorKind}

@@ -1,4 +1,4 @@
-use Rattle.std.proofs.Common.{◌≡◌, ℕ, Bool, true, false, List, codes, option_map, Option, refl}
+use Rattle.std.proofs.Common.{◌≡◌, ℕ, true, false, List, codes, option_map, Option, refl}
 use Rattle.std.specs.Str.{bytes_eq}
 use Rattle.clap.specs.Words.{Text}
 use Rattle.rr_stream.specs.Streams.{Printing}
