@@ -34,14 +34,15 @@ TOUR = [
         "`rr shell` answers line by line, to a person or through a pipe. What it answered holds after a restart, and request numbers continue. "
         "A look answers from what its node has seen, which may be less than another node has acknowledged; behind a `sync` it has all of that. "
         "A node that is stopped goes down as by a crash, and opens its folder when it is started. Without a majority nothing is decided: the "
-        "command `claim bell` may count later, or not. A `watch` tells each change of the names that begin so, as its node publishes it.",
+        "command `claim bell` may count later, or not. A `watch` tells each change of the names that begin so, as its node publishes it: "
+        "here the command counts once a majority is back.",
         [
             "printf 'claim printer room-4\\nlook printer\\nupdate printer room-5\\nat 1\\nclaim printer\\nclaim A\\n' | rr shell --nodes 3 --dir talk --client 7",
             "printf 'look printer\\ntransfer printer 9\\nrelease printer\\n' | rr shell --nodes 3 --dir talk --client 7; cat talk/requests",
             "printf 'claim room-5 desk\\nclaim room-12\\nlist room-\\nlist\\n' | rr shell --nodes 3 --dir talk --client 7",
             "printf 'stop 2\\nclaim lamp hall\\nat 2\\nlook lamp\\nstart 2\\nclaim desk\\nlook lamp\\n' | rr shell --nodes 3 --dir talk --client 7",
             "printf 'claim key hook\\nat 2\\nsync\\nlook key\\n' | rr shell --nodes 3 --dir talk --client 8",
-            "(echo 'stop 1'; seq -f 'claim door-%g' 300; printf 'claim lamp-2 hall\\nrelease lamp-2\\nstart 1\\nat 1\\nwatch lamp-\\n'; sleep 5) | rr shell --nodes 3 --dir watched --client 7 | tail -3",
+            "(printf 'stop 1\\nstop 2\\nclaim cord rope\\nstart 1\\nwatch co\\n'; sleep 15) | rr shell --nodes 3 --dir watched --client 7 --tick 400",
             "printf 'stop 1\\nstop 2\\nstatus\\nclaim bell\\nlook lamp\\nstart 1\\nclaim clock\\n' | rr shell --nodes 3 --dir talk --client 7 --tick 20 | sed 's/ facts.*//'",
             "printf 'look lamp\\nclaim lamp\\nclaim LAMP\\n' | rr shell --nodes 3 --dir talk --client 8 --json",
             "echo 'snapshot 0' | rr shell --nodes 3 --dir talk; rr show talk/0 | sed 's/ facts.*//'",
