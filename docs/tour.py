@@ -100,7 +100,7 @@ TOUR = [
             "rr audit --explain examples/three_clients.tape | head -9",
             "rr audit --explain --json examples/three_clients.tape | head -2",
             "rr stats examples/three_clients.tape",
-            "rr draw examples/three_clients.tape | grep -o '<title>[^<]*' | head -3",
+            "rr draw examples/three_clients.tape | grep -o '<title>[^<]*' | sed -n 1,3p",
             "sed 3d examples/one_command.tape | rr stats",
             "sed '8s/hear/here/' examples/three_clients.tape | rr draw",
             "printf 'nodes 1\\ntick 0\\n' | rr stats --tape | head -2",
@@ -172,7 +172,7 @@ TOUR = [
         "`rr sweep` crashes a node after each device call, in five ways. `rr draw` prints a picture; here are the first two of its titles.",
         [
             "rr sweep --seed 0 examples/one_command.schedule | grep '^40 '",
-            "rr draw examples/suspected_coordinator.schedule | grep -o '<title>[^<]*' | head -2",
+            "rr draw examples/suspected_coordinator.schedule | grep -o '<title>[^<]*' | sed -n 1,2p",
             "rr draw --from 9 --to 8 examples/suspected_coordinator.schedule",
             "rr draw --html examples/suspected_coordinator.schedule > run.html; sed 2q run.html; grep -c '<title>line' run.html",
         ],
