@@ -157,7 +157,10 @@ fn no_name_is_bound_behind_the_last(rt: HostRuntime) {
     assert_quiet(&rt, alloc, &mut node, NodeEvent::Told(Input::Submit(last)));
     match node.step(alloc, &NodeEvent::Acknowledge) {
         Ok(Outcome::Replied(request, reply)) => {
-            assert!(rt; request.seq == 4096 && reply == Reply::Full, "another reply")
+            assert!(rt;
+                request.seq == 4096 && reply == Reply::Full,
+                "another reply"
+            )
         }
         _ => assert!(rt; false, "no reply"),
     }

@@ -98,9 +98,27 @@ fn assert_applied(
 #[test]
 fn updates_and_releases(rt: HostRuntime) {
     let registry = &mut Registry::new(rt.alloc());
-    assert_applied(&rt, registry, (7, 1), claim(&rt, b"a", b"x"), Reply::Claimed);
-    assert_applied(&rt, registry, (8, 1), update(&rt, b"a", b"y"), Reply::NotOwner);
-    assert_applied(&rt, registry, (7, 2), update(&rt, b"a", b"z"), Reply::Updated);
+    assert_applied(
+        &rt,
+        registry,
+        (7, 1),
+        claim(&rt, b"a", b"x"),
+        Reply::Claimed,
+    );
+    assert_applied(
+        &rt,
+        registry,
+        (8, 1),
+        update(&rt, b"a", b"y"),
+        Reply::NotOwner,
+    );
+    assert_applied(
+        &rt,
+        registry,
+        (7, 2),
+        update(&rt, b"a", b"z"),
+        Reply::Updated,
+    );
     assert_applied(&rt, registry, (8, 2), release(&rt, b"a"), Reply::NotOwner);
     assert_applied(&rt, registry, (7, 3), release(&rt, b"a"), Reply::Released);
     assert_applied(&rt, registry, (8, 3), release(&rt, b"a"), Reply::Unknown);
@@ -111,11 +129,41 @@ fn updates_and_releases(rt: HostRuntime) {
 #[test]
 fn transfers(rt: HostRuntime) {
     let registry = &mut Registry::new(rt.alloc());
-    assert_applied(&rt, registry, (7, 1), claim(&rt, b"a", b"x"), Reply::Claimed);
-    assert_applied(&rt, registry, (7, 2), transfer(&rt, b"a", 9), Reply::Transferred);
-    assert_applied(&rt, registry, (7, 3), update(&rt, b"a", b"z"), Reply::NotOwner);
-    assert_applied(&rt, registry, (9, 1), update(&rt, b"a", b"z"), Reply::Updated);
-    assert_applied(&rt, registry, (9, 2), transfer(&rt, b"b", 7), Reply::Unknown);
+    assert_applied(
+        &rt,
+        registry,
+        (7, 1),
+        claim(&rt, b"a", b"x"),
+        Reply::Claimed,
+    );
+    assert_applied(
+        &rt,
+        registry,
+        (7, 2),
+        transfer(&rt, b"a", 9),
+        Reply::Transferred,
+    );
+    assert_applied(
+        &rt,
+        registry,
+        (7, 3),
+        update(&rt, b"a", b"z"),
+        Reply::NotOwner,
+    );
+    assert_applied(
+        &rt,
+        registry,
+        (9, 1),
+        update(&rt, b"a", b"z"),
+        Reply::Updated,
+    );
+    assert_applied(
+        &rt,
+        registry,
+        (9, 2),
+        transfer(&rt, b"b", 7),
+        Reply::Unknown,
+    );
     assert_one_entry(&rt, registry, b"a", 9, b"z");
 }
 

@@ -48,13 +48,7 @@ fn switched(rt: &impl Abort, alloc: Global, slots: &mut Journal<MemDisk>, promis
 }
 
 /// The disk behind a switch from one of its areas to the other.
-fn switched_over(
-    rt: &impl Abort,
-    alloc: Global,
-    disk: MemDisk,
-    from: Area,
-    to: Area,
-) -> MemDisk {
+fn switched_over(rt: &impl Abort, alloc: Global, disk: MemDisk, from: Area, to: Area) -> MemDisk {
     let (mut slots, promise) = opened(rt, alloc, disk);
     assert!(rt; slots.area() == from);
     switched(rt, alloc, &mut slots, promise);
@@ -69,6 +63,20 @@ fn a_switch_takes_six_calls(rt: HostRuntime) {
     let disk = switched_over(&rt, alloc, disk, Area::First, Area::Second);
     let mut disk = switched_over(&rt, alloc, disk, Area::Second, Area::First);
     // The epochs.
-    assert_reads(&rt, alloc, &mut disk, Area::First, 8, &[0, 0, 0, 0, 0, 0, 0, 3]);
-    assert_reads(&rt, alloc, &mut disk, Area::Second, 8, &[0, 0, 0, 0, 0, 0, 0, 2]);
+    assert_reads(
+        &rt,
+        alloc,
+        &mut disk,
+        Area::First,
+        8,
+        &[0, 0, 0, 0, 0, 0, 0, 3],
+    );
+    assert_reads(
+        &rt,
+        alloc,
+        &mut disk,
+        Area::Second,
+        8,
+        &[0, 0, 0, 0, 0, 0, 0, 2],
+    );
 }

@@ -151,7 +151,10 @@ fn assert_suspected(rt: &impl Abort, event: &Event) {
 fn assert_crashed(rt: &impl Abort, event: &Event) {
     match event {
         Event::Crash {
-            cut_0, cut_1, fill, ..
+            cut_0,
+            cut_1,
+            fill,
+            ..
         } => {
             assert!(rt; *cut_0 == 3 && *cut_1 == 4);
             assert!(rt; fill.as_bytes() == [0xA5u8, 0x0F].as_slice());

@@ -166,9 +166,7 @@ fn the_millionth_event_is_the_last(rt: HostRuntime) {
 /// Asserts that an event is that node 1 hears the message with number 5.
 fn assert_heard(rt: &impl Abort, event: &TapeEvent) {
     match event {
-        TapeEvent::Hear { node, message } => {
-            assert!(rt; node.index() == 1 && *message == 5)
-        }
+        TapeEvent::Hear { node, message } => { assert!(rt; node.index() == 1 && *message == 5) }
         _ => rt.panic("another event"),
     }
 }
