@@ -190,12 +190,13 @@ Examples:
 pub(crate) fn shell<'a>() -> &'a str {
     "\
 Each line of standard input is a command, which is answered before the next is read: `claim NAME [VALUE]`,
-`update NAME [VALUE]`, `release NAME`, `transfer NAME OWNER`, `look NAME`, `list [PREFIX]`, `sync`, `at NODE`,
-`stop NODE`, `start NODE`, `snapshot NODE`, `status`, `again`, `help`, `quit` or `exit`. One space divides words. Node 0
+`update NAME [VALUE]`, `release NAME`, `transfer NAME OWNER`, `look NAME`, `list [PREFIX]`, `watch [PREFIX]`, `sync`,
+`at NODE`, `stop NODE`, `start NODE`, `snapshot NODE`, `status`, `again`, `help`, `quit` or `exit`. One space divides words. Node 0
 is asked first, and from `at NODE` on that node. The answers are `claimed`, `updated`, `released`, `transferred`, `taken OWNER`,
 `unknown`, `notowner`, `full`, `unacknowledged` or `full list: ` and a text; to a look `NAME free`,
 `NAME bound OWNER VALUE` or `NAME unseen`; to a list `list COUNT` and a line as a look's for each bound name that begins
-with PREFIX; to a sync `synced`; to a status a line for each node; else `error: ` and what is expected. With --json each
+with PREFIX; to a watch `watching`, and until the next line `changed NAME bound OWNER VALUE` or `freed NAME` for each change of
+these names; to a sync `synced`; to a status a line for each node; else `error: ` and what is expected. With --json each
 of these lines is an object of JSON. A look or a list answers from what the node that is asked has seen. Behind `synced`
 it has all that was acknowledged at any node before that line was read. `again` asks the last command that was unacknowledged once more, under its request number, so that it
 counts once. A node that is stopped goes down as by a crash, and opens its folder when it is started. Each node runs in
