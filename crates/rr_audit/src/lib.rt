@@ -15,12 +15,19 @@
 //! /// Prints what an audit of a tape's text finds.
 //! pub fn print_audit(rt: &HostRuntime, text: &[u8]) -> io::Result<()> {
 //!     match audit_text(rt.alloc(), text) {
-//!         Ok(Verdict::Yes(count)) => println!(rt; "nodes can do these {count} events"),
-//!         Ok(Verdict::No(number, node, _)) => {
+//!         Ok(verdict) => print_verdict(rt, verdict),
+//!         Err(refusal) => println!(rt; "{refusal}"),
+//!     }
+//! }
+//!
+//! /// Prints a verdict.
+//! fn print_verdict(rt: &HostRuntime, verdict: Verdict) -> io::Result<()> {
+//!     match verdict {
+//!         Verdict::Yes(count) => println!(rt; "nodes can do these {count} events"),
+//!         Verdict::No(number, node, _) => {
 //!             let index = node.index();
 //!             println!(rt; "event {number} isn't what node {index} does next")
 //!         }
-//!         Err(refusal) => println!(rt; "{refusal}"),
 //!     }
 //! }
 //!
