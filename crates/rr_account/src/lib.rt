@@ -2,6 +2,23 @@
 //! from a schedule, `account_of_tape` from a tape. `explanation`, `json_report` and `json_explanation` print it. `statistics_of` counts, for
 //! `statistics_table` or `json_statistics`. `difference_of` says where two texts first differ, and `push_difference` tells it
 //! in words.
+//!
+//! # Example
+//!
+//! This is in `crates/first_pages/src/account.rt`:
+//!
+//! ```rust
+//! use rr_account::{account_on, explanation};
+//! use rr_stream::Sink;
+//! use rr_types::Refusal;
+//! use std::alloc::Global;
+//!
+//! /// What came of each event of a schedule, in words. The sink is told how far the run is.
+//! pub fn told<O: Sink>(alloc: Global, text: &[u8], progress: &mut O) -> Result<Vec<u8>, Refusal> {
+//!     let account = account_on(alloc, text, progress)?;
+//!     explanation(alloc, &account)
+//! }
+//! ```
 #![tactic(auto)]
 
 mod account;

@@ -3,6 +3,34 @@
 //! `execute_with_views` does so with views of the run of a schedule too: `rr sim --explain`, `--json` and `--finish`, `rr stats`,
 //! `rr check`; and with those of a tape: `rr audit --explain`, `rr stats`. A text that is a schedule or a tape is told by itself
 //! (`recognising`).
+//!
+//! # Example
+//!
+//! This is in `crates/many_answers/src/answering.rt`:
+//!
+//! ```rust
+//! /// What `rr` gives by these words with these bytes on standard input.
+//! fn run<R: Files + AllocGlobal>(rt: &R, words: &[&str], input: &[u8]) -> Answer
+//! where
+//!     R::File: FileExt,
+//! {
+//!     let mut out = Counted::new(Vec::new(rt.alloc()));
+//!     let mut err = Vec::new(rt.alloc());
+//!     let status = execute(
+//!         rt,
+//!         words,
+//!         &mut HostFiles::new(rt),
+//!         &mut Counted::new(input),
+//!         &mut out,
+//!         &mut err,
+//!     );
+//!     Answer {
+//!         status,
+//!         out: out.into_inner(),
+//!         err,
+//!     }
+//! }
+//! ```
 #![tactic(auto)]
 
 mod area_objects;

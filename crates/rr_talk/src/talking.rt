@@ -207,9 +207,7 @@ pub fn talk<I: Prompting, O: Sink + Send, A: Asked + Send, R: Threads>(
     let mut node = first_node(nodes);
     let mut watched = None;
     'turns: for _ in 0..u64::MAX {
-        match take_turn(
-            alloc, json, nodes, node, watched, asked, rt, input, out,
-        )? {
+        match take_turn(alloc, json, nodes, node, watched, asked, rt, input, out)? {
             None => return Ok(None),
             Some(turn) => {
                 let Turn {
