@@ -4,7 +4,7 @@
     docs/api.py FOLDER     makes FOLDER/index.html, and two pages for each crate rr_*, in seconds
     docs/api.py --check    makes no file; the status is 1 where a public item has no doc comment, or a link has no end
 
-Public is what `pub use` and `pub mod` of a crate's lib.rt lead to. The sources are read by the layout that `rt fmt` gives
+Public is what `pub use` and `pub mod` of a crate's lib.rt lead to, and what is public in lib.rt itself. The sources are read by the layout that `rt fmt` gives
 them. A name in a contract leads to its definition by the file's own `ghost use` lines. Names of std and of the kit's crates
 have no page here, and lead nowhere."""
 import html
@@ -23,7 +23,7 @@ STYLE = """
 @media (prefers-color-scheme: dark) { :root { --back: #15181c; --text: #e4e6ea; --dim: #99a2ad; --line: #31363d; --box: #1d2126;
   --link: #7cb7ff; --word: #f08fc4; --mark: #4a4115; } }
 * { box-sizing: border-box; }
-body { margin: 0 auto; max-width: 66rem; padding: 1rem 1.25rem 6rem; background: var(--back); color: var(--text);
+body { margin: 0 auto; max-width: 70rem; padding: 1rem 1.25rem 6rem; background: var(--back); color: var(--text);
   font: 16px/1.5 system-ui, sans-serif; overflow-wrap: break-word; }
 a { color: var(--link); text-decoration: none; }
 a:hover { text-decoration: underline; }
@@ -168,6 +168,9 @@ class Crate:
             for item in self.modules[module]:
                 if item.is_public:
                     self.public[f"{module}::{item.name}"] = item
+        for item in self.modules["lib"]:
+            if item.is_public and item.kind != "impl":
+                self.public[item.name] = item
 
     def make_public(self, module, name):
         items = [item for item in self.modules.get(module.rpartition("::")[2], []) if item.name == name and item.kind != "impl"]

@@ -34,19 +34,22 @@ TOUR = [
         "`rr shell` answers line by line, to a person or through a pipe. What it answered holds after a restart, and request numbers continue. "
         "A look answers from what its node has seen, which may be less than another node has acknowledged; behind a `sync` it has all of that. "
         "A node that is stopped goes down as by a crash, and opens its folder when it is started. Without a majority nothing is decided: the "
-        "command `claim bell` may count later, or not.",
+        "command `claim bell` may count later, or not. A `watch` tells each change of the names that begin so, as its node publishes it: "
+        "here the command counts once a majority is back.",
         [
             "printf 'claim printer room-4\\nlook printer\\nupdate printer room-5\\nat 1\\nclaim printer\\nclaim A\\n' | rr shell --nodes 3 --dir talk --client 7",
             "printf 'look printer\\ntransfer printer 9\\nrelease printer\\n' | rr shell --nodes 3 --dir talk --client 7; cat talk/requests",
             "printf 'claim room-5 desk\\nclaim room-12\\nlist room-\\nlist\\n' | rr shell --nodes 3 --dir talk --client 7",
             "printf 'stop 2\\nclaim lamp hall\\nat 2\\nlook lamp\\nstart 2\\nclaim desk\\nlook lamp\\n' | rr shell --nodes 3 --dir talk --client 7",
             "printf 'claim key hook\\nat 2\\nsync\\nlook key\\n' | rr shell --nodes 3 --dir talk --client 8",
+            "(printf 'stop 1\\nstop 2\\nclaim cord rope\\nstart 1\\nwatch co\\n'; sleep 15) | rr shell --nodes 3 --dir watched --client 7 --tick 400",
             "printf 'stop 1\\nstop 2\\nstatus\\nclaim bell\\nlook lamp\\nstart 1\\nclaim clock\\n' | rr shell --nodes 3 --dir talk --client 7 --tick 20 | sed 's/ facts.*//'",
             "printf 'look lamp\\nclaim lamp\\nclaim LAMP\\n' | rr shell --nodes 3 --dir talk --client 8 --json",
             "echo 'snapshot 0' | rr shell --nodes 3 --dir talk; rr show talk/0 | sed 's/ facts.*//'",
             "printf 104857 > talk/requests; echo 'look printer' | rr shell --nodes 3 --dir talk",
             "rr shell -c 'claim printer room-4' -c 'look printer'; ls rr-data",
             "rr shell --strict -c 'claim printer' -c 'look printer'",
+            "printf 'look printer\\r\\nclaim a.b\\nclaim a_b\\nexit\\nlook printer\\n' | rr shell",
             "printf 'stop 0\\nat 1\\nstop 2\\nclaim bell\\nstart 2\\nagain\\n' | rr shell",
         ],
     ),
@@ -78,13 +81,29 @@ TOUR = [
         "`rr run` runs nodes in threads. `rr show` reads the two files of a node's disk, `rr migrate` opens one of version 1, and `rr audit` reads a record of what nodes did.",
         [
             "rr run --nodes 3 --dir nodes --script examples/three_clients.script",
-            "mkdir node; bench/areas.py node 64; rr show node",
+            "printf 'submit 0 8 2 claim printer\\nlook 0 printer\\nlook 0 attic\\n' | rr run --nodes 3 --dir nodes --script - --json",
+            "mkdir node; bench/areas.py node 64; rr show node; rr show --json node",
             "printf '\\377' | dd of=node/a0 bs=1 seek=7 conv=notrunc status=none; rr show node",
             "cp -r examples/version_1 v1; rr show v1",
             "rr migrate v1 --node 0 --nodes 1",
             "rr audit examples/one_command.tape",
             "sed 3d examples/one_command.tape | rr audit",
+            "rr audit --json examples/one_command.tape; sed 3d examples/one_command.tape | rr audit --json 2> told",
             "echo 'submit 1 7 1 claim desk' | rr run --nodes 3 --dir nodes --script -",
+        ],
+    ),
+    (
+        "Tapes, explained, counted and drawn",
+        "`examples/three_clients.tape` is a tape of the script above. It is explained and counted as the run of a schedule is, and drawn: here "
+        "are the first titles of the picture.",
+        [
+            "rr audit --explain examples/three_clients.tape | head -9",
+            "rr audit --explain --json examples/three_clients.tape | head -2",
+            "rr stats examples/three_clients.tape",
+            "rr draw examples/three_clients.tape | grep -o '<title>[^<]*' | sed -n 1,3p",
+            "sed 3d examples/one_command.tape | rr stats",
+            "sed '8s/hear/here/' examples/three_clients.tape | rr draw",
+            "printf 'nodes 1\\ntick 0\\n' | rr stats --tape | head -2",
         ],
     ),
     (
@@ -93,6 +112,7 @@ TOUR = [
         "a new cluster goes on from it, also if a folder is lost.",
         [
             "rr verify nodes | sed 's/ facts.*//'",
+            "rr verify --json nodes | sed 's/,\"facts.*/}/'",
             "rr export nodes > claims.script; cat claims.script",
             "rr run --nodes 5 --dir new --script claims.script; rr export new | cmp - claims.script",
             "cp -r nodes odd; sed -i 's/room-4/room-9/g' odd/2/a0 odd/2/a1; echo 'look printer' | rr shell --nodes 3 --dir odd",
@@ -102,13 +122,17 @@ TOUR = [
     ),
     (
         "A run, and its explanation",
-        "`rr sim` runs a schedule and reports what happened. `--explain` adds a note on each event, also on one that was refused or did nothing.",
+        "`rr sim` runs a schedule and reports what happened. `--explain` adds a note on each event, also on one that was refused or did nothing. "
+        "`--finish` goes on from the end of a schedule: here from the first lines of an example, up to the example's own end.",
         [
             "rr sim examples/failed_write.schedule",
             "rr sim --explain examples/failed_write.schedule | sed -n '/line 27/,/line 31/p'",
             "printf 'nodes 2\\nsend 0\\nrestart 0\\nhear 1 5\\nfail 0 A5\\nack 0\\n' > lost.schedule; rr sim --explain lost.schedule",
             "rr sim --json lost.schedule",
             "rr sim --json --explain lost.schedule | head -3",
+            "head -30 examples/one_command.schedule > cut.schedule; rr sim --finish --schedule-only cut.schedule",
+            "rr sim --finish cut.schedule | rr check examples/one_command.schedule -",
+            "head -120 examples/two_of_seven_down.schedule > cut.schedule; rr sim cut.schedule | tail -1; rr sim --finish cut.schedule | tail -2",
         ],
     ),
     (
@@ -136,6 +160,8 @@ TOUR = [
         "Most events of a random schedule do nothing. Most of a lively one do something, and much is decided.",
         [
             "rr random --seed 1 --steps 3 --nodes 1",
+            "rr random --json --seed 1 --steps 3 --nodes 1",
+            "rr random --json --schedule-only --seed 1 --steps 3 --nodes 1",
             "rr random --schedule-only --seed 1 --steps 2000 --nodes 3 | rr sim | grep '^decided'",
             "rr random --schedule-only --lively --seed 1 --steps 2000 --nodes 3 | rr stats",
             "rr random --lively --faults 1001 --seed 1 --steps 3 --nodes 3",
@@ -146,7 +172,9 @@ TOUR = [
         "`rr sweep` crashes a node after each device call, in five ways. `rr draw` prints a picture; here are the first two of its titles.",
         [
             "rr sweep --seed 0 examples/one_command.schedule | grep '^40 '",
-            "rr draw examples/suspected_coordinator.schedule | grep -o '<title>[^<]*' | head -2",
+            "rr draw examples/suspected_coordinator.schedule | grep -o '<title>[^<]*' | sed -n 1,2p",
+            "rr draw --from 9 --to 8 examples/suspected_coordinator.schedule",
+            "rr draw --html examples/suspected_coordinator.schedule > run.html; sed 2q run.html; grep -c '<title>line' run.html",
         ],
     ),
 ]

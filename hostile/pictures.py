@@ -5,9 +5,10 @@
 
 Of each example and of N drawn schedules, some of them lively, with values of SVG's own letters, and of cuts by lines, node and
 instance: each event of the cut has its element, in order, and the element's title begins with the line, the event and its lines of the
-report; a cut by instance has just the events that send or hear a message on it, and syncs and marks. A message has an arrow where it is
-heard, a dashed one where it is heard again, and else a dot. The picture has the size of what it shows, and no two labels on one side of a
-line lie on each other."""
+report; a cut by instance has just the events that send or hear a message on it, and syncs and marks. In a long picture each event that
+sends or hears a request is folded, and with --requests none is. A message has an arrow where it is heard, a dashed one where it is heard
+again, and else a dot. A cut that ends before it begins has status 2. Each tape has the elements of its events too. The picture has the
+size of what it shows, and no two labels on one side of a line lie on each other."""
 import argparse
 import json
 import pathlib
@@ -18,6 +19,7 @@ import xml.etree.ElementTree as tree
 TREE = pathlib.Path(__file__).resolve().parent.parent
 SVG = "{http://www.w3.org/2000/svg}"
 HEIGHT = 8  # of a label
+MANY = 300  # lines of a cut, beyond which some events are folded
 
 
 def asked(rr, words, text=b""):
@@ -96,8 +98,10 @@ def compare(rr, text, seed):
     words = ["draw", "--from", str(first), "--to", str(last)]
     words += ["--node", str(node)] if node is not None else []
     words += ["--instance", str(instance)] if instance is not None else []
+    words += ["--requests"] if seed % 2 else []
     picture = tree.fromstring(asked(rr, words, text.encode()))
     found = [element.find(SVG + "title").text for element in picture.iter(SVG + "g")]
+    check_requests(picture, last - first > MANY and seed % 2 == 0, seed)
     told = told_by(rr, text)
     wanted = ["".join(f"{line}\n" for line in [f"line {k}: {lines[k - 1]}", *told[k]]) for k in range(first, last + 1) if node is None or int(lines[k - 1].split()[1]) == node]
     if instance is None:
@@ -121,6 +125,31 @@ def compare(rr, text, seed):
     return len(found), sum(map(len, places.values())), *shapes
 
 
+def compare_tape(rr, text):
+    """Compares the picture of a tape with its lines, and tells how many elements it has."""
+    picture = tree.fromstring(asked(rr, ["draw", "--tape"], text.encode()))
+    found = [element.find(SVG + "title").text for element in picture.iter(SVG + "g")]
+    lines = text.splitlines()[1:]
+    assert len(found) == len(lines)
+    for place, (line, title) in enumerate(zip(lines, found), 2):
+        kind, *words = line.split(" ")
+        event = f"send {words[1]}" if kind == "send" else f"ack {words[0]}" if kind == "ack" else line
+        wanted = f"line {place}: {event}\n" + (f"{line}\n" if event != line else "")
+        assert title.startswith(wanted), (wanted, title)
+    boxes = sum("j" == (shape.get("class") or "") for shape in picture.iter(SVG + "rect"))
+    assert boxes == sum(line.startswith("take ") for line in lines), boxes
+    return len(found)
+
+
+def check_requests(picture, are_folded, seed):
+    """Each event that sends or hears a request is folded, or none is."""
+    for element in picture.iter(SVG + "g"):
+        title = element.find(SVG + "title").text
+        if any(line.startswith("send ") and line.split()[4:5] == ["request"] for line in title.splitlines()) or ": request " in title:
+            folded = any(shape.get("class") == "f" for shape in element)
+            assert folded == are_folded, (seed, title)
+
+
 def main():
     parser = argparse.ArgumentParser(description=__doc__.split("\n")[0])
     parser.add_argument("--rr", required=True)
@@ -130,8 +159,12 @@ def main():
     texts += [drawn(given.rr, seed) for seed in range(given.count)]
     sums = [compare(given.rr, text, seed) for seed, text in enumerate(texts)]
     elements, labels, arrows, lost = (sum(numbers) for numbers in zip(*sums))
+    ended = subprocess.run([given.rr, "draw", "--from", "3", "--to", "2"], input=texts[0].encode(), capture_output=True)
+    assert (ended.returncode, ended.stdout, ended.stderr) == (2, b"", b"rr: draw: the line of --from is behind that of --to\n"), ended
     assert elements and labels and arrows and lost
-    print(f"hostile/pictures.py: {len(texts)} pictures, {elements} elements and {labels} labels, {arrows} arrows and {lost} lost messages, all as the texts are")
+    tapes = [path.read_text() for path in sorted(TREE.glob("examples/*.tape"))]
+    elements += sum(compare_tape(given.rr, text) for text in tapes)
+    print(f"hostile/pictures.py: {len(texts) + len(tapes)} pictures, {elements} elements and {labels} labels, {arrows} arrows and {lost} lost messages, all as the texts are")
 
 
 main()

@@ -309,4 +309,5 @@ def main():
     return status or not is_well
 
 
-sys.exit(main())
+if __name__ == "__main__":
+    sys.exit(main())

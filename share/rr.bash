@@ -6,16 +6,16 @@ _rr() {
     return
   fi
   case ${COMP_WORDS[1]} in
-    sim) words='--explain --json -h --help'; takes=files ;;
-    stats) words='--json -h --help'; takes=files ;;
+    sim) words='--explain --json --finish --schedule-only -h --help'; takes=files ;;
+    stats) words='--json --tape -h --help'; takes=files ;;
     check) words='-h --help'; takes=files ;;
-    random) words='--seed --steps --nodes --lively --faults --schedule-only -h --help'; takes=nothing ;;
+    random) words='--seed --steps --nodes --lively --faults --finish --schedule-only --json -h --help'; takes=nothing ;;
     sweep) words='--seed -h --help'; takes=files ;;
-    draw) words='--from --to --node --instance -h --help'; takes=files ;;
-    run) words='--nodes --dir --script --tape --tick -h --help'; takes=nothing ;;
+    draw) words='--from --to --node --instance --requests --tape --html -h --help'; takes=files ;;
+    run) words='--nodes --dir --script --tape --tick --json -h --help'; takes=nothing ;;
     shell) words='--nodes --dir --client -c --command --tick --strict --json -h --help'; takes=nothing ;;
-    audit) words='-h --help'; takes=files ;;
-    show) words='-h --help'; takes=folders ;;
+    audit) words='--explain --json -h --help'; takes=files ;;
+    show) words='--json -h --help'; takes=folders ;;
     verify) words='--json -h --help'; takes=folders ;;
     export) words='--list -h --help'; takes=folders ;;
     migrate) words='--node --nodes -h --help'; takes=folders ;;

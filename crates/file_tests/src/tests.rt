@@ -1,3 +1,4 @@
 mod asked;
+mod expected;
 mod file_disk;
 mod recorded;

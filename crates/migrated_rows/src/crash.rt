@@ -16,7 +16,7 @@ const FILLS: [u8; 2] = [0xA5, 0];
 const DRAWN: u32 = 1_000;
 
 /// A crash after `calls` device calls: how many bytes each area keeps at most, and the byte that replaces loose ones.
-#[derive(Clone, Copy, Debug)]
+#[derive(Clone, Copy)]
 pub struct Crash {
     pub calls: u32,
     pub cut_0: u32,
@@ -36,7 +36,7 @@ impl Crash {
 }
 
 /// Which pairs of cuts are tried after a device call.
-#[derive(Clone, Copy, Debug)]
+#[derive(Clone, Copy)]
 pub enum Cuts {
     /// Every pair, each cut from 0 to one past the end of its area.
     Every,

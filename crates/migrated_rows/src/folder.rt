@@ -3,7 +3,7 @@
 use rr_cli::execute;
 use rr_files::HostFiles;
 use rr_stream::Counted;
-use std::alloc::{AllocError, Global};
+use std::alloc::AllocError;
 use std::io::Write;
 use std::{fs, io};
 
@@ -15,17 +15,9 @@ struct Outcome {
     err: Vec<u8>,
 }
 
-fn words_of(alloc: Global, line: &str) -> Result<Vec<&str>, AllocError> {
-    let mut words = Vec::new(alloc);
-    for word in line.split(' ') {
-        words.push(word)?;
-    }
-    Ok(words)
-}
-
 /// Runs `rr` by the words of a line.
 fn run(rt: &HostRuntime, line: &str) -> Result<Outcome, AllocError> {
-    let words = words_of(rt.alloc(), line)?;
+    let words: Vec<&str> = line.split(' ').collect(rt.alloc())?;
     let mut out = Counted::new(Vec::new(rt.alloc()));
     let mut err = Vec::new(rt.alloc());
     let status = execute(

@@ -23,7 +23,7 @@ use crate::crash::Cuts;
 use std::{env, io};
 
 /// What is done with the rows that follow.
-#[derive(Clone, Copy, Debug)]
+#[derive(Clone, Copy)]
 enum Task {
     Folders,
     Crashes(Cuts),

@@ -5,7 +5,7 @@ ghost use Rattle.std.specs.Prelude.{◌<◌};
 use rr_types::{NodeId, Nodes};
 
 /// One of `nodes` nodes.
-#[derive(Clone, Copy, Debug)]
+#[derive(Clone, Copy)]
 pub struct Seat {
     pub nodes: Nodes,
     pub node: NodeId,

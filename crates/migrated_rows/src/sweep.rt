@@ -82,17 +82,32 @@ impl Sweep {
         self.try_all(alloc, disk, &crashes)
     }
 
+    /// Tries the crashes before the next device call of an opening, and makes the call. None where the opening has ended.
+    fn advance(
+        &mut self,
+        alloc: Global,
+        course: Course,
+        cuts: Cuts,
+        generator: &mut Pcg32,
+    ) -> Result<Option<Course>, Refusal> {
+        self.crash_at(alloc, course.disk(), cuts, generator)?;
+        if course.has_ended() {
+            Ok(None)
+        } else {
+            Ok(Some(course.step(alloc)?))
+        }
+    }
+
     /// Tries the crashes before the first device call of an opening of the disk, and behind each.
     fn follow(&mut self, alloc: Global, disk: MemDisk, cuts: Cuts) -> Result<(), Refusal> {
         let mut generator = Pcg32::seed_from_u64(0);
         let mut course = Course::start(self.seat, disk);
         for calls in 0..=CALLS {
             self.calls = calls;
-            self.crash_at(alloc, course.disk(), cuts, &mut generator)?;
-            if course.has_ended() {
-                break;
-            }
-            course = course.step(alloc)?;
+            course = match self.advance(alloc, course, cuts, &mut generator)? {
+                Some(course) => course,
+                None => break,
+            };
         }
         Ok(())
     }

@@ -25,7 +25,10 @@ use std::{env, fs, io};
 fn is_right<
     F: Read + Write + Seek + FileExt + OpenFile + Drop + Send + Lockable,
     R: Files<File = F> + Print + AllocGlobal + Threads + Wait + Clock + Sync,
->(rt: &R, library: Library, row: &str) -> io::Result<bool> {
+>(rt: &R, library: Library, row: &str) -> io::Result<bool>
+where
+    R::Dir: Send,
+{
     prepare(rt, row)?;
     let given = outcome_of(rt, library, row)?;
     is_wanted(rt, row, &given)
@@ -35,7 +38,10 @@ fn is_right<
 fn count_faults<
     F: Read + Write + Seek + FileExt + OpenFile + Drop + Send + Lockable,
     R: Files<File = F> + Print + AllocGlobal + Threads + Wait + Clock + Sync,
->(rt: &R, library: Library, path: &str) -> io::Result<u64> {
+>(rt: &R, library: Library, path: &str) -> io::Result<u64>
+where
+    R::Dir: Send,
+{
     let text = fs::read_to_string(rt, path)?;
     let mut rows = 0u64;
     let mut faults = 0u64;

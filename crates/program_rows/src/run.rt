@@ -88,7 +88,10 @@ fn text(bytes: Vec<u8>) -> io::Result<String> {
 fn run<
     F: Read + Write + Seek + FileExt + OpenFile + Drop + Send + Lockable,
     R: Files<File = F> + AllocGlobal + Threads + Wait + Clock + Sync,
->(rt: &R, library: Library, words: &[String], input: &str) -> io::Result<Outcome> {
+>(rt: &R, library: Library, words: &[String], input: &str) -> io::Result<Outcome>
+where
+    R::Dir: Send,
+{
     let mut files = HostFiles::new(rt);
     let mut input = Counted::new(input.as_bytes());
     let mut out = Counted::new(Vec::new(rt.alloc()));
@@ -111,7 +114,10 @@ fn run<
 pub fn outcome_of<
     F: Read + Write + Seek + FileExt + OpenFile + Drop + Send + Lockable,
     R: Files<File = F> + AllocGlobal + Threads + Wait + Clock + Sync,
->(rt: &R, library: Library, row: &str) -> io::Result<Outcome> {
+>(rt: &R, library: Library, row: &str) -> io::Result<Outcome>
+where
+    R::Dir: Send,
+{
     let input = input_of(rt.alloc(), row)?;
     let mut words = Vec::new(rt.alloc());
     for word in line_of(row, "rr").split(' ') {

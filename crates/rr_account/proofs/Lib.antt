@@ -3,3 +3,4 @@ pub mod ShareLaws
 pub mod StepLaws
 pub mod TextLemmas
 mod WatchLaws
+pub mod TapeLaws

@@ -2,3 +2,4 @@ pub mod Accounts
 pub mod Counts
 pub mod Objects
 pub mod Texts
+pub mod TapeAccounts

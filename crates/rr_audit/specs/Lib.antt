@@ -2,3 +2,4 @@ pub mod Same
 pub mod Audits
 pub mod Following
 pub mod AuditTexts
+pub mod Rows

@@ -5,6 +5,7 @@ ghost use Rattle.rr_audit.specs.Audits.{IsTapeRun, AgreesWithOneList, StopsAt, I
 
 use crate::given::Given;
 use crate::progress::Progress;
+use rr_stream::{Sink, tell_step};
 use rr_tape::Tape;
 use rr_types::{Body, Command, Message, NodeId, Op, Refusal, made_of};
 use std::alloc::Global;
@@ -35,6 +36,27 @@ pub fn examine(alloc: Global, tape: &Tape) -> Result<Verdict, Refusal>
         progress.follow(count + 1, event)?;
         count += 1;
     }
+    Ok(progress.verdict(count))
+}
+
+/// Audits a tape as `examine` does. Those who watch `out` are told how far it is; `out` takes nothing.
+///
+/// # Errors
+/// `OutOfMemory`.
+pub fn watch_tape<O: Sink>(alloc: Global, tape: &Tape, out: &mut O) -> Result<Verdict, Refusal>
+    ensures verdict { IfOk result (λ v. IsVerdict tape.now.nodes tape.now.events v) }
+    ensures err { IfErr result (λ e. e ≡ Refusal.OutOfMemory) }
+    ensures unprinted { O.printing out.new ≡ O.printing out.old }
+{
+    let mut progress = Progress::new(alloc, tape.nodes())?;
+    let mut count = 0u64;
+    let events = tape.events();
+    for event in events {
+        tell_step(count, count, events.len() as u64, out);
+        progress.follow(count + 1, event)?;
+        count += 1;
+    }
+    out.tell_progress(1, 1);
     Ok(progress.verdict(count))
 }
 

@@ -1,6 +1,6 @@
 //! The nodes of a tape and their wire, and what each event does to them.
 
-ghost use Rattle.std.specs.Prelude.{◌≡◌, ◌++◌, [], map, OnOk, IfOk};
+ghost use Rattle.std.specs.Prelude.{◌≡◌, ◌++◌, [], map, option_map, slice_get, OnOk, IfOk};
 ghost use Rattle.std.specs.List.{range_with_len};
 ghost use Rattle.rr_model.specs.NodeStep.{started};
 ghost use Rattle.rr_audit.specs.Audits.{node_of, sent_by, new_replay};
@@ -69,6 +69,13 @@ impl Replay {
             nodes: all_nodes(alloc, nodes)?,
             wire: MessageLog::new(alloc),
         })
+    }
+
+    /// The node of this number; `None` where there is no such node.
+    pub fn node(&self, node: NodeId) -> Option<&ReplayNode>
+        ensures { option_map (λ n. n.now) result ≡ slice_get self.now.nodes node }
+    {
+        self.nodes.get(usize::from(node.index()))
     }
 
     // A message that was sent joins the wire.

@@ -1,8 +1,8 @@
 //! A node of a tape: its core, and the group that it flushes.
 
-ghost use Rattle.std.specs.Prelude.{◌≡◌, ◌≢◌, [], length, IfOk, IfErr, IsSome, MatchResult, None, Some};
+ghost use Rattle.std.specs.Prelude.{◌≡◌, ◌≢◌, [], length, IfOk, IfErr, IsSome, MatchResult, None, Some, option_map};
 ghost use Rattle.rr_model.specs.NodeState.{decided_prefix};
-ghost use Rattle.rr_model.specs.NodeStep.{node_step, refusal_of, group_taken, marked_running, message_left, next_leaving, next_acknowledged, acknowledged, started};
+ghost use Rattle.rr_model.specs.NodeStep.{node_step, refusal_of, group_taken, running_group, marked_running, message_left, next_leaving, next_acknowledged, acknowledged, started};
 ghost use Rattle.rr_types.specs.Registry.{reply_of};
 ghost use Rattle.rr_audit.specs.Following.{Tells, Answers, FollowsAt};
 
@@ -155,6 +155,13 @@ impl ReplayNode {
                 }
             }
         }
+    }
+
+    /// The group that the node flushes, if any.
+    pub fn flushed(&self) -> Option<&Group>
+        ensures { option_map (λ g. g.now) result ≡ running_group self.now }
+    {
+        self.flushed.as_ref()
     }
 
     /// What the node answers to an event of a tape, over this wire. `None`: the world gives it next, and it has

@@ -1,6 +1,22 @@
 //! What a node does, as functions on a step of its state. `started` gives the state after an opening. From then on
 //! `input_step` does what an input asks, and then all that is due (`due.rt`). It gives `Changes`, and the node takes them on
 //! by `State::absorb` of `rr_step`.
+//!
+//! # Example
+//!
+//! This is in `crates/first_pages/src/behaviour.rt`:
+//!
+//! ```rust
+//! use rr_behaviour::started;
+//! use rr_step::State;
+//! use rr_types::{NodeId, Nodes, Promise};
+//! use std::alloc::{AllocError, Global};
+//!
+//! /// The state of a node that begins without facts. `input_step` does what an input asks of it.
+//! pub fn of_new_node(alloc: Global, nodes: Nodes, node: NodeId) -> Result<State, AllocError> {
+//!     started(alloc, nodes, node, &Promise::new(Vec::new(alloc)), 0)
+//! }
+//! ```
 #![tactic(auto)]
 
 mod decisions;

@@ -1,9 +1,9 @@
 -- An input that can't be read ends as defined, and a second file is read as it was before the first.
-use Rattle.std.proofs.Common.{◌≡◌, ◌⊎◌, ◌≤◌, ◌∙◌, ℕ, List, Option, None, Some, refl, sym, ap, subst, inl, inr}
+use Rattle.std.proofs.Common.{◌≡◌, ◌⊎◌, ◌≤◌, ℕ, List, Option, None, Some, refl, subst, inl, inr}
 use Rattle.clap.specs.Words.{Text}
 use Rattle.rr_types.specs.Counts.{Grew}
 use Rattle.rr_stream.specs.Streams.{Printing, Reading, AreAllOf}
-use Rattle.rr_files.specs.Files.{HeldFiles, Readable, file_at, reading_of}
+use Rattle.rr_files.specs.Files.{Readable, reading_of}
 use Rattle.rr_cli.specs.Ends.{EndsOnInput, IsStreamStatus, IsUnread, unread, unheld}
 use Rattle.rr_cli.specs.Views.{left_behind}
 use Rattle.rr_cli.proofs.SweepLemmas.{grew_on}

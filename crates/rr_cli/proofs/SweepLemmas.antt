@@ -14,7 +14,7 @@ use Rattle.rr_text.specs.ScheduleTexts.{schedule_text}
 use Rattle.rr_stream.specs.Streams.{Printing, IsFrontPrinted}
 use Rattle.rr_sweep.specs.declared.sweeping.SweepLine.{SweepLine}
 use Rattle.rr_sweep.specs.declared.sweeping.Sweeping.{Sweeping}
-use Rattle.rr_sweep.specs.Sweeps.{AreSwept, HasSwept, IsNext, IsSweep}
+use Rattle.rr_sweep.specs.Sweeps.{HasSwept, IsNext, IsSweep}
 use Rattle.rr_sweep.specs.SweepTexts.{sweep_line}
 use Rattle.rr_cli.specs.declared.sweep.Stop.{Stop}
 use Rattle.rr_cli.specs.declared.sweep.Stop.TheVariants.{Refused, Unprinted}

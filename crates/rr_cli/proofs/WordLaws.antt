@@ -1,5 +1,5 @@
 -- Words that ask for no view.
-use Rattle.std.proofs.Common.{◌≡◌, Bool, List, [], Option, subst}
+use Rattle.std.proofs.Common.{◌≡◌, Bool, [], Option, subst}
 use Rattle.clap.specs.Words.{Text}
 use Rattle.clap.specs.Kinds.{Kinds, IsAmong}
 use Rattle.clap.specs.declared.error.kind.ErrorKind.{ErrorKind}
@@ -13,17 +13,17 @@ none_among kind kinds among none = subst (λ ks. IsAmong kind ks) none among
 pub no_simulate : (file : Option Text) (view : View) → Simulate file ≡ Viewing view → ⊥
 no_simulate file view is = absurd cc
 
-pub no_show : (folder : Option Text) (view : View) → Show folder ≡ Viewing view → ⊥
-no_show folder view is = absurd cc
+pub no_show : (folder : Option Text) (form : Form) (view : View) → Show folder form ≡ Viewing view → ⊥
+no_show folder form view is = absurd cc
 
 pub no_random : (words : RandomWords) (view : View) → Random words ≡ Viewing view → ⊥
 no_random words view is = absurd cc
 
-pub no_audit : (file : Option Text) (view : View) → Audit file ≡ Viewing view → ⊥
-no_audit file view is = absurd cc
+pub no_audit : (file : Option Text) (form : Form) (view : View) → Audit file form ≡ Viewing view → ⊥
+no_audit file form view is = absurd cc
 
-pub no_run : (nodes dir script tape tick : Option Text) (view : View) → Run nodes dir script tape tick ≡ Viewing view → ⊥
-no_run nodes dir script tape tick view is = absurd cc
+pub no_run : (nodes dir script tape tick : Option Text) (form : Form) (view : View) → Run nodes dir script tape tick form ≡ Viewing view → ⊥
+no_run nodes dir script tape tick form view is = absurd cc
 
 pub no_shell : (words : ShellWords) (view : View) → Shell words ≡ Viewing view → ⊥
 no_shell words view is = absurd cc
@@ -34,8 +34,8 @@ no_sweep file seed view is = absurd cc
 pub no_draw : (file : Option Text) (words : CutWords) (view : View) → Draw file words ≡ Viewing view → ⊥
 no_draw file words view is = absurd cc
 
-pub no_migrate : (folder node nodes : Option Text) (view : View) → Migrate folder node nodes ≡ Viewing view → ⊥
-no_migrate folder node nodes view is = absurd cc
+pub no_migrate : (folder seat nodes : Option Text) (view : View) → Migrate folder seat nodes ≡ Viewing view → ⊥
+no_migrate folder seat nodes view is = absurd cc
 
 pub no_verify : (dir : Option Text) (form : Form) (view : View) → Verify dir form ≡ Viewing view → ⊥
 no_verify dir form view is = absurd cc

@@ -7,6 +7,9 @@ use Rattle.rr_frame.specs.declared.version.Version.{Version}
 use Rattle.rr_frame.specs.declared.version.Version.TheVariants.{One, Two}
 use Rattle.rr_image.specs.declared.inspection.AreaReport.{AreaReport}
 use Rattle.rr_image.specs.Inspect.{Inspected, Tells, IsTold}
+use Rattle.rr_words.specs.declared.tasks.Form.{Form}
+use Rattle.rr_words.specs.declared.tasks.Form.TheVariants.{Plain, Json}
+use Rattle.rr_cli.specs.AreaObjects.{areas_objects}
 
 -- version 2 isn't told
 abbrev pub version_words : Version → List (List ℕ)
@@ -25,7 +28,16 @@ area_words number (Some r) =
 abbrev pub areas_text : Option AreaReport → Option AreaReport → List ℕ
 areas_text first second = line (area_words 0 first) ++ line (area_words 1 second)
 
+-- the text on both areas in this form
+abbrev pub areas_in : Form → Option AreaReport → Option AreaReport → List ℕ
+areas_in Plain first second = areas_text first second
+areas_in Json first second = areas_objects first second
+
 -- what was answered for the text on both areas: the text, or the place where one is broken; or memory ran out
+abbrev pub IsShownIn : Form → Result (Vec ℕ Global) Refusal → Inspected → Type 0
+IsShownIn form (Ok text) seen = (first : Option AreaReport) × (second : Option AreaReport) × (seen ≡ Tells first second) × (text.items ≡ areas_in form first second)
+IsShownIn form (Err e) seen = IsTold (Err e) seen
+
+-- the same for people
 abbrev pub IsShown : Result (Vec ℕ Global) Refusal → Inspected → Type 0
-IsShown (Ok text) seen = (first : Option AreaReport) × (second : Option AreaReport) × (seen ≡ Tells first second) × (text.items ≡ areas_text first second)
-IsShown (Err e) seen = IsTold (Err e) seen
+IsShown result seen = IsShownIn Plain result seen

@@ -1,5 +1,5 @@
 -- What the words of `rr draw` name.
-use Rattle.std.specs.Prelude.{◌≡◌, ℕ, ◌-◌, ◌^◌, Option, None, Some}
+use Rattle.std.specs.Prelude.{◌≡◌, ◌≤◌, ℕ, ◌-◌, ◌^◌, Option, None, Some}
 use Rattle.clap.specs.Words.{Text}
 use Rattle.rr_draw.specs.declared.cut.Cut.{Cut}
 use Rattle.rr_cli.specs.Randoms.{IsNumberIn}
@@ -16,9 +16,12 @@ IsNumberIfAny least most None n = n ≡ None
 IsNumberIfAny least most (Some word) None = ⊥
 IsNumberIfAny least most (Some word) (Some n) = IsNumberIn least most word n
 
--- the words write this cut. Without a word it begins with line 1, ends with the last line, and has each node and each instance
+-- the words write this cut, which doesn't end before it begins. Without a word it begins with line 1, ends with the last line,
+-- and has each node and each instance
 pub record IsCutBy (words : CutWords) (cut : Cut) : Type 0 where
   pub from : IsNumberOr 1 1 4294967295 words.from cut.from
   pub to : IsNumberOr (2 ^ 64 - 1) 1 4294967295 words.to cut.to
   pub node : IsNumberIfAny 0 6 words.node cut.node
   pub instance : IsNumberIfAny 0 1048575 words.instance cut.instance
+  pub requests : cut.requests ≡ words.requests
+  pub in_order : cut.from ≤ cut.to

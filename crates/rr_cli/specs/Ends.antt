@@ -20,25 +20,34 @@ use Rattle.rr_sweep.specs.declared.sweeping.SweepLine.{SweepLine}
 use Rattle.rr_sweep.specs.Sweeps.{IsSweep}
 use Rattle.rr_sweep.specs.SweepTexts.{sweep_line}
 use Rattle.rr_draw.specs.declared.cut.Cut.{Cut}
-use Rattle.rr_draw.specs.Pictures.{IsPictureOf}
 use Rattle.rr_types.specs.Counts.{Grew}
 use Rattle.rr_disk.specs.declared.area.Area.{Area}
 use Rattle.rr_stream.specs.Streams.{Printing, Reading, IsPrinted, IsFrontPrinted, AreAllOf}
 use Rattle.rr_files.specs.Files.{Readable, file_at}
 use Rattle.rr_image.specs.declared.inspection.AreaReport.{AreaReport}
 use Rattle.rr_image.specs.Inspect.{Tells, Breaks, inspected}
-use Rattle.rr_cli.specs.Areas.{areas_text}
-use Rattle.rr_cli.specs.Randoms.{IsNumberIn, IsNumberOf, AreNumbers, IsDrawnText}
+use Rattle.rr_audit.specs.declared.given.Given.{Given}
+use Rattle.rr_cli.specs.Areas.{areas_text, areas_in}
+use Rattle.rr_cli.specs.AuditObjects.{yes_object, no_object, no_status}
+use Rattle.rr_cli.specs.Randoms.{IsNumberIn, IsNumberOf, AreNumbers}
+use Rattle.rr_cli.specs.RandomObjects.{IsDrawnIn}
 use Rattle.rr_cli.specs.Cuts.{IsCutBy}
+use Rattle.rr_finish.specs.declared.finish.Ending.{Ending}
+use Rattle.rr_cli.specs.Finishing.{finished_by, IsFinishedDraw}
 use Rattle.rr_words.specs.Tasks.{CutWords, RandomWords, ShellWords, View, Task, Simulate, Viewing, Show, Random, Audit, Run, Shell, Sweep, Draw, Migrate, Verify, Export}
 use Rattle.rr_words.specs.declared.tasks.Form.{Form}
+use Rattle.rr_words.specs.declared.tasks.Form.TheVariants.{Plain, Json}
 use Rattle.rr_verify.specs.declared.folder.Reading as folder
 use Rattle.rr_verify.specs.Agreement.{Agree, AllAlike, HaveOneList, clashes_from, longest_decided}
 use Rattle.rr_verify.specs.Texts.{verdict_text}
 use Rattle.rr_cli.specs.Clusters.{AreRead, HoldsNothing, IsExportOf, form_in, unlike}
 use Rattle.rr_cli.specs.Migrations.{IsUnmigrated}
 use Rattle.rr_cli.specs.Refusals.{status_of}
+use Rattle.rr_cli.specs.Recognised.{IsScheduleText, IsTextOf, IsNoSchedule, IsNoTape}
+use Rattle.rr_cli.specs.Shown.{ShowsTape, IsPictured}
 use Rattle.rr_cli.specs.Tapes.{yes_text}
+use Rattle.rr_cli.specs.declared.taped.TapeView.{TapeView}
+use Rattle.rr_cli.specs.declared.taped.TapeView.TheVariants.{Picture, Page}
 
 -- the status of a stream that failed, by a device or by memory
 abbrev pub IsStreamStatus : ℕ → Type 0
@@ -57,19 +66,30 @@ pub data EndsOn (bytes : List ℕ) (status : ℕ) (old new : Printing) : Type 0 
       → new ≡ old
       → EndsOn bytes status old new
 
--- a run on these bytes: they are the text of a tape that is a tape run and agrees with one list, and the line of a yes is
--- printed; or of a tape of which the world doesn't give some event next; or they are no tape or memory was wanting. Without
--- a yes standard output is as it was
-pub data EndsOnTape (bytes : List ℕ) (status : ℕ) (old new : Printing) : Type 0 where
+-- a yes to a tape of so many events, in this form
+abbrev pub yes_in : Form → ℕ → List ℕ
+yes_in Plain count = yes_text count
+yes_in Json count = yes_object count
+
+-- a no to the event of this number ends with 7: for people standard output is as it was, and else the object of a no is printed
+abbrev pub TellsNo : Form → ℕ → ℕ → Printing → Printing → Type 0
+TellsNo Plain number status old new = (status ≡ 7) × (new ≡ old)
+TellsNo Json number status old new =
+    (p : ℕ) × (given : Given) × (printing : ℕ) × Prints (no_object number p given) printing old new × (status ≡ no_status printing)
+
+-- a run on these bytes: they are the text of a tape that is a tape run and agrees with one list, and a yes is printed; or of
+-- a tape of which the world doesn't give some event next; or they are no tape or memory was wanting, and standard output is
+-- as it was
+pub data EndsOnTape (form : Form) (bytes : List ℕ) (status : ℕ) (old new : Printing) : Type 0 where
   agreed : (tape : Taped) → IsTape tape → bytes ≡ tape_text tape → IsTapeRun tape.nodes tape.events
-      → tapes.AgreesWithOneList tape.nodes tape.events → Prints (yes_text (length tape.events)) status old new
-      → EndsOnTape bytes status old new
+      → tapes.AgreesWithOneList tape.nodes tape.events → Prints (yes_in form (length tape.events)) status old new
+      → EndsOnTape form bytes status old new
   stopped : (tape : Taped) (number : ℕ) → IsTape tape → bytes ≡ tape_text tape
-      → StopsAt tape.nodes tape.events number → status ≡ 7 → new ≡ old
-      → EndsOnTape bytes status old new
+      → StopsAt tape.nodes tape.events number → TellsNo form number status old new
+      → EndsOnTape form bytes status old new
   no_tape : (refusal : Refusal) → IsFault IsTapeEvent tape_line bytes refusal → status ≡ status_of refusal
       → new ≡ old
-      → EndsOnTape bytes status old new
+      → EndsOnTape form bytes status old new
 
 -- the status where an input can't be read: one of its calls failed or memory was wanting
 abbrev pub IsUnread : Reading → Reading → ℕ → Type 0
@@ -85,14 +105,14 @@ pub data EndsOnInput (On : List ℕ → ℕ → Printing → Printing → Type 0
 
 -- a run on a folder: the text on its areas is printed; or an area is broken or a device or memory failed, and standard
 -- output is as it was
-pub data EndsOnFolder (status : ℕ) (old new : Printing) : Type 0 where
+pub data EndsOnFolder (form : Form) (status : ℕ) (old new : Printing) : Type 0 where
   told : (first second : List ℕ) (of_first of_second : Option AreaReport)
-      → inspected first second ≡ Tells of_first of_second → Prints (areas_text of_first of_second) status old new
-      → EndsOnFolder status old new
+      → inspected first second ≡ Tells of_first of_second → Prints (areas_in form of_first of_second) status old new
+      → EndsOnFolder form status old new
   broken : (first second : List ℕ) (area : Area) (offset : ℕ) → inspected first second ≡ Breaks area offset
       → status ≡ 4 → new ≡ old
-      → EndsOnFolder status old new
-  failed : IsStreamStatus status → new ≡ old → EndsOnFolder status old new
+      → EndsOnFolder form status old new
+  failed : IsStreamStatus status → new ≡ old → EndsOnFolder form status old new
 
 -- the migration of a folder: its disk was opened, and the text on its areas is printed; or it was refused, as an area is
 -- damaged, a device or memory failed, or no epoch is left, and standard output is as it was
@@ -116,17 +136,21 @@ pub data EndsOnSeat (folder of_node of_nodes : Option Text) (status : ℕ) (old 
       → EndsOnSeat folder of_node of_nodes status old new
 
 -- a run on the numbers of a random schedule, which has faults if it is lively, and is printed alone or with the report of its
--- run; or memory was wanting, and standard output is as it was
-pub data EndsOnRandom (alone : Bool) (faults : Option ℕ) (n seed steps : ℕ) (status : ℕ) (old new : Printing) : Type 0 where
-  drawn : (text : List ℕ) → IsDrawnText alone faults n seed steps text → Prints text status old new
-      → EndsOnRandom alone faults n seed steps status old new
-  cut_off : status ≡ 6 → new ≡ old → EndsOnRandom alone faults n seed steps status old new
+-- run, finished or as it is drawn, or as the objects of that report; where it isn't finished the status says so. Or memory was
+-- wanting, and standard output is as it was
+pub data EndsOnRandom (form : Form) (finish alone : Bool) (faults : Option ℕ) (n seed steps : ℕ) (status : ℕ) (old new : Printing) : Type 0 where
+  drawn : (text : List ℕ) → finish ≡ false → IsDrawnIn form alone faults n seed steps text → Prints text status old new
+      → EndsOnRandom form finish alone faults n seed steps status old new
+  finished : (text : List ℕ) (ending : Ending) (printing : ℕ) → finish ≡ true → IsFinishedDraw alone faults n seed steps text
+      → Prints text printing old new → status ≡ finished_by ending printing
+      → EndsOnRandom form finish alone faults n seed steps status old new
+  cut_off : status ≡ 6 → new ≡ old → EndsOnRandom form finish alone faults n seed steps status old new
 
 -- a run on the words of a random schedule: by the numbers that they write, or they write none and standard output is as
 -- it was
 pub data EndsOnWords (words : RandomWords) (status : ℕ) (old new : Printing) : Type 0 where
   numbered : (seed steps nodes : ℕ) (faults : Option ℕ) → AreNumbers words seed steps nodes faults
-      → EndsOnRandom words.alone faults nodes seed steps status old new
+      → EndsOnRandom words.form words.finish words.alone faults nodes seed steps status old new
       → EndsOnWords words status old new
   unnumbered : ((seed steps nodes : ℕ) (faults : Option ℕ) → AreNumbers words seed steps nodes faults → ⊥)
       → status ≡ 2 → new ≡ old
@@ -162,18 +186,51 @@ pub data EndsOnSeed (On : (List ℕ → ℕ → Printing → Printing → Type 0
   unseeded : ((seed : ℕ) → IsNumberIn 0 (2 ^ 64 - 1) of_seed seed → ⊥) → status ≡ 2 → new ≡ old
       → EndsOnSeed On of_seed status old new
 
--- a picture of this cut of these bytes: it is printed; or the bytes are no schedule or memory was wanting, and standard
--- output is as it was
-pub data EndsOnPicture (cut : Cut) (bytes : List ℕ) (status : ℕ) (old new : Printing) : Type 0 where
-  pictured : (text : List ℕ) → IsPictureOf cut bytes text → Prints text status old new → EndsOnPicture cut bytes status old new
+-- a picture of this cut of these bytes, or a page with it: it is printed; or the bytes are no schedule or memory was wanting, and
+-- standard output is as it was
+pub data EndsOnPicture (html : Bool) (cut : Cut) (bytes : List ℕ) (status : ℕ) (old new : Printing) : Type 0 where
+  pictured : (text : List ℕ) → IsPictured html cut bytes text → Prints text status old new → EndsOnPicture html cut bytes status old new
   unpictured : (refusal : Refusal) → IsFault IsEvent event_line bytes refusal → status ≡ status_of refusal
       → new ≡ old
-      → EndsOnPicture cut bytes status old new
+      → EndsOnPicture html cut bytes status old new
+
+-- what is shown of the tape that bytes are: a text that shows it is printed, as its events are a tape run and agree with one list;
+-- or the world doesn't give some event next; or the bytes are no tape or memory was wanting. Unless it is printed, standard output
+-- is as it was
+pub data EndsOnTaped (what : TapeView) (bytes : List ℕ) (status : ℕ) (old new : Printing) : Type 0 where
+  taped : (tape : Taped) (text : List ℕ) → IsTextOf tape bytes → IsTapeRun tape.nodes tape.events
+      → tapes.AgreesWithOneList tape.nodes tape.events → ShowsTape what tape text → Prints text status old new
+      → EndsOnTaped what bytes status old new
+  strange : (tape : Taped) (number : ℕ) → IsTextOf tape bytes → StopsAt tape.nodes tape.events number → status ≡ 7 → new ≡ old
+      → EndsOnTaped what bytes status old new
+  untaped : (refusal : Refusal) → IsFault IsTapeEvent tape_line bytes refusal → status ≡ status_of refusal → new ≡ old
+      → EndsOnTaped what bytes status old new
+
+-- a run on bytes that are a schedule, or else a tape: in its way; or they are neither or memory was wanting, and standard output is
+-- as it was
+pub data EndsOnEither (OnSchedule OnTape : List ℕ → ℕ → Printing → Printing → Type 0) (bytes : List ℕ) (status : ℕ)
+    (old new : Printing) : Type 0 where
+  as_schedule : IsScheduleText bytes → OnSchedule bytes status old new → EndsOnEither OnSchedule OnTape bytes status old new
+  as_tape : (tape : Taped) → IsNoSchedule bytes → IsTextOf tape bytes → OnTape bytes status old new
+      → EndsOnEither OnSchedule OnTape bytes status old new
+  as_neither : IsNoSchedule bytes → IsNoTape bytes → status ≡ 3 → new ≡ old → EndsOnEither OnSchedule OnTape bytes status old new
+  unrecognised : status ≡ 6 → new ≡ old → EndsOnEither OnSchedule OnTape bytes status old new
+
+-- what is drawn of a tape: its picture, or a page with it
+abbrev pub drawn_of_tape : Bool → Cut → TapeView
+drawn_of_tape false cut = Picture cut
+drawn_of_tape true cut = Page cut
+
+-- a picture of this cut, or a page with it, of bytes that are read as a tape, or of a schedule or else a tape
+abbrev pub EndsOnDrawn : Bool → Bool → Cut → List ℕ → ℕ → Printing → Printing → Type 0
+EndsOnDrawn true html cut bytes status old new = EndsOnTaped (drawn_of_tape html cut) bytes status old new
+EndsOnDrawn false html cut bytes status old new =
+    EndsOnEither (EndsOnPicture html cut) (EndsOnTaped (drawn_of_tape html cut)) bytes status old new
 
 -- a picture of an input, of the cut that words write; or they write none, and standard output is as it was
 pub data EndsOnCut (On : (List ℕ → ℕ → Printing → Printing → Type 0) → ℕ → Printing → Printing → Type 0)
     (words : CutWords) (status : ℕ) (old new : Printing) : Type 0 where
-  cut_so : (cut : Cut) → IsCutBy words cut → On (EndsOnPicture cut) status old new → EndsOnCut On words status old new
+  cut_so : (cut : Cut) → IsCutBy words cut → On (EndsOnDrawn words.tape words.html cut) status old new → EndsOnCut On words status old new
   uncut : ((cut : Cut) → IsCutBy words cut → ⊥) → status ≡ 2 → new ≡ old → EndsOnCut On words status old new
 
 -- what was read of folders is printed: they agree, and then what they have decided are beginnings of one list; or they don't;
@@ -216,7 +273,7 @@ version_text = line (codes "rr 0.1.0, proved with rattle logic dac8208d650f15bf"
 -- the line with which the help ends, behind an empty one
 abbrev pub statuses_text : List ℕ
 statuses_text =
-    10 ∷ codes "Exit status: 0 done, 1 a difference, 2 wrong words, 3 no schedule, 4 a damaged area, 5 a stream, a file or a device, 6 memory, 7 an audit"
+    10 ∷ codes "Exit status: 0 done, 1 a difference, 2 wrong words, 3 no schedule, 4 a damaged area, 5 a stream, a file or a device, 6 memory, 7 an audit, 8 no finish"
     ++ 10 ∷ []
 
 -- the help is printed, which ends with the line on statuses; or memory was wanting, and standard output is as it was
@@ -239,15 +296,16 @@ pub data EndsBy (faults : Kinds) (task : Task) (from to : Readable) (status : �
   by_file : (path : Text) → faults ≡ [] → task ≡ Simulate (Some path)
       → EndsOnInput EndsOn (file_at from.files path) (file_at to.files path) status old new
       → EndsBy faults task from to status old new
-  by_folder : (path : Text) → faults ≡ [] → task ≡ Show (Some path) → EndsOnFolder status old new
+  by_folder : (path : Text) (form : Form) → faults ≡ [] → task ≡ Show (Some path) form → EndsOnFolder form status old new
       → EndsBy faults task from to status old new
-  without_folder : faults ≡ [] → task ≡ Show None → status ≡ 2 → new ≡ old → EndsBy faults task from to status old new
+  without_folder : (form : Form) → faults ≡ [] → task ≡ Show None form → status ≡ 2 → new ≡ old → EndsBy faults task from to status old new
   by_numbers : (words : RandomWords) → faults ≡ [] → task ≡ Random words → EndsOnWords words status old new
       → EndsBy faults task from to status old new
-  by_tape_in_standard_input : faults ≡ [] → task ≡ Audit None → EndsOnInput EndsOnTape from.input to.input status old new
+  by_tape_in_standard_input : (form : Form) → faults ≡ [] → task ≡ Audit None form
+      → EndsOnInput (EndsOnTape form) from.input to.input status old new
       → EndsBy faults task from to status old new
-  by_tape_in_a_file : (path : Text) → faults ≡ [] → task ≡ Audit (Some path)
-      → EndsOnInput EndsOnTape (file_at from.files path) (file_at to.files path) status old new
+  by_tape_in_a_file : (path : Text) (form : Form) → faults ≡ [] → task ≡ Audit (Some path) form
+      → EndsOnInput (EndsOnTape form) (file_at from.files path) (file_at to.files path) status old new
       → EndsBy faults task from to status old new
   by_sweep_of_standard_input : (of_seed : Text) → faults ≡ [] → task ≡ Sweep None (Some of_seed)
       → EndsOnSeed (λ on. EndsOnInput on from.input to.input) of_seed status old new
@@ -274,7 +332,8 @@ pub data EndsBy (faults : Kinds) (task : Task) (from to : Readable) (status : �
       → EndsBy faults task from to status old new
   without_views : (view : View) → faults ≡ [] → task ≡ Viewing view → status ≡ 2 → new ≡ old
       → EndsBy faults task from to status old new
-  without_threads : (nodes dir script tape tick : Option Text) → faults ≡ [] → task ≡ Run nodes dir script tape tick
+  without_threads : (nodes dir script tape tick : Option Text) (form : Form) → faults ≡ []
+      → task ≡ Run nodes dir script tape tick form
       → status ≡ 2 → new ≡ old
       → EndsBy faults task from to status old new
   without_shell : (words : ShellWords) → faults ≡ [] → task ≡ Shell words → status ≡ 2 → new ≡ old

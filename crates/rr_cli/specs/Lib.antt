@@ -1,8 +1,14 @@
+pub mod AreaObjects
 pub mod Areas
+pub mod AuditObjects
 pub mod Ends
+pub mod Finishing
 pub mod Refusals
+pub mod RandomObjects
 pub mod Randoms
 pub mod Cuts
+pub mod Shown
+pub mod Recognised
 pub mod Tapes
 pub mod Sweeping
 pub mod Migrations

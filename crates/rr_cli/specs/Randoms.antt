@@ -1,5 +1,5 @@
 -- What the words of `rr random` name.
-use Rattle.std.specs.Prelude.{◌≡◌, ℕ, ◌-◌, ◌^◌, ◌≤◌, Bool, true, false, List, Option, None, Some}
+use Rattle.std.specs.Prelude.{◌≡◌, ℕ, ◌-◌, ◌^◌, ◌≤◌, Bool, true, false, List, Option, None, Some, ◌||◌}
 use Rattle.std.specs.Str.Parse.{IsNumeral, digits_value, without_leading_plus}
 use Rattle.clap.specs.Words.{Text}
 use Rattle.rr_text.specs.Scheduled.{Scheduled}
@@ -8,6 +8,8 @@ use Rattle.rr_sim.specs.Random.{IsRandom}
 use Rattle.rr_sim.specs.Told.{IsRandomRun}
 use Rattle.rr_lively.specs.Lively.{IsLively, IsLivelySchedule}
 use Rattle.rr_words.specs.Tasks.{RandomWords}
+use Rattle.rr_words.specs.declared.tasks.Form.{Form}
+use Rattle.rr_words.specs.declared.tasks.Form.TheVariants.{Plain, Json}
 
 -- the text writes this number, which lies in the range; a plus may stand before it
 abbrev pub IsNumberIn : ℕ → ℕ → Text → ℕ → Type 0
@@ -27,11 +29,16 @@ AreFaults true None faults = faults ≡ Some 10
 AreFaults true (Some word) None = ⊥
 AreFaults true (Some word) (Some faults) = IsNumberIn 0 1000 word faults
 
--- the words write a seed, a number of steps, a number of nodes, and the faults of a lively schedule
+-- a form fits a schedule that is printed itself, finished or alone, unless it is JSON, which is for the report
+abbrev pub FitsForm : Bool → Form → Type 0
+FitsForm itself Plain = Unit {0}
+FitsForm itself Json = itself ≡ false
+
+-- the words write a seed, a number of steps, a number of nodes, and the faults of a lively schedule, and ask for a form that fits
 abbrev pub AreNumbers : RandomWords → ℕ → ℕ → ℕ → Option ℕ → Type 0
 AreNumbers words seed steps nodes faults =
     IsNumberOf 0 (2 ^ 64 - 1) words.seed seed × IsNumberOf 0 999930 words.steps steps
-    × IsNumberOf 1 7 words.nodes nodes × AreFaults words.lively words.faults faults
+    × IsNumberOf 1 7 words.nodes nodes × AreFaults words.lively words.faults faults × FitsForm (words.finish || words.alone) words.form
 
 -- the text is that of a random schedule, or of a lively one: alone, or with a line `report` and the report of its run
 abbrev pub IsDrawnText : Bool → Option ℕ → ℕ → ℕ → ℕ → List ℕ → Type 0

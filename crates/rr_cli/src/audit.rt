@@ -1,6 +1,6 @@
 //! The audit of a tape: what it prints, and a no in plain words.
 
-ghost use Rattle.std.specs.Prelude.{◌≡◌, IfOk, IfErr, string_bytes};
+ghost use Rattle.std.specs.Prelude.{◌≡◌, ◌≤◌, ◌⊎◌, IfOk, IfErr, string_bytes};
 ghost use Rattle.std.specs.Io.KnownBytes.{Keeps};
 ghost use Rattle.rr_text.specs.Lines.{IsFault};
 ghost use Rattle.rr_tape.specs.Taped.{IsTapeEvent};
@@ -8,8 +8,10 @@ ghost use Rattle.rr_tape.specs.TapeTexts.{tape_line};
 ghost use Rattle.rr_audit.specs.AuditTexts.{IsVerdictOn};
 ghost use Rattle.rr_cli.specs.Tapes.{yes_text};
 ghost use Rattle.rr_files.specs.Files.{file_at};
-ghost use Rattle.rr_cli.specs.Ends.{EndsOnTape, EndsOnInput};
+ghost use Rattle.rr_cli.specs.AuditObjects.{no_status};
+ghost use Rattle.rr_cli.specs.Ends.{EndsOnTape, EndsOnInput, TellsNo, yes_in};
 
+use crate::audit_objects::{no_object, yes_object};
 use crate::input::STANDARD_INPUT;
 use crate::refusals::{TextKind, end_by_fault, end_by_refusal};
 use crate::streams::{end_by_stream, end_by_text};
@@ -20,6 +22,7 @@ use rr_text::ReportLine;
 use rr_text::text_read::cut;
 use rr_text::text_report::push_report_words;
 use rr_types::{NodeId, Refusal};
+use rr_words::Form;
 use std::alloc::{AllocError, Global};
 use std::io;
 use std::io::{ErrorKind, Write};
@@ -27,15 +30,16 @@ use std::io::{ErrorKind, Write};
 // Audits the tape on standard input, and tells what is found.
 pub(crate) fn audit_input<I: Source, O: Sink, E: Write>(
     alloc: Global,
+    form: Form,
     input: &mut I,
     out: &mut O,
     err: &mut E,
 ) -> u8
-    ensures ends { EndsOnInput EndsOnTape (I.reading input.old) (I.reading input.new) result (O.printing out.old) (O.printing out.new) }
+    ensures ends { EndsOnInput (EndsOnTape form) (I.reading input.old) (I.reading input.new) result (O.printing out.old) (O.printing out.new) }
     ensures quiet { result ≡ 0 → Keeps (E.contents err.old) (E.contents err.new) }
 {
     match read_all(alloc, input) {
-        Ok(bytes) => audit_bytes(alloc, STANDARD_INPUT, bytes.as_slice(), out, err),
+        Ok(bytes) => audit_bytes(alloc, form, STANDARD_INPUT, bytes.as_slice(), out, err),
         Err(failure) => end_by_stream(err, STANDARD_INPUT, &failure),
     }
 }
@@ -43,16 +47,17 @@ pub(crate) fn audit_input<I: Source, O: Sink, E: Write>(
 // Audits the tape in a file, and tells what is found.
 pub(crate) fn audit_file<F: FileReader, O: Sink, E: Write>(
     alloc: Global,
+    form: Form,
     files: &mut F,
     path: &str,
     out: &mut O,
     err: &mut E,
 ) -> u8
-    ensures ends { EndsOnInput EndsOnTape (file_at (F.held files.old) path.now) (file_at (F.held files.new) path.now) result (O.printing out.old) (O.printing out.new) }
+    ensures ends { EndsOnInput (EndsOnTape form) (file_at (F.held files.old) path.now) (file_at (F.held files.new) path.now) result (O.printing out.old) (O.printing out.new) }
     ensures quiet { result ≡ 0 → Keeps (E.contents err.old) (E.contents err.new) }
 {
     match files.read_file(alloc, path) {
-        Ok(bytes) => audit_bytes(alloc, path, bytes.as_slice(), out, err),
+        Ok(bytes) => audit_bytes(alloc, form, path, bytes.as_slice(), out, err),
         Err(failure) => end_by_stream(err, path, &failure),
     }
 }
@@ -60,16 +65,17 @@ pub(crate) fn audit_file<F: FileReader, O: Sink, E: Write>(
 // Audits the tape that the bytes are, and tells what is found.
 fn audit_bytes<O: Sink, E: Write>(
     alloc: Global,
+    form: Form,
     name: &str,
     bytes: &[u8],
     out: &mut O,
     err: &mut E,
 ) -> u8
-    ensures ends { EndsOnTape bytes.now result (O.printing out.old) (O.printing out.new) }
+    ensures ends { EndsOnTape form bytes.now result (O.printing out.old) (O.printing out.new) }
     ensures quiet { result ≡ 0 → Keeps (E.contents err.old) (E.contents err.new) }
 {
     match audit_on(alloc, bytes, out) {
-        Ok(verdict) => end_by_verdict(alloc, bytes, verdict, out, err),
+        Ok(verdict) => end_by_verdict(alloc, form, bytes, verdict, out, err),
         Err(refusal) => end_by_fault(err, TextKind::Tape, name, bytes, &refusal),
     }
 }
@@ -77,20 +83,35 @@ fn audit_bytes<O: Sink, E: Write>(
 // Tells what an audit has found of the tape that the bytes are.
 fn end_by_verdict<O: Sink, E: Write>(
     alloc: Global,
+    form: Form,
     bytes: &[u8],
     verdict: Verdict,
     out: &mut O,
     err: &mut E,
 ) -> u8
-    ensures ends { IsVerdictOn bytes.now verdict → EndsOnTape bytes.now result (O.printing out.old) (O.printing out.new) }
+    requires { IsVerdictOn bytes.now verdict }
+    ensures ends { EndsOnTape form bytes.now result (O.printing out.old) (O.printing out.new) }
     ensures quiet { result ≡ 0 → Keeps (E.contents err.old) (E.contents err.new) }
 {
     match verdict {
-        Verdict::Yes(count) => match yes_text(alloc, count) {
-            Ok(text) => end_by_text(out, err, text.as_bytes()),
+        Verdict::Yes(count) => match yes_in(alloc, form, count) {
+            Ok(text) => end_by_text(out, err, text.as_slice()),
             Err(_) => end_by_refusal(err, &Refusal::OutOfMemory),
         },
-        Verdict::No(number, node, given) => end_by_no(alloc, bytes, number, node, &given, err),
+        Verdict::No(number, node, given) => match form {
+            Form::Plain => end_by_no(alloc, bytes, number, node, &given, err),
+            Form::Json => end_by_no_object(alloc, bytes, number, node, &given, out, err),
+        },
+    }
+}
+
+// A yes to a tape of `count` events, in a form.
+fn yes_in(alloc: Global, form: Form, count: u64) -> Result<Vec<u8>, AllocError>
+    ensures { IfOk result (λ text. text.items ≡ yes_in form count) }
+{
+    match form {
+        Form::Plain => Ok(yes_text(alloc, count)?.into_bytes()),
+        Form::Json => yes_object(alloc, count),
     }
 }
 
@@ -102,7 +123,7 @@ fn yes_text(alloc: Global, count: u64) -> Result<String, AllocError>
 }
 
 // Ends by a no to the event of this number. A second line tells it in plain words, where memory suffices for it.
-fn end_by_no<E: Write>(
+pub(crate) fn end_by_no<E: Write>(
     alloc: Global,
     bytes: &[u8],
     number: u64,
@@ -117,6 +138,36 @@ fn end_by_no<E: Write>(
         let _ = err.write_all(text.as_slice());
     }
     ending
+}
+
+// The status of a no that was to be printed, by that of the printing.
+fn no_status(printing: u8) -> u8
+    ensures { result ≡ no_status printing }
+{
+    if printing == 0 { 7 } else { printing }
+}
+
+// Ends by a no to the event of this number as `end_by_no` does, and prints its object before.
+fn end_by_no_object<O: Sink, E: Write>(
+    alloc: Global,
+    bytes: &[u8],
+    number: u64,
+    node: NodeId,
+    given: &Given,
+    out: &mut O,
+    err: &mut E,
+) -> u8
+    requires { number ≤ 1000000 }
+    ensures ends { ((result ≡ 6) × (O.printing out.new ≡ O.printing out.old)) ⊎ TellsNo Form.Json number result (O.printing out.old) (O.printing out.new) }
+{
+    match no_object(alloc, number, node, given) {
+        Ok(text) => {
+            let printing = end_by_text(out, err, text.as_slice());
+            let _ = end_by_no(alloc, bytes, number, node, given, err);
+            no_status(printing)
+        }
+        Err(_) => end_by_refusal(err, &Refusal::OutOfMemory),
+    }
 }
 
 // A no in plain words: what the tape has as its event of this number, and what the world gives there.

@@ -1,21 +1,57 @@
 //! The commands of `rr`, except `rr run` and `rr shell` (`rr_run`). `run` takes the words and the streams of a program, and gives
 //! its exit status. `execute` does it for words that could be read: `read_words` names the task, and a module here does it.
-//! `execute_with_views` does so with views of the run of a schedule too: `rr sim --explain` and `--json`, `rr stats`, `rr check`.
+//! `execute_with_views` does so with views of the run of a schedule too: `rr sim --explain`, `--json` and `--finish`, `rr stats`,
+//! `rr check`; and with those of a tape: `rr audit --explain`, `rr stats`. A text that is a schedule or a tape is told by itself
+//! (`recognising`).
+//!
+//! # Example
+//!
+//! This is in `crates/many_answers/src/answering.rt`:
+//!
+//! ```rust
+//! /// What `rr` gives by these words with these bytes on standard input.
+//! fn run<R: Files + AllocGlobal>(rt: &R, words: &[&str], input: &[u8]) -> Answer
+//! where
+//!     R::File: FileExt,
+//! {
+//!     let mut out = Counted::new(Vec::new(rt.alloc()));
+//!     let mut err = Vec::new(rt.alloc());
+//!     let status = execute(
+//!         rt,
+//!         words,
+//!         &mut HostFiles::new(rt),
+//!         &mut Counted::new(input),
+//!         &mut out,
+//!         &mut err,
+//!     );
+//!     Answer {
+//!         status,
+//!         out: out.into_inner(),
+//!         err,
+//!     }
+//! }
+//! ```
 #![tactic(auto)]
 
+mod area_objects;
 mod audit;
+mod audit_objects;
 mod exporting;
+mod finishing;
 mod folder_faults;
 mod folders;
 mod input;
 mod migrate;
 mod picture;
 mod program;
+mod random_objects;
 mod random_schedule;
+mod recognising;
 mod refusals;
 mod show;
 mod streams;
 mod sweep;
+mod taped;
 mod verification;
 mod viewing;
 mod views;
@@ -28,8 +64,8 @@ pub use random_schedule::{nodes_of, number_in};
 pub use refusals::{TextKind, end_by_fault, end_by_refusal, print_refusal, status};
 pub use rr_audit::audit_on;
 pub use rr_sim::{random_run, report_on};
-pub use rr_words::{CutWords, Form, RandomWords, ShellWords, Task, View, read_words};
-pub use show::show_disk;
+pub use rr_words::{CutWords, FinishView, Form, RandomWords, ShellWords, Task, View, read_words};
+pub use show::{show_disk, show_disk_in};
 pub use streams::{end_by_stream, end_by_text, end_by_unprinted, end_without_words};
 pub use viewing::execute_with_views;
 pub use words::end_by_words;

@@ -4,6 +4,7 @@ ghost use Rattle.std.specs.Prelude.{◌≡◌, ◌≢◌, Option, IfOk, IfErr, O
 ghost use Rattle.std.specs.Io.KnownBytes.{Keeps};
 ghost use Rattle.std.specs.IoError.{error_kind};
 ghost use Rattle.clap.specs.Words.{Text};
+ghost use Rattle.rr_words.specs.declared.tasks.Form.{Form};
 ghost use Rattle.rr_words.specs.Tasks.{CutWords, Simulate, Audit, Sweep, Draw, faults_of, task_of};
 ghost use Rattle.rr_files.specs.Files.{file_at};
 ghost use Rattle.rr_cli.specs.Ends.{EndsOn, EndsOnInput, EndsBy};
@@ -86,22 +87,24 @@ fn simulate_file<F: FileReader, O: Sink, E: Write>(
 
 /// Runs the program `rr` by these words, the first of which is its name, and gives its exit status. A FILE is read by `files`.
 ///
-/// `rr sim [FILE]` reads a schedule from FILE, or else from `input`, and prints its report on `out`. `rr show DIR`
+/// `rr sim [FILE]` reads a schedule from FILE, or else from `input`, and prints its report on `out`. `rr show DIR [--json]`
 /// prints what the areas of the disk in the folder DIR hold. `rr random --seed SEED --steps STEPS --nodes NODES` prints
-/// a random schedule, a line `report` and the report of its run. With `--schedule-only` it prints the schedule alone.
+/// a random schedule, a line `report` and the report of its run. With `--schedule-only` it prints the schedule alone. With
+/// `--finish` the events that finish it stand behind it. With `--json` it prints that report as JSON instead; this goes with
+/// neither of the other two.
 /// With `--lively` it is a schedule in which something happens, and `--faults` of a thousand steps have a fault.
-/// `rr audit [FILE]` reads a tape as `rr sim` does a schedule, and prints whether its events are what nodes do.
+/// `rr audit [FILE] [--json]` reads a tape as `rr sim` does a schedule, and prints whether its events are what nodes do.
 /// `rr sweep [FILE] --seed SEED` reads a schedule, crashes a node after each device call, and prints what it restarts
 /// with, as it goes.
-/// `rr draw [FILE] [--from FROM] [--to TO] [--node NODE] [--instance INSTANCE]` reads a schedule, and prints the picture
-/// of its run: of the lines FROM to TO, of one node or of all, and of the messages of one instance or of every event.
+/// `rr draw [FILE] [--from FROM] [--to TO] [--node NODE] [--instance INSTANCE] [--requests]` reads a schedule, and prints the
+/// picture of its run: of the lines FROM to TO, of one node or of all, and of the messages of one instance or of every event.
 /// `rr migrate DIR --node NODE --nodes NODES` opens the disk in the folder DIR, and prints what its areas hold then.
 /// The disk is that of node NODE of NODES nodes.
 /// `rr verify DIR [--json]` reads the folders of a cluster in DIR, and prints what they hold and whether they agree.
 /// `rr export DIR [--list]` prints the registry of the longest list that they have decided as a script, or else the list.
 /// What goes wrong is told on `err`, but for a reader of `out` that has gone. The statuses: 0 done, 2 wrong words, 3 no
 /// schedule or tape, 4 a damaged area or folders that don't agree, 5 a device, a file or a stream, 6 memory, 7 a tape with an event that isn't what
-/// its node does next.
+/// its node does next, 8 a schedule that isn't finished.
 pub fn execute<R: Files + AllocGlobal, S: AsStr, F: FileReader, I: Source, O: Sink, E: Write>(
     rt: &R,
     words: &[S],
@@ -115,20 +118,20 @@ where
     ensures ends { EndsBy (faults_of (map S.text words.now)) (task_of (map S.text words.now))
         (record { input = I.reading input.old; files = F.held files.old }) (record { input = I.reading input.new; files = F.held files.new }) result (O.printing out.old) (O.printing out.new) }
     ensures quiet { result ≡ 0 → Keeps (E.contents err.old) (E.contents err.new) }
-    ensures untouched { task_of (map S.text words.now) ≢ Simulate None → task_of (map S.text words.now) ≢ Audit None
+    ensures untouched { task_of (map S.text words.now) ≢ Simulate None → ((form : Form) → task_of (map S.text words.now) ≢ Audit None form)
         → ((seed : Option Text) → task_of (map S.text words.now) ≢ Sweep None seed)
         → ((cut : CutWords) → task_of (map S.text words.now) ≢ Draw None cut) → I.reading input.new ≡ I.reading input.old }
 {
     match read_words(rt.alloc(), words) {
         Ok(Task::Simulate(None)) => simulate_input(rt.alloc(), input, out, err),
         Ok(Task::Simulate(Some(path))) => simulate_file(rt.alloc(), files, path, out, err),
-        Ok(Task::Show(Some(folder))) => show_folder(rt, folder, out, err),
-        Ok(Task::Show(None)) => end_without_folder(err),
+        Ok(Task::Show(Some(folder), form)) => show_folder(rt, form, folder, out, err),
+        Ok(Task::Show(None, _)) => end_without_folder(err),
         Ok(Task::Random(words)) => random_by_words(rt.alloc(), &words, out, err),
-        Ok(Task::Audit(None)) => audit_input(rt.alloc(), input, out, err),
-        Ok(Task::Audit(Some(path))) => audit_file(rt.alloc(), files, path, out, err),
+        Ok(Task::Audit(None, form)) => audit_input(rt.alloc(), form, input, out, err),
+        Ok(Task::Audit(Some(path), form)) => audit_file(rt.alloc(), form, files, path, out, err),
         Ok(Task::View(_)) => end_without_views(err),
-        Ok(Task::Run(_, _, _, _, _)) => end_without_threads(err),
+        Ok(Task::Run(_, _, _, _, _, _)) => end_without_threads(err),
         Ok(Task::Shell(_)) => end_without_shell(err),
         Ok(Task::Sweep(_, None)) => end_without_seed(err),
         Ok(Task::Sweep(None, Some(seed))) => sweep_by_word(rt.alloc(), seed, input, out, err),

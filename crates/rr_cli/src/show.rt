@@ -7,9 +7,10 @@ ghost use Rattle.rr_text.specs.ReportTexts.{line};
 ghost use Rattle.rr_disk.specs.Areas.{bytes_of};
 ghost use Rattle.rr_types.specs.Counts.{counted, Grew};
 ghost use Rattle.rr_image.specs.Inspect.{inspected};
-ghost use Rattle.rr_cli.specs.Areas.{area_words, areas_text, IsShown};
+ghost use Rattle.rr_cli.specs.Areas.{area_words, areas_text, areas_in, IsShown, IsShownIn};
 ghost use Rattle.rr_cli.specs.Ends.{EndsOnFolder};
 
+use crate::area_objects::areas_objects;
 use crate::folder_faults::end_by_folder_fault;
 use crate::streams::end_by_text;
 use rr_disk::{Disk, FileDisk};
@@ -17,6 +18,7 @@ use rr_frame::Version;
 use rr_image::{AreaReport, inspect};
 use rr_stream::Sink;
 use rr_types::Refusal;
+use rr_words::Form;
 use std::alloc::{AllocError, Global};
 use std::io;
 use std::io::Write;
@@ -70,6 +72,21 @@ fn text_of(
     Ok(text)
 }
 
+// The text on both areas, in a form.
+fn text_in(
+    alloc: Global,
+    form: Form,
+    first: Option<AreaReport>,
+    second: Option<AreaReport>,
+) -> Result<Vec<u8>, AllocError>
+    ensures { IfOk result (λ text. text.items ≡ areas_in form first second) }
+{
+    match form {
+        Form::Plain => text_of(alloc, first, second),
+        Form::Json => areas_objects(alloc, first, second),
+    }
+}
+
 /// What the areas of a disk hold, as text: a line for each, `area A unformatted` or
 /// `area A epoch E node P of N facts F decided D`, with ` version 1` at its end where that is the area's version.
 /// Nothing is written to the disk.
@@ -84,8 +101,21 @@ pub fn show_disk<D: Disk>(alloc: Global, disk: &mut D) -> Result<Vec<u8>, Refusa
     ensures cause { IfErr result (λ e. e ≡ Device → Grew (D.faults disk.old) (D.faults disk.new)) }
     ensures calls { OnOk result (D.calls disk.new ≡ counted (counted (D.calls disk.old))) }
 {
+    show_disk_in(alloc, Form::Plain, disk)
+}
+
+/// What the areas of a disk hold, in a form: for people as by `show_disk`, or as an object of JSON for each area. The
+/// errors are the same, and nothing is written to the disk.
+pub fn show_disk_in<D: Disk>(alloc: Global, form: Form, disk: &mut D) -> Result<Vec<u8>, Refusal>
+    ensures told { D.tells disk.old → length (D.areas disk.old).first.cells < 2 ^ 64 → length (D.areas disk.old).second.cells < 2 ^ 64
+        → IsShownIn form result (inspected (bytes_of (D.areas disk.old).first) (bytes_of (D.areas disk.old).second)) ⊎ (result ≡ Err Device) }
+    ensures some { ((first : List ℕ) × (second : List ℕ) × IsShownIn form result (inspected first second)) ⊎ (result ≡ Err Device) }
+    ensures same { D.tells disk.old → D.areas disk.new ≡ D.areas disk.old }
+    ensures cause { IfErr result (λ e. e ≡ Device → Grew (D.faults disk.old) (D.faults disk.new)) }
+    ensures calls { OnOk result (D.calls disk.new ≡ counted (counted (D.calls disk.old))) }
+{
     match inspect(alloc, disk) {
-        Ok((first, second)) => match text_of(alloc, first, second) {
+        Ok((first, second)) => match text_in(alloc, form, first, second) {
             Ok(text) => Ok(text),
             Err(_) => Err(Refusal::OutOfMemory),
         },
@@ -94,33 +124,34 @@ pub fn show_disk<D: Disk>(alloc: Global, disk: &mut D) -> Result<Vec<u8>, Refusa
 }
 
 // The text on the areas of the disk in a folder. Its files are opened for reading alone, and nothing is made.
-fn folder_text<R: Files + AllocGlobal>(rt: &R, folder: &str) -> Result<Vec<u8>, Refusal>
+fn folder_text<R: Files + AllocGlobal>(rt: &R, form: Form, folder: &str) -> Result<Vec<u8>, Refusal>
 where
     R::File: FileExt,
-    ensures { ((first : List ℕ) × (second : List ℕ) × IsShown result (inspected first second)) ⊎ (result ≡ Err Device) }
+    ensures { ((first : List ℕ) × (second : List ℕ) × IsShownIn form result (inspected first second)) ⊎ (result ≡ Err Device) }
 {
     match FileDisk::open_read_only(rt, folder) {
         Ok(disk) => {
             let mut disk = disk;
-            show_disk(rt.alloc(), &mut disk)
+            show_disk_in(rt.alloc(), form, &mut disk)
         }
         Err(refusal) => Err(refusal),
     }
 }
 
-// Prints what the areas hold of the disk in a folder.
+// Prints what the areas hold of the disk in a folder, in a form.
 pub(crate) fn show_folder<R: Files + AllocGlobal, O: Sink, E: Write>(
     rt: &R,
+    form: Form,
     folder: &str,
     out: &mut O,
     err: &mut E,
 ) -> u8
 where
     R::File: FileExt,
-    ensures ends { EndsOnFolder result (O.printing out.old) (O.printing out.new) }
+    ensures ends { EndsOnFolder form result (O.printing out.old) (O.printing out.new) }
     ensures quiet { result ≡ 0 → Keeps (E.contents err.old) (E.contents err.new) }
 {
-    match folder_text(rt, folder) {
+    match folder_text(rt, form, folder) {
         Ok(text) => end_by_text(out, err, text.as_slice()),
         Err(refusal) => end_by_folder_fault(rt, err, folder, &refusal),
     }

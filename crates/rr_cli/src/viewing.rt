@@ -21,6 +21,8 @@ use std::rt::Files;
 ///
 /// `rr sim --explain [FILE]` prints the report of the schedule in FILE, or else in `input`, with each event and what came
 /// of it. `rr sim --json [FILE]` prints the report as JSON, an object a line; both options go together.
+/// `rr sim --finish [FILE]` goes on from the schedule's end until nothing is left to do, and shows the run of both; with
+/// `--schedule-only` it prints the lines of the added events. Where it isn't finished the status is 8.
 /// `rr stats [--json] [FILE]` prints statistics of the run. `rr check FILE REPORT` compares the report with the file
 /// REPORT, and prints where they differ first; then the status is 1.
 pub fn execute_with_views<
@@ -40,10 +42,10 @@ where
     match read_words(rt.alloc(), words) {
         Ok(Task::View(view)) => show_view(rt.alloc(), files, view, input, out, err),
         Ok(Task::Simulate(_)) => execute(rt, words, files, input, out, err),
-        Ok(Task::Show(_)) => execute(rt, words, files, input, out, err),
+        Ok(Task::Show(_, _)) => execute(rt, words, files, input, out, err),
         Ok(Task::Random(_)) => execute(rt, words, files, input, out, err),
-        Ok(Task::Audit(_)) => execute(rt, words, files, input, out, err),
-        Ok(Task::Run(_, _, _, _, _)) => execute(rt, words, files, input, out, err),
+        Ok(Task::Audit(_, _)) => execute(rt, words, files, input, out, err),
+        Ok(Task::Run(_, _, _, _, _, _)) => execute(rt, words, files, input, out, err),
         Ok(Task::Shell(_)) => execute(rt, words, files, input, out, err),
         Ok(Task::Sweep(_, _)) => execute(rt, words, files, input, out, err),
         Ok(Task::Draw(_, _)) => execute(rt, words, files, input, out, err),

@@ -5,11 +5,14 @@ ghost use Rattle.std.specs.Io.KnownBytes.{Keeps};
 ghost use Rattle.rr_words.specs.Tasks.{view_in};
 ghost use Rattle.rr_files.specs.Files.{reading_of};
 ghost use Rattle.rr_cli.specs.Ends.{EndsOnInput};
-ghost use Rattle.rr_cli.specs.Views.{Shows, EndsOnShown, EndsOnCompared, EndsOnView, left_behind, different};
+ghost use Rattle.rr_cli.specs.Shown.{Shows};
+ghost use Rattle.rr_cli.specs.Views.{EndsOnText, EndsOnShown, EndsOnCompared, EndsOnView, left_behind, different};
 
+use crate::finishing::finish_file;
 use crate::input::{name_of, read_file};
 use crate::refusals::{TextKind, end_by_fault, end_by_refusal};
 use crate::streams::end_by_text;
+use crate::taped::{TextAs, show_text};
 use rr_account::{
     Account, Difference, account_on, difference_of, explanation, json_explanation, json_report,
     json_statistics, push_difference, statistics_of, statistics_table,
@@ -33,7 +36,7 @@ pub(crate) enum Shown {
 }
 
 // The text that shows an account.
-fn shown_text(alloc: Global, how: Shown, account: &Account) -> Result<Vec<u8>, Refusal>
+pub(crate) fn shown_text(alloc: Global, how: Shown, account: &Account) -> Result<Vec<u8>, Refusal>
     ensures ok { IfOk result (λ text. Shows how account.now text.items) }
     ensures err { IfErr result (λ e. e ≡ Refusal.OutOfMemory) }
 {
@@ -58,7 +61,7 @@ fn statistics_text(alloc: Global, form: Form, account: &Account) -> Result<Vec<u
 }
 
 // Shows the run of the schedule that the bytes of this name are.
-fn show_bytes<O: Sink, E: Write>(
+pub(crate) fn show_bytes<O: Sink, E: Write>(
     alloc: Global,
     how: Shown,
     name: &str,
@@ -79,21 +82,30 @@ fn show_bytes<O: Sink, E: Write>(
     }
 }
 
-// Shows the run of the schedule in a file.
+// Shows what is in a file, whose text is read so.
 fn show_file<F: FileReader, I: Source, O: Sink, E: Write>(
     alloc: Global,
     files: &mut F,
+    text_as: TextAs,
     how: Shown,
     file: Option<&str>,
     input: &mut I,
     out: &mut O,
     err: &mut E,
 ) -> u8
-    ensures ends { EndsOnInput (EndsOnShown how) (reading_of (option_map (λ s. s.now) file.entry) (record { input = I.reading input.old; files = F.held files.old })) (reading_of (option_map (λ s. s.now) file.entry) (record { input = I.reading input.new; files = F.held files.new })) result (O.printing out.old) (O.printing out.new) }
+    ensures ends { EndsOnInput (EndsOnText text_as how) (reading_of (option_map (λ s. s.now) file.entry) (record { input = I.reading input.old; files = F.held files.old })) (reading_of (option_map (λ s. s.now) file.entry) (record { input = I.reading input.new; files = F.held files.new })) result (O.printing out.old) (O.printing out.new) }
     ensures quiet { result ≡ 0 → Keeps (E.contents err.old) (E.contents err.new) }
 {
     match read_file(alloc, files, file, input, err) {
-        Ok(bytes) => show_bytes(alloc, how, name_of(file), bytes.as_slice(), out, err),
+        Ok(bytes) => show_text(
+            alloc,
+            text_as,
+            how,
+            name_of(file),
+            bytes.as_slice(),
+            out,
+            err,
+        ),
         Err(status) => status,
     }
 }
@@ -194,20 +206,26 @@ pub(crate) fn show_view<F: FileReader, I: Source, O: Sink, E: Write>(
     ensures quiet { result ≡ 0 → Keeps (E.contents err.old) (E.contents err.new) }
 {
     match view {
-        View::Report(file) => show_file(alloc, files, Shown::Report, file, input, out, err),
-        View::Explanation(form, file) => {
-            show_file(
-                alloc,
-                files,
-                Shown::Explanation(form),
-                file,
-                input,
-                out,
-                err,
-            )
+        View::Report(file) => {
+            let how = Shown::Report;
+            show_file(alloc, files, TextAs::Schedule, how, file, input, out, err)
         }
+        View::Explanation(form, file) => {
+            let how = Shown::Explanation(form);
+            show_file(alloc, files, TextAs::Schedule, how, file, input, out, err)
+        }
+        View::Finish(what, file) => finish_file(alloc, files, what, file, input, out, err),
         View::Statistics(form, file) => {
-            show_file(alloc, files, Shown::Statistics(form), file, input, out, err)
+            let how = Shown::Statistics(form);
+            show_file(alloc, files, TextAs::Either, how, file, input, out, err)
+        }
+        View::TapeExplanation(form, file) => {
+            let how = Shown::Explanation(form);
+            show_file(alloc, files, TextAs::Tape, how, file, input, out, err)
+        }
+        View::TapeStatistics(form, file) => {
+            let how = Shown::Statistics(form);
+            show_file(alloc, files, TextAs::Tape, how, file, input, out, err)
         }
         View::Comparison(file, report) => compare_files(
             alloc, files, file, report, input, out, err,

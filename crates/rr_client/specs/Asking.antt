@@ -1,5 +1,5 @@
 -- A guest as a client, and what its calls give.
-use Rattle.std.specs.Prelude.{◌≡◌, ◌⊎◌, ◌-◌, ◌<◌, ◌≤◌, ℕ, List, Option, None, Some, Result, Ok, Err, IfOk, IfErr, IsErrAnd, Vec}
+use Rattle.std.specs.Prelude.{◌≡◌, ◌⊎◌, ◌+◌, ◌-◌, ◌<◌, ◌≤◌, ℕ, List, length, Option, None, Some, Result, Ok, Err, IfOk, IfErr, IsErrAnd, Vec}
 use Rattle.std.specs.declared.alloc.Global.{Global}
 use mathlib.Core.List.{IsPrefix}
 use Rattle.rr_types.specs.declared.binding.Binding.{Binding}
@@ -9,22 +9,31 @@ use Rattle.rr_types.specs.declared.command.RequestNo.{RequestNo}
 use Rattle.rr_types.specs.declared.command.Reply.{Reply}
 use Rattle.rr_types.specs.Registry.{registry_of, holding_of, reply_of}
 use Rattle.rr_window.specs.declared.sight.Sight.{Sight}
+use Rattle.rr_window.specs.declared.change.Change.{Change}
 use Rattle.rr_window.specs.Sights.{sight_of, bindings_with}
+use Rattle.rr_window.specs.Watches.{IsWatched}
 use Rattle.rr_client.specs.declared.error.ClusterError.{ClusterError}
-use Rattle.rr_client.specs.declared.error.ClusterError.TheVariants.{Numbers, Unacknowledged, NothingToAsk, ListFull, NumberUsed, Over, Unseen, OutOfMemory}
+use Rattle.rr_client.specs.declared.error.ClusterError.TheVariants.{Numbers, Unacknowledged, NothingToAsk, ListFull, NumberUsed, Over, Unseen, OutOfMemory, Late}
 
 -- a client: its node, its number, the longest list that it has seen or learned, the least number that its next request may have,
--- and the command that isn't acknowledged yet
+-- the command that isn't acknowledged yet, and the list up to where it has been told of changes
 pub record Asker : Type 0 where
   pub node : ℕ
   pub client : ℕ
   pub known : List Command
   pub next : ℕ
   pub unanswered : Option Command
+  pub told : List Command
 
--- from one state of a client to a later one: it is the same client at the same node, it knows no less, and gives no number twice
+-- from one state of a client to a later one: it is the same client at the same node, it knows no less, gives no number twice, and
+-- isn't told of changes
 abbrev pub GoesOn : Asker → Asker → Type 0
-GoesOn a b = (b.node ≡ a.node) × (b.client ≡ a.client) × IsPrefix a.known b.known × (a.next ≤ b.next)
+GoesOn a b = (b.node ≡ a.node) × (b.client ≡ a.client) × IsPrefix a.known b.known × (a.next ≤ b.next) × (b.told ≡ a.told)
+
+-- the same, but it is told of changes, up to what it then knows, and what else it has to do stays the same
+abbrev pub IsTold : Asker → Asker → Type 0
+IsTold a b =
+    (b.node ≡ a.node) × (b.client ≡ a.client) × IsPrefix a.known b.known × (b.next ≡ a.next) × (b.unanswered ≡ a.unanswered) × (b.told ≡ b.known)
 
 -- the number of the last request of a client
 abbrev pub last_request : Asker → RequestNo
@@ -81,3 +90,17 @@ IsLooked name a b (Err e) = (e ≡ Unseen) × (b ≡ a)
 abbrev pub IsListed : List ℕ → Asker → Asker → Result (Vec Binding Global) ClusterError → Type 0
 IsListed prefix a b (Ok v) = (v.items ≡ bindings_with prefix (registry_of b.known)) × (b.unanswered ≡ a.unanswered) × (b.next ≡ a.next)
 IsListed prefix a b (Err e) = ((e ≡ Unseen) ⊎ (e ≡ OutOfMemory)) × (b ≡ a)
+
+-- the bound names from which a watch begins, by the list that the client then knows. Where nothing is seen, nothing has changed
+abbrev pub IsWatching : List ℕ → Asker → Asker → Result (Vec Binding Global) ClusterError → Type 0
+IsWatching prefix a b (Ok v) = IsTold a b × (v.items ≡ bindings_with prefix (registry_of b.known))
+IsWatching prefix a b (Err e) = ((e ≡ Unseen) ⊎ (e ≡ OutOfMemory)) × (b ≡ a)
+
+-- the changes of the commands behind those that the client was told before; or these are too many, and a new watch has begun. Where
+-- nothing is seen, nothing has changed
+abbrev pub IsToldOf : List ℕ → Asker → Asker → Result (Vec Change Global) ClusterError → Type 0
+IsToldOf prefix a b (Ok v) = IsTold a b × IsWatched prefix a.told b.told v.items
+IsToldOf prefix a b (Err Late) = IsTold a b × (length a.told + 1024 < length b.told)
+IsToldOf prefix a b (Err Unseen) = b ≡ a
+IsToldOf prefix a b (Err OutOfMemory) = b ≡ a
+IsToldOf prefix a b (Err _) = ⊥

@@ -52,6 +52,9 @@ pub enum ClusterError {
     /// A look or a list saw nothing: look again.
     #[error("the node showed nothing: look again")]
     Unseen,
+    /// More than 1,024 commands were published since the client was told of changes: list the names, and go on.
+    #[error("changes were missed: list the names, and go on")]
+    Late,
     /// The nodes' run has failed.
     #[error("the run has failed: {}", refusal_text(.refusal))]
     Run { refusal: Refusal },

@@ -1,7 +1,7 @@
 //! A registry that survives crashes, in your own program: begin here. `run_cluster` opens a cluster in a folder, or makes it there,
 //! runs its nodes in threads, and has each of your guests ask a node as a client (`Caller`), by the calls of `Names`: `claim`, `update`, `release`,
-//! `transfer`, `look`, `list`, `sync`. It takes request numbers by itself, and times are milliseconds. Once all guests are done, it
-//! closes the folder and gives them back.
+//! `transfer`, `look`, `list`, `sync`, and `watch` and `changes`. It takes request numbers by itself, and times are milliseconds. Once all
+//! guests are done, it closes the folder and gives them back.
 //!
 //! Names belong to clients, which are numbers. Let no two programs be one client. A guest that is the same client later has its
 //! names still.
@@ -82,5 +82,5 @@ pub use guest::{Guest, Place};
 pub use names::Names;
 pub use options::Options;
 pub use rr_locked::Turnstile;
-pub use rr_window::{Sight, WindowName};
+pub use rr_window::{Change, Sight, WindowName};
 pub use seated::Caller;

@@ -2,11 +2,11 @@
 
 ghost use Rattle.std.specs.Prelude.{◌≡◌};
 ghost use Rattle.rr_types.specs.declared.command.Op.TheVariants.{Claim, Update, Release, Transfer};
-ghost use Rattle.rr_client.specs.Asking.{Asker, GoesOn, IsSubmitted, IsSubmittedAgain, IsSynced, IsLooked, IsListed};
+ghost use Rattle.rr_client.specs.Asking.{Asker, GoesOn, IsSubmitted, IsSubmittedAgain, IsSynced, IsLooked, IsListed, IsWatching, IsToldOf};
 
 use crate::error::ClusterError;
 use rr_types::{Binding, Name, NodeId, Reply, Value};
-use rr_window::Sight;
+use rr_window::{Change, Sight};
 
 /// The names of a cluster, as a client at a node asks for them. Each change has a request number of its own, so it counts once.
 ///
@@ -90,4 +90,19 @@ pub trait Names {
     fn list(&mut self, prefix: &[u8]) -> Result<Vec<Binding>, ClusterError>
         ensures bindings { IsListed prefix.now (asker self.old) (asker self.new) result }
         ensures later { GoesOn (asker self.old) (asker self.new) };
+
+    /// The bound names that begin with these bytes, as `list` tells them. From here on `changes` tells what changes.
+    ///
+    /// # Errors
+    /// As of `list`.
+    fn watch(&mut self, prefix: &[u8]) -> Result<Vec<Binding>, ClusterError>
+        ensures { IsWatching prefix.now (asker self.old) (asker self.new) result };
+
+    /// What has changed since the last call of this or of `watch`, of names that begin with these bytes, by what the node has
+    /// published: each change once, in the order of the list. It doesn't wait.
+    ///
+    /// # Errors
+    /// `Late`, where more than 1,024 commands were published since: what changed meanwhile isn't told. As of `list`.
+    fn changes(&mut self, prefix: &[u8]) -> Result<Vec<Change>, ClusterError>
+        ensures { IsToldOf prefix.now (asker self.old) (asker self.new) result };
 }

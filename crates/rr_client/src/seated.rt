@@ -2,6 +2,8 @@
 
 ghost use Rattle.std.specs.Prelude.{◌≡◌, ◌<◌, Some, IfOk, IfErr, OnErr};
 ghost use Rattle.rr_types.specs.Registry.{reply_of};
+ghost use Rattle.rr_client.specs.declared.error.ClusterError.TheVariants.{OutOfMemory, Unseen};
+ghost use Rattle.rr_types.specs.declared.refusal.Refusal.TheVariants as refusals;
 ghost use Rattle.rr_client.specs.Asking.{GoesOn, IsUnanswered, kept_behind, ComesTo, IsSubmitted};
 
 use crate::error::ClusterError;
@@ -13,7 +15,7 @@ use rr_locked::Turnstile;
 use rr_script::Answer;
 use rr_threads::{Client, Fate, Handle};
 use rr_types::{Binding, Command, Name, NodeId, Op, Refusal, Reply, RequestNo, Value, made_of};
-use rr_window::{Sight, WindowName};
+use rr_window::{Change, Sight, Watch, WindowName};
 use std::alloc::Global;
 use std::marker::Model;
 use std::sync::{Mutex, Wait};
@@ -47,6 +49,7 @@ pub struct Caller<'h, 'd, 'y, W: WindowName, T, R> {
     client: u32,
     numbers: Block,
     unanswered: Option<Command>,
+    watch: Watch<W>,
 }
 
 impl<'h, 'd, 'y, W: WindowName, T, R> Model for Caller<'h, 'd, 'y, W, T, R> {
@@ -54,7 +57,7 @@ impl<'h, 'd, 'y, W: WindowName, T, R> Model for Caller<'h, 'd, 'y, W, T, R> {
 
     ghost Value = { Asker };
 
-    ghost view = { λ c. record { node = c.handle.now.node; client = c.client; known = c.handle.now.known; next = c.numbers.next; unanswered = c.unanswered } };
+    ghost view = { λ c. record { node = c.handle.now.node; client = c.client; known = c.handle.now.known; next = c.numbers.next; unanswered = c.unanswered; told = c.watch } };
 }
 
 // The command that is kept to be asked again behind what a submit of it has come to.
@@ -193,9 +196,33 @@ impl<'h, 'd, 'y, W: WindowName, T: Turnstile, R: Wait> Names for Caller<'h, 'd, 
     fn list(&mut self, prefix: &[u8]) -> Result<Vec<Binding>, ClusterError> {
         match self.handle.list(self.alloc, prefix) {
             Ok(bindings) => Ok(bindings),
-            Err(Refusal::OutOfMemory) => Err(ClusterError::OutOfMemory),
-            Err(_) => Err(ClusterError::Unseen),
+            Err(refusal) => Err(unseen(&refusal)),
         }
+    }
+
+    fn watch(&mut self, prefix: &[u8]) -> Result<Vec<Binding>, ClusterError> {
+        let bindings = self.list(prefix)?;
+        self.watch = self.handle.watch();
+        Ok(bindings)
+    }
+
+    fn changes(&mut self, prefix: &[u8]) -> Result<Vec<Change>, ClusterError> {
+        match self.handle.changes(self.alloc, prefix, &mut self.watch) {
+            Ok(Some(changes)) => Ok(changes),
+            Ok(None) => Err(ClusterError::Late),
+            Err(refusal) => Err(unseen(&refusal)),
+        }
+    }
+}
+
+// Why a client sees nothing.
+fn unseen(refusal: &Refusal) -> ClusterError
+    ensures memory { refusal.now ≡ refusals.OutOfMemory → result ≡ OutOfMemory }
+    ensures guard { refusal.now ≡ refusals.NoGuard → result ≡ Unseen }
+{
+    match refusal {
+        Refusal::OutOfMemory => ClusterError::OutOfMemory,
+        _ => ClusterError::Unseen,
     }
 }
 
@@ -221,6 +248,7 @@ fn serve<'h, 'd, 'y, 'x, W: WindowName, T: Turnstile, R: Wait, G: Guest + Drop>(
         client,
         numbers,
     } = coming;
+    let watch = handle.watch();
     let mut caller = Caller {
         handle,
         alloc,
@@ -228,6 +256,7 @@ fn serve<'h, 'd, 'y, 'x, W: WindowName, T: Turnstile, R: Wait, G: Guest + Drop>(
         client,
         numbers,
         unanswered: None,
+        watch,
     };
     let told = guest.run(&mut caller);
     let ends = refusal_behind(&told);

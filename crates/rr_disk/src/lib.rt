@@ -4,6 +4,23 @@
 //! After a write (`write_at`) its range is loose: until the next `sync`, a crash may leave any bytes there. After a sync
 //! nothing is loose, and the present lengths are safe. A crash cuts an area no shorter than its safe length. It keeps each
 //! byte below the cut that isn't loose.
+//!
+//! # Example
+//!
+//! This is in `crates/first_pages/src/disk.rt`:
+//!
+//! ```rust
+//! use rr_disk::{Area, Disk};
+//! use rr_types::Refusal;
+//!
+//! /// Appends bytes to area 0, and makes them safe: no crash takes them away. It gives the new length.
+//! pub fn append<D: Disk>(disk: &mut D, bytes: &[u8]) -> Result<u64, Refusal> {
+//!     let end = disk.len(Area::First);
+//!     disk.write_at(Area::First, end, bytes)?;
+//!     disk.sync()?;
+//!     Ok(disk.len(Area::First))
+//! }
+//! ```
 #![tactic(auto)]
 
 mod area;

@@ -1,1 +1,2 @@
-mod PictureLaws
+pub mod PictureLaws
+pub mod TapeLaws

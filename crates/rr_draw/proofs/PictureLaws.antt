@@ -20,7 +20,7 @@ use Rattle.rr_draw.specs.declared.cut.Cut.{Cut}
 use Rattle.rr_draw.specs.Pictures.{line_of, told_of, title_of, element, shows, IsDrawn, drawn, AreDrawn, Adds, ShowsAll, IsPictureOf}
 
 -- what a picture has of events, and of one more
-are_drawn_push : (cut : Cut) (at k : ℕ) (rows : List Row) (text : List ℕ) (row : Row) (mine : List ℕ) → k ≡ at + length rows → AreDrawn cut at rows text → IsDrawn cut k row mine → AreDrawn cut at (rows ++ row ∷ []) (text ++ mine)
+pub are_drawn_push : (cut : Cut) (at k : ℕ) (rows : List Row) (text : List ℕ) (row : Row) (mine : List ℕ) → k ≡ at + length rows → AreDrawn cut at rows text → IsDrawn cut k row mine → AreDrawn cut at (rows ++ row ∷ []) (text ++ mine)
 are_drawn_push cut at k [] text row mine is none it =
     let here : k ≡ at = omega (arith, is) in
     (mine, [], ap (λ (t : List ℕ). t ++ mine) none ∙ sym (append-nil mine), subst (λ (i : ℕ). IsDrawn cut i row mine) here it, refl)

@@ -6,7 +6,7 @@ ghost use Rattle.rr_draw.specs.Pictures.{shows};
 
 use rr_sim::node_of;
 use rr_text::Event;
-use rr_types::{Body, Instance, Message, NodeId};
+use rr_types::{Body, Instance, Message, MessageKind, NodeId};
 
 /// Which events a picture shows: those on the lines `from` to `to` of the schedule, of one node or of all. Of an
 /// instance it shows those alone that send or hear a message which speaks of it, or sync or mark a fact of it.
@@ -16,9 +16,20 @@ pub struct Cut {
     pub to: u64,
     pub node: Option<NodeId>,
     pub instance: Option<Instance>,
+    /// Whether requests are drawn in a long picture too, where they would be folded.
+    pub requests: bool,
 }
 
 impl Cut {
+    /// Whether messages of a kind are folded in a long picture.
+    pub(crate) fn folds(&self, kind: MessageKind) -> bool {
+        match kind {
+            MessageKind::Request => !self.requests,
+            MessageKind::Beat | MessageKind::Suspects => true,
+            _ => false,
+        }
+    }
+
     /// Whether the event of a line lies within the lines and the node.
     pub(crate) fn shows(&self, line: u64, event: &Event) -> bool
         ensures { result ≡ shows self.now line event.now }

@@ -1,10 +1,11 @@
 //! A picture as it grows, event by event.
 
 use crate::cut::Cut;
-use crate::glyphs::{class_of, is_quiet, push_arrow, push_facts, push_mark, push_message_name};
+use crate::glyphs::{class_of, push_arrow, push_facts, push_mark, push_message_name};
 use crate::lane::{Job, Lane, lanes_of, width_of};
+use crate::scene::Scene;
 use crate::style::{LEGEND, LEGEND_WIDTH, STYLE};
-use rr_sim::{Cluster, Stance};
+use rr_sim::Stance;
 use rr_text::Event;
 use rr_text::text_word::{push_op, push_set};
 use rr_types::{Command, Fact, Message, NodeId, Nodes};
@@ -48,6 +49,8 @@ pub(crate) struct Drawing {
     cut: Cut,
     /// Whether there are so many events that those are folded which nobody looks at.
     is_long: bool,
+    /// Whether it is a picture of a tape, whose nodes are up from the beginning and make no device calls.
+    is_tape: bool,
     /// Whether the event that is drawn is shown, and has labels.
     is_shown: bool,
     y: u64,
@@ -78,6 +81,7 @@ impl Drawing {
             nodes,
             cut: *cut,
             is_long,
+            is_tape: false,
             is_shown: false,
             y: TOP,
             lanes: lanes_of(alloc, nodes)?,
@@ -87,14 +91,30 @@ impl Drawing {
         })
     }
 
-    /// What is drawn of an event that has told these lines, where the cluster is behind it. It speaks of this message, and
+    /// The same of a tape.
+    pub(crate) fn of_tape(
+        alloc: Global,
+        nodes: Nodes,
+        cut: &Cut,
+        is_long: bool,
+    ) -> io::Result<Drawing> {
+        let mut drawing = Drawing::new(alloc, nodes, cut, is_long)?;
+        drawing.is_tape = true;
+        for lane in &mut drawing.lanes {
+            lane.since = Some(TOP);
+            lane.is_up = true;
+        }
+        Ok(drawing)
+    }
+
+    /// What is drawn of an event that has told these lines, where the scene is behind it. It speaks of this message, and
     /// lies within the lines and the node of the cut; `speaks` says whether the message is of its instance.
     pub(crate) fn draw(
         &mut self,
         line: u64,
         event: &Event,
         told: &[u8],
-        cluster: &Cluster,
+        scene: &Scene<'_>,
         message: Option<&Message>,
         shown: (bool, bool),
     ) -> io::Result<Art> {
@@ -105,11 +125,11 @@ impl Drawing {
         };
         let (is_within, speaks) = shown;
         let node = rr_sim::node_of(event);
-        let is_folded = self.is_folded(event, told, cluster, message);
+        let is_folded = self.is_folded(event, told, scene, message);
         self.is_shown = is_within && speaks && !is_folded;
-        self.draw_input(event, told, cluster.wire(), &mut art)?;
+        self.draw_input(event, told, scene.wire, &mut art)?;
         self.is_shown = is_within && !is_folded;
-        self.follow(node, event, told, cluster, &mut art)?;
+        self.follow(node, event, told, scene, &mut art)?;
         if told.starts_with(b"refuse") {
             self.draw_refusal(node, event, told, &mut art.shapes)?;
         }
@@ -130,19 +150,20 @@ impl Drawing {
         Ok(art)
     }
 
-    /// Whether an event is folded: in a long picture requests, heartbeats, and device calls without a job.
+    /// Whether an event is folded: in a long picture heartbeats, device calls without a job, and requests unless they are
+    /// asked for.
     fn is_folded(
         &self,
         event: &Event,
         told: &[u8],
-        cluster: &Cluster,
+        scene: &Scene<'_>,
         message: Option<&Message>,
     ) -> bool {
         if !self.is_long {
             return false;
         }
         if let Some(message) = message {
-            return is_quiet(message.body.kind());
+            return self.cut.folds(message.body.kind());
         }
         if !told.is_empty() {
             return false;
@@ -151,10 +172,7 @@ impl Drawing {
             Event::Tick { .. } => true,
             Event::Device { node } => {
                 self.is_idle(*node)
-                    && match cluster.node(*node) {
-                        Some(seat) => matches!(seat.stance(), Stance::Resting | Stance::Flushed),
-                        None => false,
-                    }
+                    && matches!(scene.stance, Some(Stance::Resting | Stance::Flushed))
             }
             _ => false,
         }
@@ -351,17 +369,21 @@ impl Drawing {
         node: NodeId,
         event: &Event,
         told: &[u8],
-        cluster: &Cluster,
+        scene: &Scene<'_>,
         art: &mut Art,
     ) -> io::Result<()> {
-        let Some(seat) = cluster.nodes().get(usize::from(node.index())) else {
+        let Some(stance) = scene.stance else {
             return Ok(());
         };
-        let stance = seat.stance();
         match event {
-            Event::Take { .. } => self.begin(node, stance, false)?,
+            Event::Take { .. } => {
+                self.begin(node, stance, false)?;
+                if self.is_tape {
+                    self.draw_facts(node, scene.synced, art)?;
+                }
+            }
             Event::Snap { .. } => self.begin(node, stance, true)?,
-            Event::Device { .. } => self.draw_call(node, stance, seat.synced(), told, art)?,
+            Event::Device { .. } => self.draw_call(node, stance, scene.synced, told, art)?,
             Event::Mark { .. } => self.draw_mark(node, art)?,
             Event::Restart { .. } => self.draw_restart(node, stance, &mut art.shapes)?,
             Event::Crash { .. } => self.draw_crash(node, &mut art.shapes)?,

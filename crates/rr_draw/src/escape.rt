@@ -22,7 +22,7 @@ fn push_escaped_byte(out: &mut Vec<u8>, byte: u8) -> Result<(), Refusal>
 }
 
 /// Appends a text, whose bytes SVG shows as they are.
-pub(crate) fn push_escaped(out: &mut Vec<u8>, text: &[u8]) -> Result<(), Refusal>
+pub fn push_escaped(out: &mut Vec<u8>, text: &[u8]) -> Result<(), Refusal>
     ensures ok { OnOk result (out.new.items ≡ out.old.items ++ flat_map escaped text.now) }
     ensures err { IfErr result (λ e. e ≡ Refusal.OutOfMemory) }
 {

@@ -42,14 +42,6 @@ pub(crate) fn push_message_name(out: &mut Vec<u8>, message: &Message) -> io::Res
     }
 }
 
-/// Whether messages of a kind are folded in a long picture.
-pub(crate) fn is_quiet(kind: MessageKind) -> bool {
-    matches!(
-        kind,
-        MessageKind::Request | MessageKind::Beat | MessageKind::Suspects
-    )
-}
-
 /// The kind of a fact by number, its instance and its round.
 fn named(fact: &Fact) -> (u8, u32, Option<u32>) {
     match fact {

@@ -9,7 +9,8 @@ ghost use Rattle.rr_draw.specs.Pictures.{element, title_of, Adds, ShowsAll, IsPi
 use crate::cut::Cut;
 use crate::drawing::{Art, Drawing};
 use crate::escape::push_escaped;
-use rr_sim::{Cluster, decided_list, tell_read};
+use crate::scene::{Scene, scene_of};
+use rr_sim::{Cluster, decided_list, node_of, tell_read};
 use rr_stream::Sink;
 use rr_text::Event;
 use rr_text::text_parse::{first_line, next_event};
@@ -21,7 +22,7 @@ use std::alloc::Global;
 use std::io;
 
 /// Writing a text fails only where memory runs out.
-fn written<T: Drop>(text: io::Result<T>) -> Result<T, Refusal>
+pub(crate) fn written<T: Drop>(text: io::Result<T>) -> Result<T, Refusal>
     ensures err { IfErr result (λ e. e ≡ Refusal.OutOfMemory) }
 {
     match text {
@@ -72,24 +73,24 @@ fn title_of(alloc: Global, line: u64, event: &Event, told: &[u8]) -> Result<Vec<
     Ok(title)
 }
 
-/// Draws the event of a line, which has told these lines, where the cut shows it. The cluster is behind it.
-fn draw_event(
+/// Draws the event of a line, which has told these lines, where the cut shows it. The scene is behind it.
+pub(crate) fn draw_event(
     alloc: Global,
     cut: &Cut,
     line: u64,
     event: &Event,
     told: &[u8],
-    cluster: &Cluster,
+    scene: &Scene<'_>,
     drawing: &mut Drawing,
     elements: &mut Vec<u8>,
 ) -> Result<(), Refusal>
     ensures ok { OnOk result (Adds cut.now line (record { event = event.now; told = told.now }) elements.old.items elements.new.items) }
     ensures err { IfErr result (λ e. e ≡ Refusal.OutOfMemory) }
 {
-    let message = message_of(event, told, cluster.wire());
+    let message = message_of(event, told, scene.wire);
     let speaks = cut.speaks(message);
     let is_shown = cut.shows(line, event);
-    let art = written(drawing.draw(line, event, told, cluster, message, (is_shown, speaks)))?;
+    let art = written(drawing.draw(line, event, told, scene, message, (is_shown, speaks)))?;
     if !is_shown {
         return Ok(());
     }
@@ -128,13 +129,14 @@ fn draw_events<O: Sink>(
         let mut told = Vec::new(alloc);
         cluster.tell(&mut told)?;
         push_bytes(report, told.as_slice())?;
+        let scene = scene_of(cluster, node_of(&event));
         draw_event(
             alloc,
             cut,
             line,
             &event,
             told.as_slice(),
-            cluster,
+            &scene,
             drawing,
             &mut elements,
         )?;
@@ -147,6 +149,11 @@ fn draw_events<O: Sink>(
 /// Beyond so many events a picture is long.
 const MANY: u64 = 300;
 
+/// Whether a cut of so many lines has many of them.
+pub(crate) fn has_many(lines: u64, cut: &Cut) -> bool {
+    lines.min(cut.to).saturating_sub(cut.from) > MANY
+}
+
 /// Whether a cut of a text of lines has many of them.
 fn is_long(bytes: &[u8], cut: &Cut) -> bool {
     let mut lines = 1u64;
@@ -155,7 +162,7 @@ fn is_long(bytes: &[u8], cut: &Cut) -> bool {
             lines = lines.saturating_add(1);
         }
     }
-    lines.min(cut.to).saturating_sub(cut.from) > MANY
+    has_many(lines, cut)
 }
 
 /// The picture of the run of a schedule on `nodes` nodes, whose lines after the first are `bytes`.

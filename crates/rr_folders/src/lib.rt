@@ -1,6 +1,21 @@
 //! The folders of a cluster, as a program opens them: node P's is `DIR/P`, and `DIR/cluster` says which cluster they are.
 //! `open_folders` locks them, judges what it finds as `rr_cluster` says, and writes what is missing where a cluster begins.
 //! `survey_folders` and `enter` are its two halves. `Locks` holds their locks, and reserves request numbers in a locked folder.
+//!
+//! # Example
+//!
+//! This is in `crates/first_pages/src/folders.rt`:
+//!
+//! ```rust
+//! use rr_folders::{Closed, survey_folders};
+//! use rr_types::Nodes;
+//!
+//! /// Whether a cluster of these nodes would begin in a folder, which is made if it is missing. `open_folders` opens it.
+//! pub fn is_fresh(rt: &HostRuntime, nodes: Nodes, dir: &str) -> Result<bool, Closed> {
+//!     let survey = survey_folders(rt, nodes, dir)?;
+//!     Ok(survey.is_fresh())
+//! }
+//! ```
 #![tactic(auto)]
 
 mod closed;

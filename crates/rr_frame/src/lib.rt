@@ -5,6 +5,21 @@
 //! that is cut short or holds no lawful value.
 //! `encode_fact`, `encode_group` and `encode_snapshot` write; `decode_fact`, `decode_group` and `decode_snapshot` read a whole
 //! value.
+//!
+//! # Example
+//!
+//! This is in `crates/first_pages/src/frame.rt`:
+//!
+//! ```rust
+//! use rr_frame::encode_fact;
+//! use rr_types::{Command, Fact, Instance, Refusal, Round};
+//! use std::alloc::Global;
+//!
+//! /// The bytes of the fact that a node has adopted this command in round 1.
+//! pub fn adoption(alloc: Global, instance: Instance, command: Command) -> Result<Vec<u8>, Refusal> {
+//!     encode_fact(alloc, &Fact::Adopt(instance, Round::at(1), command))
+//! }
+//! ```
 #![tactic(auto)]
 
 mod command;

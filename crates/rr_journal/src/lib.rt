@@ -12,6 +12,37 @@
 //! Bytes behind a closed gate mean nothing. So until the gate is written, what a crash may leave holds the facts from
 //! before the flush. From the last sync on it holds these and the group's; in between, one or the other. A snapshot
 //! has the promise of the same facts, so each crash in a switch leaves what was there before it.
+//!
+//! # Example
+//!
+//! This is in `crates/first_pages/src/journal.rt`:
+//!
+//! ```rust
+//! use rr_disk::Disk;
+//! use rr_journal::Journal;
+//! use rr_types::{Group, Refusal};
+//! use std::alloc::Global;
+//!
+//! /// Appends a group of facts to a journal, and says how many facts it has by then. `Journal::open` opened it.
+//! pub fn append<D: Disk>(
+//!     alloc: Global,
+//!     journal: &mut Journal<D>,
+//!     group: Group,
+//! ) -> Result<u64, Refusal> {
+//!     match journal.begin(alloc, group) {
+//!         Ok(job) => {
+//!             // Each step is a device call: write, sync, write, sync.
+//!             let _synced = job
+//!                 .step(journal)?
+//!                 .step(journal)?
+//!                 .step(journal)?
+//!                 .step(journal)?;
+//!             Ok(journal.facts())
+//!         }
+//!         Err((refusal, _)) => Err(refusal),
+//!     }
+//! }
+//! ```
 #![tactic(auto)]
 
 mod call;

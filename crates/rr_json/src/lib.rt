@@ -1,5 +1,22 @@
 //! Texts as JSON, an object in a line. The members of an object are written in turn: `push_open` or `push_begun` begin one,
 //! and `push_end` ends it with its line. `push_report_objects` writes a report.
+//!
+//! # Example
+//!
+//! This is in `crates/first_pages/src/json.rt`:
+//!
+//! ```rust
+//! use rr_json::{push_end, push_number_member, push_open, push_text_member};
+//! use std::alloc::AllocError;
+//!
+//! /// Writes the line `{"kind":"name","name":"printer","owner":7}`.
+//! pub fn push_name(out: &mut Vec<u8>) -> Result<(), AllocError> {
+//!     push_open(out, b"name")?;
+//!     push_text_member(out, b"name", b"printer")?;
+//!     push_number_member(out, b"owner", 7)?;
+//!     push_end(out)
+//! }
+//! ```
 #![tactic(auto)]
 
 mod json_text;

@@ -1,2 +1,2 @@
 mod IdleLaws
-mod LivelyLaws
+pub mod LivelyLaws

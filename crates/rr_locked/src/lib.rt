@@ -2,6 +2,24 @@
 //! `Locked` is a core under its lock:
 //! clients and the node's loop call `step`, and the loop `mark`, `take_group` and `next_message`. `carry` flushes a group,
 //! and a `Follower` shows what is decided. The calls named `.._on` also note their event on the tape (`Recording`).
+//!
+//! # Example
+//!
+//! This is in `crates/first_pages/src/locked.rt`:
+//!
+//! ```rust
+//! use rr_locked::Locked;
+//! use rr_types::{Command, Input, Refusal};
+//!
+//! /// Submits a command, and takes the group of facts that has to be flushed for it. It says how many facts these are.
+//! pub fn submit(locked: &mut Locked, command: Command) -> Result<usize, Refusal> {
+//!     locked.step(&Input::Submit(command))?;
+//!     match locked.take_group()? {
+//!         Some(group) => Ok(group.facts().len()),
+//!         None => Ok(0),
+//!     }
+//! }
+//! ```
 #![tactic(auto)]
 
 mod among;

@@ -1,6 +1,25 @@
 //! The model: the world, in which nodes crash and messages are lost, repeated and reordered; what a sound run is; and what a
 //! node does. `agreement` says that every run is sound, whatever the number of nodes. A node is defined in `specs/NodeStep.antt`.
 //! `laws_of_nodes` ties it to the world. The functions here do nothing: their contracts are the theorems.
+//!
+//! # Example
+//!
+//! This is in `crates/first_pages/src/model.rt`:
+//!
+//! ```rust
+//! ghost use Rattle.std.specs.Prelude.{List};
+//! ghost use Rattle.rr_model.specs.Sound.{IsSound};
+//! ghost use Rattle.rr_model.specs.World.{Step, IsRun};
+//!
+//! use rr_model::agreement;
+//!
+//! /// Every run of three nodes is sound.
+//! pub fn agreement_of_three()
+//!     ensures { (run : List Step) → IsRun 3 run → IsSound 3 run }
+//! {
+//!     agreement();
+//! }
+//! ```
 #![tactic(auto)]
 
 ghost use Rattle.std.specs.Prelude.{◌≡◌, ℕ, Bool, List, [], ◌∷◌, ◌++◌, ◌↔◌, Option, None, Some, IsTrue};

@@ -10,6 +10,24 @@
 //! - What a node owes and has promised. `Unmarked` has the facts: `push_all` stages them, `run` makes a group of the oldest,
 //!   `put_back` or `drop_running` ends it. `Outbox` has the messages: `owe_all` adds, `take_leaving` gives the oldest that is free
 //!   or whose fact is marked.
+//!
+//! # Example
+//!
+//! This is in `crates/first_pages/src/parts.rt`:
+//!
+//! ```rust
+//! use rr_parts::Heartbeat;
+//! use rr_types::{NodeId, NodeSet};
+//!
+//! /// Whom a node suspects behind five ticks, in which it has heard from one node alone: all but this one.
+//! pub fn suspected(heartbeat: &mut Heartbeat, heard: NodeId) -> NodeSet {
+//!     for _tick in 0..5 {
+//!         heartbeat.tick();
+//!         heartbeat.heard(heard);
+//!     }
+//!     heartbeat.suspects()
+//! }
+//! ```
 #![tactic(auto)]
 
 ghost use Rattle.std.specs.Prelude.{ℕ, List};

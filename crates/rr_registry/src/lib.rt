@@ -1,6 +1,23 @@
 //! The replicated registry of names, with the replies to its commands. `apply` and `apply_all` take the commands in the order
 //! of the list. Each request is applied once: a repeat changes nothing, and `reply` gives the kept reply. `entry` and `entries`
 //! look names up.
+//!
+//! # Example
+//!
+//! This is in `crates/first_pages/src/registry.rt`:
+//!
+//! ```rust
+//! use rr_registry::Registry;
+//! use rr_types::{Command, Reply};
+//! use std::alloc::AllocError;
+//!
+//! /// Applies a command twice. The second time changes nothing, and has the same reply.
+//! pub fn apply_twice(registry: &mut Registry, command: &Command) -> Result<bool, AllocError> {
+//!     let reply = registry.apply(command)?;
+//!     let repeated = registry.apply(command)?;
+//!     Ok(matches!(reply, Reply::Claimed) && matches!(repeated, Reply::Claimed))
+//! }
+//! ```
 #![tactic(auto)]
 
 mod entries;

@@ -1,2 +1,3 @@
+mod NewsLemmas
 mod ShellLemmas
 mod ToldLemmas

@@ -3,10 +3,9 @@ use Rattle.std.proofs.Common.{◌≡◌, ◌∙◌, true, List, ℕ, Option, ap�
 use Rattle.std.proofs.KnownBytes.{Appends-kept}
 use Rattle.std.specs.Io.KnownBytes.{Keeps}
 use Rattle.rr_script.specs.declared.script_line.ScriptLine.{ScriptLine}
-use Rattle.rr_script.specs.ScriptTexts.{script_text}
 use Rattle.rr_threads.specs.declared.reused.Reused.{Reused}
 use Rattle.rr_threads.specs.Reusing.{are_reused}
-use Rattle.rr_run.specs.Telling.{TellsReused, TellsOfBytes}
+use Rattle.rr_run.specs.Telling.{TellsReused}
 
 -- what is told of a script, and nothing behind it
 pub told_kept : (lines : List ScriptLine) (a b c : Option (List ℕ)) → TellsReused lines a b → Keeps b c → TellsReused lines a c

@@ -1,4 +1,6 @@
-pub mod Listings
+pub mod AnswerObjects
+pub mod Ears
+pub mod News
 pub mod Runs
 pub mod Shells
 pub mod Submits

@@ -9,31 +9,33 @@ use Rattle.rr_files.specs.Files.{Readable, file_at}
 use Rattle.rr_script.specs.declared.answer.Answer.{Answer}
 use Rattle.rr_script.specs.Scripted.{Scripted, IsScript}
 use Rattle.rr_script.specs.ScriptTexts.{script_text}
-use Rattle.rr_script.specs.AnswerTexts.{answer_text}
 use Rattle.rr_script.specs.Faults.{IsScriptFault}
 use Rattle.rr_cli.specs.Randoms.{IsNumberIn}
 use Rattle.rr_cli.specs.Ends.{EndsOnInput, IsStreamStatus, Prints}
 use Rattle.rr_cli.specs.Views.{EndsWithViews}
 use Rattle.rr_words.specs.Tasks.{ShellWords, Task, Run, Shell}
 use Rattle.rr_cli.specs.Refusals.{status_of}
+use Rattle.rr_words.specs.declared.tasks.Form.{Form}
+use Rattle.rr_run.specs.AnswerObjects.{answers_in}
 use Rattle.rr_run.specs.Shells.{EndsOnShellWords}
 
--- a run in threads, with a file for its tape or none: answers are printed, a line each; or the folders or the run are
+-- a run in threads, with a file for its tape or none: answers are printed in a form, a line each; or the folders or the run are
 -- refused; or there is to be a tape, and an area is formatted or the tape can't be written. Without answers standard output
 -- is as it was
-pub data EndsOnFolders (tape : Option Text) (status : ℕ) (old new : Printing) : Type 0 where
-  answered : (answers : List Answer) → Prints (answer_text answers) status old new → EndsOnFolders tape status old new
-  refused : (refusal : Refusal) → status ≡ status_of refusal → new ≡ old → EndsOnFolders tape status old new
-  stale : IsSome tape → status ≡ 2 → new ≡ old → EndsOnFolders tape status old new
-  unwritten : IsSome tape → IsStreamStatus status → new ≡ old → EndsOnFolders tape status old new
+pub data EndsOnFolders (form : Form) (tape : Option Text) (status : ℕ) (old new : Printing) : Type 0 where
+  answered : (answers : List Answer) → Prints (answers_in form answers) status old new → EndsOnFolders form tape status old new
+  refused : (refusal : Refusal) → status ≡ status_of refusal → new ≡ old → EndsOnFolders form tape status old new
+  stale : IsSome tape → status ≡ 2 → new ≡ old → EndsOnFolders form tape status old new
+  unwritten : IsSome tape → IsStreamStatus status → new ≡ old → EndsOnFolders form tape status old new
 
 -- a run of n nodes on the bytes of a script: in threads; or the bytes are no script for n nodes, and standard output is as
 -- it was
-pub data EndsOnScript (n : ℕ) (tape : Option Text) (bytes : List ℕ) (status : ℕ) (old new : Printing) : Type 0 where
+pub data EndsOnScript (form : Form) (n : ℕ) (tape : Option Text) (bytes : List ℕ) (status : ℕ) (old new : Printing) : Type 0 where
   asked : (script : Scripted) → IsScript script → script.nodes ≡ n → bytes ≡ script_text script.lines
-      → EndsOnFolders tape status old new
-      → EndsOnScript n tape bytes status old new
-  faulty : (refusal : Refusal) → IsScriptFault n bytes refusal → status ≡ status_of refusal → new ≡ old → EndsOnScript n tape bytes status old new
+      → EndsOnFolders form tape status old new
+      → EndsOnScript form n tape bytes status old new
+  faulty : (refusal : Refusal) → IsScriptFault n bytes refusal → status ≡ status_of refusal → new ≡ old
+      → EndsOnScript form n tape bytes status old new
 
 -- a run on what a word names: on the input where it is a hyphen, else on a file, and the input is left alone
 abbrev pub EndsOnNamed : Text → (List ℕ → ℕ → Printing → Printing → Type 0) → Readable → Readable → ℕ → Printing → Printing → Type 0
@@ -42,11 +44,11 @@ EndsOnNamed word On from to status old new =
     ((to.input ≡ from.input) × EndsOnInput On (file_at from.files word) (file_at to.files word) status old new)
 
 -- a run by words: of the number of nodes that a word names, by a script that is read; or it names none from 1 to 7
-pub data EndsOnRun (of_nodes script : Text) (tape : Option Text) (from to : Readable) (status : ℕ) (old new : Printing) : Type 0 where
-  numbered : (n : ℕ) → IsNumberIn 1 7 of_nodes n → EndsOnNamed script (EndsOnScript n tape) from to status old new
-      → EndsOnRun of_nodes script tape from to status old new
+pub data EndsOnRun (form : Form) (of_nodes script : Text) (tape : Option Text) (from to : Readable) (status : ℕ) (old new : Printing) : Type 0 where
+  numbered : (n : ℕ) → IsNumberIn 1 7 of_nodes n → EndsOnNamed script (EndsOnScript form n tape) from to status old new
+      → EndsOnRun form of_nodes script tape from to status old new
   unnumbered : ((n : ℕ) → IsNumberIn 1 7 of_nodes n → ⊥) → status ≡ 2 → to.input ≡ from.input → new ≡ old
-      → EndsOnRun of_nodes script tape from to status old new
+      → EndsOnRun form of_nodes script tape from to status old new
 
 -- words that ask for a run, and say all that has to be said of it
 pub record AsksForRun (task : Task) : Type 0 where
@@ -55,17 +57,18 @@ pub record AsksForRun (task : Task) : Type 0 where
   pub script : Text
   pub tape : Option Text
   pub tick : Option Text
-  pub is : task ≡ Run (Some nodes) (Some dir) (Some script) tape tick
+  pub form : Form
+  pub is : task ≡ Run (Some nodes) (Some dir) (Some script) tape tick form
 
 -- whether words ask for nodes in threads, and say all that has to be said of them
 abbrev pub AsksForThreads : Task → Type 0
-AsksForThreads (Run (Some nodes) (Some dir) (Some script) tape tick) = Unit {0}
+AsksForThreads (Run (Some nodes) (Some dir) (Some script) tape tick form) = Unit {0}
 AsksForThreads (Shell words) = Unit {0}
 AsksForThreads task = ⊥
 
 -- the program with threads, by words: a run, or a shell, or what the program without threads does, or no memory even to read them
 pub data EndsWithThreads (faults : Kinds) (task : Task) (from to : Readable) (status : ℕ) (old new : Printing) : Type 0 where
-  by_script : (asks : AsksForRun task) → faults ≡ [] → EndsOnRun asks.nodes asks.script asks.tape from to status old new
+  by_script : (asks : AsksForRun task) → faults ≡ [] → EndsOnRun asks.form asks.nodes asks.script asks.tape from to status old new
       → EndsWithThreads faults task from to status old new
   by_shell : (words : ShellWords) → task ≡ Shell words → faults ≡ [] → EndsOnShellWords words from.input to.input status old new
       → EndsWithThreads faults task from to status old new

@@ -1,15 +1,51 @@
 //! `rr run` and `rr shell`: nodes in threads, over the files of folders, by a script or by lines as they come. This crate alone
 //! brings threads to the program. `run` takes the words and streams of `main`. It passes every other command to `rr_cli`.
+//!
+//! # Example
+//!
+//! This is in `crates/rr/src/main.rt`:
+//!
+//! ```rust
+//! fn main(rt: HostRuntime) -> ExitCode {
+//!     let people = if rt.stderr().is_terminal() {
+//!         Some(rt.stderr())
+//!     } else {
+//!         None
+//!     };
+//!     // A shell's prompt is for people who type, and see the answers.
+//!     let typing = if rt.stdin().is_terminal()
+//!         && rt.stdout().is_terminal()
+//!         && rt.stderr().is_terminal()
+//!     {
+//!         Some(rt.stderr())
+//!     } else {
+//!         None
+//!     };
+//!     ExitCode::from(run(
+//!         &rt,
+//!         words_of(&rt),
+//!         &mut HostFiles::new(&rt),
+//!         &mut Prompted::new(Counted::new(rt.stdin()), typing),
+//!         &mut Watched::new(Counted::new(rt.stdout()), people),
+//!         &mut rt.stderr(),
+//!     ))
+//! }
+//! ```
 #![tactic(auto)]
 
+mod answer_objects;
+mod beside;
 mod closed;
+mod console;
 mod defaults;
+mod news;
 mod post;
 mod program;
 mod reused;
 mod script_run;
 mod shell_run;
 mod ticking;
+mod watcher;
 
 pub use program::{execute, run};
 pub use rr_folders::Lockable;

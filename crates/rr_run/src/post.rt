@@ -4,9 +4,11 @@ ghost use Rattle.std.specs.Prelude.{◌≡◌, IfOk, IfErr, IfSome};
 ghost use Rattle.rr_types.specs.Registry.{registry_of};
 ghost use Rattle.rr_window.specs.Sights.{bindings_with};
 ghost use Rattle.rr_threads.specs.Asking.{IsAnswered};
-ghost use Rattle.rr_run.specs.Listings.{bytes_of};
+ghost use Rattle.rr_talk.specs.Watches.{bytes_of};
 ghost use Rattle.rr_run.specs.Submits.{IsOutcome};
 
+use crate::news::NewEar;
+use crate::watcher::{Watcher, begin_watch};
 use rr_folders::greatest_in;
 use rr_locked::Turnstile;
 use rr_script::Answer;
@@ -27,6 +29,9 @@ use std::time::Duration;
 /// The longest rest of a thread that is rung for all that comes, in microseconds.
 const REST: u64 = 50_000;
 
+/// How long a shell that watches waits between two looks for changes, in microseconds.
+const WATCH_REST: u64 = 20_000;
+
 /// How many times a node's client looks for the reply to a submit before it gives up: some five seconds.
 const LOOKS: u32 = 120;
 
@@ -44,6 +49,10 @@ pub(crate) enum Question {
     Look { node: NodeId, name: Name },
     /// Which bound names begin so, or all.
     Names { node: NodeId, prefix: Option<Name> },
+    /// To watch the names that begin so, or all.
+    Watch { node: NodeId, prefix: Option<Name> },
+    /// What has changed of the names that it watches.
+    Changes { node: NodeId },
     /// The node in brief.
     Summary { node: NodeId },
     /// A snapshot of its facts.
@@ -59,6 +68,8 @@ impl Question {
             Question::Sync { node, .. } => *node,
             Question::Look { node, .. } => *node,
             Question::Names { node, .. } => *node,
+            Question::Watch { node, .. } => *node,
+            Question::Changes { node } => *node,
             Question::Summary { node } => *node,
             Question::Snapshot { node } => *node,
             Question::Greatest { node, .. } => *node,
@@ -67,12 +78,16 @@ impl Question {
 }
 
 /// What a node tells.
-#[derive(Debug, Drop)]
+#[derive(Drop)]
 pub(crate) enum Told {
     /// What came of a submit or a sync, and how many commands can still be decided then.
     Outcome(Outcome, u64),
     Sight(Answer),
     Listing(Listing),
+    /// Where the changes are heard from now on.
+    Watching(NewEar),
+    /// Whether the changes of a watch were told: none were missed.
+    Changed(bool),
     Summary(NodeSummary),
     /// Whether a snapshot is written.
     Written(bool),
@@ -197,6 +212,12 @@ impl Post {
         }
     }
 
+    /// A shell that watches waits a while.
+    pub(crate) fn rest<R: Wait>(&self, rt: &R) {
+        self.shell
+            .park_timeout(rt, Duration::from_micros(WATCH_REST));
+    }
+
     // What is asked of this node.
     fn take_question<R: Wait>(&self, rt: &R, node: NodeId) -> Option<Question> {
         let mut slip = self.slip.lock(rt);
@@ -269,8 +290,8 @@ pub(crate) struct Teller<'x> {
     post: &'x Post,
 }
 
-// What names begin with: with anything, where no prefix is asked for.
-fn bytes_of(prefix: &Option<Name>) -> &[u8]
+/// What names begin with: with anything, where no prefix is asked for.
+pub(crate) fn bytes_of(prefix: &Option<Name>) -> &[u8]
     ensures { result.now ≡ bytes_of prefix.now }
 {
     match prefix {
@@ -368,6 +389,7 @@ fn told_of<W: WindowName, T: Turnstile, R: Wait>(
 fn answer_to<W: WindowName, T: Turnstile, R: Wait>(
     alloc: Global,
     handle: &mut Handle<'_, '_, W, T, R>,
+    watcher: &mut Option<Watcher<W>>,
     question: &Question,
 ) -> Result<Option<Told>, Refusal> {
     made_of!(Answer, Command, Op, Name, Reply, Value);
@@ -383,6 +405,18 @@ fn answer_to<W: WindowName, T: Turnstile, R: Wait>(
         Question::Look { node: _, name } => Ok(Some(Told::Sight(handle.look(name)))),
         Question::Names { node: _, prefix } => {
             Ok(Some(Told::Listing(names_at(alloc, handle, prefix)?)))
+        }
+        Question::Watch { node: _, prefix } => {
+            let (begun, ear) = begin_watch(alloc, handle, prefix)?;
+            *watcher = Some(begun);
+            Ok(Some(Told::Watching(ear)))
+        }
+        Question::Changes { node: _ } => {
+            let Some(watching) = watcher.take() else {
+                return Ok(Some(Told::Changed(false)));
+            };
+            *watcher = watching.tell(alloc, handle)?;
+            Ok(Some(Told::Changed(watcher.is_some())))
         }
         Question::Summary { node: _ } => Ok(Some(Told::Summary(handle.summary()))),
         Question::Snapshot { node: _ } => {
@@ -406,6 +440,7 @@ impl<'x> Client for Teller<'x> {
     ) -> Result<(), Refusal> {
         made_of!(Question, Command, Op, Name, Value);
         let node = handle.node();
+        let mut watcher = None;
         for _ in 0..u64::MAX {
             if self.post.is_closed.load(Ordering::SeqCst) {
                 break;
@@ -417,7 +452,7 @@ impl<'x> Client for Teller<'x> {
                 self.post.wait(handle.rt(), node);
                 continue;
             };
-            match answer_to(self.alloc, handle, &question)? {
+            match answer_to(self.alloc, handle, &mut watcher, &question)? {
                 Some(told) => self.post.answer(handle.rt(), told),
                 None => return Err(Refusal::Down),
             }

@@ -27,12 +27,12 @@ use std::time::Clock;
 /// Runs the program `rr` by these words, the first of which is its name, and gives its exit status. It is
 /// `rr_cli::execute_with_views` with two more commands.
 ///
-/// `rr run --nodes NODES --dir DIR --script SCRIPT [--tape TAPE] [--tick MILLISECONDS]` reads a script from the file SCRIPT, or from `input` where
-/// SCRIPT is `-`. It runs that many nodes in threads, node P over the disk in the folder DIR/P, and prints the answers to the script. Folders and files
-/// that are missing are made. With a TAPE all areas have to be unformatted, and the tape of the run is written to that
-/// file before the answers are printed. What goes wrong is told on `err`: the words, then the file, then its text, then
-/// the folders, ascending, then areas that are formatted, then the run, then request numbers that are decided as other commands,
-/// then the file TAPE.
+/// `rr run --nodes NODES --dir DIR --script SCRIPT [--tape TAPE] [--tick MILLISECONDS] [--json]` reads a script from the file SCRIPT, or from
+/// `input` where SCRIPT is `-`. It runs that many nodes in threads, node P over the disk in the folder DIR/P, and prints the answers to the
+/// script, in words or with JSON. Folders and files that are missing are made. With a TAPE all areas have to be unformatted, and the tape
+/// of the run is written to that file before the answers are printed. What goes wrong is told on `err`: the words, then the file, then its
+/// text, then the folders, ascending, then areas that are formatted, then the run, then request numbers that are decided as other
+/// commands, then the file TAPE.
 ///
 /// `rr shell [--nodes NODES] [--dir DIR] [--client CLIENT] [--tick MILLISECONDS] [-c LINE].. [--strict] [--json]` runs nodes over folders in the same
 /// way, and reads commands from `input`, or else answers each LINE. A line is answered on `out` before the next is read, in words
@@ -44,33 +44,37 @@ pub fn execute<
     S: AsStr,
     L: FileReader,
     I: Prompting,
-    O: Sink,
+    O: Sink + Send,
     E: Write,
 >(rt: &R, words: &[S], files: &mut L, input: &mut I, out: &mut O, err: &mut E) -> u8
+where
+    R::Dir: Send,
     ensures ends { EndsWithThreads (faults_of (map S.text words.now)) (task_of (map S.text words.now))
         (record { input = I.reading input.old; files = L.held files.old }) (record { input = I.reading input.new; files = L.held files.new }) result (O.printing out.old) (O.printing out.new) }
     ensures quiet { result ≡ 0 → IsQuiet (faults_of (map S.text words.now)) (task_of (map S.text words.now)) (record { input = I.reading input.old; files = L.held files.old })
         (E.contents err.old) (E.contents err.new) }
 {
     match read_words(rt.alloc(), words) {
-        Ok(Task::Run(Some(nodes), Some(dir), Some(script), tape, tick)) => {
-            run_by_words(rt, files, nodes, dir, tape, tick, script, input, out, err)
+        Ok(Task::Run(Some(nodes), Some(dir), Some(script), tape, tick, form)) => {
+            run_by_words(
+                rt, files, nodes, dir, tape, tick, form, script, input, out, err,
+            )
         }
-        Ok(Task::Run(None, _, _, _, _)) => rr_cli::execute_with_views(
+        Ok(Task::Run(None, _, _, _, _, _)) => rr_cli::execute_with_views(
             rt, words, files, input, out, err,
         ),
-        Ok(Task::Run(_, None, _, _, _)) => rr_cli::execute_with_views(
+        Ok(Task::Run(_, None, _, _, _, _)) => rr_cli::execute_with_views(
             rt, words, files, input, out, err,
         ),
-        Ok(Task::Run(_, _, None, _, _)) => rr_cli::execute_with_views(
+        Ok(Task::Run(_, _, None, _, _, _)) => rr_cli::execute_with_views(
             rt, words, files, input, out, err,
         ),
         Ok(Task::Shell(asked)) => shell_by_words(rt, &asked, input, out, err),
         Ok(Task::View(_)) => rr_cli::execute_with_views(rt, words, files, input, out, err),
         Ok(Task::Simulate(_)) => rr_cli::execute_with_views(rt, words, files, input, out, err),
-        Ok(Task::Show(_)) => rr_cli::execute_with_views(rt, words, files, input, out, err),
+        Ok(Task::Show(_, _)) => rr_cli::execute_with_views(rt, words, files, input, out, err),
         Ok(Task::Random(_)) => rr_cli::execute_with_views(rt, words, files, input, out, err),
-        Ok(Task::Audit(_)) => rr_cli::execute_with_views(rt, words, files, input, out, err),
+        Ok(Task::Audit(_, _)) => rr_cli::execute_with_views(rt, words, files, input, out, err),
         Ok(Task::Sweep(_, _)) => rr_cli::execute_with_views(rt, words, files, input, out, err),
         Ok(Task::Draw(_, _)) => rr_cli::execute_with_views(rt, words, files, input, out, err),
         Ok(Task::Migrate(_, _, _)) => rr_cli::execute_with_views(rt, words, files, input, out, err),
@@ -87,7 +91,7 @@ pub fn run<
     R: Files<File = F> + AllocGlobal + Threads + Wait + Clock + Sync,
     L: FileReader,
     I: Prompting,
-    O: Sink,
+    O: Sink + Send,
     E: Write,
 >(
     rt: &R,
@@ -97,6 +101,8 @@ pub fn run<
     out: &mut O,
     err: &mut E,
 ) -> u8
+where
+    R::Dir: Send,
     ensures ends { IfOk words (λ words. EndsWithThreads (faults_of (map string_bytes words.items)) (task_of (map string_bytes words.items))
         (record { input = I.reading input.old; files = L.held files.old }) (record { input = I.reading input.new; files = L.held files.new }) result (O.printing out.old) (O.printing out.new)) }
     ensures memory { IfErr words (λ error. error_kind error ≡ ErrorKind.OutOfMemory → result ≡ 6) }

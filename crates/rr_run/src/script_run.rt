@@ -11,10 +11,11 @@ ghost use Rattle.rr_threads.specs.Reusing.{are_reused};
 ghost use Rattle.rr_run.specs.Runs.{EndsOnFolders, EndsOnScript, EndsOnNamed, EndsOnRun};
 ghost use Rattle.rr_run.specs.Telling.{TellsReused, TellsOfBytes, TellsOfInput, TellsOfNamed};
 
+use crate::answer_objects::answers_in;
 use crate::closed::end_by_closed;
 use crate::reused::tell_reused;
 use crate::ticking::tick_by;
-use rr_cli::{end_by_refusal, end_by_stream, end_by_text, nodes_of, print_folder_fault};
+use rr_cli::{Form, end_by_refusal, end_by_stream, end_by_text, nodes_of, print_folder_fault};
 use rr_disk::{FileDisk, OpenedFile};
 use rr_explain::print_script_fault;
 use rr_files::FileReader;
@@ -35,6 +36,13 @@ use std::sync::Wait;
 use std::thread::Threads;
 use std::time::{Clock, Duration};
 use std::{fs, io};
+
+/// How a script is run: how long after a tick of a node the next is due, and how the answers are printed.
+#[derive(Clone, Copy, Debug)]
+struct Manner {
+    tick: Duration,
+    form: Form,
+}
 
 /// Ends by the refusal of a run over the folders in the folder DIR. Where a folder has what is refused, a second line tells it.
 pub(crate) fn end_by_run_fault<R: Files + AllocGlobal, E: Write>(
@@ -118,17 +126,18 @@ fn end_by_script_fault<E: Write>(
     ending
 }
 
-// Prints answers.
+// Prints answers in a form.
 fn end_by_answers<O: Sink, E: Write>(
     alloc: Global,
+    form: Form,
     answers: &Answers,
     out: &mut O,
     err: &mut E,
 ) -> u8
-    ensures ends { (tape : Option Text) → EndsOnFolders tape result (O.printing out.old) (O.printing out.new) }
+    ensures ends { (tape : Option Text) → EndsOnFolders form tape result (O.printing out.old) (O.printing out.new) }
     ensures quiet { result ≡ 0 → Keeps (E.contents err.old) (E.contents err.new) }
 {
-    match answers.text(alloc) {
+    match answers_in(alloc, form, answers) {
         Ok(text) => end_by_text(out, err, text.as_slice()),
         Err(_) => end_by_refusal(err, &Refusal::OutOfMemory),
     }
@@ -137,13 +146,14 @@ fn end_by_answers<O: Sink, E: Write>(
 // Writes a tape to a file of this name, then prints answers.
 fn end_by_tape<R: Files + AllocGlobal, O: Sink, E: Write>(
     rt: &R,
+    form: Form,
     path: &str,
     tape: &Tape,
     answers: &Answers,
     out: &mut O,
     err: &mut E,
 ) -> u8
-    ensures ends { EndsOnFolders (Some path.now) result (O.printing out.old) (O.printing out.new) }
+    ensures ends { EndsOnFolders form (Some path.now) result (O.printing out.old) (O.printing out.new) }
     ensures quiet { result ≡ 0 → Keeps (E.contents err.old) (E.contents err.new) }
 {
     let text = match tape.text(rt.alloc()) {
@@ -151,7 +161,7 @@ fn end_by_tape<R: Files + AllocGlobal, O: Sink, E: Write>(
         Err(_) => return end_by_refusal(err, &Refusal::OutOfMemory),
     };
     match fs::write(rt, path, text.as_slice()) {
-        Ok(()) => end_by_answers(rt.alloc(), answers, out, err),
+        Ok(()) => end_by_answers(rt.alloc(), form, answers, out, err),
         Err(failure) => end_by_stream(err, path, &failure),
     }
 }
@@ -184,11 +194,11 @@ fn run_in<
     dir: &str,
     survey: Survey<F>,
     script: &Script,
-    tick: Duration,
+    manner: Manner,
     out: &mut O,
     err: &mut E,
 ) -> u8
-    ensures ends { EndsOnFolders None result (O.printing out.old) (O.printing out.new) }
+    ensures ends { EndsOnFolders manner.form None result (O.printing out.old) (O.printing out.new) }
     ensures quiet { result ≡ 0 → TellsReused script.now.lines (E.contents err.old) (E.contents err.new) }
 {
     let nodes = script.nodes();
@@ -197,13 +207,13 @@ fn run_in<
         Err(closed) => return end_by_closed(rt, err, dir, nodes, &closed),
     };
     let Folders { locks, disks } = folders;
-    let ran = run_locked(rt, &locks, disks, script, None, tick);
+    let ran = run_locked(rt, &locks, disks, script, None, manner.tick);
     drop(locks);
     match ran {
         Ok(ran) => {
             let Ran { answers, reused } = ran;
             tell_reused(rt.alloc(), err, script.lines(), reused.as_slice());
-            end_by_answers(rt.alloc(), &answers, out, err)
+            end_by_answers(rt.alloc(), manner.form, &answers, out, err)
         }
         Err(refusal) => end_by_run_fault(rt, err, dir, nodes, &refusal),
     }
@@ -221,11 +231,11 @@ fn run_taped<
     survey: Survey<F>,
     script: &Script,
     path: &str,
-    tick: Duration,
+    manner: Manner,
     out: &mut O,
     err: &mut E,
 ) -> u8
-    ensures ends { EndsOnFolders (Some path.now) result (O.printing out.old) (O.printing out.new) }
+    ensures ends { EndsOnFolders manner.form (Some path.now) result (O.printing out.old) (O.printing out.new) }
     ensures quiet { result ≡ 0 → TellsReused script.now.lines (E.contents err.old) (E.contents err.new) }
 {
     let nodes = script.nodes();
@@ -235,13 +245,21 @@ fn run_taped<
     };
     let Folders { locks, disks } = folders;
     let recorder = Recorder::new(rt.alloc(), nodes);
-    let ran = run_locked(rt, &locks, disks, script, Some(&recorder), tick);
+    let ran = run_locked(rt, &locks, disks, script, Some(&recorder), manner.tick);
     drop(locks);
     match ran {
         Ok(ran) => {
             let Ran { answers, reused } = ran;
             tell_reused(rt.alloc(), err, script.lines(), reused.as_slice());
-            end_by_tape(rt, path, &recorder.into_tape(), &answers, out, err)
+            end_by_tape(
+                rt,
+                manner.form,
+                path,
+                &recorder.into_tape(),
+                &answers,
+                out,
+                err,
+            )
         }
         Err(refusal) => end_by_run_fault(rt, err, dir, nodes, &refusal),
     }
@@ -259,18 +277,18 @@ fn run_if_fresh<
     survey: Survey<F>,
     script: &Script,
     path: &str,
-    tick: Duration,
+    manner: Manner,
     out: &mut O,
     err: &mut E,
 ) -> u8
-    ensures ends { EndsOnFolders (Some path.now) result (O.printing out.old) (O.printing out.new) }
+    ensures ends { EndsOnFolders manner.form (Some path.now) result (O.printing out.old) (O.printing out.new) }
     ensures quiet { result ≡ 0 → TellsReused script.now.lines (E.contents err.old) (E.contents err.new) }
 {
     if !survey.is_fresh() {
         let _ = writeln!(err, "rr: --tape wants fresh folders");
         return 2;
     }
-    run_taped(rt, dir, survey, script, path, tick, out, err)
+    run_taped(rt, dir, survey, script, path, manner, out, err)
 }
 
 // Runs a script over the folders in the folder DIR, and prints the answers; with a tape where a file is named for it.
@@ -284,11 +302,11 @@ fn run_over<
     dir: &str,
     script: &Script,
     tape: Option<&str>,
-    tick: Duration,
+    manner: Manner,
     out: &mut O,
     err: &mut E,
 ) -> u8
-    ensures ends { EndsOnFolders (option_map (λ s. s.now) tape.entry) result (O.printing out.old) (O.printing out.new) }
+    ensures ends { EndsOnFolders manner.form (option_map (λ s. s.now) tape.entry) result (O.printing out.old) (O.printing out.new) }
     ensures quiet { result ≡ 0 → TellsReused script.now.lines (E.contents err.old) (E.contents err.new) }
 {
     let nodes = script.nodes();
@@ -297,8 +315,8 @@ fn run_over<
         Err(closed) => return end_by_closed(rt, err, dir, nodes, &closed),
     };
     match tape {
-        Some(path) => run_if_fresh(rt, dir, survey, script, path, tick, out, err),
-        None => run_in(rt, dir, survey, script, tick, out, err),
+        Some(path) => run_if_fresh(rt, dir, survey, script, path, manner, out, err),
+        None => run_in(rt, dir, survey, script, manner, out, err),
     }
 }
 
@@ -313,17 +331,17 @@ fn run_bytes<
     nodes: Nodes,
     dir: &str,
     tape: Option<&str>,
-    tick: Duration,
+    manner: Manner,
     name: &str,
     bytes: &[u8],
     out: &mut O,
     err: &mut E,
 ) -> u8
-    ensures ends { EndsOnScript nodes (option_map (λ s. s.now) tape.entry) bytes.now result (O.printing out.old) (O.printing out.new) }
+    ensures ends { EndsOnScript manner.form nodes (option_map (λ s. s.now) tape.entry) bytes.now result (O.printing out.old) (O.printing out.new) }
     ensures quiet { result ≡ 0 → TellsOfBytes bytes.now (E.contents err.old) (E.contents err.new) }
 {
     match Script::parse(rt.alloc(), nodes, bytes) {
-        Ok(script) => run_over(rt, dir, &script, tape, tick, out, err),
+        Ok(script) => run_over(rt, dir, &script, tape, manner, out, err),
         Err(refusal) => end_by_script_fault(err, name, nodes, bytes, &refusal),
     }
 }
@@ -340,17 +358,27 @@ fn run_input<
     nodes: Nodes,
     dir: &str,
     tape: Option<&str>,
-    tick: Duration,
+    manner: Manner,
     name: &str,
     input: &mut I,
     out: &mut O,
     err: &mut E,
 ) -> u8
-    ensures ends { EndsOnInput (EndsOnScript nodes (option_map (λ s. s.now) tape.entry)) (I.reading input.old) (I.reading input.new) result (O.printing out.old) (O.printing out.new) }
+    ensures ends { EndsOnInput (EndsOnScript manner.form nodes (option_map (λ s. s.now) tape.entry)) (I.reading input.old) (I.reading input.new) result (O.printing out.old) (O.printing out.new) }
     ensures quiet { result ≡ 0 → TellsOfInput (I.reading input.old) (E.contents err.old) (E.contents err.new) }
 {
     match read_all(rt.alloc(), input) {
-        Ok(bytes) => run_bytes(rt, nodes, dir, tape, tick, name, bytes.as_slice(), out, err),
+        Ok(bytes) => run_bytes(
+            rt,
+            nodes,
+            dir,
+            tape,
+            manner,
+            name,
+            bytes.as_slice(),
+            out,
+            err,
+        ),
         Err(failure) => end_by_stream(err, name, &failure),
     }
 }
@@ -368,16 +396,26 @@ fn run_file<
     nodes: Nodes,
     dir: &str,
     tape: Option<&str>,
-    tick: Duration,
+    manner: Manner,
     path: &str,
     out: &mut O,
     err: &mut E,
 ) -> u8
-    ensures ends { EndsOnInput (EndsOnScript nodes (option_map (λ s. s.now) tape.entry)) (file_at (L.held files.old) path.now) (file_at (L.held files.new) path.now) result (O.printing out.old) (O.printing out.new) }
+    ensures ends { EndsOnInput (EndsOnScript manner.form nodes (option_map (λ s. s.now) tape.entry)) (file_at (L.held files.old) path.now) (file_at (L.held files.new) path.now) result (O.printing out.old) (O.printing out.new) }
     ensures quiet { result ≡ 0 → TellsOfInput (file_at (L.held files.old) path.now) (E.contents err.old) (E.contents err.new) }
 {
     match files.read_file(rt.alloc(), path) {
-        Ok(bytes) => run_bytes(rt, nodes, dir, tape, tick, path, bytes.as_slice(), out, err),
+        Ok(bytes) => run_bytes(
+            rt,
+            nodes,
+            dir,
+            tape,
+            manner,
+            path,
+            bytes.as_slice(),
+            out,
+            err,
+        ),
         Err(failure) => end_by_stream(err, path, &failure),
     }
 }
@@ -396,13 +434,13 @@ fn run_named<
     nodes: Nodes,
     dir: &str,
     tape: Option<&str>,
-    tick: Duration,
+    manner: Manner,
     path: &str,
     input: &mut I,
     out: &mut O,
     err: &mut E,
 ) -> u8
-    ensures ends { EndsOnNamed path.now (EndsOnScript nodes (option_map (λ s. s.now) tape.entry)) (record { input = I.reading input.old; files = L.held files.old }) (record { input = I.reading input.new; files = L.held files.new }) result (O.printing out.old) (O.printing out.new) }
+    ensures ends { EndsOnNamed path.now (EndsOnScript manner.form nodes (option_map (λ s. s.now) tape.entry)) (record { input = I.reading input.old; files = L.held files.old }) (record { input = I.reading input.new; files = L.held files.new }) result (O.printing out.old) (O.printing out.new) }
     ensures quiet { result ≡ 0 → TellsOfNamed path.now (record { input = I.reading input.old; files = L.held files.old }) (E.contents err.old) (E.contents err.new) }
 {
     if path == "-" {
@@ -411,19 +449,19 @@ fn run_named<
             nodes,
             dir,
             tape,
-            tick,
+            manner,
             "standard input",
             input,
             out,
             err,
         )
     } else {
-        run_file(rt, files, nodes, dir, tape, tick, path, out, err)
+        run_file(rt, files, nodes, dir, tape, manner, path, out, err)
     }
 }
 
 /// Runs as many nodes as a word names, over the folders in the folder DIR, by the script in a file or in the input, and prints
-/// the answers. A word says how often nodes tick. One for their number that is none from 1 to 7, which the command line doesn't let
+/// the answers in a form. A word says how often nodes tick. One for their number that is none from 1 to 7, which the command line doesn't let
 /// through, ends with 2.
 pub(crate) fn run_by_words<
     F: Read + Write + Seek + FileExt + OpenFile + Drop + Send + Lockable,
@@ -439,18 +477,20 @@ pub(crate) fn run_by_words<
     dir: &str,
     tape: Option<&str>,
     tick: Option<&str>,
+    form: Form,
     path: &str,
     input: &mut I,
     out: &mut O,
     err: &mut E,
 ) -> u8
-    ensures ends { EndsOnRun nodes.now path.now (option_map (λ s. s.now) tape.entry) (record { input = I.reading input.old; files = L.held files.old }) (record { input = I.reading input.new; files = L.held files.new }) result (O.printing out.old) (O.printing out.new) }
+    ensures ends { EndsOnRun form nodes.now path.now (option_map (λ s. s.now) tape.entry) (record { input = I.reading input.old; files = L.held files.old }) (record { input = I.reading input.new; files = L.held files.new }) result (O.printing out.old) (O.printing out.new) }
     ensures quiet { result ≡ 0 → TellsOfNamed path.now (record { input = I.reading input.old; files = L.held files.old }) (E.contents err.old) (E.contents err.new) }
 {
     match nodes_of(nodes) {
         Some(nodes) => {
             let tick = tick_by(tick);
-            run_named(rt, files, nodes, dir, tape, tick, path, input, out, err)
+            let manner = Manner { tick, form };
+            run_named(rt, files, nodes, dir, tape, manner, path, input, out, err)
         }
         None => {
             let _ = writeln!(err, "rr: run: there is no such number of nodes");

@@ -1,5 +1,21 @@
 //! The texts of scripts, which say what clients ask of nodes in threads, and of the answers. `Script::parse` reads a script,
 //! `lines` gives what is asked. `Answers::new` and `text` print what was answered.
+//!
+//! # Example
+//!
+//! This is in `crates/first_pages/src/script.rt`:
+//!
+//! ```rust
+//! use rr_script::Script;
+//! use rr_types::{Nodes, Refusal};
+//! use std::alloc::Global;
+//!
+//! /// How many lines a script has that clients of these nodes are to follow.
+//! pub fn count_lines(alloc: Global, nodes: Nodes, text: &[u8]) -> Result<usize, Refusal> {
+//!     let script = Script::parse(alloc, nodes, text)?;
+//!     Ok(script.lines().len())
+//! }
+//! ```
 #![tactic(auto)]
 
 mod answer;

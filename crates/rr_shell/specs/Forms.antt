@@ -6,12 +6,12 @@ use Rattle.rr_script.specs.declared.answer.Answer.{Answer}
 use Rattle.rr_script.specs.declared.answer.Answer.TheVariants.{Acknowledged}
 use Rattle.rr_shell.specs.declared.status.NodeStatus.{NodeStatus}
 use Rattle.rr_shell.specs.declared.shell_line.LineFault.{LineFault}
-use Rattle.rr_shell.specs.Texts.{answer_line, synced_line, list_lines, move_line, stop_line, start_line, snapshot_line, no_snapshot_line, no_snapshot_text, down_line, down_text, status_line, help_line, help_text, fault_line, fault_text, used_text, full_text, nothing_text}
+use Rattle.rr_shell.specs.Texts.{answer_line, synced_line, list_lines, watching_line, changed_line, freed_line, late_line, late_text, move_line, stop_line, start_line, snapshot_line, no_snapshot_line, no_snapshot_text, down_line, down_text, status_line, help_line, help_text, fault_line, fault_text, used_text, full_text, nothing_text}
 use Rattle.rr_types.specs.declared.command.Command.{Command}
 use Rattle.rr_shell.specs.declared.outcome.Outcome.{Outcome}
 use Rattle.rr_shell.specs.declared.outcome.Outcome.TheVariants.{Answered, ListFull, Used, Nothing}
 use Rattle.rr_json.specs.Json.{escaped_byte}
-use Rattle.rr_shell.specs.Objects.{answer_object, synced_object, list_objects, node_object, status_object, text_object}
+use Rattle.rr_shell.specs.Objects.{answer_object, synced_object, list_objects, watching_object, changed_object, freed_object, node_object, status_object, text_object}
 
 -- an answer
 abbrev pub answer_said : Bool → Answer → List ℕ
@@ -48,6 +48,22 @@ sync_said json o = outcome_said json o
 -- the bound names that were seen
 abbrev pub list_said : Bool → Option (List Binding) → List ℕ
 list_said json names = if json then list_objects names else list_lines names
+
+-- that a watch has begun
+abbrev pub watching_said : Bool → List ℕ
+watching_said json = if json then watching_object else watching_line
+
+-- a name that is bound from now on as it wasn't before
+abbrev pub changed_said : Bool → Binding → List ℕ
+changed_said json b = if json then changed_object b else changed_line b
+
+-- a name that is free from now on
+abbrev pub freed_said : Bool → List ℕ → List ℕ
+freed_said json name = if json then freed_object name else freed_line name
+
+-- that a watch is over, as changes were missed
+abbrev pub late_said : Bool → List ℕ
+late_said json = if json then text_object (codes "late") late_text else late_line
 
 -- that node p is asked from now on
 abbrev pub move_said : Bool → ℕ → List ℕ

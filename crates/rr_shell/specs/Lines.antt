@@ -5,7 +5,7 @@ use Rattle.rr_types.specs.declared.command.OpKind.{OpKind}
 use Rattle.rr_types.specs.declared.command.OpKind.TheVariants.{Claim, Update, Release, Transfer}
 use Rattle.rr_text.specs.Reading.{cut_at, name_at, node_at, op_kind_at, op_at}
 use Rattle.rr_shell.specs.declared.shell_line.ShellLine.{ShellLine}
-use Rattle.rr_shell.specs.declared.shell_line.ShellLine.TheVariants.{Submit, Look, Names, Sync, At, Stop, Start, Snapshot, Status, Again, Help, Quit}
+use Rattle.rr_shell.specs.declared.shell_line.ShellLine.TheVariants.{Submit, Look, Names, Watch, Sync, At, Stop, Start, Snapshot, Status, Again, Help, Quit}
 use Rattle.rr_shell.specs.declared.shell_line.LineFault.{LineFault}
 use Rattle.rr_shell.specs.declared.shell_line.LineFault.TheVariants.{NoCommand, BadName, BadValue, BadOwner, NoNode}
 
@@ -43,6 +43,10 @@ look_at rest = wanted BadName Look (name_at rest)
 abbrev pub list_at : List ℕ → Result ShellLine LineFault
 list_at rest = wanted BadName (λ prefix. Names (Some prefix)) (name_at rest)
 
+-- a watch of the names that begin with the prefix that a text is
+abbrev pub watch_at : List ℕ → Result ShellLine LineFault
+watch_at rest = wanted BadName (λ prefix. Watch (Some prefix)) (name_at rest)
+
 -- a move to the node that a text is, of n nodes
 abbrev pub move_at : ℕ → List ℕ → Result ShellLine LineFault
 move_at n rest = wanted NoNode At (node_at n rest)
@@ -63,7 +67,7 @@ command_at text word rest = wanted (op_fault (op_kind_at word) rest) Submit (op_
 abbrev pub snapshot_at : ℕ → List ℕ → Result ShellLine LineFault
 snapshot_at n rest = wanted NoNode Snapshot (node_at n rest)
 
--- what a line of these parts asks for that neither looks, nor lists, nor moves
+-- what a line of these parts asks for that neither looks, nor lists, nor watches, nor moves
 unfoldable pub control_from : ℕ → List ℕ → List ℕ × List ℕ → Result ShellLine LineFault
 control_from n text parts =
     if bytes_eq parts.0 (codes "stop") then stop_at n parts.1
@@ -82,8 +86,10 @@ line_from n text parts =
     if bytes_eq parts.0 (codes "look") then look_at parts.1
     else (if bytes_eq text (codes "list") then Ok (Names None)
     else (if bytes_eq parts.0 (codes "list") then list_at parts.1
+    else (if bytes_eq text (codes "watch") then Ok (Watch None)
+    else (if bytes_eq parts.0 (codes "watch") then watch_at parts.1
     else (if bytes_eq parts.0 (codes "at") then move_at n parts.1
-    else control_from n text parts)))
+    else control_from n text parts)))))
 
 -- what a line asks for, of n nodes
 abbrev pub shell_line_at : ℕ → List ℕ → Result ShellLine LineFault

@@ -47,6 +47,18 @@ abbrev pub list_objects : Option (List Binding) → List ℕ
 list_objects None = object_line (codes "unseen") []
 list_objects (Some names) = object_line (codes "list") (number_member (codes "names") (length names)) ++ flat_map binding_object names
 
+-- that a watch has begun
+abbrev pub watching_object : List ℕ
+watching_object = object_line (codes "watching") []
+
+-- a name that is bound from now on as it wasn't before
+abbrev pub changed_object : Binding → List ℕ
+changed_object b = object_line (codes "changed") (bound_members b.name b.owner b.value)
+
+-- a name that is free from now on
+abbrev pub freed_object : List ℕ → List ℕ
+freed_object name = object_line (codes "freed") (text_member (codes "name") name)
+
 -- that a node is asked, is down or is up from now on, by this word
 abbrev pub node_object : List ℕ → ℕ → List ℕ
 node_object word p = object_line word (number_member (codes "node") p)

@@ -43,6 +43,26 @@ abbrev pub list_lines : Option (List Binding) → List ℕ
 list_lines None = codes "list unseen" ++ 10 ∷ []
 list_lines (Some names) = codes "list" ++ (32 ∷ decimal (length names)) ++ 10 ∷ [] ++ flat_map bound_line names
 
+-- the line that a watch has begun
+abbrev pub watching_line : List ℕ
+watching_line = codes "watching" ++ 10 ∷ []
+
+-- the line of a name that is bound from now on as it wasn't before
+abbrev pub changed_line : Binding → List ℕ
+changed_line b = codes "changed" ++ 32 ∷ bound_line b
+
+-- the line of a name that is free from now on
+abbrev pub freed_line : List ℕ → List ℕ
+freed_line name = codes "freed" ++ 32 ∷ name ++ 10 ∷ []
+
+-- that a watch is over, as changes were missed
+abbrev pub late_text : List ℕ
+late_text = codes "changes were missed: list the names, and watch again"
+
+-- the line of that
+abbrev pub late_line : List ℕ
+late_line = codes "late: " ++ late_text ++ 10 ∷ []
+
 -- the line that node p is asked from now on
 abbrev pub move_line : ℕ → List ℕ
 move_line p = codes "at" ++ (32 ∷ decimal p) ++ 10 ∷ []
@@ -119,7 +139,7 @@ status_line s = spaced (codes "node" ∷ decimal s.node ∷ summary_words s.summ
 -- the commands
 abbrev pub help_text : List ℕ
 help_text =
-    codes "claim NAME [VALUE], update NAME [VALUE], release NAME, transfer NAME OWNER, look NAME, list [PREFIX], sync, at NODE, stop NODE, start NODE, snapshot NODE, status, again, help, quit or exit"
+    codes "claim NAME [VALUE], update NAME [VALUE], release NAME, transfer NAME OWNER, look NAME, list [PREFIX], watch [PREFIX], sync, at NODE, stop NODE, start NODE, snapshot NODE, status, again, help, quit or exit"
 
 -- the line that names them
 abbrev pub help_line : List ℕ
@@ -131,7 +151,7 @@ no_node_text n = codes "no such node: a number is expected that is below" ++ 32 
 
 -- what is wrong with a line, and what is expected, of n nodes
 abbrev pub fault_text : ℕ → LineFault → List ℕ
-fault_text n NoCommand = codes "no such command: claim, update, release, transfer, look, list, sync, at, stop, start, snapshot, status, again, help, quit or exit is expected"
+fault_text n NoCommand = codes "no such command: claim, update, release, transfer, look, list, watch, sync, at, stop, start, snapshot, status, again, help, quit or exit is expected"
 fault_text n BadName = codes "no name: 1 to 64 bytes of a to z, 0 to 9 and - are expected"
 fault_text n BadValue = codes "no value: 1 to 64 bytes from ! to ~ are expected, and no space"
 fault_text n BadOwner = codes "no owner: a number below 4294967296 is expected"

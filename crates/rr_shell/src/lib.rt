@@ -1,4 +1,20 @@
 //! The lines of a shell: what they ask for, and what is said to them, in words or with JSON. `rr_talk` has the talk of both.
+//!
+//! # Example
+//!
+//! This is in `crates/first_pages/src/shell.rt`:
+//!
+//! ```rust
+//! use rr_shell::{LineFault, ShellLine, read_shell_line};
+//! use rr_types::{Name, Nodes, Op, Value, made_of};
+//!
+//! /// Whether a line asks a shell over these nodes for a look. A line that asks for nothing is told as a fault.
+//! pub fn is_look(nodes: Nodes, line: &[u8]) -> Result<bool, LineFault> {
+//!     made_of!(Name, Op, Value); // so that the check knows what a line is made of
+//!     let asked = read_shell_line(nodes, line)?;
+//!     Ok(matches!(asked, ShellLine::Look(_)))
+//! }
+//! ```
 #![tactic(auto)]
 
 mod line_read;
@@ -15,8 +31,9 @@ pub use line_read::read_shell_line;
 pub use listing::{Listing, is_listing_at};
 pub use outcome::{Outcome, push_used_text};
 pub use said_text::{
-    say_answer, say_down, say_fault, say_help, say_listing, say_move, say_no_snapshot, say_outcome,
-    say_snapshot, say_start, say_status, say_stop, say_sync,
+    say_answer, say_changed, say_down, say_fault, say_freed, say_help, say_late, say_listing,
+    say_move, say_no_snapshot, say_outcome, say_snapshot, say_start, say_status, say_stop,
+    say_sync, say_watching,
 };
 pub use shell_line::{LineFault, MAX_LINE, ShellLine};
 pub use status::{NodeStatus, is_nearly_full, left_behind};

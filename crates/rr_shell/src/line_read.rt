@@ -1,7 +1,7 @@
 //! Reading a line of a shell.
 
 ghost use Rattle.std.specs.Prelude.{◌≡◌};
-ghost use Rattle.rr_shell.specs.Lines.{parts_of, named_fault, op_fault, look_at, list_at, move_at, stop_at, start_at, snapshot_at, command_at, control_from, shell_line_at};
+ghost use Rattle.rr_shell.specs.Lines.{parts_of, named_fault, op_fault, look_at, list_at, watch_at, move_at, stop_at, start_at, snapshot_at, command_at, control_from, shell_line_at};
 
 use crate::shell_line::{LineFault, ShellLine};
 use rr_text::text_read::{cut, name, node, op, op_kind};
@@ -59,6 +59,15 @@ fn list(rest: &[u8]) -> Result<ShellLine, LineFault>
     }
 }
 
+fn watch(rest: &[u8]) -> Result<ShellLine, LineFault>
+    ensures { result ≡ watch_at rest.now }
+{
+    match name(rest) {
+        Some(prefix) => Ok(ShellLine::Watch(Some(prefix))),
+        None => Err(LineFault::BadName),
+    }
+}
+
 fn move_to(nodes: Nodes, rest: &[u8]) -> Result<ShellLine, LineFault>
     ensures { result ≡ move_at nodes rest.now }
 {
@@ -104,7 +113,7 @@ fn snapshot(nodes: Nodes, rest: &[u8]) -> Result<ShellLine, LineFault>
     }
 }
 
-// What a line asks for that neither looks, nor lists, nor moves.
+// What a line asks for that neither looks, nor lists, nor watches, nor moves.
 #[tactic(auto, unfolding(crate::specs::Lines::control_from))]
 fn control(nodes: Nodes, text: &[u8], word: &[u8], rest: &[u8]) -> Result<ShellLine, LineFault>
     ensures { result ≡ control_from nodes text.now (word.now, rest.now) }
@@ -145,6 +154,10 @@ pub fn read_shell_line(nodes: Nodes, text: &[u8]) -> Result<ShellLine, LineFault
         Ok(ShellLine::Names(None))
     } else if word == b"list".as_slice() {
         list(rest)
+    } else if text == b"watch".as_slice() {
+        Ok(ShellLine::Watch(None))
+    } else if word == b"watch".as_slice() {
+        watch(rest)
     } else if word == b"at".as_slice() {
         move_to(nodes, rest)
     } else {

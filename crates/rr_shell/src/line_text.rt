@@ -4,7 +4,7 @@ ghost use Rattle.std.specs.Prelude.{◌≡◌, ◌∷◌, ◌++◌, OnOk, decima
 ghost use Rattle.std.specs.List.{flat_map};
 ghost use Rattle.rr_text.specs.Words.{spaced};
 ghost use Rattle.rr_text.specs.ReportTexts.{reply_words};
-ghost use Rattle.rr_shell.specs.Texts.{bound_words, answer_words, answer_line, bound_line, list_lines, synced_line, move_line, stop_line, start_line, snapshot_line, node_text, no_snapshot_text, no_snapshot_line, down_text, down_line, counts_words, summary_words, status_line, help_text, help_line, no_node_text, fault_text, fault_line};
+ghost use Rattle.rr_shell.specs.Texts.{bound_words, answer_words, answer_line, bound_line, list_lines, watching_line, changed_line, freed_line, late_text, late_line, synced_line, move_line, stop_line, start_line, snapshot_line, node_text, no_snapshot_text, no_snapshot_line, down_text, down_line, counts_words, summary_words, status_line, help_text, help_line, no_node_text, fault_text, fault_line};
 
 use crate::listing::Listing;
 use crate::shell_line::{LineFault, MAX_LINE};
@@ -116,6 +116,61 @@ pub fn push_listing(out: &mut Vec<u8>, listing: &Listing) -> Result<(), AllocErr
         None => push_bytes(out, b"list unseen\n"),
         Some(names) => push_bound_names(out, names.as_slice()),
     }
+}
+
+/// Appends the line that a watch has begun.
+///
+/// # Errors
+/// Bytes of the line may then stand at the end.
+pub fn push_watching(out: &mut Vec<u8>) -> Result<(), AllocError>
+    ensures ok { OnOk result (out.new.items ≡ out.old.items ++ watching_line) }
+{
+    push_bytes(out, b"watching")?;
+    push_byte(out, b'\n')
+}
+
+/// Appends the line of a name that is bound from now on as it wasn't before.
+///
+/// # Errors
+/// Bytes of the line may then stand at the end.
+pub fn push_changed(out: &mut Vec<u8>, binding: &Binding) -> Result<(), AllocError>
+    ensures ok { OnOk result (out.new.items ≡ out.old.items ++ changed_line binding.now) }
+{
+    push_bytes(out, b"changed")?;
+    push_byte(out, b' ')?;
+    push_bound(out, &binding.name, binding.owner, &binding.value)?;
+    push_byte(out, b'\n')
+}
+
+/// Appends the line of a name that is free from now on.
+///
+/// # Errors
+/// Bytes of the line may then stand at the end.
+pub fn push_freed(out: &mut Vec<u8>, name: &Name) -> Result<(), AllocError>
+    ensures ok { OnOk result (out.new.items ≡ out.old.items ++ freed_line name.now) }
+{
+    push_bytes(out, b"freed")?;
+    push_word(out, name.as_bytes())?;
+    push_byte(out, b'\n')
+}
+
+/// Appends that a watch is over, as changes were missed.
+pub(crate) fn push_late_text(out: &mut Vec<u8>) -> Result<(), AllocError>
+    ensures ok { OnOk result (out.new.items ≡ out.old.items ++ late_text) }
+{
+    push_bytes(out, b"changes were missed: list the names, and watch again")
+}
+
+/// Appends the line that a watch is over, as changes were missed.
+///
+/// # Errors
+/// Bytes of the line may then stand at the end.
+pub fn push_late(out: &mut Vec<u8>) -> Result<(), AllocError>
+    ensures ok { OnOk result (out.new.items ≡ out.old.items ++ late_line) }
+{
+    push_bytes(out, b"late: ")?;
+    push_late_text(out)?;
+    push_byte(out, b'\n')
 }
 
 /// Appends the line that a node has learned what was acknowledged anywhere.
@@ -269,7 +324,7 @@ pub(crate) fn push_help_text(out: &mut Vec<u8>) -> Result<(), AllocError>
 {
     push_bytes(
         out,
-        b"claim NAME [VALUE], update NAME [VALUE], release NAME, transfer NAME OWNER, look NAME, list [PREFIX], sync, at NODE, stop NODE, start NODE, snapshot NODE, status, again, help, quit or exit",
+        b"claim NAME [VALUE], update NAME [VALUE], release NAME, transfer NAME OWNER, look NAME, list [PREFIX], watch [PREFIX], sync, at NODE, stop NODE, start NODE, snapshot NODE, status, again, help, quit or exit",
     )
 }
 
@@ -302,7 +357,7 @@ pub(crate) fn push_fault_text(
     match fault {
         LineFault::NoCommand => push_bytes(
             out,
-            b"no such command: claim, update, release, transfer, look, list, sync, at, stop, start, snapshot, status, again, help, quit or exit is expected",
+            b"no such command: claim, update, release, transfer, look, list, watch, sync, at, stop, start, snapshot, status, again, help, quit or exit is expected",
         ),
         LineFault::BadName => push_bytes(
             out,

@@ -3,11 +3,13 @@
 ghost use Rattle.std.specs.Prelude.{◌≡◌, ◌∷◌, ◌++◌, [], OnOk, codes};
 ghost use Rattle.std.specs.List.{flat_map};
 ghost use Rattle.rr_text.specs.ReportTexts.{reply_words};
-ghost use Rattle.rr_shell.specs.Texts.{down_text, no_snapshot_text, help_text, fault_text, used_text, full_text, nothing_text, left_behind};
+ghost use Rattle.rr_shell.specs.Texts.{down_text, no_snapshot_text, help_text, fault_text, used_text, full_text, nothing_text, late_text, left_behind};
 ghost use Rattle.rr_json.specs.Json.{escaped_byte, label, text_member, number_member, opened, object_line};
-ghost use Rattle.rr_shell.specs.Objects.{reply_members, bound_members, bound_object, answer_object, synced_object, binding_object, list_objects, node_object, summary_members, status_object, text_opened, text_closed, text_object};
+ghost use Rattle.rr_shell.specs.Objects.{reply_members, bound_members, bound_object, answer_object, synced_object, binding_object, list_objects, watching_object, changed_object, freed_object, node_object, summary_members, status_object, text_opened, text_closed, text_object};
 
-use crate::line_text::{push_down_text, push_fault_text, push_help_text, push_no_snapshot_text};
+use crate::line_text::{
+    push_down_text, push_fault_text, push_help_text, push_late_text, push_no_snapshot_text,
+};
 use crate::listing::Listing;
 use crate::outcome::{push_full_text, push_nothing_text, push_used_text};
 use crate::shell_line::LineFault;
@@ -147,6 +149,50 @@ pub fn push_listing_objects(out: &mut Vec<u8>, listing: &Listing) -> Result<(), 
         None => push_kind(out, b"unseen"),
         Some(names) => push_bound_names(out, names.as_slice()),
     }
+}
+
+/// Appends that a watch has begun as an object.
+///
+/// # Errors
+/// Bytes of the line may then stand at the end.
+pub fn push_watching_object(out: &mut Vec<u8>) -> Result<(), AllocError>
+    ensures ok { OnOk result (out.new.items ≡ out.old.items ++ watching_object) }
+{
+    push_kind(out, b"watching")
+}
+
+/// Appends a name that is bound from now on as it wasn't before, as an object.
+///
+/// # Errors
+/// Bytes of the line may then stand at the end.
+pub fn push_changed_object(out: &mut Vec<u8>, binding: &Binding) -> Result<(), AllocError>
+    ensures ok { OnOk result (out.new.items ≡ out.old.items ++ changed_object binding.now) }
+{
+    push_open(out, b"changed")?;
+    push_bound_members(out, &binding.name, binding.owner, &binding.value)?;
+    push_end(out)
+}
+
+/// Appends a name that is free from now on as an object.
+///
+/// # Errors
+/// Bytes of the line may then stand at the end.
+pub fn push_freed_object(out: &mut Vec<u8>, name: &Name) -> Result<(), AllocError>
+    ensures ok { OnOk result (out.new.items ≡ out.old.items ++ freed_object name.now) }
+{
+    push_name(out, b"freed", name)
+}
+
+/// Appends that a watch is over, as changes were missed, as an object.
+///
+/// # Errors
+/// Bytes of the line may then stand at the end.
+pub fn push_late_object(out: &mut Vec<u8>) -> Result<(), AllocError>
+    ensures ok { OnOk result (out.new.items ≡ out.old.items ++ text_object (codes "late") late_text) }
+{
+    push_text_open(out, b"late")?;
+    push_late_text(out)?;
+    push_text_close(out)
 }
 
 /// Appends that a node is asked, is down or is up from now on, as an object of this kind.

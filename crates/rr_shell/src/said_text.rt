@@ -1,24 +1,26 @@
 //! What is said to a line, in words or with JSON.
 
 ghost use Rattle.std.specs.Prelude.{◌≡◌, ◌++◌, OnOk};
-ghost use Rattle.rr_shell.specs.Forms.{answer_said, full_said, used_said, nothing_said, outcome_said, synced_said, sync_said, list_said, move_said, stop_said, start_said, snapshot_said, no_snapshot_said, down_said, status_said, help_said, fault_said};
+ghost use Rattle.rr_shell.specs.Forms.{answer_said, full_said, used_said, nothing_said, outcome_said, synced_said, sync_said, list_said, watching_said, changed_said, freed_said, late_said, move_said, stop_said, start_said, snapshot_said, no_snapshot_said, down_said, status_said, help_said, fault_said};
 
 use crate::line_text::{
-    push_answer, push_down, push_fault, push_help, push_listing, push_move, push_no_snapshot,
-    push_snapshot, push_start, push_status, push_stop, push_synced,
+    push_answer, push_changed, push_down, push_fault, push_freed, push_help, push_late,
+    push_listing, push_move, push_no_snapshot, push_snapshot, push_start, push_status, push_stop,
+    push_synced, push_watching,
 };
 use crate::listing::Listing;
 use crate::object_text::{
-    push_answer_object, push_down_object, push_fault_object, push_full_object, push_help_object,
-    push_listing_objects, push_no_snapshot_object, push_node_object, push_nothing_object,
-    push_status_object, push_synced_object, push_used_object,
+    push_answer_object, push_changed_object, push_down_object, push_fault_object,
+    push_freed_object, push_full_object, push_help_object, push_late_object, push_listing_objects,
+    push_no_snapshot_object, push_node_object, push_nothing_object, push_status_object,
+    push_synced_object, push_used_object, push_watching_object,
 };
 use crate::outcome::{Outcome, push_full_text, push_nothing_text, push_used_text};
 use crate::shell_line::LineFault;
 use crate::status::NodeStatus;
 use rr_script::Answer;
 use rr_text::text_word::{push_byte, push_bytes};
-use rr_types::{Command, NodeId, Nodes};
+use rr_types::{Binding, Command, Name, NodeId, Nodes};
 use std::alloc::{AllocError, Global};
 
 /// Appends an answer: of a submit the reply, of a look the name and what was seen. It names no node.
@@ -136,6 +138,62 @@ pub fn say_listing(out: &mut Vec<u8>, json: bool, listing: &Listing) -> Result<(
         push_listing_objects(out, listing)
     } else {
         push_listing(out, listing)
+    }
+}
+
+/// Appends that a watch has begun.
+///
+/// # Errors
+/// Bytes of the line may then stand at the end.
+pub fn say_watching(out: &mut Vec<u8>, json: bool) -> Result<(), AllocError>
+    ensures ok { OnOk result (out.new.items ≡ out.old.items ++ watching_said json) }
+{
+    if json {
+        push_watching_object(out)
+    } else {
+        push_watching(out)
+    }
+}
+
+/// Appends a name that is bound from now on as it wasn't before.
+///
+/// # Errors
+/// Bytes of the line may then stand at the end.
+pub fn say_changed(out: &mut Vec<u8>, json: bool, binding: &Binding) -> Result<(), AllocError>
+    ensures ok { OnOk result (out.new.items ≡ out.old.items ++ changed_said json binding.now) }
+{
+    if json {
+        push_changed_object(out, binding)
+    } else {
+        push_changed(out, binding)
+    }
+}
+
+/// Appends a name that is free from now on.
+///
+/// # Errors
+/// Bytes of the line may then stand at the end.
+pub fn say_freed(out: &mut Vec<u8>, json: bool, name: &Name) -> Result<(), AllocError>
+    ensures ok { OnOk result (out.new.items ≡ out.old.items ++ freed_said json name.now) }
+{
+    if json {
+        push_freed_object(out, name)
+    } else {
+        push_freed(out, name)
+    }
+}
+
+/// Appends that a watch is over, as changes were missed.
+///
+/// # Errors
+/// Bytes of the line may then stand at the end.
+pub fn say_late(out: &mut Vec<u8>, json: bool) -> Result<(), AllocError>
+    ensures ok { OnOk result (out.new.items ≡ out.old.items ++ late_said json) }
+{
+    if json {
+        push_late_object(out)
+    } else {
+        push_late(out)
     }
 }
 

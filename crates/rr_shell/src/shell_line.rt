@@ -14,6 +14,8 @@ pub enum ShellLine {
     Look(Name),
     /// The node that is asked lists the bound names that begin so, or all.
     Names(Option<Name>),
+    /// The changes of the names that begin so, or of all, as the node that is asked publishes them, until the next line.
+    Watch(Option<Name>),
     /// The node that is asked learns all that was acknowledged anywhere before.
     Sync,
     /// From now on this node is asked.

@@ -1,5 +1,21 @@
 //! The streams of a program, whose failed calls are counted. `Counted` makes one of a stream of the standard library.
 //! `print_all` prints a text and flushes it, `read_all` reads what an input has left, `tell_step` says how far a long work is.
+//!
+//! # Example
+//!
+//! This is in `crates/first_pages/src/stream.rt`:
+//!
+//! ```rust
+//! use rr_stream::{Sink, Source, print_all, read_all};
+//! use std::alloc::Global;
+//! use std::io;
+//!
+//! /// Copies what an input has left to an output. `Counted::new` makes either of a stream of the standard library.
+//! pub fn copy<I: Source, O: Sink>(alloc: Global, input: &mut I, out: &mut O) -> io::Result<()> {
+//!     let bytes = read_all(alloc, input)?;
+//!     print_all(out, bytes.as_slice())
+//! }
+//! ```
 #![tactic(auto)]
 
 mod counted;

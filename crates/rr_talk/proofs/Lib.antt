@@ -1,2 +1,3 @@
 mod HearingLemmas
 mod TalkLemmas
+mod WatchLemmas

@@ -1,14 +1,17 @@
 //! Whom a shell asks.
 
-ghost use Rattle.std.specs.Prelude.{◌≡◌, ℕ, true, Option, IfOk};
+ghost use Rattle.std.specs.Prelude.{◌≡◌, ℕ, true, List, [], ◌++◌, Option, IfOk, IfSome, OnOk};
 ghost use Rattle.rr_types.specs.declared.command.Command.{Command};
+ghost use Rattle.rr_window.specs.declared.change.Change.{Change};
 ghost use Rattle.rr_shell.specs.Listings.{is_listing_at};
 ghost use Rattle.rr_shell.specs.declared.outcome.Outcome.{Outcome};
 ghost use Rattle.rr_talk.specs.Talks.{is_reply_at, is_outcome_at, is_sight_at, IsKept, IsAskedAgain};
+ghost use Rattle.rr_talk.specs.Watches.{bytes_of, IsPiece};
 
 use rr_script::Answer;
 use rr_shell::{Listing, NodeStatus, Outcome};
 use rr_types::{Name, NodeId, Op, Refusal};
+use rr_window::Change;
 
 /// Nodes that a shell asks.
 pub trait Asked {
@@ -68,6 +71,29 @@ pub trait Asked {
     /// Why the nodes can't be asked any more.
     fn list(&mut self, node: NodeId, prefix: &Option<Name>) -> Result<Listing, Refusal>
         ensures { IfOk result (λ l. is_listing_at node prefix.now l ≡ true) };
+
+    /// The changes that were told since the last watch has begun.
+    ghost told: { Self → List Change };
+
+    /// Begins to watch the names at a node that begin so, or all: from now on `changes` tells what it publishes.
+    ///
+    /// # Errors
+    /// Why the nodes can't be asked any more.
+    fn watch(&mut self, node: NodeId, prefix: &Option<Name>) -> Result<(), Refusal>
+        ensures { OnOk result (told self.new ≡ []) };
+
+    /// What the node that is watched has published since the last call, of the names that begin so, or of all. It doesn't wait for
+    /// a change. None: changes were missed.
+    ///
+    /// # Errors
+    /// Why the nodes can't be asked any more.
+    fn changes(&mut self, prefix: &Option<Name>) -> Result<Option<Vec<Change>>, Refusal>
+        ensures more { IfOk result (λ r. IfSome r (λ changes. told self.new ≡ told self.old ++ changes.items)) }
+        ensures piece { IfOk result (λ r. IfSome r (λ changes. IsPiece (bytes_of prefix.now) (told self.new))) };
+
+    /// Waits a while before the next look for changes.
+    fn rest(&mut self)
+        ensures { told self.new ≡ told self.old };
 
     /// Whether a node can be asked: it hasn't been stopped since it was last started.
     fn is_on(&self, node: NodeId) -> bool;

@@ -6,6 +6,7 @@ ghost use Rattle.rr_shell.specs.Troubles.{answer_trouble, outcome_trouble, listi
 ghost use Rattle.rr_shell.specs.Forms.{answer_said, outcome_said, list_said, move_said, stop_said, start_said, snapshot_said, no_snapshot_said, down_said, help_said, fault_said};
 
 use crate::answering::Asked;
+use crate::watching::Watched;
 use rr_script::Answer;
 use rr_shell::{
     LineFault, Listing, Outcome, ShellLine, Trouble, answer_trouble, listing_trouble,
@@ -16,16 +17,18 @@ use rr_shell::{
 use rr_types::{Name, NodeId, Nodes, Op, Refusal, Reply, Value, made_of};
 use std::alloc::Global;
 
-/// What is said to a line, which node is asked from then on, and why that isn't what the line asked for, if it isn't.
+/// What is said to a line, which node is asked from then on, why that isn't what the line asked for, if it isn't, and what is
+/// watched until the next line.
 #[derive(Debug, Drop)]
 pub struct Said {
     pub node: NodeId,
     pub text: Vec<u8>,
     pub trouble: Option<Trouble>,
+    pub watched: Option<Watched>,
 }
 
 fn answered(alloc: Global, json: bool, node: NodeId, answer: &Answer) -> Result<Said, Refusal>
-    ensures { IfOk result (λ s. (s.node ≡ node) × (s.text.items ≡ answer_said json answer.now) × (s.trouble ≡ answer_trouble answer.now)) }
+    ensures { IfOk result (λ s. (s.node ≡ node) × (s.text.items ≡ answer_said json answer.now) × (s.trouble ≡ answer_trouble answer.now) × (s.watched ≡ None)) }
 {
     let mut text = Vec::new(alloc);
     say_answer(&mut text, json, answer)?;
@@ -34,12 +37,13 @@ fn answered(alloc: Global, json: bool, node: NodeId, answer: &Answer) -> Result<
         node,
         text,
         trouble,
+        watched: None,
     })
 }
 
 // What came of a submit.
 fn submitted(alloc: Global, json: bool, node: NodeId, outcome: &Outcome) -> Result<Said, Refusal>
-    ensures { IfOk result (λ s. (s.node ≡ node) × (s.text.items ≡ outcome_said json outcome.now) × (s.trouble ≡ outcome_trouble outcome.now)) }
+    ensures { IfOk result (λ s. (s.node ≡ node) × (s.text.items ≡ outcome_said json outcome.now) × (s.trouble ≡ outcome_trouble outcome.now) × (s.watched ≡ None)) }
 {
     let mut text = Vec::new(alloc);
     say_outcome(alloc, &mut text, json, outcome)?;
@@ -48,6 +52,7 @@ fn submitted(alloc: Global, json: bool, node: NodeId, outcome: &Outcome) -> Resu
         node,
         text,
         trouble,
+        watched: None,
     })
 }
 
@@ -63,11 +68,12 @@ fn synced<A: Asked>(alloc: Global, json: bool, node: NodeId, asked: &mut A) -> R
         node,
         text,
         trouble,
+        watched: None,
     })
 }
 
 fn listed(alloc: Global, json: bool, node: NodeId, listing: &Listing) -> Result<Said, Refusal>
-    ensures { IfOk result (λ s. (s.node ≡ node) × (s.text.items ≡ list_said json listing.now.names) × (s.trouble ≡ listing_trouble listing.now.names)) }
+    ensures { IfOk result (λ s. (s.node ≡ node) × (s.text.items ≡ list_said json listing.now.names) × (s.trouble ≡ listing_trouble listing.now.names) × (s.watched ≡ None)) }
 {
     let mut text = Vec::new(alloc);
     say_listing(&mut text, json, listing)?;
@@ -76,11 +82,12 @@ fn listed(alloc: Global, json: bool, node: NodeId, listing: &Listing) -> Result<
         node,
         text,
         trouble,
+        watched: None,
     })
 }
 
 fn moved(alloc: Global, json: bool, node: NodeId) -> Result<Said, Refusal>
-    ensures { IfOk result (λ s. (s.node ≡ node) × (s.text.items ≡ move_said json node) × (s.trouble ≡ None)) }
+    ensures { IfOk result (λ s. (s.node ≡ node) × (s.text.items ≡ move_said json node) × (s.trouble ≡ None) × (s.watched ≡ None)) }
 {
     let mut text = Vec::new(alloc);
     say_move(&mut text, json, node)?;
@@ -89,11 +96,12 @@ fn moved(alloc: Global, json: bool, node: NodeId) -> Result<Said, Refusal>
         node,
         text,
         trouble,
+        watched: None,
     })
 }
 
 fn stopped(alloc: Global, json: bool, node: NodeId, next: NodeId) -> Result<Said, Refusal>
-    ensures { IfOk result (λ s. (s.node ≡ node) × (s.text.items ≡ stop_said json next) × (s.trouble ≡ None)) }
+    ensures { IfOk result (λ s. (s.node ≡ node) × (s.text.items ≡ stop_said json next) × (s.trouble ≡ None) × (s.watched ≡ None)) }
 {
     let mut text = Vec::new(alloc);
     say_stop(&mut text, json, next)?;
@@ -102,11 +110,12 @@ fn stopped(alloc: Global, json: bool, node: NodeId, next: NodeId) -> Result<Said
         node,
         text,
         trouble,
+        watched: None,
     })
 }
 
 fn started(alloc: Global, json: bool, node: NodeId, next: NodeId) -> Result<Said, Refusal>
-    ensures { IfOk result (λ s. (s.node ≡ node) × (s.text.items ≡ start_said json next) × (s.trouble ≡ None)) }
+    ensures { IfOk result (λ s. (s.node ≡ node) × (s.text.items ≡ start_said json next) × (s.trouble ≡ None) × (s.watched ≡ None)) }
 {
     let mut text = Vec::new(alloc);
     say_start(&mut text, json, next)?;
@@ -115,11 +124,12 @@ fn started(alloc: Global, json: bool, node: NodeId, next: NodeId) -> Result<Said
         node,
         text,
         trouble,
+        watched: None,
     })
 }
 
 fn written(alloc: Global, json: bool, node: NodeId, next: NodeId) -> Result<Said, Refusal>
-    ensures { IfOk result (λ s. (s.node ≡ node) × (s.text.items ≡ snapshot_said json next) × (s.trouble ≡ None)) }
+    ensures { IfOk result (λ s. (s.node ≡ node) × (s.text.items ≡ snapshot_said json next) × (s.trouble ≡ None) × (s.watched ≡ None)) }
 {
     let mut text = Vec::new(alloc);
     say_snapshot(&mut text, json, next)?;
@@ -128,11 +138,12 @@ fn written(alloc: Global, json: bool, node: NodeId, next: NodeId) -> Result<Said
         node,
         text,
         trouble,
+        watched: None,
     })
 }
 
 fn unwritten(alloc: Global, json: bool, node: NodeId, next: NodeId) -> Result<Said, Refusal>
-    ensures { IfOk result (λ s. (s.node ≡ node) × (s.text.items ≡ no_snapshot_said json next) × (s.trouble ≡ Some Trouble.Error)) }
+    ensures { IfOk result (λ s. (s.node ≡ node) × (s.text.items ≡ no_snapshot_said json next) × (s.trouble ≡ Some Trouble.Error) × (s.watched ≡ None)) }
 {
     let mut text = Vec::new(alloc);
     say_no_snapshot(&mut text, json, next)?;
@@ -141,11 +152,12 @@ fn unwritten(alloc: Global, json: bool, node: NodeId, next: NodeId) -> Result<Sa
         node,
         text,
         trouble,
+        watched: None,
     })
 }
 
 fn down(alloc: Global, json: bool, node: NodeId) -> Result<Said, Refusal>
-    ensures { IfOk result (λ s. (s.node ≡ node) × (s.text.items ≡ down_said json node) × (s.trouble ≡ Some Trouble.Error)) }
+    ensures { IfOk result (λ s. (s.node ≡ node) × (s.text.items ≡ down_said json node) × (s.trouble ≡ Some Trouble.Error) × (s.watched ≡ None)) }
 {
     let mut text = Vec::new(alloc);
     say_down(&mut text, json, node)?;
@@ -154,6 +166,7 @@ fn down(alloc: Global, json: bool, node: NodeId) -> Result<Said, Refusal>
         node,
         text,
         trouble,
+        watched: None,
     })
 }
 
@@ -165,7 +178,7 @@ fn stated<A: Asked>(
     node: NodeId,
     asked: &mut A,
 ) -> Result<Said, Refusal>
-    ensures { IfOk result (λ s. (s.node ≡ node) × Stated json nodes s.text.items × (s.trouble ≡ None)) }
+    ensures { IfOk result (λ s. (s.node ≡ node) × Stated json nodes s.text.items × (s.trouble ≡ None) × (s.watched ≡ None)) }
 {
     let mut text = Vec::new(alloc);
     for index in 0..nodes.count() {
@@ -180,11 +193,12 @@ fn stated<A: Asked>(
         node,
         text,
         trouble,
+        watched: None,
     })
 }
 
 fn helped(alloc: Global, json: bool, node: NodeId) -> Result<Said, Refusal>
-    ensures { IfOk result (λ s. (s.node ≡ node) × (s.text.items ≡ help_said json) × (s.trouble ≡ None)) }
+    ensures { IfOk result (λ s. (s.node ≡ node) × (s.text.items ≡ help_said json) × (s.trouble ≡ None) × (s.watched ≡ None)) }
 {
     let mut text = Vec::new(alloc);
     say_help(&mut text, json)?;
@@ -193,6 +207,7 @@ fn helped(alloc: Global, json: bool, node: NodeId) -> Result<Said, Refusal>
         node,
         text,
         trouble,
+        watched: None,
     })
 }
 
@@ -204,7 +219,7 @@ pub fn faulted(
     node: NodeId,
     fault: LineFault,
 ) -> Result<Said, Refusal>
-    ensures { IfOk result (λ s. (s.node ≡ node) × (s.text.items ≡ fault_said json nodes fault) × (s.trouble ≡ Some Trouble.Error)) }
+    ensures { IfOk result (λ s. (s.node ≡ node) × (s.text.items ≡ fault_said json nodes fault) × (s.trouble ≡ Some Trouble.Error) × (s.watched ≡ None)) }
 {
     let mut text = Vec::new(alloc);
     say_fault(&mut text, json, nodes, fault)?;
@@ -213,6 +228,7 @@ pub fn faulted(
         node,
         text,
         trouble,
+        watched: None,
     })
 }
 
@@ -224,6 +240,7 @@ fn asks_node(line: &ShellLine) -> bool
         ShellLine::Submit(_) => true,
         ShellLine::Look(_) => true,
         ShellLine::Names(_) => true,
+        ShellLine::Watch(_) => true,
         ShellLine::Sync => true,
         ShellLine::Again => true,
         _ => false,
@@ -263,6 +280,12 @@ pub fn said_to_request<A: Asked>(
             node,
             &asked.list(node, prefix)?,
         )?)),
+        ShellLine::Watch(prefix) => Ok(Some(Said {
+            node,
+            text: Vec::new(alloc),
+            trouble: None,
+            watched: Some(Watched { prefix: *prefix }),
+        })),
         ShellLine::At(next) => Ok(Some(moved(alloc, json, *next)?)),
         ShellLine::Stop(next) => {
             asked.stop(*next)?;

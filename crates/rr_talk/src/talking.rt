@@ -1,18 +1,22 @@
 //! The talk of a shell: it hears a line, says what there is to say to it, and hears the next.
 
-ghost use Rattle.std.specs.Prelude.{◌≡◌, ◌<◌, IfOk, OnErr};
+ghost use Rattle.std.specs.Prelude.{◌≡◌, ◌<◌, IfOk, OnOk, OnErr};
 ghost use Rattle.std.specs.Io.BufRead.{strip_last};
-ghost use Rattle.rr_talk.specs.Talks.{IsSaidTo, IsTurn, IsFrontSaid, ending_trouble, Talks};
+ghost use Rattle.rr_talk.specs.Hearings.{Hears};
+ghost use Rattle.rr_talk.specs.Watches.{IsShown, IsFrontSaid};
+ghost use Rattle.rr_talk.specs.Talks.{IsSaidTo, IsTurn, ending_trouble, Talks};
 
 use crate::answering::{Asked, Hint};
 use crate::hearing::{Heard, hear};
 use crate::prompting::Prompting;
 use crate::saying::{Said, faulted, said_to_request};
+use crate::watching::{Watched, watch_and_hear};
 use rr_shell::{LineFault, Trouble, read_shell_line};
 use rr_stream::{Sink, print_all};
 use rr_types::{NodeId, Nodes, Refusal};
 use std::alloc::Global;
 use std::io;
+use std::thread::Threads;
 
 /// Why a talk is broken off.
 #[derive(Debug)]
@@ -25,11 +29,12 @@ pub enum Stop {
     Unprinted(io::Error),
 }
 
-/// Which node is asked behind a turn, and why its line wasn't answered as it asked, if it wasn't.
+/// Which node is asked behind a turn, why its line wasn't answered as it asked, if it wasn't, and what is watched until the next.
 #[derive(Clone, Copy, Debug)]
 pub struct Turn {
     pub node: NodeId,
     pub trouble: Option<Trouble>,
+    pub watched: Option<Watched>,
 }
 
 // A line without the carriage return that it ends with, if it does.
@@ -65,6 +70,7 @@ fn said_to<A: Asked>(
             node,
             text: Vec::new(alloc),
             trouble: None,
+            watched: None,
         }));
     }
     match read_shell_line(nodes, line) {
@@ -91,24 +97,49 @@ fn show_hint<I: Prompting>(alloc: Global, input: &mut I, hint: Hint)
     }
 }
 
-// Hears a line and says what there is to say to it, where this node is asked. None: the talk is over.
-fn take_turn<I: Prompting, O: Sink, A: Asked>(
+// Hears the next line. Until then what is watched is shown.
+fn hear_next<I: Prompting, O: Sink + Send, A: Asked + Send, R: Threads>(
+    alloc: Global,
+    json: bool,
+    node: NodeId,
+    watched: Option<Watched>,
+    asked: &mut A,
+    rt: &R,
+    input: &mut I,
+    out: &mut O,
+) -> Result<Heard, Stop>
+    ensures heard { IfOk result (Hears (I.reading input.old) (I.reading input.new)) }
+    ensures shown { OnOk result (IsShown json watched (O.printing out.old) (O.printing out.new)) }
+    ensures front { OnErr result (IsFrontSaid (O.printing out.old) (O.printing out.new)) }
+{
+    match &watched {
+        Some(watched) => watch_and_hear(alloc, json, node, watched, asked, rt, input, out),
+        None => {
+            input.prompt();
+            match hear(alloc, input) {
+                Ok(heard) => Ok(heard),
+                Err(error) => Err(Stop::Unread(error)),
+            }
+        }
+    }
+}
+
+// Hears a line and says what there is to say to it, where this node is asked and this is watched until then. None: the talk is over.
+fn take_turn<I: Prompting, O: Sink + Send, A: Asked + Send, R: Threads>(
     alloc: Global,
     json: bool,
     nodes: Nodes,
     node: NodeId,
+    watched: Option<Watched>,
     asked: &mut A,
+    rt: &R,
     input: &mut I,
     out: &mut O,
 ) -> Result<Option<Turn>, Stop>
-    ensures turn { IfOk result (IsTurn json nodes node (I.reading input.old) (I.reading input.new) (O.printing out.old) (O.printing out.new)) }
+    ensures turn { IfOk result (IsTurn json nodes node watched (I.reading input.old) (I.reading input.new) (O.printing out.old) (O.printing out.new)) }
     ensures front { OnErr result (IsFrontSaid (O.printing out.old) (O.printing out.new)) }
 {
-    input.prompt();
-    let heard = match hear(alloc, input) {
-        Ok(heard) => heard,
-        Err(error) => return Err(Stop::Unread(error)),
-    };
+    let heard = hear_next(alloc, json, node, watched, asked, rt, input, out)?;
     let said = match said_to(alloc, json, nodes, node, asked, &heard) {
         Ok(Some(said)) => said,
         Ok(None) => return Ok(None),
@@ -118,6 +149,7 @@ fn take_turn<I: Prompting, O: Sink, A: Asked>(
         node,
         text,
         trouble,
+        watched,
     } = said;
     if let Err(error) = print_all(out, text.as_slice()) {
         return Err(Stop::Unprinted(error));
@@ -125,7 +157,11 @@ fn take_turn<I: Prompting, O: Sink, A: Asked>(
     if let Some(hint) = asked.hint() {
         show_hint(alloc, input, hint);
     }
-    Ok(Some(Turn { node, trouble }))
+    Ok(Some(Turn {
+        node,
+        trouble,
+        watched,
+    }))
 }
 
 // The node that is asked first.
@@ -146,18 +182,20 @@ fn ending_trouble(strict: bool, trouble: Option<Trouble>) -> Option<Trouble>
 }
 
 /// Waits until the nodes can be asked. Then it hears line after line, each behind a prompt where somebody types, and says to each
-/// what there is to say, in words or with JSON, before it hears the next. It ends with a line that asks for that, or with the
+/// what there is to say, in words or with JSON, before it hears the next. Behind a line that asks for a watch it says what changes
+/// while the next line is heard, in a thread of its own. It ends with a line that asks for that, or with the
 /// input. Strict, it also ends behind the first line that isn't answered as it asked, and tells why. Node 0 is asked first.
 ///
 /// # Errors
 /// `Refused`: what `asked` refuses with, or `OutOfMemory`; `Unread` and `Unprinted`: those of the streams. By then a front of
 /// one more line may have been said.
-pub fn talk<I: Prompting, O: Sink, A: Asked>(
+pub fn talk<I: Prompting, O: Sink + Send, A: Asked + Send, R: Threads>(
     alloc: Global,
     nodes: Nodes,
     json: bool,
     strict: bool,
     asked: &mut A,
+    rt: &R,
     input: &mut I,
     out: &mut O,
 ) -> Result<Option<Trouble>, Stop>
@@ -167,17 +205,22 @@ pub fn talk<I: Prompting, O: Sink, A: Asked>(
         return Err(Stop::Refused(refusal));
     }
     let mut node = first_node(nodes);
+    let mut watched = None;
     'turns: for _ in 0..u64::MAX {
-        match take_turn(alloc, json, nodes, node, asked, input, out)? {
+        match take_turn(alloc, json, nodes, node, watched, asked, rt, input, out)? {
             None => return Ok(None),
             Some(turn) => {
                 let Turn {
                     node: next,
                     trouble,
+                    watched: begun,
                 } = turn;
                 match ending_trouble(strict, trouble) {
                     Some(trouble) => return Ok(Some(trouble)),
-                    None => node = next,
+                    None => {
+                        node = next;
+                        watched = begun;
+                    }
                 }
             }
         }

@@ -1,5 +1,21 @@
 //! The texts of tapes: what a cluster whose nodes keep everything did, event by event. `Tape::parse` reads a whole one.
 //! `next_tape_event` reads a line, after `first_line` of `rr_text`. `Tape::text` prints one.
+//!
+//! # Example
+//!
+//! This is in `crates/first_pages/src/tape.rt`:
+//!
+//! ```rust
+//! use rr_tape::Tape;
+//! use rr_types::Refusal;
+//! use std::alloc::Global;
+//!
+//! /// How many events the text of a tape has.
+//! pub fn count_events(alloc: Global, text: &[u8]) -> Result<usize, Refusal> {
+//!     let tape = Tape::parse(alloc, text)?;
+//!     Ok(tape.events().len())
+//! }
+//! ```
 #![tactic(auto)]
 
 mod message_read;

@@ -1,5 +1,21 @@
 //! The texts of schedules and reports. `Schedule::parse` reads a whole schedule. `first_line`, and then `next_event` again and
 //! again, read it line by line. `Schedule::text` and `Report::text` print.
+//!
+//! # Example
+//!
+//! This is in `crates/first_pages/src/text.rt`:
+//!
+//! ```rust
+//! use rr_text::Schedule;
+//! use rr_types::Refusal;
+//! use std::alloc::Global;
+//!
+//! /// How many events the text of a schedule has. A text that is none is refused, with the line that is at fault.
+//! pub fn count_events(alloc: Global, text: &[u8]) -> Result<usize, Refusal> {
+//!     let schedule = Schedule::parse(alloc, text)?;
+//!     Ok(schedule.events().len())
+//! }
+//! ```
 #![tactic(auto)]
 
 mod command_laws;

@@ -3,3 +3,4 @@ pub mod Asking
 pub mod Fates
 pub mod Reusing
 pub mod Syncing
+pub mod Ways

@@ -1,10 +1,11 @@
 //! Clients of a node, and what they ask it with.
 
-ghost use Rattle.std.specs.Prelude.{◌≡◌, ◌⊎◌, IfSome, IfOk, OnErr, IfErr};
+ghost use Rattle.std.specs.Prelude.{◌≡◌, ◌⊎◌, ◌+◌, ◌<◌, None, length, IfSome, IfOk, OnOk, OnErr, IfErr};
 ghost use mathlib.Core.List.{IsPrefix};
 ghost use Rattle.rr_types.specs.declared.refusal.Refusal.TheVariants.{NoGuard, OutOfMemory};
 ghost use Rattle.rr_types.specs.Registry.{registry_of};
 ghost use Rattle.rr_window.specs.Sights.{bindings_with};
+ghost use Rattle.rr_window.specs.Watches.{IsWatched};
 ghost use Rattle.rr_threads.specs.Asking.{IsAnswered, IsSeen, IsAnswerTo};
 ghost use Rattle.rr_threads.specs.Syncing.{to_itself};
 
@@ -19,7 +20,7 @@ use rr_types::{
     Binding, Command, Name, NodeId, NodeSummary, Op, Promise, Refusal, Reply, RequestNo, Value,
     made_of,
 };
-use rr_window::{Receipt, Seat, Sight, WindowName};
+use rr_window::{Change, Receipt, Seat, Sight, Watch, WindowName};
 use std::alloc::Global;
 use std::marker::Model;
 use std::sync::Wait;
@@ -277,6 +278,36 @@ impl<'d, 'x, W: WindowName, T: Turnstile, R: Wait> Handle<'d, 'x, W, T, R> {
         ensures err { IfErr result (λ e. (e ≡ OutOfMemory) ⊎ (e ≡ NoGuard)) }
     {
         self.seat.list(alloc, prefix)
+    }
+
+    /// A watch of what this node publishes: from what the client has seen and learned on, `changes` tells of it.
+    pub fn watch(&self) -> Watch<W>
+        ensures { result ≡ self.now.known }
+    {
+        self.seat.watch()
+    }
+
+    /// The changes that this node has published since those that the watch was told before, of names that begin with these bytes:
+    /// each once, in the order of the list, and without waiting. None: more than 1,024 commands were published since. The watch then
+    /// goes on behind them, and a list tells what they left.
+    ///
+    /// # Errors
+    /// As of `list`. Then the watch is where it was, too.
+    pub fn changes(
+        &mut self,
+        alloc: Global,
+        prefix: &[u8],
+        watch: &mut Watch<W>,
+    ) -> Result<Option<Vec<Change>>, Refusal>
+        ensures told { IfOk result (λ r. IfSome r (λ changes. IsWatched prefix.now watch.old self.new.known changes.items)) }
+        ensures late { IfOk result (λ r. r ≡ None → length watch.old + 1024 < length self.new.known) }
+        ensures reached { OnOk result (watch.new ≡ self.new.known) }
+        ensures later { IsPrefix self.old.known self.new.known }
+        ensures kept { OnErr result ((self.new ≡ self.old) × (watch.new ≡ watch.old)) }
+        ensures same { self.new.node ≡ self.old.node }
+        ensures err { IfErr result (λ e. (e ≡ OutOfMemory) ⊎ (e ≡ NoGuard)) }
+    {
+        self.seat.changes(alloc, prefix, watch)
     }
 
     /// Asks this node what a line asks, no matter which node the line names.

@@ -82,8 +82,8 @@ fn now<R: Clock>(rt: &R) -> Result<Duration, Refusal> {
     }
 }
 
-/// The node ticks where it is time to and it isn't catching up, and advances where it has got no further. What has come is heard
-/// before.
+/// The node ticks where it is time to and it isn't catching up, and advances where it has got no further. What is late is put into the
+/// inboxes before, and what has come is heard.
 fn tick_next<W: WindowName, T, R: Wait + Clock>(
     rt: &R,
     shared: &Shared<'_, T>,
@@ -96,6 +96,7 @@ fn tick_next<W: WindowName, T, R: Wait + Clock>(
     }
     let mut notes = Scribe::new(rt, shared.recorder);
     let (node, chase, wires) = (&desk.locked, &mut lane.chase, &mut lane.wires);
+    wires.put_late();
     hear_next(rt, node, &mut notes, chase, wires, ROOM)?;
     if hear_again(rt, node, &mut notes, chase)? {
         return Ok(());

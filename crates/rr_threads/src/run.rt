@@ -12,9 +12,9 @@ use crate::recorder::Recorder;
 use crate::running::Running;
 use crate::shared::Shared;
 use crate::switches::Switches;
-use crate::wires::Mail;
+use crate::wires::{Mail, Way};
 use rr_disk::Disk;
-use rr_inbox::{Outlet, Port};
+use rr_inbox::Outlet;
 use rr_locked::{Kept, Sent, Turnstile};
 use rr_types::{NodeId, Nodes, Refusal};
 use std::alloc::Global;
@@ -38,16 +38,13 @@ pub fn usual_tick() -> Duration
 const DIFFERENT: Refusal = Refusal::Damaged { area: 0, offset: 0 };
 
 /// The ends that put into each inbox, for one node.
-fn ports_of(
-    alloc: Global,
-    inboxes: &mut VecDeque<Outlet<Sent>>,
-) -> Result<Vec<Port<Sent>>, Refusal> {
-    let mut ports = Vec::new(alloc);
+fn ways_of(alloc: Global, inboxes: &mut VecDeque<Outlet<Sent>>) -> Result<Vec<Way>, Refusal> {
+    let mut ways = Vec::new(alloc);
     for inbox in inboxes.iter_mut() {
         let port = inbox.port()?;
-        ports.push(port)?;
+        ways.push(Way::new(port))?;
     }
-    Ok(ports)
+    Ok(ways)
 }
 
 /// An inbox for each node.
@@ -64,10 +61,10 @@ fn open_rows(
     alloc: Global,
     nodes: Nodes,
     inboxes: &mut VecDeque<Outlet<Sent>>,
-) -> Result<VecDeque<Vec<Port<Sent>>>, Refusal> {
+) -> Result<VecDeque<Vec<Way>>, Refusal> {
     let mut rows = VecDeque::new(alloc);
     for _ in 0..nodes.count() {
-        rows.push_back(ports_of(alloc, inboxes)?)?;
+        rows.push_back(ways_of(alloc, inboxes)?)?;
     }
     Ok(rows)
 }
@@ -87,7 +84,7 @@ fn open_parts<D: Disk + Drop, T: Turnstile, C: Drop>(
     let mut parts = Vec::new(alloc);
     let mut index = 0u8;
     for (disk, clients) in disks.into_iter().zip(clients) {
-        let (Some(node), Some(inbox), Some(ports)) = (
+        let (Some(node), Some(inbox), Some(ways)) = (
             NodeId::new(nodes, index),
             inboxes.pop_front(),
             rows.pop_front(),
@@ -95,7 +92,7 @@ fn open_parts<D: Disk + Drop, T: Turnstile, C: Drop>(
             break;
         };
         let kept = Kept::new();
-        let mail = Mail { inbox, ports, kept };
+        let mail = Mail { inbox, ways, kept };
         let part = open_part(turnstile, alloc, nodes, node, disk, mail)?;
         parts.push((part, clients))?;
         index = index.saturating_add(1);

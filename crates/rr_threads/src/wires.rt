@@ -1,7 +1,9 @@
 //! What the thread of a node calls in a turn, over the real inboxes, hand-overs and bells. No contract knows what these hold:
-//! each call is one line, to be read.
+//! each call is one line, to be read. Of a message that finds no room a contract says what becomes of it.
 
+ghost use Rattle.std.specs.Prelude.{◌≡◌, None};
 ghost use Rattle.rr_turn.specs.Asked.{Call};
+ghost use Rattle.rr_threads.specs.Ways.{IsPut, IsPutIfAny, IsPutLate};
 
 use crate::desk::Desk;
 use crate::running::Running;
@@ -11,13 +13,61 @@ use rr_locked::{Kept, Sent, Unflushed};
 use rr_turn::Links;
 use rr_types::{Group, NodeId};
 use rr_window::WindowName;
+use std::mem;
 use std::sync::Wait;
+
+/// A node's end of an inbox, and what found no room there: the last messages by which the receiver can tell that it is behind.
+#[derive(Drop)]
+pub struct Way {
+    port: Port<Sent>,
+    late: Kept,
+}
+
+impl Way {
+    /// Nothing was put yet.
+    pub fn new(port: Port<Sent>) -> Way
+        ensures { result ≡ record { port = port; late = record { opening = None; request = None; decision = None } } }
+    {
+        Way {
+            port,
+            late: Kept::new(),
+        }
+    }
+
+    /// Puts a message. It is lost where there is no room for it, or late if it is one of the last that tell where its sender is.
+    fn put<R: Wait>(&mut self, rt: &R, sent: Sent)
+        ensures { IsPut self.old sent self.new }
+    {
+        if let Err(refused) = self.port.put(rt, sent) {
+            self.late.keep(refused);
+        }
+    }
+
+    /// Puts a message that may have been late.
+    fn put_some<R: Wait>(&mut self, rt: &R, late: Option<Sent>)
+        ensures { IsPutIfAny self.old late self.new }
+    {
+        if let Some(sent) = late {
+            self.put(rt, sent);
+        }
+    }
+
+    /// Puts what is late, which stays so where there is no room still.
+    fn put_late<R: Wait>(&mut self, rt: &R)
+        ensures { IsPutLate self.old self.new }
+    {
+        let late = mem::replace(&mut self.late, Kept::new());
+        self.put_some(rt, late.request());
+        self.put_some(rt, late.opening());
+        self.put_some(rt, late.decision());
+    }
+}
 
 /// A node's inbox, its end of each node's inbox, and what it kept while it was down.
 #[derive(Drop)]
 pub struct Mail {
     pub inbox: Outlet<Sent>,
-    pub ports: Vec<Port<Sent>>,
+    pub ways: Vec<Way>,
     pub kept: Kept,
 }
 
@@ -45,13 +95,23 @@ impl<'x, W: WindowName, R> Wires<'x, W, R> {
     }
 }
 
+impl<'x, W: WindowName, R: Wait> Wires<'x, W, R> {
+    /// Puts what is late into the inboxes. Nobody is rung: their nodes hear it at their next ticks.
+    pub fn put_late(&mut self) {
+        let ways: &mut Vec<Way> = &mut self.ends.mail.ways;
+        for way in ways.iter_mut() {
+            way.put_late(self.rt);
+        }
+    }
+}
+
 impl<'x, W: WindowName, R: Wait> Links for Wires<'x, W, R> {
     ghost gives = { λ _ _ _. Unit {0} };
 
     fn put(&mut self, to: NodeId, sent: Sent) {
-        let ports: &mut Vec<Port<Sent>> = &mut self.ends.mail.ports;
-        if let Some(port) = ports.get_mut(usize::from(to.index())) {
-            let _lost = port.put(self.rt, sent);
+        let ways: &mut Vec<Way> = &mut self.ends.mail.ways;
+        if let Some(way) = ways.get_mut(usize::from(to.index())) {
+            way.put(self.rt, sent);
         }
     }
 

@@ -3,6 +3,22 @@
 //!
 //! Each type keeps its range: a `Round` is always a number from 1 to 2,147,483,647. Contracts
 //! see numbers as numbers, names and values as lists of bytes, and the rest as the record or the variant.
+//!
+//! # Example
+//!
+//! This is in `crates/first_pages/src/types.rt`:
+//!
+//! ```rust
+//! use rr_types::{Command, Name, Op, Refusal, RequestNo, Value};
+//!
+//! /// The command by which client 7 claims a name for `room-4`, as its request 1. Bytes that are no name are refused.
+//! pub fn claim_of(name: &[u8]) -> Result<Command, Refusal> {
+//!     Ok(Command {
+//!         request: RequestNo { client: 7, seq: 1 },
+//!         op: Op::Claim(Name::new(name)?, Value::new(b"room-4")?),
+//!     })
+//! }
+//! ```
 #![tactic(auto)]
 
 mod binding;

@@ -5,8 +5,13 @@ use Rattle.std.specs.List.{fold}
 use Rattle.logbook.specs.Pages.{Book}
 use Rattle.rr_types.specs.declared.command.Command.{Command}
 use Rattle.rr_registry.specs.Kept.{Kept, applied, applied_all, kept_of}
+use Rattle.rr_types.specs.Registry.{holding_of}
+use Rattle.rr_registry.proofs.KeptLemmas.{bindings-kept_of}
 use Rattle.rr_window.specs.Lists.{Beginning, beginning}
-use Rattle.rr_window.specs.Windows.{Publishing, Addition, Served, IsServed, IsShown, GoOn, with_addition, served_of, commands_of}
+use Rattle.rr_window.specs.Changes.{name_of, change_between, change_of}
+use Rattle.rr_window.specs.Watches.{trace_of, with_trace, kept_traces}
+use Rattle.rr_window.proofs.Watching.{kept_more}
+use Rattle.rr_window.specs.Windows.{Publishing, Addition, Served, IsServed, IsShown, GoOn, trace_in, with_addition, served_of, commands_of}
 
 pub applied_more : (k : Kept) (cs : List Command) (c : Command) → applied_all k (cs ++ c ∷ []) ≡ applied (applied_all k cs) c
 applied_more k [] c = refl
@@ -16,7 +21,12 @@ applied_more k (d ∷ cs) c = applied_more (applied k d) cs c
 pub all_after : (b : Book) (list : List Command) (es : List Addition) → GoOn b list es → fold with_addition (served_of b list) es ≡ served_of b (list ++ commands_of es)
 all_after b list [] go = ap (served_of b) (sym (append-nil list))
 all_after b list (e ∷ es) go =
-    let first : with_addition (served_of b list) e ≡ served_of b (list ++ e.command ∷ []) = λ i. record { kept = sym (applied_more (kept_of []) list e.command) i; beginning = go.0 i } in
+    let after : applied (kept_of list) e.command ≡ kept_of (list ++ e.command ∷ []) = sym (applied_more (kept_of []) list e.command) in
+    let name = name_of e.command.op in
+    let change : (trace_in (kept_of list) e).change ≡ change_of list e.command = λ i. change_between name (holding_of (bindings-kept_of list i) name) (holding_of ((ap (λ k. k.bindings) after ∙ bindings-kept_of (list ++ e.command ∷ [])) i) name) in
+    let trace : trace_in (kept_of list) e ≡ trace_of b list e.command = λ i. record { beginning = go.0 i; change = change i } in
+    let recent : with_trace (kept_traces b list) (trace_in (kept_of list) e) ≡ kept_traces b (list ++ e.command ∷ []) = ap (with_trace (kept_traces b list)) trace ∙ kept_more b list e.command in
+    let first : with_addition (served_of b list) e ≡ served_of b (list ++ e.command ∷ []) = λ i. record { kept = after i; beginning = go.0 i; recent = recent i } in
     ap (λ s. fold with_addition s es) first ∙ all_after b (list ++ e.command ∷ []) es go.1 ∙ ap (served_of b) (append_assoc list (e.command ∷ []) (commands_of es))
 
 pub shown_all : {E : Type 0} (b : Book) (s : Served) (es : List Addition) (t : Served) (fs : List Addition) (r : Result (Unit {0}) E) → IsServed b s → GoOn b s.beginning.list es

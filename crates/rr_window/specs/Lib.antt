@@ -1,3 +1,5 @@
 pub mod Lists
 pub mod Windows
 pub mod Sights
+pub mod Changes
+pub mod Watches

@@ -4,7 +4,10 @@ use Rattle.rr_types.specs.declared.command.Command.{Command}
 use Rattle.rr_types.specs.declared.command.RequestNo.{RequestNo}
 use Rattle.rr_types.specs.declared.command.Reply.{Reply}
 use Rattle.rr_registry.specs.Kept.{Kept, applied, kept_of}
+use Rattle.rr_types.specs.Registry.{holding_of}
 use Rattle.rr_window.specs.Lists.{Beginning, beginning}
+use Rattle.rr_window.specs.Changes.{name_of, change_between}
+use Rattle.rr_window.specs.Watches.{Trace, with_trace, kept_traces}
 
 -- what is published, and what was appended since
 pub record Publishing : Type 0 where
@@ -31,18 +34,25 @@ abbrev pub GoOn : Book → List Command → List Addition → Type 0
 GoOn b list [] = Unit {0}
 GoOn b list (a ∷ rest) = (a.beginning ≡ beginning b (list ++ a.command ∷ [])) × GoOn b (list ++ a.command ∷ []) rest
 
--- what readers are served: what a registry keeps, and a beginning of the list
+-- what readers are served: what a registry keeps, a beginning of the list, and the traces of its last commands
 pub record Served : Type 0 where
   pub kept : Kept
   pub beginning : Beginning
+  pub recent : List Trace
+
+-- the trace of an addition to what a registry keeps
+abbrev pub trace_in : Kept → Addition → Trace
+trace_in k a =
+    let name = name_of a.command.op in
+    record { beginning = a.beginning; change = change_between name (holding_of k.bindings name) (holding_of (applied k a.command).bindings name) }
 
 -- what they are served after an addition
 abbrev pub with_addition : Served → Addition → Served
-with_addition s a = record { kept = applied s.kept a.command; beginning = a.beginning }
+with_addition s a = record { kept = applied s.kept a.command; beginning = a.beginning; recent = with_trace s.recent (trace_in s.kept a) }
 
 -- what they are served of a list
 abbrev pub served_of : Book → List Command → Served
-served_of b list = record { kept = kept_of list; beginning = beginning b list }
+served_of b list = record { kept = kept_of list; beginning = beginning b list; recent = kept_traces b list }
 
 -- the registry that is served is that of the beginning beside it, which is of the window's list
 abbrev pub IsServed : Book → Served → Type 0

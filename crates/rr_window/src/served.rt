@@ -8,20 +8,24 @@ ghost use Rattle.rr_window.specs.Sights.{bindings_with};
 ghost use Rattle.rr_window.specs.Windows.{with_addition};
 
 use crate::addition::Addition;
+use crate::change::{change_between, name_of};
 use crate::list::{Beginning, WindowName};
 use crate::listing::bindings_with;
+use crate::trace::{Trace, keep};
 use crossbeam_utils::rule::{Outcome, Protocol};
 use left_right::Absorb;
 use rr_registry::{Holding, Registry};
 use rr_types::{Binding, Name, Reply, RequestNo};
 use std::alloc::{AllocError, Global};
+use std::collections::VecDeque;
 use std::marker::{Model, PhantomData};
 
-/// A registry, and a beginning of the list. The window's rule says that it is the registry of that beginning.
+/// A registry, a beginning of the list, and the traces of its last commands. The window's rule says that these are of that beginning.
 #[derive(Drop)]
 pub struct Served {
     registry: Registry,
     beginning: Beginning,
+    recent: VecDeque<Trace>,
 }
 
 impl Model for Served {
@@ -29,17 +33,18 @@ impl Model for Served {
 
     ghost Value = { Served };
 
-    ghost view = { λ s. record { kept = s.registry; beginning = s.beginning } };
+    ghost view = { λ s. record { kept = s.registry; beginning = s.beginning; recent = s.recent.items } };
 }
 
 impl Served {
     /// The registry of no commands, with this beginning.
     pub fn new(alloc: Global, beginning: Beginning) -> Served
-        ensures { result ≡ record { kept = kept_of []; beginning = beginning } }
+        ensures { result ≡ record { kept = kept_of []; beginning = beginning; recent = [] } }
     {
         Served {
             registry: Registry::new(alloc),
             beginning,
+            recent: VecDeque::new(alloc),
         }
     }
 
@@ -64,6 +69,13 @@ impl Served {
         bindings_with(alloc, prefix, self.registry.entries())
     }
 
+    /// The traces of the last commands of that beginning.
+    pub fn recent(&self) -> &VecDeque<Trace>
+        ensures { result.now.items ≡ self.now.recent }
+    {
+        &self.recent
+    }
+
     /// The reply to a request. It takes no memory.
     pub fn reply(&self, request: RequestNo) -> Option<Reply>
         ensures { (list : List Command) → self.now.kept ≡ kept_of list → result ≡ reply_of list request }
@@ -80,13 +92,20 @@ impl Absorb<Addition> for Served {
     ghost applied = { with_addition };
 
     fn absorb_first(&mut self, addition: &Addition, _other: &Served) -> Result<(), AllocError> {
-        match self.registry.apply(&addition.command()) {
-            Ok(_) => {
-                self.beginning = addition.beginning().again();
-                Ok(())
-            }
-            Err(_) => Err(AllocError),
+        let command = addition.command();
+        let name = *name_of(&command.op);
+        self.recent.reserve(1)?;
+        let before = self.registry.entry(&name);
+        if self.registry.apply(&command).is_err() {
+            return Err(AllocError);
         }
+        let change = change_between(&name, before, self.registry.entry(&name));
+        self.beginning = addition.beginning().again();
+        keep(
+            &mut self.recent,
+            Trace::new(addition.beginning().again(), change),
+        );
+        Ok(())
     }
 }
 

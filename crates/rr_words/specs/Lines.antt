@@ -56,24 +56,32 @@ unfoldable pub with_arg : App → Rule → App
 with_arg line rule = with_rule line rule
 
 -- the subcommand sim, with a FILE that may be left out, and the options for reasons and for JSON
-unfoldable pub sim_line : App
-sim_line =
+unfoldable pub told_line : App
+told_line =
     with_arg (with_arg (with_arg (new_app (codes "sim"))
     (word_rule (codes "FILE") false))
     (flag_rule (codes "EXPLAIN") (codes "explain")))
     (flag_rule (codes "JSON") (codes "json"))
 
--- the subcommand stats, with a FILE that may be left out, and the option for JSON
+-- the same with the options for a finish, and for its events alone
+unfoldable pub sim_line : App
+sim_line = with_arg (with_arg told_line (flag_rule (codes "FINISH") (codes "finish"))) (flag_rule (codes "ALONE") (codes "schedule-only"))
+
+-- the subcommand stats, with a FILE that may be left out, and the options for JSON and for a tape
 unfoldable pub stats_line : App
-stats_line = with_arg (with_arg (new_app (codes "stats")) (word_rule (codes "FILE") false)) (flag_rule (codes "JSON") (codes "json"))
+stats_line =
+    with_arg (with_arg (with_arg (new_app (codes "stats"))
+    (word_rule (codes "FILE") false))
+    (flag_rule (codes "JSON") (codes "json")))
+    (flag_rule (codes "TAPE") (codes "tape"))
 
 -- the subcommand check, with a FILE and a REPORT
 unfoldable pub check_line : App
 check_line = with_arg (with_arg (new_app (codes "check")) (word_rule (codes "FILE") true)) (word_rule (codes "REPORT") true)
 
--- the subcommand show, with a DIR
+-- the subcommand show, with a DIR and the option for JSON
 unfoldable pub show_line : App
-show_line = with_arg (new_app (codes "show")) (word_rule (codes "DIR") true)
+show_line = with_arg (with_arg (new_app (codes "show")) (word_rule (codes "DIR") true)) (flag_rule (codes "JSON") (codes "json"))
 
 -- the subcommand random, with a seed, a number of steps and a number of nodes
 unfoldable pub numbers_line : App
@@ -83,31 +91,39 @@ numbers_line =
     (number_rule (codes "STEPS") (codes "steps") 0 999930))
     (number_rule (codes "NODES") (codes "nodes") 1 7)
 
--- the same with the option for lively schedules, the number of their faults, which may be left out, and the option for the
--- schedule alone
+-- the same with the option for lively schedules, the number of their faults, which may be left out, and the options for a
+-- finish, for the schedule alone and for JSON
 unfoldable pub random_line : App
 random_line =
-    with_arg (with_arg (with_arg numbers_line
+    with_arg (with_arg (with_arg (with_arg (with_arg numbers_line
     (flag_rule (codes "LIVELY") (codes "lively")))
     (optional_number_rule (codes "FAULTS") (codes "faults") 0 1000))
-    (flag_rule (codes "ALONE") (codes "schedule-only"))
+    (flag_rule (codes "FINISH") (codes "finish")))
+    (flag_rule (codes "ALONE") (codes "schedule-only")))
+    (flag_rule (codes "JSON") (codes "json"))
 
--- the subcommand audit, with a FILE that may be left out
+-- the subcommand audit, with a FILE that may be left out, and the options for reasons and for JSON
 unfoldable pub audit_line : App
-audit_line = with_arg (new_app (codes "audit")) (word_rule (codes "FILE") false)
+audit_line =
+    with_arg (with_arg (with_arg (new_app (codes "audit"))
+    (word_rule (codes "FILE") false))
+    (flag_rule (codes "EXPLAIN") (codes "explain")))
+    (flag_rule (codes "JSON") (codes "json"))
 
--- the subcommand run, with a number of nodes, the folder of their folders, the file of a script, and the file for a tape and
--- the time between ticks, which may be left out
+-- the subcommand run, with a number of nodes, the folder of their folders, the file of a script, the file for a tape and the
+-- time between ticks, which may be left out, and the option for JSON
 unfoldable pub run_line : App
 run_line =
     with_arg
+    (with_arg
     (with_arg
     (with_arg (with_arg (with_arg (new_app (codes "run"))
     (number_rule (codes "NODES") (codes "nodes") 1 7))
     (option_rule (codes "DIR") (codes "dir") true))
     (option_rule (codes "SCRIPT") (codes "script") true))
     (option_rule (codes "TAPE") (codes "tape") false))
-    tick_rule
+    tick_rule)
+    (flag_rule (codes "JSON") (codes "json"))
 
 -- the subcommand shell, with a number of nodes, the folder of their folders, the number of a client and lines, all of which
 -- may be left out
@@ -128,17 +144,24 @@ shell_line = with_arg (with_arg (with_arg asking_line tick_rule) (flag_rule (cod
 unfoldable pub sweep_line : App
 sweep_line = with_arg (with_arg (new_app (codes "sweep")) (word_rule (codes "FILE") false)) (number_rule (codes "SEED") (codes "seed") 0 18446744073709551615)
 
--- the subcommand draw, with a FILE, the first line and the last one, a node and an instance, all of which may be left out
+-- the subcommand draw, with a FILE, the first line and the last one, a node and an instance, and the options for requests, for a
+-- tape and for a page, all of which may be left out
 unfoldable pub draw_line : App
 draw_line =
     with_arg
+    (with_arg
+    (with_arg
+    (with_arg
     (with_arg
     (with_arg (with_arg (with_arg (new_app (codes "draw"))
     (word_rule (codes "FILE") false))
     (optional_number_rule (codes "FROM") (codes "from") 1 4294967295))
     (optional_number_rule (codes "TO") (codes "to") 1 4294967295))
     (optional_number_rule (codes "NODE") (codes "node") 0 6))
-    (optional_number_rule (codes "INSTANCE") (codes "instance") 0 1048575)
+    (optional_number_rule (codes "INSTANCE") (codes "instance") 0 1048575))
+    (flag_rule (codes "REQUESTS") (codes "requests")))
+    (flag_rule (codes "TAPE") (codes "tape")))
+    (flag_rule (codes "HTML") (codes "html"))
 
 -- the subcommand migrate, with a DIR, the number of a node and a number of nodes
 unfoldable pub migrate_line : App

@@ -1,5 +1,5 @@
 -- What words ask for.
-use Rattle.std.specs.Prelude.{List, [], Bool, false, Option, None, Some, codes, if◌then◌else◌, map, option_map, unwrap_or}
+use Rattle.std.specs.Prelude.{List, [], Bool, false, ◌||◌, Option, None, Some, codes, if◌then◌else◌, map, option_map, unwrap_or}
 use Rattle.std.specs.Option.{option_map_or}
 use Rattle.std.specs.Str.{bytes_eq}
 use Rattle.clap.specs.Words.{Row, Text, all_of, first_of, subcommand_of}
@@ -9,6 +9,8 @@ use Rattle.rr_words.specs.Lines.{rr_line}
 use Rattle.rr_words.specs.declared.tasks.CutWords as code_words
 use Rattle.rr_words.specs.declared.tasks.RandomWords as code_randoms
 use Rattle.rr_words.specs.declared.tasks.ShellWords as code_shells
+use Rattle.rr_words.specs.declared.tasks.FinishView.{FinishView}
+use Rattle.rr_words.specs.declared.tasks.FinishView.TheVariants as finished
 use Rattle.rr_words.specs.declared.tasks.Form.{Form}
 use Rattle.rr_words.specs.declared.tasks.Form.TheVariants.{Plain, Json}
 use Rattle.rr_words.specs.declared.tasks.Task as code
@@ -24,22 +26,29 @@ faults_of words = fault_of rr_line words
 unfoldable pub found_in : List Text → Option (Text × List Row)
 found_in words = subcommand_of rr_line words
 
--- the words of a cut: its first line and its last one, its node and its instance
+-- the words of a cut: its first line and its last one, its node and its instance; whether requests are never folded; whether it is
+-- one of a tape in any case; and whether its picture stands in a page
 pub record CutWords : Type 0 where
   pub from : Option Text
   pub to : Option Text
   pub node : Option Text
   pub instance : Option Text
+  pub requests : Bool
+  pub tape : Bool
+  pub html : Bool
 
 -- the words of a random schedule: a seed, a number of steps and a number of nodes, which only wrong words leave out; whether
--- it is lively, and a number of faults, which may be left out; and whether it is printed alone
+-- it is lively, and a number of faults, which may be left out; whether it is finished; whether it is printed alone; and how the
+-- report is printed
 pub record RandomWords : Type 0 where
   pub seed : Option Text
   pub steps : Option Text
   pub nodes : Option Text
   pub lively : Bool
   pub faults : Option Text
+  pub finish : Bool
   pub alone : Bool
+  pub form : Form
 
 -- the words of a shell: a number of nodes, the folder of their folders, a client and the milliseconds between two ticks, which may
 -- be left out; its lines, or none
@@ -54,17 +63,21 @@ pub record ShellWords : Type 0 where
   pub json : Bool
 
 -- what is shown of the run of the schedule in a file or else in standard input: its report as JSON; or its report with events
--- and reasons; or its statistics; or where its report isn't the text in a second file or else in standard input
+-- and reasons; or its finish; or its statistics, also where it is a tape; or where its report isn't the text in a second file or
+-- else in standard input; or what is shown of the tape there: its report with events and reasons, or its statistics
 pub data View : Type 0 where
   Report : Option Text → View
   Explanation : Form → Option Text → View
+  Finish : FinishView → Option Text → View
   Statistics : Form → Option Text → View
   Comparison : Option Text → Option Text → View
+  TapeExplanation : Form → Option Text → View
+  TapeStatistics : Form → Option Text → View
 
 -- what a command asks for: the report of the schedule in this file or else in standard input; or a view of its run; or the
 -- areas of the disk in this folder; or a random schedule by these words; or the audit of the tape in this file or else in
 -- standard input; or a run of this number of nodes in threads, over the folders in this folder, by the script in this file,
--- with its tape in this file or none, and so many milliseconds between two ticks; or a shell by these words; or a sweep of the schedule in this file or else in standard
+-- with its tape in this file or none, so many milliseconds between two ticks, and answers in this form; or a shell by these words; or a sweep of the schedule in this file or else in standard
 -- input, with this seed, which only wrong words leave out; or the picture of the schedule in this file or else in standard
 -- input, of the cut that these words write; or an opening of the disk in this folder as that of this node of so many, all of
 -- which only wrong words leave out, and its areas then; or whether the folders in this folder agree; or the registry that they
@@ -72,10 +85,10 @@ pub data View : Type 0 where
 pub data Task : Type 0 where
   Simulate : Option Text → Task
   Viewing : View → Task
-  Show : Option Text → Task
+  Show : Option Text → Form → Task
   Random : RandomWords → Task
-  Audit : Option Text → Task
-  Run : Option Text → Option Text → Option Text → Option Text → Option Text → Task
+  Audit : Option Text → Form → Task
+  Run : Option Text → Option Text → Option Text → Option Text → Option Text → Form → Task
   Shell : ShellWords → Task
   Sweep : Option Text → Option Text → Task
   Draw : Option Text → CutWords → Task
@@ -100,6 +113,9 @@ cut_words_of rows =
       to = first_of (codes "TO") rows;
       node = first_of (codes "NODE") rows;
       instance = first_of (codes "INSTANCE") rows;
+      requests = is_set (codes "REQUESTS") rows;
+      tape = is_set (codes "TAPE") rows;
+      html = is_set (codes "HTML") rows;
     }
 
 -- how something is printed, by the option for JSON
@@ -111,14 +127,38 @@ abbrev pub told_by : Form → Option Text → Task
 told_by Plain file = Simulate file
 told_by Json file = Viewing (Report file)
 
--- what sim, stats, check, random, run, shell, sweep, draw, migrate, verify and export ask for
-abbrev pub simulate_task : List Row → Task
-simulate_task rows =
+-- what is shown of a finish without reasons
+abbrev pub finish_by : Form → FinishView
+finish_by Plain = finished.Report
+finish_by Json = finished.Objects
+
+-- what is shown of a finish: its events alone, or the report with reasons, or the report
+abbrev pub finish_view : List Row → FinishView
+finish_view rows =
+    if is_set (codes "ALONE") rows then finished.Events
+    else (if is_set (codes "EXPLAIN") rows then finished.Explanation (form_of rows) else finish_by (form_of rows))
+
+-- what sim asks for of a schedule as it is
+abbrev pub told_task : List Row → Task
+told_task rows =
     if is_set (codes "EXPLAIN") rows then Viewing (Explanation (form_of rows) (file_of (first_of (codes "FILE") rows)))
     else told_by (form_of rows) (file_of (first_of (codes "FILE") rows))
 
+-- what sim, stats, audit, check, random, run, shell, sweep, draw, migrate, verify and export ask for
+abbrev pub simulate_task : List Row → Task
+simulate_task rows =
+    if is_set (codes "FINISH") rows || is_set (codes "ALONE") rows then Viewing (Finish (finish_view rows) (file_of (first_of (codes "FILE") rows)))
+    else told_task rows
+
 abbrev pub stats_task : List Row → Task
-stats_task rows = Viewing (Statistics (form_of rows) (file_of (first_of (codes "FILE") rows)))
+stats_task rows =
+    if is_set (codes "TAPE") rows then Viewing (TapeStatistics (form_of rows) (file_of (first_of (codes "FILE") rows)))
+    else Viewing (Statistics (form_of rows) (file_of (first_of (codes "FILE") rows)))
+
+abbrev pub audit_task : List Row → Task
+audit_task rows =
+    if is_set (codes "EXPLAIN") rows then Viewing (TapeExplanation (form_of rows) (file_of (first_of (codes "FILE") rows)))
+    else Audit (file_of (first_of (codes "FILE") rows)) (form_of rows)
 
 abbrev pub check_task : List Row → Task
 check_task rows = Viewing (Comparison (file_of (first_of (codes "FILE") rows)) (file_of (first_of (codes "REPORT") rows)))
@@ -131,13 +171,15 @@ random_task rows =
       nodes = first_of (codes "NODES") rows;
       lively = is_set (codes "LIVELY") rows;
       faults = first_of (codes "FAULTS") rows;
+      finish = is_set (codes "FINISH") rows;
       alone = is_set (codes "ALONE") rows;
+      form = form_of rows;
     })
 
 abbrev pub run_task : List Row → Task
 run_task rows =
     Run (first_of (codes "NODES") rows) (first_of (codes "DIR") rows) (first_of (codes "SCRIPT") rows) (first_of (codes "TAPE") rows)
-    (first_of (codes "TICK") rows)
+    (first_of (codes "TICK") rows) (form_of rows)
 
 abbrev pub shell_task : List Row → Task
 shell_task rows =
@@ -171,9 +213,9 @@ abbrev pub other_task_by : Text × List Row → Task
 other_task_by p =
     if bytes_eq p.0 (codes "stats") then stats_task p.1
     else (if bytes_eq p.0 (codes "check") then check_task p.1
-    else (if bytes_eq p.0 (codes "show") then Show (first_of (codes "DIR") p.1)
+    else (if bytes_eq p.0 (codes "show") then Show (first_of (codes "DIR") p.1) (form_of p.1)
     else (if bytes_eq p.0 (codes "random") then random_task p.1
-    else (if bytes_eq p.0 (codes "audit") then Audit (file_of (first_of (codes "FILE") p.1))
+    else (if bytes_eq p.0 (codes "audit") then audit_task p.1
     else (if bytes_eq p.0 (codes "run") then run_task p.1
     else (if bytes_eq p.0 (codes "sweep") then sweep_task p.1
     else (if bytes_eq p.0 (codes "draw") then draw_task p.1
@@ -198,6 +240,9 @@ cut_words_in words =
       to = option_map (λ s. s.now) words.to;
       node = option_map (λ s. s.now) words.node;
       instance = option_map (λ s. s.now) words.instance;
+      requests = words.requests;
+      tape = words.tape;
+      html = words.html;
     }
 
 -- the words of a random schedule that were read so
@@ -209,7 +254,9 @@ random_words_in words =
       nodes = option_map (λ s. s.now) words.nodes;
       lively = words.lively;
       faults = option_map (λ s. s.now) words.faults;
+      finish = words.finish;
       alone = words.alone;
+      form = words.form;
     }
 
 -- the words of a shell that were read so
@@ -229,19 +276,22 @@ shell_words_in words =
 abbrev pub view_in : view.View → View
 view_in (shown.Report file) = Report (option_map (λ s. s.now) file)
 view_in (shown.Explanation f file) = Explanation f (option_map (λ s. s.now) file)
+view_in (shown.Finish what file) = Finish what (option_map (λ s. s.now) file)
 view_in (shown.Statistics f file) = Statistics f (option_map (λ s. s.now) file)
 view_in (shown.Comparison file report) = Comparison (option_map (λ s. s.now) file) (option_map (λ s. s.now) report)
+view_in (shown.TapeExplanation f file) = TapeExplanation f (option_map (λ s. s.now) file)
+view_in (shown.TapeStatistics f file) = TapeStatistics f (option_map (λ s. s.now) file)
 
 -- what words ask for that were read so
 abbrev pub task_in : code.Task → Task
 task_in (read.Simulate file) = Simulate (option_map (λ s. s.now) file)
 task_in (read.View v) = Viewing (view_in v)
-task_in (read.Show folder) = Show (option_map (λ s. s.now) folder)
+task_in (read.Show folder form) = Show (option_map (λ s. s.now) folder) form
 task_in (read.Random words) = Random (random_words_in words)
-task_in (read.Audit file) = Audit (option_map (λ s. s.now) file)
-task_in (read.Run nodes dir script tape tick) =
+task_in (read.Audit file form) = Audit (option_map (λ s. s.now) file) form
+task_in (read.Run nodes dir script tape tick form) =
     Run (option_map (λ s. s.now) nodes) (option_map (λ s. s.now) dir) (option_map (λ s. s.now) script)
-    (option_map (λ s. s.now) tape) (option_map (λ s. s.now) tick)
+    (option_map (λ s. s.now) tape) (option_map (λ s. s.now) tick) form
 task_in (read.Shell words) = Shell (shell_words_in words)
 task_in (read.Sweep file seed) = Sweep (option_map (λ s. s.now) file) (option_map (λ s. s.now) seed)
 task_in (read.Draw file words) = Draw (option_map (λ s. s.now) file) (cut_words_in words)

@@ -6,9 +6,29 @@ pub(crate) fn schedule<'a>() -> &'a str {
     "The schedule [default: standard input]"
 }
 
+/// The help of a FILE that is a schedule or a tape.
+pub(crate) fn recorded<'a>() -> &'a str {
+    "The schedule, or the tape [default: standard input]"
+}
+
+/// The help of the option that takes a text as a tape.
+pub(crate) fn as_tape<'a>() -> &'a str {
+    "Reads FILE as a tape, also where it could be a schedule"
+}
+
+/// The help of the option for reasons on a tape.
+pub(crate) fn explain_tape<'a>() -> &'a str {
+    "Tells the event behind each line, and what it did"
+}
+
 /// The help of the option for reasons.
 pub(crate) fn explain<'a>() -> &'a str {
     "Tells the event behind each line, and why others were refused or came to nothing"
+}
+
+/// The help of the option for a finish.
+pub(crate) fn finish<'a>() -> &'a str {
+    "Goes on from the schedule's end, without faults, until nothing is left to do"
 }
 
 /// The help of the program.
@@ -33,18 +53,25 @@ message that is sent, each acknowledgement, each node that has opened its disk, 
 with `decided N` and the list of the N decided commands. With --explain an indented line for each event has its line, its
 text, and what it did or why it was refused or came to nothing. With --json each line is an object.
 
+With --finish the run goes on, by events that are added to the schedule: nodes that are down restart, nobody is suspected
+or fails, and what is sent is heard. It ends when each request that a node was asked for since it is up is acknowledged, and
+each instance that it has begun is decided. The report is that of all events. With --schedule-only the lines of the added
+events are printed alone. If it can't be finished, this is told, what there is is printed, and the status is 8.
+
 Examples:
   rr sim --explain examples/one_command.schedule
+  rr sim --finish --schedule-only examples/suspected_coordinator.schedule
   rr random --lively --schedule-only --seed 1 --steps 200 --nodes 3 | rr sim"
 }
 
 /// The help of `rr stats`.
 pub(crate) fn stats<'a>() -> &'a str {
     "\
-FILE is a schedule, as `rr sim` reads it. Printed is a table of its run: the events of each kind, and how many of them the
-report tells, were refused or came to nothing; the messages of each kind, and how many were heard, heard again and never
-heard; the refusals of each name; and how many rounds and device calls there were for each decision. With --json it is one
-object.
+FILE is a schedule, as `rr sim` reads it, or a tape, as `rr audit` reads it. Bytes that could be both are a schedule, unless
+--tape is given. Printed is a table of the run: the events of each kind, and how many of them the report tells, were refused
+or came to nothing; the messages of each kind, and how many were heard, heard again and never heard; the refusals of each
+name; and how many rounds and device calls there were for each decision. A tape has no device calls. One with an event that
+isn't next is refused as by `rr audit`. With --json printed is one object.
 
 Examples:
   rr stats examples/tie_of_two_commands.schedule
@@ -68,7 +95,7 @@ pub(crate) fn show<'a>() -> &'a str {
     "\
 DIR is the folder of one node's disk, whose two areas are the files a0 and a1. Printed is a line for each area:
 `area A unformatted`, or `area A epoch E node P of N facts F decided D`. F is the number of the node's next fact, and D
-the number of commands that it knows as decided. Nothing is written.
+the number of commands that it knows as decided. With --json each line is an object. Nothing is written.
 
 Examples:
   rr show /tmp/nodes/0
@@ -121,9 +148,11 @@ Examples:
 pub(crate) fn random<'a>() -> &'a str {
     "\
 Printed is the text of a schedule, a line `report`, and the report of its run, as `rr sim` prints it. With
---schedule-only it is the text of the schedule alone, which `rr sim` reads. The same words print the same bytes. Most of
-the events come to nothing: hardly anything is decided. With --lively each event is drawn among those that do something at
-that moment. Then --faults of a thousand steps have a fault: a crash, a failing call, a lost message, a suspicion or the like.
+--schedule-only it is the text of the schedule alone, which `rr sim` reads. With --finish the events that `rr sim --finish`
+adds stand behind those that are drawn. With --json it is the report alone, as `rr sim --json` prints it; that goes with
+neither of the two. The same words print the same bytes. Most of the events come to nothing: hardly anything is decided.
+With --lively each event is drawn among those that do something at that moment. Then --faults of a thousand steps have a
+fault: a crash, a failing call, a lost message, a suspicion or the like.
 
 Examples:
   rr random --lively --seed 1 --steps 1000 --nodes 3
@@ -135,7 +164,9 @@ pub(crate) fn audit<'a>() -> &'a str {
     "\
 FILE is a tape, a record of what nodes did: a first line `nodes N`, and then one event a line, in the words of a schedule
 or a report, as `submit 0 7 1 claim a x` or `send 0 0 1 beat`. Printed is `audit yes K` where its K events are what nodes
-do, in this order, from an empty start. Otherwise standard error names the first event that isn't.
+do, in this order, from an empty start. Otherwise standard error names the first event that isn't. With --json an object
+is printed in either case. With --explain printed are the messages and replies of the tape and its decided list instead. An
+indented line for each event has its line, its text, and what it did; with --json each of these lines is an object.
 
 Examples:
   rr audit crates/worked_rows/data/tapes-one_command.tape
@@ -147,8 +178,8 @@ pub(crate) fn run<'a>() -> &'a str {
     "\
 SCRIPT has a line for each thing that clients ask, as `submit 0 7 1 claim a x` or `look 1 a`. A SCRIPT that is - is
 standard input. Each node runs in threads, node P over the files in the folder DIR/P, which are made where they are missing. Printed is an answer for each line of
-the script, in its order: `ack P C.S REPLY`, `none P C.S`, or `look P NAME` and what the name is bound to. With --tape
-the folders have to be fresh, and what the nodes did is recorded for `rr audit`.
+the script, in its order: `ack P C.S REPLY`, `none P C.S`, or `look P NAME` and what the name is bound to. With --json
+each answer is an object. With --tape the folders have to be fresh, and what the nodes did is recorded for `rr audit`.
 
 Examples:
   rr run --nodes 3 --dir /tmp/nodes --script examples/three_clients.script
@@ -159,12 +190,13 @@ Examples:
 pub(crate) fn shell<'a>() -> &'a str {
     "\
 Each line of standard input is a command, which is answered before the next is read: `claim NAME [VALUE]`,
-`update NAME [VALUE]`, `release NAME`, `transfer NAME OWNER`, `look NAME`, `list [PREFIX]`, `sync`, `at NODE`,
-`stop NODE`, `start NODE`, `snapshot NODE`, `status`, `again`, `help`, `quit` or `exit`. One space divides words. Node 0
+`update NAME [VALUE]`, `release NAME`, `transfer NAME OWNER`, `look NAME`, `list [PREFIX]`, `watch [PREFIX]`, `sync`,
+`at NODE`, `stop NODE`, `start NODE`, `snapshot NODE`, `status`, `again`, `help`, `quit` or `exit`. One space divides words. Node 0
 is asked first, and from `at NODE` on that node. The answers are `claimed`, `updated`, `released`, `transferred`, `taken OWNER`,
 `unknown`, `notowner`, `full`, `unacknowledged` or `full list: ` and a text; to a look `NAME free`,
 `NAME bound OWNER VALUE` or `NAME unseen`; to a list `list COUNT` and a line as a look's for each bound name that begins
-with PREFIX; to a sync `synced`; to a status a line for each node; else `error: ` and what is expected. With --json each
+with PREFIX; to a watch `watching`, and until the next line `changed NAME bound OWNER VALUE` or `freed NAME` for each change of
+these names; to a sync `synced`; to a status a line for each node; else `error: ` and what is expected. With --json each
 of these lines is an object of JSON. A look or a list answers from what the node that is asked has seen. Behind `synced`
 it has all that was acknowledged at any node before that line was read. `again` asks the last command that was unacknowledged once more, under its request number, so that it
 counts once. A node that is stopped goes down as by a crash, and opens its folder when it is started. Each node runs in
@@ -196,11 +228,15 @@ Examples:
 /// The help of `rr draw`.
 pub(crate) fn draw<'a>() -> &'a str {
     "\
-FILE is a schedule, as `rr sim` reads it. Printed is a picture of its run, in SVG. Time goes down, and each node has a
-line. An arrow is a message, a box a flush, and a diamond a decision; docs/FORMATS.md has all symbols. Each event tells
-its line and what came of it, where the pointer rests on it. Lines count from 1, and the first event is on line 2.
+FILE is a schedule, as `rr sim` reads it, or a tape, as `rr audit` reads it. Bytes that could be both are a schedule, unless
+--tape is given. Printed is a picture of the run, in SVG. Time goes down, and each node has a line. An arrow is a message,
+a box a flush, and a diamond a decision; docs/FORMATS.md has all symbols. Each event tells its line and what came of it,
+where the pointer rests on it. Lines count from 1, and the first event is on line 2. In a picture of more than 300 lines,
+requests are folded into dots. With --requests they are arrows. With --html it is a page that a browser opens without a
+network: a click on an event tells what came of it, and marks what it depends on.
 
 Examples:
+  rr draw --html examples/suspected_coordinator.schedule > run.html
   rr draw examples/suspected_coordinator.schedule > run.svg
   rr draw --from 20 --to 60 --node 1 examples/suspected_coordinator.schedule > part.svg"
 }

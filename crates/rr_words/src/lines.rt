@@ -2,7 +2,7 @@
 
 ghost use Rattle.std.specs.Prelude.{◌≡◌, IfOk, codes};
 ghost use Rattle.clap.specs.Words.{App, app_of, new_app};
-ghost use Rattle.rr_words.specs.Lines.{IsArg, IsLine, and_also, rr_line, schedule_lines, rr_settings, with_version, named_rule, sim_line, stats_line, check_line, show_line, migrate_line, word_rule, number_rule, option_rule, optional_number_rule, flag_rule, tick_rule, numbers_line, random_line, audit_line, run_line, lines_rule, asking_line, shell_line, sweep_line, draw_line, verify_line, export_line};
+ghost use Rattle.rr_words.specs.Lines.{IsArg, IsLine, and_also, rr_line, schedule_lines, rr_settings, with_version, named_rule, told_line, sim_line, stats_line, check_line, show_line, migrate_line, word_rule, number_rule, option_rule, optional_number_rule, flag_rule, tick_rule, numbers_line, random_line, audit_line, run_line, lines_rule, asking_line, shell_line, sweep_line, draw_line, verify_line, export_line};
 
 use crate::helps;
 use clap::builder::ValueParser;
@@ -174,9 +174,9 @@ fn tick_arg<'a>(alloc: Global) -> Arg<'a>
     )
 }
 
-// The command line of `rr sim`.
-fn sim_line<'a>(alloc: Global) -> Result<Command<'a>, AllocError>
-    ensures { IfOk result (IsLine sim_line) }
+// The command line of `rr sim` without what finishes a schedule.
+fn told_line<'a>(alloc: Global) -> Result<Command<'a>, AllocError>
+    ensures { IfOk result (IsLine told_line) }
 {
     bare_line(
         alloc,
@@ -194,6 +194,20 @@ fn sim_line<'a>(alloc: Global) -> Result<Command<'a>, AllocError>
     ))
 }
 
+// The command line of `rr sim`.
+fn sim_line<'a>(alloc: Global) -> Result<Command<'a>, AllocError>
+    ensures { IfOk result (IsLine sim_line) }
+{
+    told_line(alloc)?
+        .arg(flag_arg(alloc, "FINISH", "finish", helps::finish()))?
+        .arg(flag_arg(
+            alloc,
+            "ALONE",
+            "schedule-only",
+            "Prints the events that --finish adds, alone; implies --finish",
+        ))
+}
+
 // The command line of `rr stats`.
 fn stats_line<'a>(alloc: Global) -> Result<Command<'a>, AllocError>
     ensures { IfOk result (IsLine stats_line) }
@@ -201,11 +215,12 @@ fn stats_line<'a>(alloc: Global) -> Result<Command<'a>, AllocError>
     bare_line(
         alloc,
         "stats",
-        "Runs a schedule and counts what happens in its run",
+        "Counts what happens in the run of a schedule, or on a tape",
         helps::stats(),
     )
-    .arg(word_arg(alloc, "FILE", helps::schedule(), false))?
-    .arg(flag_arg(alloc, "JSON", "json", "Prints an object of JSON"))
+    .arg(word_arg(alloc, "FILE", helps::recorded(), false))?
+    .arg(flag_arg(alloc, "JSON", "json", "Prints an object of JSON"))?
+    .arg(flag_arg(alloc, "TAPE", "tape", helps::as_tape()))
 }
 
 // The command line of `rr check`.
@@ -232,7 +247,13 @@ fn show_line<'a>(alloc: Global) -> Result<Command<'a>, AllocError>
         "Tells what the areas of a node's disk hold",
         helps::show(),
     )
-    .arg(word_arg(alloc, "DIR", "The folder of the node", true))
+    .arg(word_arg(alloc, "DIR", "The folder of the node", true))?
+    .arg(flag_arg(
+        alloc,
+        "JSON",
+        "json",
+        "Prints an object of JSON for each area",
+    ))
 }
 
 // The command line of `rr verify`.
@@ -309,11 +330,18 @@ fn random_line<'a>(alloc: Global) -> Result<Command<'a>, AllocError>
             0,
             MAX_FAULTS,
         ))?
+        .arg(flag_arg(alloc, "FINISH", "finish", helps::finish()))?
         .arg(flag_arg(
             alloc,
             "ALONE",
             "schedule-only",
             "Prints the schedule alone, without the report",
+        ))?
+        .arg(flag_arg(
+            alloc,
+            "JSON",
+            "json",
+            "Prints the report alone, an object of JSON for each line",
         ))
 }
 
@@ -327,7 +355,14 @@ fn audit_line<'a>(alloc: Global) -> Result<Command<'a>, AllocError>
         "Says whether the events of a tape are what nodes do",
         helps::audit(),
     )
-    .arg(word_arg(alloc, "FILE", "The tape [default: standard input]", false))
+    .arg(word_arg(alloc, "FILE", "The tape [default: standard input]", false))?
+    .arg(flag_arg(alloc, "EXPLAIN", "explain", helps::explain_tape()))?
+    .arg(flag_arg(
+        alloc,
+        "JSON",
+        "json",
+        "Prints the verdict as an object of JSON, or an object for each line",
+    ))
 }
 
 // The command line of `rr run`.
@@ -356,7 +391,13 @@ fn run_line<'a>(alloc: Global) -> Result<Command<'a>, AllocError>
         true,
     ))?
     .arg(option_arg(alloc, "TAPE", "tape", "Where the tape is written", false))?
-    .arg(tick_arg(alloc))
+    .arg(tick_arg(alloc))?
+    .arg(flag_arg(
+        alloc,
+        "JSON",
+        "json",
+        "Prints an object of JSON for each answer",
+    ))
 }
 
 // The command line of `rr shell` without how it answers.
@@ -449,10 +490,10 @@ fn draw_line<'a>(alloc: Global) -> Result<Command<'a>, AllocError>
     bare_line(
         alloc,
         "draw",
-        "Draws the run of a schedule as an SVG picture",
+        "Draws the run of a schedule, or a tape, as an SVG picture",
         helps::draw(),
     )
-    .arg(word_arg(alloc, "FILE", helps::schedule(), false))?
+    .arg(word_arg(alloc, "FILE", helps::recorded(), false))?
     .arg(optional_number_arg(
         alloc,
         "FROM",
@@ -477,6 +518,14 @@ fn draw_line<'a>(alloc: Global) -> Result<Command<'a>, AllocError>
         "The instance of the messages [default: all events]",
         0,
         1_048_575,
+    ))?
+    .arg(flag_arg(alloc, "REQUESTS", "requests", "Folds no requests"))?
+    .arg(flag_arg(alloc, "TAPE", "tape", helps::as_tape()))?
+    .arg(flag_arg(
+        alloc,
+        "HTML",
+        "html",
+        "Prints a page for a browser, with the picture",
     ))
 }
 

@@ -2,7 +2,7 @@
 
 ghost use Rattle.std.specs.Prelude.{◌≡◌, [], IfOk, map, option_map, unwrap_or};
 ghost use Rattle.clap.specs.Words.{all_of, first_of, found_of, rows_of};
-ghost use Rattle.rr_words.specs.Tasks.{file_of, is_set, form_of, cut_words_of, cut_words_in, simulate_task, stats_task, check_task, random_task, run_task, shell_task, sweep_task, draw_task, migrate_task, other_task_by, task_by, task_in, verify_task, export_task};
+ghost use Rattle.rr_words.specs.Tasks.{file_of, is_set, form_of, cut_words_of, cut_words_in, finish_view, simulate_task, told_task, stats_task, audit_task, check_task, random_task, run_task, shell_task, sweep_task, draw_task, migrate_task, other_task_by, task_by, task_in, verify_task, export_task};
 
 use clap::ArgMatches;
 use std::alloc::{AllocError, Global};
@@ -18,6 +18,12 @@ pub struct CutWords<'a> {
     pub node: Option<&'a str>,
     /// The instance whose messages are shown.
     pub instance: Option<&'a str>,
+    /// Whether requests are never folded.
+    pub requests: bool,
+    /// Whether the text is read as a tape, also where it could be a schedule.
+    pub tape: bool,
+    /// Whether the picture stands in a page for a browser.
+    pub html: bool,
 }
 
 /// The words of a random schedule.
@@ -33,8 +39,12 @@ pub struct RandomWords<'a> {
     pub lively: bool,
     /// How many steps in a thousand of a lively schedule have a fault.
     pub faults: Option<&'a str>,
+    /// Whether it is finished, without faults, before it is printed.
+    pub finish: bool,
     /// Whether the schedule is printed alone, without the report of its run.
     pub alone: bool,
+    /// How the report is printed. As JSON it stands without the schedule.
+    pub form: Form,
 }
 
 /// The words of a shell.
@@ -65,17 +75,36 @@ pub enum Form {
     Json,
 }
 
-/// What is shown of the run of a schedule. Where the file is `None`, standard input is meant.
+/// What is shown of the finish of a schedule: the events that go on from its end, without faults, until nothing is left to do.
+#[derive(Clone, Copy, Debug, PartialEq, Eq)]
+pub enum FinishView {
+    /// The lines of the events that were added.
+    Events,
+    /// The report of the run of all events.
+    Report,
+    /// That report, an object a line.
+    Objects,
+    /// That report, with each event and what came of it.
+    Explanation(Form),
+}
+
+/// What is shown of the run of a schedule, or of a tape. Where the file is `None`, standard input is meant.
 #[derive(Clone, Copy, Debug, PartialEq, Eq)]
 pub enum View<'a> {
     /// `rr sim --json [FILE]`: its report, an object a line.
     Report(Option<&'a str>),
     /// `rr sim --explain [--json] [FILE]`: its report, with each event and what came of it.
     Explanation(Form, Option<&'a str>),
-    /// `rr stats [--json] [FILE]`: its statistics.
+    /// `rr sim --finish [--schedule-only] [--explain] [--json] [FILE]`: its finish.
+    Finish(FinishView, Option<&'a str>),
+    /// `rr stats [--json] [FILE]`: its statistics. The file may also have a tape.
     Statistics(Form, Option<&'a str>),
     /// `rr check FILE REPORT`: where its report differs first from the text in the second file.
     Comparison(Option<&'a str>, Option<&'a str>),
+    /// `rr audit --explain [--json] [FILE]`: the report of a tape, with each event and what came of it.
+    TapeExplanation(Form, Option<&'a str>),
+    /// `rr stats --tape [--json] [FILE]`: the statistics of a tape.
+    TapeStatistics(Form, Option<&'a str>),
 }
 
 /// What words ask for.
@@ -83,26 +112,26 @@ pub enum View<'a> {
 pub enum Task<'a> {
     /// `rr sim [FILE]`: the report of the schedule in this file, or else in standard input, as by the word `-`.
     Simulate(Option<&'a str>),
-    /// `rr sim` with an option, `rr stats` or `rr check`: a view of the run of a schedule.
+    /// `rr sim` or `rr audit` with an option, `rr stats` or `rr check`: a view of the run of a schedule, or of a tape.
     View(View<'a>),
-    /// `rr show DIR`: what the areas hold of the disk in this folder.
-    Show(Option<&'a str>),
-    /// `rr random --seed SEED --steps STEPS --nodes NODES [--lively [--faults FAULTS]] [--schedule-only]`: a random schedule,
-    /// and the report of its run unless the schedule is printed alone.
+    /// `rr show DIR [--json]`: what the areas hold of the disk in this folder.
+    Show(Option<&'a str>, Form),
+    /// `rr random --seed SEED --steps STEPS --nodes NODES [--lively [--faults FAULTS]] [--finish] [--schedule-only] [--json]`: a
+    /// random schedule, finished or as it is drawn, and the report of its run unless the schedule is printed alone.
     Random(RandomWords<'a>),
-    /// `rr audit [FILE]`: whether the events are what nodes do of the tape in this file, or else in standard input.
-    Audit(Option<&'a str>),
-    /// `rr run --nodes NODES --dir DIR --script SCRIPT [--tape TAPE] [--tick MILLISECONDS]`: a run of nodes in threads by the
-    /// script in this file, its tape into this file, and how many milliseconds are between two ticks of a node.
-    Run(Option<&'a str>, Option<&'a str>, Option<&'a str>, Option<&'a str>, Option<&'a str>),
+    /// `rr audit [FILE] [--json]`: whether the events are what nodes do of the tape in this file, or else in standard input.
+    Audit(Option<&'a str>, Form),
+    /// `rr run --nodes NODES --dir DIR --script SCRIPT [--tape TAPE] [--tick MILLISECONDS] [--json]`: a run of nodes in threads
+    /// by the script in this file, its tape into this file, and how many milliseconds are between two ticks of a node.
+    Run(Option<&'a str>, Option<&'a str>, Option<&'a str>, Option<&'a str>, Option<&'a str>, Form),
     /// `rr shell [--nodes NODES] [--dir DIR] [--client CLIENT] [--tick MILLISECONDS] [-c LINE].. [--strict] [--json]`: a run of nodes in threads, whom
     /// these lines or those of standard input ask as this client.
     Shell(ShellWords<'a>),
     /// `rr sweep [FILE] --seed SEED`: what a node restarts with after a crash behind each device call of the schedule in
     /// this file, or else in standard input; with the seed of the words of the last ending.
     Sweep(Option<&'a str>, Option<&'a str>),
-    /// `rr draw [FILE] [--from FROM] [--to TO] [--node NODE] [--instance INSTANCE]`: the picture of the schedule in this
-    /// file, or else in standard input, of the cut that these words write.
+    /// `rr draw [FILE] [--from FROM] [--to TO] [--node NODE] [--instance INSTANCE] [--requests] [--tape] [--html]`: the
+    /// picture, or a page with it, of the schedule or tape in this file, or else in standard input, of the cut that these words write.
     Draw(Option<&'a str>, CutWords<'a>),
     /// `rr migrate DIR --node NODE --nodes NODES`: an opening of the disk in this folder, and what its areas hold then.
     /// The disk is that of node NODE of NODES nodes.
@@ -150,6 +179,9 @@ fn cut_words<'a>(matches: &ArgMatches<'a>) -> CutWords<'a>
         to: word_of(matches, "TO"),
         node: word_of(matches, "NODE"),
         instance: word_of(matches, "INSTANCE"),
+        requests: is_set(matches, "REQUESTS"),
+        tape: is_set(matches, "TAPE"),
+        html: is_set(matches, "HTML"),
     }
 }
 
@@ -164,9 +196,37 @@ fn form_of(matches: &ArgMatches<'_>) -> Form
     }
 }
 
+// What is shown of a finish.
+fn finish_view(matches: &ArgMatches<'_>) -> FinishView
+    ensures { result ≡ finish_view (rows_of (found_of matches.now)) }
+{
+    if is_set(matches, "ALONE") {
+        return FinishView::Events;
+    }
+    let form = form_of(matches);
+    if is_set(matches, "EXPLAIN") {
+        return FinishView::Explanation(form);
+    }
+    match form {
+        Form::Json => FinishView::Objects,
+        Form::Plain => FinishView::Report,
+    }
+}
+
 // What `rr sim` is asked for.
 fn simulate_task<'a>(matches: &ArgMatches<'a>) -> Task<'a>
     ensures { task_in result ≡ simulate_task (rows_of (found_of matches.now)) }
+{
+    if is_set(matches, "FINISH") || is_set(matches, "ALONE") {
+        let file = file_of(word_of(matches, "FILE"));
+        return Task::View(View::Finish(finish_view(matches), file));
+    }
+    told_task(matches)
+}
+
+// What `rr sim` is asked for of a schedule as it is.
+fn told_task<'a>(matches: &ArgMatches<'a>) -> Task<'a>
+    ensures { task_in result ≡ told_task (rows_of (found_of matches.now)) }
 {
     let file = file_of(word_of(matches, "FILE"));
     let form = form_of(matches);
@@ -184,7 +244,24 @@ fn stats_task<'a>(matches: &ArgMatches<'a>) -> Task<'a>
     ensures { task_in result ≡ stats_task (rows_of (found_of matches.now)) }
 {
     let file = file_of(word_of(matches, "FILE"));
-    Task::View(View::Statistics(form_of(matches), file))
+    let form = form_of(matches);
+    if is_set(matches, "TAPE") {
+        Task::View(View::TapeStatistics(form, file))
+    } else {
+        Task::View(View::Statistics(form, file))
+    }
+}
+
+// What `rr audit` is asked for.
+fn audit_task<'a>(matches: &ArgMatches<'a>) -> Task<'a>
+    ensures { task_in result ≡ audit_task (rows_of (found_of matches.now)) }
+{
+    let file = file_of(word_of(matches, "FILE"));
+    if is_set(matches, "EXPLAIN") {
+        Task::View(View::TapeExplanation(form_of(matches), file))
+    } else {
+        Task::Audit(file, form_of(matches))
+    }
 }
 
 // What `rr check` is asked for.
@@ -206,7 +283,9 @@ fn random_task<'a>(matches: &ArgMatches<'a>) -> Task<'a>
         nodes: word_of(matches, "NODES"),
         lively: is_set(matches, "LIVELY"),
         faults: word_of(matches, "FAULTS"),
+        finish: is_set(matches, "FINISH"),
         alone: is_set(matches, "ALONE"),
+        form: form_of(matches),
     })
 }
 
@@ -220,6 +299,7 @@ fn run_task<'a>(matches: &ArgMatches<'a>) -> Task<'a>
         word_of(matches, "SCRIPT"),
         word_of(matches, "TAPE"),
         word_of(matches, "TICK"),
+        form_of(matches),
     )
 }
 
@@ -304,11 +384,11 @@ fn other_task<'a>(name: &str, matches: &ArgMatches<'a>) -> Task<'a>
     } else if name == "check" {
         check_task(matches)
     } else if name == "show" {
-        Task::Show(word_of(matches, "DIR"))
+        Task::Show(word_of(matches, "DIR"), form_of(matches))
     } else if name == "random" {
         random_task(matches)
     } else if name == "audit" {
-        Task::Audit(file_of(word_of(matches, "FILE")))
+        audit_task(matches)
     } else if name == "run" {
         run_task(matches)
     } else if name == "sweep" {

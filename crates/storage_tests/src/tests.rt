@@ -1,3 +1,4 @@
+mod expected;
 mod failed_openings;
 mod flush;
 mod frame_sweeps;

@@ -1,4 +1,5 @@
 mod event_texts;
+mod expected;
 mod messages;
 mod schedules;
 mod scripts;

@@ -2,4 +2,5 @@ mod hand_overs;
 mod inboxes;
 mod many_looks;
 mod seats;
+mod watches;
 mod windows;

@@ -3,11 +3,13 @@
 //!
 //! After the word `run` it prints the report of each schedule. After `areas` it prints the bytes that the areas of node
 //! 0 hold at its end. After `sweep` it prints how many crashes in the switch that ends the schedule kept the snapshot's
-//! facts. After `restarts` it prints the sweep of the schedule's device calls, and after `audit` what an audit of each
-//! tape finds. At the word `full-list` it says what a node answers when all its instances are decided.
+//! facts. After `restarts` it prints the sweep of the schedule's device calls. After `audit` it prints what `rr audit` says of each
+//! tape, and after `examine` what the library finds. At the word `full-list` it says what a node answers when all its instances are
+//! decided.
 #![tactic(auto)]
 
 mod areas;
+mod audits;
 mod full_list;
 mod sweep;
 
@@ -15,6 +17,7 @@ ghost use Rattle.std.specs.Prelude.{◌≡◌, IfOk};
 ghost use Rattle.rr_sim.specs.Told.{IsReportOn};
 
 use crate::areas::areas_behind;
+use crate::audits::print_audit;
 use rr_audit::Verdict;
 use rr_cli::{audit_on, print_refusal, report_on};
 use rr_stream::Counted;
@@ -35,6 +38,7 @@ enum Task {
     Sweep,
     Restarts,
     Audit,
+    Examine,
 }
 
 fn printed(alloc: Global, is_tape: bool, bytes: &[u8]) -> Result<Vec<u8>, Refusal>
@@ -125,6 +129,7 @@ fn main(rt: HostRuntime) -> io::Result<()> {
             "sweep" => task = Task::Sweep,
             "restarts" => task = Task::Restarts,
             "audit" => task = Task::Audit,
+            "examine" => task = Task::Examine,
             "full-list" => full_list::full_list(&rt)?,
             path => {
                 let bytes = fs::read(&rt, path)?;
@@ -135,6 +140,7 @@ fn main(rt: HostRuntime) -> io::Result<()> {
                     Task::Sweep => sweep::sweep(&rt, path, &bytes)?,
                     Task::Restarts => print_restarts(&rt, path, &bytes)?,
                     Task::Audit => audit(&rt, path, &bytes)?,
+                    Task::Examine => print_audit(&rt, &bytes)?,
                 }
             }
         }

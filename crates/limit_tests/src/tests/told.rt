@@ -30,19 +30,15 @@ fn full(rt: &impl Abort) -> ReportLine {
 }
 
 fn report(rt: &impl Abort, alloc: Global) -> Report {
-    let mut lines = Vec::new(alloc);
     let damaged = Refusal::Damaged { area: 1, offset: 9 };
-    lines.push(refusal(2, damaged)).expect(rt, "memory");
-    lines
-        .push(refusal(3, Refusal::ListFull))
-        .expect(rt, "memory");
-    lines
-        .push(refusal(4, Refusal::RoundsOut))
-        .expect(rt, "memory");
-    lines
-        .push(refusal(5, Refusal::TooLarge))
-        .expect(rt, "memory");
-    lines.push(full(rt)).expect(rt, "memory");
+    let lines = [
+        refusal(2, damaged),
+        refusal(3, Refusal::ListFull),
+        refusal(4, Refusal::RoundsOut),
+        refusal(5, Refusal::TooLarge),
+        full(rt),
+    ];
+    let lines = Vec::from_array(alloc, lines).expect(rt, "memory");
     Report::new(lines, Vec::new(alloc))
 }
 

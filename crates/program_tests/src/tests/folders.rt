@@ -29,7 +29,10 @@ const WORDS: [&str; 8] = [
 fn assert_ended<
     F: Read + Write + Seek + FileExt + OpenFile + Drop + Send + Lockable,
     R: Files<File = F> + AllocGlobal + Threads + Wait + Clock + Sync + Abort,
->(rt: &R, status: u8, text: &str, error: &str) {
+>(rt: &R, status: u8, text: &str, error: &str)
+where
+    R::Dir: Send,
+{
     let mut out = Counted::new(Vec::new(rt.alloc()));
     let mut err = Vec::new(rt.alloc());
     let ended = execute(

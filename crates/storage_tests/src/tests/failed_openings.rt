@@ -2,10 +2,10 @@
 
 ghost use Rattle.std.specs.Prelude.{◌<◌};
 
+use super::expected::{alone, assert_numbers};
 use super::journal::after;
 use rr_disk::{Area, FailingDisk, MemDisk};
 use rr_journal::{Journal, Opening};
-use rr_types::{NodeId, Nodes};
 use std::alloc::Global;
 use std::process::Abort;
 
@@ -21,25 +21,23 @@ fn crashed(
     before: usize,
     byte: u8,
 ) -> FailingDisk<MemDisk> {
-    let nodes = Nodes::new(1).expect(rt, "nodes");
-    let node = NodeId::new(nodes, 0).expect(rt, "a node");
+    let (nodes, node) = alone(rt);
     let opening = after(rt, alloc, Opening::start(nodes, node, disk), before);
-    let mut fill = Vec::new(alloc);
-    fill.push(byte).expect(rt, "memory");
-    let mut disk = opening.fail(alloc, fill);
+    let mut disk = opening.fail(alloc, [byte].to_vec(alloc).expect(rt, "memory"));
     disk.crash(u64::MAX, 0, &[byte]);
     disk
 }
 
 /// Asserts that the disk opens as one without facts, and gives it back.
 fn opened(rt: &impl Abort, alloc: Global, disk: FailingDisk<MemDisk>) -> FailingDisk<MemDisk> {
-    let nodes = Nodes::new(1).expect(rt, "nodes");
-    let node = NodeId::new(nodes, 0).expect(rt, "a node");
+    let (nodes, node) = alone(rt);
     match Journal::open(alloc, nodes, node, disk) {
         Ok((journal, opened)) => {
             assert!(rt; matches!(journal.area(), Area::First));
-            assert_eq!(rt; (journal.epoch(), journal.facts()), (1, 0));
-            assert_eq!(rt; (opened.next(), opened.promise().entries().len()), (0, 0));
+            let found = (journal.epoch(), journal.facts());
+            assert_numbers(rt, found, (1, 0), "epoch and facts");
+            let entries = opened.promise().entries().len() as u64;
+            assert_numbers(rt, (opened.next(), entries), (0, 0), "the promise");
             journal.into_disk()
         }
         Err((_, _)) => rt.panic("a disk without damage"),

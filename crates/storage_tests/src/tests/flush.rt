@@ -1,8 +1,9 @@
 //! A flush beside another one, and one whose device call fails.
 
+use super::expected::alone;
 use rr_disk::{FailingDisk, MemDisk};
-use rr_journal::Journal;
-use rr_types::{Command, Fact, Group, Instance, Name, NodeId, Nodes, Op, Refusal, RequestNo};
+use rr_journal::{Body, Job, Journal};
+use rr_types::{Command, Fact, Group, Instance, Name, Op, Refusal, RequestNo};
 use std::alloc::Global;
 use std::process::Abort;
 
@@ -36,12 +37,22 @@ fn refused(
     }
 }
 
+/// Asserts that the next device call of a flush fails.
+fn assert_failing(rt: &impl Abort, job: Job<Body>, journal: &mut Journal<FailingDisk<MemDisk>>) {
+    match job.step(journal) {
+        Ok(next) => {
+            next.abandon();
+            assert!(rt; false, "a failing write was done");
+        }
+        Err(refusal) => assert_eq!(rt; refusal, Refusal::Device),
+    }
+}
+
 /// A journal is busy while a flush runs, and has failed from its failing device call on.
 #[test]
 fn a_journal_that_failed_is_left_alone(rt: HostRuntime) {
     let alloc = rt.alloc();
-    let nodes = Nodes::new(1).expect(&rt, "nodes");
-    let node = NodeId::new(nodes, 0).expect(&rt, "a node");
+    let (nodes, node) = alone(&rt);
     let disk = FailingDisk::new(MemDisk::new(alloc));
     let opening = Journal::open(alloc, nodes, node, disk);
     let (mut journal, _opened) = opening.expect(&rt, "an opening");
@@ -49,13 +60,7 @@ fn a_journal_that_failed_is_left_alone(rt: HostRuntime) {
     let job = begun.expect(&rt, "a flush");
     refused(&rt, alloc, &mut journal, Refusal::Busy);
     journal.fail_next(Vec::new(alloc));
-    match job.step(&mut journal) {
-        Ok(next) => {
-            next.abandon();
-            assert!(rt; false, "a failing write was done");
-        }
-        Err(refusal) => assert_eq!(rt; refusal, Refusal::Device),
-    }
+    assert_failing(&rt, job, &mut journal);
     assert!(rt; journal.has_failed());
     refused(&rt, alloc, &mut journal, Refusal::Failed);
 }

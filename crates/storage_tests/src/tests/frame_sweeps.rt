@@ -1,5 +1,6 @@
 //! Spelled examples of each kind, with each byte at each of its values, and cut at each place.
 
+use super::expected::assert_same;
 use super::samples::put_at;
 use rr_frame::{
     Snapshot, Version, decode_fact, decode_group, decode_snapshot, encode_fact, encode_group,
@@ -131,7 +132,7 @@ pub(crate) fn rewritten(alloc: Global, form: Form, bytes: &[u8]) -> Result<Vec<u
 /// Asserts that bytes are refused within them, or are the spelling of what is read of them.
 fn assert_exact(rt: &impl Abort, alloc: Global, form: Form, bytes: &[u8]) -> Result<(), Refusal> {
     match rewritten(alloc, form, bytes) {
-        Ok(again) => assert_eq!(rt; again.as_slice(), bytes),
+        Ok(again) => assert_same(rt, &again, bytes, "an example"),
         Err(Refusal::Malformed(offset)) => assert!(rt; offset <= bytes.len() as u64),
         Err(refusal) => return Err(refusal),
     }
@@ -140,10 +141,8 @@ fn assert_exact(rt: &impl Abort, alloc: Global, form: Form, bytes: &[u8]) -> Res
 
 /// Asserts that bytes are refused at this offset.
 fn assert_refused(rt: &impl Abort, alloc: Global, form: Form, bytes: &[u8], offset: usize) {
-    match rewritten(alloc, form, bytes) {
-        Ok(_) => assert!(rt; false, "read, though the fault is at {offset}"),
-        Err(refusal) => assert_eq!(rt; refusal, Refusal::Malformed(offset as u64)),
-    }
+    let refused = rewritten(alloc, form, bytes).err();
+    assert_eq!(rt; refused, Some(Refusal::Malformed(offset as u64)));
 }
 
 /// Where the field begins that has this place.
@@ -157,27 +156,26 @@ fn field_of(fields: &[usize], place: usize) -> usize {
     found
 }
 
+/// The bytes are exact with each byte at a place.
+fn sweep_place(rt: &impl Abort, alloc: Global, form: Form, bytes: &mut [u8], place: usize) {
+    for byte in 0..=255 {
+        put_at(bytes, place, byte);
+        assert_exact(rt, alloc, form, bytes).expect(rt, "memory");
+    }
+}
+
 /// The example is exact, also with each byte at each value; cut, it is refused at the cut field.
-fn sweep(
-    rt: &impl Abort,
-    alloc: Global,
-    form: Form,
-    example: &[u8],
-    fields: &[usize],
-) -> Result<(), Refusal> {
-    let mut bytes = example.to_vec(alloc)?;
+fn sweep(rt: &impl Abort, alloc: Global, form: Form, example: &[u8], fields: &[usize]) {
+    let mut bytes = example.to_vec(alloc).expect(rt, "memory");
     for (place, kept) in example.iter().enumerate() {
         assert_refused(rt, alloc, form, &example[..place], field_of(fields, place));
-        for byte in 0..=255 {
-            put_at(&mut bytes, place, byte);
-            assert_exact(rt, alloc, form, &bytes)?;
-        }
+        sweep_place(rt, alloc, form, &mut bytes, place);
         put_at(&mut bytes, place, *kept);
     }
-    assert_eq!(rt; rewritten(alloc, form, example)?.as_slice(), example);
-    bytes.push(0)?;
+    let again = rewritten(alloc, form, example).expect(rt, "memory");
+    assert_same(rt, &again, example, "an example");
+    bytes.push(0).expect(rt, "memory");
     assert_refused(rt, alloc, form, &bytes, example.len());
-    Ok(())
 }
 
 #[test]
@@ -189,19 +187,19 @@ fn each_byte_and_each_cut_of_facts(rt: HostRuntime) {
         (&DECIDE, &DECIDE_FIELDS),
     ];
     for (example, fields) in rows {
-        sweep(&rt, rt.alloc(), Form::Fact(Version::Two), example, fields).expect(&rt, "memory");
+        sweep(&rt, rt.alloc(), Form::Fact(Version::Two), example, fields);
     }
 }
 
 #[test]
 fn each_byte_and_each_cut_of_a_group(rt: HostRuntime) {
     let form = Form::Group(Version::Two);
-    sweep(&rt, rt.alloc(), form, &GROUP, &GROUP_FIELDS).expect(&rt, "memory");
+    sweep(&rt, rt.alloc(), form, &GROUP, &GROUP_FIELDS);
 }
 
 #[test]
 fn each_byte_and_each_cut_of_a_snapshot(rt: HostRuntime) {
-    sweep(&rt, rt.alloc(), Form::Snapshot, &SNAPSHOT, &SNAPSHOT_FIELDS).expect(&rt, "memory");
+    sweep(&rt, rt.alloc(), Form::Snapshot, &SNAPSHOT, &SNAPSHOT_FIELDS);
 }
 
 #[test]
@@ -212,18 +210,18 @@ fn each_byte_and_each_cut_of_facts_of_version_1(rt: HostRuntime) {
         (&ADOPT, &ADOPT_FIELDS),
     ];
     for (example, fields) in rows {
-        sweep(&rt, rt.alloc(), Form::Fact(Version::One), example, fields).expect(&rt, "memory");
+        sweep(&rt, rt.alloc(), Form::Fact(Version::One), example, fields);
     }
 }
 
 #[test]
 fn each_byte_and_each_cut_of_a_group_of_version_1(rt: HostRuntime) {
     let form = Form::Group(Version::One);
-    sweep(&rt, rt.alloc(), form, &OLD_GROUP, &GROUP_FIELDS).expect(&rt, "memory");
+    sweep(&rt, rt.alloc(), form, &OLD_GROUP, &GROUP_FIELDS);
 }
 
 #[test]
 fn each_byte_and_each_cut_of_a_snapshot_of_version_1(rt: HostRuntime) {
     let fields = &OLD_SNAPSHOT_FIELDS;
-    sweep(&rt, rt.alloc(), Form::Snapshot, &OLD_SNAPSHOT, fields).expect(&rt, "memory");
+    sweep(&rt, rt.alloc(), Form::Snapshot, &OLD_SNAPSHOT, fields);
 }

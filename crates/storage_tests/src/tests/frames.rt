@@ -1,5 +1,6 @@
 //! Spelled examples, faults and their offsets.
 
+use super::expected::assert_same;
 use super::frame_sweeps::{Form, rewritten};
 use super::samples::changed;
 use rr_frame::{
@@ -46,6 +47,17 @@ fn proposed() -> &'static [u8] {
     &PROPOSED
 }
 
+/// Asserts that bytes are read as a fact in version 2, and refused at this offset in version 1.
+fn assert_new(rt: &impl Abort, bytes: &[u8], offset: u64) {
+    assert!(rt; decode_fact(Version::Two, bytes).is_ok(), "no fact");
+    assert_malformed(rt, decode_fact(Version::One, bytes).err(), offset);
+}
+
+/// Asserts that a refusal is that of bytes with a fault at this offset.
+fn assert_malformed(rt: &impl Abort, found: Option<Refusal>, offset: u64) {
+    assert_eq!(rt; found, Some(Refusal::Malformed(offset)));
+}
+
 /// Whether bytes are refused at this offset.
 fn is_refused(alloc: Global, form: Form, bytes: &[u8], offset: u64) -> bool {
     matches!(rewritten(alloc, form, bytes), Err(Refusal::Malformed(found)) if found == offset)
@@ -69,18 +81,22 @@ fn assert_faults(
     }
 }
 
+/// The bytes of a command.
+fn spelled(rt: &impl Abort, alloc: Global, command: &Command) -> Vec<u8> {
+    let mut bytes = Vec::new(alloc);
+    put_command(&mut bytes, command).expect(rt, "memory");
+    bytes
+}
+
 #[test]
 fn a_transfer_is_spelled_in_19_bytes(rt: HostRuntime) {
     let command = Command {
         request: RequestNo { client: 7, seq: 2 },
         op: Op::Transfer(Name::new(b"a").expect(&rt, "memory"), 9),
     };
-    let mut bytes = Vec::new(rt.alloc());
-    put_command(&mut bytes, &command).expect(&rt, "memory");
-    assert_eq!(rt;
-        bytes.as_slice(),
-        [0, 0, 0, 7, 0, 0, 0, 0, 0, 0, 0, 2, 4, 1, 0x61, 0, 0, 0, 9].as_slice()
-    );
+    let bytes = spelled(&rt, rt.alloc(), &command);
+    let wanted = [0, 0, 0, 7, 0, 0, 0, 0, 0, 0, 0, 2, 4, 1, 0x61, 0, 0, 0, 9];
+    assert_same(&rt, &bytes, &wanted, "a transfer");
     let mut reader = Reader::new(&bytes);
     let read = read_command(Version::Two, &mut reader)
         .ok()
@@ -89,35 +105,32 @@ fn a_transfer_is_spelled_in_19_bytes(rt: HostRuntime) {
     assert_eq!(rt; reader.left(), 0);
 }
 
-#[test]
-fn a_fact_is_read_as_it_was_written(rt: HostRuntime) {
+/// The fact that instance 0 enters round 1 with `7.1 claim a x`.
+fn entering(rt: &impl Abort) -> Fact {
+    let name = Name::new(b"a").expect(rt, "memory");
+    let value = Value::new(b"x").expect(rt, "memory");
     let command = Command {
         request: RequestNo { client: 7, seq: 1 },
-        op: Op::Claim(
-            Name::new(b"a").expect(&rt, "memory"),
-            Value::new(b"x").expect(&rt, "memory"),
-        ),
+        op: Op::Claim(name, value),
     };
-    let instance = Instance::new(0).expect(&rt, "an instance");
-    let estimate = Estimate::new(Round::new(1).expect(&rt, "a round"), 0, command).expect(
-        &rt,
-        "an estimate",
-    );
-    let bytes = encode_fact(rt.alloc(), &Fact::Enter(instance, estimate)).expect(&rt, "memory");
-    assert_eq!(rt;
-        bytes.as_slice(),
-        [
-            1, 0, 0, 0, 0, 0, 0, 0, 1, 0, 0, 0, 0, 0, 0, 0, 7, 0, 0, 0, 0, 0, 0, 0, 1, 1, 1, 0x61,
-            1, 0x78
-        ]
-        .as_slice()
-    );
+    let instance = Instance::new(0).expect(rt, "an instance");
+    let round = Round::new(1).expect(rt, "a round");
+    let estimate = Estimate::new(round, 0, command).expect(rt, "an estimate");
+    Fact::Enter(instance, estimate)
+}
+
+#[test]
+fn a_fact_is_read_as_it_was_written(rt: HostRuntime) {
+    let bytes = encode_fact(rt.alloc(), &entering(&rt)).expect(&rt, "memory");
+    let wanted = [
+        1, 0, 0, 0, 0, 0, 0, 0, 1, 0, 0, 0, 0, 0, 0, 0, 7, 0, 0, 0, 0, 0, 0, 0, 1, 1, 1, 0x61, 1,
+        0x78,
+    ];
+    assert_same(&rt, &bytes, &wanted, "a fact");
     assert!(rt; matches!(decode_fact(Version::Two, &bytes), Ok(Fact::Enter(_, _))));
     // A stamp that is not below its round.
-    let mut bent = bytes;
-    assert_eq!(rt; bent.len(), 30);
-    bent[12] = 1;
-    assert!(rt; matches!(decode_fact(Version::Two, &bent), Err(Refusal::Malformed(9))));
+    let bent = changed(&rt, rt.alloc(), &bytes, 12, 1);
+    assert_malformed(&rt, decode_fact(Version::Two, &bent).err(), 9);
 }
 
 #[test]
@@ -143,38 +156,33 @@ fn faults_of_a_group(rt: HostRuntime) {
     assert!(rt; is_refused(alloc, form, &[], 0));
 }
 
+/// Asserts that a snapshot is spelled so.
+fn assert_written(rt: &impl Abort, alloc: Global, snapshot: &Snapshot, wanted: &[u8]) {
+    let bytes = encode_snapshot(alloc, snapshot).expect(rt, "memory");
+    assert_same(rt, &bytes, wanted, "a snapshot");
+}
+
 /// The snapshot that is read of bytes of a version. Asserts that it is written as the snapshot with a proposal.
 fn read_proposed(rt: &impl Abort, alloc: Global, version: Version, bytes: &[u8]) -> Snapshot {
     let (found, read) = decode_snapshot(alloc, bytes).expect(rt, "memory");
     assert_eq!(rt; found, version);
-    assert_eq!(rt;
-        encode_snapshot(alloc, &read)
-            .expect(rt, "memory")
-            .as_slice(),
-        proposed()
-    );
+    assert_written(rt, alloc, &read, proposed());
     read
+}
+
+/// The empty snapshot of epoch 1 of node 0 of 1.
+fn made(rt: &impl Abort, alloc: Global) -> Snapshot {
+    let node = NodeId::at(0).expect(rt, "a node");
+    let nodes = Nodes::new(1).expect(rt, "nodes");
+    let promise = Promise::new(Vec::new(alloc));
+    let made = Snapshot::new(nodes, node, 1, 0, promise);
+    made.ok().expect(rt, "a snapshot")
 }
 
 #[test]
 fn snapshots(rt: HostRuntime) {
     let alloc = rt.alloc();
-    let node = NodeId::at(0).expect(&rt, "a node");
-    let made = Snapshot::new(
-        Nodes::new(1).expect(&rt, "nodes"),
-        node,
-        1,
-        0,
-        Promise::new(Vec::new(alloc)),
-    )
-    .ok()
-    .expect(&rt, "a snapshot");
-    assert_eq!(rt;
-        encode_snapshot(alloc, &made)
-            .expect(&rt, "memory")
-            .as_slice(),
-        empty()
-    );
+    assert_written(&rt, alloc, &made(&rt, alloc), empty());
     let read = read_proposed(&rt, alloc, Version::Two, proposed());
     assert_eq!(rt; (read.epoch(), read.next()), (2, 2));
     assert_eq!(rt; read.promise().entries().len(), 1);
@@ -234,16 +242,9 @@ fn facts_of_version_1(rt: HostRuntime) {
         4, 0, 0, 0, 0, 0, 0, 0, 7, 0, 0, 0, 0, 0, 0, 0, 2, 4, 1, 0x61, 0, 0, 0, 9,
     ];
     let again = rewritten(alloc, Form::Fact(Version::One), &last).expect(&rt, "lawful");
-    assert!(rt; again.as_slice() == last.as_slice());
-    assert!(rt; matches!(decode_fact(Version::One, &far), Err(Refusal::Malformed(1))));
-    assert!(rt; decode_fact(Version::Two, &far).is_ok());
-    assert!(rt;
-        matches!(
-            decode_fact(Version::One, &transfer),
-            Err(Refusal::Malformed(17))
-        )
-    );
-    assert!(rt; decode_fact(Version::Two, &transfer).is_ok());
+    assert_same(&rt, &again, &last, "a fact of version 1");
+    assert_new(&rt, &far, 1);
+    assert_new(&rt, &transfer, 17);
 }
 
 #[test]

@@ -1,5 +1,6 @@
 //! What the areas of small disks tell, with values worked out by hand.
 
+use super::expected::{assert_length, write};
 use super::samples::{area, behind, changed, cut, snapshot};
 use rr_disk::{Area, Disk, FailingDisk, MemDisk};
 use rr_frame::Version;
@@ -44,9 +45,18 @@ fn second_snapshot(rt: &impl Abort, alloc: Global) -> Vec<u8> {
         .expect(rt, "memory")
 }
 
-/// Whether an inspection says that an area is broken at an offset.
-fn is_damaged(rt: &HostRuntime, first: &[u8], second: &[u8], area: u8, offset: u64) -> bool {
-    inspect_bytes(rt.alloc(), first, second) == Err(Refusal::Damaged { area, offset })
+/// Asserts that an inspection says that this area is broken at this offset.
+fn assert_broken(rt: &impl Abort, alloc: Global, areas: (&[u8], &[u8]), (area, offset): (u8, u64)) {
+    let (first, second) = areas;
+    let told = inspect_bytes(alloc, first, second);
+    assert_eq!(rt; told, Err(Refusal::Damaged { area, offset }));
+}
+
+/// Asserts the same of area 0 of a run with one byte changed, beside these bytes.
+fn assert_bent(rt: &impl Abort, alloc: Global, bend: (usize, u8), second: &[u8], offset: u64) {
+    let (place, byte) = bend;
+    let first = changed(rt, alloc, area(), place, byte);
+    assert_broken(rt, alloc, (&first, second), (0, offset));
 }
 
 /// Asserts what an inspection tells of these bytes.
@@ -128,74 +138,65 @@ fn reads_version_1_within_its_limits(rt: HostRuntime) {
     assert_told(&rt, alloc, &old, &[], (told, None));
     let told = in_version_1(none(&rt));
     assert_told(&rt, alloc, &old, snapshot(), (told, of_snapshot(&rt)));
-    assert!(rt; is_damaged(&rt, &changed(&rt, rt.alloc(), area(), 5, 3), &[], 0, 0));
+    assert_bent(&rt, alloc, (5, 3), &[], 0);
     // The first fact enters instance 65,536, which version 2 has, and the second proposes in instance 0.
-    let far = changed(&rt, rt.alloc(), area(), 45, 1);
-    assert!(rt; is_damaged(&rt, &far, &[], 0, 73));
-    let far = changed(&rt, rt.alloc(), &far, 5, 1);
-    assert!(rt; is_damaged(&rt, &far, &[], 0, 28));
+    assert_bent(&rt, alloc, (45, 1), &[], 73);
+    assert_broken(
+        &rt,
+        alloc,
+        (&changed(&rt, alloc, &old, 45, 1), &[]),
+        (0, 28),
+    );
 }
 
 #[test]
 fn measures_each_area_by_itself(rt: HostRuntime) {
     let alloc = rt.alloc();
-    let mut other = changed(&rt, rt.alloc(), area(), 7, 3);
-    if let Some(node) = other.get_mut(6) {
-        *node = 1;
-    }
+    let other = changed(&rt, alloc, area(), 7, 3);
+    let other = changed(&rt, alloc, &other, 6, 1);
     let fact = told(&rt, 1, 1, 3, 0, 0);
-    assert_eq!(rt;
-        inspect_bytes(alloc, &other, snapshot()).expect(&rt, "memory"),
-        (fact, of_snapshot(&rt))
-    );
+    assert_told(&rt, alloc, &other, snapshot(), (fact, of_snapshot(&rt)));
+    let cut = changed(&rt, alloc, &other, 73, 0);
     let alone = told(&rt, 1, 1, 3, 1, 0);
-    let cut = changed(&rt, rt.alloc(), &other, 73, 0);
-    assert_eq!(rt;
-        inspect_bytes(alloc, &cut, &[]).expect(&rt, "memory"),
-        (alone, None)
-    );
+    assert_told(&rt, alloc, &cut, &[], (alone, None));
 }
 
 #[test]
-fn says_where_an_area_is_broken(rt: HostRuntime) {
+fn says_where_a_cut_area_is_broken(rt: HostRuntime) {
     let alloc = rt.alloc();
-    assert!(rt; is_damaged(&rt, cut(area(), 155), &[], 0, 114));
+    assert_broken(&rt, alloc, (cut(area(), 155), &[]), (0, 114));
     for length in 156..193 {
-        assert!(rt; is_damaged(&rt, cut(area(), length), &[], 0, 155));
-        assert!(rt; is_damaged(&rt, &[], cut(area(), length), 1, 155));
+        assert_broken(&rt, alloc, (cut(area(), length), &[]), (0, 155));
+        assert_broken(&rt, alloc, (&[], cut(area(), length)), (1, 155));
     }
-    for (at, byte) in [(159, 33), (167, 4), (170, 5)] {
-        let bytes = changed(&rt, rt.alloc(), area(), at, byte);
-        assert!(rt; is_damaged(&rt, &bytes, &[], 0, 155), "byte {at}");
+    assert_broken(&rt, alloc, (area(), cut(snapshot(), 50)), (1, 0));
+    // Two areas of one epoch.
+    assert_broken(&rt, alloc, (area(), area()), (1, 0));
+}
+
+#[test]
+fn says_where_a_bent_area_is_broken(rt: HostRuntime) {
+    let alloc = rt.alloc();
+    for bend in [(159, 33), (167, 4), (170, 5)] {
+        assert_bent(&rt, alloc, bend, &[], 155);
     }
-    assert!(rt; is_damaged(&rt, &changed(&rt, rt.alloc(), area(), 6, 2), &[], 0, 0));
-    assert!(rt;
-        is_damaged(
-            &rt,
-            &changed(&rt, rt.alloc(), area(), 6, 2),
-            snapshot(),
-            0,
-            0
-        )
-    );
-    assert!(rt; is_damaged(&rt, area(), cut(snapshot(), 50), 1, 0));
-    assert!(rt; is_damaged(&rt, area(), area(), 1, 0), "one epoch");
-    let three = told(&rt, 1, 0, 1, 3, 0);
-    assert_eq!(rt;
-        inspect_bytes(alloc, &changed(&rt, rt.alloc(), area(), 155, 0), &[]).expect(&rt, "memory"),
-        (three, None)
-    );
-    let none = told(&rt, 1, 0, 1, 0, 0);
-    assert_eq!(rt;
-        inspect_bytes(alloc, &changed(&rt, rt.alloc(), area(), 28, 0xA4), &[]).expect(
-            &rt, "memory"
-        ),
-        (none, None)
-    );
-    assert_eq!(rt;
-        inspect_bytes(alloc, &changed(&rt, rt.alloc(), area(), 0, 0), &[]).expect(&rt, "memory"),
-        (None, None)
-    );
+    assert_bent(&rt, alloc, (6, 2), &[], 0);
+    assert_bent(&rt, alloc, (6, 2), snapshot(), 0);
+}
+
+/// Asserts what an inspection tells of area 0 of a run with one byte changed, alone.
+fn assert_bent_told(rt: &impl Abort, alloc: Global, bend: (usize, u8), wanted: Option<AreaReport>) {
+    let (place, byte) = bend;
+    let first = changed(rt, alloc, area(), place, byte);
+    assert_told(rt, alloc, &first, &[], (wanted, None));
+}
+
+#[test]
+fn reads_up_to_a_closed_gate(rt: HostRuntime) {
+    let alloc = rt.alloc();
+    assert_bent_told(&rt, alloc, (155, 0), told(&rt, 1, 0, 1, 3, 0));
+    assert_bent_told(&rt, alloc, (28, 0xA4), none(&rt));
+    assert_bent_told(&rt, alloc, (0, 0), None);
 }
 
 #[test]
@@ -205,21 +206,25 @@ fn passes_over_later_frames_of_the_other_area(rt: HostRuntime) {
         let wanted = (none(&rt), of_snapshot(&rt));
         assert_told(&rt, alloc, cut(area(), length), snapshot(), wanted);
     }
-    assert!(rt; is_damaged(&rt, cut(area(), 28), snapshot(), 0, 0));
+    assert_broken(&rt, alloc, (cut(area(), 28), snapshot()), (0, 0));
+}
+
+/// Asserts what an inspection tells of a disk.
+fn assert_disk_told<D: Disk>(rt: &impl Abort, alloc: Global, disk: &mut D) {
+    let seen = (told(rt, 1, 0, 1, 0, 0), told(rt, 2, 0, 1, 4, 1));
+    assert_eq!(rt; inspect(alloc, disk).expect(rt, "memory"), seen);
 }
 
 #[test]
 fn only_reads_a_disk(rt: HostRuntime) {
     let alloc = rt.alloc();
     let mut disk = FailingDisk::new(MemDisk::new(alloc));
-    disk.write_at(Area::First, 0, area()).expect(&rt, "a write");
-    disk.write_at(Area::Second, 0, snapshot())
-        .expect(&rt, "a write");
-    let seen = (told(&rt, 1, 0, 1, 0, 0), told(&rt, 2, 0, 1, 4, 1));
-    assert_eq!(rt; inspect(alloc, &mut disk).expect(&rt, "memory"), seen);
-    assert_eq!(rt; disk.len(Area::First), 193);
-    assert_eq!(rt; disk.len(Area::Second), 51);
+    write(&rt, &mut disk, Area::First, 0, area());
+    write(&rt, &mut disk, Area::Second, 0, snapshot());
+    assert_disk_told(&rt, alloc, &mut disk);
+    assert_length(&rt, &disk, Area::First, 193);
+    assert_length(&rt, &disk, Area::Second, 51);
     disk.fail_next(Vec::new(alloc));
-    assert_eq!(rt; inspect(alloc, &mut disk), Err(Refusal::Device));
-    assert_eq!(rt; inspect(alloc, &mut disk).expect(&rt, "memory"), seen);
+    assert!(rt; inspect(alloc, &mut disk) == Err(Refusal::Device));
+    assert_disk_told(&rt, alloc, &mut disk);
 }

@@ -3,17 +3,17 @@
 ghost use Rattle.rr_frame.specs.Snapshots.{IsSnapshot};
 ghost use Rattle.rr_journal.specs.Switches.{snapshot_of};
 
-use rr_disk::{Area, Disk, MemDisk};
+use super::expected::{alone, assert_reads};
+use rr_disk::{Area, MemDisk};
 use rr_journal::{Journal, SwitchJob, Switching};
-use rr_types::{NodeId, Nodes, Promise};
+use rr_types::Promise;
 use std::alloc::Global;
 use std::process::Abort;
 
 fn opened(rt: &impl Abort, alloc: Global, disk: MemDisk) -> (Journal<MemDisk>, Promise)
     ensures { IsSnapshot (snapshot_of result.0 result.1) }
 {
-    let nodes = Nodes::new(1).expect(rt, "nodes");
-    let node = NodeId::new(nodes, 0).expect(rt, "a node");
+    let (nodes, node) = alone(rt);
     let (slots, opened) = Journal::open(alloc, nodes, node, disk).expect(rt, "an opening");
     (slots, opened.into_promise())
 }
@@ -47,20 +47,36 @@ fn switched(rt: &impl Abort, alloc: Global, slots: &mut Journal<MemDisk>, promis
     ended(rt, job, slots)
 }
 
+/// The disk behind a switch from one of its areas to the other.
+fn switched_over(rt: &impl Abort, alloc: Global, disk: MemDisk, from: Area, to: Area) -> MemDisk {
+    let (mut slots, promise) = opened(rt, alloc, disk);
+    assert!(rt; slots.area() == from);
+    switched(rt, alloc, &mut slots, promise);
+    assert!(rt; slots.area() == to);
+    slots.into_disk()
+}
+
 #[test]
 fn a_switch_takes_six_calls(rt: HostRuntime) {
     let alloc = rt.alloc();
-    let (mut slots, promise) = opened(&rt, alloc, MemDisk::new(alloc));
-    assert!(rt; matches!(slots.area(), Area::First));
-    switched(&rt, alloc, &mut slots, promise);
-    assert!(rt; matches!(slots.area(), Area::Second));
-    let (mut slots, promise) = opened(&rt, alloc, slots.into_disk());
-    assert!(rt; matches!(slots.area(), Area::Second));
-    switched(&rt, alloc, &mut slots, promise);
-    assert!(rt; matches!(slots.area(), Area::First));
-    let mut disk = slots.into_disk();
-    let first = disk.read(alloc, Area::First, 8, 8).expect(&rt, "a read");
-    let second = disk.read(alloc, Area::Second, 8, 8).expect(&rt, "a read");
-    assert_eq!(rt; first.as_slice(), [0, 0, 0, 0, 0, 0, 0, 3].as_slice());
-    assert_eq!(rt; second.as_slice(), [0, 0, 0, 0, 0, 0, 0, 2].as_slice());
+    let disk = MemDisk::new(alloc);
+    let disk = switched_over(&rt, alloc, disk, Area::First, Area::Second);
+    let mut disk = switched_over(&rt, alloc, disk, Area::Second, Area::First);
+    // The epochs.
+    assert_reads(
+        &rt,
+        alloc,
+        &mut disk,
+        Area::First,
+        8,
+        &[0, 0, 0, 0, 0, 0, 0, 3],
+    );
+    assert_reads(
+        &rt,
+        alloc,
+        &mut disk,
+        Area::Second,
+        8,
+        &[0, 0, 0, 0, 0, 0, 0, 2],
+    );
 }

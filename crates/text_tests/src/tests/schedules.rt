@@ -1,6 +1,7 @@
 use super::event_texts::{
     assert_a_million_at_most, assert_each_byte, assert_each_cut, is_reprinted,
 };
+use super::expected::{assert_same, assert_that};
 use rr_text::{BoundNames, Event, Report, ReportLine, Schedule};
 use rr_types::{
     Binding, Body, Command, Estimate, Instance, Message, Name, NodeId, NodeSet, Nodes, Op, Refusal,
@@ -8,7 +9,6 @@ use rr_types::{
 };
 use std::alloc::Global;
 use std::process::Abort;
-use std::test::Fail;
 
 /// Texts of schedules: runs of one and of three nodes, and each event in each of its forms.
 static SCHEDULES: [&str; 5] = [
@@ -96,18 +96,15 @@ fn each_event() -> &'static [u8] {
 #[test]
 fn schedules_are_printed_as_they_were_read(rt: HostRuntime) {
     for text in schedules() {
-        assert!(rt; is_reprinted::<Schedule>(&rt, rt.alloc(), text), "{text}");
+        assert_that(&rt, is_reprinted::<Schedule>(&rt, rt.alloc(), text), *text);
     }
 }
 
 #[test]
 fn faults_are_told(rt: HostRuntime) {
     for (text, refusal) in faults() {
-        assert_eq!(rt;
-            Schedule::parse(rt.alloc(), text.as_bytes()).err(),
-            Some(*refusal),
-            "{text}"
-        );
+        let refused = Schedule::parse(rt.alloc(), text.as_bytes()).err();
+        assert_same(&rt, refused, Some(*refusal), *text);
     }
 }
 
@@ -121,40 +118,64 @@ fn a_text_that_is_cut_is_refused_or_printed(rt: HostRuntime) {
     assert_each_cut::<Schedule>(&rt, rt.alloc(), each_event());
 }
 
+/// Asserts that an event is that node 2 is asked for `7.1 claim a x`.
+fn assert_submitted(rt: &impl Abort, event: &Event) {
+    match event {
+        Event::Submit { node, command } => {
+            assert!(rt; node.index() == 2);
+            assert!(rt; command.request == RequestNo { client: 7, seq: 1 });
+            let claim = Op::Claim(name_of(rt, "a"), value_of(rt, "x"));
+            assert!(rt; command.op.is_same(&claim));
+        }
+        _ => rt.panic("another event"),
+    }
+}
+
+/// Asserts that an event is that node 1 hears the message with number 5.
+fn assert_heard(rt: &impl Abort, event: &Event) {
+    match event {
+        Event::Hear { node, message } => assert!(rt; node.index() == 1 && *message == 5),
+        _ => rt.panic("another event"),
+    }
+}
+
+/// Asserts that an event is that nodes 1 and 2 are suspected.
+fn assert_suspected(rt: &impl Abort, event: &Event) {
+    match event {
+        Event::Suspect { set, .. } => assert!(rt; set.bits() == 6),
+        _ => rt.panic("another event"),
+    }
+}
+
+/// Asserts that an event is a crash with these cuts and this fill.
+fn assert_crashed(rt: &impl Abort, event: &Event) {
+    match event {
+        Event::Crash {
+            cut_0,
+            cut_1,
+            fill,
+            ..
+        } => {
+            assert!(rt; *cut_0 == 3 && *cut_1 == 4);
+            assert!(rt; fill.as_bytes() == [0xA5u8, 0x0F].as_slice());
+        }
+        _ => rt.panic("another event"),
+    }
+}
+
 #[test]
 fn what_is_read_is_what_is_written(rt: HostRuntime) {
     let text = "nodes 3\nsubmit 2 7 1 claim a x\nhear 1 5\nsuspect 0 12\ncrash 0 3 4 A50F\n";
     let schedule = Schedule::parse(rt.alloc(), text.as_bytes()).expect(&rt, "a text");
-    assert_eq!(rt; schedule.nodes().count(), 3);
+    assert!(rt; schedule.nodes().count() == 3);
     match schedule.events() {
-        [
-            Event::Submit { node, command },
-            Event::Hear {
-                node: hearer,
-                message,
-            },
-            Event::Suspect { set, .. },
-            Event::Crash {
-                cut_0,
-                cut_1,
-                fill,
-                ..
-            },
-        ] => {
-            assert_eq!(rt; node.index(), 2);
-            assert_eq!(rt; command.request, RequestNo { client: 7, seq: 1 });
-            assert!(rt;
-                command.op.is_same(&Op::Claim(
-                    Name::new(b"a").expect(&rt, "memory"),
-                    Value::new(b"x").expect(&rt, "memory")
-                ))
-            );
-            assert_eq!(rt; (hearer.index(), *message), (1, 5));
-            assert_eq!(rt; set.bits(), 6);
-            assert_eq!(rt; (*cut_0, *cut_1), (3, 4));
-            assert_eq!(rt; fill.as_bytes(), [0xA5u8, 0x0F].as_slice());
+        [submitted, heard, suspected, crashed] => {
+            assert_submitted(&rt, submitted);
+            assert_heard(&rt, heard);
+            assert_suspected(&rt, suspected);
+            assert_crashed(&rt, crashed);
         }
-        _ => assert!(rt; false, "other events"),
+        _ => rt.panic("other events"),
     }
 }
 
@@ -163,17 +184,31 @@ fn the_millionth_event_is_the_last(rt: HostRuntime) {
     assert_a_million_at_most::<Schedule>(&rt, rt.alloc());
 }
 
+/// A schedule of one failing call, whose fill has five million bytes and whose line has no end.
+fn long_line(rt: &impl Abort, alloc: Global) -> Vec<u8> {
+    let mut text = b"nodes 1\nfail 0 ".to_vec(alloc).expect(rt, "memory");
+    for _ in 0..5_000_000 {
+        text.extend_from_slice(b"A5").expect(rt, "memory");
+    }
+    text
+}
+
 #[test]
 fn a_line_of_ten_megabytes_is_refused(rt: HostRuntime) {
-    let mut text = b"nodes 1\nfail 0 ".to_vec(rt.alloc()).expect(&rt, "memory");
-    for _ in 0..5_000_000 {
-        text.extend_from_slice(b"A5").expect(&rt, "memory");
-    }
+    let mut text = long_line(&rt, rt.alloc());
     let refused = Schedule::parse(rt.alloc(), &text).err();
-    assert_eq!(rt; refused, Some(Refusal::BadEvent(2)));
+    assert!(rt; refused == Some(Refusal::BadEvent(2)));
     text.extend_from_slice(b"\n").expect(&rt, "memory");
     let schedule = Schedule::parse(rt.alloc(), &text).expect(&rt, "a text");
     assert!(rt; schedule.text(rt.alloc()).expect(&rt, "memory").as_slice() == text.as_slice());
+}
+
+fn name_of(rt: &impl Abort, text: &str) -> Name {
+    Name::new(text.as_bytes()).expect(rt, "a name")
+}
+
+fn value_of(rt: &impl Abort, text: &str) -> Value {
+    Value::new(text.as_bytes()).expect(rt, "a value")
 }
 
 fn command(op: Op) -> Command {
@@ -183,14 +218,15 @@ fn command(op: Op) -> Command {
     }
 }
 
-fn push_sent(lines: &mut Vec<ReportLine>, body: Body) -> Result<(), Fail> {
-    let nodes = Nodes::new(3)?;
-    let from = NodeId::new(nodes, 0).ok_or("node 0")?;
-    let to = NodeId::new(nodes, 2).ok_or("node 2")?;
+/// Appends that node 0 sends a message with this body to node 2.
+fn push_sent(rt: &impl Abort, lines: &mut Vec<ReportLine>, body: Body) {
+    let from = NodeId::at(0).expect(rt, "node 0");
+    let to = NodeId::at(2).expect(rt, "node 2");
     let number = lines.len() as u64;
     let message = Message { from, to, body };
-    lines.push(ReportLine::Send { number, message })?;
-    Ok(())
+    lines
+        .push(ReportLine::Send { number, message })
+        .expect(rt, "memory");
 }
 
 fn push_replied(rt: &impl Abort, lines: &mut Vec<ReportLine>, reply: Reply) {
@@ -205,34 +241,52 @@ fn push_replied(rt: &impl Abort, lines: &mut Vec<ReportLine>, reply: Reply) {
         .expect(rt, "memory");
 }
 
-fn messages(alloc: Global) -> Result<Vec<ReportLine>, Fail> {
-    let nodes = Nodes::new(3)?;
-    let claim = command(Op::Claim(Name::new(b"a")?, Value::new(b"x")?));
-    let transfer = command(Op::Transfer(Name::new(b"a")?, 9));
-    let instance = Instance::new(5).ok_or("instance 5")?;
-    let round = Round::new(3).ok_or("round 3")?;
+fn claim(rt: &impl Abort) -> Command {
+    command(Op::Claim(name_of(rt, "a"), value_of(rt, "x")))
+}
+
+/// The bodies of messages that have an instance.
+fn of_instance(rt: &impl Abort) -> [Body; 6] {
+    let transfer = command(Op::Transfer(name_of(rt, "a"), 9));
+    let instance = Instance::new(5).expect(rt, "instance 5");
+    let round = Round::new(3).expect(rt, "round 3");
+    let estimate = Estimate::new(round, 2, claim(rt)).expect(rt, "an estimate");
+    [
+        Body::Estimate(instance, estimate),
+        Body::Proposal(instance, round, claim(rt)),
+        Body::Ack(instance, round),
+        Body::Decision(instance, transfer),
+        Body::Request(claim(rt)),
+        Body::Nack(instance, round),
+    ]
+}
+
+/// The bodies of the others, and of a question for an instance.
+fn of_none(rt: &impl Abort) -> [Body; 4] {
+    let nodes = Nodes::new(3).expect(rt, "nodes");
+    [
+        Body::Beat,
+        Body::Suspects(NodeSet::empty()),
+        Body::Suspects(NodeSet::from_bits(nodes, 6).expect(rt, "a set")),
+        Body::Ask(Instance::new(5).expect(rt, "instance 5")),
+    ]
+}
+
+/// The lines of messages, one of each body.
+fn messages(rt: &impl Abort, alloc: Global) -> Vec<ReportLine> {
     let mut lines = Vec::new(alloc);
-    let estimate = Estimate::new(round, 2, claim).ok_or("an estimate")?;
-    push_sent(&mut lines, Body::Estimate(instance, estimate))?;
-    push_sent(&mut lines, Body::Proposal(instance, round, claim))?;
-    push_sent(&mut lines, Body::Ack(instance, round))?;
-    push_sent(&mut lines, Body::Decision(instance, transfer))?;
-    push_sent(&mut lines, Body::Request(claim))?;
-    push_sent(&mut lines, Body::Nack(instance, round))?;
-    push_sent(&mut lines, Body::Beat)?;
-    push_sent(&mut lines, Body::Suspects(NodeSet::empty()))?;
-    push_sent(
-        &mut lines,
-        Body::Suspects(NodeSet::from_bits(nodes, 6).ok_or("a set")?),
-    )?;
-    push_sent(&mut lines, Body::Ask(instance))?;
-    Ok(lines)
+    for body in of_instance(rt) {
+        push_sent(rt, &mut lines, body);
+    }
+    for body in of_none(rt) {
+        push_sent(rt, &mut lines, body);
+    }
+    lines
 }
 
 #[test]
-fn messages_are_printed(rt: HostRuntime) -> Result<(), Fail> {
-    let decided = Vec::new(rt.alloc());
-    let report = Report::new(messages(rt.alloc())?, decided);
+fn messages_are_printed(rt: HostRuntime) {
+    let report = Report::new(messages(&rt, rt.alloc()), Vec::new(rt.alloc()));
     let text = "send 0 0 2 estimate 5 3 2 7.1 claim a x
 send 1 0 2 proposal 5 3 7.1 claim a x
 send 2 0 2 ack 5 3
@@ -245,65 +299,67 @@ send 8 0 2 suspects 12
 send 9 0 2 ask 5
 decided 0
 ";
-    assert_eq!(rt; report.text(rt.alloc())?.as_slice(), text.as_bytes());
-    Ok(())
+    let printed = report.text(rt.alloc()).expect(&rt, "memory");
+    assert_same(&rt, printed.as_slice(), text.as_bytes(), "a report");
+}
+
+/// The lines of acknowledgements with each reply.
+fn replied(rt: &impl Abort, alloc: Global) -> Vec<ReportLine> {
+    let mut lines = Vec::new(alloc);
+    let replies = [
+        Reply::Claimed,
+        Reply::Updated,
+        Reply::Released,
+        Reply::Transferred,
+        Reply::Taken(9),
+        Reply::Unknown,
+        Reply::NotOwner,
+        Reply::Full,
+    ];
+    for reply in replies {
+        push_replied(rt, &mut lines, reply);
+    }
+    lines
+}
+
+fn binding(rt: &impl Abort, name: &str, owner: u32, value: &str) -> Binding {
+    Binding {
+        name: name_of(rt, name),
+        owner,
+        value: value_of(rt, value),
+    }
+}
+
+/// The line of a restart of node 0 behind eight facts, with two decided commands and two bound names.
+fn restarted(rt: &impl Abort, alloc: Global) -> ReportLine {
+    let bindings = [binding(rt, "a", 7, "x"), binding(rt, "b", 8, "")];
+    let bindings = Vec::from_array(alloc, bindings).expect(rt, "memory");
+    ReportLine::Restart {
+        node: NodeId::at(0).expect(rt, "node 0"),
+        facts: 8,
+        decided: 2,
+        bindings: BoundNames::new(bindings),
+    }
+}
+
+/// The decided commands.
+fn decided(rt: &impl Abort, alloc: Global) -> Vec<Command> {
+    let commands = [claim(rt), command(Op::Release(name_of(rt, "b")))];
+    Vec::from_array(alloc, commands).expect(rt, "memory")
 }
 
 #[test]
 fn replies_restarts_and_refusals_are_printed(rt: HostRuntime) {
-    let mut lines = Vec::new(rt.alloc());
-    push_replied(&rt, &mut lines, Reply::Claimed);
-    push_replied(&rt, &mut lines, Reply::Updated);
-    push_replied(&rt, &mut lines, Reply::Released);
-    push_replied(&rt, &mut lines, Reply::Transferred);
-    push_replied(&rt, &mut lines, Reply::Taken(9));
-    push_replied(&rt, &mut lines, Reply::Unknown);
-    push_replied(&rt, &mut lines, Reply::NotOwner);
-    push_replied(&rt, &mut lines, Reply::Full);
-    let mut bindings = Vec::new(rt.alloc());
-    let (name, other) = (
-        Name::new(b"a").expect(&rt, "memory"),
-        Name::new(b"b").expect(&rt, "memory"),
-    );
-    bindings
-        .push(Binding {
-            name,
-            owner: 7,
-            value: Value::new(b"x").expect(&rt, "memory"),
-        })
-        .expect(&rt, "memory");
-    bindings
-        .push(Binding {
-            name: other,
-            owner: 8,
-            value: Value::new(b"").expect(&rt, "memory"),
-        })
-        .expect(&rt, "memory");
-    let bindings = BoundNames::new(bindings);
-    let node = NodeId::at(0).expect(&rt, "node 0");
-    lines
-        .push(ReportLine::Restart {
-            node,
-            facts: 8,
-            decided: 2,
-            bindings,
-        })
-        .expect(&rt, "memory");
+    let mut lines = replied(&rt, rt.alloc());
+    let restart = restarted(&rt, rt.alloc());
+    lines.push(restart).expect(&rt, "memory");
     let refusal = Refusal::Damaged {
         area: 0,
         offset: 155,
     };
-    lines
-        .push(ReportLine::Refuse { line: 5, refusal })
-        .expect(&rt, "memory");
-    let mut decided = Vec::new(rt.alloc());
-    decided
-        .push(command(Op::Claim(name, Value::new(b"x").expect(&rt, "memory"))))
-        .expect(&rt, "memory");
-    decided
-        .push(command(Op::Release(other)))
-        .expect(&rt, "memory");
-    let report = Report::new(lines, decided);
+    let refused = ReportLine::Refuse { line: 5, refusal };
+    lines.push(refused).expect(&rt, "memory");
+    let report = Report::new(lines, decided(&rt, rt.alloc()));
     let text = "ack 1 7.1 claimed
 ack 1 7.1 updated
 ack 1 7.1 released
@@ -318,8 +374,6 @@ decided 2
 0 7.1 claim a x
 1 7.1 release b
 ";
-    assert_eq!(rt;
-        report.text(rt.alloc()).expect(&rt, "memory").as_slice(),
-        text.as_bytes()
-    );
+    let printed = report.text(rt.alloc()).expect(&rt, "memory");
+    assert_same(&rt, printed.as_slice(), text.as_bytes(), "a report");
 }

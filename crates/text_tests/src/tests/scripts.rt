@@ -1,10 +1,11 @@
+use super::expected::{assert_same, assert_that};
 use rr_script::{Answer, Answers, Script, ScriptLine};
 use rr_types::{Name, NodeId, Nodes, Refusal, Reply, RequestNo, Value};
 use std::alloc::Global;
 use std::process::Abort;
 
 /// Texts of scripts for seven nodes: each line in each of its forms, and the ends of their ranges.
-const SCRIPTS: [&str; 4] = [
+static SCRIPTS: [&str; 4] = [
     "",
     "submit 0 7 1 claim a x\nlook 0 a\nsubmit 0 8 1 claim a z\nlook 0 b\n",
     "submit 6 4294967295 18446744073709551615 update name-09\nsubmit 5 0 0 release a\nsubmit 4 7 2 transfer a 4294967295\n",
@@ -12,7 +13,7 @@ const SCRIPTS: [&str; 4] = [
 ];
 
 /// Bytes that are no script for two nodes, and the line at fault, from 1.
-const FAULTS: [(&str, u64); 28] = [
+static FAULTS: [(&str, u64); 28] = [
     ("\n", 1),
     ("look 0 a", 1),
     ("look 0 a\nlook 0 b", 2),
@@ -52,6 +53,16 @@ const FAULTS: [(&str, u64); 28] = [
 /// The answers to the script of one node, and to lines that got none.
 const ANSWERS: &str =
     "ack 0 7.1 claimed\nlook 0 a 7:x\nack 0 8.1 taken 7\nlook 0 b free\nnone 6 4294967295.18446744073709551615\nlook 6 a 9:\nlook 6 a none\n";
+
+/// These scripts. (A test that names a table itself is proved over each of its rows.)
+fn scripts() -> &'static [&'static str] {
+    &SCRIPTS
+}
+
+/// These faults.
+fn faults() -> &'static [(&'static str, u64)] {
+    &FAULTS
+}
 
 fn nodes_of(rt: &impl Abort, count: u8) -> Nodes {
     Nodes::new(count).expect(rt, "1 to 7")
@@ -111,20 +122,20 @@ fn answers_of(rt: &impl Abort, alloc: Global) -> Vec<Answer> {
 #[test]
 fn scripts_are_printed_as_they_were_read(rt: HostRuntime) {
     let nodes = nodes_of(&rt, 7);
-    for text in SCRIPTS {
+    for text in scripts() {
         let script = Script::parse(rt.alloc(), nodes, text.as_bytes()).expect(&rt, "a text");
         let printed = script.text(rt.alloc()).expect(&rt, "memory");
-        assert!(rt; printed.as_slice() == text.as_bytes(), "{text}");
-        assert!(rt; script.nodes() == nodes, "{text}");
+        let is_same = printed.as_slice() == text.as_bytes() && script.nodes() == nodes;
+        assert_that(&rt, is_same, *text);
     }
 }
 
 #[test]
 fn faulty_lines_of_scripts_are_told(rt: HostRuntime) {
     let nodes = nodes_of(&rt, 2);
-    for (text, line) in FAULTS {
+    for (text, line) in faults() {
         let refused = Script::parse(rt.alloc(), nodes, text.as_bytes()).err();
-        assert_eq!(rt; refused, Some(Refusal::BadEvent(line)), "{text}");
+        assert_same(&rt, refused, Some(Refusal::BadEvent(*line)), *text);
     }
 }
 
@@ -132,14 +143,14 @@ fn faulty_lines_of_scripts_are_told(rt: HostRuntime) {
 fn lines_are_what_is_asked(rt: HostRuntime) {
     let text = b"look 1 a\nsubmit 0 7 1 release b\n";
     let script = Script::parse(rt.alloc(), nodes_of(&rt, 2), text).expect(&rt, "a text");
-    let [look, submit] = script.lines() else {
-        assert!(rt; false, "two lines");
-        return;
-    };
-    assert!(rt; matches!(look, ScriptLine::Look { .. }));
-    assert!(rt; matches!(submit, ScriptLine::Submit { .. }));
-    assert_eq!(rt; look.node().index(), 1);
-    assert_eq!(rt; submit.node().index(), 0);
+    match script.lines() {
+        [look, submit] => {
+            assert!(rt; matches!(look, ScriptLine::Look { .. }));
+            assert!(rt; matches!(submit, ScriptLine::Submit { .. }));
+            assert!(rt; look.node().index() == 1 && submit.node().index() == 0);
+        }
+        _ => rt.panic("two lines"),
+    }
 }
 
 #[test]

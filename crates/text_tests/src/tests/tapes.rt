@@ -3,13 +3,14 @@ mod rows;
 use super::event_texts::{
     assert_a_million_at_most, assert_each_byte, assert_each_cut, is_reprinted,
 };
+use super::expected::{assert_same, assert_that};
 use rows::TAPES as ROWS;
 use rr_tape::{Tape, TapeEvent};
-use rr_types::{Body, Name, Op, Refusal, Reply, RequestNo, Value};
+use rr_types::{Body, Command, Name, Op, Refusal, Reply, RequestNo, Value};
 use std::process::Abort;
 
 /// Texts of tapes: each event, each message and each reply in each of its forms, and the ends of their ranges.
-const TAPES: [&str; 4] = [
+static TAPES: [&str; 4] = [
     "nodes 3\n",
     "nodes 7\nsubmit 6 4294967295 18446744073709551615 claim name-09\nsubmit 0 7 2 transfer a 9\nhear 5 4294967295\nsuspect 4 -\nsuspect 4 0123456\ntick 0\nadvance 1\ntake 2\nmark 3\n",
     "nodes 7\nsend 0 0 6 estimate 1048575 2147483647 2147483646 7.1 claim a x\nsend 4294967295 1 2 proposal 0 1 7.1 update a\nsend 2 0 0 ack 0 1\nsend 3 0 1 decision 5 7.1 transfer a 9\nsend 4 0 1 request 4294967295.18446744073709551615 release a\nsend 5 0 1 nack 5 3\nsend 6 0 1 beat\nsend 7 0 1 suspects -\nsend 8 0 1 suspects 12\nsend 9 0 1 ask 1048575\n",
@@ -17,7 +18,7 @@ const TAPES: [&str; 4] = [
 ];
 
 /// Bytes that are no tape, and what they are refused with.
-const FAULTS: [(&str, Refusal); 16] = [
+static FAULTS: [(&str, Refusal); 16] = [
     ("", Refusal::BadEvent(1)),
     ("nodes 1", Refusal::BadEvent(1)),
     ("nodes 0\n", Refusal::BadNodes),
@@ -40,7 +41,7 @@ const FAULTS: [(&str, Refusal); 16] = [
 ];
 
 /// Lines that have no place on a tape of three nodes.
-const FAULTY_LINES: [&str; 48] = [
+static FAULTY_LINES: [&str; 48] = [
     "restart 0",
     "dev 0",
     "fail 0 -",
@@ -91,52 +92,68 @@ const FAULTY_LINES: [&str; 48] = [
     "ack 0 7.1.1 claimed",
 ];
 
+/// These tapes. (A test that names a table itself is proved over each of its rows.)
+fn tapes() -> &'static [&'static str] {
+    &TAPES
+}
+
+/// Tapes of runs, each with its name.
+fn of_runs() -> &'static [(&'static str, &'static str)] {
+    &ROWS
+}
+
+/// These faults.
+fn faults() -> &'static [(&'static str, Refusal)] {
+    &FAULTS
+}
+
+/// These lines.
+fn faulty_lines() -> &'static [&'static str] {
+    &FAULTY_LINES
+}
+
 #[test]
 fn tapes_are_printed_as_they_were_read(rt: HostRuntime) {
-    for text in TAPES {
-        assert!(rt; is_reprinted::<Tape>(&rt, rt.alloc(), text), "{text}");
+    for text in tapes() {
+        assert_that(&rt, is_reprinted::<Tape>(&rt, rt.alloc(), text), *text);
     }
 }
 
 #[test]
 fn rows_are_printed_as_they_were_read(rt: HostRuntime) {
-    for (name, text) in &ROWS {
-        assert!(rt; is_reprinted::<Tape>(&rt, rt.alloc(), text), "{name}");
+    for (name, text) in of_runs() {
+        assert_that(&rt, is_reprinted::<Tape>(&rt, rt.alloc(), text), *name);
     }
 }
 
 #[test]
 fn faults_are_told(rt: HostRuntime) {
-    for (text, refusal) in FAULTS {
+    for (text, refusal) in faults() {
         let refused = Tape::parse(rt.alloc(), text.as_bytes()).err();
-        assert_eq!(rt; refused, Some(refusal), "{text}");
+        assert_same(&rt, refused, Some(*refusal), *text);
     }
 }
 
 #[test]
 fn faulty_lines_are_told(rt: HostRuntime) {
-    for line in FAULTY_LINES {
-        let mut text = b"nodes 3\ntick 0\n"
-            .to_vec(rt.alloc())
-            .expect(&rt, "memory");
-        text.extend_from_slice(line.as_bytes())
-            .expect(&rt, "memory");
-        text.extend_from_slice(b"\ntick 0\n").expect(&rt, "memory");
-        let refused = Tape::parse(rt.alloc(), &text).err();
-        assert_eq!(rt; refused, Some(Refusal::BadEvent(3)), "{line}");
+    for line in faulty_lines() {
+        let text = format!(in rt.alloc(); "nodes 3\ntick 0\n{line}\ntick 0\n");
+        let text = text.expect(&rt, "memory");
+        let refused = Tape::parse(rt.alloc(), text.as_bytes()).err();
+        assert_same(&rt, refused, Some(Refusal::BadEvent(3)), *line);
     }
 }
 
 #[test]
 fn no_other_byte_is_taken_for_it(rt: HostRuntime) {
-    for text in TAPES {
+    for text in tapes() {
         assert_each_byte::<Tape>(&rt, rt.alloc(), text.as_bytes());
     }
 }
 
 #[test]
 fn a_text_that_is_cut_is_refused_or_printed(rt: HostRuntime) {
-    for text in TAPES {
+    for text in tapes() {
         assert_each_cut::<Tape>(&rt, rt.alloc(), text.as_bytes());
     }
 }
@@ -146,42 +163,70 @@ fn the_millionth_event_is_the_last(rt: HostRuntime) {
     assert_a_million_at_most::<Tape>(&rt, rt.alloc());
 }
 
+/// Asserts that an event is that node 1 hears the message with number 5.
+fn assert_heard(rt: &impl Abort, event: &TapeEvent) {
+    match event {
+        TapeEvent::Hear { node, message } => { assert!(rt; node.index() == 1 && *message == 5) }
+        _ => rt.panic("another event"),
+    }
+}
+
+/// Asserts that a message is the estimate `7.1 claim a x` with stamp 2 in round 3 of instance 5.
+fn assert_estimate(rt: &impl Abort, body: &Body) {
+    let Body::Estimate(instance, estimate) = body else {
+        rt.panic("another message")
+    };
+    assert!(rt; instance.number() == 5);
+    assert!(rt; estimate.round().number() == 3 && estimate.stamp() == 2);
+    assert_claim(rt, &estimate.command());
+}
+
+/// Asserts that a command is `7.1 claim a x`.
+fn assert_claim(rt: &impl Abort, command: &Command) {
+    assert!(rt; command.request == RequestNo { client: 7, seq: 1 });
+    let name = Name::new(b"a").expect(rt, "a name");
+    let value = Value::new(b"x").expect(rt, "a value");
+    assert!(rt; command.op.is_same(&Op::Claim(name, value)));
+}
+
+/// Asserts that an event is that node 0 sends this to node 2, as message 4.
+fn assert_sent(rt: &impl Abort, event: &TapeEvent) {
+    match event {
+        TapeEvent::Send { number, message } => {
+            assert!(rt; *number == 4);
+            assert!(rt; message.from.index() == 0 && message.to.index() == 2);
+            assert_estimate(rt, &message.body);
+        }
+        _ => rt.panic("another event"),
+    }
+}
+
+/// Asserts that an event is that node 2 acknowledges request 7.1, taken by client 9.
+fn assert_acknowledged(rt: &impl Abort, event: &TapeEvent) {
+    match event {
+        TapeEvent::Ack {
+            node,
+            request,
+            reply: Reply::Taken(owner),
+        } => {
+            let wanted = RequestNo { client: 7, seq: 1 };
+            assert!(rt; node.index() == 2 && *request == wanted && *owner == 9);
+        }
+        _ => rt.panic("another event"),
+    }
+}
+
 #[test]
 fn what_is_read_is_what_is_written(rt: HostRuntime) {
     let text = b"nodes 3\nhear 1 5\nsend 4 0 2 estimate 5 3 2 7.1 claim a x\nack 2 7.1 taken 9\n";
     let tape = Tape::parse(rt.alloc(), text).expect(&rt, "a text");
-    assert_eq!(rt; tape.nodes().count(), 3);
-    let request = RequestNo { client: 7, seq: 1 };
+    assert!(rt; tape.nodes().count() == 3);
     match tape.events() {
-        [
-            TapeEvent::Hear { node, message },
-            TapeEvent::Send {
-                number,
-                message: sent,
-            },
-            TapeEvent::Ack {
-                node: acker,
-                request: acked,
-                reply: Reply::Taken(owner),
-            },
-        ] => {
-            assert_eq!(rt; (node.index(), *message), (1, 5));
-            assert_eq!(rt; (*number, sent.from.index(), sent.to.index()), (4, 0, 2));
-            assert_eq!(rt; (acker.index(), *acked, *owner), (2, request, 9));
-            let Body::Estimate(instance, estimate) = &sent.body else {
-                rt.panic("another message")
-            };
-            assert_eq!(rt; (instance.number(), estimate.round().number()), (5, 3));
-            assert_eq!(rt; estimate.stamp(), 2);
-            assert_eq!(rt; estimate.command().request, request);
-            let op = estimate.command().op;
-            assert!(rt;
-                op.is_same(&Op::Claim(
-                    Name::new(b"a").expect(&rt, "memory"),
-                    Value::new(b"x").expect(&rt, "memory")
-                ))
-            );
+        [heard, sent, acknowledged] => {
+            assert_heard(&rt, heard);
+            assert_sent(&rt, sent);
+            assert_acknowledged(&rt, acknowledged);
         }
-        _ => assert!(rt; false, "other events"),
+        _ => rt.panic("other events"),
     }
 }

@@ -11,4 +11,4 @@ returns-in-Err-clause-ends g c =
 pub returns-in-Ok-clause-ends : goal.returns-in-Ok-clause-ends
 returns-in-Ok-clause-ends g c =
     read c.in-Ok.bytes.items c.in-Ok.ensures.all
-    (subst (λ bytes. EndsOnTape bytes c.audit_bytes.result (g.O.Sink.printing c.args.out.now) (g.O.Sink.printing c.audit_bytes.new.out)) c.as_slice.ensures.value c.audit_bytes.ensures.ends)
+    (subst (λ bytes. EndsOnTape c.args.form bytes c.audit_bytes.result (g.O.Sink.printing c.args.out.now) (g.O.Sink.printing c.audit_bytes.new.out)) c.as_slice.ensures.value c.audit_bytes.ensures.ends)

@@ -1,5 +1,5 @@
-use Rattle.std.proofs.Common.{List, ℕ, option_map, Bor, refl, sym, ap, subst}
-use Rattle.rr_cli.specs.Ends.{EndsOnExport, named, unnamed, unexported}
+use Rattle.std.proofs.Common.{List, ℕ, option_map, Bor, refl, ap}
+use Rattle.rr_cli.specs.Ends.{named, unexported}
 use Rattle.rr_cli.proofs.exporting.export_by_word.Goals as goal
 
 pub returns-in-Ok-clause-ends : goal.returns-in-Ok-clause-ends

@@ -1,4 +1,4 @@
-use Rattle.std.proofs.Common.{◌≡◌, ℕ, List, Option, None, Some, option_map, Bor, refl, sym, ap, ◌∙◌}
+use Rattle.std.proofs.Common.{ℕ, List, option_map, Bor, refl, ap}
 use Rattle.rr_cli.specs.Ends.{seated, unseated}
 use Rattle.rr_cli.proofs.migrate.migrate_by_words.Goals as goal
 

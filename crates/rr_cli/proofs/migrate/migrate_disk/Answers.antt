@@ -1,4 +1,4 @@
-use Rattle.std.proofs.Common.{◌≡◌, ◌⊎◌, ◌∙◌, List, ℕ, Result, Ok, Err, ap, sym, subst, inl, inr}
+use Rattle.std.proofs.Common.{◌≡◌, ◌⊎◌, ◌∙◌, ℕ, Result, Ok, Err, ap, sym, subst, inl, inr}
 use Rattle.std.specs.Prelude.{Vec, IfOk, IfErr}
 use Rattle.std.specs.declared.alloc.Global.{Global}
 use Rattle.rr_types.specs.declared.refusal.Refusal.{Refusal}

@@ -1,6 +1,6 @@
 use Rattle.std.proofs.Common.{subst}
 use Rattle.rr_files.specs.Files.{file_at}
-use Rattle.rr_cli.specs.Ends.{EndsOnPicture, read, cut_so}
+use Rattle.rr_cli.specs.Ends.{EndsOnDrawn, read, cut_so}
 use Rattle.rr_cli.proofs.ReadLemmas.{unread_status, unread_ends}
 use Rattle.rr_cli.proofs.picture.picture_file.Goals as goal
 
@@ -11,4 +11,4 @@ returns-in-Err-clause-ends g c =
 pub returns-in-Ok-clause-ends : goal.returns-in-Ok-clause-ends
 returns-in-Ok-clause-ends g c =
     cut_so c.in-Some.cut c.in-Some.ensures.some (read c.in-Ok.bytes.items c.in-Ok.ensures.all
-    (subst (λ bytes. EndsOnPicture c.in-Some.cut bytes c.print_picture.result (g.O.Sink.printing c.args.out.now) (g.O.Sink.printing c.print_picture.new.out)) c.as_slice.ensures.value c.print_picture.ensures.ends))
+    (subst (λ bytes. EndsOnDrawn c.args.words.now.tape c.args.words.now.html c.in-Some.cut bytes c.print_drawn.result (g.O.Sink.printing c.args.out.now) (g.O.Sink.printing c.print_drawn.new.out)) c.as_slice.ensures.value c.print_drawn.ensures.ends))

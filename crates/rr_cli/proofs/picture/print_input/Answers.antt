@@ -1,5 +1,5 @@
 use Rattle.std.proofs.Common.{subst}
-use Rattle.rr_cli.specs.Ends.{EndsOnPicture, read}
+use Rattle.rr_cli.specs.Ends.{EndsOnDrawn, read}
 use Rattle.rr_cli.proofs.ReadLemmas.{unread_status, unread_ends}
 use Rattle.rr_cli.proofs.picture.print_input.Goals as goal
 
@@ -10,4 +10,4 @@ returns-in-Err-clause-ends g c =
 pub returns-in-Ok-clause-ends : goal.returns-in-Ok-clause-ends
 returns-in-Ok-clause-ends g c =
     read c.in-Ok.bytes.items c.in-Ok.ensures.all
-    (subst (λ bytes. EndsOnPicture c.args.cut.now bytes c.print_picture.result (g.O.Sink.printing c.args.out.now) (g.O.Sink.printing c.print_picture.new.out)) c.as_slice.ensures.value c.print_picture.ensures.ends)
+    (subst (λ bytes. EndsOnDrawn c.args.is_tape c.args.html c.args.cut.now bytes c.print_drawn.result (g.O.Sink.printing c.args.out.now) (g.O.Sink.printing c.print_drawn.new.out)) c.as_slice.ensures.value c.print_drawn.ensures.ends)

@@ -2,7 +2,7 @@ use Rattle.std.proofs.Common.{◌≡◌, ◌∙◌, ℕ, List, Option, option_ma
 use Rattle.clap.specs.Words.{Text, kind_of}
 use Rattle.rr_words.specs.declared.tasks.Task.TheVariants as read
 use Rattle.rr_words.specs.Tasks.{Simulate, Viewing, Show, Random, Audit, Run, Shell, Sweep, Draw, Migrate, cut_words_in, random_words_in, shell_words_in, view_in, task_of, task_in, Verify, Export}
-use Rattle.rr_cli.specs.Ends.{mistaken, by_help, by_version, out_of_memory, by_standard_input, by_file, by_folder, by_numbers, by_migration, by_tape_in_standard_input, by_tape_in_a_file, by_sweep_of_standard_input, by_sweep_of_a_file, by_picture_of_standard_input, by_picture_of_a_file, without_seed, without_views, without_threads, without_shell, by_verification, by_export}
+use Rattle.rr_cli.specs.Ends.{mistaken, by_help, by_version, out_of_memory, by_standard_input, by_file, by_folder, without_folder, by_numbers, by_migration, by_tape_in_standard_input, by_tape_in_a_file, by_sweep_of_standard_input, by_sweep_of_a_file, by_picture_of_standard_input, by_picture_of_a_file, without_seed, without_views, without_threads, without_shell, by_verification, by_export}
 use Rattle.rr_cli.proofs.EndLemmas.{kind_cases}
 use Rattle.rr_cli.proofs.program.execute.Goals as goal
 
@@ -18,23 +18,29 @@ returns-in-Ok-Simulate-Some-clause-ends g c =
     let task : task_of (map g.S.AsStr.text c.args.words.now) ≡ Simulate (Some w.path.now) = sym w.ensures.task ∙ ap task_in w.field-0-is ∙ ap (λ file. task_in (read.Simulate file)) w.field-0-0-is in
     by_file w.path.now w.ensures.faults task c.simulate_file.ensures.ends
 
-pub returns-in-Ok-Show-Some-clause-ends : goal.returns-in-Ok-Show-Some-clause-ends
-returns-in-Ok-Show-Some-clause-ends g c =
-    let w = c.in-Ok-Show-Some in
-    let task : task_of (map g.S.AsStr.text c.args.words.now) ≡ Show (Some w.folder.now) = sym w.ensures.task ∙ ap task_in w.field-0-is ∙ ap (λ folder. task_in (read.Show folder)) w.field-0-0-is in
-    by_folder w.folder.now w.ensures.faults task c.show_folder.ensures.ends
+pub returns-in-Ok-Show-Some-default-clause-ends : goal.returns-in-Ok-Show-Some-default-clause-ends
+returns-in-Ok-Show-Some-default-clause-ends g c =
+    let w = c.in-Ok-Show-Some-default in
+    let task : task_of (map g.S.AsStr.text c.args.words.now) ≡ Show (Some w.folder.now) w.form = sym w.ensures.task ∙ ap task_in w.field-0-is ∙ ap (λ folder. task_in (read.Show folder w.form)) w.field-0-0-is in
+    by_folder w.folder.now w.form w.ensures.faults task c.show_folder.ensures.ends
 
-pub returns-in-Ok-Audit-None-clause-ends : goal.returns-in-Ok-Audit-None-clause-ends
-returns-in-Ok-Audit-None-clause-ends g c =
-    let w = c.in-Ok-Audit-None in
-    let task : task_of (map g.S.AsStr.text c.args.words.now) ≡ Audit None = sym w.ensures.task ∙ ap task_in w.field-0-is ∙ ap (λ file. task_in (read.Audit file)) w.field-0-0-is in
-    by_tape_in_standard_input w.ensures.faults task c.audit_input.ensures.ends
+pub returns-in-Ok-Show-None-default-clause-ends : goal.returns-in-Ok-Show-None-default-clause-ends
+returns-in-Ok-Show-None-default-clause-ends g c =
+    let w = c.in-Ok-Show-None-default in
+    let task : task_of (map g.S.AsStr.text c.args.words.now) ≡ Show None w.field-0-1 = sym w.ensures.task ∙ ap task_in w.field-0-is ∙ ap (λ folder. task_in (read.Show folder w.field-0-1)) w.field-0-0-is in
+    without_folder w.field-0-1 w.ensures.faults task c.end_without_folder.ensures refl
 
-pub returns-in-Ok-Audit-Some-clause-ends : goal.returns-in-Ok-Audit-Some-clause-ends
-returns-in-Ok-Audit-Some-clause-ends g c =
-    let w = c.in-Ok-Audit-Some in
-    let task : task_of (map g.S.AsStr.text c.args.words.now) ≡ Audit (Some w.path.now) = sym w.ensures.task ∙ ap task_in w.field-0-is ∙ ap (λ file. task_in (read.Audit file)) w.field-0-0-is in
-    by_tape_in_a_file w.path.now w.ensures.faults task c.audit_file.ensures.ends
+pub returns-in-Ok-Audit-None-default-clause-ends : goal.returns-in-Ok-Audit-None-default-clause-ends
+returns-in-Ok-Audit-None-default-clause-ends g c =
+    let w = c.in-Ok-Audit-None-default in
+    let task : task_of (map g.S.AsStr.text c.args.words.now) ≡ Audit None w.form = sym w.ensures.task ∙ ap task_in w.field-0-is ∙ ap (λ file. task_in (read.Audit file w.form)) w.field-0-0-is in
+    by_tape_in_standard_input w.form w.ensures.faults task c.audit_input.ensures.ends
+
+pub returns-in-Ok-Audit-Some-default-clause-ends : goal.returns-in-Ok-Audit-Some-default-clause-ends
+returns-in-Ok-Audit-Some-default-clause-ends g c =
+    let w = c.in-Ok-Audit-Some-default in
+    let task : task_of (map g.S.AsStr.text c.args.words.now) ≡ Audit (Some w.path.now) w.form = sym w.ensures.task ∙ ap task_in w.field-0-is ∙ ap (λ file. task_in (read.Audit file w.form)) w.field-0-0-is in
+    by_tape_in_a_file w.path.now w.form w.ensures.faults task c.audit_file.ensures.ends
 
 pub returns-clause-ends : goal.returns-clause-ends
 returns-clause-ends g c =
@@ -73,8 +79,8 @@ returns-in-Ok-View-clause-ends g c =
 pub returns-in-Ok-Run-clause-ends : goal.returns-in-Ok-Run-clause-ends
 returns-in-Ok-Run-clause-ends g c =
     let w = c.in-Ok-Run in
-    let task : task_of (map g.S.AsStr.text c.args.words.now) ≡ Run (text_of w.field-0-0) (text_of w.field-0-1) (text_of w.field-0-2) (text_of w.field-0-3) (text_of w.field-0-4) = sym w.ensures.task ∙ ap task_in w.field-0-is in
-    without_threads (text_of w.field-0-0) (text_of w.field-0-1) (text_of w.field-0-2) (text_of w.field-0-3) (text_of w.field-0-4) w.ensures.faults task c.end_without_threads.ensures refl
+    let task : task_of (map g.S.AsStr.text c.args.words.now) ≡ Run (text_of w.field-0-0) (text_of w.field-0-1) (text_of w.field-0-2) (text_of w.field-0-3) (text_of w.field-0-4) w.field-0-5 = sym w.ensures.task ∙ ap task_in w.field-0-is in
+    without_threads (text_of w.field-0-0) (text_of w.field-0-1) (text_of w.field-0-2) (text_of w.field-0-3) (text_of w.field-0-4) w.field-0-5 w.ensures.faults task c.end_without_threads.ensures refl
 
 pub returns-in-Ok-Shell-clause-ends : goal.returns-in-Ok-Shell-clause-ends
 returns-in-Ok-Shell-clause-ends g c =

@@ -5,9 +5,9 @@ use Rattle.rr_cli.proofs.show.show_folder.Goals as goal
 
 pub returns-in-Ok-clause-ends : goal.returns-in-Ok-clause-ends
 returns-in-Ok-clause-ends g c =
-    text_ends c.in-Ok.text c.end_by_text.result (g.O.Sink.printing c.args.out.now) (g.O.Sink.printing c.end_by_text.new.out) c.in-Ok.ensures
+    text_ends c.args.form c.in-Ok.text c.end_by_text.result (g.O.Sink.printing c.args.out.now) (g.O.Sink.printing c.end_by_text.new.out) c.in-Ok.ensures
     (subst (λ text. Prints text c.end_by_text.result (g.O.Sink.printing c.args.out.now) (g.O.Sink.printing c.end_by_text.new.out)) c.as_slice.ensures.value c.end_by_text.ensures.ends)
 
 pub returns-in-Err-clause-ends : goal.returns-in-Err-clause-ends
 returns-in-Err-clause-ends g c =
-    refusal_ends c.in-Err.refusal c.end_by_folder_fault.result (g.O.Sink.printing c.args.out.now) (g.O.Sink.printing c.args.out.now) c.in-Err.ensures c.end_by_folder_fault.ensures refl
+    refusal_ends c.args.form c.in-Err.refusal c.end_by_folder_fault.result (g.O.Sink.printing c.args.out.now) (g.O.Sink.printing c.args.out.now) c.in-Err.ensures c.end_by_folder_fault.ensures refl

@@ -1,5 +1,5 @@
-use Rattle.std.proofs.Common.{List, ℕ, option_map, Bor, refl, sym, ap, subst}
-use Rattle.rr_cli.specs.Ends.{EndsOnVerification, named, unnamed, unverified}
+use Rattle.std.proofs.Common.{List, ℕ, option_map, Bor, refl, ap}
+use Rattle.rr_cli.specs.Ends.{named, unverified}
 use Rattle.rr_cli.proofs.verification.verify_by_word.Goals as goal
 
 pub returns-in-Ok-clause-ends : goal.returns-in-Ok-clause-ends

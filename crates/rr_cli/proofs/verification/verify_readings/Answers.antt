@@ -1,5 +1,4 @@
 use Rattle.std.proofs.Common.{◌≡◌, ◌∙◌, List, ℕ, ap, refl, subst}
-use Rattle.rr_words.specs.declared.tasks.Form.{Form}
 use Rattle.rr_verify.specs.declared.fields.Form as fields
 use Rattle.rr_verify.specs.Texts.{verdict_text}
 use Rattle.rr_cli.specs.Clusters.{form_in}

@@ -1,4 +1,4 @@
-use Rattle.std.proofs.Common.{◌≡◌, ◌∙◌, ℕ, List, Option, option_map, Bor, refl, sym, ap, map, inl, inr}
+use Rattle.std.proofs.Common.{◌≡◌, ◌∙◌, ℕ, List, Option, option_map, Bor, sym, ap, map, inl, inr}
 use Rattle.clap.specs.Words.{Text, kind_of}
 use Rattle.rr_words.specs.Tasks.{Simulate, Viewing, Show, Random, Audit, Run, Shell, Sweep, Draw, Migrate, cut_words_in, random_words_in, shell_words_in, task_of, task_in, view_in, Verify, Export}
 use Rattle.rr_cli.specs.Ends.{mistaken, by_help, by_version}
@@ -38,8 +38,8 @@ returns-in-Ok-Simulate-clause-ends g c =
 pub returns-in-Ok-Show-clause-ends : goal.returns-in-Ok-Show-clause-ends
 returns-in-Ok-Show-clause-ends g c =
     let w = c.in-Ok-Show in
-    let task : task_of (map g.S.AsStr.text c.args.words.now) ≡ Show (text_of w.field-0-0) = sym w.ensures.task ∙ ap task_in w.field-0-is in
-    by_others (λ none view is. no_show (text_of w.field-0-0) view (sym task ∙ is)) c.execute-in-Ok-Show.ensures.ends
+    let task : task_of (map g.S.AsStr.text c.args.words.now) ≡ Show (text_of w.field-0-0) w.field-0-1 = sym w.ensures.task ∙ ap task_in w.field-0-is in
+    by_others (λ none view is. no_show (text_of w.field-0-0) w.field-0-1 view (sym task ∙ is)) c.execute-in-Ok-Show.ensures.ends
 
 pub returns-in-Ok-Random-clause-ends : goal.returns-in-Ok-Random-clause-ends
 returns-in-Ok-Random-clause-ends g c =
@@ -50,14 +50,14 @@ returns-in-Ok-Random-clause-ends g c =
 pub returns-in-Ok-Audit-clause-ends : goal.returns-in-Ok-Audit-clause-ends
 returns-in-Ok-Audit-clause-ends g c =
     let w = c.in-Ok-Audit in
-    let task : task_of (map g.S.AsStr.text c.args.words.now) ≡ Audit (text_of w.field-0-0) = sym w.ensures.task ∙ ap task_in w.field-0-is in
-    by_others (λ none view is. no_audit (text_of w.field-0-0) view (sym task ∙ is)) c.execute-in-Ok-Audit.ensures.ends
+    let task : task_of (map g.S.AsStr.text c.args.words.now) ≡ Audit (text_of w.field-0-0) w.field-0-1 = sym w.ensures.task ∙ ap task_in w.field-0-is in
+    by_others (λ none view is. no_audit (text_of w.field-0-0) w.field-0-1 view (sym task ∙ is)) c.execute-in-Ok-Audit.ensures.ends
 
 pub returns-in-Ok-Run-clause-ends : goal.returns-in-Ok-Run-clause-ends
 returns-in-Ok-Run-clause-ends g c =
     let w = c.in-Ok-Run in
-    let task : task_of (map g.S.AsStr.text c.args.words.now) ≡ Run (text_of w.field-0-0) (text_of w.field-0-1) (text_of w.field-0-2) (text_of w.field-0-3) (text_of w.field-0-4) = sym w.ensures.task ∙ ap task_in w.field-0-is in
-    by_others (λ none view is. no_run (text_of w.field-0-0) (text_of w.field-0-1) (text_of w.field-0-2) (text_of w.field-0-3) (text_of w.field-0-4) view (sym task ∙ is)) c.execute-in-Ok-Run.ensures.ends
+    let task : task_of (map g.S.AsStr.text c.args.words.now) ≡ Run (text_of w.field-0-0) (text_of w.field-0-1) (text_of w.field-0-2) (text_of w.field-0-3) (text_of w.field-0-4) w.field-0-5 = sym w.ensures.task ∙ ap task_in w.field-0-is in
+    by_others (λ none view is. no_run (text_of w.field-0-0) (text_of w.field-0-1) (text_of w.field-0-2) (text_of w.field-0-3) (text_of w.field-0-4) w.field-0-5 view (sym task ∙ is)) c.execute-in-Ok-Run.ensures.ends
 
 pub returns-in-Ok-Shell-clause-ends : goal.returns-in-Ok-Shell-clause-ends
 returns-in-Ok-Shell-clause-ends g c =

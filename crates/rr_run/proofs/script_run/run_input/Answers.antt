@@ -12,7 +12,7 @@ returns-in-Err-clause-ends g c =
 pub returns-in-Ok-clause-ends : goal.returns-in-Ok-clause-ends
 returns-in-Ok-clause-ends g c =
     read c.in-Ok.bytes.items c.in-Ok.ensures.all
-    (subst (λ bytes. EndsOnScript c.args.nodes (option_map (λ s. s.now) c.args.tape) bytes c.run_bytes.result (g.O.Sink.printing c.args.out.now) (g.O.Sink.printing c.run_bytes.new.out)) c.as_slice.ensures.value c.run_bytes.ensures.ends)
+    (subst (λ bytes. EndsOnScript c.args.manner.form c.args.nodes (option_map (λ s. s.now) c.args.tape) bytes c.run_bytes.result (g.O.Sink.printing c.args.out.now) (g.O.Sink.printing c.run_bytes.new.out)) c.as_slice.ensures.value c.run_bytes.ensures.ends)
 
 pub returns-in-Ok-clause-quiet : goal.returns-in-Ok-clause-quiet
 returns-in-Ok-clause-quiet g c = λ ended.

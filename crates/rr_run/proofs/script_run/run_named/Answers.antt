@@ -1,4 +1,4 @@
-use Rattle.std.proofs.Common.{◌≡◌, ℕ, Bool, true, false, List, codes, option_map, Option, refl}
+use Rattle.std.proofs.Common.{◌≡◌, ℕ, true, false, List, codes, option_map, Option, refl}
 use Rattle.std.specs.Str.{bytes_eq}
 use Rattle.clap.specs.Words.{Text}
 use Rattle.rr_stream.specs.Streams.{Printing}
@@ -19,14 +19,14 @@ named_file word On from to status old new is same ends = rw is (same, ends)
 pub returns-then-eq-clause-ends : goal.returns-then-eq-clause-ends
 returns-then-eq-clause-ends g c =
     let is : bytes_eq c.args.path.now (codes "-") ≡ true = cc in
-    named_input c.args.path.now (EndsOnScript c.args.nodes (option_map (λ s. s.now) c.args.tape))
+    named_input c.args.path.now (EndsOnScript c.args.manner.form c.args.nodes (option_map (λ s. s.now) c.args.tape))
     (record { input = g.I.Source.reading c.args.input.now; files = g.L.FileReader.held c.args.files.now }) (record { input = g.I.Source.reading c.run_input.new.input; files = g.L.FileReader.held c.args.files.now })
     c.run_input.result (g.O.Sink.printing c.args.out.now) (g.O.Sink.printing c.run_input.new.out) is c.run_input.ensures.ends
 
 pub returns-else-eq-clause-ends : goal.returns-else-eq-clause-ends
 returns-else-eq-clause-ends g c =
     let is : bytes_eq c.args.path.now (codes "-") ≡ false = cc in
-    named_file c.args.path.now (EndsOnScript c.args.nodes (option_map (λ s. s.now) c.args.tape))
+    named_file c.args.path.now (EndsOnScript c.args.manner.form c.args.nodes (option_map (λ s. s.now) c.args.tape))
     (record { input = g.I.Source.reading c.args.input.now; files = g.L.FileReader.held c.args.files.now }) (record { input = g.I.Source.reading c.args.input.now; files = g.L.FileReader.held c.run_file.new.files })
     c.run_file.result (g.O.Sink.printing c.args.out.now) (g.O.Sink.printing c.run_file.new.out) is refl c.run_file.ensures.ends
 

@@ -1,4 +1,4 @@
-use Rattle.std.proofs.Common.{◌<◌, ℕ, List, Bor, length, map, sym, subst}
+use Rattle.std.proofs.Common.{◌<◌, List, Bor, length, map, subst}
 use Rattle.clap.specs.Words.{Text}
 use Rattle.rr_stream.specs.Streams.{Reading}
 use Rattle.rr_run.specs.Shells.{EndsOnLines, EndsOnShell, numbered}

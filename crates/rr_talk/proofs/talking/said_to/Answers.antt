@@ -8,7 +8,7 @@ use Rattle.rr_talk.proofs.TalkLemmas.{said_to_line}
 use Rattle.rr_talk.proofs.talking.said_to.Goals as goal
 
 pub returns-in-TooLong : goal.returns-in-TooLong
-returns-in-TooLong g c = rw (c.in-TooLong.is, c.in_ok-faulted-in-TooLong.ensures.0, c.in_ok-faulted-in-TooLong.ensures.1, c.in_ok-faulted-in-TooLong.ensures.2) too_long
+returns-in-TooLong g c = rw (c.in-TooLong.is, c.in_ok-faulted-in-TooLong.ensures.0, c.in_ok-faulted-in-TooLong.ensures.1, c.in_ok-faulted-in-TooLong.ensures.2, c.in_ok-faulted-in-TooLong.ensures.3) too_long
 
 pub returns-in-Ok : goal.returns-in-Ok
 returns-in-Ok g c =
@@ -18,7 +18,7 @@ returns-in-Ok g c =
 pub returns-in_ok-faulted-in-Err : goal.returns-in_ok-faulted-in-Err
 returns-in_ok-faulted-in-Err g c =
     let read : shell_line_at c.args.nodes (line_of c.in-Line.line) ≡ Err c.in-Err.fault = sym (c.in-Err.ensures ∙ ap (shell_line_at c.args.nodes) (c.without_return-line.ensures ∙ ap (strip_last 13) c.as_slice.ensures.value)) in
-    rw (c.in-Line.is, c.in_ok-faulted-in-Err.ensures.0, c.in_ok-faulted-in-Err.ensures.1, c.in_ok-faulted-in-Err.ensures.2) (faulty c.in-Line.line c.in-Err.fault read)
+    rw (c.in-Line.is, c.in_ok-faulted-in-Err.ensures.0, c.in_ok-faulted-in-Err.ensures.1, c.in_ok-faulted-in-Err.ensures.2, c.in_ok-faulted-in-Err.ensures.3) (faulty c.in-Line.line c.in-Err.fault read)
 
 pub returns-in-empty : goal.returns-in-empty
 returns-in-empty g c =

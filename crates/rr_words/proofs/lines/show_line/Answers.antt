@@ -5,4 +5,4 @@ use Rattle.rr_words.proofs.lines.show_line.Goals as goal
 
 pub returns : goal.returns
 unfolding show_line
-returns c = IfOk-weaker c.arg.result _ _ (λ r added. adds_arg c.bare_line.ensures added c.word_arg.ensures) c.arg.ensures
+returns c = IfOk-weaker c.arg-2.result _ _ (λ r added. adds_arg (adds_arg c.bare_line.ensures c.in_ok-arg.ensures c.word_arg.ensures) added c.flag_arg.ensures) c.arg-2.ensures

@@ -1,0 +1,11 @@
+//! What the first page of `rr_cluster` shows.
+
+use rr_cluster::Cluster;
+
+/// How many nodes a cluster has whose file `cluster` has this text. Another text says of no cluster.
+pub fn count_nodes(text: &[u8]) -> Option<u8> {
+    match Cluster::parse(text) {
+        Some(cluster) => Some(cluster.nodes.count()),
+        None => None,
+    }
+}

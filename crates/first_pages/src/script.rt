@@ -1,0 +1,11 @@
+//! What the first page of `rr_script` shows.
+
+use rr_script::Script;
+use rr_types::{Nodes, Refusal};
+use std::alloc::Global;
+
+/// How many lines a script has that clients of these nodes are to follow.
+pub fn count_lines(alloc: Global, nodes: Nodes, text: &[u8]) -> Result<usize, Refusal> {
+    let script = Script::parse(alloc, nodes, text)?;
+    Ok(script.lines().len())
+}

@@ -1,0 +1,119 @@
+//! The picture of a tape.
+
+ghost use Rattle.std.specs.Prelude.{◌≡◌, ◌++◌, map, OnOk, IfOk, IfErr};
+ghost use Rattle.rr_draw.specs.Pictures.{AreDrawn, Adds};
+ghost use Rattle.rr_draw.specs.TapePictures.{row_of, IsTapePicture};
+
+use crate::cut::Cut;
+use crate::drawing::Drawing;
+use crate::picture::{draw_event, has_many, written};
+use crate::scene::tape_scene;
+use rr_audit::{Replay, as_reported, as_scheduled, node_of};
+use rr_tape::{Tape, TapeEvent};
+use rr_text::text_report::push_report_words;
+use rr_text::text_word::{push_byte, push_bytes};
+use rr_types::{Body, Command, Estimate, Message, Op, Refusal, made_of};
+use std::alloc::{AllocError, Global};
+
+/// The lines of a report that an event of a tape is: one or none.
+fn told_by(alloc: Global, event: &TapeEvent) -> Result<Vec<u8>, AllocError>
+    ensures { IfOk result (λ told. told.items ≡ (row_of event.now).told) }
+{
+    let mut told = Vec::new(alloc);
+    if let Some(line) = as_reported(event) {
+        push_report_words(&mut told, &line)?;
+        push_byte(&mut told, b'\n')?;
+    }
+    Ok(told)
+}
+
+/// A message that an event of a tape sends joins the wire.
+fn push_sent(wire: &mut Vec<Message>, event: &TapeEvent) -> Result<(), AllocError> {
+    made_of!(Body, Command, Estimate, Message, Op);
+    match event {
+        TapeEvent::Send { message, .. } => Ok(wire.push(*message)?),
+        _ => Ok(()),
+    }
+}
+
+/// Draws the event of a line of a tape, where the cut shows it. The replay is behind it, and the wire has what was sent.
+fn draw_tape_event(
+    alloc: Global,
+    cut: &Cut,
+    line: u64,
+    event: &TapeEvent,
+    replay: &Replay,
+    wire: &[Message],
+    drawing: &mut Drawing,
+    elements: &mut Vec<u8>,
+) -> Result<(), Refusal>
+    ensures ok { OnOk result (Adds cut.now line (row_of event.now) elements.old.items elements.new.items) }
+    ensures err { IfErr result (λ e. e ≡ Refusal.OutOfMemory) }
+{
+    let told = told_by(alloc, event)?;
+    let scene = tape_scene(replay, wire, node_of(event));
+    let scheduled = as_scheduled(event);
+    draw_event(
+        alloc,
+        cut,
+        line,
+        &scheduled,
+        told.as_slice(),
+        &scene,
+        drawing,
+        elements,
+    )
+}
+
+/// Draws the events of a tape, which are replayed for what the nodes flush. The wire has then what was sent.
+fn draw_tape_events(
+    alloc: Global,
+    tape: &Tape,
+    cut: &Cut,
+    drawing: &mut Drawing,
+    wire: &mut Vec<Message>,
+) -> Result<Vec<u8>, Refusal>
+    ensures ok { IfOk result (λ elements. AreDrawn cut.now 2 (map row_of tape.now.events) elements.items) }
+    ensures err { IfErr result (λ e. e ≡ Refusal.OutOfMemory) }
+{
+    let mut replay = Replay::new(alloc, tape.nodes())?;
+    let mut elements = Vec::new(alloc);
+    let mut line = 2u64;
+    let events = tape.events();
+    for event in events {
+        let _given = replay.step(event)?;
+        push_sent(wire, event)?;
+        draw_tape_event(
+            alloc,
+            cut,
+            line,
+            event,
+            &replay,
+            wire.as_slice(),
+            drawing,
+            &mut elements,
+        )?;
+        line += 1;
+    }
+    Ok(elements)
+}
+
+/// The picture of a tape, as far as a cut shows it. Each node is up from the beginning, and a flush goes from its take to its mark.
+/// Whether nodes can do these events, an audit says.
+///
+/// # Errors
+/// `OutOfMemory`.
+pub fn tape_picture(alloc: Global, tape: &Tape, cut: &Cut) -> Result<Vec<u8>, Refusal>
+    ensures ok { IfOk result (λ text. IsTapePicture cut.now tape.now text.items) }
+    ensures err { IfErr result (λ e. e ≡ Refusal.OutOfMemory) }
+{
+    let lines = (tape.events().len() as u64).saturating_add(1);
+    let mut drawing = written(Drawing::of_tape(alloc, tape.nodes(), cut, has_many(lines, cut)))?;
+    let mut wire = Vec::new(alloc);
+    let elements = draw_tape_events(alloc, tape, cut, &mut drawing, &mut wire)?;
+    let mut picture = written(drawing.front())?;
+    push_bytes(&mut picture, elements.as_slice())?;
+    let back = written(drawing.back(wire.as_slice()))?;
+    push_bytes(&mut picture, back.as_slice())?;
+    Ok(picture)
+}

@@ -1,0 +1,185 @@
+//! A talk beside the threads of the nodes.
+
+ghost use Rattle.std.specs.Prelude.{◌≡◌};
+ghost use Rattle.std.specs.Thread.{IsSend, IsSync};
+ghost use Rattle.rr_talk.specs.Talks.{Talks};
+
+use crate::post::{Post, Teller};
+use rr_disk::{FileDisk, OpenedFile};
+use rr_locked::Open;
+use rr_shell::Trouble;
+use rr_stream::Sink;
+use rr_talk::{Asked, Prompting, Stop, talk};
+use rr_threads::run_switched;
+use rr_types::{Nodes, Refusal};
+use std::fs::OpenFile;
+use std::io::{Read, Seek, Write};
+use std::os::unix::fs::FileExt;
+use std::sync::Wait;
+use std::thread;
+use std::thread::{Scope, Threads};
+use std::time::Clock;
+
+// Work that is done during a run. After a thread's scope, a reference is known only by what comes back from the scope,
+// by this trait.
+trait Work {
+    type Output;
+
+    ghost can_run: { Self → Type 0 };
+
+    ghost gives: { Self → Self.Output → Type 0 };
+
+    fn run(self) -> Self::Output
+        requires { can_run self }
+        ensures { gives self result };
+}
+
+// A closure that is lent.
+#[derive(Drop)]
+struct Lent<'a, F> {
+    work: &'a mut F,
+}
+
+impl<'a, F: FnMut() -> A, A> Work for Lent<'a, F> {
+    type Output = (&'a mut F, A);
+
+    ghost can_run = { λ l. F.pre l.work.now };
+
+    ghost gives = { λ l r. (r.0.ghost_name ≡ l.work.ghost_name) × F.step l.work.now r.1 r.0.now };
+
+    fn run(self) -> (&'a mut F, A) {
+        let Lent { work } = self;
+        let given = work();
+        (work, given)
+    }
+}
+
+// Runs the nodes until nothing is asked any more, or the run fails.
+fn run_nodes<
+    F: Read + Write + Seek + FileExt + OpenFile + Drop + Send,
+    R: AllocGlobal + Threads + Wait + Clock + Sync,
+>(
+    rt: &R,
+    nodes: Nodes,
+    disks: Vec<FileDisk<OpenedFile<F>>>,
+    clients: Vec<Vec<Teller<'_>>>,
+    post: &Post,
+) {
+    let switches = &post.switches;
+    match run_switched(rt, rt.alloc(), nodes, disks, clients, &Open, switches) {
+        Ok(()) => post.end(rt, None),
+        Err(refusal) => post.end(rt, Some(refusal)),
+    }
+}
+
+// Starts the nodes' thread. Where none can be made, the run has ended.
+fn start_nodes<
+    's,
+    E,
+    F: Read + Write + Seek + FileExt + OpenFile + Drop + Send + 's,
+    R: AllocGlobal + Threads + Wait + Clock + Sync + 's,
+>(
+    scope: &Scope<'s, E>,
+    rt: &'s R,
+    nodes: Nodes,
+    disks: Vec<FileDisk<OpenedFile<F>>>,
+    clients: Vec<Vec<Teller<'s>>>,
+    post: &'s Post,
+) {
+    let started = scope.spawn(move || run_nodes(rt, nodes, disks, clients, post));
+    if started.is_err() {
+        post.end(rt, Some(Refusal::OutOfMemory));
+    }
+}
+
+// Does some work while the nodes run. Then they come to their end.
+fn run_beside<
+    F: Read + Write + Seek + FileExt + OpenFile + Drop + Send,
+    R: AllocGlobal + Threads + Wait + Clock + Sync,
+    T: Work<Output = A> + Drop,
+    A,
+>(
+    rt: &R,
+    nodes: Nodes,
+    disks: Vec<FileDisk<OpenedFile<F>>>,
+    clients: Vec<Vec<Teller<'_>>>,
+    post: &Post,
+    work: T,
+) -> A
+    requires { T.can_run work }
+    ensures { T.gives work result }
+{
+    thread::scope(
+        thread::scope_env(),
+        rt,
+        move |scope|
+            requires { IsSend F.row × IsSync R.row × T.can_run work }
+            ensures { T.gives work result }
+        {
+            start_nodes(scope, rt, nodes, disks, clients, post);
+            let given = work.run();
+            post.close();
+            given
+        },
+    )
+}
+
+// Takes back what was lent. This use ties a reference that comes back to the one that was lent.
+fn take_back<T>(lent: &mut T)
+    ensures { lent.new ≡ lent.old }
+{}
+
+// Calls a closure while the nodes run.
+fn call_beside<
+    F: Read + Write + Seek + FileExt + OpenFile + Drop + Send,
+    R: AllocGlobal + Threads + Wait + Clock + Sync,
+    C: FnMut() -> A,
+    A,
+>(
+    rt: &R,
+    nodes: Nodes,
+    disks: Vec<FileDisk<OpenedFile<F>>>,
+    clients: Vec<Vec<Teller<'_>>>,
+    post: &Post,
+    work: &mut C,
+) -> A
+    requires { C.pre work.old }
+    ensures { C.step work.old result work.new }
+{
+    let (work, given) = run_beside(rt, nodes, disks, clients, post, Lent { work });
+    take_back(work);
+    given
+}
+
+/// Talks while the nodes run.
+pub(crate) fn talk_beside<
+    F: Read + Write + Seek + FileExt + OpenFile + Drop + Send,
+    R: AllocGlobal + Threads + Wait + Clock + Sync,
+    I: Prompting,
+    O: Sink + Send,
+    A: Asked + Send + Drop,
+>(
+    rt: &R,
+    nodes: Nodes,
+    disks: Vec<FileDisk<OpenedFile<F>>>,
+    clients: Vec<Vec<Teller<'_>>>,
+    post: &Post,
+    json: bool,
+    strict: bool,
+    asked: A,
+    input: &mut I,
+    out: &mut O,
+) -> Result<Option<Trouble>, Stop>
+    ensures { Talks json strict nodes (I.reading input.old) (I.reading input.new) (O.printing out.old) (O.printing out.new) result }
+{
+    let alloc = rt.alloc();
+    let mut asked = asked;
+    call_beside(
+        rt,
+        nodes,
+        disks,
+        clients,
+        post,
+        &mut || talk(alloc, nodes, json, strict, &mut asked, rt, input, out),
+    )
+}
