@@ -25,7 +25,7 @@ def tasks(options):
 
 def work(rig, options, seed):
     tally, rng, names = Tally(), random.Random(seed), shell_kills.Names()
-    folder = rig.path("snapshots")
+    folder = rig.path("snapped")
     shutil.rmtree(folder, ignore_errors=True)
     for part in range(ROUNDS):
         what = f"seed {seed}, kill {part + 1}"
