@@ -22,7 +22,7 @@ def tasks(options):
 
 def work(rig, options, seed):
     tally, rng = Tally(), random.Random(seed)
-    shell = Shell(rig.rr, NODES, rig.path("claims"))
+    shell = Shell(rig.rr, NODES, rig.path("claimed"))
     try:
         for node in range(NODES):
             times = claim_all(tally, shell, rng, node)

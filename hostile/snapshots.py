@@ -5,7 +5,6 @@ behind the kill it has, by docs/FORMATS.md, the same next fact number, decisions
 active is filled with zeros, or its file is removed. The shell is started again, and each answer that was read holds: at once at
 the node that gave it, and at every node behind a later command.
 """
-import os
 import random
 import shutil
 
@@ -25,7 +24,7 @@ def tasks(options):
 
 def work(rig, options, seed):
     tally, rng, names = Tally(), random.Random(seed), shell_kills.Names()
-    folder = rig.path("snapshots")
+    folder = rig.path("snapped")
     shutil.rmtree(folder, ignore_errors=True)
     for part in range(ROUNDS):
         what = f"seed {seed}, kill {part + 1}"
@@ -83,10 +82,7 @@ def lose(tally, what, folder, rng):
     tally.check(head.decided == left.decided, f"{what}: a snapshot has {len(head.decided)} decisions of {len(left.decided)}")
     tally.check(head.open == left.open, f"{what}: a snapshot has {head.open}, and the facts before it say {left.open}")
     tally.counts["open instances in snapshots"] += len(left.open)
-    if rng.random() < 0.5:
-        os.remove(f"{folder}/a{1 - active}")
-        tally.counts["areas removed"] += 1
-        return
+    # (a folder without one of its files isn't opened: the part `cluster` removes them)
     with open(f"{folder}/a{1 - active}", "r+b") as file:
         file.write(bytes(len(areas[1 - active])))
     tally.counts["areas filled with zeros"] += 1
