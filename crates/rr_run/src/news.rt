@@ -44,7 +44,8 @@ pub(crate) struct NewEar {
 
 // Whether two prefixes are one.
 fn is_same_prefix(one: &Option<Name>, other: &Option<Name>) -> bool
-    ensures { result ≡ true → one.now ≡ other.now }
+    ensures same { result ≡ true → one.now ≡ other.now }
+    ensures other { one.now ≡ other.now → result ≡ true }
 {
     match (one, other) {
         (None, None) => true,

@@ -95,8 +95,9 @@ asks_node Again = true
 asks_node _ = false
 
 -- what is said to a line that asks for something at node p of n nodes, the node that is asked then, why that isn't what it
--- asks for, if it isn't, and what is watched until the next line: what comes of a submit, a look or a sync at node p, or that this node is down; the names that it lists; the node that
--- it moves to, stops or starts; that a node has written a snapshot, or hasn't; what each node tells; or the commands
+-- asks for, if it isn't, and what is watched until the next line. Said is what comes of a submit, a look or a sync at node p, or
+-- that this node is down; the names that it lists; the node that it moves to, stops or starts; that a node has written a snapshot,
+-- or hasn't; what each node tells; or the commands
 pub data Grants (json : Bool) (n p : ℕ) : ShellLine → ℕ → List ℕ → Option Trouble → Option Watched → Type 0 where
   submitted : (op : Op) (o : Outcome) → is_outcome_at p o ≡ true → Grants json n p (Submit op) p (outcome_said json o) (outcome_trouble o) None
   again : (o : Outcome) → is_outcome_at p o ≡ true → Grants json n p Again p (outcome_said json o) (outcome_trouble o) None
