@@ -1,3 +1,4 @@
 pub mod AgreeLemmas
 pub mod Replies
 pub mod SyncLemmas
+pub mod Rounds

@@ -1,13 +1,17 @@
 //! A flusher.
 
+ghost use Rattle.rr_turn.specs.Asked.{Call};
+
 use crate::desk::Desk;
 use crate::rest::Rest;
+use crate::running::Running;
 use crate::shared::Shared;
 use crate::snapshotting::write_next;
 use rr_disk::Disk;
 use rr_inbox::{Giver, Taker, TrySendError};
 use rr_journal::{Journal, Synced};
-use rr_locked::{Turnstile, Unflushed, carry};
+use rr_locked::{Turnstile, Unflushed};
+use rr_turn::{FlusherEnds, flush_group};
 use rr_types::{Group, NodeId};
 use rr_window::WindowName;
 use std::alloc::Global;
@@ -34,21 +38,29 @@ fn give_back<B: Drop, R: Wait>(rt: &R, backs: &mut Giver<B>, back: B) {
     }
 }
 
-/// A group that comes is flushed, and goes back. Answers whether one came.
-fn flush_next<D: Disk, T: Turnstile, R: Wait>(
-    rt: &R,
-    alloc: Global,
-    turnstile: &T,
+/// The ends of a flusher, which it owns, and the bell that it rings. No contract knows what these hold: each call is one line, to be read.
+#[derive(Drop)]
+struct Belt<'x, R> {
+    rt: &'x R,
+    running: &'x Running,
     node: NodeId,
-    flusher: &mut Flusher<D>,
-) -> bool {
-    match flusher.groups.take(rt) {
-        None => false,
-        Some(group) => {
-            let back = carry(turnstile, node, alloc, &mut flusher.journal, group);
-            give_back(rt, &mut flusher.backs, back);
-            true
-        }
+    groups: Taker<Group>,
+    backs: Giver<Result<Synced, Unflushed>>,
+}
+
+impl<'x, R: Wait> FlusherEnds for Belt<'x, R> {
+    ghost gives = { λ _ _ _. Unit {0} };
+
+    fn receive(&mut self) -> Option<Group> {
+        self.groups.take(self.rt)
+    }
+
+    fn hand_back(&mut self, back: Result<Synced, Unflushed>) {
+        give_back(self.rt, &mut self.backs, back);
+    }
+
+    fn wake_loop(&mut self) {
+        self.running.ring(self.node);
     }
 }
 
@@ -60,18 +72,29 @@ pub fn flush_all<W: WindowName, D: Disk + Drop, T: Turnstile, R: Wait>(
     desk: &Desk<W>,
     flusher: Flusher<D>,
 ) -> D {
-    let mut flusher = flusher;
+    let Flusher {
+        mut journal,
+        groups,
+        backs,
+    } = flusher;
+    let (turnstile, node) = (shared.turnstile, desk.node);
+    let mut belt = Belt {
+        rt,
+        running: &shared.running,
+        node,
+        groups,
+        backs,
+    };
     let mut rest = Rest::rung();
     for _ in rt.forever() {
-        if flush_next(rt, alloc, shared.turnstile, desk.node, &mut flusher) {
+        if flush_group(alloc, turnstile, node, &mut journal, &mut belt) {
             rest.end();
-            shared.running.ring(desk.node);
             continue;
         }
         if desk.is_ending(shared) {
             break;
         }
-        match write_next(rt, alloc, shared.turnstile, desk, &mut flusher.journal) {
+        match write_next(rt, alloc, turnstile, desk, &mut journal) {
             Ok(true) => rest.end(),
             Ok(false) => {
                 rest.wait(rt, &desk.flusher);
@@ -79,10 +102,5 @@ pub fn flush_all<W: WindowName, D: Disk + Drop, T: Turnstile, R: Wait>(
             Err(refusal) => shared.running.fail(rt, desk.node, refusal),
         }
     }
-    let Flusher {
-        journal,
-        groups: _,
-        backs: _,
-    } = flusher;
     journal.into_disk()
 }

@@ -1,73 +1,39 @@
-//! What a node hears.
+//! What a node hears that was kept while it was down.
 
 use crate::wires::{Mail, Wires};
 use rr_inbox::ROOM;
-use rr_locked::{Chase, Kept, Locked, Sent};
-use rr_turn::{Notes, hear_all, meet};
+use rr_locked::{Chase, Kept, Locked, Sent, Turnstile};
+use rr_turn::meet;
 use rr_types::Refusal;
 use rr_window::WindowName;
 use std::mem;
 use std::sync::{Mutex, Wait};
 
 /// A message that may be there comes.
-fn meet_kept<N: Notes>(
+fn meet_kept<W: WindowName, T: Turnstile, R: Wait>(
     locked: &mut Locked,
-    notes: &mut N,
     chase: &mut Chase,
+    wires: &mut Wires<'_, W, T, R>,
     kept: Option<Sent>,
 ) -> Result<(), Refusal> {
     match kept {
         None => Ok(()),
-        Some(sent) => meet(locked, notes, chase, &sent),
+        Some(sent) => meet(locked, chase, wires, &sent),
     }
 }
 
 /// At the start of a node what was kept while it was down comes first.
-pub fn hear_kept<N: Notes, R: Wait>(
+pub fn hear_kept<W: WindowName, T: Turnstile, R: Wait>(
     rt: &R,
     node: &Mutex<Locked>,
-    notes: &mut N,
     chase: &mut Chase,
-    mail: &mut Mail,
+    wires: &mut Wires<'_, W, T, R>,
 ) -> Result<(), Refusal> {
-    let kept = mem::replace(&mut mail.kept, Kept::new());
+    let kept = mem::replace(&mut wires.ends.mail.kept, Kept::new());
     let mut locked = node.lock(rt);
-    meet_kept(&mut locked, notes, chase, kept.request())?;
-    meet_kept(&mut locked, notes, chase, kept.opening())?;
-    meet_kept(&mut locked, notes, chase, kept.decision())
-}
-
-/// The messages of the inbox come, of more than `most` the first. Answers whether there was one.
-pub fn hear_next<W: WindowName, N: Notes, R: Wait>(
-    rt: &R,
-    node: &Mutex<Locked>,
-    notes: &mut N,
-    chase: &mut Chase,
-    wires: &mut Wires<'_, W, R>,
-    most: usize,
-) -> Result<bool, Refusal> {
-    // Mostly nothing waits.
-    if wires.is_idle() {
-        return Ok(false);
-    }
-    hear_all(&mut node.lock(rt), notes, chase, wires, most)
-}
-
-/// Where a tick is due the node hears its key again, or what was held back: an answer may be lost. Answers whether it does
-/// without the tick, since it is catching up. Nobody waits then for a node that can't follow yet, as others would for a
-/// coordinator of which a tick says that it is up.
-pub fn hear_again<N: Notes, R: Wait>(
-    rt: &R,
-    node: &Mutex<Locked>,
-    notes: &mut N,
-    chase: &mut Chase,
-) -> Result<bool, Refusal> {
-    let mut locked = node.lock(rt);
-    let decided = locked.core().decided_count() as u64;
-    if let Some(sent) = chase.again(decided) {
-        notes.hear(&mut locked, &sent)?;
-    }
-    Ok(chase.is_gaining(decided))
+    meet_kept(&mut locked, chase, wires, kept.request())?;
+    meet_kept(&mut locked, chase, wires, kept.opening())?;
+    meet_kept(&mut locked, chase, wires, kept.decision())
 }
 
 /// A node that is down loses what comes to it, but for what is kept.

@@ -72,7 +72,6 @@ mod running;
 mod script_run;
 mod shared;
 mod snapshotting;
-mod submitting;
 mod switches;
 mod wires;
 

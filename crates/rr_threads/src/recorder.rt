@@ -1,11 +1,18 @@
 //! The tape of a run, under a lock of its own.
 
+ghost use Rattle.std.specs.Prelude.{◌≡◌, [], Some, None, IfOk, IfErr, IfNone, IfSome, IsSome, OnOk};
+ghost use Rattle.rr_types.specs.Registry.{reply_of};
+ghost use Rattle.rr_types.specs.declared.input.Input.TheVariants as told;
+ghost use Rattle.rr_types.specs.declared.refusal.Refusal.TheVariants.{RoundsOut};
+ghost use Rattle.rr_model.specs.NodeState.{decided_prefix};
+ghost use Rattle.rr_model.specs.NodeStep.{node_step, refusal_of, next_leaving, message_left, group_taken, running_group, marked_running, next_acknowledged, acknowledged};
+ghost use Rattle.rr_locked.specs.Recorded.{IsNoMessage};
+
 use rr_journal::Synced;
 use rr_locked::{
     Locked, Recording, Sent, ack_on, hear_on, input_on, mark_on, send, send_on, take_on,
 };
 use rr_tape::Tape;
-use rr_turn::Notes;
 use rr_types::{Group, Input, Nodes, Refusal, Reply, RequestNo};
 use std::alloc::Global;
 use std::sync::{Mutex, Wait};
@@ -36,8 +43,9 @@ impl Recorder {
     }
 }
 
-/// Has a node make its events, and records each in the same section where there is a recorder.
-#[derive(Clone, Copy)]
+/// Has a node make its events, and records each in the same section where there is a recorder. Each call is that of the node, recorded or
+/// not. An error is that of the node, or that the event has no place on the tape; then it may have been made.
+#[derive(Drop)]
 pub struct Scribe<'x, R> {
     rt: &'x R,
     recorder: Option<&'x Recorder>,
@@ -47,24 +55,40 @@ impl<'x, R> Scribe<'x, R> {
     pub fn new(rt: &'x R, recorder: Option<&'x Recorder>) -> Scribe<'x, R> {
         Scribe { rt, recorder }
     }
+
+    /// Whether a tape may lack an event that is refused so: it may have been made, and have no place.
+    pub fn lacks(&self, refusal: &Refusal) -> bool {
+        self.recorder.is_some() && matches!(refusal, Refusal::OutOfMemory | Refusal::BadEvent(_))
+    }
 }
 
-impl<'x, R: Wait> Notes for Scribe<'x, R> {
-    fn tell(&mut self, locked: &mut Locked, input: &Input) -> Result<(), Refusal> {
+impl<'x, R: Wait> Scribe<'x, R> {
+    /// The node is told this, which is no message.
+    pub fn tell(&self, locked: &mut Locked, input: &Input) -> Result<(), Refusal>
+        requires { IsNoMessage input.now }
+        ensures step { OnOk result ((locked.new ≡ node_step input.now locked.old) × (refusal_of input.now locked.old ≡ None)) }
+        ensures rounds { IfErr result (λ e. e ≡ RoundsOut → (locked.new ≡ locked.old) × (refusal_of input.now locked.old ≡ Some RoundsOut)) }
+    {
         match self.recorder {
             None => locked.step(input),
             Some(recorder) => input_on(locked, &mut recorder.recording().lock(self.rt), input),
         }
     }
 
-    fn hear(&mut self, locked: &mut Locked, sent: &Sent) -> Result<(), Refusal> {
+    /// The node hears a message.
+    pub fn hear(&self, locked: &mut Locked, sent: &Sent) -> Result<(), Refusal>
+        ensures { OnOk result (locked.new ≡ node_step (told.Hear sent.now.message) locked.old) }
+    {
         match self.recorder {
             None => locked.step(&sent.input()),
             Some(recorder) => hear_on(locked, &mut recorder.recording().lock(self.rt), sent),
         }
     }
 
-    fn mark(&mut self, locked: &mut Locked, synced: Synced) -> Result<(), Refusal> {
+    /// The node's running group, synced, is marked.
+    pub fn mark(&self, locked: &mut Locked, synced: Synced) -> Result<(), Refusal>
+        ensures { OnOk result ((locked.new ≡ marked_running locked.old) × (running_group locked.old ≡ Some synced.group)) }
+    {
         match self.recorder {
             None => match locked.mark(synced) {
                 Ok(()) => Ok(()),
@@ -74,21 +98,33 @@ impl<'x, R: Wait> Notes for Scribe<'x, R> {
         }
     }
 
-    fn take(&mut self, locked: &mut Locked) -> Result<Option<Group>, Refusal> {
+    /// The node's oldest staged facts are its running group from now on. It is `Busy` while a group runs.
+    pub fn group(&self, locked: &mut Locked) -> Result<Option<Group>, Refusal>
+        ensures none { IfOk result (λ g. g ≡ None → (locked.new ≡ locked.old) × (locked.old.staged ≡ [])) }
+        ensures some { IfOk result (λ g. IsSome g → (locked.new ≡ group_taken locked.old) × (g ≡ running_group locked.new)) }
+    {
         match self.recorder {
             None => locked.take_group(),
             Some(recorder) => take_on(locked, &mut recorder.recording().lock(self.rt)),
         }
     }
 
-    fn send(&mut self, locked: &mut Locked) -> Result<Option<Sent>, Refusal> {
+    /// The oldest message that may leave does.
+    pub fn send(&self, locked: &mut Locked) -> Result<Option<Sent>, Refusal>
+        ensures none { IfOk result (λ s. IfNone s ((next_leaving locked.old ≡ None) × (locked.new ≡ locked.old))) }
+        ensures some { IfOk result (λ s. IfSome s (λ sent. (next_leaving locked.old ≡ Some sent.message) × (locked.new ≡ message_left locked.old))) }
+    {
         match self.recorder {
             None => Ok(send(locked)),
             Some(recorder) => send_on(locked, &mut recorder.recording().lock(self.rt)),
         }
     }
 
-    fn acknowledge(&mut self, locked: &mut Locked) -> Result<Option<(RequestNo, Reply)>, Refusal> {
+    /// The oldest waiting request that the decided prefix has stops waiting.
+    pub fn acknowledge(&self, locked: &mut Locked) -> Result<Option<(RequestNo, Reply)>, Refusal>
+        ensures none { IfOk result (λ a. IfNone a ((next_acknowledged locked.old ≡ None) × (locked.new ≡ locked.old))) }
+        ensures some { IfOk result (λ a. IfSome a (λ a. (next_acknowledged locked.old ≡ Some a.0) × (reply_of (decided_prefix locked.old) a.0 ≡ Some a.1) × (locked.new ≡ acknowledged locked.old))) }
+    {
         match self.recorder {
             None => Ok(locked.acknowledge()),
             Some(recorder) => ack_on(locked, &mut recorder.recording().lock(self.rt)),

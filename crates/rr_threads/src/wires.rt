@@ -1,17 +1,18 @@
-//! What the thread of a node calls in a turn, over the real inboxes, hand-overs and bells. No contract knows what these hold:
-//! each call is one line, to be read. Of a message that finds no room a contract says what becomes of it.
+//! What the thread of a node calls in a turn, over the real inboxes, hand-overs, bells and clients. No contract knows what these hold:
+//! each call is a few lines, to be read. Of an event of the node, and of a message that finds no room, a contract says what becomes of it.
 
 ghost use Rattle.std.specs.Prelude.{◌≡◌, None};
 ghost use Rattle.rr_turn.specs.Asked.{Call};
 ghost use Rattle.rr_threads.specs.Ways.{IsPut, IsPutIfAny, IsPutLate};
 
 use crate::desk::Desk;
+use crate::recorder::Scribe;
 use crate::running::Running;
 use rr_inbox::{Giver, Outlet, Port, Taker, TrySendError};
 use rr_journal::Synced;
-use rr_locked::{Kept, Sent, Unflushed};
+use rr_locked::{Kept, Locked, Place, Sent, Turnstile, Unflushed};
 use rr_turn::Links;
-use rr_types::{Group, NodeId};
+use rr_types::{Command, Group, Input, NodeId, Refusal};
 use rr_window::WindowName;
 use std::mem;
 use std::sync::Wait;
@@ -79,34 +80,39 @@ pub struct NodeEnds {
     pub backs: Taker<Result<Synced, Unflushed>>,
 }
 
-/// The ends of a node's thread, which it owns, and the bells that it rings.
+/// What the thread of a node has of the node, of others and of its clients. It owns its ends.
 #[derive(Drop)]
-pub struct Wires<'x, W: WindowName, R> {
+pub struct Wires<'x, W: WindowName, T, R> {
     pub rt: &'x R,
     pub running: &'x Running,
+    pub turnstile: &'x T,
+    pub scribe: Scribe<'x, R>,
     pub desk: &'x Desk<W>,
     pub ends: NodeEnds,
 }
 
-impl<'x, W: WindowName, R> Wires<'x, W, R> {
-    /// Whether nothing waits in the inbox. To ask is cheaper than to make room for a message.
-    pub fn is_idle(&mut self) -> bool {
-        self.ends.mail.inbox.is_empty()
-    }
-}
-
-impl<'x, W: WindowName, R: Wait> Wires<'x, W, R> {
-    /// Puts what is late into the inboxes. Nobody is rung: their nodes hear it at their next ticks.
-    pub fn put_late(&mut self) {
-        let ways: &mut Vec<Way> = &mut self.ends.mail.ways;
-        for way in ways.iter_mut() {
-            way.put_late(self.rt);
-        }
-    }
-}
-
-impl<'x, W: WindowName, R: Wait> Links for Wires<'x, W, R> {
+impl<'x, W: WindowName, T: Turnstile, R: Wait> Links for Wires<'x, W, T, R> {
     ghost gives = { λ _ _ _. Unit {0} };
+
+    fn tell(&mut self, locked: &mut Locked, input: &Input) -> Result<(), Refusal> {
+        self.scribe.tell(locked, input)
+    }
+
+    fn hear(&mut self, locked: &mut Locked, sent: &Sent) -> Result<(), Refusal> {
+        self.scribe.hear(locked, sent)
+    }
+
+    fn mark(&mut self, locked: &mut Locked, synced: Synced) -> Result<(), Refusal> {
+        self.scribe.mark(locked, synced)
+    }
+
+    fn group(&mut self, locked: &mut Locked) -> Result<Option<Group>, Refusal> {
+        self.scribe.group(locked)
+    }
+
+    fn send(&mut self, locked: &mut Locked) -> Result<Option<Sent>, Refusal> {
+        self.scribe.send(locked)
+    }
 
     fn put(&mut self, to: NodeId, sent: Sent) {
         let ways: &mut Vec<Way> = &mut self.ends.mail.ways;
@@ -115,8 +121,20 @@ impl<'x, W: WindowName, R: Wait> Links for Wires<'x, W, R> {
         }
     }
 
+    // Nobody is rung for it: the nodes hear it at their next ticks.
+    fn put_late(&mut self) {
+        let ways: &mut Vec<Way> = &mut self.ends.mail.ways;
+        for way in ways.iter_mut() {
+            way.put_late(self.rt);
+        }
+    }
+
     fn ring(&mut self, node: NodeId) {
         self.running.ring(node);
+    }
+
+    fn is_idle(&mut self) -> bool {
+        self.ends.mail.inbox.is_empty()
     }
 
     fn take(&mut self) -> Option<Sent> {
@@ -144,5 +162,36 @@ impl<'x, W: WindowName, R: Wait> Links for Wires<'x, W, R> {
 
     fn wake_publisher(&mut self) {
         self.desk.publisher.unpark();
+    }
+
+    fn is_wanted(&mut self) -> bool {
+        self.desk.take_note()
+    }
+
+    fn clients(&mut self) -> usize {
+        self.desk.counters.len()
+    }
+
+    fn take_wanted(&mut self, place: usize) -> Option<Command> {
+        match self.desk.counter(place) {
+            Some(counter) => counter.take_wanted(self.rt),
+            None => None,
+        }
+    }
+
+    // A run ends whose tape may lack the submit.
+    fn refuse(&mut self, place: usize, refusal: Refusal) {
+        if self.scribe.lacks(&refusal) {
+            self.running.fail(self.rt, self.desk.node, refusal);
+        }
+        if let Some(counter) = self.desk.counter(place) {
+            counter.refuse(self.rt, refusal);
+        }
+    }
+
+    fn pass_submits(&mut self, count: usize) {
+        for _ in 0..count {
+            self.turnstile.pass(self.desk.node, Place::AfterSubmit);
+        }
     }
 }

@@ -1,20 +1,22 @@
--- What a node's thread calls in a turn, as a function of the node's state and of what it was answered.
-use Rattle.std.specs.Prelude.{◌≡◌, ℕ, zero, suc, ◌+◌, ◌++◌, ◌∷◌, [], Bool, true, false, ◌==◌, not, if◌then◌else◌, List, length, map, Option, None, Some, Ok, IfSome, nat_lt}
+-- What a node's thread calls in the parts of a turn, as a function of the node's state and of what it was answered.
+use Rattle.std.specs.Prelude.{◌≡◌, ℕ, zero, suc, ◌+◌, ◌++◌, ◌∷◌, [], Bool, true, false, ◌==◌, not, if◌then◌else◌, List, length, Option, None, Some, Result, Ok, Err, is_some, nat_lt}
 use Rattle.std.specs.Option.{option_map_or}
 use Rattle.rr_types.specs.Nodes.{has_member, with_member}
 use Rattle.rr_types.specs.declared.message.Message.{Message}
 use Rattle.rr_types.specs.declared.message.Body.{Body}
 use Rattle.rr_types.specs.declared.message.Body.TheVariants.{Beat, Suspects}
-use Rattle.rr_types.specs.declared.input.Input.TheVariants.{Hear}
+use Rattle.rr_types.specs.declared.input.Input.TheVariants.{Hear, Tick, Advance}
+use Rattle.rr_types.specs.declared.refusal.Refusal.{Refusal}
+use Rattle.rr_types.specs.declared.refusal.Refusal.TheVariants.{RoundsOut}
 use Rattle.rr_types.specs.Groups.{Grouped}
-use Rattle.rr_journal.specs.Flushes.{Kept}
 use Rattle.rr_model.specs.NodeState.{NodeState, decided_prefix}
-use Rattle.rr_model.specs.NodeStep.{node_step, next_leaving, message_left, marked_running, running_group}
+use Rattle.rr_model.specs.NodeStep.{node_step, advance_refusal, next_leaving, message_left}
 use Rattle.rr_locked.specs.Recorded.{Sent}
-use Rattle.rr_locked.specs.Chases.{Chase, heard_of, chase_of, chase_sent}
+use Rattle.rr_locked.specs.Chases.{Chase, heard_of, chase_of, chase_sent, again, chase_again, is_gaining}
+use Rattle.rr_locked.specs.Ticks.{Standstill, is_advance_due, standstill_after}
 use Rattle.rr_locked.specs.declared.chase.Hearing.{Hearing}
 use Rattle.rr_locked.specs.declared.chase.Hearing.TheVariants.{Alone, Nothing, After, Before}
-use Rattle.rr_turn.specs.Asked.{Call, Ran, puts, rings, takes, comes, hands, wakes_flusher, wakes_publisher}
+use Rattle.rr_turn.specs.Asked.{Call, tells, hears, leaves, puts, rings, takes, hands, wakes_flusher}
 
 -- the messages that may leave, oldest first, at most so many
 unfoldable pub leaving : ℕ → NodeState → List Message
@@ -59,17 +61,19 @@ unfoldable pub rings_from : ℕ → ℕ → ℕ → List Call
 rings_from zero p set = []
 rings_from (suc n) p set = if has_member set p then rings p ∷ rings_from n (p + 1) set else rings_from n (p + 1) set
 
--- the messages are put to their receivers, in their order, and then those are rung that they wake
-abbrev pub sending : List Sent → List Call
-sending sents = map put_of sents ++ rings_from 7 0 (woken_with 0 sents)
+-- the state once so many messages have left
+abbrev pub left_after : List Sent → NodeState → NodeState
+left_after [] s = s
+left_after (sent ∷ sents) s = left_after sents (message_left s)
 
--- a message is taken
-abbrev pub take_of : Sent → Call
-take_of sent = takes (Some sent)
+-- each of these leaves the node, and is put to its receiver
+abbrev pub puts_each : List Sent → NodeState → List Call
+puts_each [] s = []
+puts_each (sent ∷ sents) s = leaves s (Some sent) ∷ put_of sent ∷ puts_each sents (message_left s)
 
--- messages are taken, of at most so many; where they are fewer, it is since there was none any more
-abbrev pub taking : ℕ → List Sent → List Call
-taking most sents = map take_of sents ++ (if length sents == most then [] else takes None ∷ [])
+-- of at most so many; where they are fewer, no more may leave
+abbrev pub putting : ℕ → List Sent → NodeState → List Call
+putting most sents s = puts_each sents s ++ (if length sents == most then [] else leaves (left_after sents s) None ∷ [])
 
 -- the state once a message is heard, and what its chase has it hear
 abbrev pub heard_by : Hearing → Message → NodeState → NodeState
@@ -78,12 +82,22 @@ heard_by Nothing m s = s
 heard_by (After held) m s = node_step (Hear m) (node_step (Hear held.message) s)
 heard_by (Before next) m s = node_step (Hear next.message) (node_step (Hear m) s)
 
--- the state once a message has come, and the chase then
+-- the calls by which it hears them
+abbrev pub hearing : Hearing → Sent → NodeState → List Call
+hearing Alone sent s = hears s sent ∷ []
+hearing Nothing sent s = []
+hearing (After held) sent s = hears s held ∷ hears (node_step (Hear held.message) s) sent ∷ []
+hearing (Before next) sent s = hears s sent ∷ hears (node_step (Hear sent.message) s) next ∷ []
+
+-- the state once a message has come, the chase then, and the calls
 abbrev pub met : Sent → NodeState → Chase → NodeState
 met sent s c = heard_by (heard_of (length (decided_prefix s)) sent.message.body c) sent.message s
 
 abbrev pub met_chase : Sent → NodeState → Chase → Chase
 met_chase sent s c = chase_of (length (decided_prefix s)) sent.message.body sent c
+
+abbrev pub meeting : Sent → NodeState → Chase → List Call
+meeting sent s c = hearing (heard_of (length (decided_prefix s)) sent.message.body c) sent s
 
 -- the state once these have come, in this order, and the chase then
 abbrev pub all_met : List Sent → NodeState → Chase → NodeState
@@ -94,20 +108,52 @@ abbrev pub all_met_chase : List Sent → NodeState → Chase → Chase
 all_met_chase [] s c = c
 all_met_chase (sent ∷ sents) s c = all_met_chase sents (met sent s c) (met_chase sent s c)
 
--- a synced group comes back, and the publisher is rung where more is decided by its mark
-abbrev pub marking : Kept → NodeState → List Call
-marking synced s = comes (Some (Ok synced)) ∷ (if nat_lt (length (decided_prefix s)) (length (decided_prefix (marked_running s))) then wakes_publisher ∷ [] else [])
+-- each is taken, and met before the next is taken
+abbrev pub takes_each : List Sent → NodeState → Chase → List Call
+takes_each [] s c = []
+takes_each (sent ∷ sents) s c = takes (Some sent) ∷ (meeting sent s c ++ takes_each sents (met sent s c) (met_chase sent s c))
 
--- what came back is asked for; it was the group that ran, and is marked
-abbrev pub Marked : {L : Type 0} → (L → Call → L → Type 0) → Option Kept → L → L → Type 0
-Marked gives None from to = Ran gives (comes None ∷ []) from to
-Marked gives (Some synced) from to = (s : NodeState) × (running_group s ≡ Some synced.group) × Ran gives (marking synced s) from to
+-- of at most so many; where they are fewer, there was none any more
+abbrev pub taking : ℕ → List Sent → NodeState → Chase → List Call
+taking most sents s c = takes_each sents s c ++ (if length sents == most then [] else takes None ∷ [])
 
--- a group that is taken is given to the flusher, who is rung
+-- the group that a node gives by its answer, if there is one
+abbrev pub given : Result (Option Grouped) Refusal → Option Grouped
+given (Ok group) = group
+given (Err e) = None
+
+-- a group goes to the flusher, who is rung
 abbrev pub giving : Option Grouped → List Call
 giving None = []
 giving (Some group) = hands group ∷ wakes_flusher ∷ []
 
--- a group that is taken is the one that runs from then on
-abbrev pub Runs : Option Grouped → NodeState → Type 0
-Runs group s = IfSome group (λ g. running_group s ≡ Some g)
+-- the state once the chase has the node hear again what it may, and the calls
+abbrev pub heard_again : NodeState → Chase → NodeState
+heard_again s c = option_map_or (λ sent. node_step (Hear sent.message) s) (again (length (decided_prefix s)) c) s
+
+abbrev pub hearing_again : NodeState → Chase → List Call
+hearing_again s c = option_map_or (λ sent. hears s sent ∷ []) (again (length (decided_prefix s)) c) []
+
+-- whether a node that is due to tick doesn't, since it catches up
+abbrev pub is_catching_up : NodeState → Chase → Bool
+is_catching_up s c = is_gaining (length (decided_prefix s)) (chase_again (length (decided_prefix s)) c)
+
+-- the next round of the lowest open instance is entered, unless that is in the last
+abbrev pub advancing : NodeState → List Call
+advancing s = tells s Advance (if is_some (advance_refusal s) then Err RoundsOut else Ok tt) ∷ []
+
+-- a tick, and an advance behind the tenth tick in a row that has found no more decided
+abbrev pub beating : NodeState → Standstill → List Call
+beating s k = tells s Tick (Ok tt) ∷ (let t = node_step Tick s in if is_advance_due (length (decided_prefix t)) k then advancing t else [])
+
+-- a tick is due: the node hears again what the chase has, and ticks, unless it is catching up
+abbrev pub ticking : NodeState → Chase → Standstill → List Call
+ticking s c k = hearing_again s c ++ (if is_catching_up s c then [] else beating (heard_again s c) k)
+
+-- the chase then
+abbrev pub ticked_chase : NodeState → Chase → Chase
+ticked_chase s c = record (chase_again (length (decided_prefix s)) c) { seen = length (decided_prefix s) }
+
+-- the standstill then
+abbrev pub ticked_standstill : NodeState → Chase → Standstill → Standstill
+ticked_standstill s c k = if is_catching_up s c then k else standstill_after (length (decided_prefix (node_step Tick (heard_again s c)))) k

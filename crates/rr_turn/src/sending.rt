@@ -1,13 +1,12 @@
 //! What may leave is sent.
 
-ghost use Rattle.std.specs.Prelude.{◌≡◌, List, length, map, nat_lt, IfOk};
+ghost use Rattle.std.specs.Prelude.{◌≡◌, IfOk};
 ghost use Rattle.rr_model.specs.NodeState.{NodeState};
-ghost use Rattle.rr_locked.specs.Recorded.{Sent};
 ghost use Rattle.rr_turn.specs.Asked.{Ran};
-ghost use Rattle.rr_turn.specs.Turns.{wakes, leaving, left, noted, noted_one, put_of, woken_with, woken_by, rings_from, sending};
+ghost use Rattle.rr_turn.specs.Looks.{Puts, Sends};
+ghost use Rattle.rr_turn.specs.Turns.{wakes, noted_one, put_of, woken_by, rings_from};
 
 use crate::links::Links;
-use crate::notes::Notes;
 use rr_locked::{Chase, Locked, Sent};
 use rr_types::{Body, Command, Estimate, Message, NodeId, NodeSet, Op, Refusal, made_of};
 use std::sync::{Mutex, Wait};
@@ -47,22 +46,18 @@ fn put<L: Links>(chase: &mut Chase, links: &mut L, woken: NodeSet, sent: Sent) -
 }
 
 /// The messages that may leave go into the inboxes of their receivers, of more than `most` the oldest.
-pub fn put_all<N: Notes, L: Links>(
+fn put_all<L: Links>(
     locked: &mut Locked,
-    notes: &mut N,
     chase: &mut Chase,
     links: &mut L,
     most: usize,
 ) -> Result<Receivers, Refusal>
-    ensures calls { IfOk result (λ to. (sents : List Sent) × (map (λ s. s.message) sents ≡ leaving most locked.old)
-        × Ran L.gives (map put_of sents) links.old links.new × (to.woken ≡ woken_with 0 sents)
-        × (to.has_any ≡ nat_lt 0 (length sents)) × (chase.new ≡ noted sents chase.old)) }
-    ensures state { IfOk result (λ _. locked.new ≡ left most locked.old) }
+    ensures { IfOk result (λ to. Puts L.gives locked.old locked.new most to.has_any to.woken chase.old links.old chase.new links.new) }
 {
     let mut has_any = false;
     let mut woken = NodeSet::empty();
     for turn in 0..most {
-        match notes.send(locked)? {
+        match links.send(locked)? {
             None => break,
             Some(sent) => {
                 woken = put(chase, links, woken, sent);
@@ -71,6 +66,20 @@ pub fn put_all<N: Notes, L: Links>(
         }
     }
     Ok(Receivers { has_any, woken })
+}
+
+/// As `put_all`, in one section of the node's lock.
+pub fn put_in<L: Links, R: Wait>(
+    rt: &R,
+    node: &Mutex<Locked>,
+    chase: &mut Chase,
+    links: &mut L,
+    most: usize,
+) -> Result<Receivers, Refusal>
+    ensures { IfOk result (λ to. (s t : NodeState) × Puts L.gives s t most to.has_any to.woken chase.old links.old chase.new links.new) }
+{
+    let mut locked = node.lock(rt);
+    put_all(&mut *locked, chase, links, most)
 }
 
 /// Rings for these nodes.
@@ -86,37 +95,18 @@ pub fn ring_each<L: Links>(links: &mut L, nodes: NodeSet)
     }
 }
 
-/// As `put_all`, in one section of the node's lock.
-fn put_in<N: Notes, L: Links, R: Wait>(
-    rt: &R,
-    node: &Mutex<Locked>,
-    notes: &mut N,
-    chase: &mut Chase,
-    links: &mut L,
-    most: usize,
-) -> Result<Receivers, Refusal>
-    ensures { IfOk result (λ to. (s : NodeState) × (sents : List Sent) × (map (λ s. s.message) sents ≡ leaving most s)
-        × Ran L.gives (map put_of sents) links.old links.new × (to.woken ≡ woken_with 0 sents)
-        × (to.has_any ≡ nat_lt 0 (length sents)) × (chase.new ≡ noted sents chase.old)) }
-{
-    let mut locked = node.lock(rt);
-    put_all(&mut *locked, notes, chase, links, most)
-}
-
 /// The messages that may leave are sent, of more than `most` the oldest. Those that they wake are rung once all are there,
 /// so that each wakes once. Answers whether there was one.
-pub fn send_all<N: Notes, L: Links, R: Wait>(
+pub fn send_all<L: Links, R: Wait>(
     rt: &R,
     node: &Mutex<Locked>,
-    notes: &mut N,
     chase: &mut Chase,
     links: &mut L,
     most: usize,
 ) -> Result<bool, Refusal>
-    ensures { IfOk result (λ has. (s : NodeState) × (sents : List Sent) × (map (λ s. s.message) sents ≡ leaving most s)
-        × Ran L.gives (sending sents) links.old links.new × (has ≡ nat_lt 0 (length sents)) × (chase.new ≡ noted sents chase.old)) }
+    ensures { IfOk result (λ has. Sends L.gives most has chase.old links.old chase.new links.new) }
 {
-    let receivers = put_in(rt, node, notes, chase, links, most)?;
+    let receivers = put_in(rt, node, chase, links, most)?;
     ring_each(links, receivers.woken);
     Ok(receivers.has_any)
 }

@@ -4,13 +4,14 @@ use Rattle.rr_turn.proofs.Hears.{hear_more, hear_none, hear_full}
 use Rattle.rr_turn.proofs.hearing.hear_all.Goals as goal
 
 pub loop-turn-init : goal.loop-turn-init
-loop-turn-init g c = (omega arith, ([], refl, refl, still c.args.links.now, refl, refl))
+loop-turn-init g c =
+    (omega arith, record { sents = []; count = refl; answer = refl; calls = still c.args.links.now; state = refl; chase = refl })
 
 pub loop-turn-preserved : goal.loop-turn-preserved
 loop-turn-preserved g c = (
   omega arith,
   hear_more g.L.Links.gives c.loop-turn.turn c.loop-turn.has_heard c.args.locked.now c.loop-turn.locked c.args.chase.now c.loop-turn.chase c.args.links.now c.loop-turn.links c.in-Some.sent c.meet.new.locked c.meet.new.chase c.take.new.self
-      c.loop-turn.invariant.1 c.in-Some.ensures c.in_ok-meet-in-Some.ensures.state c.meet.ensures.chase,
+      c.meet.new.links c.loop-turn.invariant.1 c.in-Some.ensures c.in_ok-meet-in-Some.ensures.calls c.in_ok-meet-in-Some.ensures.state c.meet.ensures.chase,
 )
 
 pub returns-in-None : goal.returns-in-None

@@ -1,16 +1,29 @@
 use Rattle.std.proofs.Common.{◌≡◌, ◌-◌, ◌+◌, [], suc, Some, None, refl, sym, subst, ap, ◌∙◌, arith}
 use Rattle.std.specs.Prelude.{IfSome, IfNone}
 use Rattle.rr_model.specs.NodeStep.{next_leaving, message_left}
-use Rattle.rr_turn.specs.Asked.{still}
+use Rattle.rr_turn.specs.Asked.{leaves, still}
 use Rattle.rr_turn.specs.Turns.{leaving, left}
+use Rattle.rr_turn.specs.Looks.{Puts}
 use Rattle.rr_turn.proofs.Sends.{HasPut, put_more, put_none, put_full}
 use Rattle.rr_turn.proofs.sending.put_all.Goals as goal
 use Rattle.rr_turn.proofs.sending.put_all.Goals.{else-loop-turn-test, then-loop-turn-test+in_ok-send+in-None}
 
 pub loop-turn-init : goal.loop-turn-init
 loop-turn-init g c =
-    let all : c.args.most - 0 ≡ c.args.most = omega arith in
-    (omega arith, ([], ap (λ n. leaving n c.args.locked.now) all, ap (λ n. left n c.args.locked.now) all, still c.args.links.now, cc, refl, refl))
+    let all : c.args.most - 0 ≡ c.args.most = omega arith in (
+      omega arith,
+      record {
+        sents = [];
+        count = omega arith;
+        oldest = ap (λ n. leaving n c.args.locked.now) all;
+        rest = ap (λ n. left n c.args.locked.now) all;
+        here = refl;
+        calls = still c.args.links.now;
+        woken = cc;
+        answer = refl;
+        chase = refl;
+      },
+    )
 
 pub loop-turn-preserved : goal.loop-turn-preserved
 loop-turn-preserved g c =
@@ -22,38 +35,32 @@ loop-turn-preserved g c =
     let before = c.args.chase.now in
     let room : most - l.turn ≡ suc (most - (l.turn + 1)) = omega (arith, c.loop-turn-test.true) in
     let has = subst (λ n. HasPut gives n most old l.locked c.args.links.now l.links l.woken l.has_any before l.chase) room l.invariant.1 in
+    let went = subst (λ o. gives l.links (leaves l.locked o) c.send.new.self) c.in-Some.is c.in_ok-send.ensures.call in
     let one = subst (λ o. IfSome o (λ sent. (next_leaving l.locked ≡ Some sent.message) × (new ≡ message_left l.locked))) c.in-Some.is c.in_ok-send.ensures.some in (
       omega arith,
-      put_more gives (most - (l.turn + 1)) most old l.locked c.args.links.now l.links l.woken l.has_any before l.chase c.in-Some.sent new c.put-woken.new.links has one.0 one.1 c.put-woken.ensures.calls
-          c.put-woken.ensures.woken c.put-woken.ensures.chase,
+      put_more gives (most - (l.turn + 1)) most old l.locked c.args.links.now l.links l.woken l.has_any before l.chase c.in-Some.sent new c.send.new.self c.put-woken.new.links has one.0 one.1 went
+          c.put-woken.ensures.calls c.put-woken.ensures.woken c.put-woken.ensures.chase,
     )
 
-pub returns-clause-calls : goal.returns-clause-calls
-returns-clause-calls g c =
+pub returns : goal.returns
+returns g c =
     let gives = g.L.Links.gives in
     let most = c.args.most in
+    let old = c.args.locked.now in
+    let from = c.args.links.now in
+    let before = c.args.chase.now in
     let l = c.loop-turn in
-    elim c.loop-turn-test.branch [
+    let at = c.loop-turn-test in
+    elim at.branch [
       | else-loop-turn-test w ↦ (
           let none : most - l.turn ≡ 0 = omega (arith, w.loop-turn-test.false) in
-          (put_full gives most c.args.locked.now l.locked c.args.links.now l.links l.woken l.has_any c.args.chase.now l.chase
-          (subst (λ n. HasPut gives n most c.args.locked.now l.locked c.args.links.now l.links l.woken l.has_any c.args.chase.now l.chase) none l.invariant.1)).1)
+          subst (λ t. Puts gives old t most l.has_any l.woken before from l.chase at.links) (sym w.locked-is)
+          (subst (λ end. Puts gives old l.locked most l.has_any l.woken before from l.chase end) (sym w.links-is)
+          (put_full gives most old l.locked from l.links l.woken l.has_any before l.chase (subst (λ n. HasPut gives n most old l.locked from l.links l.woken l.has_any before l.chase) none l.invariant.1))))
       | then-loop-turn-test+in_ok-send+in-None w ↦ (
           let none = subst (λ o. IfNone o ((next_leaving l.locked ≡ None) × (w.send.new.locked ≡ l.locked))) w.in-None.is w.in_ok-send.ensures.none in
-          (put_none gives (most - l.turn) most c.args.locked.now l.locked c.args.links.now l.links l.woken l.has_any c.args.chase.now l.chase l.invariant.1 none.0).1)
-    ]
-
-pub returns-clause-state : goal.returns-clause-state
-returns-clause-state g c =
-    let gives = g.L.Links.gives in
-    let most = c.args.most in
-    let l = c.loop-turn in
-    elim c.loop-turn-test.branch [
-      | else-loop-turn-test w ↦ (
-          let none : most - l.turn ≡ 0 = omega (arith, w.loop-turn-test.false) in
-          w.locked-is ∙ (put_full gives most c.args.locked.now l.locked c.args.links.now l.links l.woken l.has_any c.args.chase.now l.chase
-          (subst (λ n. HasPut gives n most c.args.locked.now l.locked c.args.links.now l.links l.woken l.has_any c.args.chase.now l.chase) none l.invariant.1)).0)
-      | then-loop-turn-test+in_ok-send+in-None w ↦ (
-          let none = subst (λ o. IfNone o ((next_leaving l.locked ≡ None) × (w.send.new.locked ≡ l.locked))) w.in-None.is w.in_ok-send.ensures.none in
-          w.locked-is ∙ none.1 ∙ (put_none gives (most - l.turn) most c.args.locked.now l.locked c.args.links.now l.links l.woken l.has_any c.args.chase.now l.chase l.invariant.1 none.0).0)
+          let went = subst (λ o. gives l.links (leaves l.locked o) w.send.new.self) w.in-None.is w.in_ok-send.ensures.call in
+          subst (λ end. Puts gives old at.locked most l.has_any l.woken before from l.chase end) (sym w.links-is)
+          (put_none gives (most - l.turn) most old l.locked at.locked from l.links l.woken l.has_any before l.chase w.send.new.self l.invariant.1
+          (omega (arith, w.loop-turn-test.true)) none.0 (w.locked-is ∙ none.1) went))
     ]
