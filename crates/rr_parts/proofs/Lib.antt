@@ -8,3 +8,4 @@ pub mod VoteLemmas
 pub mod OutboxLemmas
 pub mod SameLemmas
 pub mod TailLemmas
+pub mod RowLemmas
