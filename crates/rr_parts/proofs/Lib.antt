@@ -8,4 +8,3 @@ pub mod VoteLemmas
 pub mod OutboxLemmas
 pub mod SameLemmas
 pub mod TailLemmas
-pub mod RowLemmas
