@@ -1,6 +1,6 @@
 //! An opening, call by call.
 
-use crate::seat::Seat;
+use super::seat::Seat;
 use rr_core::{Opening, Progress};
 use rr_disk::MemDisk;
 use rr_types::Refusal;

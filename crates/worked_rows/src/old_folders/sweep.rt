@@ -1,10 +1,10 @@
 //! A node that crashes after each device call of its opening, and opens its disk again.
 
-use crate::course::Course;
-use crate::crash::{Crash, Cuts};
-use crate::folder::{folder_of, read_file};
-use crate::known::Known;
-use crate::seat::Seat;
+use super::course::Course;
+use super::crash::{Crash, Cuts};
+use super::folder::{folder_of, read_file};
+use super::known::Known;
+use super::seat::Seat;
 use rand_core::SeedableRng;
 use rand_pcg::Pcg32;
 use rr_disk::MemDisk;

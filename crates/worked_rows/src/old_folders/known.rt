@@ -1,6 +1,6 @@
 //! What a node knows once it has opened its disk.
 
-use crate::seat::Seat;
+use super::seat::Seat;
 use rr_core::{Core, recover};
 use rr_disk::MemDisk;
 use rr_frame::{Snapshot, encode_snapshot};
