@@ -2,11 +2,10 @@
 
 use crate::wires::{Mail, Wires};
 use rr_inbox::ROOM;
-use rr_locked::{Chase, Kept, Locked, Sent};
+use rr_locked::{Chase, Locked, Sent};
 use rr_turn::{Notes, hear_all, meet};
 use rr_types::Refusal;
 use rr_window::WindowName;
-use std::mem;
 use std::sync::{Mutex, Wait};
 
 /// A message that may be there comes.
@@ -22,15 +21,16 @@ fn meet_kept<N: Notes>(
     }
 }
 
-/// At the start of a node what was kept while it was down comes first.
+/// At the start of a node what is kept of what came before comes first. It stays kept: the node may be stopped again before
+/// it has caught up.
 pub fn hear_kept<N: Notes, R: Wait>(
     rt: &R,
     node: &Mutex<Locked>,
     notes: &mut N,
     chase: &mut Chase,
-    mail: &mut Mail,
+    mail: &Mail,
 ) -> Result<(), Refusal> {
-    let kept = mem::replace(&mut mail.kept, Kept::new());
+    let kept = mail.kept;
     let mut locked = node.lock(rt);
     meet_kept(&mut locked, notes, chase, kept.request())?;
     meet_kept(&mut locked, notes, chase, kept.opening())?;
@@ -73,9 +73,8 @@ pub fn hear_again<N: Notes, R: Wait>(
 /// A node that is down loses what comes to it, but for what is kept.
 pub fn keep_all<R: Wait>(rt: &R, mail: &mut Mail) {
     for _ in 0..ROOM {
-        match mail.inbox.take(rt) {
-            None => break,
-            Some(sent) => mail.kept.keep(sent),
+        if mail.take(rt).is_none() {
+            break;
         }
     }
 }
