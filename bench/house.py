@@ -10,6 +10,8 @@ docs/ARCHITECTURE.md, without the names of types. The counts:
 - enums of events in that code: those with Submit and Hear among their variants; and `data` types of events in the definitions:
   those with Submit and Hear among their constructors, and those with a constructor for a value of such a type
 - pairs of places in that code with eight or more alike lines, as the command `duplicates` finds them, if the machine has it
+- files of code, definitions and proofs that name an operation or its reply (`Transfer`, `Transferred`), or an input (`Advance`): about
+  as many as one more of its kind has to touch
 - libraries `rr_*`, and how many crates the longest chain of crates.txt has, each above the next
 - lines of over 160 characters in definitions (`specs/*.antt`) and files of lemmas without a first line that says what they show;
   imports don't count, nor what is written of a single function's proof"""
@@ -85,6 +87,13 @@ def alike(tree):
     return f"{found[0] if found else 0}{whole}"
 
 
+def naming(tree, *words):
+    """How many files of the product's code, definitions and proofs name one of these."""
+    found = re.compile(rf"\b(?:{'|'.join(words)})\b")
+    written = [path for folder in ("specs", "proofs") for path in tree.glob(f"crates/rr*/{folder}/**/*.antt")]
+    return sum(bool(found.search(path.read_text())) for path in [*sources(tree), *written])
+
+
 def too_long(tree):
     """How many lines of definitions are longer than 160 characters."""
     lines = (line for path in definitions(tree) for line in path.read_text().splitlines())
@@ -106,6 +115,8 @@ def counts(tree):
         ("enums of events in the code", events),
         ("types of them in definitions", types),
         ("pairs of places with eight or more alike lines", alike(tree)),
+        ("files that name the operation `Transfer` or its reply", naming(tree, "Transfer", "Transferred")),
+        ("files that name the input `Advance`", naming(tree, "Advance")),
         ("libraries `rr_*`", sum((tree / f"crates/{crate}/src/lib.rt").is_file() for crate in uses if crate.startswith("rr_"))),
         ("longest chain of crates", longest_chain(uses)),
         ("lines of definitions over 160 characters", too_long(tree)),
@@ -133,7 +144,7 @@ def main():
         if asked.markdown:
             print(f"| {what} |" + "".join(f" {number} |" for number in numbers))
         else:
-            print(f"{what.replace('`', ''):48}", *(f"{number:<12}" for number in numbers))
+            print(f"{what.replace('`', ''):56}", *(f"{number:<12}" for number in numbers))
 
 
 main()

@@ -3,7 +3,8 @@
 
     docs/links.py
 
-Links to other machines aren't followed."""
+Links to other machines aren't followed. It also checks that each file of the table "Where to change what" is there, and that
+PROVED.md has a line for each file of a library's definitions, and for no other."""
 import pathlib
 import re
 import sys
@@ -36,10 +37,37 @@ def dead_links(page):
             yield f"{page.relative_to(TREE)}: no heading {link}"
 
 
+def part_of(page, heading):
+    """What stands below a heading of a page, up to the next of its level."""
+    return page.read_text().split(f"\n## {heading}\n")[1].split("\n## ")[0]
+
+
+def files_to_change():
+    """The files that the table names: definitions in its second column, code in its third. Words in parentheses are none."""
+    for row in re.findall(r"^\| (.*) \|$", part_of(TREE / "docs/ARCHITECTURE.md", "Where to change what"), re.M)[1:]:
+        crate = ""
+        for cell, folder, ending in zip(row.split(" | ")[1:], ("specs", "src"), (".antt", ".rt")):
+            for named, file in re.findall(r"\b(rr_\w+)\b|`(\w+)`", re.sub(r"\(.*?\)", "", cell)):
+                crate = named or crate
+                yield f"crates/{crate}/{folder}" + (f"/{file}{ending}" if file else "")
+
+
+def misnamed_definitions():
+    """What PROVED.md says wrongly of the files of definitions."""
+    for part in re.split(r"^### ", (TREE / "docs/PROVED.md").read_text(), flags=re.M)[1:]:
+        crate, _, lines = part.partition("\n")
+        said = {name for line in re.findall(r"^- (`[^:]*):", lines.split("\n## ")[0], re.M) for name in re.findall(r"`(\w+)`", line)}
+        there = {page.stem for page in TREE.glob(f"crates/{crate}/specs/*.antt")} - {"Lib"}
+        yield from (f"docs/PROVED.md: no line for {name} of {crate}" for name in sorted(there - said))
+        yield from (f"docs/PROVED.md: no file {name} of {crate}" for name in sorted(said - there))
+
+
 def main():
     pages = sorted(page for places in PAGES for page in TREE.glob(places))
     dead = [line for page in pages for line in dead_links(page)]
-    print("\n".join([*dead, f"{len(pages)} pages, {len(dead)} links without an end"]))
+    dead += [f"docs/ARCHITECTURE.md: no {path}" for path in files_to_change() if not (TREE / path).exists()]
+    dead += misnamed_definitions()
+    print("\n".join([*dead, f"{len(pages)} pages, {len(dead)} links or names without an end"]))
     sys.exit(bool(dead))
 
 

@@ -32,7 +32,7 @@ TOUR = [
     (
         "A registry to talk to",
         "`rr shell` answers line by line, to a person or through a pipe. What it answered holds after a restart, and request numbers continue. "
-        "A look answers from what its node has seen, which may be less than another node has acknowledged; behind a `sync` it has all of that. "
+        "A look answers from what its node has seen, which may be less than another node has acknowledged. After a `sync` it has all of that. "
         "A node that is stopped goes down as by a crash, and opens its folder when it is started. Without a majority nothing is decided: the "
         "command `claim bell` may count later, or not. A `watch` tells each change of the names that begin so, as its node publishes it: "
         "here the command counts once a majority is back.",

@@ -7,11 +7,11 @@ use Rattle.std.proofs.lemmas.Bool.{eqb-true, lt-leb}
 use Rattle.std.proofs.lemmas.List.{at_drop_more}
 use Rattle.rr_types.specs.Nodes.{has_member, joined}
 use Rattle.rr_types.specs.Rounds.{OpenAt, coordinator_of, majority_of}
-use Rattle.rr_types.specs.declared.promise.Standing.TheVariants.{Open}
+use Rattle.rr_types.specs.declared.promise.Standing.TheVariants.{Decided, Open}
 use Rattle.rr_parts.proofs.TallyLemmas.{empty_has, empty_lacks, joined_empty}
 use Rattle.rr_types.specs.declared.command.Command.{Command}
 use Rattle.rr_types.specs.Commands.{is_same_command}
-use Rattle.rr_types.specs.Standings.{estimate_of}
+use Rattle.rr_types.specs.Standings.{estimate_of, is_undecided}
 use Rattle.rr_types.specs.declared.promise.Standing.{Standing}
 use Rattle.rr_model.specs.NodeState.{NodeState, Tally, Row, row_of, standing_at, open_instances}
 use Rattle.rr_model.specs.NodeParts.{is_estimate_beside, free_command}
@@ -21,6 +21,14 @@ use Rattle.rr_step.specs.Places.{first_free}
 use Rattle.rr_step.specs.Steps as steps
 use Rattle.rr_step.proofs.SpentLemmas.{find_same}
 use Rattle.rr_behaviour.proofs.RoundLemmas.{first_free_is}
+
+-- nothing is due for a row that has decided, and what is due for an open one is due for its row
+pub decided_waits : (s : NodeState) (i : ℕ) (t : Tally) (d : Standing) → not (is_undecided (Some d)) ≡ true → None ≡ due_of_row s i t d
+decided_waits s i t (Decided v) h = refl
+decided_waits s i t (Open o) h = cc
+
+pub open_due : (s : NodeState) (i : ℕ) (t u : Tally) (d : Standing) (o : OpenAt) (x : Option Due) → d ≡ Open o → t ≡ u → x ≡ due_of_row s i u (Open o) → x ≡ due_of_row s i t d
+open_due s i t u d o x e f h = h ∙ ap (λ y. due_of_row s i y (Open o)) (sym f) ∙ ap (λ y. due_of_row s i t y) (sym e)
 
 -- nothing is due for an instance: the next ones are looked at
 pub first_due_more : (s : NodeState) (is : List ℕ) (k i : ℕ) → k < length is → i ≡ get_or is k i → due_at s i ≡ None → first_due s (drop k is) ≡ first_due s (drop (k + 1) is)

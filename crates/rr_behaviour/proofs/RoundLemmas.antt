@@ -10,7 +10,7 @@ use Rattle.rr_types.specs.Rounds.{OpenAt, coordinator_of}
 use Rattle.rr_model.specs.NodeState.{NodeState, Row, everyone, next_number, standing_at, open_instances}
 use Rattle.rr_model.specs.NodeParts.{owe, stage, leave_round, enter, enter_with, propose, restate, backing_at, free_command}
 use Rattle.rr_step.specs.Steps.{Stepped, stepped}
-use Rattle.rr_step.specs.Places.{first_free, is_estimate_beside, is_estimate_of}
+use Rattle.rr_step.specs.Places.{HasNoRound, first_free, is_estimate_beside, is_estimate_of}
 use Rattle.rr_behaviour.specs.Rounds.{owe_coordinator}
 
 pub first_free_is : (s : NodeState) (i : ℕ) → first_free s.rows (open_instances s) i s.pool ≡ free_command s i
@@ -19,6 +19,13 @@ first_free_is s i = refl
 
 pub first_free_from : (s : NodeState) (i : ℕ) (rows : List Row) (instances : List ℕ) (pool : List Command) (x : Option Command) → rows ≡ s.rows → instances ≡ open_instances s → pool ≡ s.pool → x ≡ first_free rows instances i pool → x ≡ free_command s i
 first_free_from s i rows instances pool x e f g h = let k = first_free_is s i in cc
+
+-- an instance without a round leaves none
+no_nack : (i : ℕ) (s : NodeState) → HasNoRound (standing_at s i) → leave_round i s ≡ s
+no_nack i s h = let r = h.round in let p = h.stamp in rw (r, p) refl
+
+pub not_left : (i : ℕ) (s : Stepped) → HasNoRound (standing_at s.state i) → s ≡ stepped (leave_round i) s
+not_left i s h = ap (λ (t : NodeState). record { base = s.base; state = t }) (sym (no_nack i s.state h))
 
 pub propose_from : (i r : ℕ) (v : Command) (s t u : Stepped) (k : ℕ) → k ≡ next_number s.state → t ≡ stepped (stage (Propose i r v)) s → u ≡ stepped (λ w. owe (say.Proposal i r v) (Some k) (everyone w) w) t → u ≡ stepped (propose i r v) s
 unfolding propose stage

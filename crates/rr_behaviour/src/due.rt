@@ -1,6 +1,7 @@
 //! What a node does of its own accord, one thing after another until nothing is due.
 
 ghost use Rattle.std.specs.Prelude.{◌≡◌, ◌<◌, false, length, IsTrue, IfSome, OnOk, option_map, Some};
+ghost use Rattle.rr_types.specs.declared.promise.Standing.TheVariants as stands;
 ghost use Rattle.rr_types.specs.Standings.{round_of};
 ghost use Rattle.rr_model.specs.NodeState.{open_instances};
 ghost use Rattle.rr_model.specs.NodeDue.{due_of_coordinator, due_of_participant, due_of_row, first_due, due, carry_out, settle};
@@ -10,11 +11,9 @@ ghost use Rattle.rr_behaviour.specs.Dues.{meaning_of, MovesBelowLast, CanBeCarri
 use crate::decisions::conclude;
 use crate::entering::{begin, enter};
 use crate::proposing::propose;
-use rr_parts::Tally;
+use rr_parts::{Row, Tally};
 use rr_step::Step;
-use rr_types::{
-    Command, Instance, Op, OpenStanding, Refusal, Round, Standing, coordinator, made_of,
-};
+use rr_types::{Command, Instance, Op, OpenStanding, Refusal, Round, coordinator, made_of};
 use std::alloc::AllocError;
 
 /// The most turns until nothing is due.
@@ -92,29 +91,30 @@ fn has_answers(tally: &Tally) -> bool
 }
 
 #[tactic(auto, using(crate::proofs::DueLemmas::not_due))]
-fn due_of_row(
-    step: &Step<'_>,
-    instance: Instance,
-    tally: &Tally,
-    standing: &Standing,
-) -> Option<Due>
-    ensures value { option_map meaning_of result ≡ due_of_row step.now.state instance tally.now standing.now }
-    ensures moves { IfSome result (MovesBelowLast (round_of (Some standing.now))) }
+fn due_of_open(step: &Step<'_>, instance: Instance, tally: &Tally, at: &OpenStanding) -> Option<Due>
+    ensures value { option_map meaning_of result ≡ due_of_row step.now.state instance tally.now (stands.Open at.now) }
+    ensures moves { IfSome result (MovesBelowLast at.now.round) }
 {
-    match standing {
-        Standing::Decided(_) => None,
-        Standing::Open(at) => {
-            // Most rows wait: nobody has answered, and nobody is suspected.
-            if step.suspects().bits() == 0 && !has_answers(tally) {
-                return None;
-            }
-            let round = at.round();
-            if coordinator(round, step.nodes()).index() == step.node().index() {
-                due_of_coordinator(step, instance, tally, at)
-            } else {
-                due_of_participant(step, instance, round)
-            }
-        }
+    // Most rows wait: nobody has answered, and nobody is suspected.
+    if step.suspects().bits() == 0 && !has_answers(tally) {
+        return None;
+    }
+    let round = at.round();
+    if coordinator(round, step.nodes()).index() == step.node().index() {
+        due_of_coordinator(step, instance, tally, at)
+    } else {
+        due_of_participant(step, instance, round)
+    }
+}
+
+#[tactic(auto, using(crate::proofs::DueLemmas::decided_waits))]
+fn due_of_row(step: &Step<'_>, instance: Instance, row: &Row) -> Option<Due>
+    ensures value { option_map meaning_of result ≡ due_of_row step.now.state instance row.now.tally row.now.standing }
+    ensures moves { IfSome result (MovesBelowLast (round_of (Some row.now.standing))) }
+{
+    match row.open() {
+        None => None,
+        Some((at, tally)) => due_of_open(step, instance, tally, at),
     }
 }
 
@@ -131,7 +131,7 @@ fn first_due(step: &Step<'_>, instances: &[Instance]) -> (Option<Due>, bool)
     for instance in instances {
         match step.row(*instance) {
             Some(row) => {
-                if let Some(due) = due_of_row(step, *instance, &row.tally, &row.standing) {
+                if let Some(due) = due_of_row(step, *instance, row) {
                     return (Some(due), is_pool_spent);
                 }
             }

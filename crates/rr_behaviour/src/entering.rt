@@ -7,7 +7,7 @@ ghost use Rattle.rr_model.specs.NodeParts.{free_command, enter, leave_round, ent
 ghost use Rattle.rr_step.specs.Steps.{stepped};
 
 use rr_step::Step;
-use rr_types::{Body, Command, Estimate, Fact, Instance, Round, Standing, coordinator};
+use rr_types::{Body, Command, Estimate, Fact, Instance, Round, coordinator};
 use std::alloc::AllocError;
 
 /// The first pool command that is no estimate of an open instance but this one.
@@ -29,12 +29,10 @@ fn entering_estimate(
     requires { round_of (standing_at step.now.state instance) < round }
     ensures { result ≡ entering_estimate instance round heard step.now.state }
 {
-    if let Some(row) = step.row(instance) {
-        if let Standing::Open(at) = &row.standing {
-            // Estimate and stamp outlive the round. They carry what a majority may have adopted into the rounds that
-            // follow (Chandra and Toueg 1996).
-            return Some(Estimate::at(round, at.stamp(), at.estimate()));
-        }
+    if let Some(at) = step.open(instance) {
+        // Estimate and stamp outlive the round. They carry what a majority may have adopted into the rounds that
+        // follow (Chandra and Toueg 1996).
+        return Some(Estimate::at(round, at.stamp(), at.estimate()));
     }
     match free_command(step, instance) {
         Some(command) => Some(Estimate::at(round, 0, command)),
@@ -46,26 +44,24 @@ fn entering_estimate(
 }
 
 /// Owes the coordinator of the present round a refusal, where the node leaves that round without adoption.
+#[tactic(auto, using(crate::proofs::RoundLemmas::not_left))]
 fn leave_round(step: &mut Step<'_>, instance: Instance) -> Result<(), AllocError>
     ensures ok { OnOk result (step.new ≡ stepped (leave_round instance) step.old) }
 {
-    match step.row(instance) {
+    match step.open(instance) {
         None => Ok(()),
-        Some(row) => match &row.standing {
-            Standing::Decided(_) => Ok(()),
-            Standing::Open(at) => {
-                let round = at.round();
-                let to = coordinator(round, step.nodes());
-                // A node that has adopted owes its Ack, and sends no Nack after it. The other order may happen, unlike
-                // in Chandra and Toueg (1996): a Nack waits for no fact, and a crash may lose the entering of the next
-                // round.
-                if at.stamp() < round.number() && to != step.node() {
-                    step.owe(Body::Nack(instance, round), None, to)
-                } else {
-                    Ok(())
-                }
+        Some(at) => {
+            let round = at.round();
+            let to = coordinator(round, step.nodes());
+            // A node that has adopted owes its Ack, and sends no Nack after it. The other order may happen, unlike
+            // in Chandra and Toueg (1996): a Nack waits for no fact, and a crash may lose the entering of the next
+            // round.
+            if at.stamp() < round.number() && to != step.node() {
+                step.owe(Body::Nack(instance, round), None, to)
+            } else {
+                Ok(())
             }
-        },
+        }
     }
 }
 

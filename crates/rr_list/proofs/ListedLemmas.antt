@@ -10,9 +10,10 @@ use Rattle.rr_model.specs.NodeState.{Row, row_of}
 use Rattle.rr_list.specs.declared.marks.Marks.{Marks}
 use Rattle.rr_list.specs.Listed.{Listed, put_rows, KeepsDecisions, HaveRows}
 use Rattle.rr_list.specs.Rowed.{AscendFrom, AreInstances}
-use Rattle.rr_list.specs.Marked.{has_mark_place, marked_in, AreMarks, IsCounted, HaveMarkPlaces}
+use Rattle.rr_list.specs.Marked.{has_mark_place, marked_in, tree_in, AreMarks, HaveMoved, IsCounted, HaveMarkPlaces}
 use Rattle.rr_list.specs.Opened.{open_in, ArePlaced, IsListed}
 use Rattle.rr_list.proofs.NotedLemmas.{row_stays}
+use Rattle.rr_list.proofs.PrefixLemmas.{marked_same, have_moved}
 
 by_bool : {Z : Type 0} (b : Bool) → (b ≡ true → Z) → (b ≡ false → Z) → Z
 by_bool true f g = f refl
@@ -42,42 +43,33 @@ placed_all changes marks made = placed_over [] changes marks marks (λ i f. refl
 pub nothing_kept : (rows : List Row) → KeepsDecisions [] rows
 nothing_kept rows i v d = absurd (none-some v d)
 
--- the table with more places for its marks
-pub listed_made : (rows : List Row) (window : List ℕ) (before after : Marks) → IsListed rows window before → (AreMarks before → AreMarks after) → marked_in after ≡ marked_in before → after.prefix ≡ before.prefix → ((i : ℕ) → IsTrue (has_mark_place before i) → IsTrue (has_mark_place after i)) → IsListed rows window after
-listed_made rows window before after h marks same prefix stay = record {
-  shown = h.shown;
-  ascend = h.ascend;
-  instances = h.instances;
-  in_order = marks h.in_order;
-  counted = (let c = h.counted.count in let s = h.counted.small in record { count = prefix ∙ c ∙ ap (λ es. length (decided_from 0 es)) (sym same); small = omega (arith, prefix) });
-  placed = λ i f. h.placed i (by_bool (has_mark_place before i) (λ p. let x = stay i p in absurd (let y : true ≡ false = sym x ∙ f in cc)) (λ p. p));
-}
-
 -- the table after rows were put
-pub listed_absorbed : (rows after : List Row) (changes : List Row) (window shown : List ℕ) (before marks : Marks) → IsListed rows window before → after ≡ put_rows rows changes → AscendFrom 0 after → AreInstances after → shown ≡ open_in after → (AreMarks before → AreMarks marks) → marked_in marks ≡ marked_in before → marks.prefix ≡ before.prefix → ((i : ℕ) → IsTrue (has_mark_place before i) → IsTrue (has_mark_place marks i)) → All (λ r. IsTrue (has_mark_place marks r.instance)) changes → IsListed after shown marks
-listed_absorbed rows after changes window shown before marks h put ascend instances opened order same prefix stay made =
-    let m = listed_made rows window before marks h order same prefix stay in
+pub listed_absorbed : (rows after : List Row) (changes : List Row) (window shown : List ℕ) (before marks : Marks) → IsListed rows window before → after ≡ put_rows rows changes → KeepsDecisions rows after → AscendFrom 0 after → AreInstances after → shown ≡ open_in after → (AreMarks before → AreMarks marks) → tree_in marks ≡ tree_in before → marks.moved ≡ before.moved → marks.prefix ≡ before.prefix → ((i : ℕ) → IsTrue (has_mark_place before i) → IsTrue (has_mark_place marks i)) → All (λ r. IsTrue (has_mark_place marks r.instance)) changes → IsListed after shown marks
+listed_absorbed rows after changes window shown before marks h put keeps ascend instances opened order tree moved prefix stay made =
+    let same : marked_in after marks ≡ marked_in rows before = marked_same rows after before marks h.moved keeps moved tree in
     record {
       shown = opened;
       ascend = ascend;
       instances = instances;
-      in_order = m.in_order;
-      counted = m.counted;
+      in_order = order h.in_order;
+      moved = have_moved rows after before marks h.moved keeps moved;
+      counted = (let c = h.counted.count in let s = h.counted.small in record { count = prefix ∙ c ∙ ap (λ es. length (decided_from 0 es)) (sym same); small = omega (arith, prefix) });
       placed = λ i f. ap (λ rs. row_of rs i) put ∙ placed_over rows changes before marks h.placed stay made i f;
     }
 
 -- the table after facts were marked
-pub listed_marked : (rows : List Row) (window : List ℕ) (before after : Marks) → IsListed rows window before → AreMarks after → IsCounted after → ((i : ℕ) → has_mark_place after i ≡ has_mark_place before i) → IsListed rows window after
-listed_marked rows window before after h marks counted places = record {
+pub listed_marked : (rows : List Row) (window : List ℕ) (before after : Marks) → IsListed rows window before → AreMarks after → HaveMoved rows after → IsCounted rows after → ((i : ℕ) → has_mark_place after i ≡ has_mark_place before i) → IsListed rows window after
+listed_marked rows window before after h marks moved counted places = record {
   shown = h.shown;
   ascend = h.ascend;
   instances = h.instances;
   in_order = marks;
+  moved = moved;
   counted = counted;
   placed = λ i f. h.placed i (sym (places i) ∙ f);
 }
 
-pub places_for : (rows : List Row) (marks : Marks) (facts : List Fact) → ArePlaced rows marks → HaveRows (take_on_all (marked_in marks) facts) rows → HaveMarkPlaces marks facts
+pub places_for : (rows : List Row) (marks : Marks) (facts : List Fact) → ArePlaced rows marks → HaveRows (take_on_all (marked_in rows marks) facts) rows → HaveMarkPlaces marks (take_on_all (marked_in rows marks) facts)
 places_for rows marks facts h k i f = k i (h i f)
 
 abbrev pub listed : List Row → List Entry → Listed

@@ -2,7 +2,7 @@ use Rattle.std.specs.Prelude.{◌≡◌, ℕ, false, List, None}
 use Rattle.rr_types.specs.Limits.{open_count}
 use Rattle.rr_model.specs.NodeState.{Row, row_of, lowest_undecided}
 use Rattle.rr_list.specs.Rowed.{AscendFrom, AreInstances}
-use Rattle.rr_list.specs.Marked.{has_mark_place, AreMarks, IsCounted}
+use Rattle.rr_list.specs.Marked.{has_mark_place, AreMarks, HaveMoved, IsCounted}
 use Rattle.rr_list.specs.declared.marks.Marks.{Marks}
 
 -- the open instances: the eight lowest undecided ones
@@ -19,5 +19,6 @@ pub record IsListed (rows : List Row) (window : List ℕ) (marks : Marks) : Type
   pub ascend : AscendFrom 0 rows
   pub instances : AreInstances rows
   pub in_order : AreMarks marks
-  pub counted : IsCounted marks
+  pub moved : HaveMoved rows marks
+  pub counted : IsCounted rows marks
   pub placed : ArePlaced rows marks

@@ -35,7 +35,7 @@ impl Model for Instances {
 
     ghost Value = { Listed };
 
-    ghost view = { λ t. record { rows = t.rows; marked = marked_in t.marks } };
+    ghost view = { λ t. record { rows = t.rows; marked = marked_in t.rows t.marks } };
 
     ghost invariant = { λ t. IsListed t.rows t.window t.marks };
 }
@@ -46,11 +46,11 @@ impl Instances {
         requires { IsAscending promise.now }
         ensures ok { IfOk result (λ t. t ≡ record { rows = map (promised_row next) promise.now; marked = promise.now }) }
     {
-        let mut marks = Marks::new(alloc);
-        marks.restore(promise)?;
         let mut rows = Rows::new(alloc);
         match rows.restore(alloc, promise, next) {
             Ok(()) => {
+                let mut marks = Marks::new(alloc);
+                marks.restore(&rows, promise)?;
                 let window = rows.fill(OpenInstances::new(), 0);
                 Ok(Instances {
                     rows,
@@ -142,14 +142,14 @@ impl Instances {
     pub fn prefix_len(&self) -> usize
         ensures { result ≡ length (decided_from 0 self.now.marked) }
     {
-        self.marks.prefix_len()
+        self.marks.prefix_len(&self.rows)
     }
 
     /// The command at a place of the decided prefix.
     pub fn command_at(&self, place: usize) -> Option<Command>
         ensures { result ≡ slice_get (decided_from 0 self.now.marked) place }
     {
-        self.marks.command_at(place)
+        self.marks.command_at(&self.rows, place)
     }
 
     /// The commands that come behind the decided prefix once these facts are marked. No decision may change.
@@ -157,7 +157,7 @@ impl Instances {
         requires { KeepsPromised self.now.marked (take_on_all self.now.marked facts.now) }
         ensures ok { IfOk result (λ more. decided_from 0 (take_on_all self.now.marked facts.now) ≡ decided_from 0 self.now.marked ++ more.items) }
     {
-        self.marks.commands_after(alloc, facts)
+        self.marks.commands_after(alloc, &self.rows, facts)
     }
 
     /// Marks these facts, each of whose instances has a row. No decision may change. It needs no memory.
@@ -167,7 +167,7 @@ impl Instances {
         requires rows { HaveRows (take_on_all self.old.marked facts.now) self.old.rows }
         ensures { self.new ≡ record self.old { marked = take_on_all self.old.marked facts.now } }
     {
-        self.marks.mark(facts);
+        self.marks.mark(&self.rows, facts);
     }
 
     /// The promise of the marked facts.
@@ -175,6 +175,6 @@ impl Instances {
         ensures ok { IfOk result (λ entries. entries.items ≡ self.now.marked) }
         ensures ascending { IfOk result (λ entries. IsAscending entries.items) }
     {
-        self.marks.promise(alloc)
+        self.marks.promise(alloc, &self.rows)
     }
 }

@@ -11,7 +11,7 @@ ghost use Rattle.rr_list.specs.Opened.{open_in};
 
 use crate::open_instances::OpenInstances;
 use crate::rows::Rows;
-use rr_types::{INSTANCES, Instance, OPEN_INSTANCES, Standing};
+use rr_types::{INSTANCES, Instance, OPEN_INSTANCES};
 
 impl Rows {
     /// Whether the instance with this number has decided.
@@ -21,7 +21,7 @@ impl Rows {
         ensures ascend { AscendFrom 0 self.now }
     {
         match self.row(number) {
-            Some(row) => matches!(&row.standing, Standing::Decided(_)),
+            Some(row) => row.is_decided(),
             None => false,
         }
     }

@@ -15,7 +15,7 @@ ghost use Rattle.rr_list.specs.Rowed.{EachKeeps, rows_in, AreKeyed, AscendFrom, 
 
 use rr_parts::Row;
 use rr_places::{Numbered, drop_free_place, make_place, put, value_at};
-use rr_types::{Command, Entry, Instance, Op, RequestNo, Standing};
+use rr_types::{Command, Entry, Instance, Op, RequestNo};
 use std::alloc::{AllocError, Global};
 use std::collections::BTreeMap;
 use std::marker::Model;
@@ -64,12 +64,12 @@ fn make_request_place(
     ensures made { OnOk result (IsTrue (has_request_place map.new.entries row.now)) }
     ensures stay { (q : RequestNo) → IsTrue (has_place request_cmp map.old.entries q) → IsTrue (has_place request_cmp map.new.entries q) }
 {
-    match &row.standing {
-        Standing::Decided(command) => {
+    match row.decided_command() {
+        Some(command) => {
             make_place(map, command.request)?;
             Ok(())
         }
-        Standing::Open(_) => Ok(()),
+        None => Ok(()),
     }
 }
 
@@ -152,9 +152,9 @@ fn instances_of(alloc: Global, rows: &[Row]) -> Result<Vec<Instance>, AllocError
 fn decided_request(row: &Row) -> Option<RequestNo>
     ensures { result ≡ option_map (λ v. v.request) (decided_command row.now) }
 {
-    match &row.standing {
-        Standing::Decided(command) => Some(command.request),
-        Standing::Open(_) => None,
+    match row.decided_command() {
+        Some(command) => Some(command.request),
+        None => None,
     }
 }
 
@@ -286,6 +286,16 @@ impl Rows {
         }
     }
 
+    /// The command that the instance with this number has decided, lent.
+    pub(crate) fn decided_command(&self, number: u32) -> Option<&Command>
+        ensures { MatchOption result (decision_at self.now number ≡ None) (λ v. decision_at self.now number ≡ Some v.now) }
+    {
+        match self.row(number) {
+            Some(row) => row.decided_command(),
+            None => None,
+        }
+    }
+
     /// Whether some instance has decided a command with this request number.
     pub(crate) fn has_decided(&self, request: RequestNo) -> bool
         ensures { result ≡ list_any (has_decided request) self.now }
@@ -336,7 +346,8 @@ impl Rows {
         ensures instances { OnOk result (AreInstances self.new) }
     {
         for entry in promise {
-            self.put(Row::promised(alloc, next, entry))?;
+            let row = Row::promised(alloc, next, entry)?;
+            self.put(row)?;
         }
         Ok(())
     }

@@ -1,8 +1,9 @@
 //! How a node that is far behind gets what was decided.
 
 ghost use Rattle.std.specs.Prelude.{◌≡◌, None};
-ghost use Rattle.rr_locked.specs.Chases.{is_far, is_gaining, is_of_key, again, chase_again, heard_of, heard_of_opening, heard_of_decision, chase_of, chase_of_opening, chase_of_decision, chase_sent};
+ghost use Rattle.rr_locked.specs.Chases.{is_far, is_next, is_gaining, released, chase_released, again, chase_again, chase_ticked, with_held, heard_of, heard_of_opening, heard_of_decision, chase_of, chase_of_opening, chase_of_decision, chase_sent};
 
+use crate::placed::{Placed, is_above, is_of};
 use crate::sent::Sent;
 use rr_types::{Body, Command, Estimate, Instance, Message, Op, made_of};
 use std::marker::Model;
@@ -14,22 +15,9 @@ const FAR: u64 = 16;
 /// As many instances are open at once.
 const WINDOW: u64 = 8;
 
-/// An estimate or a proposal, and its instance.
-#[derive(Clone, Copy, Debug)]
-struct Key {
-    instance: u32,
-    sent: Sent,
-}
-
-impl Model for Key {
-    ghost use Rattle.rr_locked.specs.Chases.{Key};
-
-    ghost Value = { Key };
-
-    ghost view = { λ k. record { instance = k.instance; sent = k.sent } };
-
-    ghost inverse = { λ k. record { instance = k.instance; sent = k.sent } };
-}
+/// How many ticks a decision waits for its key. What was late is put at each tick of its sender, and who doesn't tick for so
+/// long is suspected.
+const PATIENCE: u32 = 5;
 
 /// What a node hears where a message comes.
 #[derive(Debug, Drop)]
@@ -48,10 +36,14 @@ pub enum Hearing {
 /// open. A tick asks for one, and ticks are seldom. So a message of an instance far ahead is its key, which it hears
 /// again behind each answer: then it asks for the next. The decision of the key's instance would put an end to that. It
 /// is held back until the node has nearly caught up.
+///
+/// The decision may come first, by another node than the key. So one far ahead and above the key waits for its key, but
+/// not without end: a node that hears nothing else wouldn't know that it is behind.
 #[derive(Debug, Drop)]
 pub struct Chase {
-    key: Option<Key>,
-    held: Option<Sent>,
+    key: Option<Placed>,
+    held: Option<Placed>,
+    left: u32,
     asked: u32,
     answered: u32,
     seen: u64,
@@ -62,17 +54,18 @@ impl Model for Chase {
 
     ghost Value = { Chase };
 
-    ghost view = { λ c. record { key = c.key; held = c.held; asked = c.asked; answered = c.answered; seen = c.seen } };
+    ghost view = { λ c. record { key = c.key; held = c.held; left = c.left; asked = c.asked; answered = c.answered; seen = c.seen } };
 }
 
 impl Chase {
     /// Nothing is heard yet, and nothing is asked for.
     pub fn new() -> Chase
-        ensures { result ≡ record { key = None; held = None; asked = 0; answered = 0; seen = 0 } }
+        ensures { result ≡ record { key = None; held = None; left = 0; asked = 0; answered = 0; seen = 0 } }
     {
         Chase {
             key: None,
             held: None,
+            left: 0,
             asked: 0,
             answered: 0,
             seen: 0,
@@ -88,7 +81,7 @@ impl Chase {
         match &sent.message().body {
             Body::Estimate(instance, _) => self.meet_opening(decided, *instance, sent),
             Body::Proposal(instance, _, _) => self.meet_opening(decided, *instance, sent),
-            Body::Decision(instance, _) => self.meet_decision(*instance, sent),
+            Body::Decision(instance, _) => self.meet_decision(decided, *instance, sent),
             _ => Hearing::Alone,
         }
     }
@@ -99,42 +92,68 @@ impl Chase {
         ensures after { self.new ≡ chase_of_opening decided instance sent.now self.old }
     {
         let instance = instance.number();
-        if !self.is_far(decided, instance) {
+        if !self.is_next(decided, instance) {
             return Hearing::Alone;
         }
-        self.key = Some(Key {
+        self.key = Some(Placed {
             instance,
             sent: *sent,
         });
-        match self.held.take() {
-            None => Hearing::Alone,
-            Some(held) => Hearing::After(held),
+        match self.held {
+            Some(held) if held.instance < instance => {
+                self.held = None;
+                Hearing::After(held.sent)
+            }
+            _ => Hearing::Alone,
         }
     }
 
     // The decision of this instance comes.
-    fn meet_decision(&mut self, instance: Instance, sent: &Sent) -> Hearing
-        ensures heard { result ≡ heard_of_decision instance self.old }
-        ensures after { self.new ≡ chase_of_decision instance sent.now self.old }
+    fn meet_decision(&mut self, decided: u64, instance: Instance, sent: &Sent) -> Hearing
+        ensures heard { result ≡ heard_of_decision decided instance self.old }
+        ensures after { self.new ≡ chase_of_decision decided instance sent.now self.old }
     {
         let instance = instance.number();
-        if self.is_of_key(instance) {
-            self.held = Some(*sent);
+        if is_of(instance, self.key) || self.is_next(decided, instance) {
+            self.hold(instance, sent);
             return Hearing::Nothing;
         }
         if instance != self.asked || instance < self.answered {
             return Hearing::Alone;
         }
         self.answered = instance + 1;
-        match self.again(u64::from(instance)) {
+        match self.next(u64::from(instance)) {
             None => Hearing::Alone,
             Some(next) => Hearing::Before(next),
         }
     }
 
-    /// What the node hears again where so many commands are decided: its key while that lies beyond the open instances,
-    /// and then, once, what was held back. A tick asks for it too, since an answer may be lost.
+    // The decision of this instance is held back, unless a higher one is.
+    fn hold(&mut self, instance: u32, sent: &Sent)
+        ensures { self.new ≡ with_held instance sent.now self.old }
+    {
+        if is_above(instance, self.held) {
+            self.held = Some(Placed {
+                instance,
+                sent: *sent,
+            });
+            self.left = PATIENCE;
+        }
+    }
+
+    /// What the node hears again at a tick where so many commands are decided: its key while that lies beyond the open
+    /// instances, since an answer may be lost. Then, once, what was held back; if it lies far ahead still, at the fifth
+    /// tick since it came.
     pub fn again(&mut self, decided: u64) -> Option<Sent>
+        ensures again { result ≡ again decided (chase_ticked self.old) }
+        ensures after { self.new ≡ chase_again decided (chase_ticked self.old) }
+    {
+        self.left = self.left.saturating_sub(1);
+        self.next(decided)
+    }
+
+    // The same between two ticks.
+    fn next(&mut self, decided: u64) -> Option<Sent>
         ensures again { result ≡ again decided self.old }
         ensures after { self.new ≡ chase_again decided self.old }
     {
@@ -142,9 +161,22 @@ impl Chase {
             Some(key) if u64::from(key.instance) > decided.saturating_add(WINDOW) => Some(key.sent),
             _ => {
                 self.key = None;
-                self.held.take()
+                self.release(decided)
             }
         }
+    }
+
+    // What was held back, unless it waits.
+    fn release(&mut self, decided: u64) -> Option<Sent>
+        ensures released { result ≡ released decided self.old }
+        ensures after { self.new ≡ chase_released decided self.old }
+    {
+        let held = self.held?;
+        if self.left > 0 && self.is_far(decided, held.instance) {
+            return None;
+        }
+        self.held = None;
+        Some(held.sent)
     }
 
     /// A look at how many commands are decided: whether the node chases and has more than at the last look. Then it is
@@ -167,24 +199,17 @@ impl Chase {
         }
     }
 
-    // Whether this instance lies far above what is decided and asked for here, and above the key.
+    // Whether this instance lies far above what is decided and asked for here.
     fn is_far(&self, decided: u64, instance: u32) -> bool
         ensures { result ≡ is_far decided instance self.now }
     {
-        let is_above = match self.key {
-            None => true,
-            Some(key) => key.instance < instance,
-        };
-        decided.max(u64::from(self.asked)).saturating_add(FAR) <= u64::from(instance) && is_above
+        decided.max(u64::from(self.asked)).saturating_add(FAR) <= u64::from(instance)
     }
 
-    // Whether this instance is that of the key.
-    fn is_of_key(&self, instance: u32) -> bool
-        ensures { result ≡ is_of_key instance self.now.key }
+    // Whether this instance lies far ahead, and above the key.
+    fn is_next(&self, decided: u64, instance: u32) -> bool
+        ensures { result ≡ is_next decided instance self.now }
     {
-        match self.key {
-            None => false,
-            Some(key) => instance == key.instance,
-        }
+        self.is_far(decided, instance) && is_above(instance, self.key)
     }
 }

@@ -1,20 +1,22 @@
-//! What a node that is down keeps of what comes to it.
+//! What a node keeps of what comes to it, for its next life.
 
 ghost use Rattle.std.specs.Prelude.{◌≡◌, None};
-ghost use Rattle.rr_locked.specs.Chases.{kept_with};
+ghost use Rattle.rr_locked.specs.Chases.{higher, kept_with, sent_of};
 
+use crate::placed::{Placed, keep_higher};
 use crate::sent::Sent;
-use rr_types::{Body, Command, Estimate, Message, Op, made_of};
+use rr_types::{Body, Command, Estimate, Instance, Message, Op, made_of};
 use std::marker::Model;
 
-/// Of the messages that came to a node while it was down, those that it starts with: the last estimate or proposal, the
-/// last request and the last decision. By them it learns that it is behind, also where nothing is asked any more. All
-/// else that comes to a node that is down is lost.
+/// Of the messages that came to a node, up or down, those that it starts with: the estimate or proposal of the highest
+/// instance, the last request, and the decision of the highest instance. By them it learns that it is behind, also where
+/// nothing is asked any more. All else that comes to a node that is down is lost, and with a life all that it heard and
+/// hasn't flushed.
 #[derive(Clone, Copy, Debug)]
 pub struct Kept {
-    opening: Option<Sent>,
+    opening: Option<Placed>,
     request: Option<Sent>,
-    decision: Option<Sent>,
+    decision: Option<Placed>,
 }
 
 impl Model for Kept {
@@ -45,11 +47,21 @@ impl Kept {
     {
         made_of!(Body, Command, Estimate, Message, Op);
         match &sent.message().body {
-            Body::Estimate(_, _) | Body::Proposal(_, _, _) => self.opening = Some(sent),
+            Body::Estimate(instance, _) => self.keep_opening(*instance, sent),
+            Body::Proposal(instance, _, _) => self.keep_opening(*instance, sent),
             Body::Request(_) => self.request = Some(sent),
-            Body::Decision(_, _) => self.decision = Some(sent),
+            Body::Decision(instance, _) => {
+                keep_higher(&mut self.decision, instance.number(), sent);
+            }
             _ => {}
         }
+    }
+
+    // An estimate or a proposal of this instance has come.
+    fn keep_opening(&mut self, instance: Instance, sent: Sent)
+        ensures { self.new ≡ record self.old { opening = higher instance sent self.old.opening } }
+    {
+        keep_higher(&mut self.opening, instance.number(), sent);
     }
 
     /// The last request.
@@ -59,17 +71,17 @@ impl Kept {
         self.request
     }
 
-    /// The last estimate or proposal.
+    /// The estimate or proposal of the highest instance.
     pub fn opening(&self) -> Option<Sent>
-        ensures { result ≡ self.now.opening }
+        ensures { result ≡ sent_of self.now.opening }
     {
-        self.opening
+        Some(self.opening?.sent)
     }
 
-    /// The last decision.
+    /// The decision of the highest instance.
     pub fn decision(&self) -> Option<Sent>
-        ensures { result ≡ self.now.decision }
+        ensures { result ≡ sent_of self.now.decision }
     {
-        self.decision
+        Some(self.decision?.sent)
     }
 }

@@ -30,6 +30,7 @@ mod following;
 mod kept;
 mod locked;
 mod opening;
+mod placed;
 mod recorded;
 mod recording;
 mod sent;

@@ -1,4 +1,5 @@
 pub mod Padded
+pub mod Rows
 pub mod Rule
 pub mod Receipts
 pub mod Majorities

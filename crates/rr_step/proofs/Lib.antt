@@ -5,3 +5,4 @@ pub mod PoolLemmas
 pub mod TailLemmas
 pub mod SpentLemmas
 pub mod SettledLemmas
+pub mod StandLemmas

@@ -1,4 +1,4 @@
-use Rattle.std.specs.Prelude.{ℕ, Bool, true, false, not, ◌&&◌, ◌==◌, List, filter, find, Option, option_map}
+use Rattle.std.specs.Prelude.{◌≡◌, ℕ, Bool, true, false, not, ◌&&◌, ◌==◌, List, filter, find, Option, None, option_map}
 use Rattle.std.specs.Option.{option_map_or}
 use Rattle.std.specs.List.{list_any, range_with_len}
 use Rattle.rr_types.specs.declared.command.RequestNo.{RequestNo}
@@ -6,7 +6,8 @@ use Rattle.rr_types.specs.declared.command.Command.{Command}
 use Rattle.rr_types.specs.Registry.{is_same_request}
 use Rattle.rr_types.specs.declared.message.Body.{Body}
 use Rattle.rr_types.specs.Commands.{is_same_command}
-use Rattle.rr_types.specs.Standings.{estimate_of}
+use Rattle.rr_types.specs.declared.promise.Standing.{Standing}
+use Rattle.rr_types.specs.Standings.{round_of, stamp_of, estimate_of, proposal_of}
 use Rattle.rr_model.specs.NodeState.{Row, Owed, row_of}
 use Rattle.rr_step.specs.declared.owing.Reach.{Reach}
 use Rattle.rr_step.specs.declared.owing.Reach.TheVariants.{Everyone, Others}
@@ -28,6 +29,13 @@ is_reached Others from to = not (to == from)
 abbrev pub reached : Reach → ℕ → ℕ → List ℕ
 reached Everyone from n = range_with_len 0 n
 reached Others from n = nodes_beside from n
+
+-- an instance that stands so has no round: no fact names it, or it has decided
+pub record HasNoRound (s : Option Standing) : Type 0 where
+  pub round : round_of s ≡ 0
+  pub stamp : stamp_of s ≡ 0
+  pub estimate : estimate_of s ≡ None
+  pub proposal : proposal_of s ≡ None
 
 -- whether a command is the estimate of instance i
 unfoldable pub is_estimate_of : List Row → ℕ → Command → Bool

@@ -6,19 +6,16 @@ ghost use Rattle.rr_step.specs.Places.{is_estimate_of, is_estimate_beside, is_fr
 use crate::known::is_among;
 use crate::step::Step;
 use rr_list::Values;
-use rr_types::{Command, Instance, RequestNo, Standing};
+use rr_types::{Command, Instance, RequestNo};
 
 /// Whether a command is the estimate of an instance.
 #[tactic(auto, unfolding(crate::specs::Places::is_estimate_of))]
 pub fn is_estimate_of(step: &Step<'_>, instance: Instance, command: &Command) -> bool
     ensures { result ≡ is_estimate_of step.now.state.rows instance command.now }
 {
-    match step.row(instance) {
+    match step.open(instance) {
         None => false,
-        Some(row) => match &row.standing {
-            Standing::Decided(_) => false,
-            Standing::Open(at) => at.estimate_ref().is_same(command),
-        },
+        Some(at) => at.estimate_ref().is_same(command),
     }
 }
 

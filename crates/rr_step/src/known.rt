@@ -73,7 +73,7 @@ impl State {
         ensures range { result ≤ last_round }
     {
         match self.row(instance) {
-            Some(row) => row.standing.round(),
+            Some(row) => row.round(),
             None => 0,
         }
     }

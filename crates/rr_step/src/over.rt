@@ -133,7 +133,7 @@ fn has_round_over(base: &State, changed: &[Row], instance: Instance) -> bool
     ensures { result ≡ nat_lt 0 (round_of (option_map (λ r. r.standing) (row_of (put_rows changed.now base.now.rows) instance))) }
 {
     match row_over(base, changed, instance) {
-        Some(row) => row.standing.round() > 0,
+        Some(row) => row.round() > 0,
         None => false,
     }
 }

@@ -7,7 +7,7 @@ ghost use Rattle.rr_types.specs.Registry.{is_same_request};
 ghost use Rattle.rr_model.specs.NodeState.{row_of, decided_command};
 
 use rr_parts::Row;
-use rr_types::{Instance, RequestNo, Standing};
+use rr_types::{Instance, RequestNo};
 
 /// The row of an instance.
 pub fn find_row(rows: &[Row], instance: Instance) -> Option<&Row>
@@ -26,7 +26,7 @@ pub fn has_decided_request(rows: &[Row], request: RequestNo) -> bool
     ensures { result ≡ list_any (λ r. option_map_or (λ v. is_same_request v.request request) (decided_command r) false) rows.now }
 {
     for row in rows {
-        if let Standing::Decided(command) = &row.standing {
+        if let Some(command) = row.decided_command() {
             if command.request.is_same(request) {
                 return true;
             }

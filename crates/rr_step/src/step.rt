@@ -203,7 +203,7 @@ impl<'a> Step<'a> {
         ensures { result ≡ standing_at self.now.state instance }
     {
         match self.row(instance) {
-            Some(row) => Some(row.standing),
+            Some(row) => Some(row.standing()),
             None => None,
         }
     }
@@ -213,7 +213,7 @@ impl<'a> Step<'a> {
         ensures { result ≡ option_map (λ r. r.backing) (row_of self.now.state.rows instance) }
     {
         match self.row(instance) {
-            Some(row) => Some(row.backing),
+            Some(row) => Some(row.backing()),
             None => None,
         }
     }
@@ -439,7 +439,7 @@ impl<'a> Step<'a> {
                 let row = row.after(alloc, number, fact)?;
                 self.put_row(row)
             }
-            None => match Row::first(alloc, number, fact) {
+            None => match Row::first(alloc, number, fact)? {
                 Some(row) => self.put_row(row),
                 None => Ok(()),
             },

@@ -23,8 +23,7 @@ impl<'a> Step<'a> {
         let Some(row) = self.row(instance) else {
             return Ok(());
         };
-        let mut row = row.try_clone(alloc)?;
-        row.tally.keep_estimate(sender, estimate)?;
+        let row = row.with_estimate(alloc, sender, estimate)?;
         self.put_tally(row)
     }
 
@@ -41,8 +40,7 @@ impl<'a> Step<'a> {
         let Some(row) = self.row(instance) else {
             return Ok(());
         };
-        let mut row = row.try_clone(alloc)?;
-        row.tally.keep_ack(sender);
+        let row = row.with_ack(alloc, sender)?;
         self.put_tally(row)
     }
 
@@ -59,8 +57,7 @@ impl<'a> Step<'a> {
         let Some(row) = self.row(instance) else {
             return Ok(());
         };
-        let mut row = row.try_clone(alloc)?;
-        row.tally.keep_nack(sender);
+        let row = row.with_nack(alloc, sender)?;
         self.put_tally(row)
     }
 }

@@ -1,3 +1,4 @@
+pub mod Deeds
 pub mod Hearings
 pub mod Talks
 pub mod Watches

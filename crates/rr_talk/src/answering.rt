@@ -1,10 +1,11 @@
 //! Whom a shell asks.
 
-ghost use Rattle.std.specs.Prelude.{◌≡◌, ℕ, true, List, [], ◌++◌, Option, IfOk, IfSome, OnOk};
+ghost use Rattle.std.specs.Prelude.{◌≡◌, ℕ, true, false, List, [], ◌++◌, Option, IfOk, IfSome, OnOk};
 ghost use Rattle.rr_types.specs.declared.command.Command.{Command};
 ghost use Rattle.rr_window.specs.declared.change.Change.{Change};
 ghost use Rattle.rr_shell.specs.Listings.{is_listing_at};
 ghost use Rattle.rr_shell.specs.declared.outcome.Outcome.{Outcome};
+ghost use Rattle.rr_talk.specs.Deeds.{Deed, submits, repeats, catches_up, looks, lists, finds_off, stops, starts, snaps, tells};
 ghost use Rattle.rr_talk.specs.Talks.{is_reply_at, is_outcome_at, is_sight_at, IsKept, IsAskedAgain};
 ghost use Rattle.rr_talk.specs.Watches.{bytes_of, IsPiece};
 
@@ -21,6 +22,10 @@ pub trait Asked {
     /// Why they can't be.
     fn wait_until_ready(&mut self) -> Result<(), Refusal>;
 
+    /// That this was done. A function over any such nodes has it done by the calls below alone, so its clauses can name what it has
+    /// had done.
+    ghost did: { Deed → Type 0 };
+
     /// The command that isn't acknowledged yet and that `again` submits once more.
     ghost unanswered: { Self → Option Command };
 
@@ -31,6 +36,7 @@ pub trait Asked {
     /// Why the nodes can't be asked any more.
     fn submit(&mut self, node: NodeId, op: &Op) -> Result<Outcome, Refusal>
         ensures outcome { IfOk result (λ o. is_outcome_at node o ≡ true) }
+        ensures submitted { IfOk result (λ o. did (submits node op.now o)) }
         ensures kept { IfOk result (λ o. IsKept op.now (unanswered self.new) o) };
 
     /// Submits the command that is kept once more at a node, under its request number.
@@ -39,6 +45,7 @@ pub trait Asked {
     /// Why the nodes can't be asked any more.
     fn again(&mut self, node: NodeId) -> Result<Outcome, Refusal>
         ensures outcome { IfOk result (λ o. is_outcome_at node o ≡ true) }
+        ensures submitted { IfOk result (λ o. did (repeats node o)) }
         ensures kept { IfOk result (λ o. IsAskedAgain (unanswered self.old) (unanswered self.new) o) };
 
     /// What may come of a sync at a node.
@@ -52,6 +59,7 @@ pub trait Asked {
     fn sync(&mut self, node: NodeId) -> Result<Outcome, Refusal>
         ensures outcome { IfOk result (λ o. is_outcome_at node o ≡ true) }
         ensures own { IfOk result (λ o. syncs self.old node o) }
+        ensures submitted { IfOk result (λ o. did (catches_up node o)) }
         ensures kept { unanswered self.new ≡ unanswered self.old };
 
     /// What a person is told behind an answer, in a second line.
@@ -63,14 +71,16 @@ pub trait Asked {
     /// # Errors
     /// Why the nodes can't be asked any more.
     fn look(&mut self, node: NodeId, name: &Name) -> Result<Answer, Refusal>
-        ensures { IfOk result (λ a. is_sight_at node name.now a ≡ true) };
+        ensures sight { IfOk result (λ a. is_sight_at node name.now a ≡ true) }
+        ensures looked { IfOk result (λ a. did (looks node name.now a)) };
 
     /// Lists the bound names at a node that begin so, or all.
     ///
     /// # Errors
     /// Why the nodes can't be asked any more.
     fn list(&mut self, node: NodeId, prefix: &Option<Name>) -> Result<Listing, Refusal>
-        ensures { IfOk result (λ l. is_listing_at node prefix.now l ≡ true) };
+        ensures listing { IfOk result (λ l. is_listing_at node prefix.now l ≡ true) }
+        ensures listed { IfOk result (λ l. did (lists node prefix.now l)) };
 
     /// The changes that were told since the last watch has begun.
     ghost told: { Self → List Change };
@@ -96,32 +106,37 @@ pub trait Asked {
         ensures { told self.new ≡ told self.old };
 
     /// Whether a node can be asked: it hasn't been stopped since it was last started.
-    fn is_on(&self, node: NodeId) -> bool;
+    fn is_on(&self, node: NodeId) -> bool
+        ensures { result ≡ false → did (finds_off node) };
 
     /// Stops a node, and waits until it is down. The others go on.
     ///
     /// # Errors
     /// Why the nodes can't be asked any more.
-    fn stop(&mut self, node: NodeId) -> Result<(), Refusal>;
+    fn stop(&mut self, node: NodeId) -> Result<(), Refusal>
+        ensures { OnOk result (did (stops node)) };
 
     /// Starts a node, and waits until it is up.
     ///
     /// # Errors
     /// Why the nodes can't be asked any more.
-    fn start(&mut self, node: NodeId) -> Result<(), Refusal>;
+    fn start(&mut self, node: NodeId) -> Result<(), Refusal>
+        ensures { OnOk result (did (starts node)) };
 
     /// Has a node write a snapshot of its facts. Answers whether it is written.
     ///
     /// # Errors
     /// Why the nodes can't be asked any more.
-    fn snapshot(&mut self, node: NodeId) -> Result<bool, Refusal>;
+    fn snapshot(&mut self, node: NodeId) -> Result<bool, Refusal>
+        ensures { IfOk result (λ is_written. did (snaps node is_written)) };
 
     /// What a node tells of itself.
     ///
     /// # Errors
     /// Why the nodes can't be asked any more.
     fn status(&mut self, node: NodeId) -> Result<NodeStatus, Refusal>
-        ensures { IfOk result (λ s. s.node ≡ node) };
+        ensures node { IfOk result (λ s. s.node ≡ node) }
+        ensures own { IfOk result (λ s. did (tells s)) };
 }
 
 /// What a person is told behind an answer.

@@ -1,6 +1,7 @@
 //! What is said to a line that asks for something.
 
 ghost use Rattle.std.specs.Prelude.{◌≡◌, ◌<◌, true, Some, None, IfOk};
+ghost use Rattle.rr_talk.specs.Deeds.{finds_off};
 ghost use Rattle.rr_talk.specs.Talks.{Stated, asks_node, IsSaidToSync, IsSaidToRequest};
 ghost use Rattle.rr_shell.specs.Troubles.{answer_trouble, outcome_trouble, listing_trouble};
 ghost use Rattle.rr_shell.specs.Forms.{answer_said, outcome_said, list_said, move_said, stop_said, start_said, snapshot_said, no_snapshot_said, down_said, help_said, fault_said};
@@ -58,7 +59,7 @@ fn submitted(alloc: Global, json: bool, node: NodeId, outcome: &Outcome) -> Resu
 
 // Asks a node for a sync. What came of it.
 fn synced<A: Asked>(alloc: Global, json: bool, node: NodeId, asked: &mut A) -> Result<Said, Refusal>
-    ensures { IfOk result (IsSaidToSync json node (A.syncs asked.old)) }
+    ensures { IfOk result (IsSaidToSync A.did json node (A.syncs asked.old)) }
 {
     let outcome = asked.sync(node)?;
     let mut text = Vec::new(alloc);
@@ -178,7 +179,7 @@ fn stated<A: Asked>(
     node: NodeId,
     asked: &mut A,
 ) -> Result<Said, Refusal>
-    ensures { IfOk result (λ s. (s.node ≡ node) × Stated json nodes s.text.items × (s.trouble ≡ None) × (s.watched ≡ None)) }
+    ensures { IfOk result (λ s. (s.node ≡ node) × Stated A.did json nodes s.text.items × (s.trouble ≡ None) × (s.watched ≡ None)) }
 {
     let mut text = Vec::new(alloc);
     for index in 0..nodes.count() {
@@ -249,7 +250,8 @@ fn asks_node(line: &ShellLine) -> bool
 
 // Whether a line asks something of the node that is asked, and that is down.
 fn asks_in_vain<A: Asked>(asked: &A, node: NodeId, line: &ShellLine) -> bool
-    ensures { result ≡ true → asks_node line.now ≡ true }
+    ensures asks { result ≡ true → asks_node line.now ≡ true }
+    ensures off { result ≡ true → A.did (finds_off node) }
 {
     asks_node(line) && !asked.is_on(node)
 }
@@ -263,7 +265,7 @@ pub fn said_to_request<A: Asked>(
     asked: &mut A,
     line: &ShellLine,
 ) -> Result<Option<Said>, Refusal>
-    ensures { IfOk result (IsSaidToRequest json nodes node line.now) }
+    ensures { IfOk result (IsSaidToRequest A.did json nodes node line.now) }
 {
     made_of!(Answer, Name, Op, Reply, Value);
     if asks_in_vain(asked, node, line) {

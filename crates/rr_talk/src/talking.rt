@@ -58,7 +58,7 @@ fn said_to<A: Asked>(
     asked: &mut A,
     heard: &Heard,
 ) -> Result<Option<Said>, Refusal>
-    ensures { IfOk result (IsSaidTo json nodes node heard.now) }
+    ensures { IfOk result (IsSaidTo A.did json nodes node heard.now) }
 {
     let line = match heard {
         Heard::Line(line) => without_return(line.as_slice()),
@@ -136,7 +136,7 @@ fn take_turn<I: Prompting, O: Sink + Send, A: Asked + Send, R: Threads>(
     input: &mut I,
     out: &mut O,
 ) -> Result<Option<Turn>, Stop>
-    ensures turn { IfOk result (IsTurn json nodes node watched (I.reading input.old) (I.reading input.new) (O.printing out.old) (O.printing out.new)) }
+    ensures turn { IfOk result (IsTurn A.did json nodes node watched (I.reading input.old) (I.reading input.new) (O.printing out.old) (O.printing out.new)) }
     ensures front { OnErr result (IsFrontSaid (O.printing out.old) (O.printing out.new)) }
 {
     let heard = hear_next(alloc, json, node, watched, asked, rt, input, out)?;
@@ -199,7 +199,7 @@ pub fn talk<I: Prompting, O: Sink + Send, A: Asked + Send, R: Threads>(
     input: &mut I,
     out: &mut O,
 ) -> Result<Option<Trouble>, Stop>
-    ensures { Talks json strict nodes (I.reading input.old) (I.reading input.new) (O.printing out.old) (O.printing out.new) result }
+    ensures { Talks A.did json strict nodes (I.reading input.old) (I.reading input.new) (O.printing out.old) (O.printing out.new) result }
 {
     if let Err(refusal) = asked.wait_until_ready() {
         return Err(Stop::Refused(refusal));

@@ -7,13 +7,15 @@ ghost use Rattle.rr_types.specs.Registry.{registry_of};
 ghost use Rattle.rr_window.specs.Sights.{bindings_with};
 ghost use Rattle.rr_window.specs.Watches.{IsWatched};
 ghost use Rattle.rr_threads.specs.Asking.{IsAnswered, IsSeen, IsAnswerTo};
+ghost use Rattle.rr_threads.specs.Summaries.{IsSummary};
 ghost use Rattle.rr_threads.specs.Syncing.{to_itself};
 
-use crate::desk::{Counter, Desk};
+use crate::desk::{Counter, Desk, Written};
 use crate::fate::{Fate, fate_in};
 use crate::rest::{FIRST, LONG, Rest};
 use crate::reused::{Reused, reused_at};
 use crate::shared::Shared;
+use crate::summary::summary_of;
 use rr_locked::Turnstile;
 use rr_script::{Answer, ScriptLine};
 use rr_types::{
@@ -128,32 +130,28 @@ impl<'d, 'x, W: WindowName, T: Turnstile, R: Wait> Handle<'d, 'x, W, T, R> {
     }
 
     /// The node in brief.
-    pub fn summary(&self) -> NodeSummary {
-        let locked = self.desk.locked.lock(self.rt);
-        let core = locked.core();
-        NodeSummary {
-            facts: core.facts(),
-            decided: core.decided_count() as u64,
-            suspects: core.suspects(),
-        }
+    pub fn summary(&self) -> NodeSummary
+        ensures { IsSummary result }
+    {
+        summary_of(self.desk.locked.lock(self.rt).core())
     }
 
     /// Has the node write a snapshot of its facts to the other area of its disk, and waits for so many looks, as `submit_within`
-    /// does. Answers whether it is written. A snapshot that is refused ends the run.
-    pub fn snapshot(&self, looks: u32) -> bool {
+    /// does. None: it isn't written yet. A snapshot that is refused ends the run.
+    pub fn snapshot(&self, looks: u32) -> Option<Written> {
         let number = self.desk.snapshots.ask();
         self.desk.flusher.unpark();
         let mut rest = Rest::new(FIRST, LONG);
         for _ in 0..looks {
-            if self.desk.snapshots.is_written(number) {
-                return true;
+            if let Some(written) = self.desk.snapshots.written(number) {
+                return Some(written);
             }
             if self.is_over() {
                 break;
             }
             rest.wait(self.rt, &self.counter.bell);
         }
-        false
+        None
     }
 
     /// Submits a command, and waits for its reply, some days at most. What is looked at from then on has it. A run ends whose tape

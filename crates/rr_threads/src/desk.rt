@@ -1,9 +1,10 @@
 //! What the threads of a node share.
 
-ghost use Rattle.std.specs.Prelude.{◌≡◌, Some};
+ghost use Rattle.std.specs.Prelude.{◌≡◌, Some, IfSome};
 ghost use Rattle.rr_types.specs.Registry.{reply_of};
 
 use crate::shared::Shared;
+use crate::switching::Switched;
 use rr_locked::Locked;
 use rr_types::{Command, NodeId, Op, Refusal, Reply, RequestNo, made_of};
 use rr_window::{Publisher, Receipt, WindowName};
@@ -95,6 +96,12 @@ impl<W: WindowName> Counter<W> {
     }
 }
 
+/// That a snapshot of a node that was asked for is written, as its flusher has noted. Only `Handle::snapshot` gives this.
+#[derive(Drop)]
+pub struct Written {
+    number: u64,
+}
+
 /// Snapshots of a node: how many were asked for, and how many of these are written.
 #[derive(Drop)]
 pub struct Snapshots {
@@ -125,14 +132,20 @@ impl Snapshots {
         }
     }
 
-    /// Those up to this number are written.
-    pub fn note(&self, number: u64) {
+    /// Those up to this number are written, since the last of them is.
+    pub fn note(&self, number: u64, _switched: Switched) {
         self.written.store(number, Ordering::SeqCst);
     }
 
-    /// Whether that of this number is written.
-    pub fn is_written(&self, number: u64) -> bool {
-        self.written.load(Ordering::SeqCst) >= number
+    /// That the snapshot of this number is written, once it is.
+    pub fn written(&self, number: u64) -> Option<Written>
+        ensures { IfSome result (λ written. written.number ≡ number) }
+    {
+        if self.written.load(Ordering::SeqCst) >= number {
+            Some(Written { number })
+        } else {
+            None
+        }
     }
 }
 

@@ -2,11 +2,10 @@
 
 use crate::wires::{Mail, Wires};
 use rr_inbox::ROOM;
-use rr_locked::{Chase, Kept, Locked, Sent, Turnstile};
+use rr_locked::{Chase, Locked, Sent, Turnstile};
 use rr_turn::meet;
 use rr_types::Refusal;
 use rr_window::WindowName;
-use std::mem;
 use std::sync::{Mutex, Wait};
 
 /// A message that may be there comes.
@@ -22,14 +21,15 @@ fn meet_kept<W: WindowName, T: Turnstile, R: Wait>(
     }
 }
 
-/// At the start of a node what was kept while it was down comes first.
+/// At the start of a node what is kept of what came before comes first. It stays kept: the node may be stopped again before
+/// it has caught up.
 pub fn hear_kept<W: WindowName, T: Turnstile, R: Wait>(
     rt: &R,
     node: &Mutex<Locked>,
     chase: &mut Chase,
     wires: &mut Wires<'_, W, T, R>,
 ) -> Result<(), Refusal> {
-    let kept = mem::replace(&mut wires.ends.mail.kept, Kept::new());
+    let kept = wires.ends.mail.kept;
     let mut locked = node.lock(rt);
     meet_kept(&mut locked, chase, wires, kept.request())?;
     meet_kept(&mut locked, chase, wires, kept.opening())?;
@@ -39,9 +39,8 @@ pub fn hear_kept<W: WindowName, T: Turnstile, R: Wait>(
 /// A node that is down loses what comes to it, but for what is kept.
 pub fn keep_all<R: Wait>(rt: &R, mail: &mut Mail) {
     for _ in 0..ROOM {
-        match mail.inbox.take(rt) {
-            None => break,
-            Some(sent) => mail.kept.keep(sent),
+        if mail.take(rt).is_none() {
+            break;
         }
     }
 }

@@ -72,10 +72,13 @@ mod running;
 mod script_run;
 mod shared;
 mod snapshotting;
+mod summary;
 mod switches;
+mod switching;
 mod wires;
 
 pub use client::{Client, Handle};
+pub use desk::Written;
 pub use fate::Fate;
 pub use recorder::Recorder;
 pub use reused::Reused;

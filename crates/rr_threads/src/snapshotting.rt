@@ -2,20 +2,19 @@
 
 ghost use Rattle.std.specs.Prelude.{◌≡◌, IfOk, IfSome, IsSome};
 ghost use Rattle.rr_frame.specs.Snapshots.{IsSnapshot};
+ghost use Rattle.rr_threads.specs.Snapshotting.{IsBegun, IsWritten};
 
 use crate::desk::Desk;
+use crate::switching::make_all;
 use rr_core::Core;
 use rr_disk::Disk;
 use rr_frame::Snapshot;
-use rr_journal::{Journal, SwitchJob, Switching};
-use rr_locked::{Place, Turnstile};
+use rr_journal::{Journal, SwitchJob};
+use rr_locked::Turnstile;
 use rr_types::{NodeId, Nodes, Promise, Refusal};
 use rr_window::WindowName;
 use std::alloc::Global;
 use std::sync::Wait;
-
-/// The most device calls of a switch.
-const CALLS: u8 = 6;
 
 /// The promise, where a snapshot can have it.
 fn lawful(nodes: Nodes, node: NodeId, epoch: u64, next: u64, promise: Promise) -> Option<Promise>
@@ -35,6 +34,7 @@ fn begin<D: Disk>(
     journal: &mut Journal<D>,
 ) -> Result<Option<SwitchJob>, Refusal>
     ensures whole { IfOk result (λ job. IsSome job → (core.now.node ≡ journal.old.node) × (core.now.marked_end ≡ journal.old.next)) }
+    ensures begun { IfOk result (λ job. IsBegun journal.old job journal.new) }
 {
     let (nodes, node) = journal.owner();
     let next = journal.facts();
@@ -54,34 +54,17 @@ fn begin<D: Disk>(
     }
 }
 
-/// Makes the device calls of a switch, with the turnstile before each.
-fn make_all<D: Disk, T: Turnstile>(
-    turnstile: &T,
-    node: NodeId,
-    journal: &mut Journal<D>,
-    job: SwitchJob,
-) -> Result<(), Refusal> {
-    let mut job = job;
-    for _ in 0..CALLS {
-        turnstile.pass(node, Place::BeforeDevice);
-        match job.step(journal) {
-            Err(refusal) => return Err(refusal),
-            Ok(Switching::Done) => return Ok(()),
-            Ok(Switching::More(next)) => job = next,
-        }
-    }
-    job.abandon();
-    Err(Refusal::Failed)
-}
-
-/// Writes a snapshot, where one is asked for and the node has marked all that its journal has. Answers whether it did.
+/// Writes a snapshot, where one is asked for and the node has marked all that its journal has. Answers whether it did. It notes the
+/// snapshot, and rings for who waits for it, behind the last device call.
 pub fn write_next<W: WindowName, D: Disk, T: Turnstile, R: Wait>(
     rt: &R,
     alloc: Global,
     turnstile: &T,
     desk: &Desk<W>,
     journal: &mut Journal<D>,
-) -> Result<bool, Refusal> {
+) -> Result<bool, Refusal>
+    ensures { IfOk result (λ is_written. IsWritten is_written journal.old journal.new) }
+{
     let Some(number) = desk.snapshots.next() else {
         return Ok(false);
     };
@@ -93,8 +76,8 @@ pub fn write_next<W: WindowName, D: Disk, T: Turnstile, R: Wait>(
         Err(refusal) => Err(refusal),
         Ok(None) => Ok(false),
         Ok(Some(job)) => {
-            make_all(turnstile, desk.node, journal, job)?;
-            desk.snapshots.note(number);
+            let switched = make_all(turnstile, desk.node, journal, job)?;
+            desk.snapshots.note(number, switched);
             desk.ring_all();
             Ok(true)
         }

@@ -3,7 +3,7 @@
 
 ghost use Rattle.std.specs.Prelude.{◌≡◌, None};
 ghost use Rattle.rr_turn.specs.Asked.{Call};
-ghost use Rattle.rr_threads.specs.Ways.{IsPut, IsPutIfAny, IsPutLate};
+ghost use Rattle.rr_threads.specs.Ways.{IsPut, IsPutIfAny, IsPutLate, IsTaken};
 
 use crate::desk::Desk;
 use crate::recorder::Scribe;
@@ -64,12 +64,23 @@ impl Way {
     }
 }
 
-/// A node's inbox, its end of each node's inbox, and what it kept while it was down.
+/// A node's inbox, its end of each node's inbox, and what it keeps of what came.
 #[derive(Drop)]
 pub struct Mail {
     pub inbox: Outlet<Sent>,
     pub ways: Vec<Way>,
     pub kept: Kept,
+}
+
+impl Mail {
+    /// Takes the oldest message of the inbox, and keeps it if it is one of the last that tell where its sender is.
+    pub fn take<R: Wait>(&mut self, rt: &R) -> Option<Sent>
+        ensures { IsTaken self.old result self.new }
+    {
+        let sent = self.inbox.take(rt)?;
+        self.kept.keep(sent);
+        Some(sent)
+    }
 }
 
 /// A node's mail, and its ends of the hand-overs.
@@ -138,7 +149,7 @@ impl<'x, W: WindowName, T: Turnstile, R: Wait> Links for Wires<'x, W, T, R> {
     }
 
     fn take(&mut self) -> Option<Sent> {
-        self.ends.mail.inbox.take(self.rt)
+        self.ends.mail.take(self.rt)
     }
 
     fn back(&mut self) -> Option<Result<Synced, Unflushed>> {

@@ -8,7 +8,7 @@ use Rattle.rr_types.specs.declared.refusal.Refusal.TheVariants.{RoundsOut, TooLa
 use Rattle.rr_model.specs.NodeState.{NodeState, next_number, decided_prefix}
 use Rattle.rr_model.specs.NodeStep.{node_step, advance_refusal, refusal_of}
 use Rattle.rr_locked.specs.Recorded.{Sent}
-use Rattle.rr_locked.specs.Chases.{Chase, again}
+use Rattle.rr_locked.specs.Chases.{Chase, again, chase_ticked}
 use Rattle.rr_locked.specs.Ticks.{Standstill, is_advance_due, standstill_after}
 use Rattle.rr_turn.specs.Asked.{Call, Ran, still, more, tells, hears}
 use Rattle.rr_turn.specs.Turns.{taking, all_met, all_met_chase, heard_again, hearing_again, is_catching_up, advancing, beating, ticking, ticked_chase, ticked_standstill}
@@ -49,10 +49,10 @@ ok_both (Err e) f p q = tt
 
 module _ {L : Type 0} (gives : L → Call → L → Type 0) where
   -- what the chase has the node hear again
-  pub again_ran : (s : NodeState) (c : Chase) (n : ℕ) (o : Option Sent) (from to : L) → n ≡ length (decided_prefix s) → o ≡ again n c
+  pub again_ran : (s : NodeState) (c : Chase) (n : ℕ) (o : Option Sent) (from to : L) → n ≡ length (decided_prefix s) → o ≡ again n (chase_ticked c)
       → Ran gives (option_map_or (λ sent. hears s sent ∷ []) o []) from to → Ran gives (hearing_again s c) from to
   again_ran s c n o from to count same ran =
-      subst (λ (o : Option Sent). Ran gives (option_map_or (λ sent. hears s sent ∷ []) o []) from to) (same ∙ ap (λ n. again n c) count) ran
+      subst (λ (o : Option Sent). Ran gives (option_map_or (λ sent. hears s sent ∷ []) o []) from to) (same ∙ ap (λ n. again n (chase_ticked c)) count) ran
 
   -- an advance that is refused for its round, and one that isn't refused
   pub advanced_out : (s : NodeState) (from to : L) → gives from (tells s Advance (Err RoundsOut)) to → refusal_of Advance s ≡ Some RoundsOut → Ran gives (advancing s) from to

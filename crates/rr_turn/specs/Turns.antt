@@ -12,7 +12,7 @@ use Rattle.rr_types.specs.Groups.{Grouped}
 use Rattle.rr_model.specs.NodeState.{NodeState, decided_prefix}
 use Rattle.rr_model.specs.NodeStep.{node_step, advance_refusal, next_leaving, message_left}
 use Rattle.rr_locked.specs.Recorded.{Sent}
-use Rattle.rr_locked.specs.Chases.{Chase, heard_of, chase_of, chase_sent, again, chase_again, is_gaining}
+use Rattle.rr_locked.specs.Chases.{Chase, heard_of, chase_of, chase_sent, again, chase_again, chase_ticked, is_gaining}
 use Rattle.rr_locked.specs.Ticks.{Standstill, is_advance_due, standstill_after}
 use Rattle.rr_locked.specs.declared.chase.Hearing.{Hearing}
 use Rattle.rr_locked.specs.declared.chase.Hearing.TheVariants.{Alone, Nothing, After, Before}
@@ -129,14 +129,14 @@ giving (Some group) = hands group ∷ wakes_flusher ∷ []
 
 -- the state once the chase has the node hear again what it may, and the calls
 abbrev pub heard_again : NodeState → Chase → NodeState
-heard_again s c = option_map_or (λ sent. node_step (Hear sent.message) s) (again (length (decided_prefix s)) c) s
+heard_again s c = option_map_or (λ sent. node_step (Hear sent.message) s) (again (length (decided_prefix s)) (chase_ticked c)) s
 
 abbrev pub hearing_again : NodeState → Chase → List Call
-hearing_again s c = option_map_or (λ sent. hears s sent ∷ []) (again (length (decided_prefix s)) c) []
+hearing_again s c = option_map_or (λ sent. hears s sent ∷ []) (again (length (decided_prefix s)) (chase_ticked c)) []
 
 -- whether a node that is due to tick doesn't, since it catches up
 abbrev pub is_catching_up : NodeState → Chase → Bool
-is_catching_up s c = is_gaining (length (decided_prefix s)) (chase_again (length (decided_prefix s)) c)
+is_catching_up s c = is_gaining (length (decided_prefix s)) (chase_again (length (decided_prefix s)) (chase_ticked c))
 
 -- the next round of the lowest open instance is entered, unless that is in the last
 abbrev pub advancing : NodeState → List Call
@@ -152,7 +152,7 @@ ticking s c k = hearing_again s c ++ (if is_catching_up s c then [] else beating
 
 -- the chase then
 abbrev pub ticked_chase : NodeState → Chase → Chase
-ticked_chase s c = record (chase_again (length (decided_prefix s)) c) { seen = length (decided_prefix s) }
+ticked_chase s c = record (chase_again (length (decided_prefix s)) (chase_ticked c)) { seen = length (decided_prefix s) }
 
 -- the standstill then
 abbrev pub ticked_standstill : NodeState → Chase → Standstill → Standstill

@@ -6,143 +6,68 @@
 //! facts. After `restarts` it prints the sweep of the schedule's device calls. After `audit` it prints what `rr audit` says of each
 //! tape, and after `examine` what the library finds. At the word `full-list` it says what a node answers when all its instances are
 //! decided.
+//!
+//! After the words `folders`, `every-cut` and `drawn-cuts` stand rows, each of a folder that version 1 wrote. After `folders` it
+//! makes the folder, and prints what `rr show` and then `rr migrate` print of it, and whether its files are left as they are to
+//! be. After the other two, the node of a row opens its disk in memory, and crashes before the first device call and after
+//! each. By the next opening it has to know the same as by one without a crash. Every pair of cuts is tried, or drawn ones.
 #![tactic(auto)]
 
 mod areas;
 mod audits;
 mod full_list;
+mod old_folders;
 mod sweep;
+mod texts;
 
-ghost use Rattle.std.specs.Prelude.{◌≡◌, IfOk};
-ghost use Rattle.rr_sim.specs.Told.{IsReportOn};
+use crate::old_folders::crash::Cuts;
+use crate::old_folders::folder::try_folder;
+use crate::old_folders::sweep::try_crashes;
+use crate::texts::{Work, work_on};
+use std::{env, io};
 
-use crate::areas::areas_behind;
-use crate::audits::print_audit;
-use rr_audit::Verdict;
-use rr_cli::{audit_on, print_refusal, report_on};
-use rr_stream::Counted;
-use rr_sweep::push_sweep_lines;
-use rr_tape::Tape;
-use rr_text::Schedule;
-use rr_types::Refusal;
-use std::alloc::Global;
-use std::io::Write;
-use std::{env, fs, io};
-
-/// What is done with the texts that follow.
-#[derive(Clone, Copy, Debug)]
+/// What is done with the words that follow: each names a text, or is a row.
+#[derive(Clone, Copy)]
 enum Task {
-    Read,
-    Run,
-    Areas,
-    Sweep,
-    Restarts,
-    Audit,
-    Examine,
+    Texts(Work),
+    Folders,
+    Crashes(Cuts),
 }
 
-fn printed(alloc: Global, is_tape: bool, bytes: &[u8]) -> Result<Vec<u8>, Refusal>
-    // What is read is printed so.
-    ensures { IfOk result (λ text. text.items ≡ bytes.now) }
-{
-    if is_tape {
-        Ok(Tape::parse(alloc, bytes)?.text(alloc)?)
-    } else {
-        Ok(Schedule::parse(alloc, bytes)?.text(alloc)?)
+/// The task that a word names.
+fn task_of(word: &str) -> Option<Task> {
+    match word {
+        "run" => Some(Task::Texts(Work::Run)),
+        "areas" => Some(Task::Texts(Work::Areas)),
+        "sweep" => Some(Task::Texts(Work::Sweep)),
+        "restarts" => Some(Task::Texts(Work::Restarts)),
+        "audit" => Some(Task::Texts(Work::Audit)),
+        "examine" => Some(Task::Texts(Work::Examine)),
+        "folders" => Some(Task::Folders),
+        "every-cut" => Some(Task::Crashes(Cuts::Every)),
+        "drawn-cuts" => Some(Task::Crashes(Cuts::Drawn)),
+        _ => None,
     }
 }
 
-fn read_again(rt: &HostRuntime, path: &str, bytes: &[u8]) -> io::Result<()> {
-    match printed(rt.alloc(), path.ends_with(".tape"), bytes) {
-        Ok(text) if text.as_slice() == bytes => { println!(rt; "{path} printed as it was read") }
-        Ok(_) => println!(rt; "{path} printed otherwise"),
-        Err(refusal) => println!(rt; "{path} {refusal}"),
-    }
-}
-
-fn run(rt: &HostRuntime, path: &str, bytes: &[u8]) -> io::Result<()> {
-    match report_on(rt.alloc(), bytes, &mut Counted::new(rt.stdout())) {
-        Ok(report) => {
-            println!(rt; "{path} run")?;
-            rt.stdout().write_all(&report)
-        }
-        Err(refusal) => println!(rt; "{path} {refusal}"),
-    }
-}
-
-/// The bytes of both areas of node 0 behind the schedule of these bytes.
-fn areas_after(alloc: Global, bytes: &[u8]) -> Result<[Vec<u8>; 2], Refusal> {
-    areas_behind(alloc, &Schedule::parse(alloc, bytes)?)
-}
-
-fn print_areas(rt: &HostRuntime, path: &str, bytes: &[u8]) -> io::Result<()> {
-    match areas_after(rt.alloc(), bytes) {
-        Ok(areas) => {
-            for area in &areas {
-                println!(rt; "{path} area of {} bytes", area.len())?;
-                for byte in area {
-                    println!(rt; "{byte:02X}")?;
-                }
-            }
-            Ok(())
-        }
-        Err(refusal) => println!(rt; "{path} {refusal}"),
-    }
-}
-
-/// The sweep of the schedule of these bytes, with the words of seed 0.
-fn sweep_text(alloc: Global, bytes: &[u8]) -> Result<Vec<u8>, Refusal> {
-    let schedule = Schedule::parse(alloc, bytes)?;
-    let lines = rr_sweep::sweep(alloc, schedule.nodes().count(), &schedule, 0)?;
-    let mut text = Vec::new(alloc);
-    push_sweep_lines(&mut text, lines.as_slice())?;
-    Ok(text)
-}
-
-fn print_restarts(rt: &HostRuntime, path: &str, bytes: &[u8]) -> io::Result<()> {
-    match sweep_text(rt.alloc(), bytes) {
-        Ok(text) => {
-            println!(rt; "{path} swept")?;
-            rt.stdout().write_all(&text)
-        }
-        Err(refusal) => println!(rt; "{path} {refusal}"),
-    }
-}
-
-fn audit(rt: &HostRuntime, path: &str, bytes: &[u8]) -> io::Result<()> {
-    println!(rt; "{path} audited")?;
-    match audit_on(rt.alloc(), bytes, &mut Counted::new(rt.stdout())) {
-        Ok(Verdict::Yes(count)) => println!(rt; "audit yes {count}"),
-        Ok(Verdict::No(number, _, _)) => {
-            print_refusal(&mut rt.stdout(), &Refusal::AuditNo(number))
-        }
-        Err(refusal) => print_refusal(&mut rt.stdout(), &refusal),
+/// Does a task with a text or a row.
+fn do_task(rt: &HostRuntime, task: Task, word: &str) -> io::Result<()> {
+    match task {
+        Task::Texts(work) => work_on(rt, work, word),
+        Task::Folders => try_folder(rt, word),
+        Task::Crashes(cuts) => try_crashes(rt, word, cuts),
     }
 }
 
 fn main(rt: HostRuntime) -> io::Result<()> {
-    let mut task = Task::Read;
+    let mut task = Task::Texts(Work::Read);
     for word in env::args(&rt)?.skip(1) {
-        match word.as_str() {
-            "run" => task = Task::Run,
-            "areas" => task = Task::Areas,
-            "sweep" => task = Task::Sweep,
-            "restarts" => task = Task::Restarts,
-            "audit" => task = Task::Audit,
-            "examine" => task = Task::Examine,
-            "full-list" => full_list::full_list(&rt)?,
-            path => {
-                let bytes = fs::read(&rt, path)?;
-                match task {
-                    Task::Read => read_again(&rt, path, &bytes)?,
-                    Task::Run => run(&rt, path, &bytes)?,
-                    Task::Areas => print_areas(&rt, path, &bytes)?,
-                    Task::Sweep => sweep::sweep(&rt, path, &bytes)?,
-                    Task::Restarts => print_restarts(&rt, path, &bytes)?,
-                    Task::Audit => audit(&rt, path, &bytes)?,
-                    Task::Examine => print_audit(&rt, &bytes)?,
-                }
-            }
+        if word.as_str() == "full-list" {
+            full_list::full_list(&rt)?;
+        } else if let Some(named) = task_of(word.as_str()) {
+            task = named;
+        } else {
+            do_task(&rt, task, word.as_str())?;
         }
     }
     Ok(())

@@ -86,9 +86,9 @@ fn absorbed(rt: &impl Abort, alloc: Global) -> Instances {
     let mut table = Instances::restored(alloc, &[], 0).expect(rt, "memory");
     assert_open(rt, &table, [0, 1, 2, 3, 4, 5, 6, 7]);
     let entry = decided(2, 1).expect(rt, "memory");
+    let row = Row::promised(alloc, 0, &entry).expect(rt, "memory");
     let mut rows = Vec::new(alloc);
-    rows.push(Row::promised(alloc, 0, &entry))
-        .expect(rt, "memory");
+    rows.push(row).expect(rt, "memory");
     table.absorb(alloc, &mut rows).expect(rt, "memory");
     table.mark(&[]);
     table

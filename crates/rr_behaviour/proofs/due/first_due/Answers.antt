@@ -1,4 +1,4 @@
-use Rattle.std.proofs.Common.{◌≡◌, ◌+◌, ap, sym, ◌∙◌, subst, true, drop, IsTrue, Option, None, option_map, arith}
+use Rattle.std.proofs.Common.{refl, ◌≡◌, ◌+◌, ap, sym, ◌∙◌, subst, true, drop, IsTrue, Option, None, option_map, arith}
 use Rattle.rr_model.specs.NodeState.{Row}
 use Rattle.rr_model.specs.NodeDue.{due_at, first_due}
 use Rattle.rr_model.specs.NodeDue.Due.{Begin}
@@ -15,7 +15,7 @@ loop-instance-preserved c =
     let more : due_at s i ≡ None → first_due s (drop (c.loop-instance.instance-index + 1) is) ≡ first_due s is = λ none. sym (first_due_more s is c.loop-instance.instance-index i c.loop-instance-test.true c.instance-item.is none) ∙ inv.left in
     elim c.match-row.branch [
       | in-Some+in_default w ↦ record {
-        left = more (due_stops s i _ _ _ w.in-Some.ensures (ap (λ (r : Row). r.tally) w.row-in-Some.view_is) (ap (λ (r : Row). r.standing) w.row-in-Some.view_is) w.in_default.ensures.value);
+        left = more (due_stops s i _ _ _ w.in-Some.ensures refl refl w.in_default.ensures.value);
         spent = λ t. inv.spent (subst IsTrue w.is_pool_spent-is t);
       }
       | in-None+then-not-is_pool_spent+in_default-first_free w ↦

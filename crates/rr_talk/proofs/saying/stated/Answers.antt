@@ -7,4 +7,4 @@ loop-index-init g c = (rw c.new-text.ensures.items nothing, omega (arith))
 
 pub loop-index-preserved : goal.loop-index-preserved
 loop-index-preserved g c =
-    (rw c.in_ok-say_status.ensures.ok (more c.loop-index.invariant.0 c.in_ok-status.status (c.in_ok-status.ensures ∙ c.in-Some.ensures.value)), omega (arith, c.loop-index-test.true))
+    (rw c.in_ok-say_status.ensures.ok (more c.loop-index.invariant.0 c.in_ok-status.status (c.in_ok-status.ensures.node ∙ c.in-Some.ensures.value) c.in_ok-status.ensures.own), omega (arith, c.loop-index-test.true))

@@ -4,4 +4,4 @@ use Rattle.rr_talk.specs.Talks.{Stated}
 use Rattle.rr_talk.proofs.saying.stated.Given as goal
 
 abbrev pub invariant-loop-index : goal.invariant-loop-index
-invariant-loop-index g l = Stated l.fn.json l.index l.text.items × (l.index ≤ l.index-end)
+invariant-loop-index g l = Stated g.A.Asked.did l.fn.json l.index l.text.items × (l.index ≤ l.index-end)

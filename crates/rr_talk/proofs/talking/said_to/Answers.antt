@@ -13,7 +13,7 @@ returns-in-TooLong g c = rw (c.in-TooLong.is, c.in_ok-faulted-in-TooLong.ensures
 pub returns-in-Ok : goal.returns-in-Ok
 returns-in-Ok g c =
     let read : shell_line_at c.args.nodes (line_of c.in-Line.line) ≡ Ok c.in-Ok.line = sym (c.in-Ok.ensures ∙ ap (shell_line_at c.args.nodes) (c.without_return-line.ensures ∙ ap (strip_last 13) c.as_slice.ensures.value)) in
-    rw c.in-Line.is (IfOk-weaker c.said_to_request.result _ _ (λ said is. said_to_line c.args.json c.args.nodes c.args.node c.in-Line.line c.in-Ok.line said read is) c.said_to_request.ensures)
+    rw c.in-Line.is (IfOk-weaker c.said_to_request.result _ _ (λ said is. said_to_line g.A.Asked.did c.args.json c.args.nodes c.args.node c.in-Line.line c.in-Ok.line said read is) c.said_to_request.ensures)
 
 pub returns-in_ok-faulted-in-Err : goal.returns-in_ok-faulted-in-Err
 returns-in_ok-faulted-in-Err g c =

@@ -1,4 +1,4 @@
-use Rattle.std.proofs.Common.{refl, ap, ◌∙◌, ◌++◌, ◌∷◌, []}
+use Rattle.std.proofs.Common.{refl, ◌∙◌, ◌+◌}
 use Rattle.rr_list.proofs.PrefixLemmas.{move_next}
 use Rattle.rr_list.proofs.marks.Marks.close_up.Goals as goal
 
@@ -6,11 +6,12 @@ pub loop-command-preserved : goal.loop-command-preserved
 loop-command-preserved c =
     let so_far = c.loop-command.invariant in
     let moved =
-    move_next c.loop-command.self (record { commands = c.push_reserved.new.self; entries = c.pop_first.new.self; prefix = c.loop-command.self.prefix }) c.in-Some.command c.in-Some-pop_first.field-0
-    so_far.marks c.in-Some.ensures c.in-Some-pop_first.ensures.removal (c.push_reserved.ensures.items ∙ ap (λ xs. xs ++ c.in-Some.command ∷ []) c.try_reserve.ensures.items) refl in
+    move_next c.args.rows.now c.loop-command.self (record { moved = c.loop-command.self.moved + 1; entries = c.pop_first.new.self; prefix = c.loop-command.self.prefix }) _ c.in-Some-pop_first.field-0
+    so_far.marks so_far.moved c.in-Some.ensures c.in-Some-pop_first.ensures.removal refl refl in
     record {
       value = moved.value ∙ so_far.value;
       marks = moved.marks;
+      moved = moved.moved;
       prefix = so_far.prefix;
       places = λ i. moved.places i ∙ so_far.places i;
     }

@@ -1,13 +1,14 @@
 use Rattle.std.proofs.Common.{◌≡◌, ℕ, length}
-use Rattle.rr_list.specs.Marked.{marked_in, has_mark_place, AreMarks}
+use Rattle.rr_list.specs.Marked.{marked_in, has_mark_place, AreMarks, HaveMoved}
 use Rattle.rr_list.proofs.marks.Marks.close_up.Given as goal
 
--- a command that moves stays where it was in the promise
+-- an entry that leaves the tree stays where it was in the promise
 abbrev pub invariant-loop-command : goal.invariant-loop-command
 invariant-loop-command l =
     record {
-      value : marked_in l.self ≡ marked_in l.fn.self;
+      value : marked_in l.rows l.self ≡ marked_in l.rows l.fn.self;
       marks : AreMarks l.self;
+      moved : HaveMoved l.rows l.self;
       prefix : l.self.prefix ≡ l.fn.self.prefix;
       places : (i : ℕ) → has_mark_place l.self i ≡ has_mark_place l.fn.self i;
     }

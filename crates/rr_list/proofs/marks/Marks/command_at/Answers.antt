@@ -5,4 +5,4 @@ use Rattle.rr_list.proofs.MarkLemmas.{command_in}
 use Rattle.rr_list.proofs.marks.Marks.command_at.Goals as goal
 
 pub returns : goal.returns
-returns c = c.decision.ensures.value ∙ sym (command_in (marked_in c.args.self.now) c.args.place (ascending c.args.self.now c.requires.marks) (let e = c.requires.counted.count in omega (arith, e, c.if-place-self.false)))
+returns c = c.decision.ensures.value ∙ sym (command_in (marked_in c.args.rows.now c.args.self.now) c.args.place (ascending c.args.rows.now c.args.self.now c.requires.marks) (let e = c.requires.counted.count in omega (arith, e, c.if-place-self.false)))

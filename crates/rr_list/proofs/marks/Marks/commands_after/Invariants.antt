@@ -8,6 +8,6 @@ use Rattle.rr_list.proofs.marks.Marks.commands_after.Given as goal
 abbrev pub invariant-loop-place : goal.invariant-loop-place
 invariant-loop-place l =
     record {
-      left : l.found.items ++ run_from (take_on_all (marked_in l.self) l.facts) l.place ≡ run_from (take_on_all (marked_in l.self) l.facts) l.self.prefix;
+      left : l.found.items ++ run_from (take_on_all (marked_in l.rows l.self) l.facts) l.place ≡ run_from (take_on_all (marked_in l.rows l.self) l.facts) l.self.prefix;
       small : l.place ≤ 1048576;
     }

@@ -3,7 +3,7 @@ use Rattle.rr_list.proofs.PrefixLemmas.{tree_value, tree_marks}
 use Rattle.rr_list.proofs.marks.Marks.insert.Goals as goal
 
 pub returns-clause-value : goal.returns-clause-value
-returns-clause-value c = tree_value c.args.self.now (record c.args.self.now { entries = c.insert.new.map }) _ c.args.entry.now c.requires.marks c.number.ensures.value c.requires.behind refl c.in_ok-insert.ensures.filled
+returns-clause-value c = tree_value c.args.self.now (record c.args.self.now { entries = c.insert.new.map }) _ c.args.entry.now c.requires.marks c.number.ensures.value c.in_ok-insert.ensures.filled
 
 pub returns-clause-marks : goal.returns-clause-marks
 returns-clause-marks c =

@@ -12,6 +12,7 @@ loop-row-preserved c =
     record {
       value = c.make_place.ensures.value ∙ c.loop-row.invariant.value;
       marks = λ h. c.make_place.ensures.marks (c.loop-row.invariant.marks h);
+      moved = c.make_place.ensures.moved ∙ c.loop-row.invariant.moved;
       prefix = c.make_place.ensures.prefix ∙ c.loop-row.invariant.prefix;
       made =
           All-more (λ (r : Row). IsTrue (has_mark_place c.make_place.new.self r.instance)) c.args.rows.now c.loop-row.row-index c.row-item.result c.loop-row-test.true

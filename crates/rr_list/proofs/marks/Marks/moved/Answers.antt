@@ -1,12 +1,13 @@
-use Rattle.std.proofs.Common.{ap, sym, ◌∙◌, ◌<◌, length, slice_index_or, subst}
-use Rattle.std.proofs.lemmas.Bool.{ltb-true}
+use Rattle.std.proofs.Common.{arith}
+use Rattle.rr_list.specs.Listed.{decision_at}
+use Rattle.rr_list.proofs.MarkLemmas.{none_is}
 use Rattle.rr_list.proofs.PrefixLemmas.{stands_moved}
 use Rattle.rr_list.proofs.marks.Marks.moved.Goals as goal
 
 pub returns-in-Some : goal.returns-in-Some
-returns-in-Some c =
-    let l = c.in-Some.ensures.lookup in
-    let items = c.deref.ensures.value in
-    stands_moved c.args.self.now c.args.number c.in-Some.command.now
-    (subst (λ xs. c.args.number < length xs) items (ltb-true c.args.number (length c.deref.result.now) (sym l.0)))
-    (l.1 ∙ ap (λ xs. slice_index_or xs c.args.number c.in-Some.command.now) items)
+returns-in-Some c = let l = c.if-number-self.false in stands_moved c.args.rows.now c.args.self.now c.args.number c.in-Some.command.now (omega (arith, l)) c.in-Some.ensures
+
+pub returns-in-None : goal.returns-in-None
+returns-in-None c =
+    let l = c.if-number-self.false in
+    absurd (none_is (decision_at c.args.rows.now c.args.number) c.in-None.ensures (c.requires c.args.number (omega (arith, l))))

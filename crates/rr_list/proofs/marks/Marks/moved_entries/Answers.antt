@@ -1,12 +1,21 @@
-use Rattle.std.proofs.Common.{◌≡◌, false, true, arith, subst}
-use Rattle.std.specs.Option.{IsSome}
-use Rattle.rr_list.proofs.PrefixLemmas.{moved_small}
+use Rattle.std.proofs.Common.{ap, ◌∙◌, ◌++◌, ◌∷◌, [], ◌-◌, ◌+◌}
+use Rattle.rr_types.specs.declared.promise.Standing.TheVariants.{Decided}
+use Rattle.rr_list.specs.Marked.{decided_entries}
+use Rattle.rr_list.proofs.PrefixLemmas.{entries_some, entries_none}
+use Rattle.rr_list.proofs.marks.Marks.moved_entries.Goals.{in-Some+in-Some-new+in_ok-push-in-Some-new, in_default}
 use Rattle.rr_list.proofs.marks.Marks.moved_entries.Goals as goal
 
-pub unreachable-requires : goal.unreachable-requires
-unreachable-requires c =
-    let small = moved_small c.args.self.now c.requires in
+pub loop-place-preserved : goal.loop-place-preserved
+loop-place-preserved c =
+    let rows = c.args.rows.now in
+    let moved = c.args.self.now.moved in
+    let place = c.loop-place.place in
+    let pushed = c.loop-place.entries.items in
     let below = c.loop-place-test.true in
-    let len = c.len-place-end.ensures in
-    let some : false ≡ true = subst (λ o. IsSome o) c.in-None.is (c.new.ensures.valid.1 (omega (arith, small, below, len))) in
-    cc
+    elim c.match-decided_command.branch [
+      | in-Some+in-Some-new+in_ok-push-in-Some-new w ↦
+          rw w.entries-is (ap (λ xs. xs ++ decided_entries rows (place + 1) (moved - (place + 1))) w.in_ok-push-in-Some-new.ensures.items
+          ∙ ap (λ i. (pushed ++ record { instance = i; standing = Decided w.in-Some.command.now } ∷ []) ++ decided_entries rows (place + 1) (moved - (place + 1))) w.in-Some-new.ensures.value
+          ∙ entries_some rows place moved pushed w.in-Some.command.now below w.in-Some.ensures ∙ c.loop-place.invariant)
+      | in_default w ↦ rw w.entries-is (entries_none rows place moved pushed below w.in_default.ensures ∙ c.loop-place.invariant)
+    ]

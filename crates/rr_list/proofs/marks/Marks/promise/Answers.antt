@@ -7,5 +7,5 @@ use Rattle.rr_list.proofs.marks.Marks.promise.Goals as goal
 pub returns-clause-ascending : goal.returns-clause-ascending
 returns-clause-ascending c =
     let done : c.loop-place.rest ≡ [] = c.in_default.ensures.steps.0 in
-    promise_ascends c.args.self.now c.loop-place.promise.items c.requires
+    promise_ascends c.args.rows.now c.args.self.now c.loop-place.promise.items c.requires
     (sym (append-nil c.loop-place.promise.items) ∙ ap (λ es. c.loop-place.promise.items ++ entries_in (filled es)) (sym done) ∙ c.loop-place.invariant)

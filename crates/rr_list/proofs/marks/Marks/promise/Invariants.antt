@@ -5,7 +5,7 @@ use Rattle.rr_list.proofs.marks.Marks.promise.Given as goal
 
 -- what is pushed, and what is left of the tree
 abbrev pub invariant-loop-place : goal.invariant-loop-place
-invariant-loop-place l = l.promise.items ++ entries_in (filled l.rest) ≡ marked_in l.self
+invariant-loop-place l = l.promise.items ++ entries_in (filled l.rest) ≡ marked_in l.rows l.self
 
 abbrev pub decreases-loop-place : goal.decreases-loop-place
 decreases-loop-place l = length l.rest

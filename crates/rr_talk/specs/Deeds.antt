@@ -1,0 +1,22 @@
+-- What those whom a shell asks do for its lines.
+use Rattle.std.specs.Prelude.{ℕ, Bool, List, Option}
+use Rattle.rr_types.specs.declared.command.Op.{Op}
+use Rattle.rr_script.specs.declared.answer.Answer.{Answer}
+use Rattle.rr_shell.specs.declared.listing.Listing.{Listing}
+use Rattle.rr_shell.specs.declared.outcome.Outcome.{Outcome}
+use Rattle.rr_shell.specs.declared.status.NodeStatus.{NodeStatus}
+
+-- what is done at a node, and what came of it: an operation is submitted there, or what is kept is submitted again, or a sync; a name is
+-- looked at, or names are listed; the node is found not to be on, it is stopped, or started; it is asked for a snapshot, which is
+-- written or not; or it tells of itself
+pub data Deed : Type 0 where
+  submits : (node : ℕ) (op : Op) (outcome : Outcome) → Deed
+  repeats : (node : ℕ) (outcome : Outcome) → Deed
+  catches_up : (node : ℕ) (outcome : Outcome) → Deed
+  looks : (node : ℕ) (name : List ℕ) (answer : Answer) → Deed
+  lists : (node : ℕ) (prefix : Option (List ℕ)) (listing : Listing) → Deed
+  finds_off : (node : ℕ) → Deed
+  stops : (node : ℕ) → Deed
+  starts : (node : ℕ) → Deed
+  snaps : (node : ℕ) (is_written : Bool) → Deed
+  tells : (status : NodeStatus) → Deed
