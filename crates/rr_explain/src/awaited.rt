@@ -1,5 +1,8 @@
 //! What may stand next in a line of a schedule, a tape or a script.
 
+ghost use Rattle.std.specs.Prelude.{◌≡◌};
+ghost use Rattle.rr_explain.specs.Faults.{ArePlain};
+
 use crate::recorded::Recorded;
 use rr_text::EventKind;
 use rr_text::text_read::{hex_byte, keyword, node, number, op_kind, set, small_number};
@@ -32,7 +35,9 @@ pub(crate) enum Awaited {
 
 impl Awaited {
     /// What it is called.
-    pub(crate) fn called(self) -> &'static str {
+    pub(crate) fn called(self) -> &'static str
+        ensures { ArePlain result.now }
+    {
         match self {
             Awaited::Event => "event",
             Awaited::Node(_) | Awaited::Looker => "node",
@@ -53,7 +58,9 @@ impl Awaited {
     }
 
     /// What is expected there.
-    pub(crate) fn expected(self, nodes: Nodes) -> &'static str {
+    pub(crate) fn expected(self, nodes: Nodes) -> &'static str
+        ensures { ArePlain result.now }
+    {
         match self {
             Awaited::Event => {
                 "submit, hear, suspect, tick, advance, take, dev, fail, mark, send, ack, snap, crash or restart"
@@ -136,7 +143,9 @@ impl Awaited {
     }
 
     /// What is said of an empty line that was to begin with this.
-    pub(crate) fn empty(self) -> &'static str {
+    pub(crate) fn empty(self) -> &'static str
+        ensures { ArePlain result.now }
+    {
         match self {
             Awaited::Asked => "an empty line; expected submit or look",
             _ => "an empty line; expected an event",
@@ -161,7 +170,9 @@ fn behind_asked(word: &[u8]) -> Option<Awaited> {
 }
 
 /// The nodes that there are.
-pub(crate) fn digits(nodes: Nodes) -> &'static str {
+pub(crate) fn digits(nodes: Nodes) -> &'static str
+    ensures { ArePlain result.now }
+{
     match nodes.count() {
         1 => "0",
         2 => "0 or 1",

@@ -1,7 +1,12 @@
 //! The fault of a schedule, a tape or a script.
 
+ghost use Rattle.std.specs.Prelude.{◌≡◌, ◌⊎◌, ℕ, ◌+◌, ◌-◌, ◌≤◌, List, ◌∷◌, ◌++◌, length, IfSome, MatchOption, OnOk};
+ghost use Rattle.std.specs.Io.KnownBytes.{Appends};
+ghost use Rattle.rr_explain.specs.Faults.{ArePlain, line_at, first_word, AreSaid, MayBeUntold, IsTold, IsToldOfScript};
+ghost use Rattle.rr_explain.specs.Found.{kind_words, IsFaultOf, IsFound, EndsWith};
+
 use crate::awaited::Awaited;
-use crate::fault::{Fault, Kind};
+use crate::fault::{Fault, Kind, print_found, said};
 use crate::recorded::Recorded;
 use rr_text::MAX_EVENTS;
 use rr_text::text_parse::first_line;
@@ -9,8 +14,6 @@ use rr_text::text_read::{cut, is_number};
 use rr_types::{Nodes, Refusal};
 use std::io;
 use std::io::Write;
-
-const CARRIAGE_RETURN: &str = "a carriage return stands before the line feed";
 
 /// Prints a line for people, behind the line of the refusal with which `Schedule::parse` answers these bytes: the name of
 /// the text, the line and the byte of it where it is at fault, both from 1, what stands there, and what is expected. It
@@ -23,11 +26,10 @@ pub fn print_schedule_fault<W: Write>(
     name: &str,
     bytes: &[u8],
     refusal: &Refusal,
-) -> io::Result<()> {
-    match fault_of(Awaited::Event, bytes, refusal) {
-        Some(fault) => fault.print(err, name),
-        None => Ok(()),
-    }
+) -> io::Result<()>
+    ensures { OnOk result ((text : List ℕ) × IsTold name.now bytes.now refusal.now text × Appends (W.contents err.old) (W.contents err.new) text) }
+{
+    print_text_fault(err, name, Awaited::Event, bytes, refusal)
 }
 
 /// The same of a tape, and of the refusal with which `Tape::parse` answers.
@@ -39,11 +41,16 @@ pub fn print_tape_fault<W: Write>(
     name: &str,
     bytes: &[u8],
     refusal: &Refusal,
-) -> io::Result<()> {
-    match fault_of(Awaited::Recorded(Recorded::Event), bytes, refusal) {
-        Some(fault) => fault.print(err, name),
-        None => Ok(()),
-    }
+) -> io::Result<()>
+    ensures { OnOk result ((text : List ℕ) × IsTold name.now bytes.now refusal.now text × Appends (W.contents err.old) (W.contents err.new) text) }
+{
+    print_text_fault(
+        err,
+        name,
+        Awaited::Recorded(Recorded::Event),
+        bytes,
+        refusal,
+    )
 }
 
 /// The same of a script for these nodes, and of the refusal with which `Script::parse` answers.
@@ -56,41 +63,74 @@ pub fn print_script_fault<W: Write>(
     nodes: Nodes,
     bytes: &[u8],
     refusal: &Refusal,
-) -> io::Result<()> {
-    let fault = match refusal {
-        Refusal::BadEvent(line) => fault_in_line(Awaited::Asked, nodes, 1, *line, bytes),
-        _ => None,
-    };
-    match fault {
-        Some(fault) => fault.print(err, name),
-        None => Ok(()),
+) -> io::Result<()>
+    ensures { OnOk result ((text : List ℕ) × IsToldOfScript name.now bytes.now refusal.now text × Appends (W.contents err.old) (W.contents err.new) text) }
+{
+    match refusal {
+        Refusal::BadEvent(line) => print_script_line_fault(err, name, nodes, *line, bytes),
+        _ => Ok(()),
     }
+}
+
+// Prints what is wrong where bytes are refused so, whose lines from the second on begin with what is awaited.
+fn print_text_fault<W: Write>(
+    err: &mut W,
+    name: &str,
+    begin: Awaited,
+    bytes: &[u8],
+    refusal: &Refusal,
+) -> io::Result<()>
+    ensures { OnOk result ((text : List ℕ) × IsTold name.now bytes.now refusal.now text × Appends (W.contents err.old) (W.contents err.new) text) }
+{
+    let found = fault_of(begin, bytes, refusal);
+    print_found(err, name, found)
+}
+
+// Prints what is wrong in the line of this number of a script.
+fn print_script_line_fault<W: Write>(
+    err: &mut W,
+    name: &str,
+    nodes: Nodes,
+    number: u64,
+    bytes: &[u8],
+) -> io::Result<()>
+    ensures { OnOk result ((text : List ℕ) × IsToldOfScript name.now bytes.now (Refusal.BadEvent number) text × Appends (W.contents err.old) (W.contents err.new) text) }
+{
+    let found = fault_in_line(Awaited::Asked, nodes, number, bytes);
+    print_found(err, name, found)
 }
 
 // What is wrong where these bytes are refused so, whose lines from the second on begin with what is awaited.
-fn fault_of<'a>(begin: Awaited, bytes: &'a [u8], refusal: &Refusal) -> Option<Fault<'a>> {
+fn fault_of<'a>(begin: Awaited, bytes: &'a [u8], refusal: &Refusal) -> Option<Fault<'a>>
+    ensures { IsFound bytes.now refusal.now result }
+{
     match refusal {
-        Refusal::BadNodes => fault_of_first(bytes),
-        Refusal::BadEvent(1) => fault_of_first(bytes),
-        Refusal::BadEvent(line) if *line > MAX_EVENTS as u64 + 1 => {
-            said(*line, 1, "there are at most 1,000,000 events")
-        }
-        Refusal::BadEvent(line) => match first_line(bytes) {
-            Ok((nodes, events)) => fault_in_line(begin, nodes, 2, *line, events),
-            Err(_) => None,
-        },
+        Refusal::BadNodes => Some(fault_of_first(bytes)),
+        Refusal::BadEvent(line) => fault_of_event(begin, *line, bytes),
         _ => None,
     }
 }
 
-// A fault that words say.
-fn said<'a>(line: u64, column: u64, words: &'static str) -> Option<Fault<'a>> {
-    let kind = Kind::Said(words);
-    Some(Fault { line, column, kind })
+// What is wrong where the line of this number has no place.
+fn fault_of_event<'a>(begin: Awaited, number: u64, bytes: &'a [u8]) -> Option<Fault<'a>>
+    ensures { MatchOption result (MayBeUntold number) (IsFaultOf (line_at number bytes.now) number) }
+{
+    if number == 1 {
+        return Some(fault_of_first(bytes));
+    }
+    if number > MAX_EVENTS as u64 + 1 {
+        return Some(said(number, 1, "there are at most 1,000,000 events"));
+    }
+    match first_line(bytes) {
+        Ok((nodes, _)) => fault_in_line(begin, nodes, number, bytes),
+        Err(_) => None,
+    }
 }
 
 // What is wrong in the first line.
-fn fault_of_first<'a>(bytes: &'a [u8]) -> Option<Fault<'a>> {
+fn fault_of_first<'a>(bytes: &'a [u8]) -> Fault<'a>
+    ensures { IsFaultOf (line_at 1 bytes.now) 1 result }
+{
     if bytes.is_empty() {
         return said(
             1,
@@ -98,51 +138,73 @@ fn fault_of_first<'a>(bytes: &'a [u8]) -> Option<Fault<'a>> {
             "the text is empty; expected nodes N, with N from 1 to 7",
         );
     }
-    let Some((line, _)) = cut(bytes, b'\n') else {
-        return said(1, 1, "the last line has no line feed");
-    };
-    if let [.., b'\r'] = line {
-        return said(1, line.len() as u64, CARRIAGE_RETURN);
+    match cut(bytes, b'\n') {
+        Some((line, _)) => fault_of_first_line(line),
+        None => said(1, 1, "the last line has no line feed"),
     }
-    let (word, count) = match cut(line, b' ') {
-        Some((word, count)) => (word, Some(count)),
-        None => (line, None),
-    };
+}
+
+// What is wrong in the first line, without its line feed.
+fn fault_of_first_line<'a>(line: &'a [u8]) -> Fault<'a>
+    ensures { IsFaultOf line.now 1 result }
+{
+    if let Some(fault) = fault_of_ending(1, line) {
+        return fault;
+    }
+    let (word, behind) = next_word(line);
     if word != b"nodes".as_slice() {
         return said(1, 1, "the first line isn't nodes N, with N from 1 to 7");
     }
-    match count {
-        Some(count) if is_number(count) => {
-            let kind = Kind::Word(count, "number of nodes", "1 to 7");
-            Some(Fault {
-                line: 1,
-                column: 7,
-                kind,
-            })
-        }
-        Some(_) => said(
-            1,
-            7,
-            "no number alone; expected a number of nodes from 1 to 7",
-        ),
+    match behind {
+        Some(count) => fault_of_count(line, count),
         None => said(
             1,
-            6,
+            line.len() as u64 + 1,
             "the line ends without its number of nodes; expected 1 to 7",
         ),
     }
 }
 
-// What is wrong in the line of this number, where the first of these lines has that number.
+// What is wrong with the number of nodes, with which the first line ends.
+fn fault_of_count<'a>(line: &[u8], count: &'a [u8]) -> Fault<'a>
+    requires { EndsWith line.now count.now }
+    ensures { IsFaultOf line.now 1 result }
+{
+    let column = column_of(line, count);
+    if is_number(count) {
+        Fault {
+            line: 1,
+            column,
+            kind: Kind::Word(count, "number of nodes", "1 to 7"),
+        }
+    } else {
+        said(
+            1,
+            column,
+            "no number alone; expected a number of nodes from 1 to 7",
+        )
+    }
+}
+
+// At which byte of a line, from 1, the rest of it begins.
+fn column_of(line: &[u8], rest: &[u8]) -> u64
+    requires { EndsWith line.now rest.now }
+    ensures { result ≡ length line.now - length rest.now + 1 }
+{
+    (line.len() - rest.len()) as u64 + 1
+}
+
+// What is wrong in the line of this number.
 fn fault_in_line<'a>(
     begin: Awaited,
     nodes: Nodes,
-    first: u64,
     number: u64,
     lines: &'a [u8],
-) -> Option<Fault<'a>> {
+) -> Option<Fault<'a>>
+    ensures { IfSome result (IsFaultOf (line_at number lines.now) number) }
+{
     let mut rest = lines;
-    for _ in first..number {
+    for _line in 1..number {
         match cut(rest, b'\n') {
             Some((_, behind)) => rest = behind,
             None => return None,
@@ -150,54 +212,82 @@ fn fault_in_line<'a>(
     }
     match cut(rest, b'\n') {
         Some((line, _)) => fault_of_line(begin, nodes, number, line),
-        None => said(number, 1, "the last line has no line feed"),
+        None => Some(said(number, 1, "the last line has no line feed")),
     }
 }
 
 // What is wrong in a line without its line feed.
-fn fault_of_line<'a>(
+fn fault_of_line<'a>(begin: Awaited, nodes: Nodes, number: u64, line: &'a [u8]) -> Option<Fault<'a>>
+    ensures { IfSome result (IsFaultOf line.now number) }
+{
+    if line.is_empty() {
+        return Some(said(number, 1, begin.empty()));
+    }
+    match fault_of_ending(number, line) {
+        Some(fault) => Some(fault),
+        None => fault_of_words(begin, nodes, number, line),
+    }
+}
+
+// What is wrong at the end of a line without its line feed, whatever its words are.
+fn fault_of_ending<'a>(number: u64, line: &[u8]) -> Option<Fault<'a>>
+    ensures { IfSome result (IsFaultOf line.now number) }
+{
+    let [.., b'\r'] = line else {
+        return None;
+    };
+    Some(said(
+        number,
+        line.len() as u64,
+        "a carriage return stands before the line feed",
+    ))
+}
+
+// What is wrong with the words of a line.
+fn fault_of_words<'a>(
     begin: Awaited,
     nodes: Nodes,
     number: u64,
     line: &'a [u8],
-) -> Option<Fault<'a>> {
-    let length = line.len() as u64;
-    match line {
-        [] => return said(number, 1, begin.empty()),
-        [.., b'\r'] => {
-            return said(
-                number,
-                length,
-                "a carriage return stands before the line feed",
-            );
-        }
-        [..] => (),
-    }
+) -> Option<Fault<'a>>
+    ensures { IfSome result (IsFaultOf line.now number) }
+{
     let mut awaited = begin;
     let mut rest = line;
     // No line has more than twelve words.
     for _ in 0..13 {
-        let column = length.saturating_sub(rest.len() as u64).saturating_add(1);
-        match cut(rest, b' ') {
-            Some((word, behind)) => {
-                if let Some(kind) = fault_of_word(nodes, awaited, word) {
-                    return Some(Fault {
-                        line: number,
-                        column,
-                        kind,
-                    });
-                }
-                awaited = awaited.behind(word);
-                rest = behind;
-            }
-            None => return fault_at_the_end(nodes, awaited, number, column, rest),
+        let (word, behind) = next_word(rest);
+        if let Some(kind) = fault_of_word(nodes, awaited, word) {
+            return Some(Fault {
+                line: number,
+                column: column_of(line, rest),
+                kind,
+            });
+        }
+        awaited = awaited.behind(word);
+        match behind {
+            Some(behind) => rest = behind,
+            None => return fault_at_the_end(nodes, awaited, number, line),
         }
     }
     None
 }
 
+// The first word of the rest of a line, and what stands behind the space behind it.
+fn next_word(rest: &[u8]) -> (&[u8], Option<&[u8]>)
+    ensures word { result.0.now ≡ first_word rest.now }
+    ensures behind { IfSome result.1 (λ behind. rest.now ≡ result.0.now ++ 32 ∷ behind.now) }
+{
+    match cut(rest, b' ') {
+        Some((word, behind)) => (word, Some(behind)),
+        None => (rest, None),
+    }
+}
+
 // What is wrong with a word and where it stands.
-fn fault_of_word<'a>(nodes: Nodes, awaited: Awaited, word: &'a [u8]) -> Option<Kind<'a>> {
+fn fault_of_word<'a>(nodes: Nodes, awaited: Awaited, word: &'a [u8]) -> Option<Kind<'a>>
+    ensures { (left : List ℕ) → word.now ≡ first_word left → IfSome result (λ kind. AreSaid left (kind_words kind)) }
+{
     if word.is_empty() {
         Some(Kind::Said("a space too many"))
     } else if awaited.fits(nodes, word) {
@@ -209,22 +299,21 @@ fn fault_of_word<'a>(nodes: Nodes, awaited: Awaited, word: &'a [u8]) -> Option<K
     }
 }
 
-// What is wrong with the last word of a line.
+// What is wrong where a line ends, and this is awaited.
 fn fault_at_the_end<'a>(
     nodes: Nodes,
     awaited: Awaited,
-    line: u64,
-    column: u64,
-    word: &'a [u8],
-) -> Option<Fault<'a>> {
-    if let Some(kind) = fault_of_word(nodes, awaited, word) {
-        return Some(Fault { line, column, kind });
-    }
-    let next = awaited.behind(word);
-    if next.may_end() {
+    number: u64,
+    line: &[u8],
+) -> Option<Fault<'a>>
+    ensures { IfSome result (IsFaultOf line.now number) }
+{
+    if awaited.may_end() {
         return None;
     }
-    let column = column.saturating_add(word.len() as u64);
-    let kind = Kind::Missing(next.called(), next.expected(nodes));
-    Some(Fault { line, column, kind })
+    Some(Fault {
+        line: number,
+        column: line.len() as u64 + 1,
+        kind: Kind::Missing(awaited.called(), awaited.expected(nodes)),
+    })
 }

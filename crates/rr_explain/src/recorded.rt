@@ -1,5 +1,8 @@
 //! What may stand next in a line that only a tape has, and in a tape's lines at all.
 
+ghost use Rattle.std.specs.Prelude.{◌≡◌};
+ghost use Rattle.rr_explain.specs.Faults.{ArePlain};
+
 use crate::awaited::{Awaited, digits};
 use rr_text::EventKind;
 use rr_text::text_read::{cut, keyword, message_kind, node, number, small_number};
@@ -31,7 +34,9 @@ pub(crate) enum Recorded {
 
 impl Recorded {
     /// What it is called.
-    pub(crate) fn called(self) -> &'static str {
+    pub(crate) fn called(self) -> &'static str
+        ensures { ArePlain result.now }
+    {
         match self {
             Recorded::Event => "event of a tape",
             Recorded::Number => "message number",
@@ -50,7 +55,9 @@ impl Recorded {
     }
 
     /// What is expected there.
-    pub(crate) fn expected(self, nodes: Nodes) -> &'static str {
+    pub(crate) fn expected(self, nodes: Nodes) -> &'static str
+        ensures { ArePlain result.now }
+    {
         match self {
             Recorded::Event => "submit, hear, suspect, tick, advance, take, mark, send or ack",
             Recorded::Number => "a number below 2^32 without leading zeros",
