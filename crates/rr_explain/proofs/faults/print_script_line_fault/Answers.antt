@@ -1,10 +1,5 @@
-use Rattle.std.proofs.lemmas.Result.{on_ok_weaker}
-use Rattle.rr_explain.specs.Found.{found_text}
-use Rattle.rr_explain.proofs.FaultLemmas.{told_of_script}
+use Rattle.rr_explain.proofs.FaultLemmas.{printed_of_script}
 use Rattle.rr_explain.proofs.faults.print_script_line_fault.Goals as goal
 
 pub returns : goal.returns
-returns g c =
-    let name = c.args.name.now in
-    let found = c.fault_in_line-found.result in
-    on_ok_weaker c.print_found.result (λ printed. (found_text name found, told_of_script name c.args.bytes.now c.args.number found c.fault_in_line-found.ensures, printed)) c.print_found.ensures
+returns g c = printed_of_script c.print_found.result _ _ c.args.name.now c.args.bytes.now c.args.number c.fault_in_line-found.result c.fault_in_line-found.ensures c.print_found.ensures
