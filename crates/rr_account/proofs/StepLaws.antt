@@ -1,9 +1,8 @@
 -- A step of a cluster adds at most one line to the report, and a run adds those of its steps.
-use Rattle.std.proofs.Common.{◌≡◌, ◌≤◌, ◌⊎◌, inl, inr, ◌++◌, ◌+◌, ◌∷◌, [], ℕ, List, Option, None, Some, Result, Ok, Err, length, map, drop, refl, ap, subst, sym, ◌∙◌, arith}
+use Rattle.std.proofs.Common.{◌≡◌, ◌≤◌, inl, inr, ◌++◌, ◌+◌, ◌∷◌, [], ℕ, List, Option, None, Some, Result, Ok, Err, length, map, drop, refl, ap, subst, sym, ◌∙◌, arith}
 use Rattle.std.specs.Prelude.{Bool, true, false, if◌then◌else◌, ◌==◌, slice_get}
 use Rattle.std.specs.Option.{option_map_or}
 use Rattle.std.proofs.lemmas.List.{append_assoc, append-nil, length-append, map-append}
-use Rattle.rr_types.specs.declared.command.Command.{Command}
 use Rattle.rr_types.specs.declared.message.Message.{Message}
 use Rattle.rr_types.specs.declared.refusal.Refusal.{Refusal}
 use Rattle.rr_types.specs.declared.input.Input.TheVariants as input
@@ -12,7 +11,7 @@ use Rattle.rr_node.specs.declared.event.NodeEvent.{NodeEvent}
 use Rattle.rr_node.specs.declared.event.NodeEvent.TheVariants as node
 use Rattle.rr_node.specs.declared.event.Outcome as left
 use Rattle.rr_node.specs.declared.event.Outcome.TheVariants.{Quiet, Left, Replied, Opened}
-use Rattle.rr_node.specs.Seats.{Seat, Answer, seat_step, starve, seat_fails, starve_fails, crashed}
+use Rattle.rr_node.specs.Seats.{Seat, Answer, seat_step, starve, seat_fails, starve_fails}
 use Rattle.rr_text.specs.declared.event.Event.{Event}
 use Rattle.rr_text.specs.declared.event.Event.TheVariants.{Submit, Hear, Suspect, Tick, Advance, Take, Device, Fail, Mark, Send, Ack, Snap, Crash, Restart}
 use Rattle.rr_text.specs.declared.report.ReportLine.{ReportLine}
@@ -24,7 +23,7 @@ use Rattle.rr_sim.proofs.HeadlineLaws.{is_world_run, agrees}
 use Rattle.rr_sim.proofs.NodeLaws.{node_laws}
 use Rattle.rr_sim.proofs.RealTimeLaws.{keeps_real_time}
 use Rattle.rr_account.specs.declared.outcome.Outcome.{Outcome}
-use Rattle.rr_account.specs.Accounts.{Accounted, lines_told, AddEach, AreWatched, IsOfOneRun, IsReportOf}
+use Rattle.rr_account.specs.Accounts.{lines_told, AddEach, AreWatched, IsOfOneRun, IsReportOf}
 use Rattle.rr_account.proofs.ShareLaws.{joined}
 
 -- ---- a step

@@ -1,5 +1,5 @@
 -- The account of a tape.
-use Rattle.std.specs.Prelude.{◌≡◌, List, map, Option, None, Some}
+use Rattle.std.specs.Prelude.{◌≡◌, List, map}
 use Rattle.std.specs.List.{flat_map}
 use Rattle.std.specs.Option.{option_map_or}
 use Rattle.rr_model.specs.Sound.{IsDecidedList}

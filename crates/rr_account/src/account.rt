@@ -7,7 +7,7 @@ ghost use Rattle.rr_account.specs.Accounts.{lines_told};
 use crate::outcome::Outcome;
 use crate::reasons::Reason;
 use rr_text::{Event, Report, ReportLine, Schedule};
-use rr_types::{Command, Refusal};
+use rr_types::Command;
 use std::marker::Model;
 
 /// The account of a run: its schedule, what came of each event in turn, and its report.
@@ -107,14 +107,6 @@ impl Account {
                 Some(line) => (true, Reason::of_line(line)),
                 None => (false, Reason::Told),
             },
-        }
-    }
-
-    /// The refusal that the report tells of on the line after its first `told` lines, if that line tells of one.
-    pub(crate) fn refusal(&self, told: usize) -> Option<Refusal> {
-        match self.report.lines().get(told) {
-            Some(ReportLine::Refuse { refusal, .. }) => Some(*refusal),
-            _ => None,
         }
     }
 

@@ -23,7 +23,9 @@
 
 mod account;
 mod difference;
+mod event_sort;
 mod explaining;
+mod heard;
 mod json;
 mod kind;
 mod note;

@@ -1,15 +1,17 @@
 //! What came of an event, in plain words.
 
-ghost use Rattle.std.specs.Prelude.{◌≡◌, IfOk, IfErr};
+ghost use Rattle.std.specs.Prelude.{◌≡◌, ◌≤◌, slice_get, IfOk, IfErr};
+ghost use Rattle.rr_account.specs.Accounts.{lines_told};
+ghost use Rattle.rr_account.specs.Counts.{said_by, reason_of, reasons_behind, is_told, is_done, is_refused, is_idle};
 ghost use Rattle.rr_account.specs.Texts.{IsNoteOn};
 
-use crate::outcome::Idle;
+use crate::outcome::{Idle, Outcome};
 use rr_sim::node_of;
 use rr_text::text_schedule::push_event;
 use rr_text::text_word::{push_bytes, push_number};
 use rr_text::{Event, ReportLine};
 use rr_types::Refusal;
-use std::alloc::Global;
+use std::alloc::{AllocError, Global};
 use std::io;
 use std::io::Write;
 
@@ -28,17 +30,84 @@ pub(crate) enum Reason {
 
 impl Reason {
     /// What is said of the event of a line of a report.
-    pub(crate) fn of_line(line: &ReportLine) -> Reason {
+    pub(crate) fn of_line(line: &ReportLine) -> Reason
+        ensures { result ≡ said_by line.now }
+    {
         match line {
             ReportLine::Refuse { refusal, .. } => Reason::Refused(*refusal),
             _ => Reason::Told,
         }
     }
 
+    /// Whether the report has a line of it, which is no refusal.
+    pub(crate) fn is_told(&self) -> bool
+        ensures { result ≡ is_told self.now }
+    {
+        matches!(self, Reason::Told)
+    }
+
+    /// Whether it was done, and the report has no line of it.
+    pub(crate) fn is_done(&self) -> bool
+        ensures { result ≡ is_done self.now }
+    {
+        matches!(self, Reason::Done)
+    }
+
+    /// Whether it was refused.
+    pub(crate) fn is_refused(&self) -> bool
+        ensures { result ≡ is_refused self.now }
+    {
+        matches!(self, Reason::Refused(_))
+    }
+
     /// Whether it came to nothing.
-    pub(crate) fn is_idle(&self) -> bool {
+    pub(crate) fn is_idle(&self) -> bool
+        ensures { result ≡ is_idle self.now }
+    {
         matches!(self, Reason::Idle(_))
     }
+}
+
+// What is said of an event of which this came, where the report has so many lines of the events before it.
+fn reason_at(lines: &[ReportLine], told: usize, outcome: Outcome) -> Reason
+    ensures { result ≡ reason_of outcome (slice_get lines.now told) }
+{
+    match outcome {
+        Outcome::Quiet => Reason::Done,
+        Outcome::Idle(idle) => Reason::Idle(idle),
+        Outcome::Told => match lines.get(told) {
+            Some(line) => Reason::of_line(line),
+            None => Reason::Told,
+        },
+    }
+}
+
+// How many lines a report has of an event of which this came.
+fn lines_told(outcome: Outcome) -> usize
+    ensures value { result ≡ lines_told outcome }
+    ensures one { result ≤ 1 }
+{
+    match outcome {
+        Outcome::Told => 1,
+        Outcome::Quiet | Outcome::Idle(_) => 0,
+    }
+}
+
+/// What is said of each of the events of which these came, and which have these lines in the report.
+pub(crate) fn reasons_of(
+    alloc: Global,
+    lines: &[ReportLine],
+    outcomes: &[Outcome],
+) -> Result<Vec<Reason>, AllocError>
+    ensures { IfOk result (λ reasons. reasons.items ≡ reasons_behind lines.now 0 outcomes.now) }
+{
+    let mut reasons = Vec::new(alloc);
+    let mut told = 0usize;
+    for outcome in outcomes {
+        reasons.push(reason_at(lines, told, *outcome))?;
+        told += lines_told(*outcome);
+    }
+    Ok(reasons)
 }
 
 /// The note on the event of a line: its line, its text, and what it did or why it was refused or came to nothing.

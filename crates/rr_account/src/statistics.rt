@@ -1,12 +1,14 @@
 //! Statistics of a run: what happened, and how often.
 
-ghost use Rattle.std.specs.Prelude.{◌≡◌, ◌≤◌, ℕ, ◌<◌, length, map, IfOk, IfErr};
+ghost use Rattle.std.specs.Prelude.{◌≡◌, ℕ, map, slice_index, IfOk, IfErr};
 ghost use Rattle.std.specs.List.{AllByRecursion};
-ghost use Rattle.rr_account.specs.Counts.{count_events, count_messages, is_sent_kind, event_kinds, message_kinds};
+ghost use Rattle.rr_account.specs.Counts.{count_events, event_kinds, message_kinds, reasons_of, hearings, times, HasEventCounts, HasMessageCounts, AreStatistics};
 
 use crate::account::Account;
-use crate::kind::{EVENT_KINDS, MESSAGE_KINDS, is_event_kind, is_message_kind};
-use crate::outcome::Outcome;
+use crate::event_sort::{EventSort, count_of};
+use crate::heard::{count_again, count_heard, count_messages, count_never, hearings, times_heard};
+use crate::kind::{EVENT_KINDS, MESSAGE_KINDS, is_event_kind};
+use crate::reasons::{Reason, reasons_of};
 use rr_text::{Event, EventKind, ReportLine};
 use rr_types::{Body, Instance, MessageKind, Refusal, Round};
 use std::alloc::{AllocError, Global};
@@ -57,77 +59,66 @@ pub struct Statistics {
 /// # Errors
 /// `OutOfMemory`.
 pub fn statistics_of(alloc: Global, account: &Account) -> Result<Statistics, Refusal>
-    ensures kinds { IfOk result (λ s. map (λ r. r.kind) s.events.items ≡ event_kinds) }
-    ensures events { IfOk result (λ s. AllByRecursion (λ r. r.events ≡ count_events r.kind account.now.schedule.events) s.events.items) }
-    ensures message_kinds { IfOk result (λ s. map (λ r. r.kind) s.messages.items ≡ message_kinds) }
-    ensures messages { IfOk result (λ s. AllByRecursion (λ r. r.sent ≡ count_messages r.kind account.now.report.lines) s.messages.items) }
-    ensures decided { IfOk result (λ s. s.decided ≡ length account.now.report.decided) }
+    ensures ok { IfOk result (λ s. AreStatistics account.now s) }
     ensures err { IfErr result (λ e. e ≡ Refusal.OutOfMemory) }
 {
-    let heard = times_heard(alloc, account)?;
-    let events = event_counts(alloc, account)?;
-    let messages = message_counts(alloc, account, heard.as_slice())?;
+    let reasons = reasons_of(alloc, account.lines(), account.outcomes())?;
+    let counts = times_in(alloc, account, reasons.as_slice())?;
+    let events = event_counts(alloc, account, reasons.as_slice())?;
+    let messages = message_counts(alloc, account, counts.as_slice())?;
     let refusals = refusal_counts(alloc, account.lines())?;
     let rounds = rounds_of(alloc, account)?;
     Ok(Statistics {
         nodes: account.schedule().nodes().count(),
         decided: account.decided().len() as u64,
         rounds,
-        device_calls: device_calls(account),
+        device_calls: count_of(account.events(), reasons.as_slice(), EventSort::Calls),
         events,
         messages,
         refusals,
     })
 }
 
-// The counts of all kinds of events.
-fn event_counts(alloc: Global, account: &Account) -> Result<Vec<EventCount>, AllocError>
+// How often each message was heard, by its number, where this is said of the events in turn.
+fn times_in(alloc: Global, account: &Account, reasons: &[Reason]) -> Result<Vec<u64>, AllocError>
+    requires { reasons.now ≡ reasons_of account.now }
+    ensures { IfOk result (λ counts. (k : ℕ) → slice_index counts.items k ≡ times (hearings account.now) k) }
+{
+    let heard = hearings(alloc, account.events(), reasons)?;
+    times_heard(alloc, heard.as_slice())
+}
+
+// The counts of all kinds of events, of which this is said in turn.
+fn event_counts(
+    alloc: Global,
+    account: &Account,
+    reasons: &[Reason],
+) -> Result<Vec<EventCount>, AllocError>
+    requires { reasons.now ≡ reasons_of account.now }
     ensures kinds { IfOk result (λ rows. map (λ r. r.kind) rows.items ≡ event_kinds) }
-    ensures events { IfOk result (λ rows. AllByRecursion (λ r. r.events ≡ count_events r.kind account.now.schedule.events) rows.items) }
+    ensures events { IfOk result (λ rows. AllByRecursion (HasEventCounts account.now) rows.items) }
 {
     let mut rows = Vec::new(alloc);
     for kind in &EVENT_KINDS {
-        rows.push(event_count(account, *kind))?;
+        rows.push(event_count(account, reasons, *kind))?;
     }
     Ok(rows)
 }
 
-// The counts of a kind of events.
-fn event_count(account: &Account, kind: EventKind) -> EventCount
+// The counts of a kind of events, of which this is said in turn.
+fn event_count(account: &Account, reasons: &[Reason], kind: EventKind) -> EventCount
+    requires { reasons.now ≡ reasons_of account.now }
     ensures kind { result.kind ≡ kind }
-    ensures events { result.events ≡ count_events kind account.now.schedule.events }
+    ensures counts { HasEventCounts account.now result }
 {
-    let mut count = EventCount {
+    let events = account.events();
+    EventCount {
         kind,
-        events: count_events(account.events(), kind),
-        told: 0,
-        refused: 0,
-        idle: 0,
-    };
-    let mut line = 2u64;
-    let mut told = 0usize;
-    for event in account.events() {
-        let outcome = account.outcome_of(line);
-        let is_refused = account.refusal(told).is_some();
-        if let Outcome::Told = outcome {
-            told = told.saturating_add(1);
-        }
-        if is_event_kind(kind, event) {
-            match outcome {
-                Outcome::Quiet => (),
-                Outcome::Told => {
-                    if is_refused {
-                        count.refused = count.refused.saturating_add(1);
-                    } else {
-                        count.told = count.told.saturating_add(1);
-                    }
-                }
-                Outcome::Idle(_) => count.idle = count.idle.saturating_add(1),
-            }
-        }
-        line = line.saturating_add(1);
+        events: count_events(events, kind),
+        told: count_of(events, reasons, EventSort::Told(kind)),
+        refused: count_of(events, reasons, EventSort::Refused(kind)),
+        idle: count_of(events, reasons, EventSort::Idle(kind)),
     }
-    count
 }
 
 // How many of the events are of a kind.
@@ -143,86 +134,37 @@ fn count_events(events: &[Event], kind: EventKind) -> u64
     count
 }
 
-// How many lines of a report tell of a message of a kind that was sent.
-fn count_messages(lines: &[ReportLine], kind: MessageKind) -> u64
-    ensures { result ≡ count_messages kind lines.now }
-{
-    let mut count = 0u64;
-    for line in lines {
-        if is_sent(line, kind) {
-            count += 1;
-        }
-    }
-    count
-}
-
-// Whether a line of a report tells that a message of a kind was sent.
-fn is_sent(line: &ReportLine, kind: MessageKind) -> bool
-    ensures { result ≡ is_sent_kind kind line.now }
-{
-    match line {
-        ReportLine::Send { message, .. } => is_message_kind(kind, &message.body),
-        _ => false,
-    }
-}
-
-// The counts of all kinds of messages.
+// The counts of all kinds of messages, where each message was heard so often.
 fn message_counts(
     alloc: Global,
     account: &Account,
-    heard: &[u64],
+    counts: &[u64],
 ) -> Result<Vec<MessageCount>, AllocError>
+    requires { (k : ℕ) → slice_index counts.now k ≡ times (hearings account.now) k }
     ensures kinds { IfOk result (λ rows. map (λ r. r.kind) rows.items ≡ message_kinds) }
-    ensures messages { IfOk result (λ rows. AllByRecursion (λ r. r.sent ≡ count_messages r.kind account.now.report.lines) rows.items) }
+    ensures messages { IfOk result (λ rows. AllByRecursion (HasMessageCounts account.now) rows.items) }
 {
     let mut rows = Vec::new(alloc);
     for kind in &MESSAGE_KINDS {
-        rows.push(message_count(account.lines(), heard, *kind))?;
+        rows.push(message_count(account, counts, *kind))?;
     }
     Ok(rows)
 }
 
-// The counts of a kind of messages, by how often each message was heard.
-fn message_count(lines: &[ReportLine], heard: &[u64], kind: MessageKind) -> MessageCount
+// The counts of a kind of messages, where each message was heard so often.
+fn message_count(account: &Account, counts: &[u64], kind: MessageKind) -> MessageCount
+    requires { (k : ℕ) → slice_index counts.now k ≡ times (hearings account.now) k }
     ensures kind { result.kind ≡ kind }
-    ensures sent { result.sent ≡ count_messages kind lines.now }
+    ensures counts { HasMessageCounts account.now result }
 {
-    let mut count = MessageCount {
+    let lines = account.lines();
+    MessageCount {
         kind,
         sent: count_messages(lines, kind),
-        heard: 0,
-        again: 0,
-        never: 0,
-    };
-    for line in lines {
-        if let ReportLine::Send { number, message } = line {
-            if is_message_kind(kind, &message.body) {
-                match heard.get(*number as usize) {
-                    Some(0) | None => count.never = count.never.saturating_add(1),
-                    Some(times) => {
-                        count.heard = count.heard.saturating_add(1);
-                        count.again = count.again.saturating_add(times.saturating_sub(1));
-                    }
-                }
-            }
-        }
+        heard: count_heard(lines, counts, kind),
+        again: count_again(lines, counts, kind),
+        never: count_never(lines, counts, kind),
     }
-    count
-}
-
-// How often each message was heard, by its number. A hearing that was refused or came to nothing doesn't count.
-fn times_heard(alloc: Global, account: &Account) -> Result<Vec<u64>, AllocError> {
-    let mut heard = vec![in alloc; 0u64; account.lines().len()]?;
-    let mut line = 2u64;
-    for event in account.events() {
-        if let (Event::Hear { message, .. }, Outcome::Quiet) = (event, account.outcome_of(line)) {
-            if let Some(times) = heard.get_mut(*message as usize) {
-                *times = times.saturating_add(1);
-            }
-        }
-        line = line.saturating_add(1);
-    }
-    Ok(heard)
 }
 
 // The refusals of each name that there are, in the order of their numbers.
@@ -274,36 +216,4 @@ fn rounds_of(alloc: Global, account: &Account) -> Result<u64, AllocError> {
         sum = sum.saturating_add(u64::from(*round));
     }
     Ok(sum)
-}
-
-// How many device calls were made.
-fn device_calls(account: &Account) -> u64 {
-    let mut calls = 0u64;
-    let mut line = 2u64;
-    let mut told = 0usize;
-    for event in account.events() {
-        let outcome = account.outcome_of(line);
-        let refusal = account.refusal(told);
-        if let Outcome::Told = outcome {
-            told = told.saturating_add(1);
-        }
-        if is_call(event, outcome, refusal) {
-            calls = calls.saturating_add(1);
-        }
-        line = line.saturating_add(1);
-    }
-    calls
-}
-
-// Whether an event made a device call, by what came of it and the refusal that its line tells.
-fn is_call(event: &Event, outcome: Outcome, refusal: Option<Refusal>) -> bool {
-    match (event, outcome) {
-        (Event::Device { .. }, Outcome::Quiet) => true,
-        (Event::Device { .. }, Outcome::Told) => !matches!(
-            refusal,
-            Some(Refusal::Down | Refusal::Failed)
-        ),
-        (Event::Fail { .. }, Outcome::Told) => matches!(refusal, Some(Refusal::Device)),
-        _ => false,
-    }
 }

@@ -1,8 +1,8 @@
 use Rattle.std.proofs.Common.{◌≡◌, ◌++◌, drop, map}
 use Rattle.std.specs.List.{AllByRecursion}
-use Rattle.rr_account.specs.Counts.{count_messages, message_kinds}
+use Rattle.rr_account.specs.Counts.{message_kinds, HasMessageCounts}
 use Rattle.rr_account.proofs.statistics.message_counts.Given as goal
 
--- the kinds so far and those that are left are all, and each so far has its count
+-- the kinds so far and those that are left are all, and each so far has its counts
 abbrev pub invariant-loop-kind : goal.invariant-loop-kind
-invariant-loop-kind l = (map (λ r. r.kind) l.rows.items ++ drop l.kind-index message_kinds ≡ message_kinds) × AllByRecursion (λ r. r.sent ≡ count_messages r.kind l.account.report.lines) l.rows.items
+invariant-loop-kind l = (map (λ r. r.kind) l.rows.items ++ drop l.kind-index message_kinds ≡ message_kinds) × AllByRecursion (HasMessageCounts l.account) l.rows.items

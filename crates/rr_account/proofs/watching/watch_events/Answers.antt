@@ -1,4 +1,4 @@
-use Rattle.std.proofs.Common.{◌≡◌, ◌<◌, ◌+◌, ◌∷◌, ◌∙◌, [], List, ℕ, ap, arith, drop, get_or, length, refl, rules, subst, suc, sym}
+use Rattle.std.proofs.Common.{◌∙◌, List, arith, refl, rules, subst, sym}
 use Rattle.std.proofs.Math.ListN.{drop_of_length-le}
 use Rattle.rr_account.specs.declared.outcome.Outcome.{Outcome}
 use Rattle.rr_account.proofs.StepLaws.{WatchedSoFar, watched_none, watched_more, all_watched, all_lead}

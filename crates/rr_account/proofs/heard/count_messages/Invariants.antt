@@ -1,6 +1,6 @@
 use Rattle.std.proofs.Common.{◌≡◌, ◌+◌, ◌≤◌, drop}
 use Rattle.rr_account.specs.Counts.{count_messages}
-use Rattle.rr_account.proofs.statistics.count_messages.Given as goal
+use Rattle.rr_account.proofs.heard.count_messages.Given as goal
 
 -- what is counted and what is left make the whole
 abbrev pub invariant-loop-line : goal.invariant-loop-line
