@@ -6,7 +6,7 @@
 Each client has a name of its own. It claims that, and gives it a value again and again, each command once the one before is
 acknowledged. The clients ask the nodes in turn. A run takes about so many seconds; 3 if left out. A row has the commands acknowledged a
 second, the time in which half of them were acknowledged and 99 of 100, and the syncs for each command, which strace counts in a
-short run of its own. The program is crates/bench_clients/out/bench_clients if left out.
+short run of its own. The program bench_clients is built if it is left out.
 
 etcd is Debian's etcd-server, one node or three on loopback, asked through its JSON gateway by bench/etcd_client, which go builds.
 SQLite is Python's, in WAL mode with synchronous=FULL: clients are threads with a connection each, and a command is a transaction.
@@ -35,7 +35,7 @@ COUNTED = 60
 
 def read_words():
     words = argparse.ArgumentParser(description=__doc__, formatter_class=argparse.RawDescriptionHelpFormatter)
-    words.add_argument("--program", default=str(HERE.parent / "crates/bench_clients/out/bench_clients"))
+    words.add_argument("--program")
     words.add_argument("--disk", default="/var/tmp")
     words.add_argument("--tmpfs", default="/dev/shm")
     words.add_argument("--seconds", type=float, default=3)
@@ -217,6 +217,9 @@ def main():
         return
     with tempfile.TemporaryDirectory() as room:
         client = etcd_client(asked, room)
+        if asked.program is None:
+            asked.program = f"{room}/bench_clients"
+            subprocess.run([HERE / "program", "bench_clients", asked.program], check=True)
         for place in ("disk", "tmpfs"):
             if asked.only in (None, place):
                 print(f"\n| {place} | clients | commands a second | half in | 99 of 100 in | syncs each |\n|---|---|---|---|---|---|", flush=True)

@@ -3,27 +3,27 @@
 # the processor time for each megabyte of both areas, which stays about the same where an opening is linear in their size,
 # and the most memory beside that size.
 # bench/folder.sh [ROUNDS]
+# RR=PROGRAM and OPENING=PROGRAM name programs that are there, which are then neither proved nor built.
 set -euo pipefail
 rounds=${1:-5}
+[ -z "${RR:-}" ] || RR=$(realpath "$RR")
+[ -z "${OPENING:-}" ] || OPENING=$(realpath "$OPENING")
 cd "$(dirname "$0")"
-
-# Proves and builds the programs; what that prints matters only where it fails.
-for program in bench_opening rr; do
-    words=(8)
-    [ "$program" = bench_opening ] || words=(--version)
-    if ! said=$(cd "../crates/$program" && rt run --jobs 1 -- "${words[@]}" 2>&1); then
-        echo "$said" >&2
-        exit 1
-    fi
-done
-
 folder=$(mktemp -d)
 trap 'rm -r "$folder"' EXIT
+
+if [ -z "${RR:-}" ]; then
+    # Proves and builds rr; what that prints matters only where it fails.
+    said=$(cd ../crates/rr && rt run --jobs 1 -- --version 2>&1) || { echo "$said" >&2; exit 1; }
+    RR=../crates/rr/out/rr
+fi
+[ -n "${OPENING:-}" ] || { OPENING=$folder/bench_opening; ./program bench_opening "$OPENING"; }
+
 for megabytes in 8 16 32 64; do
     ./areas.py "$folder" $((megabytes * 1024))
-    python3 - "$folder" "$megabytes" "$rounds" <<'PYTHON'
+    python3 - "$RR" "$OPENING" "$folder" "$megabytes" "$rounds" <<'PYTHON'
 import os, subprocess, sys, time
-folder, megabytes, rounds = sys.argv[1], int(sys.argv[2]), int(sys.argv[3])
+rr, opening, folder, megabytes, rounds = *sys.argv[1:4], int(sys.argv[4]), int(sys.argv[5])
 size = sum(os.path.getsize(os.path.join(folder, area)) for area in ("a0", "a1"))
 
 
@@ -39,8 +39,8 @@ def run(words):
 
 # The least of the rounds counts: whatever else the machine does only adds time.
 for what, words in (
-    ("opened", ["../crates/bench_opening/out/bench_opening", folder]),
-    ("shown", ["../crates/rr/out/rr", "show", folder]),
+    ("opened", [opening, folder]),
+    ("shown", [rr, "show", folder]),
 ):
     runs = [run(words) for _ in range(rounds)]
     seconds, busy = (min(run[i] for run in runs) for i in range(2))

@@ -4,7 +4,7 @@
     bench/looks.py [--program PROGRAM] [--rounds N] [--looks N] [--disk FOLDER]
 
 One node without a writer, one node with one, and seven nodes with seven, which flush to a disk; with one reader and with
-two. The most of the rounds, which run in turns. The program is crates/bench_clients/out/bench_clients if left out."""
+two. The most of the rounds, which run in turns. The program bench_clients is built if it is left out."""
 import argparse
 import pathlib
 import re
@@ -28,13 +28,16 @@ def look(program, nodes, writers, readers, looks, disk):
     return looks / micros * 1_000_000, acknowledged
 
 
-def main():
+def read_words():
     words = argparse.ArgumentParser(description=__doc__, formatter_class=argparse.RawDescriptionHelpFormatter)
-    words.add_argument("--program", default=str(HERE.parent / "crates/bench_clients/out/bench_clients"))
+    words.add_argument("--program")
     words.add_argument("--rounds", type=int, default=3)
     words.add_argument("--looks", type=int, default=10_000_000)
     words.add_argument("--disk", default="/var/tmp")
-    asked = words.parse_args()
+    return words.parse_args()
+
+
+def measure(asked):
     cases = [(nodes, writers, readers) for nodes, writers in RUNS for readers in (1, 2)]
     most = {}
     for _ in range(asked.rounds):
@@ -43,6 +46,15 @@ def main():
     for (nodes, writers, readers), (rate, acknowledged) in most.items():
         print(f"{nodes} nodes, {writers} writers, {readers} readers: {rate / 1_000_000:.1f} million looks a second each, "
               f"{acknowledged} commands acknowledged meanwhile")
+
+
+def main():
+    asked = read_words()
+    with tempfile.TemporaryDirectory() as room:
+        if asked.program is None:
+            asked.program = f"{room}/bench_clients"
+            subprocess.run([HERE / "program", "bench_clients", asked.program], check=True)
+        measure(asked)
 
 
 main()

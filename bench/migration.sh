@@ -11,18 +11,16 @@ megabytes=${2:-64}
 [ -z "${OPENING:-}" ] || OPENING=$(realpath "$OPENING")
 cd "$(dirname "$0")"
 
-# Proves and builds a program; what that prints matters only where it fails.
-build() {
-    if ! said=$(cd "../crates/$1" && rt run --jobs 1 -- "$2" 2>&1); then
-        echo "$said" >&2
-        exit 1
-    fi
-}
-[ -n "${RR:-}" ] || { build rr --version; RR=../crates/rr/out/rr; }
-[ -n "${OPENING:-}" ] || { build bench_opening 8; OPENING=../crates/bench_opening/out/bench_opening; }
-
 work=$(mktemp -d)
 trap 'rm -r "$work"' EXIT
+
+if [ -z "${RR:-}" ]; then
+    # Proves and builds rr; what that prints matters only where it fails.
+    said=$(cd ../crates/rr && rt run --jobs 1 -- --version 2>&1) || { echo "$said" >&2; exit 1; }
+    RR=../crates/rr/out/rr
+fi
+[ -n "${OPENING:-}" ] || { OPENING=$work/bench_opening; ./program bench_opening "$OPENING"; }
+
 # Thirteen rounds an instance: version 1 has too few instances for as many bytes with fewer.
 for version in 1 2; do
     mkdir "$work/$version"

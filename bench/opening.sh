@@ -6,17 +6,13 @@ set -euo pipefail
 rounds=${1:-11}
 cd "$(dirname "$0")"
 
-# Proves and builds the program; what that prints matters only where it fails.
-if ! said=$(cd ../crates/bench_opening && rt run --jobs 1 -- 8 2>&1); then
-    echo "$said" >&2
-    exit 1
-fi
-program=../crates/bench_opening/out/bench_opening
+times=$(mktemp -d)
+trap 'rm -r "$times"' EXIT
+program=$times/bench_opening
+./program bench_opening "$program"
 
 # The program tells the microseconds of the opening on standard error. The least of the rounds counts: whatever else the
 # machine does only adds time. Each round goes through all sizes, so that a busy minute falls on none alone.
-times=$(mktemp -d)
-trap 'rm -r "$times"' EXIT
 for _ in $(seq "$rounds"); do
     for megabytes in 8 16 32 64; do
         $program $((megabytes * 1024)) 2>>"$times/$megabytes" >"$times/what-$megabytes"

@@ -4,12 +4,12 @@
 set -eu
 rounds=${1:-7}
 top=$(cd "$(dirname "$0")/.." && pwd)
-ours=$top/crates/bench_text/out/bench_text
 plain=$top/bench/baseline_text/target/release/baseline_text
 times=$(mktemp -d)
 trap 'rm -r "$times"' EXIT
+ours=$times/bench_text
 
-(cd "$top/crates/bench_text" && rt run --jobs 1 -- 1 1) > "$times/build" 2>&1 || { cat "$times/build"; exit 1; }
+"$top/bench/program" bench_text "$ours"
 (cd "$top/bench/baseline_text" && cargo build --quiet --release --offline)
 
 # The least time of the rounds, in microseconds.

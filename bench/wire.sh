@@ -6,13 +6,11 @@ count=${1:-1000000}
 rounds=${2:-15}
 cd "$(dirname "$0")"
 
-# Proves and builds the program; what that prints matters only where it fails.
-if ! said=$(cd ../crates/bench_wire && rt run --jobs 1 -- 9 2>&1); then
-    echo "$said" >&2
-    exit 1
-fi
+times=$(mktemp -d)
+trap 'rm -r "$times"' EXIT
+ours=$times/bench_wire
+./program bench_wire "$ours"
 (cd baseline && cargo build --release --quiet)
-ours=../crates/bench_wire/out/bench_wire
 theirs=baseline/target/release/baseline
 
 if [ "$($ours "$count" 2>/dev/null)" != "$($theirs "$count" 2>/dev/null)" ]; then
@@ -25,8 +23,6 @@ fi
 least() {
     sort -n "$1" | head -n 1
 }
-times=$(mktemp -d)
-trap 'rm -r "$times"' EXIT
 for _ in $(seq "$rounds"); do
     $ours "$count" 2>>"$times/ours" >/dev/null
     $theirs "$count" 2>>"$times/theirs" >/dev/null

@@ -1,4 +1,4 @@
-//! What `crates/bench_wire` does, in plain Rust: `baseline COUNT`.
+//! What `bench/programs/bench_wire` does, in plain Rust: `baseline COUNT`.
 
 mod types;
 mod wire;
