@@ -1,2 +1,3 @@
+pub mod FateLaws
 pub mod PictureLaws
 pub mod TapeLaws

@@ -1,7 +1,8 @@
 //! Which events of a run a picture shows.
 
-ghost use Rattle.std.specs.Prelude.{◌≡◌, ◌==◌, true, false, IsSome};
+ghost use Rattle.std.specs.Prelude.{◌≡◌, ◌==◌, true, option_map};
 ghost use Rattle.std.specs.Option.{option_map_or};
+ghost use Rattle.rr_draw.specs.Fates.{instance_of, is_on, folds};
 ghost use Rattle.rr_draw.specs.Pictures.{shows};
 
 use rr_sim::node_of;
@@ -22,7 +23,9 @@ pub struct Cut {
 
 impl Cut {
     /// Whether messages of a kind are folded in a long picture.
-    pub(crate) fn folds(&self, kind: MessageKind) -> bool {
+    pub(crate) fn folds(&self, kind: MessageKind) -> bool
+        ensures { result ≡ folds self.now kind }
+    {
         match kind {
             MessageKind::Request => !self.requests,
             MessageKind::Beat | MessageKind::Suspects => true,
@@ -56,21 +59,32 @@ impl Cut {
 
     /// Whether a message that is sent or heard speaks of the instance, where one is given.
     pub(crate) fn speaks(&self, message: Option<&Message>) -> bool
-        ensures { result ≡ false → IsSome self.now.instance }
+        ensures { result ≡ option_map_or (λ i. is_on i (option_map (λ m. m.now) message.entry)) self.now.instance true }
     {
-        match (self.instance, message) {
-            (None, _) => true,
-            (Some(instance), Some(message)) => match instance_of(&message.body) {
-                Some(spoken) => spoken.number() == instance.number(),
-                None => false,
-            },
-            (Some(_), None) => false,
+        match self.instance {
+            Some(instance) => is_on(instance, message),
+            None => true,
         }
     }
 }
 
+// Whether there is a message that speaks of the instance.
+fn is_on(instance: Instance, message: Option<&Message>) -> bool
+    ensures { result ≡ is_on instance (option_map (λ m. m.now) message.entry) }
+{
+    match message {
+        Some(message) => match instance_of(&message.body) {
+            Some(spoken) => spoken.number() == instance.number(),
+            None => false,
+        },
+        None => false,
+    }
+}
+
 /// The instance that a message speaks of.
-fn instance_of(body: &Body) -> Option<Instance> {
+fn instance_of(body: &Body) -> Option<Instance>
+    ensures { result ≡ instance_of body.now }
+{
     match body {
         Body::Estimate(instance, _)
         | Body::Proposal(instance, _, _)

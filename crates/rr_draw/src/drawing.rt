@@ -1,7 +1,8 @@
 //! A picture as it grows, event by event.
 
+use crate::arrow::Ends;
 use crate::cut::Cut;
-use crate::glyphs::{class_of, push_arrow, push_facts, push_mark, push_message_name};
+use crate::glyphs::{class_of, push_facts, push_mark, push_message_name};
 use crate::lane::{Job, Lane, lanes_of, width_of};
 use crate::scene::Scene;
 use crate::style::{LEGEND, LEGEND_WIDTH, STYLE};
@@ -24,12 +25,11 @@ const NUMBERS: u64 = 40;
 /// How many letters of a command are shown.
 const LETTERS: usize = 20;
 
-/// A message that was sent: where, and whether it was heard.
+/// A message that was sent: where, and whether that is shown.
 #[derive(Clone, Copy, Debug)]
 struct Sent {
     y: u64,
     is_shown: bool,
-    is_heard: bool,
 }
 
 /// What is drawn of an event, and what its title says beside the event and the report.
@@ -150,6 +150,11 @@ impl Drawing {
         Ok(art)
     }
 
+    /// Whether the events are so many that some are folded.
+    pub(crate) fn is_long(&self) -> bool {
+        self.is_long
+    }
+
     /// Whether an event is folded: in a long picture heartbeats, device calls without a job, and requests unless they are
     /// asked for.
     fn is_folded(
@@ -232,7 +237,7 @@ impl Drawing {
             Event::Hear { node, message } => {
                 // A node that is down hears nothing.
                 if !told.starts_with(b"refuse") {
-                    self.draw_hear(*node, *message, wire, art)?;
+                    self.name_heard(*node, *message, wire, art)?;
                 }
                 Ok(())
             }
@@ -289,37 +294,34 @@ impl Drawing {
         self.label(node, Side::Left, self.y, "", text.as_slice())
     }
 
-    /// A message is heard: an arrow from where it was sent.
-    fn draw_hear(
-        &mut self,
+    /// A message is heard: its sender and its name.
+    fn name_heard(
+        &self,
         node: NodeId,
         number: u32,
         wire: &[Message],
         art: &mut Art,
     ) -> io::Result<()> {
-        let at = number as usize;
-        let Some(message) = wire.get(at) else {
+        let Some(message) = wire.get(number as usize) else {
             return Ok(());
         };
         if message.to != node {
             return Ok(());
         }
         write!(art.more, "message {number} from {}: ", message.from.index())?;
-        push_message_name(&mut art.more, message)?;
-        let Some(sent) = self.sent.get_mut(at) else {
-            return Ok(());
+        push_message_name(&mut art.more, message)
+    }
+
+    /// Where the arrow of a message begins that is heard here, and where it ends.
+    pub(crate) fn ends(&self, number: u32, message: &Message) -> Ends {
+        let from = match self.sent.get(number as usize) {
+            Some(sent) => sent.y,
+            None => self.y,
         };
-        let class = if sent.is_heard { "again" } else { "" };
-        sent.is_heard = true;
-        let kind = class_of(message.body.kind());
-        let from = sent.y;
-        let class = format!(in self.alloc; "{kind} {class}")?;
-        push_arrow(
-            &mut art.shapes,
-            class.as_str(),
-            (self.x(message.from), from),
-            (self.x(node), self.y),
-        )
+        Ends {
+            from: (self.x(message.from), from),
+            to: (self.x(message.to), self.y),
+        }
     }
 
     /// A message is sent: where its arrow will begin, and its name.
@@ -327,7 +329,6 @@ impl Drawing {
         self.sent.push(Sent {
             y: self.y,
             is_shown: self.is_shown,
-            is_heard: false,
         })?;
         let Some(message) = wire.last() else {
             return Ok(());
@@ -611,7 +612,8 @@ impl Drawing {
         )
     }
 
-    /// An event that was refused: a red ring with a bar, and the name of the refusal. A call that fails has a larger one.
+    /// An event that was refused: a red ring with a bar, and the name of the refusal. A call that fails has a larger one; a
+    /// node that is down or has failed refuses a call before it makes it.
     fn draw_refusal(
         &mut self,
         node: NodeId,
@@ -619,7 +621,10 @@ impl Drawing {
         told: &[u8],
         out: &mut Vec<u8>,
     ) -> io::Result<()> {
-        let is_call = matches!(event, Event::Fail { .. } | Event::Device { .. });
+        // The line is `refuse LINE NUMBER NAME`.
+        let name = word_of(told, 3);
+        let is_made = !name.starts_with(b"Down") && !name.starts_with(b"Failed");
+        let is_call = is_made && matches!(event, Event::Fail { .. } | Event::Device { .. });
         push_mark(out, if is_call { "y" } else { "n" }, self.x(node), self.y)?;
         let mut text = Vec::new(self.alloc);
         text.extend_from_slice(if is_call {
@@ -627,8 +632,7 @@ impl Drawing {
         } else {
             b"refused: "
         })?;
-        // The line is `refuse LINE NUMBER NAME`.
-        text.extend_from_slice(word_of(told, 3))?;
+        text.extend_from_slice(name)?;
         self.label(node, Side::Left, self.y, "b", text.as_slice())
     }
 
@@ -686,12 +690,12 @@ impl Drawing {
         Ok(out)
     }
 
-    /// What stands behind the events: the messages that nobody hears, and the labels.
-    pub(crate) fn back(&self, wire: &[Message]) -> io::Result<Vec<u8>> {
+    /// What stands behind the events: the messages that nobody hears, by their numbers, and the labels.
+    pub(crate) fn back(&self, wire: &[Message], lost: &[usize]) -> io::Result<Vec<u8>> {
         let mut out = Vec::new(self.alloc);
-        for (number, message) in wire.iter().enumerate() {
-            if let Some(sent) = self.sent.get(number) {
-                if sent.is_shown && !sent.is_heard {
+        for number in lost {
+            if let (Some(message), Some(sent)) = (wire.get(*number), self.sent.get(*number)) {
+                if sent.is_shown {
                     self.draw_lost(message, sent.y, &mut out)?;
                 }
             }

@@ -1,11 +1,16 @@
 //! The marks of a picture.
 
+ghost use Rattle.std.specs.Prelude.{◌≡◌};
+ghost use Rattle.rr_draw.specs.Fates.{class_of};
+
 use rr_types::{Body, Fact, Instance, Message, MessageKind};
 use std::io;
 use std::io::Write;
 
 /// The class of a message, by which it has its colour.
-pub(crate) fn class_of(kind: MessageKind) -> &'static str {
+pub(crate) fn class_of(kind: MessageKind) -> &'static str
+    ensures { result.now ≡ class_of kind }
+{
     match kind {
         MessageKind::Estimate => "e",
         MessageKind::Proposal => "p",
@@ -102,27 +107,4 @@ pub(crate) fn push_facts(
 /// Appends a mark of those that the picture defines.
 pub(crate) fn push_mark(out: &mut Vec<u8>, id: &str, x: u64, y: u64) -> io::Result<()> {
     write!(out, "<use href=\"#{id}\" x=\"{x}\" y=\"{y}\"/>")
-}
-
-/// Appends the arrow of a message between two lines, or from a line to itself.
-pub(crate) fn push_arrow(
-    out: &mut Vec<u8>,
-    class: &str,
-    from: (u64, u64),
-    to: (u64, u64),
-) -> io::Result<()> {
-    let (x1, y1) = from;
-    let (x2, y2) = to;
-    if x1 == x2 {
-        let bow = x1.saturating_sub(22);
-        write!(
-            out,
-            "<path class=\"{class}\" marker-end=\"url(#m)\" d=\"M{x1} {y1}C{bow} {y1} {bow} {y2} {x2} {y2}\"/>"
-        )
-    } else {
-        write!(
-            out,
-            "<line class=\"{class}\" marker-end=\"url(#m)\" x1=\"{x1}\" y1=\"{y1}\" x2=\"{x2}\" y2=\"{y2}\"/>"
-        )
-    }
 }

@@ -25,9 +25,11 @@
 //! ```
 #![tactic(auto)]
 
+mod arrow;
 mod cut;
 mod drawing;
 mod escape;
+mod fate;
 mod glyphs;
 mod labels;
 mod lane;

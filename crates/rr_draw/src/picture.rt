@@ -1,14 +1,17 @@
 //! The picture of a run, from the text of its schedule.
 
-ghost use Rattle.std.specs.Prelude.{◌≡◌, ◌≤◌, ◌++◌, [], true, None, OnOk, IfOk, IfErr};
+ghost use Rattle.std.specs.Prelude.{◌≡◌, ◌≤◌, ◌++◌, ◌||◌, [], true, false, ℕ, List, None, option_map, OnOk, IfOk, IfErr};
 ghost use Rattle.rr_text.specs.Lines.{nodes_line, IsStop, IsFault};
 ghost use Rattle.rr_text.specs.Scheduled.{IsEvent};
 ghost use Rattle.rr_text.specs.ScheduleTexts.{event_line};
+ghost use Rattle.rr_draw.specs.Fates.{message_of, may_tell_facts, number_of, heard_at, Keeps, IsHearing};
 ghost use Rattle.rr_draw.specs.Pictures.{element, title_of, Adds, ShowsAll, IsPictureOf};
 
+use crate::arrow::arrow_between;
 use crate::cut::Cut;
 use crate::drawing::{Art, Drawing};
 use crate::escape::push_escaped;
+use crate::fate::{Heard, heard_by, message_at};
 use crate::scene::{Scene, scene_of};
 use rr_sim::{Cluster, decided_list, node_of, tell_read};
 use rr_stream::Sink;
@@ -31,8 +34,27 @@ pub(crate) fn written<T: Drop>(text: io::Result<T>) -> Result<T, Refusal>
     }
 }
 
-/// The message that an event has sent or hears.
-fn message_of<'a>(event: &Event, told: &[u8], wire: &'a [Message]) -> Option<&'a Message> {
+/// A picture as it grows: what is drawn, and which messages were heard.
+#[derive(Drop)]
+pub(crate) struct Picture {
+    pub(crate) drawing: Drawing,
+    pub(crate) heard: Heard,
+}
+
+impl Picture {
+    /// What stands behind the events, where these messages were sent.
+    pub(crate) fn back(&self, alloc: Global, wire: &[Message]) -> Result<Vec<u8>, Refusal>
+        ensures { IfErr result (λ e. e ≡ Refusal.OutOfMemory) }
+    {
+        let lost = self.heard.never_heard(alloc, wire.len())?;
+        written(self.drawing.back(wire, lost.as_slice()))
+    }
+}
+
+/// The message that an event has sent, or that it names as one to hear.
+fn message_of<'a>(event: &Event, told: &[u8], wire: &'a [Message]) -> Option<&'a Message>
+    ensures { option_map (λ m. m.now) result ≡ message_of event.now told.now wire.entry.now }
+{
     match event {
         Event::Send { .. } => {
             if told.starts_with(b"send") {
@@ -41,27 +63,71 @@ fn message_of<'a>(event: &Event, told: &[u8], wire: &'a [Message]) -> Option<&'a
                 None
             }
         }
-        Event::Hear { message, .. } => wire.get(*message as usize),
+        Event::Hear { message, .. } => message_at(wire, *message),
         _ => None,
     }
 }
 
-/// Appends an element with a title.
-fn push_element(out: &mut Vec<u8>, title: &[u8], art: &Art) -> Result<(), Refusal>
-    ensures ok { OnOk result (out.new.items ≡ out.old.items ++ element title.now art.now.more.items art.now.shapes.items) }
+/// Whether facts may be synced or marked at an event.
+fn may_tell_facts(event: &Event) -> bool
+    ensures { result ≡ may_tell_facts event.now }
+{
+    match event {
+        Event::Device { .. } | Event::Take { .. } | Event::Mark { .. } => true,
+        _ => false,
+    }
+}
+
+/// Whether an event within the lines and the node of a cut is shown, by whether its message speaks of the instance, and
+/// whether facts of that are synced or marked at it.
+fn is_about(event: &Event, speaks: bool, has_facts: bool) -> bool
+    ensures shown { result ≡ true → (speaks || may_tell_facts event.now) ≡ true }
+    ensures left_out { result ≡ false → speaks ≡ false }
+{
+    speaks || (has_facts && may_tell_facts(event))
+}
+
+/// The arrow of a message that is heard, if one is. It was heard then.
+fn draw_hearing(
+    alloc: Global,
+    cut: &Cut,
+    message: Option<(u32, &Message)>,
+    picture: &mut Picture,
+) -> Result<Vec<u8>, Refusal>
+    ensures ok { IfOk result (λ text. (before : List ℕ) → Keeps picture.old.heard before → IsHearing cut.now before (option_map (λ it. (it.0, it.1.now)) message.entry) text.items) }
+    ensures keeps { OnOk result ((before : List ℕ) → Keeps picture.old.heard before → Keeps picture.new.heard (before ++ number_of (option_map (λ it. (it.0, it.1.now)) message.entry))) }
+    ensures err { IfErr result (λ e. e ≡ Refusal.OutOfMemory) }
+{
+    let Some((number, message)) = message else {
+        return Ok(Vec::new(alloc));
+    };
+    let fate = picture.heard.hear(u64::from(number))?;
+    let kind = message.body.kind();
+    if picture.drawing.is_long() && cut.folds(kind) {
+        return Ok(Vec::new(alloc));
+    }
+    let ends = picture.drawing.ends(number, message);
+    let text = arrow_between(alloc, kind, fate, &ends)?;
+    Ok(text)
+}
+
+/// Appends an element with a title. Its shapes begin with an arrow, if there is one.
+fn push_element(out: &mut Vec<u8>, title: &[u8], arrow: &[u8], art: &Art) -> Result<(), Refusal>
+    ensures ok { OnOk result (out.new.items ≡ out.old.items ++ element title.now art.now.more.items (arrow.now ++ art.now.shapes.items)) }
     ensures err { IfErr result (λ e. e ≡ Refusal.OutOfMemory) }
 {
     push_bytes(out, b"<g><title>")?;
     push_escaped(out, title)?;
     push_bytes(out, art.more.as_slice())?;
     push_bytes(out, b"</title>")?;
+    push_bytes(out, arrow)?;
     push_bytes(out, art.shapes.as_slice())?;
     Ok(push_bytes(out, b"</g>\n")?)
 }
 
 /// What the title of the event of a line begins with.
 fn title_of(alloc: Global, line: u64, event: &Event, told: &[u8]) -> Result<Vec<u8>, Refusal>
-    ensures ok { IfOk result (λ title. title.items ≡ title_of line (record { event = event.now; told = told.now })) }
+    ensures ok { IfOk result (λ title. title.items ≡ title_of line event.now told.now) }
     ensures err { IfErr result (λ e. e ≡ Refusal.OutOfMemory) }
 {
     let mut title = Vec::new(alloc);
@@ -81,26 +147,33 @@ pub(crate) fn draw_event(
     event: &Event,
     told: &[u8],
     scene: &Scene<'_>,
-    drawing: &mut Drawing,
+    picture: &mut Picture,
     elements: &mut Vec<u8>,
 ) -> Result<(), Refusal>
-    ensures ok { OnOk result (Adds cut.now line (record { event = event.now; told = told.now }) elements.old.items elements.new.items) }
+    ensures ok { OnOk result ((before : List ℕ) → Keeps picture.old.heard before
+        → Adds cut.now line before (record { event = event.now; told = told.now; wire = scene.now.wire.now }) elements.old.items elements.new.items) }
+    ensures keeps { OnOk result ((before : List ℕ) → Keeps picture.old.heard before
+        → Keeps picture.new.heard (before ++ heard_at (record { event = event.now; told = told.now; wire = scene.now.wire.now }))) }
     ensures err { IfErr result (λ e. e ≡ Refusal.OutOfMemory) }
 {
     let message = message_of(event, told, scene.wire);
     let speaks = cut.speaks(message);
-    let is_shown = cut.shows(line, event);
-    let art = written(drawing.draw(line, event, told, scene, message, (is_shown, speaks)))?;
-    if !is_shown {
+    let is_within = cut.shows(line, event);
+    let arrow = draw_hearing(alloc, cut, heard_by(event, told, scene.wire), picture)?;
+    let shown = (is_within, speaks);
+    let art = written(
+        picture
+            .drawing
+            .draw(line, event, told, scene, message, shown),
+    )?;
+    if !is_within {
         return Ok(());
     }
-    if !speaks {
-        if !art.is_about {
-            return Ok(());
-        }
+    if !is_about(event, speaks, art.is_about) {
+        return Ok(());
     }
     let title = title_of(alloc, line, event, told)?;
-    push_element(elements, title.as_slice(), &art)?;
+    push_element(elements, title.as_slice(), arrow.as_slice(), &art)?;
     Ok(())
 }
 
@@ -111,11 +184,12 @@ fn draw_events<O: Sink>(
     bytes: &[u8],
     cut: &Cut,
     cluster: &mut Cluster,
-    drawing: &mut Drawing,
+    picture: &mut Picture,
     report: &mut Vec<u8>,
     out: &mut O,
 ) -> Result<Vec<u8>, Refusal>
-    requires { cluster.old.lines ≡ [] }
+    requires untold { cluster.old.lines ≡ [] }
+    requires unheard { Keeps picture.old.heard [] }
     ensures ok { IfOk result (λ elements. ShowsAll nodes bytes.now cut.now cluster.old cluster.new report.old.items report.new.items elements.items) }
     ensures err { IfErr result (λ e. IsStop (IsEvent nodes) event_line bytes.now e) }
     ensures unprinted { O.printing out.new ≡ O.printing out.old }
@@ -137,7 +211,7 @@ fn draw_events<O: Sink>(
             &event,
             told.as_slice(),
             &scene,
-            drawing,
+            picture,
             &mut elements,
         )?;
         rest = behind;
@@ -179,7 +253,11 @@ fn picture_behind<O: Sink>(
 {
     let _count = nodes.count();
     let mut cluster = Cluster::new(alloc, nodes)?;
-    let mut drawing = written(Drawing::new(alloc, nodes, cut, is_long(bytes, cut)))?;
+    let drawing = written(Drawing::new(alloc, nodes, cut, is_long(bytes, cut)))?;
+    let mut picture = Picture {
+        drawing,
+        heard: Heard::new(alloc),
+    };
     let mut report = Vec::new(alloc);
     let elements = draw_events(
         alloc,
@@ -187,17 +265,17 @@ fn picture_behind<O: Sink>(
         bytes,
         cut,
         &mut cluster,
-        &mut drawing,
+        &mut picture,
         &mut report,
         out,
     )?;
     let decided = decided_list(alloc, nodes, cluster.wire())?;
     push_decided_list(&mut report, decided.as_slice())?;
-    let mut picture = written(drawing.front())?;
-    push_bytes(&mut picture, elements.as_slice())?;
-    let back = written(drawing.back(cluster.wire()))?;
-    push_bytes(&mut picture, back.as_slice())?;
-    Ok(picture)
+    let mut text = written(picture.drawing.front())?;
+    push_bytes(&mut text, elements.as_slice())?;
+    let back = picture.back(alloc, cluster.wire())?;
+    push_bytes(&mut text, back.as_slice())?;
+    Ok(text)
 }
 
 /// The picture of the run of the schedule whose text the bytes are, as far as a cut shows it. Those who watch `out` are

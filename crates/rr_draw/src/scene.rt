@@ -1,5 +1,7 @@
 //! What is seen of the nodes behind an event.
 
+ghost use Rattle.std.specs.Prelude.{◌≡◌};
+
 use rr_audit::Replay;
 use rr_sim::{Cluster, Stance};
 use rr_types::{Fact, Message, NodeId};
@@ -16,7 +18,9 @@ pub(crate) struct Scene<'a> {
 }
 
 /// What is seen of a cluster behind an event at a node.
-pub(crate) fn scene_of(cluster: &Cluster, node: NodeId) -> Scene<'_> {
+pub(crate) fn scene_of(cluster: &Cluster, node: NodeId) -> Scene<'_>
+    ensures { result.wire.now ≡ cluster.now.wire }
+{
     let wire = cluster.wire();
     match cluster.nodes().get(usize::from(node.index())) {
         Some(seat) => Scene {
@@ -33,7 +37,9 @@ pub(crate) fn scene_of(cluster: &Cluster, node: NodeId) -> Scene<'_> {
 }
 
 /// What is seen of the nodes of a tape behind an event at a node, where these messages were sent.
-pub(crate) fn tape_scene<'a>(replay: &'a Replay, wire: &'a [Message], node: NodeId) -> Scene<'a> {
+pub(crate) fn tape_scene<'a>(replay: &'a Replay, wire: &'a [Message], node: NodeId) -> Scene<'a>
+    ensures { result.wire.now ≡ wire.entry.now }
+{
     let group = match replay.node(node) {
         Some(seat) => seat.flushed(),
         None => None,

@@ -1,12 +1,15 @@
 //! The picture of a tape.
 
-ghost use Rattle.std.specs.Prelude.{◌≡◌, ◌++◌, map, OnOk, IfOk, IfErr};
+ghost use Rattle.std.specs.Prelude.{◌≡◌, ◌++◌, [], ℕ, List, OnOk, IfOk, IfErr};
+ghost use Rattle.rr_audit.specs.Audits.{sent_by};
+ghost use Rattle.rr_draw.specs.Fates.{heard_at, Keeps};
 ghost use Rattle.rr_draw.specs.Pictures.{AreDrawn, Adds};
-ghost use Rattle.rr_draw.specs.TapePictures.{row_of, IsTapePicture};
+ghost use Rattle.rr_draw.specs.TapePictures.{told_on, seen_on, all_on, IsTapePicture};
 
 use crate::cut::Cut;
 use crate::drawing::Drawing;
-use crate::picture::{draw_event, has_many, written};
+use crate::fate::Heard;
+use crate::picture::{Picture, draw_event, has_many, written};
 use crate::scene::tape_scene;
 use rr_audit::{Replay, as_reported, as_scheduled, node_of};
 use rr_tape::{Tape, TapeEvent};
@@ -17,7 +20,7 @@ use std::alloc::{AllocError, Global};
 
 /// The lines of a report that an event of a tape is: one or none.
 fn told_by(alloc: Global, event: &TapeEvent) -> Result<Vec<u8>, AllocError>
-    ensures { IfOk result (λ told. told.items ≡ (row_of event.now).told) }
+    ensures { IfOk result (λ told. told.items ≡ told_on event.now) }
 {
     let mut told = Vec::new(alloc);
     if let Some(line) = as_reported(event) {
@@ -28,7 +31,9 @@ fn told_by(alloc: Global, event: &TapeEvent) -> Result<Vec<u8>, AllocError>
 }
 
 /// A message that an event of a tape sends joins the wire.
-fn push_sent(wire: &mut Vec<Message>, event: &TapeEvent) -> Result<(), AllocError> {
+fn push_sent(wire: &mut Vec<Message>, event: &TapeEvent) -> Result<(), AllocError>
+    ensures { OnOk result (wire.new.items ≡ wire.old.items ++ sent_by event.now) }
+{
     made_of!(Body, Command, Estimate, Message, Op);
     match event {
         TapeEvent::Send { message, .. } => Ok(wire.push(*message)?),
@@ -44,10 +49,11 @@ fn draw_tape_event(
     event: &TapeEvent,
     replay: &Replay,
     wire: &[Message],
-    drawing: &mut Drawing,
+    picture: &mut Picture,
     elements: &mut Vec<u8>,
 ) -> Result<(), Refusal>
-    ensures ok { OnOk result (Adds cut.now line (row_of event.now) elements.old.items elements.new.items) }
+    ensures ok { OnOk result ((before : List ℕ) → Keeps picture.old.heard before → Adds cut.now line before (seen_on wire.now event.now) elements.old.items elements.new.items) }
+    ensures keeps { OnOk result ((before : List ℕ) → Keeps picture.old.heard before → Keeps picture.new.heard (before ++ heard_at (seen_on wire.now event.now))) }
     ensures err { IfErr result (λ e. e ≡ Refusal.OutOfMemory) }
 {
     let told = told_by(alloc, event)?;
@@ -60,9 +66,10 @@ fn draw_tape_event(
         &scheduled,
         told.as_slice(),
         &scene,
-        drawing,
+        picture,
         elements,
-    )
+    )?;
+    Ok(())
 }
 
 /// Draws the events of a tape, which are replayed for what the nodes flush. The wire has then what was sent.
@@ -70,10 +77,12 @@ fn draw_tape_events(
     alloc: Global,
     tape: &Tape,
     cut: &Cut,
-    drawing: &mut Drawing,
+    picture: &mut Picture,
     wire: &mut Vec<Message>,
 ) -> Result<Vec<u8>, Refusal>
-    ensures ok { IfOk result (λ elements. AreDrawn cut.now 2 (map row_of tape.now.events) elements.items) }
+    requires unsent { wire.old.items ≡ [] }
+    requires unheard { Keeps picture.old.heard [] }
+    ensures ok { IfOk result (λ elements. AreDrawn cut.now 2 [] (all_on [] tape.now.events) elements.items) }
     ensures err { IfErr result (λ e. e ≡ Refusal.OutOfMemory) }
 {
     let mut replay = Replay::new(alloc, tape.nodes())?;
@@ -90,7 +99,7 @@ fn draw_tape_events(
             event,
             &replay,
             wire.as_slice(),
-            drawing,
+            picture,
             &mut elements,
         )?;
         line += 1;
@@ -108,12 +117,16 @@ pub fn tape_picture(alloc: Global, tape: &Tape, cut: &Cut) -> Result<Vec<u8>, Re
     ensures err { IfErr result (λ e. e ≡ Refusal.OutOfMemory) }
 {
     let lines = (tape.events().len() as u64).saturating_add(1);
-    let mut drawing = written(Drawing::of_tape(alloc, tape.nodes(), cut, has_many(lines, cut)))?;
+    let drawing = written(Drawing::of_tape(alloc, tape.nodes(), cut, has_many(lines, cut)))?;
+    let mut picture = Picture {
+        drawing,
+        heard: Heard::new(alloc),
+    };
     let mut wire = Vec::new(alloc);
-    let elements = draw_tape_events(alloc, tape, cut, &mut drawing, &mut wire)?;
-    let mut picture = written(drawing.front())?;
-    push_bytes(&mut picture, elements.as_slice())?;
-    let back = written(drawing.back(wire.as_slice()))?;
-    push_bytes(&mut picture, back.as_slice())?;
-    Ok(picture)
+    let elements = draw_tape_events(alloc, tape, cut, &mut picture, &mut wire)?;
+    let mut text = written(picture.drawing.front())?;
+    push_bytes(&mut text, elements.as_slice())?;
+    let back = picture.back(alloc, wire.as_slice())?;
+    push_bytes(&mut text, back.as_slice())?;
+    Ok(text)
 }

@@ -6,7 +6,7 @@ use Rattle.rr_draw.proofs.picture.draw_events.Given as goal
 abbrev pub invariant-loop-elements : goal.invariant-loop-elements
 invariant-loop-elements g l =
     record {
-      shown : ShownSoFar l.nodes l.bytes l.cut l.initial.cluster l.initial.report.items l.line l.rest l.cluster l.report.items l.elements.items;
+      shown : ShownSoFar l.nodes l.bytes l.cut l.initial.cluster l.initial.report.items l.line l.rest l.cluster l.report.items l.elements.items l.picture.heard;
       unprinted : g.O.Sink.printing l.out ≡ g.O.Sink.printing l.initial.out;
     }
 

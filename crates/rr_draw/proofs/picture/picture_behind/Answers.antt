@@ -1,4 +1,4 @@
-use Rattle.std.proofs.Common.{◌≡◌, ◌≤◌, ◌++◌, ℕ, List, [], refl, rules, subst}
+use Rattle.std.proofs.Common.{◌≤◌, ◌++◌, ℕ, List, [], refl, rules, subst}
 use Rattle.rr_types.specs.declared.message.Message.{Message}
 use Rattle.rr_model.specs.Sound.{IsDecidedList}
 use Rattle.rr_text.specs.Lines.{nodes_line}
@@ -13,7 +13,7 @@ returns-clause-ok g c =
     subst (λ (start : Cluster). ShowsAll c.args.nodes c.args.bytes.now c.args.cut.now start c.draw_events.new.cluster [] c.draw_events.new.report.items c.in_ok-elements.elements.items) c.in_ok-cluster.ensures.ok
     (subst (λ (before : List ℕ). ShowsAll c.args.nodes c.args.bytes.now c.args.cut.now c.in_ok-cluster.cluster c.draw_events.new.cluster before c.draw_events.new.report.items c.in_ok-elements.elements.items) c.new-report.ensures.items c.in_ok-elements.ensures.ok) in
     is_picture c.args.nodes (nodes_line c.args.nodes ++ c.args.bytes.now) c.args.bytes.now c.args.cut.now c.draw_events.new.cluster c.draw_events.new.report.items c.push_decided_list.new.out.items c.in_ok-elements.elements.items
-    c.in_ok-picture.picture.items c.in_ok-back.back.items c.push_bytes-2.new.out.items c.in_ok-decided.decided.items
+    c.in_ok-text.text.items c.in_ok-back.back.items c.push_bytes-2.new.out.items c.in_ok-decided.decided.items
     (subst (λ (n : ℕ). 1 ≤ n) c.count-count.ensures.value c.count-count.ensures.range.0) (subst (λ (n : ℕ). n ≤ 7) c.count-count.ensures.value c.count-count.ensures.range.1) refl from_start
     (subst (λ (wire : List Message). IsDecidedList c.args.nodes wire c.in_ok-decided.decided.items) c.wire.ensures c.in_ok-decided.ensures.list)
     (search rules) (search rules)

@@ -1,0 +1,145 @@
+-- What is seen at an event of a run: the message that it sends or hears, what becomes of that, and what it speaks of.
+use Rattle.std.specs.Prelude.{◌≡◌, ◌⊎◌, ℕ, ◌-◌, Bool, true, false, not, ◌&&◌, ◌==◌, nat_eq, if◌then◌else◌, List, [], ◌++◌, length, Option, None, Some, slice_get, filter, option_map, option_to_list, codes}
+use Rattle.std.specs.Ordering.{nat_cmp}
+use Rattle.std.specs.Option.{option_map_or}
+use Rattle.std.specs.List.{flat_map, list_any, range_with_len, starts_with}
+use Rattle.std.specs.BTreeSet.{contains}
+use Rattle.rr_types.specs.declared.message.Body.{Body}
+use Rattle.rr_types.specs.declared.message.Body.TheVariants as says
+use Rattle.rr_types.specs.declared.message.Message.{Message}
+use Rattle.rr_types.specs.declared.message.MessageKind.{MessageKind}
+use Rattle.rr_types.specs.declared.message.MessageKind.TheVariants.{Estimate, Proposal, Ack, Decision, Request, Nack, Beat, Suspects, Ask}
+use Rattle.rr_types.specs.Messages.{message_kind}
+use Rattle.rr_text.specs.declared.event.Event.{Event}
+use Rattle.rr_text.specs.declared.event.Event.TheVariants.{Send, Hear, Device, Take, Mark}
+use Rattle.rr_draw.specs.declared.cut.Cut.{Cut}
+use Rattle.rr_draw.specs.declared.fate.Fate.{Fate}
+use Rattle.rr_draw.specs.declared.fate.Fate.TheVariants.{First, Again}
+use Rattle.rr_draw.specs.declared.fate.Heard.{Heard}
+
+-- an event of a run, the text of its lines of the report, and the messages that were sent by then
+pub record Seen : Type 0 where
+  pub event : Event
+  pub told : List ℕ
+  pub wire : List Message
+
+-- ---- instances
+
+-- the message that an event has sent, or that it names as one to hear
+abbrev pub message_of : Event → List ℕ → List Message → Option Message
+message_of (Send p) told wire = if starts_with nat_eq told (codes "send") then slice_get wire (length wire - 1) else None
+message_of (Hear p k) told wire = slice_get wire k
+message_of _ told wire = None
+
+-- the instance that a message speaks of, if it speaks of one
+abbrev pub instance_of : Body → Option ℕ
+instance_of (says.Estimate i e) = Some i
+instance_of (says.Proposal i r c) = Some i
+instance_of (says.Ack i r) = Some i
+instance_of (says.Decision i c) = Some i
+instance_of (says.Request c) = None
+instance_of (says.Nack i r) = Some i
+instance_of says.Beat = None
+instance_of (says.Suspects set) = None
+instance_of (says.Ask i) = Some i
+
+-- whether there is a message that speaks of instance i
+abbrev pub is_on : ℕ → Option Message → Bool
+is_on i None = false
+is_on i (Some m) = option_map_or (λ j. j == i) (instance_of m.body) false
+
+-- whether an event speaks of instance i: by the message that it sends or hears, also where that is refused
+abbrev pub speaks_of : ℕ → Seen → Bool
+speaks_of i seen = is_on i (message_of seen.event seen.told seen.wire)
+
+-- whether an event speaks of the instance of a cut, where one is given
+abbrev pub speaks : Cut → Seen → Bool
+speaks cut seen = option_map_or (λ i. speaks_of i seen) cut.instance true
+
+-- whether facts may be synced or marked at an event
+abbrev pub may_tell_facts : Event → Bool
+may_tell_facts (Device p) = true
+may_tell_facts (Take p) = true
+may_tell_facts (Mark p) = true
+may_tell_facts _ = false
+
+-- ---- fates
+
+-- the number of a message that is there, and the message, where a node hears it: it is for that node, which doesn't refuse it
+abbrev pub hearing : ℕ → ℕ → List ℕ → Option Message → Option (ℕ × Message)
+hearing p k told None = None
+hearing p k told (Some m) = if m.to == p && not (starts_with nat_eq told (codes "refuse")) then Some (k, m) else None
+
+-- the message that an event hears
+abbrev pub heard_by : Event → List ℕ → List Message → Option (ℕ × Message)
+heard_by (Hear p k) told wire = hearing p k told (slice_get wire k)
+heard_by _ told wire = None
+
+-- its number
+abbrev pub number_of : Option (ℕ × Message) → List ℕ
+number_of it = option_to_list (option_map (λ m. m.0) it)
+
+-- the numbers of the messages that are heard at events, in turn
+abbrev pub heard_at : Seen → List ℕ
+heard_at seen = number_of (heard_by seen.event seen.told seen.wire)
+
+abbrev pub hearings : List Seen → List ℕ
+hearings all = flat_map heard_at all
+
+-- whether a message is among those that were heard
+abbrev pub is_among : List ℕ → ℕ → Bool
+is_among heard k = list_any (λ n. n == k) heard
+
+-- what becomes of a message that is heard, by those that were heard before
+abbrev pub fate_at : List ℕ → ℕ → Fate
+fate_at before k = if is_among before k then Again else First
+
+-- the messages that were never heard, of so many that were sent
+abbrev pub never_heard : List ℕ → ℕ → List ℕ
+never_heard heard sent = filter (λ k. not (is_among heard k)) (range_with_len 0 sent)
+
+-- a record of what was heard has these messages
+abbrev pub Keeps : Heard → List ℕ → Type 0
+Keeps heard before = (k : ℕ) → contains nat_cmp heard.numbers k ≡ is_among before k
+
+-- ---- arrows
+
+-- the class of a kind of messages
+abbrev pub class_of : MessageKind → List ℕ
+class_of Estimate = codes "e"
+class_of Proposal = codes "p"
+class_of Ack = codes "a"
+class_of Decision = codes "d"
+class_of Request = codes "q"
+class_of Nack = codes "o"
+class_of Beat = codes "o"
+class_of Suspects = codes "o"
+class_of Ask = codes "o"
+
+-- the class of a fate
+abbrev pub fate_class : Fate → List ℕ
+fate_class First = []
+fate_class Again = codes "again"
+
+-- the text of an arrow, from a line to itself or to another: its classes are those of its message and of its fate
+abbrev pub arrow : Bool → MessageKind → Fate → List ℕ → List ℕ
+arrow to_itself kind fate ends =
+    (if to_itself then codes "<path" else codes "<line") ++ codes " class=\"" ++ class_of kind ++ codes " " ++ fate_class fate ++ codes "\"" ++ ends
+
+-- a text is an arrow of a kind and a fate
+abbrev pub IsArrow : MessageKind → Fate → List ℕ → Type 0
+IsArrow kind fate text = (to_itself : Bool) × (ends : List ℕ) × (text ≡ arrow to_itself kind fate ends)
+
+-- whether messages of a kind are folded in a long picture
+abbrev pub folds : Cut → MessageKind → Bool
+folds cut Request = not cut.requests
+folds cut Beat = true
+folds cut Suspects = true
+folds cut _ = false
+
+-- what is drawn of the message that an event hears, by those that were heard before: an arrow of its fate, or nothing where it is
+-- folded. Of an event that hears none there is no arrow
+abbrev pub IsHearing : Cut → List ℕ → Option (ℕ × Message) → List ℕ → Type 0
+IsHearing cut before None text = text ≡ []
+IsHearing cut before (Some it) text =
+    IsArrow (message_kind it.1.body) (fate_at before it.0) text ⊎ ((folds cut (message_kind it.1.body) ≡ true) × (text ≡ []))
