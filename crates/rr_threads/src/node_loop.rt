@@ -2,7 +2,6 @@
 
 use crate::desk::Desk;
 use crate::hearing::hear_kept;
-use crate::recorder::Scribe;
 use crate::rest::Rest;
 use crate::running::Running;
 use crate::shared::Shared;
@@ -113,17 +112,15 @@ pub fn run_node<W: WindowName, T: Turnstile, R: Wait + Clock>(
     runner: Runner,
 ) -> Mail {
     let Runner { ends, chase } = runner;
-    let mut lane = Lane {
-        wires: Wires {
-            rt,
-            running: &shared.running,
-            turnstile: shared.turnstile,
-            scribe: Scribe::new(rt, shared.recorder),
-            desk,
-            ends,
-        },
-        chase,
-    };
+    let wires = Wires::new(
+        rt,
+        &shared.running,
+        shared.turnstile,
+        shared.recorder,
+        desk,
+        ends,
+    );
+    let mut lane = Lane { wires, chase };
     if let Err(refusal) = run_turns(rt, shared, desk, &mut lane) {
         shared.running.fail(rt, desk.node, refusal);
     }

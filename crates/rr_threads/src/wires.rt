@@ -6,7 +6,7 @@ ghost use Rattle.rr_turn.specs.Asked.{Call};
 ghost use Rattle.rr_threads.specs.Ways.{IsPut, IsPutIfAny, IsPutLate, IsTaken};
 
 use crate::desk::Desk;
-use crate::recorder::Scribe;
+use crate::recorder::{Recorder, Scribe};
 use crate::running::Running;
 use rr_inbox::{Giver, Outlet, Port, Taker, TrySendError};
 use rr_journal::Synced;
@@ -100,6 +100,27 @@ pub struct Wires<'x, W: WindowName, T, R> {
     pub scribe: Scribe<'x, R>,
     pub desk: &'x Desk<W>,
     pub ends: NodeEnds,
+}
+
+impl<'x, W: WindowName, T, R> Wires<'x, W, T, R> {
+    /// What the thread of a node calls, over these ends.
+    pub fn new(
+        rt: &'x R,
+        running: &'x Running,
+        turnstile: &'x T,
+        recorder: Option<&'x Recorder>,
+        desk: &'x Desk<W>,
+        ends: NodeEnds,
+    ) -> Wires<'x, W, T, R> {
+        Wires {
+            rt,
+            running,
+            turnstile,
+            scribe: Scribe::new(rt, recorder),
+            desk,
+            ends,
+        }
+    }
 }
 
 impl<'x, W: WindowName, T: Turnstile, R: Wait> Links for Wires<'x, W, T, R> {
