@@ -1,17 +1,18 @@
 -- How a shell ends behind a talk.
-use Rattle.std.proofs.Common.{◌≡◌, ◌⊎◌, ◌<◌, ℕ, Bool, List, [], ◌∷◌, length, map, Bor, Option, Some, Result, Ok, Err, inl, inr, refl, arith, ap₂, subst}
+use Rattle.std.proofs.Common.{◌≡◌, ◌⊎◌, ◌<◌, ℕ, Bool, List, [], ◌∷◌, length, map, Bor, Option, None, Some, Result, Ok, Err, inl, inr, refl, arith, ap₂, subst}
 use Rattle.clap.specs.Words.{Text}
+use Rattle.rr_types.specs.declared.refusal.Refusal.{Refusal}
 use Rattle.rr_types.specs.declared.refusal.Refusal.TheVariants.{Device, OutOfMemory}
 use Rattle.rr_stream.specs.Streams.{Printing, Reading}
 use Rattle.rr_shell.specs.declared.troubles.Trouble.{Trouble}
 use Rattle.rr_talk.specs.declared.talking.Stop.{Stop}
 use Rattle.rr_talk.specs.Talks.{Talks}
-use Rattle.rr_run.specs.Shells.{IsRefusedBy, EndsOnTalk, EndsOnShell, EndsOnLines, EndsOnEither, lines_text, spoken, talked, failed, broken_off}
+use Rattle.rr_run.specs.Shells.{IsRefusedBy, EndsOnTalk, shell_did, EndsOnShell, EndsOnLines, EndsOnEither, lines_text, spoken, talked, failed, broken_off}
 
-pub ends_so : (json strict : Bool) (n : ℕ) (from to : Reading) (old new : Printing) (said : Result (Option Trouble) Stop) (status : ℕ) → Talks json strict n from to old new said → EndsOnTalk said status → EndsOnShell json strict n from to status old new
-ends_so json strict n from to old new (Ok trouble) status talks (inl well) = talked trouble talks well
-ends_so json strict n from to old new (Ok trouble) status talks (inr refused) = failed trouble talks refused
-ends_so json strict n from to old new (Err stop) status talks refused = broken_off talks refused
+pub ends_so : (json strict : Bool) (n : ℕ) (from to : Reading) (old new : Printing) (said : Result (Option Trouble) Stop) (ran : Option Refusal) (status : ℕ) → Talks shell_did json strict n from to old new said → EndsOnTalk said ran status → EndsOnShell json strict n from to status old new
+ends_so json strict n from to old new (Ok trouble) None status talks well = talked trouble talks well
+ends_so json strict n from to old new (Ok trouble) (Some refusal) status talks is = failed trouble talks (refusal, is)
+ends_so json strict n from to old new (Err stop) ran status talks refused = broken_off talks refused
 
 -- the status of a stream is that of a refusal
 pub of_stream : (status : ℕ) → (status ≡ 5) ⊎ (status ≡ 6) → IsRefusedBy status

@@ -1,8 +1,11 @@
 pub mod AnswerObjects
+pub mod Boards
 pub mod Ears
 pub mod News
+pub mod Questions
 pub mod Runs
 pub mod Shells
 pub mod Submits
 pub mod Telling
+pub mod Tellings
 pub mod Ticking

@@ -8,9 +8,11 @@ use Rattle.rr_words.specs.Tasks.{ShellWords}
 use Rattle.rr_shell.specs.declared.troubles.Trouble.{Trouble}
 use Rattle.rr_shell.specs.Troubles.{ending_status}
 use Rattle.rr_talk.specs.declared.talking.Stop.{Stop}
+use Rattle.rr_talk.specs.Deeds.{Deed}
 use Rattle.rr_talk.specs.Talks.{HasTalked, BreaksOff}
 use Rattle.rr_cli.specs.Randoms.{IsNumberIn}
 use Rattle.rr_cli.specs.Refusals.{status_of}
+use Rattle.rr_run.specs.Boards.{DidBy, any_call}
 
 -- the client that a word names; client 0 where there is no word
 abbrev pub IsClientBy : Option Text → ℕ → Type 0
@@ -26,21 +28,26 @@ abbrev pub IsNodesBy : Option Text → ℕ → Type 0
 IsNodesBy None n = (1 ≤ n) × (n ≤ 7)
 IsNodesBy (Some word) n = IsNumberIn 1 7 word n
 
--- the status behind a talk: where it is over, 0, that of the trouble that ended it, or that of a refusal; that of a refusal where
--- it was broken off
-abbrev pub EndsOnTalk : Result (Option Trouble) Stop → ℕ → Type 0
-EndsOnTalk (Ok trouble) status = (status ≡ ending_status trouble) ⊎ IsRefusedBy status
-EndsOnTalk (Err stop) status = IsRefusedBy status
+-- the status behind a talk, and behind the run beside it, which may have failed by a refusal: where the talk is over, that of this
+-- refusal; else 0, or that of the trouble that ended the talk. Where the talk was broken off, that of a refusal
+abbrev pub EndsOnTalk : Result (Option Trouble) Stop → Option Refusal → ℕ → Type 0
+EndsOnTalk (Ok trouble) None status = status ≡ ending_status trouble
+EndsOnTalk (Ok trouble) (Some refusal) status = status ≡ status_of refusal
+EndsOnTalk (Err stop) failed status = IsRefusedBy status
+
+-- what is done for a line of a shell whose board is a post
+abbrev pub shell_did : Deed → Type 0
+shell_did = DidBy any_call
 
 -- a shell over folders, with n nodes, that answers with JSON or not, and ends at trouble or not: a talk that is over, with or
 -- without trouble; or one that is over or broken off, and the run, memory or a stream has failed; or it doesn't begin, as the
 -- folders or the request numbers are refused, and nothing is read or printed
 pub data EndsOnShell (json strict : Bool) (n : ℕ) (from to : Reading) (status : ℕ) (old new : Printing) : Type 0 where
-  talked : (trouble : Option Trouble) → HasTalked json strict n from to old new trouble → status ≡ ending_status trouble
+  talked : (trouble : Option Trouble) → HasTalked shell_did json strict n from to old new trouble → status ≡ ending_status trouble
       → EndsOnShell json strict n from to status old new
-  failed : (trouble : Option Trouble) → HasTalked json strict n from to old new trouble → IsRefusedBy status
+  failed : (trouble : Option Trouble) → HasTalked shell_did json strict n from to old new trouble → IsRefusedBy status
       → EndsOnShell json strict n from to status old new
-  broken_off : BreaksOff json strict n from old new → IsRefusedBy status → EndsOnShell json strict n from to status old new
+  broken_off : BreaksOff shell_did json strict n from old new → IsRefusedBy status → EndsOnShell json strict n from to status old new
   refused : IsRefusedBy status → to ≡ from → new ≡ old → EndsOnShell json strict n from to status old new
 
 -- lines as one text, each with a line feed behind it

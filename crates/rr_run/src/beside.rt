@@ -4,7 +4,8 @@ ghost use Rattle.std.specs.Prelude.{◌≡◌};
 ghost use Rattle.std.specs.Thread.{IsSend, IsSync};
 ghost use Rattle.rr_talk.specs.Talks.{Talks};
 
-use crate::post::{Post, Teller};
+use crate::post::Post;
+use crate::teller::Teller;
 use rr_disk::{FileDisk, OpenedFile};
 use rr_locked::Open;
 use rr_shell::Trouble;
@@ -170,7 +171,7 @@ pub(crate) fn talk_beside<
     input: &mut I,
     out: &mut O,
 ) -> Result<Option<Trouble>, Stop>
-    ensures { Talks json strict nodes (I.reading input.old) (I.reading input.new) (O.printing out.old) (O.printing out.new) result }
+    ensures { Talks A.did json strict nodes (I.reading input.old) (I.reading input.new) (O.printing out.old) (O.printing out.new) result }
 {
     let alloc = rt.alloc();
     let mut asked = asked;

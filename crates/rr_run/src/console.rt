@@ -1,16 +1,18 @@
-//! The nodes that a shell asks, through its post.
+//! The nodes that a shell asks, through its board.
 
 ghost use Rattle.std.specs.Prelude.{◌≡◌, ◌<◌, ◌++◌, true, IfOk, IfSome, OnOk};
 ghost use Rattle.rr_talk.specs.Talks.{is_outcome_at, IsOf, IsKept, IsSyncBy};
 ghost use Rattle.rr_talk.specs.Watches.{bytes_of, IsPiece};
+ghost use Rattle.rr_run.specs.Boards.{Came, DidBy};
 ghost use Rattle.rr_run.specs.Ears.{heard_by};
 
+use crate::asking::{Question, Told, is_written, listing_in, outcome_in, sight_in, summary_in};
+use crate::board::{Board, ask, switch, wait_until_begun};
 use crate::news::{Ear, next_changes};
-use crate::post::{Post, Question, Told};
 use rr_folders::{Block, Locks};
 use rr_script::Answer;
-use rr_shell::{Listing, NodeStatus, Outcome, is_listing_at, is_nearly_full};
-use rr_talk::{Asked, Hint, is_sight_at};
+use rr_shell::{Listing, NodeStatus, Outcome, is_nearly_full};
+use rr_talk::{Asked, Hint};
 use rr_types::{Command, Name, NodeId, Nodes, Op, Refusal, Reply, RequestNo, Value, made_of};
 use rr_window::Change;
 use std::fs::OpenFile;
@@ -22,46 +24,17 @@ use std::sync::Wait;
 /// The nodes that a shell asks, as this client, with the request numbers of a folder that is locked; the command that isn't
 /// acknowledged and may be asked again; what a person is to be told; and where the changes are heard that are watched.
 #[derive(Drop)]
-pub(crate) struct Console<'x, F, R> {
+pub(crate) struct Console<'x, B, F, R> {
     pub(crate) rt: &'x R,
     pub(crate) locks: Locks<F>,
     pub(crate) nodes: Nodes,
     pub(crate) client: u32,
     pub(crate) block: Block,
-    pub(crate) post: &'x Post,
+    pub(crate) board: &'x B,
     pub(crate) unanswered: Option<Command>,
     pub(crate) hint: Option<Hint>,
     pub(crate) has_warned: bool,
     pub(crate) ear: Option<Ear>,
-}
-
-// What a submit of a request at a node has come to, by what is told of it.
-fn outcome_told(node: NodeId, request: RequestNo, told: &Told) -> Outcome
-    ensures outcome { is_outcome_at node result ≡ true }
-    ensures of { IsOf request result }
-{
-    match told {
-        Told::Outcome(
-            Outcome::Answered(
-                Answer::Acknowledged {
-                    request: own,
-                    reply,
-                    ..
-                },
-            ),
-            _,
-        ) if own.is_same(request) => Outcome::Answered(Answer::Acknowledged {
-            node,
-            request,
-            reply: *reply,
-        }),
-        Told::Outcome(Outcome::ListFull, _) => Outcome::ListFull,
-        Told::Outcome(Outcome::Used(other), _) => Outcome::Used(Command {
-            request,
-            op: other.op,
-        }),
-        _ => Outcome::Answered(Answer::Unacknowledged { node, request }),
-    }
 }
 
 // The command that is kept to be asked again, behind what a submit of it has come to.
@@ -103,9 +76,10 @@ fn hint_behind(outcome: &Outcome, told: &Told, has_warned: bool) -> Option<Hint>
 
 impl<
     'x,
+    B: Board,
     F: Read + Write + Seek + FileExt + OpenFile + Drop,
     R: Files<File = F> + AllocGlobal + Wait,
-> Console<'x, F, R> {
+> Console<'x, B, F, R> {
     // A request number that was never given. At the end of a block the next one is reserved.
     fn next_request(&mut self) -> Result<RequestNo, Refusal>
         ensures own { IfOk result (λ q. q.client ≡ self.old.client) }
@@ -144,9 +118,7 @@ impl<
                 unreachable!()
             };
             let client = self.client;
-            let told = self
-                .post
-                .ask(self.rt, &Question::Greatest { node, client })?;
+            let told = ask(self.board, self.rt, &Question::Greatest { node, client })?;
             if let Told::Greatest(Some(used)) = told {
                 self.pass_number(used)?;
             }
@@ -158,12 +130,13 @@ impl<
     fn put(&mut self, node: NodeId, command: &Command) -> Result<Outcome, Refusal>
         ensures outcome { IfOk result (λ o. is_outcome_at node o ≡ true) }
         ensures of { IfOk result (IsOf command.now.request) }
+        ensures came { IfOk result (Came B.gave (Question.Submit node command.now) command.now.request) }
         ensures kept { IfOk result (λ o. IsKept command.now.op self.new.unanswered o) }
     {
         made_of!(Answer, Command, Op, Name, Reply, Value);
         let command = *command;
-        let told = self.post.ask(self.rt, &Question::Submit { node, command })?;
-        let outcome = outcome_told(node, command.request, &told);
+        let told = ask(self.board, self.rt, &Question::Submit { node, command })?;
+        let outcome = outcome_in(node, command.request, &told);
         self.unanswered = kept_behind(&command, &outcome);
         self.hint = hint_behind(&outcome, &told, self.has_warned);
         self.has_warned = self.has_warned || matches!(self.hint, Some(Hint::Left(_)));
@@ -173,9 +146,12 @@ impl<
 
 impl<
     'x,
+    B: Board,
     F: Read + Write + Seek + FileExt + OpenFile + Drop,
     R: Files<File = F> + AllocGlobal + Wait,
-> Asked for Console<'x, F, R> {
+> Asked for Console<'x, B, F, R> {
+    ghost did = { DidBy B.gave };
+
     ghost unanswered = { λ c. c.unanswered };
 
     ghost syncs = { λ c. IsSyncBy c.client };
@@ -183,7 +159,7 @@ impl<
     ghost told = { λ c. heard_by c.ear };
 
     fn wait_until_ready(&mut self) -> Result<(), Refusal> {
-        self.post.wait_until_begun(self.rt)?;
+        wait_until_begun(self.board, self.rt)?;
         self.pass_numbers()
     }
 
@@ -203,10 +179,10 @@ impl<
 
     fn sync(&mut self, node: NodeId) -> Result<Outcome, Refusal> {
         let request = self.next_request()?;
-        let told = self.post.ask(self.rt, &Question::Sync { node, request })?;
+        let told = ask(self.board, self.rt, &Question::Sync { node, request })?;
         self.hint = hint_of_room(&told, self.has_warned);
         self.has_warned = self.has_warned || self.hint.is_some();
-        Ok(outcome_told(node, request, &told))
+        Ok(outcome_in(node, request, &told))
     }
 
     fn hint(&mut self) -> Option<Hint> {
@@ -214,32 +190,23 @@ impl<
     }
 
     fn look(&mut self, node: NodeId, name: &Name) -> Result<Answer, Refusal> {
-        made_of!(Answer, Name, Reply, Value);
         let name = *name;
-        let told = self.post.ask(self.rt, &Question::Look { node, name })?;
-        match &told {
-            Told::Sight(answer) if is_sight_at(node, &name, answer) => Ok(*answer),
-            _ => Ok(Answer::Unseen { node, name }),
-        }
+        let told = ask(self.board, self.rt, &Question::Look { node, name })?;
+        Ok(sight_in(node, &name, &told))
     }
 
     fn list(&mut self, node: NodeId, prefix: &Option<Name>) -> Result<Listing, Refusal> {
         made_of!(Name);
         let prefix = *prefix;
-        let told = self.post.ask(self.rt, &Question::Names { node, prefix })?;
-        if let Told::Listing(listing) = told {
-            if is_listing_at(node, &prefix, &listing) {
-                return Ok(listing);
-            }
-        }
-        Ok(Listing { node, names: None })
+        let told = ask(self.board, self.rt, &Question::Names { node, prefix })?;
+        Ok(listing_in(node, &prefix, told))
     }
 
     fn watch(&mut self, node: NodeId, prefix: &Option<Name>) -> Result<(), Refusal> {
         made_of!(Name);
         let prefix = *prefix;
         self.ear = None;
-        let told = self.post.ask(self.rt, &Question::Watch { node, prefix })?;
+        let told = ask(self.board, self.rt, &Question::Watch { node, prefix })?;
         if let Told::Watching(new) = told {
             self.ear = Some(new.ear);
         }
@@ -251,7 +218,7 @@ impl<
             return Ok(None);
         };
         let node = ear.node;
-        let told = self.post.ask(self.rt, &Question::Changes { node })?;
+        let told = ask(self.board, self.rt, &Question::Changes { node })?;
         if !matches!(told, Told::Changed(true)) {
             return Ok(None);
         }
@@ -259,46 +226,38 @@ impl<
     }
 
     fn rest(&mut self) {
-        self.post.rest(self.rt);
+        self.board.linger(self.rt);
     }
 
     fn is_on(&self, node: NodeId) -> bool {
-        self.post.switches.is_on(node)
+        self.board.is_on(node)
     }
 
     fn stop(&mut self, node: NodeId) -> Result<(), Refusal> {
-        self.post.switch(self.rt, node, false)
+        switch(self.board, self.rt, node, false)
     }
 
     fn start(&mut self, node: NodeId) -> Result<(), Refusal> {
-        self.post.switch(self.rt, node, true)
+        switch(self.board, self.rt, node, true)
     }
 
     fn snapshot(&mut self, node: NodeId) -> Result<bool, Refusal> {
-        if !self.post.switches.is_on(node) {
+        if !self.board.is_on(node) {
             return Ok(false);
         }
-        let told = self.post.ask(self.rt, &Question::Snapshot { node })?;
-        Ok(matches!(told, Told::Written(true)))
+        let told = ask(self.board, self.rt, &Question::Snapshot { node })?;
+        Ok(is_written(&told))
     }
 
     fn status(&mut self, node: NodeId) -> Result<NodeStatus, Refusal> {
-        if !self.post.switches.is_on(node) {
+        if !self.board.is_on(node) {
             return Ok(NodeStatus {
                 node,
                 summary: None,
             });
         }
-        let told = self.post.ask(self.rt, &Question::Summary { node })?;
-        match &told {
-            Told::Summary(summary) => Ok(NodeStatus {
-                node,
-                summary: Some(*summary),
-            }),
-            _ => Ok(NodeStatus {
-                node,
-                summary: None,
-            }),
-        }
+        let told = ask(self.board, self.rt, &Question::Summary { node })?;
+        let summary = summary_in(&told);
+        Ok(NodeStatus { node, summary })
     }
 }

@@ -34,7 +34,9 @@
 #![tactic(auto)]
 
 mod answer_objects;
+mod asking;
 mod beside;
+mod board;
 mod closed;
 mod console;
 mod defaults;
@@ -44,6 +46,7 @@ mod program;
 mod reused;
 mod script_run;
 mod shell_run;
+mod teller;
 mod ticking;
 mod watcher;
 

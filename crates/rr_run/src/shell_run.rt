@@ -12,8 +12,9 @@ use crate::beside::talk_beside;
 use crate::closed::end_by_closed;
 use crate::console::Console;
 use crate::defaults::{FOLDER, nodes_by, show_defaults};
-use crate::post::{Post, tellers};
+use crate::post::Post;
 use crate::script_run::end_by_run_fault;
+use crate::teller::tellers;
 use crate::ticking::tick_by;
 use rr_cli::{ShellWords, end_by_refusal, end_by_stream, end_by_unprinted, number_in};
 use rr_folders::{Folders, Lockable, open_folders};
@@ -53,7 +54,7 @@ fn end_by_talk<R: Files + AllocGlobal, E: Write>(
 ) -> u8
 where
     R::File: FileExt,
-    ensures ends { EndsOnTalk talked result }
+    ensures ends { EndsOnTalk talked refusal result }
     ensures quiet { result ≡ 0 → Keeps (E.contents err.old) (E.contents err.new) }
 {
     match talked {
@@ -111,7 +112,7 @@ where
         nodes,
         client,
         block,
-        post: &post,
+        board: &post,
         unanswered: None,
         hint: None,
         has_warned: false,

@@ -7,8 +7,8 @@ ghost use Rattle.rr_window.specs.Changes.{changes_with};
 ghost use Rattle.rr_talk.specs.Watches.{bytes_of};
 ghost use Rattle.rr_run.specs.News.{told_by};
 
+use crate::asking::bytes_of;
 use crate::news::{Ear, NewEar, News, Tells};
-use crate::post::bytes_of;
 use rr_locked::Turnstile;
 use rr_threads::Handle;
 use rr_types::{Name, Refusal, made_of};
@@ -43,6 +43,7 @@ pub(crate) fn begin_watch<W: WindowName, T: Turnstile, R: Wait>(
     ensures prefix { IfOk result (λ r. r.0.prefix ≡ prefix.now) }
     ensures begun { IfOk result (λ r. r.0.begun ≡ handle.new.known) }
     ensures later { IsPrefix handle.old.known handle.new.known }
+    ensures node { IfOk result (λ r. r.1.ear.node ≡ handle.old.node) }
 {
     made_of!(Name);
     let any = Name::new(ANY)?;

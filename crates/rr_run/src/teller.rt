@@ -1,0 +1,265 @@
+//! The clients of the nodes, who tell a shell what it asks.
+
+ghost use Rattle.std.specs.Prelude.{◌≡◌, ℕ, Option, IfOk, IfErr, IfSome};
+ghost use Rattle.rr_types.specs.Registry.{registry_of};
+ghost use Rattle.rr_window.specs.Sights.{bindings_with};
+ghost use Rattle.rr_threads.specs.Asking.{IsAnswered};
+ghost use Rattle.rr_threads.specs.declared.desk.Written.{Written};
+ghost use Rattle.rr_talk.specs.Watches.{bytes_of};
+ghost use Rattle.rr_run.specs.Submits.{IsOutcome};
+ghost use Rattle.rr_run.specs.Tellings.{IsLeft, IsGreatest, IsToldTo};
+
+use crate::asking::{Question, Told, bytes_of};
+use crate::news::NewEar;
+use crate::post::Post;
+use crate::watcher::{Watcher, begin_watch};
+use rr_folders::greatest_in;
+use rr_locked::Turnstile;
+use rr_script::Answer;
+use rr_shell::{Listing, Outcome, left_behind};
+use rr_text::BoundNames;
+use rr_threads::{Client, Fate, Handle};
+use rr_types::{Command, Name, Nodes, Op, Refusal, Reply, RequestNo, Value, made_of};
+use rr_window::WindowName;
+use std::alloc::Global;
+use std::sync::Wait;
+
+/// How many times a node's client looks for the reply to a submit before it gives up: some five seconds.
+const LOOKS: u32 = 120;
+
+/// The name that a sync transfers from its client to its client. Any would do.
+const SYNC: &[u8] = b"sync";
+
+/// The client of a node that asks it what a shell asks.
+#[derive(Drop)]
+pub(crate) struct Teller<'x> {
+    alloc: Global,
+    post: &'x Post,
+}
+
+// The bound names of a node that begin so, or all. It is refused for lack of memory alone.
+fn names_at<W: WindowName, T: Turnstile, R: Wait>(
+    alloc: Global,
+    handle: &mut Handle<'_, '_, W, T, R>,
+    prefix: &Option<Name>,
+) -> Result<Listing, Refusal>
+    ensures node { IfOk result (λ l. l.node ≡ handle.old.node) }
+    ensures names { IfOk result (λ l. IfSome l.names (λ names. names ≡ bindings_with (bytes_of prefix.now) (registry_of handle.new.known))) }
+    ensures err { IfErr result (λ e. e ≡ Refusal.OutOfMemory) }
+{
+    let node = handle.node();
+    match handle.list(alloc, bytes_of(prefix)) {
+        Ok(bindings) => Ok(Listing {
+            node,
+            names: Some(BoundNames::new(bindings)),
+        }),
+        Err(Refusal::OutOfMemory) => Err(Refusal::OutOfMemory),
+        Err(_) => Ok(Listing { node, names: None }),
+    }
+}
+
+// What a submit of a command has come to, by its answer. None: the node goes down, or the run has failed, and its refusal is the
+// answer.
+fn outcome_behind<W: WindowName, T: Turnstile, R: Wait>(
+    handle: &Handle<'_, '_, W, T, R>,
+    command: &Command,
+    answer: Answer,
+) -> Option<Outcome>
+    ensures { IsAnswered command.now.request handle.now answer → IfSome result (IsOutcome command.now.request handle.now) }
+{
+    if !matches!(answer, Answer::Unacknowledged { .. }) {
+        return Some(Outcome::Answered(answer));
+    }
+    if handle.is_over() {
+        return None;
+    }
+    match handle.fate(command) {
+        Fate::Never => Some(Outcome::ListFull),
+        Fate::Used(other) => Some(Outcome::Used(other)),
+        Fate::Open | Fate::Decided => Some(Outcome::Answered(answer)),
+    }
+}
+
+// What comes of a submit. None: as of `outcome_behind`.
+fn outcome_of<W: WindowName, T: Turnstile, R: Wait>(
+    handle: &mut Handle<'_, '_, W, T, R>,
+    command: &Command,
+) -> Option<Outcome>
+    ensures { IfSome result (IsOutcome command.now.request handle.new) }
+{
+    if let Fate::Used(other) = handle.fate(command) {
+        return Some(Outcome::Used(other));
+    }
+    let answer = handle.submit_within(LOOKS, command);
+    outcome_behind(handle, command, answer)
+}
+
+// What comes of a sync under a request number that the node's list doesn't have yet. None: as of `outcome_behind`.
+fn outcome_of_sync<W: WindowName, T: Turnstile, R: Wait>(
+    handle: &mut Handle<'_, '_, W, T, R>,
+    request: RequestNo,
+) -> Result<Option<Outcome>, Refusal>
+    ensures { IfOk result (λ outcome. IfSome outcome (IsOutcome request handle.new)) }
+{
+    let name = Name::new(SYNC)?;
+    let op = Op::Transfer(name, request.client);
+    let command = Command { request, op };
+    match handle.fate(&command) {
+        Fate::Used(other) => return Ok(Some(Outcome::Used(other))),
+        Fate::Decided => return Ok(Some(Outcome::Used(command))),
+        Fate::Open | Fate::Never => {}
+    }
+    let answer = handle.sync(LOOKS, request, &name);
+    Ok(outcome_behind(handle, &command, answer))
+}
+
+// How many commands can still be decided, by a node.
+fn left_at<W: WindowName, T: Turnstile, R: Wait>(handle: &Handle<'_, '_, W, T, R>) -> u64
+    ensures { IsLeft result }
+{
+    left_behind(handle.summary().decided)
+}
+
+// What is told of what a submit has come to.
+fn told_of<W: WindowName, T: Turnstile, R: Wait>(
+    handle: &Handle<'_, '_, W, T, R>,
+    outcome: Outcome,
+) -> Told
+    ensures { (left : ℕ) × IsLeft left × (result ≡ Told.Outcome outcome left) }
+{
+    Told::Outcome(outcome, left_at(handle))
+}
+
+// Tells what has changed of what is watched, and whether none was missed.
+fn tell_changes<W: WindowName, T: Turnstile, R: Wait>(
+    alloc: Global,
+    handle: &mut Handle<'_, '_, W, T, R>,
+    watcher: &mut Option<Watcher<W>>,
+) -> Result<bool, Refusal> {
+    let Some(watching) = watcher.take() else {
+        return Ok(false);
+    };
+    *watcher = watching.tell(alloc, handle)?;
+    Ok(watcher.is_some())
+}
+
+// What is told of a snapshot. None: as of `outcome_behind`.
+fn told_of_snapshot<W: WindowName, T: Turnstile, R: Wait>(
+    handle: &Handle<'_, '_, W, T, R>,
+) -> Option<Told>
+    ensures { IfSome result (λ told. (written : Option Written) × (told ≡ Told.Written written)) }
+{
+    match handle.snapshot(LOOKS) {
+        Some(written) => Some(Told::Written(Some(written))),
+        None if handle.is_over() => None,
+        None => Some(Told::Written(None)),
+    }
+}
+
+// The greatest request number of a client that a node's facts name.
+fn greatest_at<W: WindowName, T: Turnstile, R: Wait>(
+    alloc: Global,
+    handle: &Handle<'_, '_, W, T, R>,
+    client: u32,
+) -> Result<Option<u64>, Refusal>
+    ensures { IfOk result (IsGreatest client) }
+{
+    let promise = handle.promise(alloc)?;
+    Ok(greatest_in(client, promise.entries()))
+}
+
+// Begins to watch names for a shell, and gives where it hears the changes.
+fn begin_to_tell<W: WindowName, T: Turnstile, R: Wait>(
+    alloc: Global,
+    handle: &mut Handle<'_, '_, W, T, R>,
+    watcher: &mut Option<Watcher<W>>,
+    prefix: &Option<Name>,
+) -> Result<NewEar, Refusal>
+    ensures { IfOk result (λ new. new.ear.node ≡ handle.old.node) }
+{
+    let (begun, new) = begin_watch(alloc, handle, prefix)?;
+    *watcher = Some(begun);
+    Ok(new)
+}
+
+// What a node tells. None: the node goes down, or the run has failed, and its refusal is the answer.
+fn answer_to<W: WindowName, T: Turnstile, R: Wait>(
+    alloc: Global,
+    handle: &mut Handle<'_, '_, W, T, R>,
+    watcher: &mut Option<Watcher<W>>,
+    question: &Question,
+) -> Result<Option<Told>, Refusal>
+    ensures { IfOk result (λ told. IfSome told (IsToldTo question.now handle.old handle.new)) }
+{
+    made_of!(Answer, Command, Op, Name, Reply, Value);
+    match question {
+        Question::Submit { node: _, command } => match outcome_of(handle, command) {
+            Some(outcome) => Ok(Some(told_of(handle, outcome))),
+            None => Ok(None),
+        },
+        Question::Sync { node: _, request } => match outcome_of_sync(handle, *request)? {
+            Some(outcome) => Ok(Some(told_of(handle, outcome))),
+            None => Ok(None),
+        },
+        Question::Look { node: _, name } => Ok(Some(Told::Sight(handle.look(name)))),
+        Question::Names { node: _, prefix } => {
+            Ok(Some(Told::Listing(names_at(alloc, handle, prefix)?)))
+        }
+        Question::Watch { node: _, prefix } => {
+            let new = begin_to_tell(alloc, handle, watcher, prefix)?;
+            Ok(Some(Told::Watching(new)))
+        }
+        Question::Changes { node: _ } => {
+            Ok(Some(Told::Changed(tell_changes(alloc, handle, watcher)?)))
+        }
+        Question::Summary { node: _ } => Ok(Some(Told::Summary(handle.summary()))),
+        Question::Snapshot { node: _ } => Ok(told_of_snapshot(handle)),
+        Question::Greatest { node: _, client } => {
+            Ok(Some(Told::Greatest(greatest_at(alloc, handle, *client)?)))
+        }
+    }
+}
+
+impl<'x> Client for Teller<'x> {
+    fn run<W: WindowName, T: Turnstile, R: Wait>(
+        &mut self,
+        handle: &mut Handle<'_, '_, W, T, R>,
+    ) -> Result<(), Refusal> {
+        made_of!(Question, Command, Op, Name, Value);
+        let node = handle.node();
+        let mut watcher = None;
+        for _ in 0..u64::MAX {
+            if self.post.is_closed() {
+                break;
+            }
+            if handle.is_over() {
+                return Err(Refusal::Down);
+            }
+            let Some(question) = self.post.take_question(handle.rt(), node) else {
+                self.post.wait_at(handle.rt(), node);
+                continue;
+            };
+            match answer_to(self.alloc, handle, &mut watcher, &question)? {
+                Some(told) => self.post.answer(handle.rt(), told),
+                None => return Err(Refusal::Down),
+            }
+        }
+        Ok(())
+    }
+}
+
+/// A client for each node.
+///
+/// # Errors
+/// `OutOfMemory`.
+pub(crate) fn tellers<'x>(
+    alloc: Global,
+    nodes: Nodes,
+    post: &'x Post,
+) -> Result<Vec<Vec<Teller<'x>>>, Refusal> {
+    let mut tellers = Vec::new(alloc);
+    for _ in 0..nodes.count() {
+        tellers.push(vec![in alloc; Teller { alloc, post }]?)?;
+    }
+    Ok(tellers)
+}
