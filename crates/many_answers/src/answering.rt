@@ -114,8 +114,10 @@ fn read_script(alloc: Global, nodes: &str, bytes: &[u8]) -> Result<Answer> {
     match Script::parse(alloc, nodes, bytes) {
         Ok(script) => {
             let told = format!(in alloc; "{} lines\n", script.lines().len())?;
+            let mut out = Vec::new(alloc);
+            out.extend_from_slice(told.as_bytes())?;
             let spelled = script.text(alloc)?;
-            Ok(read(alloc, told.into_bytes(), spelled.as_slice(), bytes))
+            Ok(read(alloc, out, spelled.as_slice(), bytes))
         }
         Err(refusal) => Ok(refused(alloc, &refusal)),
     }

@@ -10,38 +10,30 @@
 mod answering;
 mod questions;
 
-use crate::answering::{Answer, answer_to};
+use crate::answering::answer_to;
 use crate::questions::Questions;
 use anyhow::Result;
 use rr_stream::{Counted, print_all, read_all};
-use std::alloc::{AllocError, Global};
 
-/// Appends an answer: its line, and the bytes that the line counts.
-fn put_answer(alloc: Global, answers: &mut Vec<u8>, answer: &Answer) -> Result<(), AllocError> {
-    let (out, err) = (answer.out.as_slice(), answer.err.as_slice());
-    let head = format!(in alloc; "{} {} {}\n", answer.status, out.len(), err.len())?;
-    answers.extend_from_slice(head.as_bytes())?;
-    answers.extend_from_slice(out)?;
-    answers.extend_from_slice(err)
-}
-
-/// The answers to all questions that the input spells from its front on.
-fn answers_to(rt: &HostRuntime, input: &[u8]) -> Result<Vec<u8>> {
-    let mut questions = Questions::new(input);
+fn main(rt: HostRuntime) -> Result<()> {
+    let input = read_all(rt.alloc(), &mut Counted::new(rt.stdin()))?;
+    let mut questions = Questions::new(input.as_slice());
     let mut answers = Vec::new(rt.alloc());
     for _ in 0..input.len() {
         let Some(question) = questions.next_question() else {
             break;
         };
-        let answer = answer_to(rt, &question)?;
-        put_answer(rt.alloc(), &mut answers, &answer)?;
+        let answer = answer_to(&rt, &question)?;
+        let head = format!(in rt.alloc();
+            "{} {} {}\n",
+            answer.status,
+            answer.out.len(),
+            answer.err.len()
+        )?;
+        answers.extend_from_slice(head.as_bytes())?;
+        answers.extend_from_slice(answer.out.as_slice())?;
+        answers.extend_from_slice(answer.err.as_slice())?;
     }
-    Ok(answers)
-}
-
-fn main(rt: HostRuntime) -> Result<()> {
-    let input = read_all(rt.alloc(), &mut Counted::new(rt.stdin()))?;
-    let answers = answers_to(&rt, input.as_slice())?;
     print_all(&mut Counted::new(rt.stdout()), answers.as_slice())?;
     Ok(())
 }
