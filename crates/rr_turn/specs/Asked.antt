@@ -13,8 +13,8 @@ use Rattle.rr_locked.specs.declared.flusher.Unflushed.{Unflushed}
 
 -- a call, with what it was given or answered. One on the node says which state that had before
 pub data Call : Type 0 where
-  -- on the node: it is told an input that is no message; it hears a message; it marks a group; it gives its staged facts as a group; its
-  -- oldest message that may leave does; its oldest request that is decided stops waiting
+  -- on the node: it is told an input that is no message, it hears a message, it marks a group. It gives its staged facts as a group. Its
+  -- oldest message that may leave does, or its oldest request that is decided stops waiting
   tells : (node : NodeState) (input : Input) (answer : Result (Unit {0}) Refusal) → Call
   hears : (node : NodeState) (sent : Sent) → Call
   marks : (node : NodeState) (synced : Kept) → Call

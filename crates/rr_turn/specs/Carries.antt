@@ -32,8 +32,8 @@ pub record Becomes {D : Type 0} (tells : D → Type 0) (areas : D → Areas) (ca
   pub cause : IfErr back (λ u. IfRefused u (λ e g. IsUnbegun e j))
   -- or a device call failed, and the journal has taken note
   pub failed : IfErr back (λ u. IfFailed u (λ e. (e ≡ Device) × HasFailed faults j k))
-  -- where the group follows the facts that the journal is over: each image that a crash may leave holds them and the group's once it is
-  -- synced, and them with or without the group's once its flush failed
+  -- where the group follows the facts that the journal is over, each image that a crash may leave holds these facts: with the group's once it
+  -- is synced, with or without them once its flush failed
   pub kept : tells j.disk → tells k.disk
   pub table : tells j.disk → (start : Images) (facts : List Fact) → areas j.disk ≡ restarted start → IsOver j start facts
       → all_fit j.nodes j.node [] (facts ++ group.facts) ≡ true → group.serial ≡ length facts

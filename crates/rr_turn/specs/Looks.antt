@@ -70,7 +70,7 @@ module _ {L : Type 0} (gives : L → Call → L → Type 0) where
   abbrev pub Flushes : Bool → L → L → Type 0
   Flushes has from to = (s : NodeState) × (group : Option Grouped) × (mid : L) × Groups gives s group from mid × Ran gives (giving group) mid to × (has ≡ is_some group)
 
-  -- what waits is heard; the node is asked for what its clients want, so many commands; and what it owes then is put into inboxes, which
+  -- what waits is heard, and the node is asked for what its clients want, so many commands. What it owes then is put into inboxes, which
   -- wakes these
   abbrev pub SubmitsInOrder : ℕ → ℕ → ℕ → Chase → L → Chase → L → Type 0
   SubmitsInOrder most count woken c from k to = (has_heard has_put : Bool) × (s t : NodeState) × (d : Chase) × (heard asked : L)

@@ -15,7 +15,7 @@ use rr_types::{Command, Group, Input, NodeId, Refusal};
 /// and hand-overs; bells; and the node's clients. A function over any such links can change them by these calls alone. So its clauses can
 /// name the calls that it made, in their order.
 ///
-/// An error of an event is that of the node, or that the event has no place on the tape; then it may have been made.
+/// An error of an event is that of the node, or that the event has no place on the tape. In the second case it may have been made.
 pub trait Links {
     /// That a call may have brought the links from one state to another.
     ghost gives: { Self → Call → Self → Type 0 };
