@@ -1,4 +1,4 @@
-//! What a node hears that was kept while it was down.
+//! What a node hears first: what is kept of the messages that came before.
 
 use crate::wires::{Mail, Wires};
 use rr_inbox::ROOM;

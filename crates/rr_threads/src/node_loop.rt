@@ -72,7 +72,7 @@ fn turn<W: WindowName, T: Turnstile, R: Wait + Clock>(
     tick_next(rt, now(rt)?, node, chase, wires, clockwork, ROOM)
 }
 
-/// What a node begins with: it hears what was kept while it was down, and its clock starts.
+/// What a node begins with: it hears what is kept of the messages that came before, and its clock starts.
 fn begin<W: WindowName, T: Turnstile, R: Wait + Clock>(
     rt: &R,
     shared: &Shared<'_, T>,
