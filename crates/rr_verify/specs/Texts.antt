@@ -1,5 +1,5 @@
 -- What is printed of the folders of a cluster: fields, as lines of words or as objects of JSON.
-use Rattle.std.specs.Prelude.{ℕ, ◌+◌, ◌-◌, ◌==◌, ◌||◌, Bool, true, false, if◌then◌else◌, List, [], ◌∷◌, ◌++◌, length, codes, decimal}
+use Rattle.std.specs.Prelude.{ℕ, ◌+◌, ◌-◌, Bool, true, false, List, [], ◌∷◌, ◌++◌, length, codes, decimal}
 use Rattle.std.specs.List.{flat_map}
 use Rattle.rr_types.specs.declared.refusal.Refusal.{Refusal}
 use Rattle.rr_types.specs.Refusal.{refusal_text}
@@ -8,6 +8,7 @@ use Rattle.rr_types.specs.Promises.{decided_from}
 use Rattle.rr_frame.specs.Versions.{version_number}
 use Rattle.rr_text.specs.Words.{spaced}
 use Rattle.rr_text.specs.ReportTexts.{command_words}
+use Rattle.rr_json.specs.Json as json
 use Rattle.rr_verify.specs.declared.folder.Folder.{Folder}
 use Rattle.rr_verify.specs.declared.folder.Reading.{Reading}
 use Rattle.rr_verify.specs.declared.folder.Reading.TheVariants.{Facts, Blank, Refused}
@@ -15,37 +16,29 @@ use Rattle.rr_verify.specs.declared.verdict.Clash.{Clash}
 use Rattle.rr_verify.specs.declared.fields.Form.{Form}
 use Rattle.rr_verify.specs.declared.fields.Form.TheVariants.{Words, Json}
 
--- a text between quotation marks
-abbrev pub quoted : List ℕ → List ℕ
-quoted text = 34 ∷ text ++ 34 ∷ []
-
--- a byte of a text in JSON: a backslash stands before a quotation mark and before a backslash
-abbrev pub escaped : ℕ → List ℕ
-escaped b = if (b == 34) || (b == 92) then 92 ∷ b ∷ [] else b ∷ []
-
 -- the beginning of a line of this kind
 unfoldable pub opened : Form → List ℕ → List ℕ
 opened Words kind = kind
-opened Json kind = codes "{\"kind\":" ++ quoted kind
+opened Json kind = json.opened kind
 
 -- its end
 unfoldable pub closed : Form → List ℕ
 closed Words = 10 ∷ []
 closed Json = 125 ∷ 10 ∷ []
 
--- the name of a field
-unfoldable pub label : Form → List ℕ → List ℕ
-label Words name = 32 ∷ name ++ 32 ∷ []
-label Json name = 44 ∷ quoted name ++ 58 ∷ []
+-- the name of a field among words
+unfoldable pub named : List ℕ → List ℕ
+named name = 32 ∷ name ++ 32 ∷ []
 
 -- a field that is a number
 unfoldable pub number_field : Form → List ℕ → ℕ → List ℕ
-number_field form name n = label form name ++ decimal n
+number_field Words name n = named name ++ decimal n
+number_field Json name n = json.number_member name n
 
 -- a field that is a text
 unfoldable pub text_field : Form → List ℕ → List ℕ → List ℕ
-text_field Words name text = label Words name ++ text
-text_field Json name text = label Json name ++ quoted (flat_map escaped text)
+text_field Words name text = named name ++ text
+text_field Json name text = json.words_member name text
 
 -- a line of this kind with these fields
 abbrev pub line_of : Form → List ℕ → List ℕ → List ℕ

@@ -1,9 +1,9 @@
 //! Fields of what is printed, as words of a line or as members of an object of JSON.
 
-ghost use Rattle.std.specs.Prelude.{◌≡◌, ◌∷◌, ◌++◌, [], OnOk};
-ghost use Rattle.std.specs.List.{flat_map};
-ghost use Rattle.rr_verify.specs.Texts.{quoted, escaped, opened, closed, label, number_field, text_field};
+ghost use Rattle.std.specs.Prelude.{◌≡◌, ◌++◌, OnOk};
+ghost use Rattle.rr_verify.specs.Texts.{opened, closed, named, number_field, text_field};
 
+use rr_json::{push_end, push_number_member, push_words_member};
 use rr_text::text_word::{push_byte, push_bytes, push_number};
 use std::alloc::AllocError;
 
@@ -14,34 +14,6 @@ pub enum Form {
     Json,
 }
 
-#[tactic(auto, unfolding(crate::specs::Texts::quoted))]
-fn push_quoted(out: &mut Vec<u8>, text: &[u8]) -> Result<(), AllocError>
-    ensures ok { OnOk result (out.new.items ≡ out.old.items ++ quoted text.now) }
-{
-    push_byte(out, b'"')?;
-    push_bytes(out, text)?;
-    push_byte(out, b'"')
-}
-
-fn push_escaped_byte(out: &mut Vec<u8>, byte: u8) -> Result<(), AllocError>
-    ensures ok { OnOk result (out.new.items ≡ out.old.items ++ escaped byte) }
-{
-    if byte == b'"' || byte == b'\\' {
-        push_bytes(out, &[b'\\', byte])
-    } else {
-        push_byte(out, byte)
-    }
-}
-
-fn push_escaped(out: &mut Vec<u8>, text: &[u8]) -> Result<(), AllocError>
-    ensures ok { OnOk result (out.new.items ≡ out.old.items ++ flat_map escaped text.now) }
-{
-    for byte in text {
-        push_escaped_byte(out, *byte)?;
-    }
-    Ok(())
-}
-
 /// Begins a line of this kind.
 #[tactic(auto, unfolding(crate::specs::Texts::opened))]
 pub(crate) fn push_open(out: &mut Vec<u8>, form: Form, kind: &[u8]) -> Result<(), AllocError>
@@ -49,10 +21,7 @@ pub(crate) fn push_open(out: &mut Vec<u8>, form: Form, kind: &[u8]) -> Result<()
 {
     match form {
         Form::Words => push_bytes(out, kind),
-        Form::Json => {
-            push_bytes(out, b"{\"kind\":")?;
-            push_quoted(out, kind)
-        }
+        Form::Json => rr_json::push_open(out, kind),
     }
 }
 
@@ -63,27 +32,18 @@ pub(crate) fn push_close(out: &mut Vec<u8>, form: Form) -> Result<(), AllocError
 {
     match form {
         Form::Words => push_byte(out, b'\n'),
-        Form::Json => push_bytes(out, b"}\n"),
+        Form::Json => push_end(out),
     }
 }
 
-// The name of a field.
-#[tactic(auto, unfolding(crate::specs::Texts::label))]
-fn push_label(out: &mut Vec<u8>, form: Form, name: &[u8]) -> Result<(), AllocError>
-    ensures ok { OnOk result (out.new.items ≡ out.old.items ++ label form name.now) }
+// The name of a field among words.
+#[tactic(auto, unfolding(crate::specs::Texts::named))]
+fn push_name(out: &mut Vec<u8>, name: &[u8]) -> Result<(), AllocError>
+    ensures ok { OnOk result (out.new.items ≡ out.old.items ++ named name.now) }
 {
-    match form {
-        Form::Words => {
-            push_byte(out, b' ')?;
-            push_bytes(out, name)?;
-            push_byte(out, b' ')
-        }
-        Form::Json => {
-            push_byte(out, b',')?;
-            push_quoted(out, name)?;
-            push_byte(out, b':')
-        }
-    }
+    push_byte(out, b' ')?;
+    push_bytes(out, name)?;
+    push_byte(out, b' ')
 }
 
 /// A field that is a number.
@@ -96,12 +56,17 @@ pub(crate) fn push_number_field(
 ) -> Result<(), AllocError>
     ensures ok { OnOk result (out.new.items ≡ out.old.items ++ number_field form name.now number) }
 {
-    push_label(out, form, name)?;
-    push_number(out, number)
+    match form {
+        Form::Words => {
+            push_name(out, name)?;
+            push_number(out, number)
+        }
+        Form::Json => push_number_member(out, name, number),
+    }
 }
 
 /// A field that is a text.
-#[tactic(auto, unfolding(crate::specs::Texts::text_field, crate::specs::Texts::quoted))]
+#[tactic(auto, unfolding(crate::specs::Texts::text_field))]
 pub(crate) fn push_text_field(
     out: &mut Vec<u8>,
     form: Form,
@@ -110,13 +75,11 @@ pub(crate) fn push_text_field(
 ) -> Result<(), AllocError>
     ensures ok { OnOk result (out.new.items ≡ out.old.items ++ text_field form name.now text.now) }
 {
-    push_label(out, form, name)?;
     match form {
-        Form::Words => push_bytes(out, text),
-        Form::Json => {
-            push_byte(out, b'"')?;
-            push_escaped(out, text)?;
-            push_byte(out, b'"')
+        Form::Words => {
+            push_name(out, name)?;
+            push_bytes(out, text)
         }
+        Form::Json => push_words_member(out, name, text),
     }
 }
