@@ -263,7 +263,17 @@ def watch_shows_what_comes(case):
 
 
 def snapshot_is_written_when_told(case):
-    """A snapshot that is told is on the disk at once: a kill right behind the answer leaves the next epoch, with all that was decided."""
+    """A snapshot is told behind its last call, and not where that is never made. A kill behind the answer leaves the next epoch, with all."""
+    # The third write to an area that is empty opens its gate.
+    env = {"LD_PRELOAD": case.preload, "FAIL_CALL": "write", "FAIL_PATH": "/1/a1", "FAIL_NTH": "3", "FAIL_HOW": "kill"}
+    for attempt in range(5):
+        case.folder = f"{case.room}/killed-{attempt}"
+        shell = Shell(case, "--nodes", "2", env=env)
+        shell.want("claim a", "claimed")
+        answer = shell.ask("snapshot 1")
+        need(answer is None and shell.child.wait(SOON) == -9, f"a snapshot that is cut short before its gate is told as {answer!r}")
+        need(case.disk(1).epoch == 1, f"a snapshot that is cut short before its gate: {case.disk(1).text()}")
+    case.folder = f"{case.room}/nodes"
     for epoch in (2, 3):
         shell = Shell(case, "--nodes", "2", "--client", "7")
         shell.wants((f"claim name-{epoch} x", "claimed"), ("at 1", "at 1"), ("sync", "synced"), ("snapshot 1", "snapshot 1"))
