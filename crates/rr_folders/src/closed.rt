@@ -1,5 +1,7 @@
 //! Why the folders of a cluster aren't opened.
 
+ghost use Rattle.std.specs.Prelude.{◌≡◌, Ok, IfOk};
+
 use rr_cluster::Fault;
 use rr_types::{NodeId, Refusal};
 use std::alloc::{AllocError, AllocFailed};
@@ -49,7 +51,9 @@ pub(crate) fn done<R: AllocGlobal, T: Drop>(
     path: &str,
     call: &'static str,
     given: io::Result<T>,
-) -> Result<T, Closed> {
+) -> Result<T, Closed>
+    ensures { IfOk result (λ value. given ≡ Ok value) }
+{
     match given {
         Ok(value) => Ok(value),
         Err(error) => Err(failed(rt, path, call, error)),

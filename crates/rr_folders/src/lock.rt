@@ -1,6 +1,6 @@
 //! Locks on folders, by which a program keeps others off.
 
-ghost use Rattle.std.specs.Prelude.{◌≡◌, ◌+◌, ◌≤◌, IfOk};
+ghost use Rattle.std.specs.Prelude.{◌≡◌, ◌+◌, ◌≤◌, true, IfOk, IfSome};
 
 use crate::closed::{Closed, done};
 use crate::number_file::reserve;
@@ -14,14 +14,20 @@ use std::{fs, io};
 
 /// A folder or file that is open. A program can lock it for as long as it is.
 pub trait Lockable {
+    /// That it was locked.
+    ghost was_locked: { Self → Type 0 };
+
     /// Locks it. The answer is false where another opening of it is locked.
     ///
     /// # Errors
     /// Those of the system.
-    fn lock_now(&self) -> io::Result<bool>;
+    fn lock_now(&self) -> io::Result<bool>
+        ensures { IfOk result (λ is_locked. is_locked ≡ true → was_locked self.now) };
 }
 
 impl Lockable for File {
+    ghost was_locked = { λ _. Unit {0} };
+
     fn lock_now(&self) -> io::Result<bool> {
         match self.try_lock() {
             Ok(()) => Ok(true),
@@ -31,12 +37,44 @@ impl Lockable for File {
     }
 }
 
+/// A folder that was locked, and is for as long as this is there. Only `lock` gives this.
+#[derive(Drop)]
+pub struct Held<F> {
+    folder: F,
+}
+
+// Locks a folder that is open. None: another opening of it is locked.
+fn lock<F: Lockable + Drop>(folder: F) -> io::Result<Option<Held<F>>>
+    ensures { IfOk result (λ held. IfSome held (λ h. F.was_locked h.folder)) }
+{
+    if folder.lock_now()? {
+        Ok(Some(Held { folder }))
+    } else {
+        Ok(None)
+    }
+}
+
 /// The locks on the folder DIR of a cluster and on those in it that are there. They are held for as long as this is there, so whoever
 /// reads or writes in the folders borrows it meanwhile.
 #[derive(Drop)]
 pub struct Locks<F> {
     dir: String,
-    held: Vec<F>,
+    own: Held<F>,
+    held: Vec<Held<F>>,
+}
+
+// Locks the folder of this path.
+fn lock_at<F: Lockable + Drop, R: Files<File = F> + AllocGlobal>(
+    rt: &R,
+    path: &str,
+) -> Result<Held<F>, Closed>
+    ensures { IfOk result (λ h. F.was_locked h.folder) }
+{
+    let folder = done(rt, path, "opening the folder", fs::open(rt, path))?;
+    match done(rt, path, "locking", lock(folder))? {
+        Some(held) => Ok(held),
+        None => Err(Closed::InUse(format!(in rt.alloc(); "{path}")?)),
+    }
 }
 
 impl<F: Read + Write + Seek + FileExt + OpenFile + Drop> Locks<F> {
@@ -48,12 +86,12 @@ impl<F: Read + Write + Seek + FileExt + OpenFile + Drop> Locks<F> {
     where
         F: Lockable,
     {
-        let mut locks = Locks {
+        let own = lock_at(rt, dir)?;
+        Ok(Locks {
             dir: format!(in rt.alloc(); "{dir}")?,
+            own,
             held: Vec::new(rt.alloc()),
-        };
-        locks.add(rt, dir)?;
-        Ok(locks)
+        })
     }
 
     /// Locks another folder.
@@ -65,13 +103,9 @@ impl<F: Read + Write + Seek + FileExt + OpenFile + Drop> Locks<F> {
     where
         F: Lockable,
     {
-        let folder = done(rt, path, "opening the folder", fs::open(rt, path))?;
-        if done(rt, path, "locking", folder.lock_now())? {
-            self.held.push(folder)?;
-            Ok(())
-        } else {
-            Err(Closed::InUse(format!(in rt.alloc(); "{path}")?))
-        }
+        let held = lock_at(rt, path)?;
+        self.held.push(held)?;
+        Ok(())
     }
 
     /// The path of the folder DIR.
