@@ -6,3 +6,4 @@ pub mod TailLemmas
 pub mod SpentLemmas
 pub mod SettledLemmas
 pub mod StandLemmas
+pub mod StageLemmas

@@ -55,7 +55,7 @@ row_same (q ∷ rs) rows i h = row_of_put q (put_rows rs rows) i ∙ by (row_sam
     by more false e = more e
 
 -- the row of an instance is of that instance
-row_is_of : (rows : List Row) (i : ℕ) (r : Row) → row_of rows i ≡ Some r → r.instance ≡ i
+pub row_is_of : (rows : List Row) (i : ℕ) (r : Row) → row_of rows i ≡ Some r → r.instance ≡ i
 row_is_of [] i r h = absurd (cc)
 row_is_of (o ∷ os) i r h = by (row_is_of os i r) (eqb o.instance i) refl h
   where
@@ -428,7 +428,7 @@ put_reversed [] rows = refl
 put_reversed (r ∷ rs) rows = ap (listed.put_rows rows) (reverse-append (r ∷ []) rs) ∙ listed_last rows (reverse rs) r ∙ ap (put_row r) (put_reversed rs rows)
 
 -- where each changed row leaves a decision alone, all decisions stay
-decisions_stay : (rs rows : List Row) → KeepDecisions rs rows → listed.KeepsDecisions rows (put_rows rs rows)
+pub decisions_stay : (rs rows : List Row) → KeepDecisions rs rows → listed.KeepsDecisions rows (put_rows rs rows)
 decisions_stay [] rows k i v e = e
 decisions_stay (r ∷ rs) rows k i v e =
     ap (λ (x : Option Row). decision_of (option_map (λ (o : Row). o.standing) x)) (row_of_put r (put_rows rs rows) i) ∙ by (decisions_stay rs rows k.1 i v e) (eqb r.instance i) refl

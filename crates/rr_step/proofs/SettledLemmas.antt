@@ -71,5 +71,19 @@ fits_settled s c d x t e v h k f =
       waiting = f.waiting;
       own = f.own;
       spent = λ y. subst (λ (u : NodeState). IsSpent u.rows u.pool) (sym v) (k y);
+      front = f.front;
       settled = λ y. nothing_due (combined s c) (ap due v ∙ h);
+    }
+
+pub fits_spent : (s : NodeState) (c d : Changed) (x : Bool) (t : NodeState) → d ≡ record c { spent = x } → combined s c ≡ t → (IsTrue x → IsSpent t.rows t.pool) → IsFitting s c → IsFitting s d
+fits_spent s c d x t e v k f =
+    subst (IsFitting s) (sym e) record {
+      keep = f.keep;
+      taken = f.taken;
+      pooled = f.pooled;
+      waiting = f.waiting;
+      own = f.own;
+      spent = λ y. subst (λ (u : NodeState). IsSpent u.rows u.pool) (sym v) (k y);
+      front = f.front;
+      settled = f.settled;
     }

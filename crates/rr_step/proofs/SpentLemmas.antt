@@ -1,6 +1,8 @@
 -- When the pool has no command for an instance that no fact names.
-use Rattle.std.proofs.Common.{◌≡◌, ℕ, Bool, true, false, eqb, cond, not, ◌&&◌, ◌||◌, List, [], ◌∷◌, ◌++◌, ap, sym, ◌∙◌, refl, subst, Option, Some, None, option_map, append-nil}
+use Rattle.std.proofs.Common.{◌≡◌, ℕ, ◌-◌, arith, length, length-append, take, Bool, true, false, eqb, cond, not, ◌&&◌, ◌||◌, List, [], ◌∷◌, ◌++◌, ap, sym, ◌∙◌, refl, subst, Option, Some, None, option_map, append-nil}
 use Rattle.std.specs.Prelude.{find}
+use Rattle.std.proofs.Math.Seq.{take-append_seam}
+use Rattle.rr_types.specs.declared.command.RequestNo.{RequestNo}
 use Rattle.std.specs.List.{list_any}
 use Rattle.std.specs.Option.{option_map_or}
 use Rattle.std.proofs.lemmas.Bool.{eqb-true}
@@ -12,7 +14,7 @@ use Rattle.rr_types.specs.Standings.{estimate_of}
 use Rattle.rr_model.specs.NodeState.{Row, row_of, put_row, is_decided, lowest_undecided}
 use Rattle.rr_list.specs.Rowed.{AscendFrom}
 use Rattle.rr_step.specs.Places.{first_free, is_estimate_of, is_estimate_beside}
-use Rattle.rr_step.specs.Steps.{put_rows, without_requests, IsSpent}
+use Rattle.rr_step.specs.Steps.{put_rows, without_requests, IsSpent, IsFrontSpent}
 use Rattle.rr_step.proofs.OverLemmas.{row_of_put, open_stays, tally_keeps, changed_ascend}
 use Rattle.rr_step.proofs.PoolLemmas.{none_taken}
 
@@ -42,7 +44,7 @@ stands_same rows r h j = ap (λ (x : Option Row). option_map (λ (q : Row). q.st
     by true e = sym h ∙ ap (λ (i : ℕ). stands_at rows i) (eqb-true _ _ e)
     by false e = refl
 
-not_named : (rows : List Row) (r : Row) (i : ℕ) → row_of (put_row r rows) i ≡ None → row_of rows i ≡ None
+pub not_named : (rows : List Row) (r : Row) (i : ℕ) → row_of (put_row r rows) i ≡ None → row_of rows i ≡ None
 not_named rows r i n = by (eqb r.instance i) (sym (row_of_put r rows i) ∙ n)
   where
     by : (b : Bool) → cond b (Some r) (row_of rows i) ≡ None → row_of rows i ≡ None
@@ -64,3 +66,10 @@ tally_spent rs after rows r pool a e h d s = subst (λ (os : List Row). IsSpent 
 -- nor does a step that has changed nothing
 pub none_spent : (rows : List Row) (pool : List Command) → IsSpent rows pool → IsSpent rows (without_requests [] (pool ++ []))
 none_spent rows pool s = subst (IsSpent rows) (sym (ap (without_requests []) (append-nil pool) ∙ none_taken pool)) s
+
+-- a command is pooled last
+pub front_pushed : (rows : List Row) (taken : List RequestNo) (pool pooled : List Command) (c : Command) → IsSpent rows (without_requests taken (pool ++ pooled)) → IsFrontSpent rows taken pool (pooled ++ c ∷ [])
+front_pushed rows taken pool pooled c s =
+    let l = length-append pooled (c ∷ []) in
+    let n : length (pooled ++ c ∷ []) - 1 ≡ length pooled = omega (arith, l) in
+    subst (λ (cs : List Command). IsSpent rows (without_requests taken (pool ++ cs))) (sym (ap (λ k. take k (pooled ++ c ∷ [])) n ∙ take-append_seam pooled (c ∷ []))) s

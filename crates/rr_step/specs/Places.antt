@@ -3,6 +3,8 @@ use Rattle.std.specs.Option.{option_map_or}
 use Rattle.std.specs.List.{list_any, range_with_len}
 use Rattle.rr_types.specs.declared.command.RequestNo.{RequestNo}
 use Rattle.rr_types.specs.declared.command.Command.{Command}
+use Rattle.rr_types.specs.declared.fact.Fact.{Fact}
+use Rattle.rr_types.specs.declared.fact.Fact.TheVariants.{Enter, Propose, Adopt, Decide}
 use Rattle.rr_types.specs.Registry.{is_same_request}
 use Rattle.rr_types.specs.declared.message.Body.{Body}
 use Rattle.rr_types.specs.Commands.{is_same_command}
@@ -52,3 +54,17 @@ first_free rows instances i pool = find (λ c. not (is_estimate_beside rows inst
 -- whether a command has none of the request numbers that were taken, and is no estimate of one of these instances but i
 unfoldable pub is_free : List Row → List ℕ → ℕ → List RequestNo → Command → Bool
 is_free rows instances i taken c = not (list_any (λ q. is_same_request q c.request) taken) && not (is_estimate_beside rows instances i c)
+
+-- whether a fact leaves its instance this estimate, if it has one, or decides on it
+abbrev pub leaves_estimate : Fact → Option Command → Bool
+leaves_estimate (Enter i e) x = option_map_or (λ v. is_same_command v e.command) x true
+leaves_estimate (Propose i r w) x = true
+leaves_estimate (Adopt i r w) x = option_map_or (λ v. is_same_command v w) x true
+leaves_estimate (Decide i w) x = option_map_or (λ v. is_same_command v w) x true
+
+-- whether a fact enters a round with this command
+abbrev pub enters_with : Fact → Command → Bool
+enters_with (Enter i e) c = is_same_command e.command c
+enters_with (Propose i r w) c = false
+enters_with (Adopt i r w) c = false
+enters_with (Decide i w) c = false

@@ -1,4 +1,4 @@
-use Rattle.std.specs.Prelude.{◌≡◌, ℕ, Bool, true, false, IsTrue, not, List, [], ◌∷◌, ◌++◌, filter, All, Option, None, Some, option_map}
+use Rattle.std.specs.Prelude.{◌≡◌, ℕ, ◌-◌, Bool, true, false, IsTrue, not, List, [], ◌∷◌, ◌++◌, length, take, filter, All, Option, None, Some, option_map}
 use Rattle.std.specs.List.{list_any}
 use Rattle.rr_types.specs.declared.command.RequestNo.{RequestNo}
 use Rattle.rr_types.specs.declared.command.Command.{Command}
@@ -25,7 +25,8 @@ stepped f s = record { base = s.base; state = f s.state }
 
 -- what a step has changed: rows, the newest first; staged facts; the request numbers that decisions took out of the
 -- pool, and commands pooled; the suspects and the watches; requests that wait; messages owed; whether the pool is known to
--- have no command for an instance that no fact names, and whether nothing is known to be due
+-- have no command for an instance that no fact names, and the pool but the command that was pooled last; whether nothing
+-- is known to be due
 pub record Changed : Type 0 where
   pub rows : List Row
   pub staged : List Fact
@@ -36,6 +37,7 @@ pub record Changed : Type 0 where
   pub waiting : List RequestNo
   pub owed : List Owed
   pub spent : Bool
+  pub front : Bool
   pub settled : Bool
 
 -- rows with changed ones, of which the newest stands first
@@ -93,6 +95,10 @@ IsDecidedFact (Decide i v) rows = list_any (has_decided v.request) rows ≡ true
 pub record IsSpent (rows : List Row) (pool : List Command) : Type 0 where
   pub none : (i : ℕ) → row_of rows i ≡ None → first_free rows (lowest_undecided open_count 0 rows) i pool ≡ None
 
+-- the same of commands but the last of those that a step has pooled
+abbrev pub IsFrontSpent : List Row → List RequestNo → List Command → List Command → Type 0
+IsFrontSpent rows taken pool pooled = IsSpent rows (without_requests taken (pool ++ take (length pooled - 1) pooled))
+
 -- nothing is due at a node of these parts
 pub record NothingIsDue (nodes node : ℕ) (rows : List Row) (pool : List Command) (suspects : ℕ) : Type 0 where
   pub none : (s : NodeState) → s.nodes ≡ nodes → s.node ≡ node → s.rows ≡ rows → s.pool ≡ pool → s.suspects ≡ suspects → due s ≡ None
@@ -106,4 +112,5 @@ pub record IsFitting (s : NodeState) (c : Changed) : Type 0 where
   pub waiting : AreNewRequests s.waiting c.waiting
   pub own : All (IsOwn s.node) c.owed
   pub spent : IsTrue c.spent → IsSpent (put_rows c.rows s.rows) (without_requests c.taken (s.pool ++ c.pooled))
+  pub front : IsTrue c.front → IsFrontSpent (put_rows c.rows s.rows) c.taken s.pool c.pooled
   pub settled : IsTrue c.settled → NothingIsDue s.nodes s.node (put_rows c.rows s.rows) (without_requests c.taken (s.pool ++ c.pooled)) c.suspects

@@ -1,12 +1,13 @@
 //! Estimates: of open instances, and the one with which an instance enters a round.
 
-ghost use Rattle.std.specs.Prelude.{◌≡◌, find};
-ghost use Rattle.rr_step.specs.Places.{is_estimate_of, is_estimate_beside, is_free};
+ghost use Rattle.std.specs.Prelude.{◌≡◌, ◌-◌, length, slice_get, find, false, Some};
+ghost use Rattle.std.specs.Option.{option_map_or};
+ghost use Rattle.rr_step.specs.Places.{is_estimate_of, is_estimate_beside, is_free, leaves_estimate, enters_with};
 
 use crate::known::is_among;
 use crate::step::Step;
 use rr_list::Values;
-use rr_types::{Command, Instance, RequestNo};
+use rr_types::{Command, Fact, Instance, OpenStanding, RequestNo};
 
 /// Whether a command is the estimate of an instance.
 #[tactic(auto, unfolding(crate::specs::Places::is_estimate_of))]
@@ -87,4 +88,29 @@ pub fn first_free_in(
         }
     }
     None
+}
+
+/// Whether a fact leaves an instance that stands so its estimate, or decides on that.
+pub fn leaves_estimate(at: &OpenStanding, fact: &Fact) -> bool
+    ensures { result ≡ leaves_estimate fact.now (Some at.now.estimate) }
+{
+    match fact {
+        Fact::Enter(_, estimate) => at.estimate_ref().is_same(estimate.command_ref()),
+        Fact::Propose(..) => true,
+        Fact::Adopt(_, _, command) => at.estimate_ref().is_same(command),
+        Fact::Decide(_, command) => at.estimate_ref().is_same(command),
+    }
+}
+
+/// Whether a fact enters a round with the last of these commands.
+pub fn enters_with_last(fact: &Fact, commands: &[Command]) -> bool
+    ensures { result ≡ option_map_or (enters_with fact.now) (slice_get commands.now (length commands.now - 1)) false }
+{
+    let Some(last) = commands.last() else {
+        return false;
+    };
+    match fact {
+        Fact::Enter(_, estimate) => estimate.command_ref().is_same(last),
+        Fact::Propose(..) | Fact::Adopt(..) | Fact::Decide(..) => false,
+    }
 }

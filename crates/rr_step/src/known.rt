@@ -41,6 +41,13 @@ impl State {
         self.instances.window()
     }
 
+    /// The open instances, lent.
+    pub(crate) fn open(&self) -> &[Instance]
+        ensures { result.now ≡ open_in self.now.rows }
+    {
+        self.instances.open()
+    }
+
     /// The lowest undecided instance from `from` on; the rows ascend.
     pub(crate) fn undecided_from(&self, from: u32) -> u32
         requires { from ≤ instance_count }

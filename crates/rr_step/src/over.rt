@@ -109,7 +109,7 @@ fn lowest_over(base: &State, changed: &[Row]) -> OpenInstances
 
 /// Whether an instance is one of the `count` lowest undecided ones.
 #[tactic(auto, using(crate::proofs::RowLemmas::lowest_next, crate::proofs::RowLemmas::lowest_end))]
-pub fn is_lowest_over(base: &State, changed: &[Row], count: usize, instance: Instance) -> bool
+fn is_lowest_over(base: &State, changed: &[Row], count: usize, instance: Instance) -> bool
     requires { KeepDecisions changed.now base.now.rows }
     ensures { result ≡ list_any (λ j. j == instance) (lowest_undecided count 0 (put_rows changed.now base.now.rows)) }
 {
@@ -126,6 +126,32 @@ pub fn is_lowest_over(base: &State, changed: &[Row], count: usize, instance: Ins
         }
     }
     false
+}
+
+/// Whether an instance is one of these.
+fn is_one_of(instances: &[Instance], instance: Instance) -> bool
+    ensures { result ≡ list_any (λ j. j == instance) instances.now }
+{
+    for other in instances {
+        if *other == instance {
+            return true;
+        }
+    }
+    false
+}
+
+/// Whether an instance is open: by the state, where no changed row has decided.
+pub fn is_open_over(base: &State, changed: &[Row], instance: Instance) -> bool
+    requires { KeepDecisions changed.now base.now.rows }
+    ensures { result ≡ list_any (λ j. j == instance) (lowest_undecided 8 0 (put_rows changed.now base.now.rows)) }
+{
+    // That the rows ascend is told by this call alone.
+    let _row = base.row(instance);
+    if is_any_decided(changed) {
+        is_lowest_over(base, changed, OPEN_INSTANCES, instance)
+    } else {
+        is_one_of(base.open(), instance)
+    }
 }
 
 /// Whether an instance has a round.

@@ -14,6 +14,7 @@ ghost use Rattle.rr_parts.specs.Owing.{is_free};
 ghost use Rattle.rr_step.specs.Places.{first_free, reached};
 ghost use Rattle.rr_step.specs.Steps.{stepped, combined, KeepsDecision, KeepsStanding, IsFitting, IsDecidedFact, IsSpent};
 
+use crate::estimates::{enters_with_last, leaves_estimate};
 use crate::known::is_among;
 use crate::owing::Reach;
 use crate::state::State;
@@ -29,7 +30,8 @@ use std::marker::Model;
 
 /// What a step has changed: rows, the newest first; staged facts; the request numbers that decisions took out of
 /// the pool, and commands pooled; the suspects and the watches; requests that wait; messages owed; whether the pool is
-/// known to have no command for an instance that no fact names, and whether nothing is known to be due.
+/// known to have no command for an instance that no fact names, and the pool but the command that was pooled last; whether
+/// nothing is known to be due.
 #[derive(Debug, Drop)]
 pub struct Changes {
     pub rows: Vec<Row>,
@@ -41,6 +43,7 @@ pub struct Changes {
     pub waiting: Vec<RequestNo>,
     pub owed: Vec<Owed>,
     pub is_spent: bool,
+    pub is_front_spent: bool,
     pub is_settled: bool,
 }
 
@@ -59,6 +62,7 @@ impl Model for Changes {
       waiting = c.waiting.items;
       owed = c.owed.items;
       spent = c.is_spent;
+      front = c.is_front_spent;
       settled = c.is_settled;
     } };
 }
@@ -80,6 +84,7 @@ impl Changes {
             waiting: Vec::new(alloc),
             owed: Vec::new(alloc),
             is_spent: base.is_spent,
+            is_front_spent: false,
             is_settled: base.is_settled,
         }
     }
@@ -90,6 +95,13 @@ impl Changes {
     {
         self.is_spent = is_spent;
         self.is_settled = true;
+    }
+
+    /// Whether the pool is known to have no command for an instance that no fact names.
+    fn spend(&mut self, is_known: bool)
+        ensures { self.new ≡ record self.old { spent = is_known } }
+    {
+        self.is_spent = is_known;
     }
 
     /// The same in the room of other changes.
@@ -107,6 +119,7 @@ impl Changes {
         self.waiting.clear();
         self.owed.clear();
         self.is_spent = base.is_spent;
+        self.is_front_spent = false;
         self.is_settled = base.is_settled;
     }
 }
@@ -238,7 +251,7 @@ impl<'a> Step<'a> {
     pub fn is_open(&self, instance: Instance) -> bool
         ensures { result ≡ is_open self.now.state instance }
     {
-        over::is_lowest_over(self.base, &self.changes.rows, OPEN_INSTANCES, instance)
+        over::is_open_over(self.base, &self.changes.rows, instance)
     }
 
     /// The lowest open instance that has a round. It takes no memory.
@@ -360,7 +373,7 @@ impl<'a> Step<'a> {
     }
 
     /// Adds a command to the pool, unless its request number is there or decided.
-    #[tactic(auto, using(crate::proofs::PoolLemmas::command_new, crate::proofs::PoolLemmas::pooled_last), unfolding(rr_model::specs::NodeParts::pool_add))]
+    #[tactic(auto, using(crate::proofs::PoolLemmas::command_new, crate::proofs::PoolLemmas::pooled_last, crate::proofs::SpentLemmas::front_pushed), unfolding(rr_model::specs::NodeParts::pool_add))]
     pub fn pool_add(&mut self, command: &Command) -> Result<(), AllocError>
         ensures ok { OnOk result (self.new ≡ stepped (pool_add command.now) self.old) }
     {
@@ -369,6 +382,7 @@ impl<'a> Step<'a> {
             return Ok(());
         }
         self.changes.pooled.push(*command)?;
+        self.changes.is_front_spent = self.changes.is_spent;
         self.changes.is_spent = false;
         self.changes.is_settled = false;
         Ok(())
@@ -381,6 +395,7 @@ impl<'a> Step<'a> {
         ensures ok { OnOk result (self.new ≡ stepped (λ s. record s { rows = put_row row s.rows }) self.old) }
     {
         self.changes.is_spent = false;
+        self.changes.is_front_spent = false;
         self.changes.is_settled = false;
         over::put_newest(&mut self.changes.rows, row)
     }
@@ -397,6 +412,7 @@ impl<'a> Step<'a> {
         if row.is_decided() {
             self.changes.is_spent = false;
         }
+        self.changes.is_front_spent = false;
         self.changes.is_settled = false;
         over::put_newest(&mut self.changes.rows, row)
     }
@@ -456,6 +472,7 @@ impl<'a> Step<'a> {
             Fact::Decide(_, command) => {
                 self.changes.taken.push(command.request)?;
                 self.changes.is_spent = false;
+                self.changes.is_front_spent = false;
                 self.changes.is_settled = false;
                 Ok(())
             }
@@ -473,6 +490,37 @@ impl<'a> Step<'a> {
         Ok(())
     }
 
+    /// Whether the pool is known to have no command for an instance that no fact names once this fact is staged. Either that is
+    /// known now, and the fact leaves its instance the estimate or decides on it. Or it is known of all commands but the last,
+    /// with which an open instance enters its first round.
+    fn stays_spent(&self, fact: &Fact) -> bool
+        requires { KeepsStanding (standing_at self.now.state (instance_of fact.now)) (after_fact (standing_at self.now.state (instance_of fact.now)) fact.now) }
+        ensures { IsTrue result → IsSpent (stage fact.now self.now.state).rows (stage fact.now self.now.state).pool }
+    {
+        let base = self.base;
+        // That the rows ascend is told by this call alone.
+        let _row = base.row(fact.instance());
+        match self.open(fact.instance()) {
+            Some(at) => self.changes.is_spent && leaves_estimate(at, fact),
+            None => {
+                if self.changes.is_spent {
+                    return true;
+                }
+                self.changes.is_front_spent
+                    && enters_with_last(fact, &self.changes.pooled)
+                    && self.is_open(fact.instance())
+            }
+        }
+    }
+
+    /// The pool has no command for an instance that no fact names, if that is known.
+    fn note_spent(&mut self, is_spent: bool)
+        requires { IsTrue is_spent → IsSpent self.old.state.rows self.old.state.pool }
+        ensures { self.new ≡ self.old }
+    {
+        self.changes.spend(is_spent);
+    }
+
     /// Stages a fact about an instance; a decision there stays.
     #[tactic(auto, using(crate::proofs::OverLemmas::decision_decides), unfolding(rr_model::specs::NodeParts::stage))]
     pub fn stage(&mut self, fact: Fact) -> Result<(), AllocError>
@@ -481,9 +529,12 @@ impl<'a> Step<'a> {
         ensures ok { OnOk result (self.new ≡ stepped (stage fact) self.old) }
     {
         let fact = &fact;
+        let is_spent = self.stays_spent(fact);
         self.put_row_after(fact)?;
         self.take_decided(fact)?;
-        self.push_staged(fact)
+        self.push_staged(fact)?;
+        self.note_spent(is_spent);
+        Ok(())
     }
 
     /// These are the suspects from now on.
