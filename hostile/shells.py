@@ -360,18 +360,6 @@ def load_goes_on_without_coordinators(case):
     need(ran == (0, wanted, ""), f"an export behind {number} commands: {ran}")
 
 
-def busy_nodes_are_not_suspected(case):
-    """Nodes that always have something to do tick, so that nobody suspects them."""
-    shell = Shell(case, "--nodes", "3", "--json", "--tick", "200")
-    until, number = time.monotonic() + 2.5, 0
-    while time.monotonic() < until:
-        shell.ask(f"claim name-{number % 50}")
-        number += 1
-    told = shell.states(3)
-    need(not any(state["suspects"] for state in told), f"under load nodes are suspected: {told}")
-    shell.end()
-
-
 def ticks_are_as_asked(case):
     """With long ticks a node that is stopped isn't suspected yet; with short ones it is soon."""
     for tick, is_soon in ((10000, False), (10, True)):
@@ -455,8 +443,8 @@ def people_see_a_prompt(case):
     need(told.count(b"> ") == 2 and b"claimed" in told and f"--nodes 3 --dir {case.folder}".encode() in told, f"on a terminal: {told!r}")
 
 
-# Those that measure come first, alone.
-ALONE = (claims_are_prompt, busy_nodes_are_not_suspected)
+# What is measured comes first, alone.
+ALONE = (claims_are_prompt,)
 BESIDE = (
     no_majority_is_told,
     nodes_are_switched_alone,

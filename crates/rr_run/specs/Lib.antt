@@ -1,7 +1,11 @@
 pub mod AnswerObjects
 pub mod Boards
+pub mod Closings
 pub mod Ears
+pub mod Endings
+pub mod Hints
 pub mod News
+pub mod Numbers
 pub mod Questions
 pub mod Runs
 pub mod Shells

@@ -41,7 +41,7 @@ outcome_at p q Nothing = Answered (Unacknowledged p q)
 
 -- the same, by what is told; it isn't acknowledged where something else is
 abbrev pub outcome_in : ℕ → RequestNo → Told → Outcome
-outcome_in p q (told.Outcome outcome left) = outcome_at p q outcome
+outcome_in p q (told.Outcome outcome s) = outcome_at p q outcome
 outcome_in p q _ = Answered (Unacknowledged p q)
 
 -- what a look at a name at node p has seen, by what is told: nothing where that is no such answer

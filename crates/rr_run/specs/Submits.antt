@@ -1,5 +1,8 @@
 -- What a node's client finds that a submit has come to.
 use Rattle.rr_types.specs.declared.command.RequestNo.{RequestNo}
+use Rattle.rr_script.specs.declared.answer.Answer.{Answer}
+use Rattle.rr_threads.specs.declared.fate.Fate.{Fate}
+use Rattle.rr_threads.specs.declared.fate.Fate.TheVariants as fate
 use Rattle.rr_threads.specs.Asking.{Asking, IsAnswered}
 use Rattle.rr_shell.specs.declared.outcome.Outcome.{Outcome}
 use Rattle.rr_shell.specs.declared.outcome.Outcome.TheVariants.{Answered, ListFull, Used, Nothing}
@@ -10,3 +13,11 @@ IsOutcome q a (Answered answer) = IsAnswered q a answer
 IsOutcome q a ListFull = Unit {0}
 IsOutcome q a (Used other) = Unit {0}
 IsOutcome q a Nothing = ⊥
+
+-- what a submit has come to that isn't acknowledged, by what a list says of its command: the answer, unless it is full, or has another
+-- command under the request number
+abbrev pub outcome_by : Fate → Answer → Outcome
+outcome_by fate.Never answer = ListFull
+outcome_by (fate.Used other) answer = Used other
+outcome_by fate.Open answer = Answered answer
+outcome_by fate.Decided answer = Answered answer

@@ -7,6 +7,7 @@ ghost use Rattle.rr_talk.specs.Watches.{bytes_of};
 ghost use Rattle.rr_run.specs.Questions.{node_of, answer_in, outcome_at, outcome_in, sight_in, listing_in, is_written, summary_in};
 
 use crate::news::NewEar;
+use crate::used::Greatest;
 use rr_script::Answer;
 use rr_shell::{Listing, Outcome, is_listing_at};
 use rr_talk::is_sight_at;
@@ -58,8 +59,8 @@ impl Question {
 /// What a node tells.
 #[derive(Drop)]
 pub(crate) enum Told {
-    /// What came of a submit or a sync, and how many commands can still be decided then.
-    Outcome(Outcome, u64),
+    /// What came of a submit or a sync, and the node in brief then.
+    Outcome(Outcome, NodeSummary),
     Sight(Answer),
     Listing(Listing),
     /// Where the changes are heard from now on.
@@ -69,7 +70,7 @@ pub(crate) enum Told {
     Summary(NodeSummary),
     /// That a snapshot is written, if it is.
     Written(Option<Written>),
-    Greatest(Option<u64>),
+    Greatest(Greatest),
 }
 
 /// What names begin with: with anything, where no prefix is asked for.

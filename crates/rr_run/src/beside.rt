@@ -1,9 +1,11 @@
 //! A talk beside the threads of the nodes.
 
-ghost use Rattle.std.specs.Prelude.{◌≡◌};
+ghost use Rattle.std.specs.Prelude.{◌≡◌, if◌then◌else◌, None, Some};
 ghost use Rattle.std.specs.Thread.{IsSend, IsSync};
 ghost use Rattle.rr_talk.specs.Talks.{Talks};
+ghost use Rattle.rr_run.specs.Endings.{refusal_of};
 
+use crate::ending::Ended;
 use crate::post::Post;
 use crate::teller::Teller;
 use rr_disk::{FileDisk, OpenedFile};
@@ -55,6 +57,17 @@ impl<'a, F: FnMut() -> A, A> Work for Lent<'a, F> {
     }
 }
 
+// Runs something, and notes that it has ended, by its refusal if it has one.
+fn end_behind<R: Wait, F: FnOnce() -> Result<(), Refusal>>(rt: &R, post: &Post, run: F) -> Ended
+    requires { F.pre run }
+    ensures { (ran : _) × F.post run ran × (result.refusal ≡ refusal_of ran) }
+{
+    match run() {
+        Ok(()) => post.end(rt, None),
+        Err(refusal) => post.end(rt, Some(refusal)),
+    }
+}
+
 // Runs the nodes until nothing is asked any more, or the run fails.
 fn run_nodes<
     F: Read + Write + Seek + FileExt + OpenFile + Drop + Send,
@@ -65,11 +78,21 @@ fn run_nodes<
     disks: Vec<FileDisk<OpenedFile<F>>>,
     clients: Vec<Vec<Teller<'_>>>,
     post: &Post,
-) {
+) -> Ended {
     let switches = &post.switches;
-    match run_switched(rt, rt.alloc(), nodes, disks, clients, &Open, switches) {
-        Ok(()) => post.end(rt, None),
-        Err(refusal) => post.end(rt, Some(refusal)),
+    end_behind(rt, post, || {
+        run_switched(rt, rt.alloc(), nodes, disks, clients, &Open, switches)
+    })
+}
+
+// Where the nodes' thread isn't started, the run has ended.
+fn end_unless<R: Wait>(rt: &R, post: &Post, is_started: bool) -> Option<Ended>
+    ensures { result ≡ (if is_started then None else Some (record { refusal = Some Refusal.OutOfMemory })) }
+{
+    if is_started {
+        None
+    } else {
+        Some(post.end(rt, Some(Refusal::OutOfMemory)))
     }
 }
 
@@ -88,9 +111,7 @@ fn start_nodes<
     post: &'s Post,
 ) {
     let started = scope.spawn(move || run_nodes(rt, nodes, disks, clients, post));
-    if started.is_err() {
-        post.end(rt, Some(Refusal::OutOfMemory));
-    }
+    let _ended = end_unless(rt, post, started.is_ok());
 }
 
 // Does some work while the nodes run. Then they come to their end.

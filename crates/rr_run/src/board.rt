@@ -1,9 +1,12 @@
 //! The board by which a shell asks the clients of nodes, and stops and starts the nodes.
 
-ghost use Rattle.std.specs.Prelude.{IfOk, IfSome, OnOk};
-ghost use Rattle.rr_run.specs.Boards.{Call, finds_on, finds_up, turns_off, turns_on, leaves, rings, takes, IsTold, IsTurned, IsSwitched};
+ghost use Rattle.std.specs.Prelude.{◌≡◌, true, None, IfOk, IfErr, IfSome, OnOk};
+ghost use Rattle.rr_run.specs.Boards.{Call, finds_on, finds_up, finds_all_up, turns_off, turns_on, leaves, rings, takes, misses, finds_over, ends, IsTold, IsTurned, IsSwitched, IsCutOff};
+ghost use Rattle.rr_run.specs.Questions.{node_of};
 
 use crate::asking::{Question, Told};
+use crate::ending::Seen;
+use crate::post::Cause;
 use rr_types::{NodeId, Refusal};
 use std::sync::Wait;
 
@@ -22,33 +25,40 @@ pub(crate) trait Board {
         ensures { gave (finds_up node result) };
 
     /// Whether all nodes are up.
-    fn are_all_up(&self) -> bool;
+    fn are_all_up(&self) -> bool
+        ensures { gave (finds_all_up result) };
 
     /// A node is to go down.
-    fn turn_off(&self, node: NodeId)
-        ensures { gave (turns_off node) };
+    fn turn_off(&self, node: NodeId) -> Cause
+        ensures off { gave (turns_off node) }
+        ensures node { result.node ≡ node };
 
     /// A node is to come up.
     fn turn_on(&self, node: NodeId)
         ensures { gave (turns_on node) };
 
     /// Leaves a question.
-    fn leave<R: Wait>(&self, rt: &R, question: &Question)
-        ensures { gave (leaves question.now) };
+    fn leave<R: Wait>(&self, rt: &R, question: &Question) -> Cause
+        ensures left { gave (leaves question.now) }
+        ensures node { result.node ≡ node_of question.now };
 
-    /// Rings for a node's client.
-    fn ring(&self, node: NodeId)
-        ensures { gave (rings node) };
+    /// Rings for a node's client, behind what it is to see.
+    fn ring(&self, cause: &Cause)
+        ensures { gave (rings cause.now.node) };
 
-    /// Takes what is told, once it lies there.
-    fn take<R: Wait>(&self, rt: &R) -> Option<Told>
-        ensures { IfSome result (λ told. gave (takes told)) };
+    /// Whether the run has ended by now, so that nothing is told any more.
+    fn look_at_end(&self) -> Seen
+        ensures { gave (finds_over result.has_ended) };
 
-    /// Whether the run has ended, so that nothing is told any more.
-    fn has_ended(&self) -> bool;
+    /// Takes what is told, once it lies there. It is looked for behind this look at the end of the run: where that saw the end, and
+    /// nothing lies there, nothing is told any more.
+    fn take<R: Wait>(&self, rt: &R, seen: &Seen) -> Option<Told>
+        ensures told { IfSome result (λ told. gave (takes told)) }
+        ensures none { result ≡ None → gave (misses seen.now.has_ended) };
 
     /// The refusal by which the run has ended; `Down`, where it has ended without one.
-    fn ending<R: Wait>(&self, rt: &R) -> Refusal;
+    fn ending<R: Wait>(&self, rt: &R) -> Refusal
+        ensures { gave (ends result) };
 
     /// Waits until something is told, or a while.
     fn rest<R: Wait>(&self, rt: &R);
@@ -64,17 +74,20 @@ pub(crate) trait Board {
 ///
 /// # Errors
 /// The refusal by which the run has ended; `Down`, where it has ended without one.
-pub(crate) fn wait_until_begun<B: Board, R: Wait>(board: &B, rt: &R) -> Result<(), Refusal> {
-    for _ in 0..u64::MAX {
+pub(crate) fn wait_until_begun<B: Board, R: Wait>(board: &B, rt: &R) -> Result<(), Refusal>
+    ensures ok { OnOk result (B.gave (finds_all_up true)) }
+    ensures err { IfErr result (IsCutOff B.gave) }
+{
+    for _ in rt.forever() {
         if board.are_all_up() {
             return Ok(());
         }
-        if board.has_ended() {
-            break;
+        if board.look_at_end().has_ended() {
+            return Err(board.ending(rt));
         }
         board.wait(rt);
     }
-    Err(board.ending(rt))
+    unreachable!()
 }
 
 /// Asks a node's client, and waits for the answer.
@@ -86,21 +99,22 @@ pub(crate) fn ask<B: Board, R: Wait>(
     rt: &R,
     question: &Question,
 ) -> Result<Told, Refusal>
-    ensures { IfOk result (IsTold B.gave question.now) }
+    ensures ok { IfOk result (IsTold B.gave question.now) }
+    ensures err { IfErr result (λ e. B.gave (misses true) × B.gave (ends e)) }
 {
-    board.leave(rt, question);
-    board.ring(question.node());
-    for _ in 0..u64::MAX {
-        let has_ended = board.has_ended();
-        if let Some(told) = board.take(rt) {
+    let left = board.leave(rt, question);
+    board.ring(&left);
+    for _ in rt.forever() {
+        let seen = board.look_at_end();
+        if let Some(told) = board.take(rt, &seen) {
             return Ok(told);
         }
-        if has_ended {
-            break;
+        if seen.has_ended() {
+            return Err(board.ending(rt));
         }
         board.rest(rt);
     }
-    Err(board.ending(rt))
+    unreachable!()
 }
 
 // Turns a node's switch.
@@ -110,8 +124,8 @@ fn turn<B: Board>(board: &B, node: NodeId, is_on: bool)
     if is_on {
         board.turn_on(node);
     } else {
-        board.turn_off(node);
-        board.ring(node);
+        let cause = board.turn_off(node);
+        board.ring(&cause);
     }
 }
 
@@ -125,17 +139,18 @@ pub(crate) fn switch<B: Board, R: Wait>(
     node: NodeId,
     is_on: bool,
 ) -> Result<(), Refusal>
-    ensures { OnOk result (IsSwitched B.gave node is_on) }
+    ensures ok { OnOk result (IsSwitched B.gave node is_on) }
+    ensures err { IfErr result (λ e. IsTurned B.gave node is_on × IsCutOff B.gave e) }
 {
     turn(board, node, is_on);
-    for _ in 0..u64::MAX {
+    for _ in rt.forever() {
         if board.is_up(node) == is_on {
             return Ok(());
         }
-        if board.has_ended() {
-            break;
+        if board.look_at_end().has_ended() {
+            return Err(board.ending(rt));
         }
         board.wait(rt);
     }
-    Err(board.ending(rt))
+    unreachable!()
 }

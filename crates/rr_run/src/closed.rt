@@ -1,8 +1,6 @@
 //! The lines that tell why the folders of a run aren't opened.
 
-ghost use Rattle.std.specs.Prelude.{◌≡◌};
-ghost use Rattle.rr_cli.specs.Refusals.{status_of};
-ghost use Rattle.rr_run.specs.Shells.{IsRefusedBy};
+ghost use Rattle.rr_run.specs.Closings.{IsRefusalOf, IsClosedBy};
 
 use rr_cli::{end_by_refusal, print_folder_fault};
 use rr_cluster::Fault;
@@ -24,7 +22,7 @@ pub(crate) fn end_by_closed<R: Files + AllocGlobal, E: Write>(
 ) -> u8
 where
     R::File: FileExt,
-    ensures { IsRefusedBy result }
+    ensures { IsClosedBy closed.now result }
 {
     let refusal = refusal_of(rt, dir, nodes, closed);
     let ending = end_by_refusal(err, &refusal);
@@ -39,7 +37,9 @@ where
 }
 
 // The refusal that the program ends with.
-fn refusal_of<R: Files + AllocGlobal>(rt: &R, dir: &str, nodes: Nodes, closed: &Closed) -> Refusal {
+fn refusal_of<R: Files + AllocGlobal>(rt: &R, dir: &str, nodes: Nodes, closed: &Closed) -> Refusal
+    ensures { IsRefusalOf closed.now result }
+{
     match closed {
         Closed::OutOfMemory => Refusal::OutOfMemory,
         Closed::InUse(_) | Closed::Failed { .. } => Refusal::Device,

@@ -1,17 +1,20 @@
 //! The nodes that a shell asks, through its board.
 
-ghost use Rattle.std.specs.Prelude.{◌≡◌, ◌<◌, ◌++◌, true, IfOk, IfSome, OnOk};
+ghost use Rattle.std.specs.Prelude.{◌≡◌, ◌<◌, ◌++◌, true, None, IfOk, IfSome, OnOk};
+ghost use Rattle.rr_talk.specs.Deeds.{waits};
 ghost use Rattle.rr_talk.specs.Talks.{is_outcome_at, IsOf, IsKept, IsSyncBy};
 ghost use Rattle.rr_talk.specs.Watches.{bytes_of, IsPiece};
 ghost use Rattle.rr_run.specs.Boards.{Came, DidBy};
 ghost use Rattle.rr_run.specs.Ears.{heard_by};
+ghost use Rattle.rr_run.specs.Hints.{hint_of_room, hint_behind, warned_behind, IsHinted};
+ghost use Rattle.rr_run.specs.Numbers.{greatest_told, HaveTold, IsNext, IsBehindAll};
 
 use crate::asking::{Question, Told, is_written, listing_in, outcome_in, sight_in, summary_in};
 use crate::board::{Board, ask, switch, wait_until_begun};
 use crate::news::{Ear, next_changes};
 use rr_folders::{Block, Locks};
 use rr_script::Answer;
-use rr_shell::{Listing, NodeStatus, Outcome, is_nearly_full};
+use rr_shell::{Listing, NodeStatus, Outcome, is_nearly_full, left_behind};
 use rr_talk::{Asked, Hint};
 use rr_types::{Command, Name, NodeId, Nodes, Op, Refusal, Reply, RequestNo, Value, made_of};
 use rr_window::Change;
@@ -59,19 +62,74 @@ fn next_heard(ear: &mut Option<Ear>, prefix: &Option<Name>) -> Option<Vec<Change
 }
 
 // What a person is told once few commands are left.
-fn hint_of_room(told: &Told, has_warned: bool) -> Option<Hint> {
+fn hint_of_room(told: &Told, has_warned: bool) -> Option<Hint>
+    ensures { result ≡ hint_of_room told.now has_warned }
+{
     match told {
-        Told::Outcome(_, left) if !has_warned && is_nearly_full(*left) => Some(Hint::Left(*left)),
+        Told::Outcome(_, summary) => {
+            let left = left_behind(summary.decided);
+            if !has_warned && is_nearly_full(left) {
+                Some(Hint::Left(left))
+            } else {
+                None
+            }
+        }
         _ => None,
     }
 }
 
 // What a person is told behind what a submit has come to.
-fn hint_behind(outcome: &Outcome, told: &Told, has_warned: bool) -> Option<Hint> {
-    if matches!(outcome, Outcome::Answered(Answer::Unacknowledged { .. })) {
-        return Some(Hint::Again);
+fn hint_behind(outcome: &Outcome, told: &Told, has_warned: bool) -> Option<Hint>
+    ensures { result ≡ hint_behind outcome.now told.now has_warned }
+{
+    match outcome {
+        Outcome::Answered(Answer::Unacknowledged { .. }) => Some(Hint::Again),
+        _ => hint_of_room(told, has_warned),
     }
-    hint_of_room(told, has_warned)
+}
+
+// Whether a person was told how few commands are left, before or now.
+fn warned_behind(has_warned: bool, hint: &Option<Hint>) -> bool
+    ensures { result ≡ warned_behind has_warned hint.now }
+{
+    match hint {
+        Some(Hint::Left(_)) => true,
+        _ => has_warned,
+    }
+}
+
+// The greatest number of a client that facts name, with one that is told.
+fn greatest_told(most: Option<u64>, told: &Told) -> Option<u64>
+    ensures { result ≡ greatest_told most told.now }
+{
+    let Told::Greatest(greatest) = told else {
+        return most;
+    };
+    match (most, greatest.number()) {
+        (most, None) => most,
+        (None, Some(number)) => Some(number),
+        (Some(most), Some(number)) => Some(most.max(number)),
+    }
+}
+
+// The greatest number of a client that the facts of the nodes name.
+fn greatest_used<B: Board, R: Wait>(
+    board: &B,
+    rt: &R,
+    nodes: Nodes,
+    client: u32,
+) -> Result<Option<u64>, Refusal>
+    ensures { IfOk result (HaveTold B.gave client nodes) }
+{
+    let mut most = None;
+    for index in 0..nodes.count() {
+        let Some(node) = NodeId::new(nodes, index) else {
+            unreachable!()
+        };
+        let told = ask(board, rt, &Question::Greatest { node, client })?;
+        most = greatest_told(most, &told);
+    }
+    Ok(most)
 }
 
 impl<
@@ -83,6 +141,7 @@ impl<
     // A request number that was never given. At the end of a block the next one is reserved.
     fn next_request(&mut self) -> Result<RequestNo, Refusal>
         ensures own { IfOk result (λ q. q.client ≡ self.old.client) }
+        ensures next { IfOk result (λ q. IsNext self.old.block self.new.block q.seq) }
         ensures kept { self.new.unanswered ≡ self.old.unanswered }
     {
         let client = self.client;
@@ -111,19 +170,13 @@ impl<
     }
 
     // Gives no number that the facts of a node name as this client's.
-    fn pass_numbers(&mut self) -> Result<(), Refusal> {
-        let nodes = self.nodes;
-        for index in 0..nodes.count() {
-            let Some(node) = NodeId::new(nodes, index) else {
-                unreachable!()
-            };
-            let client = self.client;
-            let told = ask(self.board, self.rt, &Question::Greatest { node, client })?;
-            if let Told::Greatest(Some(used)) = told {
-                self.pass_number(used)?;
-            }
+    fn pass_numbers(&mut self) -> Result<(), Refusal>
+        ensures behind { OnOk result (IsBehindAll B.gave self.old.client self.old.nodes self.new.block) }
+    {
+        match greatest_used(self.board, self.rt, self.nodes, self.client)? {
+            Some(used) => self.pass_number(used),
+            None => Ok(()),
         }
-        Ok(())
     }
 
     // Submits a command at a node.
@@ -132,15 +185,42 @@ impl<
         ensures of { IfOk result (IsOf command.now.request) }
         ensures came { IfOk result (Came B.gave (Question.Submit node command.now) command.now.request) }
         ensures kept { IfOk result (λ o. IsKept command.now.op self.new.unanswered o) }
+        ensures hinted { IfOk result (λ o. IsHinted B.gave (Question.Submit node command.now) (λ t. hint_behind o t self.old.has_warned) self.new.hint) }
+        ensures warned { OnOk result (self.new.has_warned ≡ warned_behind self.old.has_warned self.new.hint) }
     {
         made_of!(Answer, Command, Op, Name, Reply, Value);
         let command = *command;
         let told = ask(self.board, self.rt, &Question::Submit { node, command })?;
         let outcome = outcome_in(node, command.request, &told);
         self.unanswered = kept_behind(&command, &outcome);
-        self.hint = hint_behind(&outcome, &told, self.has_warned);
-        self.has_warned = self.has_warned || matches!(self.hint, Some(Hint::Left(_)));
+        let hint = hint_behind(&outcome, &told, self.has_warned);
+        self.has_warned = warned_behind(self.has_warned, &hint);
+        self.hint = hint;
         Ok(outcome)
+    }
+
+    // Has a node decide a command that changes nothing, under this request number.
+    fn put_sync(&mut self, node: NodeId, request: RequestNo) -> Result<Outcome, Refusal>
+        ensures outcome { IfOk result (λ o. is_outcome_at node o ≡ true) }
+        ensures of { IfOk result (IsOf request) }
+        ensures came { IfOk result (Came B.gave (Question.Sync node request) request) }
+        ensures kept { self.new.unanswered ≡ self.old.unanswered }
+        ensures hinted { OnOk result (IsHinted B.gave (Question.Sync node request) (λ t. hint_of_room t self.old.has_warned) self.new.hint) }
+        ensures warned { OnOk result (self.new.has_warned ≡ warned_behind self.old.has_warned self.new.hint) }
+    {
+        let told = ask(self.board, self.rt, &Question::Sync { node, request })?;
+        self.hint = hint_of_room(&told, self.has_warned);
+        self.has_warned = warned_behind(self.has_warned, &self.hint);
+        Ok(outcome_in(node, request, &told))
+    }
+
+    // What a person is told now, and then no more.
+    fn take_hint(&mut self) -> Option<Hint>
+        ensures told { result ≡ self.old.hint }
+        ensures once { self.new.hint ≡ None }
+        ensures kept { self.new.unanswered ≡ self.old.unanswered }
+    {
+        self.hint.take()
     }
 }
 
@@ -158,7 +238,10 @@ impl<
 
     ghost told = { λ c. heard_by c.ear };
 
-    fn wait_until_ready(&mut self) -> Result<(), Refusal> {
+    fn wait_until_ready(&mut self) -> Result<(), Refusal>
+        ensures waited { OnOk result (DidBy B.gave waits) }
+        ensures behind { OnOk result (IsBehindAll B.gave self.old.client self.old.nodes self.new.block) }
+    {
         wait_until_begun(self.board, self.rt)?;
         self.pass_numbers()
     }
@@ -179,14 +262,11 @@ impl<
 
     fn sync(&mut self, node: NodeId) -> Result<Outcome, Refusal> {
         let request = self.next_request()?;
-        let told = ask(self.board, self.rt, &Question::Sync { node, request })?;
-        self.hint = hint_of_room(&told, self.has_warned);
-        self.has_warned = self.has_warned || self.hint.is_some();
-        Ok(outcome_in(node, request, &told))
+        self.put_sync(node, request)
     }
 
     fn hint(&mut self) -> Option<Hint> {
-        self.hint.take()
+        self.take_hint()
     }
 
     fn look(&mut self, node: NodeId, name: &Name) -> Result<Answer, Refusal> {

@@ -40,6 +40,7 @@ mod board;
 mod closed;
 mod console;
 mod defaults;
+mod ending;
 mod news;
 mod post;
 mod program;
@@ -48,6 +49,7 @@ mod script_run;
 mod shell_run;
 mod teller;
 mod ticking;
+mod used;
 mod watcher;
 
 pub use program::{execute, run};

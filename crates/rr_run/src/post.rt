@@ -6,6 +6,7 @@ ghost use Rattle.rr_run.specs.Questions.{node_of};
 
 use crate::asking::{Question, Told};
 use crate::board::Board;
+use crate::ending::{Ended, Ending, Seen};
 use rr_threads::Switches;
 use rr_types::{NodeId, Nodes, Refusal};
 use std::alloc::Global;
@@ -21,6 +22,12 @@ const REST: u64 = 50_000;
 /// How long a shell that watches waits between two looks for changes, in microseconds.
 const WATCH_REST: u64 = 20_000;
 
+/// That there is something that a node's client is to see. Only a board gives this, once there is.
+#[derive(Drop)]
+pub(crate) struct Cause {
+    node: NodeId,
+}
+
 /// What lies there.
 #[derive(Drop)]
 enum Slip {
@@ -35,8 +42,7 @@ enum Slip {
 pub(crate) struct Post {
     pub(crate) switches: Switches,
     slip: Mutex<Slip>,
-    refusal: Mutex<Option<Refusal>>,
-    has_ended: AtomicBool,
+    ending: Ending,
     is_closed: AtomicBool,
     shell: Parker,
     clients: Vec<Parker>,
@@ -52,8 +58,7 @@ impl Post {
         Ok(Post {
             switches: Switches::new(alloc, nodes)?.with_tick(tick),
             slip: Mutex::new(Slip::Nothing),
-            refusal: Mutex::new(None),
-            has_ended: AtomicBool::new(false),
+            ending: Ending::new(),
             is_closed: AtomicBool::new(false),
             shell: Parker::new(),
             clients,
@@ -104,11 +109,13 @@ impl Post {
     }
 
     /// The run has ended, by a refusal or without one. Nothing is answered any more.
-    pub(crate) fn end<R: Wait>(&self, rt: &R, refusal: Option<Refusal>) {
-        *self.refusal.lock(rt) = refusal;
-        self.has_ended.store(true, Ordering::SeqCst);
+    pub(crate) fn end<R: Wait>(&self, rt: &R, refusal: Option<Refusal>) -> Ended
+        ensures { result.refusal ≡ refusal }
+    {
+        let ended = self.ending.note(rt, refusal);
         self.switches.close();
         self.shell.unpark();
+        ended
     }
 
     /// The refusal by which the run has ended, if one has.
@@ -116,13 +123,12 @@ impl Post {
         let Post {
             switches: _,
             slip: _,
-            refusal,
-            has_ended: _,
+            ending,
             is_closed: _,
             shell: _,
             clients: _,
         } = self;
-        refusal.into_inner()
+        ending.into_refusal()
     }
 }
 
@@ -141,25 +147,33 @@ impl Board for Post {
         self.switches.are_all_up()
     }
 
-    fn turn_off(&self, node: NodeId) {
+    fn turn_off(&self, node: NodeId) -> Cause {
         self.switches.stop(node);
+        Cause { node }
     }
 
     fn turn_on(&self, node: NodeId) {
         self.switches.start(node);
     }
 
-    fn leave<R: Wait>(&self, rt: &R, question: &Question) {
+    fn leave<R: Wait>(&self, rt: &R, question: &Question) -> Cause {
         *self.slip.lock(rt) = Slip::Asked(*question);
+        Cause {
+            node: question.node(),
+        }
     }
 
-    fn ring(&self, node: NodeId) {
-        if let Some(bell) = self.clients.get(usize::from(node.index())) {
+    fn ring(&self, cause: &Cause) {
+        if let Some(bell) = self.clients.get(usize::from(cause.node.index())) {
             bell.unpark();
         }
     }
 
-    fn take<R: Wait>(&self, rt: &R) -> Option<Told> {
+    fn look_at_end(&self) -> Seen {
+        self.ending.look()
+    }
+
+    fn take<R: Wait>(&self, rt: &R, _seen: &Seen) -> Option<Told> {
         let mut slip = self.slip.lock(rt);
         match mem::replace(&mut *slip, Slip::Nothing) {
             Slip::Answered(told) => Some(told),
@@ -170,15 +184,8 @@ impl Board for Post {
         }
     }
 
-    fn has_ended(&self) -> bool {
-        self.has_ended.load(Ordering::SeqCst)
-    }
-
     fn ending<R: Wait>(&self, rt: &R) -> Refusal {
-        match *self.refusal.lock(rt) {
-            Some(refusal) => refusal,
-            None => Refusal::Down,
-        }
+        self.ending.refusal(rt)
     }
 
     fn rest<R: Wait>(&self, rt: &R) {

@@ -1,22 +1,24 @@
 //! The clients of the nodes, who tell a shell what it asks.
 
-ghost use Rattle.std.specs.Prelude.{◌≡◌, ℕ, Option, IfOk, IfErr, IfSome};
+ghost use Rattle.std.specs.Prelude.{◌≡◌, Option, Some, is_some, IfOk, IfErr, IfSome, OnOk};
 ghost use Rattle.rr_types.specs.Registry.{registry_of};
 ghost use Rattle.rr_window.specs.Sights.{bindings_with};
+ghost use Rattle.rr_types.specs.declared.summary.NodeSummary.{NodeSummary};
 ghost use Rattle.rr_threads.specs.Asking.{IsAnswered};
+ghost use Rattle.rr_threads.specs.Summaries.{IsSummary};
 ghost use Rattle.rr_threads.specs.declared.desk.Written.{Written};
 ghost use Rattle.rr_talk.specs.Watches.{bytes_of};
-ghost use Rattle.rr_run.specs.Submits.{IsOutcome};
-ghost use Rattle.rr_run.specs.Tellings.{IsLeft, IsGreatest, IsToldTo};
+ghost use Rattle.rr_run.specs.Submits.{outcome_by, IsOutcome};
+ghost use Rattle.rr_run.specs.Tellings.{IsGreatest, IsToldTo};
 
 use crate::asking::{Question, Told, bytes_of};
 use crate::news::NewEar;
 use crate::post::Post;
+use crate::used::{Greatest, greatest_by};
 use crate::watcher::{Watcher, begin_watch};
-use rr_folders::greatest_in;
 use rr_locked::Turnstile;
 use rr_script::Answer;
-use rr_shell::{Listing, Outcome, left_behind};
+use rr_shell::{Listing, Outcome};
 use rr_text::BoundNames;
 use rr_threads::{Client, Fate, Handle};
 use rr_types::{Command, Name, Nodes, Op, Refusal, Reply, RequestNo, Value, made_of};
@@ -58,6 +60,17 @@ fn names_at<W: WindowName, T: Turnstile, R: Wait>(
     }
 }
 
+// What a submit has come to that isn't acknowledged, by what the node's list says of its command.
+fn outcome_by(fate: &Fate, answer: Answer) -> Outcome
+    ensures { result ≡ outcome_by fate.now answer }
+{
+    match fate {
+        Fate::Never => Outcome::ListFull,
+        Fate::Used(other) => Outcome::Used(*other),
+        Fate::Open | Fate::Decided => Outcome::Answered(answer),
+    }
+}
+
 // What a submit of a command has come to, by its answer. None: the node goes down, or the run has failed, and its refusal is the
 // answer.
 fn outcome_behind<W: WindowName, T: Turnstile, R: Wait>(
@@ -73,11 +86,7 @@ fn outcome_behind<W: WindowName, T: Turnstile, R: Wait>(
     if handle.is_over() {
         return None;
     }
-    match handle.fate(command) {
-        Fate::Never => Some(Outcome::ListFull),
-        Fate::Used(other) => Some(Outcome::Used(other)),
-        Fate::Open | Fate::Decided => Some(Outcome::Answered(answer)),
-    }
+    Some(outcome_by(&handle.fate(command), answer))
 }
 
 // What comes of a submit. None: as of `outcome_behind`.
@@ -113,21 +122,14 @@ fn outcome_of_sync<W: WindowName, T: Turnstile, R: Wait>(
     Ok(outcome_behind(handle, &command, answer))
 }
 
-// How many commands can still be decided, by a node.
-fn left_at<W: WindowName, T: Turnstile, R: Wait>(handle: &Handle<'_, '_, W, T, R>) -> u64
-    ensures { IsLeft result }
-{
-    left_behind(handle.summary().decided)
-}
-
 // What is told of what a submit has come to.
 fn told_of<W: WindowName, T: Turnstile, R: Wait>(
     handle: &Handle<'_, '_, W, T, R>,
     outcome: Outcome,
 ) -> Told
-    ensures { (left : ℕ) × IsLeft left × (result ≡ Told.Outcome outcome left) }
+    ensures { (s : NodeSummary) × IsSummary s × (result ≡ Told.Outcome outcome s) }
 {
-    Told::Outcome(outcome, left_at(handle))
+    Told::Outcome(outcome, handle.summary())
 }
 
 // Tells what has changed of what is watched, and whether none was missed.
@@ -135,7 +137,10 @@ fn tell_changes<W: WindowName, T: Turnstile, R: Wait>(
     alloc: Global,
     handle: &mut Handle<'_, '_, W, T, R>,
     watcher: &mut Option<Watcher<W>>,
-) -> Result<bool, Refusal> {
+) -> Result<bool, Refusal>
+    ensures told { IfOk result (λ are_told. are_told ≡ is_some watcher.new) }
+    ensures reached { OnOk result (IfSome watcher.new (λ w. w.reached ≡ handle.new.known)) }
+{
     let Some(watching) = watcher.take() else {
         return Ok(false);
     };
@@ -161,11 +166,11 @@ fn greatest_at<W: WindowName, T: Turnstile, R: Wait>(
     alloc: Global,
     handle: &Handle<'_, '_, W, T, R>,
     client: u32,
-) -> Result<Option<u64>, Refusal>
-    ensures { IfOk result (IsGreatest client) }
+) -> Result<Greatest, Refusal>
+    ensures { IfOk result (λ g. IsGreatest client g.number) }
 {
     let promise = handle.promise(alloc)?;
-    Ok(greatest_in(client, promise.entries()))
+    Ok(greatest_by(client, &promise))
 }
 
 // Begins to watch names for a shell, and gives where it hears the changes.
@@ -175,7 +180,8 @@ fn begin_to_tell<W: WindowName, T: Turnstile, R: Wait>(
     watcher: &mut Option<Watcher<W>>,
     prefix: &Option<Name>,
 ) -> Result<NewEar, Refusal>
-    ensures { IfOk result (λ new. new.ear.node ≡ handle.old.node) }
+    ensures node { IfOk result (λ new. new.ear.node ≡ handle.old.node) }
+    ensures begun { OnOk result ((w : _) × (watcher.new ≡ Some w) × (w.prefix ≡ prefix.now) × (w.begun ≡ handle.new.known)) }
 {
     let (begun, new) = begin_watch(alloc, handle, prefix)?;
     *watcher = Some(begun);

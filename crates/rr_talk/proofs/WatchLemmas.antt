@@ -10,6 +10,7 @@ use Rattle.rr_window.specs.declared.change.Change.{Change}
 use Rattle.rr_stream.specs.Streams.{Printing, IsPrinted, IsFrontPrinted}
 use Rattle.rr_shell.specs.Forms.{watching_said, late_said}
 use Rattle.rr_talk.specs.declared.watching.Watched.{Watched}
+use Rattle.rr_talk.specs.Deeds.{Deed}
 use Rattle.rr_talk.specs.Watches.{change_said, changes_said, IsPiece, IsAdded, IsLook, IsToldOf, IsShown, IsFrontSaid}
 
 -- nothing is added
@@ -60,14 +61,14 @@ pub told_front : (json : Bool) (prefix : List ℕ) (a b : Printing) → IsToldOf
 told_front json prefix a b (changes, late, piece, added) = front_of_added a b (changes_said json changes late) added.0
 
 -- what is shown while a line is heard is a front of some text
-pub shown_front : (json : Bool) (w : Option Watched) (a b : Printing) → IsShown json w a b → IsFrontSaid a b
-shown_front json None a b same = subst (λ (p : Printing). IsFrontSaid a p) (sym same) (front_of_added a a [] (Appends-nil a.contents))
-shown_front json (Some w) a b (changes, late, piece, printed) = front_of_added a b (watching_said json ++ changes_said json changes late) printed.0
+pub shown_front : (Did : Deed → Type 0) (json : Bool) (p : ℕ) (w : Option Watched) (a b : Printing) → IsShown Did json p w a b → IsFrontSaid a b
+shown_front Did json p None a b same = subst (λ (p : Printing). IsFrontSaid a p) (sym same) (front_of_added a a [] (Appends-nil a.contents))
+shown_front Did json p (Some w) a b (did, changes, late, piece, printed) = front_of_added a b (watching_said json ++ changes_said json changes late) printed.0
 
 -- and so is what is printed of an answer behind it
-pub answer_front : (json : Bool) (w : Option Watched) (a b c : Printing) (text : List ℕ) → IsShown json w a b → IsFrontPrinted b c text → IsFrontSaid a c
-answer_front json None a b c text same front = subst (λ (p : Printing). IsFrontSaid p c) same (text, front)
-answer_front json (Some w) a b c text (changes, late, piece, printed) front =
+pub answer_front : (Did : Deed → Type 0) (json : Bool) (p : ℕ) (w : Option Watched) (a b c : Printing) (text : List ℕ) → IsShown Did json p w a b → IsFrontPrinted b c text → IsFrontSaid a c
+answer_front Did json p None a b c text same front = subst (λ (p : Printing). IsFrontSaid p c) same (text, front)
+answer_front Did json p (Some w) a b c text (did, changes, late, piece, printed) front =
     front_behind a b c (watching_said json ++ changes_said json changes late) printed.0 (text, front)
 
 -- a front of some text behind what was printed, where there is an error

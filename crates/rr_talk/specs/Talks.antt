@@ -23,7 +23,7 @@ use Rattle.rr_talk.specs.declared.saying.Said.{Said}
 use Rattle.rr_talk.specs.declared.talking.Turn.{Turn}
 use Rattle.rr_talk.specs.declared.talking.Stop as breaks
 use Rattle.rr_talk.specs.declared.watching.Watched.{Watched}
-use Rattle.rr_talk.specs.Deeds.{Deed, submits, repeats, catches_up, looks, lists, finds_off, stops, starts, snaps, tells}
+use Rattle.rr_talk.specs.Deeds.{Deed, waits, submits, repeats, catches_up, looks, lists, finds_off, stops, starts, snaps, tells}
 use Rattle.rr_talk.specs.Hearings.{Hears}
 use Rattle.rr_talk.specs.Watches.{IsShown, IsFrontSaid}
 use Rattle.rr_shell.specs.Lines.{shell_line_at}
@@ -124,7 +124,8 @@ abbrev pub line_of : Vec ℕ Global → List ℕ
 line_of line = strip_last 13 line.items
 
 -- what is said to what was heard where node p is asked, the node that is asked then, why that isn't what the line asks for,
--- if it isn't, and what is watched until the next line: to a line what it asks for, or why it asks for nothing; nothing to an empty line; and that a line is too long
+-- if it isn't, and what is watched until the next line: to a line what it asks for, or why it asks for nothing; nothing to an empty line;
+-- and that a line is too long
 pub data Exchange (Did : Deed → Type 0) (json : Bool) (n p : ℕ) : Heard → ℕ → List ℕ → Option Trouble → Option Watched → Type 0 where
   empty : (line : Vec ℕ Global) → line_of line ≡ [] → Exchange Did json n p (heard.Line line) p [] None None
   granted : (line : Vec ℕ Global) (asks : ShellLine) (q : ℕ) (said : List ℕ) (t : Option Trouble) (w : Option Watched)
@@ -148,7 +149,8 @@ IsSaidToRequest Did json n p asks (Some said) = Grants Did json n p asks said.no
 -- what is said to a sync at node p: what came of it there, of what may come of one
 abbrev pub IsSaidToSync : (Deed → Type 0) → Bool → ℕ → (ℕ → Outcome → Type 0) → Said → Type 0
 IsSaidToSync Did json p May said =
-    (o : Outcome) × May p o × Did (catches_up p o) × (is_outcome_at p o ≡ true) × (said.node ≡ p) × (said.text.items ≡ sync_said json o) × (said.trouble ≡ sync_trouble o) × (said.watched ≡ None)
+    (o : Outcome) × May p o × Did (catches_up p o) × (is_outcome_at p o ≡ true) × (said.node ≡ p) × (said.text.items ≡ sync_said json o)
+    × (said.trouble ≡ sync_trouble o) × (said.watched ≡ None)
 
 -- what is said to what was heard where node p is asked; none where the talk is over
 abbrev pub IsSaidTo : (Deed → Type 0) → Bool → ℕ → ℕ → Heard → Option Said → Type 0
@@ -158,9 +160,9 @@ IsSaidTo Did json n p h (Some said) = Exchange Did json n p h said.node said.tex
 -- a turn where node p is asked: something is heard, and what is watched is shown until then. Then what there is to say to it is
 -- printed and flushed; or the talk is over, and nothing more is printed
 abbrev pub IsTurn : (Deed → Type 0) → Bool → ℕ → ℕ → Option Watched → Reading → Reading → Printing → Printing → Option Turn → Type 0
-IsTurn Did json n p w from to old new None = (h : Heard) × Hears from to h × IsLast n h × IsShown json w old new
+IsTurn Did json n p w from to old new None = (h : Heard) × Hears from to h × IsLast n h × IsShown Did json p w old new
 IsTurn Did json n p w from to old new (Some turn) =
-    (h : Heard) × (said : List ℕ) × (mid : Printing) × Hears from to h × IsShown json w old mid
+    (h : Heard) × (said : List ℕ) × (mid : Printing) × Hears from to h × IsShown Did json p w old mid
     × Exchange Did json n p h turn.node said turn.trouble turn.watched × IsPrinted mid new said
 
 -- why a talk ends behind a turn: strict, it ends where the line wasn't answered as it asked
@@ -168,9 +170,9 @@ abbrev pub ending_trouble : Bool → Option Trouble → Option Trouble
 ending_trouble strict trouble = if strict then trouble else None
 
 -- a talk so far, from an input and an output on: the node that is asked now, what is watched, and the input and the output as they are
--- now. Each line is answered, and the answer flushed, before the next is read
+-- now. The nodes were waited for before. Each line is answered, and the answer flushed, before the next is read
 pub data Talk (Did : Deed → Type 0) (json strict : Bool) (n : ℕ) (from : Reading) (old : Printing) : ℕ → Option Watched → Reading → Printing → Type 0 where
-  begun : Talk Did json strict n from old 0 None from old
+  begun : Did waits → Talk Did json strict n from old 0 None from old
   said : {p : ℕ} {w : Option Watched} {r s : Reading} {a b : Printing} → Talk Did json strict n from old p w r a → (turn : Turn)
       → IsTurn Did json n p w r s a b (Some turn) → ending_trouble strict turn.trouble ≡ None
       → Talk Did json strict n from old turn.node turn.watched s b
@@ -184,14 +186,11 @@ pub data HasTalked (Did : Deed → Type 0) (json strict : Bool) (n : ℕ) (from 
       → ending_trouble strict turn.trouble ≡ Some trouble
       → HasTalked Did json strict n from to old new (Some trouble)
 
--- a talk that is broken off: a front of what a turn prints may have been printed
-pub record BreaksOff (Did : Deed → Type 0) (json strict : Bool) (n : ℕ) (from : Reading) (old new : Printing) : Type 0 where
-  pub node : ℕ
-  pub watched : Option Watched
-  pub heard : Reading
-  pub printed : Printing
-  pub talk : Talk Did json strict n from old node watched heard printed
-  pub front : IsFrontSaid printed new
+-- a talk that is broken off: before it begins; or a front of what a turn prints may have been printed
+pub data BreaksOff (Did : Deed → Type 0) (json strict : Bool) (n : ℕ) (from : Reading) (old new : Printing) : Type 0 where
+  early : new ≡ old → BreaksOff Did json strict n from old new
+  late : {p : ℕ} {w : Option Watched} {r : Reading} {a : Printing} → Talk Did json strict n from old p w r a → IsFrontSaid a new
+      → BreaksOff Did json strict n from old new
 
 -- a talk: over, or broken off
 abbrev pub Talks : (Deed → Type 0) → Bool → Bool → ℕ → Reading → Reading → Printing → Printing → Result (Option Trouble) breaks.Stop → Type 0

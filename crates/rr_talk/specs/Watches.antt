@@ -1,5 +1,5 @@
 -- What a watch says: each change of a piece of a list, while the next line is heard.
-use Rattle.std.specs.Prelude.{◌≡◌, ℕ, Bool, true, false, if◌then◌else◌, List, [], ◌++◌, Option, None, Some}
+use Rattle.std.specs.Prelude.{◌≡◌, ◌⊎◌, ℕ, Bool, true, false, if◌then◌else◌, List, [], ◌++◌, Option, None, Some}
 use Rattle.std.specs.List.{flat_map}
 use Rattle.std.specs.Io.KnownBytes.{Appends}
 use Rattle.rr_types.specs.declared.command.Command.{Command}
@@ -8,7 +8,9 @@ use Rattle.rr_window.specs.declared.change.Change.TheVariants.{Bound, Freed}
 use Rattle.rr_window.specs.Changes.{changes_with}
 use Rattle.rr_stream.specs.Streams.{Printing, IsPrinted, IsFrontPrinted}
 use Rattle.rr_shell.specs.Forms.{watching_said, changed_said, freed_said, late_said}
+use Rattle.rr_talk.specs.declared.looking.Looked.{Looked}
 use Rattle.rr_talk.specs.declared.watching.Watched.{Watched}
+use Rattle.rr_talk.specs.Deeds.{Deed, observes}
 
 -- what names begin with: with anything, where no prefix is asked for
 abbrev pub bytes_of : Option (List ℕ) → List ℕ
@@ -38,16 +40,21 @@ IsLook json prefix true before after old new =
     IsPiece prefix after × (changes : List Change) × (after ≡ before ++ changes) × IsAdded old new (flat_map (change_said json) changes)
 IsLook json prefix false before after old new = IsAdded old new (late_said json)
 
+-- nothing is looked for any more: changes were missed, or the next line was heard before the last look
+abbrev pub IsOver : Looked → Type 0
+IsOver l = (l.goes_on ≡ false) ⊎ (l.is_last ≡ true)
+
 -- the changes of names that begin so are said, of a piece of a list, until some were missed, where they were
 abbrev pub IsToldOf : Bool → List ℕ → Printing → Printing → Type 0
 IsToldOf json prefix old new = (changes : List Change) × (late : Bool) × IsPiece prefix changes × IsAdded old new (changes_said json changes late)
 
--- what is shown while a line is heard: nothing, where nothing is watched; or that a watch has begun, and the changes of a piece of a
--- list, until some were missed, where they were
-abbrev pub IsShown : Bool → Option Watched → Printing → Printing → Type 0
-IsShown json None old new = new ≡ old
-IsShown json (Some w) old new =
-    (changes : List Change) × (late : Bool) × IsPiece (bytes_of w.prefix) changes × IsPrinted old new (watching_said json ++ changes_said json changes late)
+-- what is shown while a line is heard where node p is asked: nothing, where nothing is watched; or that a watch has begun, which it has at
+-- node p, and the changes of a piece of a list, until some were missed, where they were
+abbrev pub IsShown : (Deed → Type 0) → Bool → ℕ → Option Watched → Printing → Printing → Type 0
+IsShown Did json p None old new = new ≡ old
+IsShown Did json p (Some w) old new =
+    Did (observes p w.prefix) × (changes : List Change) × (late : Bool) × IsPiece (bytes_of w.prefix) changes
+    × IsPrinted old new (watching_said json ++ changes_said json changes late)
 
 -- a front of some text was printed
 abbrev pub IsFrontSaid : Printing → Printing → Type 0

@@ -5,7 +5,7 @@ ghost use Rattle.rr_types.specs.declared.command.Command.{Command};
 ghost use Rattle.rr_window.specs.declared.change.Change.{Change};
 ghost use Rattle.rr_shell.specs.Listings.{is_listing_at};
 ghost use Rattle.rr_shell.specs.declared.outcome.Outcome.{Outcome};
-ghost use Rattle.rr_talk.specs.Deeds.{Deed, submits, repeats, catches_up, looks, lists, finds_off, stops, starts, snaps, tells};
+ghost use Rattle.rr_talk.specs.Deeds.{Deed, submits, repeats, catches_up, looks, lists, observes, finds_on, finds_off, stops, starts, snaps, tells, waits};
 ghost use Rattle.rr_talk.specs.Talks.{is_reply_at, is_outcome_at, is_sight_at, IsKept, IsAskedAgain};
 ghost use Rattle.rr_talk.specs.Watches.{bytes_of, IsPiece};
 
@@ -16,15 +16,16 @@ use rr_window::Change;
 
 /// Nodes that a shell asks.
 pub trait Asked {
+    /// That this was done. A function over any such nodes has it done by the calls below alone, so its clauses can name what it has
+    /// had done.
+    ghost did: { Deed → Type 0 };
+
     /// Waits until they can be asked.
     ///
     /// # Errors
     /// Why they can't be.
-    fn wait_until_ready(&mut self) -> Result<(), Refusal>;
-
-    /// That this was done. A function over any such nodes has it done by the calls below alone, so its clauses can name what it has
-    /// had done.
-    ghost did: { Deed → Type 0 };
+    fn wait_until_ready(&mut self) -> Result<(), Refusal>
+        ensures { OnOk result (did waits) };
 
     /// The command that isn't acknowledged yet and that `again` submits once more.
     ghost unanswered: { Self → Option Command };
@@ -90,7 +91,8 @@ pub trait Asked {
     /// # Errors
     /// Why the nodes can't be asked any more.
     fn watch(&mut self, node: NodeId, prefix: &Option<Name>) -> Result<(), Refusal>
-        ensures { OnOk result (told self.new ≡ []) };
+        ensures fresh { OnOk result (told self.new ≡ []) }
+        ensures begun { OnOk result (did (observes node prefix.now)) };
 
     /// What the node that is watched has published since the last call, of the names that begin so, or of all. It doesn't wait for
     /// a change. None: changes were missed.
@@ -107,7 +109,8 @@ pub trait Asked {
 
     /// Whether a node can be asked: it hasn't been stopped since it was last started.
     fn is_on(&self, node: NodeId) -> bool
-        ensures { result ≡ false → did (finds_off node) };
+        ensures on { result ≡ true → did (finds_on node) }
+        ensures off { result ≡ false → did (finds_off node) };
 
     /// Stops a node, and waits until it is down. The others go on.
     ///

@@ -23,8 +23,10 @@
 
 mod answering;
 mod hearing;
+mod looking;
 mod prompting;
 mod saying;
+mod sign;
 mod talking;
 mod watching;
 

@@ -1,7 +1,7 @@
 //! What is said to a line that asks for something.
 
-ghost use Rattle.std.specs.Prelude.{◌≡◌, ◌<◌, true, Some, None, IfOk};
-ghost use Rattle.rr_talk.specs.Deeds.{finds_off};
+ghost use Rattle.std.specs.Prelude.{◌≡◌, ◌<◌, true, false, Some, None, IfOk};
+ghost use Rattle.rr_talk.specs.Deeds.{finds_on, finds_off};
 ghost use Rattle.rr_talk.specs.Talks.{Stated, asks_node, IsSaidToSync, IsSaidToRequest};
 ghost use Rattle.rr_shell.specs.Troubles.{answer_trouble, outcome_trouble, listing_trouble};
 ghost use Rattle.rr_shell.specs.Forms.{answer_said, outcome_said, list_said, move_said, stop_said, start_said, snapshot_said, no_snapshot_said, down_said, help_said, fault_said};
@@ -252,6 +252,7 @@ fn asks_node(line: &ShellLine) -> bool
 fn asks_in_vain<A: Asked>(asked: &A, node: NodeId, line: &ShellLine) -> bool
     ensures asks { result ≡ true → asks_node line.now ≡ true }
     ensures off { result ≡ true → A.did (finds_off node) }
+    ensures on { result ≡ false → asks_node line.now ≡ true → A.did (finds_on node) }
 {
     asks_node(line) && !asked.is_on(node)
 }

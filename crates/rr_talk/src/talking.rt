@@ -109,7 +109,7 @@ fn hear_next<I: Prompting, O: Sink + Send, A: Asked + Send, R: Threads>(
     out: &mut O,
 ) -> Result<Heard, Stop>
     ensures heard { IfOk result (Hears (I.reading input.old) (I.reading input.new)) }
-    ensures shown { OnOk result (IsShown json watched (O.printing out.old) (O.printing out.new)) }
+    ensures shown { OnOk result (IsShown A.did json node watched (O.printing out.old) (O.printing out.new)) }
     ensures front { OnErr result (IsFrontSaid (O.printing out.old) (O.printing out.new)) }
 {
     match &watched {
@@ -201,8 +201,9 @@ pub fn talk<I: Prompting, O: Sink + Send, A: Asked + Send, R: Threads>(
 ) -> Result<Option<Trouble>, Stop>
     ensures { Talks A.did json strict nodes (I.reading input.old) (I.reading input.new) (O.printing out.old) (O.printing out.new) result }
 {
-    if let Err(refusal) = asked.wait_until_ready() {
-        return Err(Stop::Refused(refusal));
+    match asked.wait_until_ready() {
+        Ok(()) => {}
+        Err(refusal) => return Err(Stop::Refused(refusal)),
     }
     let mut node = first_node(nodes);
     let mut watched = None;
