@@ -9,7 +9,7 @@
 //! tells what a node restarts with after a crash behind each device call.
 //! `baseline_sim answer` does all of these but sweeps for the questions on its
 //! input. `baseline_sim mutate FOLDER SEED COUNT` prints questions on texts and
-//! bytes that seeds alter, for `crates/many_answers`, and `baseline_sim judge
+//! bytes that seeds alter, for `hostile/programs/many_answers`, and `baseline_sim judge
 //! FOLDER SEED COUNT` compares the answers with its own.
 
 mod answer;

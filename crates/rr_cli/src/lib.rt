@@ -6,29 +6,27 @@
 //!
 //! # Example
 //!
-//! This is in `crates/many_answers/src/answering.rt`:
+//! This is in `crates/worked_rows/src/old_folders/folder.rt`:
 //!
 //! ```rust
-//! /// What `rr` gives by these words with these bytes on standard input.
-//! fn run<R: Files + AllocGlobal>(rt: &R, words: &[&str], input: &[u8]) -> Answer
-//! where
-//!     R::File: FileExt,
-//! {
+//! /// Runs `rr` by the words of a line.
+//! fn run(rt: &HostRuntime, line: &str) -> Result<Outcome, AllocError> {
+//!     let words: Vec<&str> = line.split(' ').collect(rt.alloc())?;
 //!     let mut out = Counted::new(Vec::new(rt.alloc()));
 //!     let mut err = Vec::new(rt.alloc());
 //!     let status = execute(
 //!         rt,
-//!         words,
+//!         words.as_slice(),
 //!         &mut HostFiles::new(rt),
-//!         &mut Counted::new(input),
+//!         &mut Counted::new(&b""[..]),
 //!         &mut out,
 //!         &mut err,
 //!     );
-//!     Answer {
+//!     Ok(Outcome {
 //!         status,
 //!         out: out.into_inner(),
 //!         err,
-//!     }
+//!     })
 //! }
 //! ```
 #![tactic(auto)]
