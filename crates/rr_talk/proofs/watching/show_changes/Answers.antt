@@ -1,4 +1,4 @@
-use Rattle.std.proofs.Common.{◌≡◌, ◌∙◌, false, inl, inr, List, subst, sym}
+use Rattle.std.proofs.Common.{◌≡◌, ◌∙◌, false, List, subst, sym}
 use Rattle.std.specs.List.{flat_map}
 use Rattle.rr_window.specs.declared.change.Change.{Change}
 use Rattle.rr_talk.specs.Watches.{bytes_of, change_said, IsAdded, IsPiece, IsToldOf}
@@ -25,13 +25,12 @@ late_told g c =
     told_late c.args.json (bytes_of c.args.prefix.now) (g.A.Asked.told c.looks.asked) (g.O.Sink.printing c.args.out.now) (g.O.Sink.printing c.looks.out) (g.O.Sink.printing c.look_once.new.out) c.looks.invariant.piece c.looks.invariant.added
     (rw (missed g c) at c.in_ok-looked.ensures.look)
 
-pub returns-then-not-goes_on : goal.returns-then-not-goes_on
-returns-then-not-goes_on g c =
-    record {
-      last = inl (missed g c);
-      told = late_told g c;
-      front = told_front c.args.json (bytes_of c.args.prefix.now) (g.O.Sink.printing c.args.out.now) (g.O.Sink.printing c.look_once.new.out) (late_told g c);
-    }
+pub returns-then-not-goes_on-clause-told : goal.returns-then-not-goes_on-clause-told
+returns-then-not-goes_on-clause-told g c = late_told g c
+
+pub returns-then-not-goes_on-clause-front : goal.returns-then-not-goes_on-clause-front
+returns-then-not-goes_on-clause-front g c =
+    told_front c.args.json (bytes_of c.args.prefix.now) (g.O.Sink.printing c.args.out.now) (g.O.Sink.printing c.look_once.new.out) (late_told g c)
 
 last_told : (g : Over) (c : goal.Then-is_last g) → IsToldOf c.args.json (bytes_of c.args.prefix.now) (g.O.Sink.printing c.args.out.now) (g.O.Sink.printing c.look_once.new.out)
 last_told g c =
@@ -39,13 +38,12 @@ last_told g c =
     told_all c.args.json (bytes_of c.args.prefix.now) (g.A.Asked.told c.look_once.new.asked) (g.O.Sink.printing c.args.out.now) (g.O.Sink.printing c.look_once.new.out) look.0
     (said_more c.args.json (bytes_of c.args.prefix.now) (g.A.Asked.told c.looks.asked) (g.A.Asked.told c.look_once.new.asked) (g.O.Sink.printing c.args.out.now) (g.O.Sink.printing c.looks.out) (g.O.Sink.printing c.look_once.new.out) c.looks.invariant.added look)
 
-pub returns-then-is_last : goal.returns-then-is_last
-returns-then-is_last g c =
-    record {
-      last = inr (sym c.is_last-is_last.ensures ∙ c.if-is_last.true);
-      told = last_told g c;
-      front = told_front c.args.json (bytes_of c.args.prefix.now) (g.O.Sink.printing c.args.out.now) (g.O.Sink.printing c.look_once.new.out) (last_told g c);
-    }
+pub returns-then-is_last-clause-told : goal.returns-then-is_last-clause-told
+returns-then-is_last-clause-told g c = last_told g c
+
+pub returns-then-is_last-clause-front : goal.returns-then-is_last-clause-front
+returns-then-is_last-clause-front g c =
+    told_front c.args.json (bytes_of c.args.prefix.now) (g.O.Sink.printing c.args.out.now) (g.O.Sink.printing c.look_once.new.out) (last_told g c)
 
 pub looks-preserved : goal.looks-preserved
 looks-preserved g c =
