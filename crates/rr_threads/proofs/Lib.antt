@@ -2,5 +2,5 @@ pub mod AgreeLemmas
 pub mod Replies
 pub mod SyncLemmas
 pub mod Rounds
-pub mod Switches
+pub mod Stages
 pub mod Mailing

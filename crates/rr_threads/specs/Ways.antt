@@ -40,6 +40,14 @@ PutsBy (Some a) to sent ws vs = (b : Way) × IsPut a sent b × (vs ≡ slice_set
 abbrev pub IsPutTo : ℕ → Sent → Mail → Mail → Type 0
 IsPutTo to sent a b = (b.inbox ≡ a.inbox) × (b.kept ≡ a.kept) × PutsBy (slice_get a.ways.items to) to sent a.ways.items b.ways.items
 
+-- what was late is put once more by one of these ways, where there is one, which is then so; the others stay
+abbrev pub PutsLateBy : Option Way → ℕ → List Way → List Way → Type 0
+PutsLateBy None place ws vs = vs ≡ ws
+PutsLateBy (Some a) place ws vs = (b : Way) × IsPutLate a b × (vs ≡ slice_set ws place b)
+
+abbrev pub IsLatePutAt : ℕ → Mail → Mail → Type 0
+IsLatePutAt place a b = (b.inbox ≡ a.inbox) × (b.kept ≡ a.kept) × PutsLateBy (slice_get a.ways.items place) place a.ways.items b.ways.items
+
 -- what was late is put once more by each way
 abbrev pub EachPutLate : List Way → List Way → Type 0
 EachPutLate ws vs = (length vs ≡ length ws) × ((p : ℕ) (d : Way) → p < length ws → IsPutLate (slice_index_or ws p d) (slice_index_or vs p d))

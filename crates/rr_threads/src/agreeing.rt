@@ -29,16 +29,25 @@ fn do_agree(one: &Core, other: &Core) -> bool
     true
 }
 
-// Of these nodes the decided list of one that is as long as any.
-fn longest<'p, D: Disk, C>(first: &'p Core, rest: &'p [(Part<D>, Vec<C>)]) -> &'p Core
-    ensures first { length (decided_prefix first.now) ≤ length (decided_prefix result.now) }
-    ensures rest { All (λ p. length (decided_prefix p.0.core) ≤ length (decided_prefix result.now)) rest.now }
+// Of two nodes one with the longer decided list.
+fn longer<'p>(one: &'p Core, other: &'p Core) -> &'p Core
+    ensures one { length (decided_prefix one.now) ≤ length (decided_prefix result.now) }
+    ensures other { length (decided_prefix other.now) ≤ length (decided_prefix result.now) }
+{
+    if one.decided_count() < other.decided_count() {
+        other
+    } else {
+        one
+    }
+}
+
+// Of these nodes one with a decided list that is as long as any.
+fn longest<'p, D: Disk, C>(first: &'p Core, parts: &'p [(Part<D>, Vec<C>)]) -> &'p Core
+    ensures { All (λ p. length (decided_prefix p.0.core) ≤ length (decided_prefix result.now)) parts.now }
 {
     let mut best = first;
-    for node in rest {
-        if best.decided_count() < node.0.core.decided_count() {
-            best = &node.0.core;
-        }
+    for node in parts {
+        best = longer(best, &node.0.core);
     }
     best
 }
@@ -55,7 +64,7 @@ fn agree_with<D: Disk, C>(parts: &[(Part<D>, Vec<C>)], whole: &Core) -> bool
     true
 }
 
-/// That nodes agree. Only `agreed` gives this.
+/// That nodes agree. Only `all_agree` gives this.
 #[derive(Clone, Copy, Debug)]
 pub struct Agreed {
     all: (),
@@ -63,13 +72,13 @@ pub struct Agreed {
 
 /// That no instance is decided differently in the decided lists of these nodes, if it is so. Each is compared with the longest: those that
 /// are beginnings of it don't differ from one another.
-pub fn agreed<D: Disk, C>(parts: &[(Part<D>, Vec<C>)]) -> Option<Agreed>
+pub fn all_agree<D: Disk, C>(parts: &[(Part<D>, Vec<C>)]) -> Option<Agreed>
     ensures { IsSome result → (whole : List Command) × All (λ p. length (decided_prefix p.0.core) ≤ length whole) parts.now × All (λ p. do_agree (decided_prefix p.0.core) whole ≡ true) parts.now }
 {
-    let [first, rest @ ..] = parts else {
+    let Some(first) = parts.first() else {
         return Some(Agreed { all: () });
     };
-    if agree_with(parts, longest(&first.0.core, rest)) {
+    if agree_with(parts, longest(&first.0.core, parts)) {
         Some(Agreed { all: () })
     } else {
         None

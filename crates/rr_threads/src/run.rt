@@ -4,7 +4,7 @@ ghost use Rattle.std.specs.Prelude.{◌≡◌, ◌<◌, length, IfOk};
 ghost use Rattle.std.specs.Duration.{as_nanos};
 ghost use Rattle.std.specs.Thread.{IsSend};
 
-use crate::agreeing::{Agreed, agreed};
+use crate::agreeing::{Agreed, all_agree};
 use crate::client::Client;
 use crate::lives::{open_part, run_lives};
 use crate::node_run::Part;
@@ -214,7 +214,7 @@ pub fn run_all<
         return Err(Refusal::BadNodes);
     }
     let parts = open_parts(turnstile, alloc, nodes, disks, clients)?;
-    let Some(agreed) = agreed(&parts) else {
+    let Some(agreed) = all_agree(&parts) else {
         return Err(DIFFERENT);
     };
     let shared = Shared {

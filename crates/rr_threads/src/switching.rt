@@ -32,7 +32,7 @@ impl Switched {
 ///
 /// # Errors
 /// `Failed` if the journal had failed before, `Device`.
-#[tactic(auto, using(crate::proofs::Switches::next_is_nearer))]
+#[tactic(auto, using(crate::proofs::Stages::next_is_nearer, crate::proofs::Stages::some_left, crate::proofs::Stages::few_left))]
 pub fn make_all<D: Disk, T: Turnstile>(
     turnstile: &T,
     node: NodeId,

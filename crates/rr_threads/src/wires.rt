@@ -4,7 +4,7 @@
 
 ghost use Rattle.std.specs.Prelude.{◌≡◌, None};
 ghost use Rattle.rr_turn.specs.Asked.{Call};
-ghost use Rattle.rr_threads.specs.Ways.{IsPut, IsPutIfAny, IsPutLate, IsPutTo, AllPutLate, IsTaken};
+ghost use Rattle.rr_threads.specs.Ways.{IsPut, IsPutIfAny, IsPutLate, IsPutTo, IsLatePutAt, AllPutLate, IsTaken};
 ghost use Rattle.rr_threads.specs.Mails.{mail_gives};
 
 use crate::desk::Desk;
@@ -104,14 +104,21 @@ impl Mail {
         }
     }
 
+    // The way at this place puts what is late.
+    fn put_late_at<R: Wait>(&mut self, rt: &R, place: usize)
+        ensures { IsLatePutAt place self.old self.new }
+    {
+        if let Some(way) = self.ways.get_mut(place) {
+            way.put_late(rt);
+        }
+    }
+
     /// Puts what is late into the inboxes of all nodes.
     pub fn put_late<R: Wait>(&mut self, rt: &R)
         ensures { AllPutLate self.old self.new }
     {
         for place in 0..self.ways.len() {
-            if let Some(way) = self.ways.get_mut(place) {
-                way.put_late(rt);
-            }
+            self.put_late_at(rt, place);
         }
     }
 }

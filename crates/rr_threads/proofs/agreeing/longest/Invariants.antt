@@ -5,5 +5,4 @@ use Rattle.rr_model.specs.NodeState.{decided_prefix}
 use Rattle.rr_threads.proofs.agreeing.longest.Given as goal
 
 abbrev pub invariant-loop-node : goal.invariant-loop-node
-invariant-loop-node g l =
-    (length (decided_prefix l.first) ≤ length (decided_prefix l.best)) × All (λ p. length (decided_prefix p.0.core) ≤ length (decided_prefix l.best)) (take l.node-index l.rest)
+invariant-loop-node g l = All (λ p. length (decided_prefix p.0.core) ≤ length (decided_prefix l.best)) (take l.node-index l.parts)

@@ -1,7 +1,7 @@
 -- What the device calls so far have left as it was: all of the switch but its stage, and all of the journal but its disk. With those that are
 -- left they are six at most.
 use Rattle.std.proofs.Common.{◌≡◌, ◌+◌, ◌≤◌}
-use Rattle.rr_threads.proofs.Switches.{left_from}
+use Rattle.rr_threads.proofs.Stages.{left_from}
 use Rattle.rr_threads.proofs.switching.make_all.Given as goal
 
 abbrev pub invariant-loop-turn : goal.invariant-loop-turn
