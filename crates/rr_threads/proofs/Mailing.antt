@@ -46,7 +46,7 @@ late_more n ws vs us some within puts =
     elim ((slice_get_cases vs n).1) [
       | inl found ↦ (
           let a = found.0 in
-          let did = subst (λ o. PutsLateBy o n vs us) found.2.0 puts in
-          put_one n ws vs us a did.0 some within found.2.0 did.1 did.2)
+          let did = subst (λ o. PutsLateBy o n vs us) found.2 puts in
+          put_one n ws vs us a did.0 some within found.2 did.1 did.2)
       | inr past ↦ absurd (omega (arith, past.0, within))
     ]

@@ -75,7 +75,7 @@ pub struct Agreed {
 pub fn all_agree<D: Disk, C>(parts: &[(Part<D>, Vec<C>)]) -> Option<Agreed>
     ensures { IsSome result → (whole : List Command) × All (λ p. length (decided_prefix p.0.core) ≤ length whole) parts.now × All (λ p. do_agree (decided_prefix p.0.core) whole ≡ true) parts.now }
 {
-    let Some(first) = parts.first() else {
+    let [first, ..] = parts else {
         return Some(Agreed { all: () });
     };
     if agree_with(parts, longest(&first.0.core, parts)) {

@@ -6,8 +6,8 @@ use Rattle.rr_threads.proofs.agreeing.longest.Goals as goal
 pub loop-node-preserved : goal.loop-node-preserved
 loop-node-preserved g c =
     let l = c.loop-node in
-    none_longer c.args.parts.now (λ p. length (decided_prefix p.0.core)) l.node-index (length (decided_prefix l.best.now)) (length (decided_prefix c.longer.result.now)) c.node-item.result c.loop-node-test.true
-    c.node-item.is c.longer.ensures.one c.longer.ensures.other l.invariant
+    none_longer c.args.parts.now (λ p. length (decided_prefix p.0.core)) l.node-index (length (decided_prefix l.best.now)) (length (decided_prefix c.longer-best.result.now)) c.node-item.result c.loop-node-test.true
+    c.node-item.is c.longer-best.ensures.one c.longer-best.ensures.other l.invariant
 
 pub returns : goal.returns
 returns g c =

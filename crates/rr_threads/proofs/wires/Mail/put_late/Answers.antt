@@ -19,4 +19,4 @@ pub returns : goal.returns
 returns g c =
     let l = c.loop-place in
     let some = l.invariant.3 in
-    (l.invariant.0, l.invariant.1, some.count, λ p d within. some.done p d (omega (arith, within, l.invariant.2)))
+    (l.invariant.0, l.invariant.1, (some.count, λ p d within. some.done p d (omega (arith, within, l.invariant.2, c.loop-place-test.false, some.count))))
