@@ -23,7 +23,7 @@ PLACED = {
 ITEMS = {
     "rr_cli": ("worked_rows/src/old_folders/folder.rt", "/// Runs `rr` by the words of a line."),
     "rr_run": ("rr/src/main.rt", "fn main("),
-    "rr_turn": ("rr_threads/src/node_loop.rt", "/// A turn of the loop:"),
+    "rr_turn": ("rr_threads/src/node_loop.rt", "/// Runs the turns of a node"),
 }
 HEADING = "//! # Example"
 

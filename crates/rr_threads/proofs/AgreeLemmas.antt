@@ -1,6 +1,10 @@
 -- Two lists that are compared place by place.
-use Rattle.std.proofs.Common.{◌≡◌, ◌∙◌, ◌+◌, ◌≤◌, ℕ, true, false, Bool, List, [], ◌∷◌, None, Some, length, drop, refl, ap, inl, inr}
+use Rattle.std.proofs.Common.{◌≡◌, ◌∙◌, ◌+◌, ◌≤◌, ◌<◌, ℕ, true, false, Bool, List, [], ◌∷◌, None, Some, length, drop, take, refl, subst, ap, inl, inr, arith}
 use Rattle.std.specs.Prelude.{slice_get}
+use Rattle.std.specs.List.{All}
+use Rattle.std.proofs.Math.ListN.{get_or}
+use Rattle.std.proofs.lemmas.List.{take_all}
+use Rattle.std.proofs.lemmas.List.Elements.{All-more, All-weaker}
 use Rattle.std.proofs.lemmas.List.{at_drop_more, at_drop_all}
 use Rattle.std.proofs.lemmas.Option.{slice_get_within, slice_get_cases, get_or_from_slice_get}
 use Rattle.rr_types.specs.Commands.{is_same_command}
@@ -36,3 +40,17 @@ agree_past xs ys n none =
 -- no place is left in the first
 pub agree_end : (xs ys : List Command) (n : ℕ) → length xs ≤ n → do_agree (drop n xs) (drop n ys) ≡ true
 agree_end xs ys n past = at_drop_all (λ zs. do_agree zs (drop n ys)) xs n past
+
+-- one more list is no longer than the longest so far, which has grown perhaps
+pub none_longer : {X : Type 0} (xs : List X) (f : X → ℕ) (i a b : ℕ) (x : X) → i < length xs → x ≡ get_or xs i x → a ≤ b → f x ≤ b → All (λ p. f p ≤ a) (take i xs) → All (λ p. f p ≤ b) (take (i + 1) xs)
+none_longer xs f i a b x within is grown here all =
+    All-more (λ p. f p ≤ b) xs i x within (All-weaker (λ p. f p ≤ a) (λ p. f p ≤ b) (λ p few. omega (arith, few, grown)) (take i xs) all) (subst (λ y. f y ≤ b) is here)
+
+-- one more list agrees
+pub agrees_too : {X : Type 0} (xs : List X) (f : X → List Command) (whole : List Command) (i : ℕ) (x : X) → i < length xs → x ≡ get_or xs i x → do_agree (f x) whole ≡ true
+    → All (λ p. do_agree (f p) whole ≡ true) (take i xs) → All (λ p. do_agree (f p) whole ≡ true) (take (i + 1) xs)
+agrees_too xs f whole i x within is here all = All-more (λ p. do_agree (f p) whole ≡ true) xs i x within all (subst (λ y. do_agree (f y) whole ≡ true) is here)
+
+-- what holds of all that were seen holds of all, at the end
+pub of_all : {X : Type 0} (xs : List X) (P : X → Type 0) (i : ℕ) → length xs ≤ i → All P (take i xs) → All P xs
+of_all xs P i past all = subst (All P) (take_all i xs past) all

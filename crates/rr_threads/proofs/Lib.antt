@@ -2,3 +2,5 @@ pub mod AgreeLemmas
 pub mod Replies
 pub mod SyncLemmas
 pub mod Rounds
+pub mod Stages
+pub mod Mailing

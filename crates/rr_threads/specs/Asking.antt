@@ -8,10 +8,11 @@ use Rattle.rr_script.specs.declared.answer.Answer.TheVariants.{Acknowledged, Una
 use Rattle.rr_script.specs.declared.script_line.ScriptLine.{ScriptLine}
 use Rattle.rr_script.specs.declared.script_line.ScriptLine.TheVariants.{Submit, Look}
 
--- a client: the node that it asks, and the longest list that it has seen or learned
+-- a client: the node that it asks, the longest list that it has seen or learned, and how often it has rested while it waited for replies
 pub record Asking : Type 0 where
   pub node : ℕ
   pub known : List Command
+  pub rests : ℕ
 
 -- an answer to a request: a reply is that of the list that the client then knows
 abbrev pub IsAnswered : RequestNo → Asking → Answer → Type 0

@@ -1,8 +1,11 @@
 pub mod Agreeing
 pub mod Asking
 pub mod Fates
+pub mod Lacking
+pub mod Rests
 pub mod Reusing
 pub mod Snapshotting
 pub mod Summaries
 pub mod Syncing
 pub mod Ways
+pub mod Mails

@@ -1,5 +1,5 @@
 -- What a node puts into an inbox, and what of that is late; what it takes out of its own, and keeps.
-use Rattle.std.specs.Prelude.{◌≡◌, ◌⊎◌, Option, None, Some}
+use Rattle.std.specs.Prelude.{◌≡◌, ◌⊎◌, ◌<◌, ℕ, List, length, slice_get, slice_index_or, slice_set, Option, None, Some}
 use Rattle.rr_inbox.specs.InOrder.{Puts, Takes, HasHeld}
 use Rattle.rr_locked.specs.Recorded.{Sent}
 use Rattle.rr_locked.specs.Chases.{kept_with, sent_of}
@@ -30,3 +30,27 @@ abbrev pub IsTaken : Mail → Option Sent → Mail → Type 0
 IsTaken a None b = (b ≡ a) × HasHeld 0 a.inbox.view
 IsTaken a (Some sent) b =
     (b.inbox.queue ≡ a.inbox.queue) × Takes a.inbox.view sent b.inbox.view × (b.ways ≡ a.ways) × (b.kept ≡ kept_with sent.message.body sent a.kept)
+
+-- a message is put by one of these ways, where there is one, which is then so; the others stay
+abbrev pub PutsBy : Option Way → ℕ → Sent → List Way → List Way → Type 0
+PutsBy None to sent ws vs = vs ≡ ws
+PutsBy (Some a) to sent ws vs = (b : Way) × IsPut a sent b × (vs ≡ slice_set ws to b)
+
+-- a message is put by the way to this node, and by no other. Nothing is taken
+abbrev pub IsPutTo : ℕ → Sent → Mail → Mail → Type 0
+IsPutTo to sent a b = (b.inbox ≡ a.inbox) × (b.kept ≡ a.kept) × PutsBy (slice_get a.ways.items to) to sent a.ways.items b.ways.items
+
+-- what was late is put once more by one of these ways, where there is one, which is then so; the others stay
+abbrev pub PutsLateBy : Option Way → ℕ → List Way → List Way → Type 0
+PutsLateBy None place ws vs = vs ≡ ws
+PutsLateBy (Some a) place ws vs = (b : Way) × IsPutLate a b × (vs ≡ slice_set ws place b)
+
+abbrev pub IsLatePutAt : ℕ → Mail → Mail → Type 0
+IsLatePutAt place a b = (b.inbox ≡ a.inbox) × (b.kept ≡ a.kept) × PutsLateBy (slice_get a.ways.items place) place a.ways.items b.ways.items
+
+-- what was late is put once more by each way
+abbrev pub EachPutLate : List Way → List Way → Type 0
+EachPutLate ws vs = (length vs ≡ length ws) × ((p : ℕ) (d : Way) → p < length ws → IsPutLate (slice_index_or ws p d) (slice_index_or vs p d))
+
+abbrev pub AllPutLate : Mail → Mail → Type 0
+AllPutLate a b = (b.inbox ≡ a.inbox) × (b.kept ≡ a.kept) × EachPutLate a.ways.items b.ways.items

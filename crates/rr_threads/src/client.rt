@@ -1,12 +1,15 @@
 //! Clients of a node, and what they ask it with.
 
-ghost use Rattle.std.specs.Prelude.{◌≡◌, ◌⊎◌, ◌+◌, ◌<◌, None, length, IfSome, IfOk, OnOk, OnErr, IfErr};
+ghost use Rattle.std.specs.Prelude.{◌≡◌, ◌⊎◌, ◌+◌, ◌<◌, ◌≤◌, None, length, IfSome, IfOk, OnOk, OnErr, IfErr};
 ghost use mathlib.Core.List.{IsPrefix};
 ghost use Rattle.rr_types.specs.declared.refusal.Refusal.TheVariants.{NoGuard, OutOfMemory};
 ghost use Rattle.rr_types.specs.Registry.{registry_of};
+ghost use Rattle.rr_model.specs.NodeState.{NodeState, decided_prefix};
+ghost use Rattle.rr_turn.specs.Asked.{Call};
 ghost use Rattle.rr_window.specs.Sights.{bindings_with};
 ghost use Rattle.rr_window.specs.Watches.{IsWatched};
 ghost use Rattle.rr_threads.specs.Asking.{IsAnswered, IsSeen, IsAnswerTo};
+ghost use Rattle.rr_threads.specs.Fates.{fate_of};
 ghost use Rattle.rr_threads.specs.Summaries.{IsSummary};
 ghost use Rattle.rr_threads.specs.Syncing.{to_itself};
 
@@ -18,6 +21,7 @@ use crate::shared::Shared;
 use crate::summary::summary_of;
 use rr_locked::Turnstile;
 use rr_script::{Answer, ScriptLine};
+use rr_turn::{Awaited, ClientEnds, Rung, await_receipt};
 use rr_types::{
     Binding, Command, Name, NodeId, NodeSummary, Op, Promise, Refusal, Reply, RequestNo, Value,
     made_of,
@@ -40,7 +44,8 @@ pub trait Client {
     ) -> Result<(), Refusal>;
 }
 
-/// What a client asks its node with. Contracts see the node, and the longest list that the client's seat has seen or learned.
+/// What a client asks its node with. Contracts see the node, the longest list that the client's seat has seen or learned, and how often the
+/// client has rested while it waited for replies.
 #[derive(Drop)]
 pub struct Handle<'d, 'x, W: WindowName, T, R> {
     rt: &'d R,
@@ -49,6 +54,7 @@ pub struct Handle<'d, 'x, W: WindowName, T, R> {
     counter: &'d Counter<W>,
     node: NodeId,
     seat: Seat<W>,
+    rests: u64,
 }
 
 impl<'d, 'x, W: WindowName, T, R> Model for Handle<'d, 'x, W, T, R> {
@@ -56,30 +62,66 @@ impl<'d, 'x, W: WindowName, T, R> Model for Handle<'d, 'x, W, T, R> {
 
     ghost Value = { Asking };
 
-    ghost view = { λ h. record { node = h.node; known = h.seat } };
+    ghost view = { λ h. record { node = h.node; known = h.seat; rests = h.rests } };
 }
 
-/// The receipt that comes to a counter, unless the submit is refused, the node goes down before or the client gives up, after so
-/// many looks.
-fn receipt_at<W: WindowName, T, R: Wait>(
-    rt: &R,
-    shared: &Shared<'_, T>,
-    desk: &Desk<W>,
-    counter: &Counter<W>,
-    looks: u32,
-) -> Option<Receipt<W>> {
-    let mut rest = Rest::rung();
-    for _ in 0..looks {
-        if counter.is_told(rt) || desk.is_ending(shared) {
-            break;
-        }
-        rest.wait(rt, &counter.bell);
+/// What a client has at its node while it waits for a reply. No contract knows what these hold: each call is a line, to be read.
+#[derive(Drop)]
+struct Errand<'d, 'x, W: WindowName, T, R> {
+    rt: &'d R,
+    shared: &'d Shared<'x, T>,
+    desk: &'d Desk<W>,
+    counter: &'d Counter<W>,
+    rest: Rest,
+}
+
+impl<'d, 'x, W: WindowName, T: Turnstile, R: Wait> ClientEnds<W> for Errand<'d, 'x, W, T, R> {
+    ghost gives = { λ _ _ _. Unit {0} };
+
+    fn want(&mut self, command: &Command) {
+        self.counter.want(self.rt, command);
     }
-    counter.take(rt)
+
+    fn note_wanted(&mut self) {
+        self.desk.note_wanted();
+    }
+
+    fn wake_loop(&mut self, node: NodeId) -> Rung {
+        self.shared.running.ring(node)
+    }
+
+    fn is_told(&mut self) -> bool {
+        self.counter.is_told(self.rt)
+    }
+
+    fn is_ending(&mut self) -> bool {
+        self.desk.is_ending(self.shared)
+    }
+
+    fn rest(&mut self) {
+        self.rest.wait(self.rt, &self.counter.bell);
+    }
+
+    fn collect(&mut self) -> Option<Receipt<W>> {
+        self.counter.take(self.rt)
+    }
 }
 
-/// The receipt of a request, once the node has it decided and published.
+// The receipt, if it is that of this request.
 #[tactic(auto, using(crate::proofs::Replies::same_request))]
+fn receipt_of<W: WindowName>(receipt: Option<Receipt<W>>, request: RequestNo) -> Option<Receipt<W>>
+    ensures { IfSome result (λ receipt. receipt.request ≡ request) }
+{
+    let receipt = receipt?;
+    if receipt.request().is_same(request) {
+        Some(receipt)
+    } else {
+        None
+    }
+}
+
+// The receipt of a request, once the node has it decided and published; none where it is refused, the node goes down before, or the client
+// gives up, after so many looks. And how often the client has rested.
 fn receipt_for<W: WindowName, T: Turnstile, R: Wait>(
     rt: &R,
     shared: &Shared<'_, T>,
@@ -87,17 +129,21 @@ fn receipt_for<W: WindowName, T: Turnstile, R: Wait>(
     counter: &Counter<W>,
     looks: u32,
     command: &Command,
-) -> Option<Receipt<W>>
-    ensures { IfSome result (λ receipt. receipt.request ≡ command.now.request) }
+) -> Awaited<W>
+    ensures receipt { IfSome result.receipt (λ receipt. receipt.request ≡ command.now.request) }
+    ensures few { result.rests ≤ looks }
 {
-    counter.want(rt, command);
-    desk.note_wanted();
-    shared.running.ring(desk.node);
-    let receipt = receipt_at(rt, shared, desk, counter, looks)?;
-    if receipt.request().is_same(command.request) {
-        Some(receipt)
-    } else {
-        None
+    let mut errand = Errand {
+        rt,
+        shared,
+        desk,
+        counter,
+        rest: Rest::rung(),
+    };
+    let Awaited { receipt, rests } = await_receipt(&mut errand, desk.node, looks, command);
+    Awaited {
+        receipt: receipt_of(receipt, command.request),
+        rests,
     }
 }
 
@@ -139,11 +185,11 @@ impl<'d, 'x, W: WindowName, T: Turnstile, R: Wait> Handle<'d, 'x, W, T, R> {
     /// Has the node write a snapshot of its facts to the other area of its disk, and waits for so many looks, as `submit_within`
     /// does. None: it isn't written yet. A snapshot that is refused ends the run.
     pub fn snapshot(&self, looks: u32) -> Option<Written> {
-        let number = self.desk.snapshots.ask();
-        self.desk.flusher.unpark();
+        let asked = self.desk.snapshots.ask();
+        self.desk.flusher.ring();
         let mut rest = Rest::new(FIRST, LONG);
         for _ in 0..looks {
-            if let Some(written) = self.desk.snapshots.written(number) {
+            if let Some(written) = self.desk.snapshots.written(asked) {
                 return Some(written);
             }
             if self.is_over() {
@@ -154,12 +200,13 @@ impl<'d, 'x, W: WindowName, T: Turnstile, R: Wait> Handle<'d, 'x, W, T, R> {
         None
     }
 
-    /// Submits a command, and waits for its reply, some days at most. What is looked at from then on has it. A run ends whose tape
+    /// Submits a command, and waits for its reply, some days at most: it rests ten million times. What is looked at from then on has it. A run ends whose tape
     /// may lack the submit.
     pub fn submit(&mut self, command: &Command) -> Answer
         ensures answer { IsAnswered command.now.request self.new result }
         ensures later { IsPrefix self.old.known self.new.known }
         ensures same { self.new.node ≡ self.old.node }
+        ensures rests { self.new.rests ≤ self.old.rests + 10_000_000 }
     {
         self.submit_within(POLLS, command)
     }
@@ -171,17 +218,20 @@ impl<'d, 'x, W: WindowName, T: Turnstile, R: Wait> Handle<'d, 'x, W, T, R> {
         ensures answer { IsAnswered command.now.request self.new result }
         ensures later { IsPrefix self.old.known self.new.known }
         ensures same { self.new.node ≡ self.old.node }
+        ensures rests { self.new.rests ≤ self.old.rests + looks }
     {
         let node = self.node;
         let request = command.request;
-        match receipt_for(
+        let Awaited { receipt, rests } = receipt_for(
             self.rt,
             self.shared,
             self.desk,
             self.counter,
             looks,
             command,
-        ) {
+        );
+        self.rests = self.rests.saturating_add(u64::from(rests));
+        match receipt {
             None => Answer::Unacknowledged { node, request },
             Some(receipt) => {
                 self.seat.learn(&receipt);
@@ -201,6 +251,7 @@ impl<'d, 'x, W: WindowName, T: Turnstile, R: Wait> Handle<'d, 'x, W, T, R> {
         ensures answer { IsAnswered command.now.request self.new result }
         ensures later { IsPrefix self.old.known self.new.known }
         ensures same { self.new.node ≡ self.old.node }
+        ensures rests { self.new.rests ≤ self.old.rests + looks }
     {
         self.submit_within(looks, command)
     }
@@ -213,12 +264,15 @@ impl<'d, 'x, W: WindowName, T: Turnstile, R: Wait> Handle<'d, 'x, W, T, R> {
         ensures answer { IsAnswered request self.new result }
         ensures later { IsPrefix self.old.known self.new.known }
         ensures same { self.new.node ≡ self.old.node }
+        ensures rests { self.new.rests ≤ self.old.rests + looks }
     {
         self.submit_within(looks, &command_to_itself(request, *name))
     }
 
     /// What this node's list of decided commands says of a command.
-    pub fn fate(&self, command: &Command) -> Fate {
+    pub fn fate(&self, command: &Command) -> Fate
+        ensures { (s : NodeState) × (result ≡ fate_of (decided_prefix s) command.now) }
+    {
         let locked = self.desk.locked.lock(self.rt);
         fate_in(locked.core(), command)
     }
@@ -246,6 +300,7 @@ impl<'d, 'x, W: WindowName, T: Turnstile, R: Wait> Handle<'d, 'x, W, T, R> {
         ensures answer { IsSeen name.now self.old self.new result }
         ensures later { IsPrefix self.old.known self.new.known }
         ensures same { self.new.node ≡ self.old.node }
+        ensures rests { self.new.rests ≡ self.old.rests }
     {
         made_of!(Op, Sight, Value);
         let node = self.node;
@@ -273,6 +328,7 @@ impl<'d, 'x, W: WindowName, T: Turnstile, R: Wait> Handle<'d, 'x, W, T, R> {
         ensures later { IsPrefix self.old.known self.new.known }
         ensures kept { OnErr result (self.new ≡ self.old) }
         ensures same { self.new.node ≡ self.old.node }
+        ensures rests { self.new.rests ≡ self.old.rests }
         ensures err { IfErr result (λ e. (e ≡ OutOfMemory) ⊎ (e ≡ NoGuard)) }
     {
         self.seat.list(alloc, prefix)
@@ -303,6 +359,7 @@ impl<'d, 'x, W: WindowName, T: Turnstile, R: Wait> Handle<'d, 'x, W, T, R> {
         ensures later { IsPrefix self.old.known self.new.known }
         ensures kept { OnErr result ((self.new ≡ self.old) × (watch.new ≡ watch.old)) }
         ensures same { self.new.node ≡ self.old.node }
+        ensures rests { self.new.rests ≡ self.old.rests }
         ensures err { IfErr result (λ e. (e ≡ OutOfMemory) ⊎ (e ≡ NoGuard)) }
     {
         self.seat.changes(alloc, prefix, watch)
@@ -313,6 +370,7 @@ impl<'d, 'x, W: WindowName, T: Turnstile, R: Wait> Handle<'d, 'x, W, T, R> {
         ensures answer { IsAnswerTo line.now self.old self.new result }
         ensures later { IsPrefix self.old.known self.new.known }
         ensures same { self.new.node ≡ self.old.node }
+        ensures rests { self.new.rests ≤ self.old.rests + 10_000_000 }
     {
         self.ask_within(POLLS, line)
     }
@@ -322,6 +380,7 @@ impl<'d, 'x, W: WindowName, T: Turnstile, R: Wait> Handle<'d, 'x, W, T, R> {
         ensures answer { IsAnswerTo line.now self.old self.new result }
         ensures later { IsPrefix self.old.known self.new.known }
         ensures same { self.new.node ≡ self.old.node }
+        ensures rests { self.new.rests ≤ self.old.rests + looks }
     {
         made_of!(Answer, ScriptLine, Command, Op, Name, Reply, Value);
         match line {
@@ -350,6 +409,7 @@ pub fn serve<'d, 'x, W: WindowName, T: Turnstile, R: Wait, C: Client + Drop>(
                 counter,
                 node: desk.node,
                 seat,
+                rests: 0,
             };
             client.run(&mut handle)
         }
@@ -360,6 +420,6 @@ pub fn serve<'d, 'x, W: WindowName, T: Turnstile, R: Wait, C: Client + Drop>(
         Err(refusal) => shared.running.fail(rt, desk.node, refusal),
         Ok(()) => {}
     }
-    shared.running.leave(rt);
+    shared.running.leave(rt, client);
     None
 }

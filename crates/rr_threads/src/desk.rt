@@ -1,11 +1,15 @@
 //! What the threads of a node share.
 
-ghost use Rattle.std.specs.Prelude.{◌≡◌, Some, IfSome};
-ghost use Rattle.rr_types.specs.Registry.{reply_of};
+ghost use Rattle.std.specs.Prelude.{◌≡◌, true, false, Some, IfNone, IfSome};
+ghost use Rattle.rr_types.specs.Registry.{is_same_request, reply_of};
+ghost use Rattle.rr_types.specs.declared.command.Command.{Command};
+ghost use Rattle.rr_types.specs.declared.command.RequestNo.{RequestNo};
+ghost use Rattle.rr_types.specs.declared.refusal.Refusal.{Refusal};
 
 use crate::shared::Shared;
 use crate::switching::Switched;
 use rr_locked::Locked;
+use rr_turn::{FlusherBell, PublisherBell};
 use rr_types::{Command, NodeId, Op, Refusal, Reply, RequestNo, made_of};
 use rr_window::{Publisher, Receipt, WindowName};
 use std::mem;
@@ -22,6 +26,61 @@ enum Waiting<W: WindowName> {
     Reply(RequestNo),
     Refused(Refusal),
     Told(Receipt<W>),
+}
+
+impl<W: WindowName> Waiting<W> {
+    // The command that is to be submitted, if there is one. Its reply is waited for from now on, so it is given once.
+    fn take_wanted(&mut self) -> Option<Command>
+        ensures some { IfSome result (λ command. (self.old ≡ Waiting.Submit command) × (self.new ≡ Waiting.Reply command.request)) }
+        ensures none { IfNone result (self.new ≡ self.old) }
+        ensures all { (command : Command) → self.old ≡ Waiting.Submit command → result ≡ Some command }
+    {
+        made_of!(Op);
+        let command = match &*self {
+            Waiting::Submit(command) => *command,
+            _ => return None,
+        };
+        *self = Waiting::Reply(command.request);
+        Some(command)
+    }
+
+    // The receipt that has come, if one has. Nothing is waited for any more.
+    fn take_receipt(&mut self) -> Option<Receipt<W>>
+        ensures some { IfSome result (λ receipt. self.old ≡ Waiting.Told receipt) }
+        ensures all { (receipt : _) → self.old ≡ Waiting.Told receipt → result ≡ Some receipt }
+        ensures then { self.new ≡ Waiting.Nothing }
+    {
+        match mem::replace(self, Waiting::Nothing) {
+            Waiting::Told(receipt) => Some(receipt),
+            _ => None,
+        }
+    }
+
+    // Whether a receipt has come, or a refusal.
+    fn is_told(&self) -> bool
+        ensures told { (receipt : _) → self.now ≡ Waiting.Told receipt → result ≡ true }
+        ensures refused { (refusal : Refusal) → self.now ≡ Waiting.Refused refusal → result ≡ true }
+        ensures wants { (command : Command) → self.now ≡ Waiting.Submit command → result ≡ false }
+        ensures waits { (request : RequestNo) → self.now ≡ Waiting.Reply request → result ≡ false }
+        ensures nothing { self.now ≡ Waiting.Nothing → result ≡ false }
+    {
+        match self {
+            Waiting::Told(_) => true,
+            Waiting::Refused(_) => true,
+            _ => false,
+        }
+    }
+
+    // Whether the reply to this request is waited for.
+    fn is_for(&self, request: RequestNo) -> bool
+        ensures waits { (own : RequestNo) → self.now ≡ Waiting.Reply own → result ≡ is_same_request own request }
+        ensures only { result ≡ true → (own : RequestNo) × (self.now ≡ Waiting.Reply own) }
+    {
+        match self {
+            Waiting::Reply(own) => own.is_same(request),
+            _ => false,
+        }
+    }
 }
 
 /// Where a client waits for its receipts: what it waits for, and its bell.
@@ -48,14 +107,7 @@ impl<W: WindowName> Counter<W> {
 
     /// The command that is to be submitted, if there is one. Its client waits for the reply from now on.
     pub fn take_wanted<R: Wait>(&self, rt: &R) -> Option<Command> {
-        made_of!(Op);
-        let mut waiting = self.waiting.lock(rt);
-        let command = match &*waiting {
-            Waiting::Submit(command) => *command,
-            _ => return None,
-        };
-        *waiting = Waiting::Reply(command.request);
-        Some(command)
+        self.waiting.lock(rt).take_wanted()
     }
 
     /// The command that was to be submitted is refused, and its client is rung.
@@ -66,18 +118,12 @@ impl<W: WindowName> Counter<W> {
 
     /// The client waits for nothing any more. A receipt that has come is its.
     pub fn take<R: Wait>(&self, rt: &R) -> Option<Receipt<W>> {
-        match mem::replace(&mut *self.waiting.lock(rt), Waiting::Nothing) {
-            Waiting::Told(receipt) => Some(receipt),
-            _ => None,
-        }
+        self.waiting.lock(rt).take_receipt()
     }
 
     /// Whether a receipt has come, or a refusal.
     pub fn is_told<R: Wait>(&self, rt: &R) -> bool {
-        matches!(
-            *self.waiting.lock(rt),
-            Waiting::Told(_) | Waiting::Refused(_)
-        )
+        self.waiting.lock(rt).is_told()
     }
 
     /// If the client waits for the reply to this request, it gets a receipt.
@@ -85,11 +131,7 @@ impl<W: WindowName> Counter<W> {
         requires { reply_of publisher.now.published request ≡ Some reply }
     {
         let mut waiting = self.waiting.lock(rt);
-        let is_for = match &*waiting {
-            Waiting::Reply(own) => own.is_same(request),
-            _ => false,
-        };
-        if is_for {
+        if waiting.is_for(request) {
             *waiting = Waiting::Told(publisher.receipt(request, reply));
             self.bell.unpark();
         }
@@ -99,6 +141,18 @@ impl<W: WindowName> Counter<W> {
 /// That a snapshot of a node that was asked for is written, as its flusher has noted. Only `Handle::snapshot` gives this.
 #[derive(Drop)]
 pub struct Written {
+    number: u64,
+}
+
+/// That a snapshot of a node was asked for. Only `Snapshots::ask` gives this.
+#[derive(Clone, Copy, Debug)]
+pub struct Asked {
+    number: u64,
+}
+
+/// That a snapshot is due, and which was the last that was asked for. Only `Snapshots::next` gives this.
+#[derive(Clone, Copy, Debug)]
+pub struct Due {
     number: u64,
 }
 
@@ -117,30 +171,33 @@ impl Snapshots {
         }
     }
 
-    /// Asks for one more, and gives its number.
-    pub fn ask(&self) -> u64 {
-        self.asked.fetch_add(1, Ordering::SeqCst).saturating_add(1)
+    /// Asks for one more.
+    pub fn ask(&self) -> Asked {
+        let number = self.asked.fetch_add(1, Ordering::SeqCst).saturating_add(1);
+        Asked { number }
     }
 
-    /// The number of the last that was asked for, unless that is written.
-    pub fn next(&self) -> Option<u64> {
-        let asked = self.asked.load(Ordering::SeqCst);
-        if asked == self.written.load(Ordering::SeqCst) {
+    /// That the last that was asked for is due, unless it is written.
+    pub fn next(&self) -> Option<Due> {
+        let number = self.asked.load(Ordering::SeqCst);
+        if number == self.written.load(Ordering::SeqCst) {
             None
         } else {
-            Some(asked)
+            Some(Due { number })
         }
     }
 
-    /// Those up to this number are written, since the last of them is.
-    pub fn note(&self, number: u64, _switched: Switched) {
+    /// Those up to the one that is written are written, since their asks came before it was begun.
+    pub fn note(&self, switched: Switched) {
+        let number = switched.due().number;
         self.written.store(number, Ordering::SeqCst);
     }
 
-    /// That the snapshot of this number is written, once it is.
-    pub fn written(&self, number: u64) -> Option<Written>
-        ensures { IfSome result (λ written. written.number ≡ number) }
+    /// That the snapshot that was asked for is written, once it is.
+    pub fn written(&self, asked: Asked) -> Option<Written>
+        ensures { IfSome result (λ written. written.number ≡ asked.number) }
     {
+        let number = asked.number;
         if self.written.load(Ordering::SeqCst) >= number {
             Some(Written { number })
         } else {
@@ -156,8 +213,8 @@ pub struct Desk<W: WindowName> {
     pub node: NodeId,
     pub moves: u64,
     pub locked: Mutex<Locked>,
-    pub flusher: Parker,
-    pub publisher: Parker,
+    pub flusher: FlusherBell,
+    pub publisher: PublisherBell,
     pub snapshots: Snapshots,
     pub counters: Vec<Counter<W>>,
     has_wanted: AtomicBool,
@@ -170,8 +227,8 @@ impl<W: WindowName> Desk<W> {
             node,
             moves,
             locked: Mutex::new(locked),
-            flusher: Parker::new(),
-            publisher: Parker::new(),
+            flusher: FlusherBell::new(),
+            publisher: PublisherBell::new(),
             snapshots: Snapshots::new(),
             counters,
             has_wanted: AtomicBool::new(false),
@@ -200,8 +257,8 @@ impl<W: WindowName> Desk<W> {
 
     /// Rings for all of the node's threads but its loop.
     pub fn ring_all(&self) {
-        self.flusher.unpark();
-        self.publisher.unpark();
+        self.flusher.ring();
+        self.publisher.ring();
         for counter in &self.counters {
             counter.bell.unpark();
         }

@@ -2,8 +2,8 @@
 
 ghost use Rattle.rr_turn.specs.Asked.{Call};
 
+use crate::course::Aside;
 use crate::desk::Desk;
-use crate::rest::Rest;
 use crate::running::Running;
 use crate::shared::Shared;
 use crate::snapshotting::write_next;
@@ -11,7 +11,7 @@ use rr_disk::Disk;
 use rr_inbox::{Giver, Taker, TrySendError};
 use rr_journal::{Journal, Synced};
 use rr_locked::{Turnstile, Unflushed};
-use rr_turn::{FlusherEnds, flush_group};
+use rr_turn::{Course, FlusherEnds, Rung, flush_group, settle};
 use rr_types::{Group, NodeId};
 use rr_window::WindowName;
 use std::alloc::Global;
@@ -43,7 +43,6 @@ fn give_back<B: Drop, R: Wait>(rt: &R, backs: &mut Giver<B>, back: B) {
 struct Belt<'x, R> {
     rt: &'x R,
     running: &'x Running,
-    node: NodeId,
     groups: Taker<Group>,
     backs: Giver<Result<Synced, Unflushed>>,
 }
@@ -59,8 +58,8 @@ impl<'x, R: Wait> FlusherEnds for Belt<'x, R> {
         give_back(self.rt, &mut self.backs, back);
     }
 
-    fn wake_loop(&mut self) {
-        self.running.ring(self.node);
+    fn wake_loop(&mut self, node: NodeId) -> Rung {
+        self.running.ring(node)
     }
 }
 
@@ -81,26 +80,20 @@ pub fn flush_all<W: WindowName, D: Disk + Drop, T: Turnstile, R: Wait>(
     let mut belt = Belt {
         rt,
         running: &shared.running,
-        node,
         groups,
         backs,
     };
-    let mut rest = Rest::rung();
+    let mut aside = Aside::new(rt, &shared.running, node, desk.flusher.parker());
     for _ in rt.forever() {
         if flush_group(alloc, turnstile, node, &mut journal, &mut belt) {
-            rest.end();
+            aside.go_on();
             continue;
         }
         if desk.is_ending(shared) {
             break;
         }
-        match write_next(rt, alloc, turnstile, desk, &mut journal) {
-            Ok(true) => rest.end(),
-            Ok(false) => {
-                rest.wait(rt, &desk.flusher);
-            }
-            Err(refusal) => shared.running.fail(rt, desk.node, refusal),
-        }
+        let turned = write_next(rt, alloc, turnstile, desk, &mut journal);
+        settle(&mut aside, turned);
     }
     journal.into_disk()
 }

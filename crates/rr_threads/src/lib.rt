@@ -56,10 +56,10 @@
 
 mod agreeing;
 mod client;
+mod course;
 mod desk;
 mod fate;
 mod flushing;
-mod hearing;
 mod lives;
 mod node_loop;
 mod node_run;

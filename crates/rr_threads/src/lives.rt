@@ -81,11 +81,11 @@ fn live<
             mut mail,
             clients: left,
         } = run_part(rt, alloc, shared, moves, part, clients)?;
-        shared.note(node, false);
+        shared.note_down(node);
         match shared.next_life(rt, node, &mut mail) {
             Some(next) => moves = next,
             None => {
-                leave(rt, shared, left.len());
+                leave_all(rt, shared, left);
                 return Ok(());
             }
         }
@@ -98,10 +98,10 @@ fn live<
     Ok(())
 }
 
-/// So many clients are done.
-fn leave<T, R: Wait>(rt: &R, shared: &Shared<'_, T>, count: usize) {
-    for _ in 0..count {
-        shared.running.leave(rt);
+/// These clients are done.
+fn leave_all<T, R: Wait, C: Drop>(rt: &R, shared: &Shared<'_, T>, clients: Vec<C>) {
+    for client in clients {
+        shared.running.leave(rt, client);
     }
 }
 
@@ -117,6 +117,6 @@ pub fn run_lives<
     let node = part.node;
     if let Err(refusal) = live(rt, alloc, shared, part, clients) {
         shared.running.fail(rt, node, refusal);
-        shared.note(node, false);
+        shared.note_down(node);
     }
 }

@@ -1,18 +1,18 @@
 //! The loop of a node.
 
+ghost use Rattle.std.specs.Prelude.{◌≡◌, IfOk};
+ghost use Rattle.std.specs.Duration.{as_nanos};
+
 use crate::desk::Desk;
-use crate::hearing::hear_kept;
-use crate::rest::Rest;
-use crate::running::Running;
 use crate::shared::Shared;
 use crate::wires::{Mail, NodeEnds, Wires};
 use rr_inbox::ROOM;
 use rr_locked::{Chase, Standstill, Ticks, Turnstile};
-use rr_turn::{Clockwork, look, tick_next};
-use rr_types::{NodeId, Refusal};
+use rr_turn::{Clockwork, Links, hear_kept, turn};
+use rr_types::Refusal;
 use rr_window::WindowName;
 use std::sync::Wait;
-use std::time::{Clock, Duration};
+use std::time::Clock;
 
 /// The most messages that are heard in a turn, and the most that are sent.
 const BATCH: usize = 64;
@@ -31,57 +31,21 @@ struct Lane<'x, W: WindowName, T, R> {
     chase: Chase,
 }
 
-/// What the clock tells. It is `Device` where it can't be read.
-fn now<R: Clock>(rt: &R) -> Result<Duration, Refusal> {
-    match rt.monotonic() {
-        Ok(time) => Ok(time),
-        Err(_) => Err(Refusal::Device),
-    }
-}
-
-/// The loop of a node rests until someone rings or a tick is due; or looks once more at once.
-fn rest_until_tick<R: Wait + Clock>(
-    rt: &R,
-    running: &Running,
-    node: NodeId,
-    rest: &mut Rest,
-    ticks: &Ticks,
-) -> Result<(), Refusal> {
-    if let Some(bell) = running.bell(node) {
-        rest.wait_for(rt, bell, ticks.until(now(rt)?));
-    }
-    Ok(())
-}
-
-/// A turn of the loop: does what there is to do, or rests. Then the node ticks if it is time to.
-fn turn<W: WindowName, T: Turnstile, R: Wait + Clock>(
-    rt: &R,
-    shared: &Shared<'_, T>,
-    desk: &Desk<W>,
-    lane: &mut Lane<'_, W, T, R>,
-    clockwork: &mut Clockwork,
-    rest: &mut Rest,
-) -> Result<(), Refusal> {
-    let (node, chase, wires) = (&desk.locked, &mut lane.chase, &mut lane.wires);
-    let order = shared.running.order();
-    if look(rt, order, node, chase, wires, BATCH, ROOM)? {
-        rest.end();
-    } else {
-        rest_until_tick(rt, &shared.running, desk.node, rest, &clockwork.ticks)?;
-    }
-    tick_next(rt, now(rt)?, node, chase, wires, clockwork, ROOM)
-}
-
-/// What a node begins with: it hears what is kept of the messages that came before, and its clock starts.
+/// What a node begins with: it hears what is kept of the messages that came before, and its clock starts. It ticks as often as the run says.
 fn begin<W: WindowName, T: Turnstile, R: Wait + Clock>(
     rt: &R,
     shared: &Shared<'_, T>,
     desk: &Desk<W>,
     lane: &mut Lane<'_, W, T, R>,
-) -> Result<Clockwork, Refusal> {
-    hear_kept(rt, &desk.locked, &mut lane.chase, &mut lane.wires)?;
+) -> Result<Clockwork, Refusal>
+    ensures { IfOk result (λ clockwork. clockwork.ticks.period ≡ as_nanos shared.now.tick) }
+{
+    let (chase, wires) = (&mut lane.chase, &mut lane.wires);
+    let kept = wires.ends.mail.kept;
+    hear_kept(rt, &desk.locked, chase, wires, &kept)?;
+    let now = wires.read_clock()?;
     Ok(Clockwork {
-        ticks: Ticks::new(now(rt)?, shared.tick),
+        ticks: Ticks::new(now, shared.tick),
         standstill: Standstill::new(),
     })
 }
@@ -94,12 +58,13 @@ fn run_turns<W: WindowName, T: Turnstile, R: Wait + Clock>(
     lane: &mut Lane<'_, W, T, R>,
 ) -> Result<(), Refusal> {
     let mut clockwork = begin(rt, shared, desk, lane)?;
-    let mut rest = Rest::rung();
+    let (node, order) = (&desk.locked, shared.running.order());
+    let (chase, wires) = (&mut lane.chase, &mut lane.wires);
     for _ in rt.forever() {
         if desk.is_ending(shared) {
             break;
         }
-        turn(rt, shared, desk, lane, &mut clockwork, &mut rest)?;
+        turn(rt, order, node, chase, wires, &mut clockwork, BATCH, ROOM)?;
     }
     Ok(())
 }
@@ -133,6 +98,8 @@ pub fn run_node<W: WindowName, T: Turnstile, R: Wait + Clock>(
         scribe: _,
         desk: _,
         ends,
+        bell: _,
+        rest: _,
     } = wires;
     let NodeEnds {
         mail,

@@ -1,6 +1,6 @@
 //! The threads of a node.
 
-ghost use Rattle.std.specs.Prelude.{◌≡◌};
+ghost use Rattle.std.specs.Prelude.{◌≡◌, vec_len, IfOk};
 ghost use Rattle.std.specs.Thread.{IsSend};
 
 use crate::client::{Client, serve};
@@ -115,9 +115,11 @@ fn open_ends<W: WindowName, C: Drop, R: Wait>(
 }
 
 /// A counter for each of `count` clients.
-fn counters_for<W: WindowName>(alloc: Global, count: usize) -> Result<Vec<Counter<W>>, Refusal> {
+fn counters_for<W: WindowName>(alloc: Global, count: usize) -> Result<Vec<Counter<W>>, Refusal>
+    ensures { IfOk result (λ counters. vec_len counters ≡ count) }
+{
     let mut counters = Vec::new(alloc);
-    for _ in 0..count {
+    for made in 0..count {
         counters.push(Counter::new())?;
     }
     Ok(counters)
@@ -383,7 +385,7 @@ fn run_crew<
     } = ends;
     let desk: Desk<W> = Desk::new(node, moves, Locked::new(core), counters);
     match publish_first(rt, &desk, &mut follower) {
-        Ok(()) => shared.note(node, true),
+        Ok(published) => shared.note_up(node, published),
         Err(refusal) => shared.running.fail(rt, node, refusal),
     }
     let remains = run_threads(

@@ -1,28 +1,48 @@
 //! A publisher.
 
+ghost use Rattle.std.specs.Prelude.{◌≡◌, [], OnOk};
+ghost use Rattle.rr_model.specs.NodeState.{NodeState, decided_prefix};
+ghost use Rattle.rr_locked.specs.Listed.{listed};
 ghost use Rattle.rr_turn.specs.Asked.{Call};
 
+use crate::course::Aside;
 use crate::desk::Desk;
 use crate::recorder::Scribe;
-use crate::rest::Rest;
 use crate::shared::Shared;
+use rr_core::Core;
 use rr_locked::{Follower, Locked};
-use rr_turn::{Counters, publish_next};
+use rr_turn::{Counters, publish_next, settle};
 use rr_types::{Refusal, Reply, RequestNo};
 use rr_window::{Publisher, WindowName};
 use std::alloc::Global;
 use std::collections::VecDeque;
 use std::sync::Wait;
 
-/// Publishes what a node has from its disk, so that no client looks at less.
+// Lists all that a node has decided, where nothing was listed before.
+fn follow_first<W: WindowName>(core: &Core, follower: &mut Follower<W>) -> Result<(), Refusal>
+    ensures { listed follower.old ≡ [] → OnOk result (listed follower.new ≡ decided_prefix core.now) }
+{
+    follower.follow(core)?;
+    Ok(())
+}
+
+/// That what a node had from its disk is published. Only `publish_first` gives this.
+#[derive(Clone, Copy, Debug)]
+pub struct Published {
+    first: (),
+}
+
+/// Publishes what a node has from its disk, so that no client looks at less. Nothing was listed before.
 pub fn publish_first<W: WindowName, R: Wait>(
     rt: &R,
     desk: &Desk<W>,
     follower: &mut Follower<W>,
-) -> Result<(), Refusal> {
-    follower.follow(desk.locked.lock(rt).core())?;
+) -> Result<Published, Refusal>
+    ensures { listed follower.old ≡ [] → OnOk result ((s : NodeState) × (follower.new ≡ record { published = decided_prefix s; appended = [] })) }
+{
+    follow_first(desk.locked.lock(rt).core(), follower)?;
     follower.publish(rt)?;
-    Ok(())
+    Ok(Published { first: () })
 }
 
 /// Who waits at a node for replies. No contract knows who waits at its counters: that call is one line, to be read.
@@ -59,17 +79,12 @@ pub fn publish_all<W: WindowName, T, R: Wait>(
         desk,
     };
     let mut acknowledged = VecDeque::new(alloc);
-    let mut rest = Rest::rung();
+    let mut aside = Aside::new(rt, &shared.running, desk.node, desk.publisher.parker());
     for _ in rt.forever() {
         if desk.is_ending(shared) {
             break;
         }
-        match publish_next(rt, &desk.locked, follower, &mut acknowledged, &mut waiters) {
-            Ok(true) => rest.end(),
-            Ok(false) => {
-                rest.wait(rt, &desk.publisher);
-            }
-            Err(refusal) => shared.running.fail(rt, desk.node, refusal),
-        }
+        let turned = publish_next(rt, &desk.locked, follower, &mut acknowledged, &mut waiters);
+        settle(&mut aside, turned);
     }
 }

@@ -1,12 +1,13 @@
 //! The tape of a run, under a lock of its own.
 
-ghost use Rattle.std.specs.Prelude.{◌≡◌, [], Some, None, IfOk, IfErr, IfNone, IfSome, IsSome, OnOk};
+ghost use Rattle.std.specs.Prelude.{◌≡◌, ◌&&◌, is_some, [], Some, None, IfOk, IfErr, IfNone, IfSome, IsSome, OnOk};
 ghost use Rattle.rr_types.specs.Registry.{reply_of};
 ghost use Rattle.rr_types.specs.declared.input.Input.TheVariants as told;
 ghost use Rattle.rr_types.specs.declared.refusal.Refusal.TheVariants.{RoundsOut};
 ghost use Rattle.rr_model.specs.NodeState.{decided_prefix};
 ghost use Rattle.rr_model.specs.NodeStep.{node_step, refusal_of, next_leaving, message_left, group_taken, running_group, marked_running, next_acknowledged, acknowledged};
 ghost use Rattle.rr_locked.specs.Recorded.{IsNoMessage};
+ghost use Rattle.rr_threads.specs.Lacking.{may_lack};
 
 use rr_journal::Synced;
 use rr_locked::{
@@ -57,8 +58,21 @@ impl<'x, R> Scribe<'x, R> {
     }
 
     /// Whether a tape may lack an event that is refused so: it may have been made, and have no place.
-    pub fn lacks(&self, refusal: &Refusal) -> bool {
-        self.recorder.is_some() && matches!(refusal, Refusal::OutOfMemory | Refusal::BadEvent(_))
+    pub fn lacks(&self, refusal: &Refusal) -> bool
+        ensures { result ≡ (is_some self.now.recorder && may_lack refusal.now) }
+    {
+        self.recorder.is_some() && may_lack(refusal)
+    }
+}
+
+// Whether an event that is refused so may have been made, and have no place on its tape.
+fn may_lack(refusal: &Refusal) -> bool
+    ensures { result ≡ may_lack refusal.now }
+{
+    match refusal {
+        Refusal::OutOfMemory => true,
+        Refusal::BadEvent(_) => true,
+        _ => false,
     }
 }
 

@@ -4,7 +4,7 @@ ghost use Rattle.std.specs.Prelude.{◌≡◌, ◌<◌, length, IfOk};
 ghost use Rattle.std.specs.Duration.{as_nanos};
 ghost use Rattle.std.specs.Thread.{IsSend};
 
-use crate::agreeing::all_agree;
+use crate::agreeing::{Agreed, all_agree};
 use crate::client::Client;
 use crate::lives::{open_part, run_lives};
 use crate::node_run::Part;
@@ -153,7 +153,7 @@ fn start_all<
     }
 }
 
-/// All nodes at once.
+/// All nodes at once, which agree.
 fn run_scope<
     's,
     'x,
@@ -161,7 +161,13 @@ fn run_scope<
     T: Turnstile + Sync,
     R: Threads + Wait + Clock + Sync,
     C: Client + Drop + Send,
->(rt: &'s R, alloc: Global, shared: &'s Shared<'x, T>, parts: Vec<(Part<D>, Vec<C>)>)
+>(
+    rt: &'s R,
+    alloc: Global,
+    shared: &'s Shared<'x, T>,
+    parts: Vec<(Part<D>, Vec<C>)>,
+    _agreed: Agreed,
+)
     requires alike { (one other : D) → D.tells one → D.tells other }
 {
     thread::scope(
@@ -208,18 +214,18 @@ pub fn run_all<
         return Err(Refusal::BadNodes);
     }
     let parts = open_parts(turnstile, alloc, nodes, disks, clients)?;
-    if !all_agree(&parts) {
+    let Some(agreed) = all_agree(&parts) else {
         return Err(DIFFERENT);
-    }
+    };
     let shared = Shared {
         nodes,
         tick,
-        running: Running::new(alloc, nodes.count(), count_clients(&parts))?,
+        running: Running::new(alloc, count_clients(&parts))?,
         recorder,
         switches,
         turnstile,
     };
-    run_scope(rt, alloc, &shared, parts);
+    run_scope(rt, alloc, &shared, parts, agreed);
     let Shared {
         nodes: _,
         tick: _,

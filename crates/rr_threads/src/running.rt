@@ -1,28 +1,27 @@
 //! How a run ends, and how its nodes are rung.
 
+ghost use Rattle.std.specs.Prelude.{◌≡◌};
+
 use rr_locked::{Ending, Failure};
-use rr_types::{NodeId, NodeSet, Refusal};
+use rr_turn::{Bell, Bells, Rung};
+use rr_types::{NodeId, Refusal};
 use std::alloc::Global;
 use std::sync::atomic::{AtomicBool, Ordering};
 use std::sync::{Mutex, Wait};
-use std::thread::Parker;
 
 /// A run: how it ends, a bell for the loop of each node, and what a loop holds that submits.
 #[derive(Drop)]
 pub struct Running {
     is_over: AtomicBool,
     ending: Mutex<Ending>,
-    bells: Vec<Parker>,
+    bells: Bells,
     order: Mutex<()>,
 }
 
 impl Running {
-    /// A run of `nodes` nodes and `clients` clients.
-    pub fn new(alloc: Global, nodes: u8, clients: usize) -> Result<Running, Refusal> {
-        let mut bells = Vec::new(alloc);
-        for _ in 0..nodes {
-            bells.push(Parker::new())?;
-        }
+    /// A run with `clients` clients. It is `OutOfMemory`.
+    pub fn new(alloc: Global, clients: usize) -> Result<Running, Refusal> {
+        let bells = Bells::new(alloc)?;
         let ending = Ending::new(clients);
         Ok(Running {
             is_over: AtomicBool::new(ending.is_over()),
@@ -42,31 +41,22 @@ impl Running {
         self.is_over.load(Ordering::SeqCst)
     }
 
-    /// The bell of a node's loop, if there is such a node.
-    pub fn bell(&self, node: NodeId) -> Option<&Parker> {
-        self.bells.get(usize::from(node.index()))
+    /// The bell of a node's loop.
+    pub fn bell(&self, node: NodeId) -> &Bell
+        ensures { result.now.node ≡ node }
+    {
+        self.bells.of(node)
     }
 
     /// Rings for a node's loop.
-    pub fn ring(&self, node: NodeId) {
-        if let Some(bell) = self.bell(node) {
-            bell.unpark();
-        }
+    pub fn ring(&self, node: NodeId) -> Rung
+        ensures { result.node ≡ node }
+    {
+        self.bell(node).ring()
     }
 
-    /// Rings for the loops of these nodes.
-    pub fn ring_each(&self, nodes: NodeSet) {
-        let mut bits = nodes.bits();
-        for bell in &self.bells {
-            if bits % 2 == 1 {
-                bell.unpark();
-            }
-            bits /= 2;
-        }
-    }
-
-    /// A client is done.
-    pub fn leave<R: Wait>(&self, rt: &R) {
+    /// A client is done. It can't be called again.
+    pub fn leave<C: Drop, R: Wait>(&self, rt: &R, _client: C) {
         let is_over = {
             let mut ending = self.ending.lock(rt);
             ending.leave();
@@ -85,9 +75,7 @@ impl Running {
 
     fn end(&self) {
         self.is_over.store(true, Ordering::SeqCst);
-        for bell in &self.bells {
-            bell.unpark();
-        }
+        self.bells.ring_all();
     }
 
     /// The refusal of the lowest node that failed, if one did.

@@ -1,10 +1,15 @@
 //! What all threads of a run share.
 
-use crate::hearing::keep_all;
+ghost use Rattle.std.specs.Prelude.{◌≡◌, ◌||◌, ◌==◌, false, not};
+ghost use Rattle.std.specs.Option.{option_map_or};
+ghost use Rattle.rr_turn.specs.Asked.{Call};
+
+use crate::publishing::Published;
 use crate::recorder::Recorder;
 use crate::running::Running;
 use crate::switches::{DOWN, Switches};
 use crate::wires::Mail;
+use rr_turn::{DownEnds, Next, stay_down};
 use rr_types::{NodeId, Nodes};
 use std::sync::Wait;
 use std::time::Duration;
@@ -23,24 +28,24 @@ pub struct Shared<'x, T> {
 impl<'x, T> Shared<'x, T> {
     /// Whether a node that came up at this move of its switch goes down.
     pub fn is_ending(&self, node: NodeId, moves: u64) -> bool {
-        let is_moved = match self.switches {
-            Some(switches) => switches.moves(node) != moves,
-            None => false,
+        let stands = match self.switches {
+            Some(switches) => Some(switches.moves(node)),
+            None => None,
         };
-        is_moved || self.running.is_over()
+        ends(moves, stands, self.running.is_over())
     }
 
-    /// A node has come up or gone down.
-    pub fn note(&self, node: NodeId, is_up: bool) {
+    /// A node has come up: what its disk had is published.
+    pub fn note_up(&self, node: NodeId, _published: Published) {
         if let Some(switches) = self.switches {
-            switches.note(node, is_up);
+            switches.note(node, true);
         }
     }
 
-    /// The thread of a node that is down rests until a message comes that is worth waking it, or a short while.
-    fn rest_down<R: Wait>(&self, rt: &R, node: NodeId) {
-        if let Some(bell) = self.running.bell(node) {
-            bell.park_timeout(rt, Duration::from_millis(DOWN));
+    /// A node has gone down.
+    pub fn note_down(&self, node: NodeId) {
+        if let Some(switches) = self.switches {
+            switches.note(node, false);
         }
     }
 
@@ -48,18 +53,73 @@ impl<'x, T> Shared<'x, T> {
     /// its inbox is emptied again and again, so that what is kept is late.
     pub fn next_life<R: Wait>(&self, rt: &R, node: NodeId, mail: &mut Option<Mail>) -> Option<u64> {
         let switches = self.switches?;
+        let running = &self.running;
+        let mut downtime = Downtime {
+            rt,
+            running,
+            switches,
+            node,
+            mail,
+        };
         for _ in rt.forever() {
-            if self.running.is_over() || switches.is_closed() {
-                break;
-            }
-            if let Some(mail) = mail {
-                keep_all(rt, mail);
-            }
-            match switches.moves_if_on(node) {
-                Some(moves) => return Some(moves),
-                None => self.rest_down(rt, node),
+            match stay_down(&mut downtime) {
+                Next::Start(moves) => return Some(moves),
+                Next::End => break,
+                Next::Turn => {}
             }
         }
         None
+    }
+}
+
+// Whether a life of a node ends that began at this move of its switch, where the switch, if there is one, stands at that one now.
+fn ends(began: u64, stands: Option<u64>, is_over: bool) -> bool
+    ensures { result ≡ (option_map_or (λ moves. not (moves == began)) stands false || is_over) }
+{
+    match stands {
+        Some(moves) => moves != began || is_over,
+        None => is_over,
+    }
+}
+
+// Empties the inbox of a node that has its mail.
+fn keep_any<R: Wait>(rt: &R, mail: &mut Option<Mail>) {
+    if let Some(mail) = mail {
+        mail.keep_all(rt);
+    }
+}
+
+/// What the thread of a node that is down looks at. No contract knows what these hold: each call is a line or two, to be read.
+#[derive(Drop)]
+struct Downtime<'x, R> {
+    rt: &'x R,
+    running: &'x Running,
+    switches: &'x Switches,
+    node: NodeId,
+    mail: &'x mut Option<Mail>,
+}
+
+impl<'x, R: Wait> DownEnds for Downtime<'x, R> {
+    ghost gives = { λ _ _ _. Unit {0} };
+
+    fn is_over(&mut self) -> bool {
+        self.running.is_over()
+    }
+
+    fn is_closed(&mut self) -> bool {
+        self.switches.is_closed()
+    }
+
+    fn keep_all(&mut self) {
+        keep_any(self.rt, self.mail);
+    }
+
+    fn moves_if_on(&mut self) -> Option<u64> {
+        self.switches.moves_if_on(self.node)
+    }
+
+    fn rest(&mut self) {
+        let bell = self.running.bell(self.node).parker();
+        bell.park_timeout(self.rt, Duration::from_millis(DOWN));
     }
 }

@@ -4,7 +4,7 @@ ghost use Rattle.std.specs.Prelude.{◌≡◌, IfOk, IfSome, IsSome};
 ghost use Rattle.rr_frame.specs.Snapshots.{IsSnapshot};
 ghost use Rattle.rr_threads.specs.Snapshotting.{IsBegun, IsWritten};
 
-use crate::desk::Desk;
+use crate::desk::{Desk, Due};
 use crate::switching::make_all;
 use rr_core::Core;
 use rr_disk::Disk;
@@ -26,9 +26,10 @@ fn lawful(nodes: Nodes, node: NodeId, epoch: u64, next: u64, promise: Promise) -
     }
 }
 
-/// Begins a switch to a snapshot of what the node has marked. None: the journal has more on its disk than that. It is `Failed`
-/// where no snapshot can have the node's promise, and else as of `Journal::begin_snapshot`.
+/// Begins a switch to a snapshot of what the node has marked, once one is due. None: the journal has more on its disk than that. It is
+/// `Failed` where no snapshot can have the node's promise, and else as of `Journal::begin_snapshot`.
 fn begin<D: Disk>(
+    _due: Due,
     alloc: Global,
     core: &Core,
     journal: &mut Journal<D>,
@@ -65,19 +66,19 @@ pub fn write_next<W: WindowName, D: Disk, T: Turnstile, R: Wait>(
 ) -> Result<bool, Refusal>
     ensures { IfOk result (λ is_written. IsWritten is_written journal.old journal.new) }
 {
-    let Some(number) = desk.snapshots.next() else {
+    let Some(due) = desk.snapshots.next() else {
         return Ok(false);
     };
     let begun = {
         let locked = desk.locked.lock(rt);
-        begin(alloc, locked.core(), journal)
+        begin(due, alloc, locked.core(), journal)
     };
     match begun {
         Err(refusal) => Err(refusal),
         Ok(None) => Ok(false),
         Ok(Some(job)) => {
-            let switched = make_all(turnstile, desk.node, journal, job)?;
-            desk.snapshots.note(number, switched);
+            let switched = make_all(turnstile, desk.node, journal, job, due)?;
+            desk.snapshots.note(switched);
             desk.ring_all();
             Ok(true)
         }

@@ -1,6 +1,6 @@
 //! Switches by which the nodes of a run are stopped and started again.
 
-ghost use Rattle.std.specs.Prelude.{◌≡◌};
+ghost use Rattle.std.specs.Prelude.{◌≡◌, ◌%◌, ◌==◌, if◌then◌else◌, None, Some, vec_len, IfOk};
 
 use crate::rest::LONG;
 use crate::run::usual_tick;
@@ -43,8 +43,18 @@ impl Switch {
     }
 }
 
-fn is_even(moves: u64) -> bool {
+// Whether a switch is on that was moved so often.
+fn is_even(moves: u64) -> bool
+    ensures { result ≡ (moves % 2 == 0) }
+{
     moves % 2 == 0
+}
+
+// How often a switch was moved, where it is on.
+fn if_on(moves: u64) -> Option<u64>
+    ensures { result ≡ (if moves % 2 == 0 then Some moves else None) }
+{
+    if is_even(moves) { Some(moves) } else { None }
 }
 
 /// Switches by which a host stops nodes of a run and starts them again, while the others go on. They are on at first.
@@ -64,9 +74,11 @@ impl Switches {
     ///
     /// # Errors
     /// `OutOfMemory`.
-    pub fn new(alloc: Global, nodes: Nodes) -> Result<Switches, Refusal> {
+    pub fn new(alloc: Global, nodes: Nodes) -> Result<Switches, Refusal>
+        ensures { IfOk result (λ made. vec_len made.switches ≡ nodes) }
+    {
         let mut switches = Vec::new(alloc);
-        for _ in 0..nodes.count() {
+        for made in 0..nodes.count() {
             switches.push(Switch::new())?;
         }
         Ok(Switches {
@@ -161,8 +173,7 @@ impl Switches {
 
     /// How often the node's switch was moved, where it is on.
     pub(crate) fn moves_if_on(&self, node: NodeId) -> Option<u64> {
-        let moves = self.moves(node);
-        if is_even(moves) { Some(moves) } else { None }
+        if_on(self.moves(node))
     }
 
     /// Whether no node is started any more.

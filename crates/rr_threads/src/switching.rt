@@ -1,8 +1,10 @@
 //! The device calls by which a snapshot is written.
 
-ghost use Rattle.std.specs.Prelude.{OnOk};
+ghost use Rattle.std.specs.Prelude.{◌≡◌, ◌⊎◌, true, IfOk, IfErr, OnOk};
+ghost use Rattle.rr_types.specs.declared.refusal.Refusal.TheVariants.{Device, Failed};
 ghost use Rattle.rr_threads.specs.Snapshotting.{IsMade};
 
+use crate::desk::Due;
 use rr_disk::Disk;
 use rr_journal::{Journal, SwitchJob, Switching};
 use rr_locked::{Place, Turnstile};
@@ -11,30 +13,46 @@ use rr_types::{NodeId, Refusal};
 /// The most device calls of a switch.
 const CALLS: u8 = 6;
 
-/// That a snapshot is written: all device calls of its switch were made, so many. Only `make_all` gives this.
+/// That a snapshot is written which was due: all device calls of its switch were made. Only `make_all` gives this.
 #[derive(Drop)]
 pub struct Switched {
-    calls: u8,
+    due: Due,
 }
 
-/// Makes the device calls of a switch, with the turnstile before each.
+impl Switched {
+    /// The snapshot that was due.
+    pub fn due(&self) -> Due
+        ensures { result ≡ self.now.due }
+    {
+        self.due
+    }
+}
+
+/// Makes the device calls of a switch for a snapshot that is due, with the turnstile before each.
+///
+/// # Errors
+/// `Failed` if the journal had failed before, `Device`.
+#[tactic(auto, using(crate::proofs::Stages::next_is_nearer, crate::proofs::Stages::some_left, crate::proofs::Stages::few_left))]
 pub fn make_all<D: Disk, T: Turnstile>(
     turnstile: &T,
     node: NodeId,
     journal: &mut Journal<D>,
     job: SwitchJob,
+    due: Due,
 ) -> Result<Switched, Refusal>
-    ensures { OnOk result (IsMade job journal.old journal.new) }
+    ensures made { OnOk result (IsMade job journal.old journal.new) }
+    ensures due { IfOk result (λ switched. switched.due ≡ due) }
+    ensures cause { IfErr result (λ e. (e ≡ Device) ⊎ ((e ≡ Failed) × (journal.old.failed ≡ true))) }
 {
     let mut job = job;
-    for calls in 0..CALLS {
+    for turn in 0..CALLS {
         turnstile.pass(node, Place::BeforeDevice);
         match job.step(journal) {
             Err(refusal) => return Err(refusal),
-            Ok(Switching::Done) => return Ok(Switched { calls: calls + 1 }),
+            Ok(Switching::Done) => return Ok(Switched { due }),
             Ok(Switching::More(next)) => job = next,
         }
     }
     job.abandon();
-    Err(Refusal::Failed)
+    unreachable!()
 }

@@ -1,21 +1,25 @@
-//! What the thread of a node calls in a turn, over the real inboxes, hand-overs, bells and clients. No contract knows what these hold:
-//! each call is a few lines, to be read. Of an event of the node, and of a message that finds no room, a contract says what becomes of it.
+//! What the thread of a node calls in a turn, over the real inboxes, hand-overs, bells and clients. A contract says what becomes of an event
+//! of the node, into which inbox a message is put, what is late, what is taken, and whose bell is rung. What the others hold no contract
+//! knows: each of those calls is a few lines, to be read.
 
 ghost use Rattle.std.specs.Prelude.{◌≡◌, None};
 ghost use Rattle.rr_turn.specs.Asked.{Call};
-ghost use Rattle.rr_threads.specs.Ways.{IsPut, IsPutIfAny, IsPutLate, IsTaken};
+ghost use Rattle.rr_threads.specs.Ways.{IsPut, IsPutIfAny, IsPutLate, IsPutTo, IsLatePutAt, AllPutLate, IsTaken};
+ghost use Rattle.rr_threads.specs.Mails.{mail_gives};
 
 use crate::desk::Desk;
 use crate::recorder::{Recorder, Scribe};
+use crate::rest::Rest;
 use crate::running::Running;
-use rr_inbox::{Giver, Outlet, Port, Taker, TrySendError};
+use rr_inbox::{Giver, Outlet, Port, ROOM, Taker, TrySendError};
 use rr_journal::Synced;
 use rr_locked::{Kept, Locked, Place, Sent, Turnstile, Unflushed};
-use rr_turn::Links;
+use rr_turn::{Bell, FlusherRung, Links, PublisherRung, Rung};
 use rr_types::{Command, Group, Input, NodeId, Refusal};
 use rr_window::WindowName;
 use std::mem;
 use std::sync::Wait;
+use std::time::{Clock, Duration};
 
 /// A node's end of an inbox, and what found no room there: the last messages by which the receiver can tell that it is behind.
 #[derive(Drop)]
@@ -81,6 +85,42 @@ impl Mail {
         self.kept.keep(sent);
         Some(sent)
     }
+
+    /// A node that is down loses what comes to it, but for what is kept.
+    pub fn keep_all<R: Wait>(&mut self, rt: &R) {
+        for _ in 0..ROOM {
+            if self.take(rt).is_none() {
+                break;
+            }
+        }
+    }
+
+    /// Puts a message into the inbox of a node, as its way does.
+    pub fn put<R: Wait>(&mut self, rt: &R, to: NodeId, sent: Sent)
+        ensures { IsPutTo to sent self.old self.new }
+    {
+        if let Some(way) = self.ways.get_mut(usize::from(to.index())) {
+            way.put(rt, sent);
+        }
+    }
+
+    // The way at this place puts what is late.
+    fn put_late_at<R: Wait>(&mut self, rt: &R, place: usize)
+        ensures { IsLatePutAt place self.old self.new }
+    {
+        if let Some(way) = self.ways.get_mut(place) {
+            way.put_late(rt);
+        }
+    }
+
+    /// Puts what is late into the inboxes of all nodes.
+    pub fn put_late<R: Wait>(&mut self, rt: &R)
+        ensures { AllPutLate self.old self.new }
+    {
+        for place in 0..self.ways.len() {
+            self.put_late_at(rt, place);
+        }
+    }
 }
 
 /// A node's mail, and its ends of the hand-overs.
@@ -100,6 +140,8 @@ pub struct Wires<'x, W: WindowName, T, R> {
     pub scribe: Scribe<'x, R>,
     pub desk: &'x Desk<W>,
     pub ends: NodeEnds,
+    pub bell: &'x Bell,
+    pub rest: Rest,
 }
 
 impl<'x, W: WindowName, T, R> Wires<'x, W, T, R> {
@@ -111,7 +153,10 @@ impl<'x, W: WindowName, T, R> Wires<'x, W, T, R> {
         recorder: Option<&'x Recorder>,
         desk: &'x Desk<W>,
         ends: NodeEnds,
-    ) -> Wires<'x, W, T, R> {
+    ) -> Wires<'x, W, T, R>
+        ensures ends { result.ends ≡ ends }
+        ensures bell { result.bell.now.node ≡ desk.now.node }
+    {
         Wires {
             rt,
             running,
@@ -119,12 +164,14 @@ impl<'x, W: WindowName, T, R> Wires<'x, W, T, R> {
             scribe: Scribe::new(rt, recorder),
             desk,
             ends,
+            bell: running.bell(desk.node),
+            rest: Rest::rung(),
         }
     }
 }
 
-impl<'x, W: WindowName, T: Turnstile, R: Wait> Links for Wires<'x, W, T, R> {
-    ghost gives = { λ _ _ _. Unit {0} };
+impl<'x, W: WindowName, T: Turnstile, R: Wait + Clock> Links for Wires<'x, W, T, R> {
+    ghost gives = { λ old call new. mail_gives old.ends.mail call new.ends.mail };
 
     fn tell(&mut self, locked: &mut Locked, input: &Input) -> Result<(), Refusal> {
         self.scribe.tell(locked, input)
@@ -147,22 +194,16 @@ impl<'x, W: WindowName, T: Turnstile, R: Wait> Links for Wires<'x, W, T, R> {
     }
 
     fn put(&mut self, to: NodeId, sent: Sent) {
-        let ways: &mut Vec<Way> = &mut self.ends.mail.ways;
-        if let Some(way) = ways.get_mut(usize::from(to.index())) {
-            way.put(self.rt, sent);
-        }
+        self.ends.mail.put(self.rt, to, sent);
     }
 
     // Nobody is rung for it: the nodes hear it at their next ticks.
     fn put_late(&mut self) {
-        let ways: &mut Vec<Way> = &mut self.ends.mail.ways;
-        for way in ways.iter_mut() {
-            way.put_late(self.rt);
-        }
+        self.ends.mail.put_late(self.rt);
     }
 
-    fn ring(&mut self, node: NodeId) {
-        self.running.ring(node);
+    fn ring(&mut self, node: NodeId) -> Rung {
+        self.running.ring(node)
     }
 
     fn is_idle(&mut self) -> bool {
@@ -188,12 +229,12 @@ impl<'x, W: WindowName, T: Turnstile, R: Wait> Links for Wires<'x, W, T, R> {
         }
     }
 
-    fn wake_flusher(&mut self) {
-        self.desk.flusher.unpark();
+    fn wake_flusher(&mut self) -> FlusherRung {
+        self.desk.flusher.ring()
     }
 
-    fn wake_publisher(&mut self) {
-        self.desk.publisher.unpark();
+    fn wake_publisher(&mut self) -> PublisherRung {
+        self.desk.publisher.ring()
     }
 
     fn is_wanted(&mut self) -> bool {
@@ -225,5 +266,20 @@ impl<'x, W: WindowName, T: Turnstile, R: Wait> Links for Wires<'x, W, T, R> {
         for _ in 0..count {
             self.turnstile.pass(self.desk.node, Place::AfterSubmit);
         }
+    }
+
+    fn read_clock(&mut self) -> Result<Duration, Refusal> {
+        match self.rt.monotonic() {
+            Ok(time) => Ok(time),
+            Err(_) => Err(Refusal::Device),
+        }
+    }
+
+    fn rest(&mut self, most: Duration) {
+        self.rest.wait_for(self.rt, self.bell.parker(), most);
+    }
+
+    fn go_on(&mut self) {
+        self.rest.end();
     }
 }

@@ -1,15 +1,17 @@
 -- What is heard, message by message.
-use Rattle.std.proofs.Common.{◌≡◌, ◌∙◌, ◌≤◌, ◌++◌, ◌∷◌, [], ◌+◌, ℕ, List, Some, None, Bool, true, false, length, nat_lt, refl, sym, ap, subst, cond, append_assoc, arith}
-use Rattle.std.specs.Prelude.{◌==◌}
+use Rattle.std.proofs.Common.{◌≡◌, ◌∙◌, ◌≤◌, ◌++◌, ◌∷◌, [], ◌+◌, ℕ, List, Option, Some, None, Result, Ok, Err, Bool, true, false, length, nat_lt, refl, sym, ap, subst, cond, append_assoc, arith}
+use Rattle.std.specs.Prelude.{◌==◌, OnOk}
+use Rattle.rr_types.specs.declared.refusal.Refusal.{Refusal}
 use Rattle.rr_model.specs.NodeState.{NodeState, decided_prefix}
 use Rattle.rr_locked.specs.Recorded.{Sent}
 use Rattle.rr_locked.specs.Chases.{Chase, heard_of}
 use Rattle.rr_locked.specs.declared.chase.Hearing.{Hearing}
 use Rattle.rr_turn.specs.Asked.{Call, takes, Ran, still, more}
 use Rattle.rr_turn.specs.Turns.{takes_each, met, met_chase, hearing, meeting, all_met, all_met_chase}
-use Rattle.rr_turn.specs.Looks.{Hears}
+use Rattle.rr_turn.specs.Looks.{Hears, MeetsAny}
 use Rattle.rr_turn.proofs.Runs.{run_more, run_join}
 use Rattle.rr_turn.proofs.Sends.{length_more}
+use Rattle.rr_turn.proofs.Ticks.{ok_both}
 
 met_more : (s : NodeState) (c : Chase) (sents : List Sent) (sent : Sent) → all_met (sents ++ sent ∷ []) s c ≡ met sent (all_met sents s c) (all_met_chase sents s c)
 met_more s c [] sent = refl
@@ -90,3 +92,9 @@ module _ {L : Type 0} (gives : L → Call → L → Type 0) where
     chase = did.chase;
     answer = did.answer ∙ ap (λ k. nat_lt 0 k) (sym did.count);
   }
+
+  -- a message that is there comes
+  pub meets_one : (r : Result (Unit {0}) Refusal) (o : Option Sent) (sent : Sent) (s : NodeState) (c : Chase) (from : L) (t : NodeState) (k : Chase) (to : L) → o ≡ Some sent
+      → OnOk r (Ran gives (meeting sent s c) from to) → OnOk r (t ≡ met sent s c) → k ≡ met_chase sent s c → OnOk r (MeetsAny gives o s c from t k to)
+  meets_one r o sent s c from t k to is ran step chased =
+      subst (λ o. OnOk r (MeetsAny gives o s c from t k to)) (sym is) (ok_both r (λ calls after. record { calls = calls; after = after; chase = chased }) ran step)

@@ -5,3 +5,5 @@ pub mod Marks
 pub mod Ticks
 pub mod Asks
 pub mod Publishes
+pub mod Rows
+pub mod Waits

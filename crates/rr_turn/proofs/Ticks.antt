@@ -12,7 +12,7 @@ use Rattle.rr_locked.specs.Chases.{Chase, again, chase_ticked}
 use Rattle.rr_locked.specs.Ticks.{Standstill, is_advance_due, standstill_after}
 use Rattle.rr_turn.specs.Asked.{Call, Ran, still, more, tells, hears}
 use Rattle.rr_turn.specs.Turns.{taking, all_met, all_met_chase, heard_again, hearing_again, is_catching_up, advancing, beating, ticking, ticked_chase, ticked_standstill}
-use Rattle.rr_turn.specs.Looks.{Hears, TicksFrom}
+use Rattle.rr_turn.specs.Looks.{Hears, TicksFrom, Ticked, TicksIf}
 use Rattle.rr_turn.proofs.Runs.{run_join}
 
 few : (b : Bool) → cond b None (Some TooLarge) ≡ Some RoundsOut → ⊥
@@ -102,3 +102,9 @@ module _ {L : Type 0} (gives : L → Call → L → Type 0) where
         chase = chase ∙ ap (λ x. ticked_chase x then) heard.after ∙ ap (λ x. ticked_chase here x) heard.chase;
         standstill = standstill ∙ ap (λ x. ticked_standstill x then b) heard.after ∙ ap (λ x. ticked_standstill here x b) heard.chase;
       }
+
+  -- where it is known what follows in both cases
+  pub ticks_if : (r : Result (Unit {0}) Refusal) (due is : Bool) (most : ℕ) (c : Chase) (b : Standstill) (from : L) (k : Chase) (d : Standstill) (to : L) → due ≡ is
+      → (due ≡ true → OnOk r (Ticked gives most c b from k d to)) → (due ≡ false → (to ≡ from) × (k ≡ c) × (d ≡ b)) → OnOk r (TicksIf gives due most c b from k d to)
+  ticks_if r due true most c b from k d to e ticks early = subst (λ x. OnOk r (TicksIf gives x most c b from k d to)) (sym e) (ticks e)
+  ticks_if r due false most c b from k d to e ticks early = subst (λ x. OnOk r (TicksIf gives x most c b from k d to)) (sym e) (ok_too r (early e))

@@ -37,12 +37,32 @@ pub data Call : Type 0 where
   wants : (place : ℕ) (command : Option Command) → Call
   refuses : (place : ℕ) (refusal : Refusal) → Call
   passes : (count : ℕ) → Call
+  -- of its loop, to the clock, and its own rest, both in nanoseconds
+  reads_clock : (now : ℕ) → Call
+  rests : (most : ℕ) → Call
+  goes_on : Call
+  -- of its flusher or publisher, to its rest and the run
+  rests_aside : Call
+  fails : (refusal : Refusal) → Call
   -- of its flusher
   receives : (group : Option Grouped) → Call
   hands_back : (back : Result Kept Unflushed) → Call
-  wakes_loop : Call
+  wakes_loop : (node : ℕ) → Call
   -- of its publisher, where so many commands are published
   tells_clients : (published : List Command) (request : RequestNo) (reply : Reply) → Call
+  -- of a client, at its counter
+  wants_reply : (command : Command) → Call
+  notes_wanted : Call
+  sees_told : (is_told : Bool) → Call
+  sees_end : (is_ending : Bool) → Call
+  rests_there : Call
+  collects : (receipt : Option RequestNo) → Call
+  -- of the thread of a node that is down
+  sees_over : (is_over : Bool) → Call
+  sees_closed : (is_closed : Bool) → Call
+  keeps_all : Call
+  sees_switch : (moves : Option ℕ) → Call
+  rests_down : Call
 
 -- these calls, in this order and no others, bring the ends of a thread from one state to another
 pub data Ran {L : Type 0} (gives : L → Call → L → Type 0) : List Call → L → L → Type 0 where

@@ -41,8 +41,8 @@ pub record Becomes {D : Type 0} (tells : D → Type 0) (areas : D → Areas) (ca
       × IfErr back (λ u. IfFailed u (λ e. EachHoldsEither (Holds j.nodes j.node) (areas k.disk) facts group.facts))
 
 module _ {D E : Type 0} (tells : D → Type 0) (areas : D → Areas) (calls faults : D → ℕ) (gives : E → Call → E → Type 0) where
-  -- what came is asked for; of a group, what became of it goes back, and then the node's loop is rung
-  abbrev pub Carries : Option Grouped → Journal D → Journal D → E → E → Type 0
-  Carries None j k from to = Ran gives (receives None ∷ []) from to × (k ≡ j)
-  Carries (Some group) j k from to = (back : Result Kept Unflushed) × Ran gives (receives (Some group) ∷ hands_back back ∷ wakes_loop ∷ []) from to
+  -- what came is asked for; of a group, what became of it goes back, and then the loop of this node is rung
+  abbrev pub Carries : ℕ → Option Grouped → Journal D → Journal D → E → E → Type 0
+  Carries node None j k from to = Ran gives (receives None ∷ []) from to × (k ≡ j)
+  Carries node (Some group) j k from to = (back : Result Kept Unflushed) × Ran gives (receives (Some group) ∷ hands_back back ∷ wakes_loop node ∷ []) from to
       × Becomes tells areas calls faults group back j k

@@ -2,5 +2,8 @@ pub mod Asked
 pub mod Turns
 pub mod Wants
 pub mod Looks
+pub mod Settles
 pub mod Carries
 pub mod Tells
+pub mod Downs
+pub mod Waits

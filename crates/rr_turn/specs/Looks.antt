@@ -1,20 +1,21 @@
 -- A look of a node's thread, part by part, and its tick. The calls that a part makes on the node say which states that had.
 use Rattle.std.specs.Prelude.{◌≡◌, ◌≤◌, ◌++◌, ◌∷◌, [], ℕ, Bool, true, false, ◌||◌, if◌then◌else◌, List, length, map, Option, None, Some, Result, Ok, IfErr, IfSome, nat_lt, is_some}
+use Rattle.std.specs.Option.{option_map_or}
 use Rattle.rr_types.specs.declared.refusal.Refusal.{Refusal}
 use Rattle.rr_types.specs.declared.refusal.Refusal.TheVariants.{Busy}
 use Rattle.rr_types.specs.Groups.{Grouped}
-use Rattle.rr_journal.specs.Flushes.{Kept}
+use Rattle.rr_journal.specs.Flushes as flushed
 use Rattle.rr_model.specs.NodeState.{NodeState, decided_prefix}
 use Rattle.rr_model.specs.NodeStep.{running_group, group_taken, marked_running}
 use Rattle.rr_locked.specs.Recorded.{Sent}
-use Rattle.rr_locked.specs.Chases.{Chase}
-use Rattle.rr_locked.specs.Ticks.{Standstill}
-use Rattle.rr_turn.specs.Asked.{Call, Ran, marks, groups, puts_late, sees, comes, notices, passes, wakes_publisher}
+use Rattle.rr_locked.specs.Chases.{Chase, Kept, sent_of}
+use Rattle.rr_locked.specs.Ticks.{Ticks, Standstill, is_tick_due, ticks_after, until_tick}
+use Rattle.rr_turn.specs.Asked.{Call, Ran, marks, groups, puts_late, sees, comes, notices, passes, wakes_publisher, reads_clock, rests, goes_on}
 use Rattle.rr_turn.specs.Wants.{AsksAll}
-use Rattle.rr_turn.specs.Turns.{leaving, left, noted, woken_with, rings_from, putting, taking, all_met, all_met_chase, given, giving, ticking, ticked_chase, ticked_standstill}
+use Rattle.rr_turn.specs.Turns.{leaving, left, noted, woken_with, rings_from, putting, taking, all_met, all_met_chase, met, met_chase, meeting, given, giving, ticking, ticked_chase, ticked_standstill}
 
 -- a synced group is marked: it is the one that ran. Whether more is decided by that
-pub record MarksGroup {L : Type 0} (gives : L → Call → L → Type 0) (s : NodeState) (synced : Kept) (more : Bool) (from to : L) : Type 0 where
+pub record MarksGroup {L : Type 0} (gives : L → Call → L → Type 0) (s : NodeState) (synced : flushed.Kept) (more : Bool) (from to : L) : Type 0 where
   pub call : gives from (marks s synced) to
   pub ran : running_group s ≡ Some synced.group
   pub answer : more ≡ nat_lt (length (decided_prefix s)) (length (decided_prefix (marked_running s)))
@@ -49,7 +50,7 @@ pub record Groups {L : Type 0} (gives : L → Call → L → Type 0) (s : NodeSt
 
 module _ {L : Type 0} (gives : L → Call → L → Type 0) where
   -- what comes back from the flusher, if something does, is marked, and the publisher is rung where more is decided
-  abbrev pub Marks : Option Kept → L → L → Type 0
+  abbrev pub Marks : Option flushed.Kept → L → L → Type 0
   Marks None from to = gives from (comes None) to
   Marks (Some synced) from to = (s : NodeState) × (more : Bool) × (back mid : L) × gives from (comes (Some (Ok synced))) back × MarksGroup gives s synced more back mid
       × Ran gives (if more then wakes_publisher ∷ [] else []) mid to
@@ -84,9 +85,28 @@ module _ {L : Type 0} (gives : L → Call → L → Type 0) where
   abbrev pub Submits : ℕ → Bool → Chase → L → Chase → L → Type 0
   Submits most has c from k to = (mid : L) × gives from (notices has) mid × SubmitsIf has most c mid k to
 
+-- a message that may be there comes: the node meets it
+pub record MeetsAny {L : Type 0} (gives : L → Call → L → Type 0) (sent : Option Sent) (s : NodeState) (c : Chase) (from : L) (t : NodeState) (k : Chase) (to : L) : Type 0 where
+  pub calls : Ran gives (option_map_or (λ m. meeting m s c) sent []) from to
+  pub after : t ≡ option_map_or (λ m. met m s c) sent s
+  pub chase : k ≡ option_map_or (λ m. met_chase m s c) sent c
+
+-- what is kept comes, each once: the last request, the estimate or proposal of the highest instance, the decision of the highest instance
+pub record HearsKept {L : Type 0} (gives : L → Call → L → Type 0) (kept : Kept) (s : NodeState) (c : Chase) (from : L) (k : Chase) (to : L) : Type 0 where
+  pub requested : NodeState
+  pub opened : NodeState
+  pub decided : NodeState
+  pub requested_chase : Chase
+  pub opened_chase : Chase
+  pub requested_at : L
+  pub opened_at : L
+  pub request : MeetsAny gives kept.request s c from requested requested_chase requested_at
+  pub opening : MeetsAny gives (sent_of kept.opening) requested requested_chase requested_at opened opened_chase opened_at
+  pub decision : MeetsAny gives (sent_of kept.decision) opened opened_chase opened_at decided k to
+
 -- a look: these parts, in this order. Whether there was something: whether there was in one of them
 pub record Looked {L : Type 0} (gives : L → Call → L → Type 0) (batch room : ℕ) (has : Bool) (c : Chase) (from : L) (k : Chase) (to : L) : Type 0 where
-  pub back : Option Kept
+  pub back : Option flushed.Kept
   pub submitted : Bool
   pub sent : Bool
   pub heard : Bool
@@ -116,3 +136,27 @@ module _ {L : Type 0} (gives : L → Call → L → Type 0) where
   -- the same, behind what is late
   abbrev pub Ticked : ℕ → Chase → Standstill → L → Chase → Standstill → L → Type 0
   Ticked most c b from k d to = (s : NodeState) × (mid : L) × gives from puts_late mid × TicksFrom gives s most c b mid k d to
+
+  -- behind a look that found nothing the thread rests, until a tick is due at most
+  abbrev pub RestsIf : Bool → Ticks → L → L → Type 0
+  RestsIf true t from to = gives from goes_on to
+  RestsIf false t from to = (now : ℕ) × (mid : L) × gives from (reads_clock now) mid × gives mid (rests (until_tick now t)) to
+
+  -- where a tick is due the node ticks by the rule; where none is due nothing is called
+  abbrev pub TicksIf : Bool → ℕ → Chase → Standstill → L → Chase → Standstill → L → Type 0
+  TicksIf true most c b from k d to = Ticked most c b from k d to
+  TicksIf false most c b from k d to = (to ≡ from) × (k ≡ c) × (d ≡ b)
+
+-- a turn: a look, and a rest if that found nothing; then the clock is read, and the node ticks if it is due, whatever the look found
+pub record Turned {L : Type 0} (gives : L → Call → L → Type 0) (batch room : ℕ) (c : Chase) (t : Ticks) (b : Standstill) (from : L) (k : Chase) (u : Ticks) (d : Standstill) (to : L) : Type 0 where
+  pub has : Bool
+  pub now : ℕ
+  pub looked_chase : Chase
+  pub looked_at : L
+  pub rested_at : L
+  pub timed_at : L
+  pub looks : Looked gives batch room has c from looked_chase looked_at
+  pub pauses : RestsIf gives has t looked_at rested_at
+  pub reads : gives rested_at (reads_clock now) timed_at
+  pub due : TicksIf gives (is_tick_due now t) room looked_chase b timed_at k d to
+  pub ticks : u ≡ ticks_after now t

@@ -5,6 +5,7 @@ ghost use Rattle.rr_types.specs.Groups.{Grouped};
 ghost use Rattle.rr_turn.specs.Asked.{Call, receives, hands_back, wakes_loop};
 ghost use Rattle.rr_turn.specs.Carries.{Carries};
 
+use crate::bells::Rung;
 use rr_disk::Disk;
 use rr_journal::{Journal, Synced};
 use rr_locked::{Turnstile, Unflushed, carry};
@@ -24,9 +25,10 @@ pub trait FlusherEnds {
     fn hand_back(&mut self, back: Result<Synced, Unflushed>)
         ensures { gives self.old (hands_back back) self.new };
 
-    /// Rings for the node's loop.
-    fn wake_loop(&mut self)
-        ensures { gives self.old wakes_loop self.new };
+    /// Rings for the loop of this node.
+    fn wake_loop(&mut self, node: NodeId) -> Rung
+        ensures call { gives self.old (wakes_loop node) self.new }
+        ensures rung { result.node ≡ node };
 }
 
 /// A turn of a flusher: a group that comes is flushed, what became of it goes back, and then the node's loop is rung. Answers whether one
@@ -38,14 +40,14 @@ pub fn flush_group<D: Disk, T: Turnstile, E: FlusherEnds>(
     journal: &mut Journal<D>,
     ends: &mut E,
 ) -> bool
-    ensures { (group : Option Grouped) × (result ≡ is_some group) × Carries D.tells D.areas D.calls D.faults E.gives group journal.old journal.new ends.old ends.new }
+    ensures { (group : Option Grouped) × (result ≡ is_some group) × Carries D.tells D.areas D.calls D.faults E.gives node group journal.old journal.new ends.old ends.new }
 {
     match ends.receive() {
         None => false,
         Some(group) => {
             let back = carry(turnstile, node, alloc, journal, group);
             ends.hand_back(back);
-            ends.wake_loop();
+            ends.wake_loop(node);
             true
         }
     }

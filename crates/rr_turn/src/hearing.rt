@@ -3,16 +3,16 @@
 ghost use Rattle.std.specs.Prelude.{◌≡◌, IfOk, OnOk};
 ghost use Rattle.rr_model.specs.NodeState.{NodeState};
 ghost use Rattle.rr_turn.specs.Asked.{Ran};
-ghost use Rattle.rr_turn.specs.Looks.{Hears, Looks};
+ghost use Rattle.rr_turn.specs.Looks.{Hears, Looks, MeetsAny, HearsKept};
 ghost use Rattle.rr_turn.specs.Turns.{met, met_chase, meeting};
 
 use crate::links::Links;
-use rr_locked::{Chase, Hearing, Locked, Sent};
+use rr_locked::{Chase, Hearing, Kept, Locked, Sent};
 use rr_types::Refusal;
 use std::sync::{Mutex, Wait};
 
-/// A message comes: the node hears it, or what its chase has it hear.
-pub fn meet<L: Links>(
+// A message comes: the node hears it, or what its chase has it hear.
+fn meet<L: Links>(
     locked: &mut Locked,
     chase: &mut Chase,
     links: &mut L,
@@ -86,4 +86,51 @@ pub fn hear_next<L: Links, R: Wait>(
         return Ok(false);
     }
     hear_in(rt, node, chase, links, most)
+}
+
+// A message that may be there comes.
+fn meet_any<L: Links>(
+    locked: &mut Locked,
+    chase: &mut Chase,
+    links: &mut L,
+    sent: Option<Sent>,
+) -> Result<(), Refusal>
+    ensures { OnOk result (MeetsAny L.gives sent locked.old chase.old links.old locked.new chase.new links.new) }
+{
+    match sent {
+        None => Ok(()),
+        Some(sent) => meet(locked, chase, links, &sent),
+    }
+}
+
+// What is kept comes, a message after the other.
+fn meet_kept<L: Links>(
+    locked: &mut Locked,
+    chase: &mut Chase,
+    links: &mut L,
+    kept: &Kept,
+) -> Result<(), Refusal>
+    ensures { OnOk result (HearsKept L.gives kept.now locked.old chase.old links.old chase.new links.new) }
+{
+    meet_any(locked, chase, links, kept.request())?;
+    meet_any(locked, chase, links, kept.opening())?;
+    meet_any(locked, chase, links, kept.decision())
+}
+
+/// At the start of a node what is kept of what came before comes first: the last request, then the estimate or proposal and the decision of
+/// the highest instances. It stays kept: the node may be stopped again before it has caught up.
+///
+/// # Errors
+/// Those of the node, and of a tape that has no place.
+pub fn hear_kept<L: Links, R: Wait>(
+    rt: &R,
+    node: &Mutex<Locked>,
+    chase: &mut Chase,
+    links: &mut L,
+    kept: &Kept,
+) -> Result<(), Refusal>
+    ensures { OnOk result ((s : NodeState) × HearsKept L.gives kept.now s chase.old links.old chase.new links.new) }
+{
+    let mut locked = node.lock(rt);
+    meet_kept(&mut *locked, chase, links, kept)
 }

@@ -5,15 +5,18 @@ ghost use Rattle.rr_types.specs.declared.input.Input.TheVariants as told;
 ghost use Rattle.rr_types.specs.declared.refusal.Refusal.TheVariants.{RoundsOut};
 ghost use Rattle.rr_model.specs.NodeStep.{node_step, refusal_of, next_leaving, message_left, group_taken, running_group, marked_running};
 ghost use Rattle.rr_locked.specs.Recorded.{IsNoMessage};
-ghost use Rattle.rr_turn.specs.Asked.{Call, tells, hears, marks, groups, leaves, puts, puts_late, rings, sees, takes, comes, hands, wakes_flusher, wakes_publisher, notices, counts, wants, refuses, passes};
+ghost use Rattle.std.specs.Duration.{as_nanos};
+ghost use Rattle.rr_turn.specs.Asked.{Call, reads_clock, rests, goes_on, tells, hears, marks, groups, leaves, puts, puts_late, rings, sees, takes, comes, hands, wakes_flusher, wakes_publisher, notices, counts, wants, refuses, passes};
 
+use crate::bells::{FlusherRung, PublisherRung, Rung};
 use rr_journal::Synced;
 use rr_locked::{Locked, Sent, Unflushed};
 use rr_types::{Command, Group, Input, NodeId, Refusal};
+use std::time::Duration;
 
 /// What a node's thread has of the node and of others: the events that it has the node make, which may be recorded; the ends of inboxes
-/// and hand-overs; bells; and the node's clients. A function over any such links can change them by these calls alone. So its clauses can
-/// name the calls that it made, in their order.
+/// and hand-overs; bells; the node's clients; the clock, and its own rest. A function over any such links can change them by these calls
+/// alone. So its clauses can name the calls that it made, in their order.
 ///
 /// An error of an event is that of the node, or that the event has no place on the tape; then it may have been made.
 pub trait Links {
@@ -58,8 +61,9 @@ pub trait Links {
         ensures { gives self.old puts_late self.new };
 
     /// Rings for a node's thread.
-    fn ring(&mut self, node: NodeId)
-        ensures { gives self.old (rings node) self.new };
+    fn ring(&mut self, node: NodeId) -> Rung
+        ensures call { gives self.old (rings node) self.new }
+        ensures rung { result.node ≡ node };
 
     /// Whether nothing waits in the own inbox. To ask is cheaper than to make room for a message.
     fn is_idle(&mut self) -> bool
@@ -78,11 +82,11 @@ pub trait Links {
         ensures { gives self.old (hands group) self.new };
 
     /// Rings for the flusher.
-    fn wake_flusher(&mut self)
+    fn wake_flusher(&mut self) -> FlusherRung
         ensures { gives self.old wakes_flusher self.new };
 
     /// Rings for the publisher.
-    fn wake_publisher(&mut self)
+    fn wake_publisher(&mut self) -> PublisherRung
         ensures { gives self.old wakes_publisher self.new };
 
     /// Whether a client wanted a submit since the last call.
@@ -104,4 +108,16 @@ pub trait Links {
     /// The node has answered so many submits.
     fn pass_submits(&mut self, count: usize)
         ensures { gives self.old (passes count) self.new };
+
+    /// What the clock tells. It is `Device` where it can't be read.
+    fn read_clock(&mut self) -> Result<Duration, Refusal>
+        ensures { IfOk result (λ now. gives self.old (reads_clock (as_nanos now)) self.new) };
+
+    /// Rests until someone rings for the thread, for so long at most; or returns at once, since what is waited for often comes soon.
+    fn rest(&mut self, most: Duration)
+        ensures { gives self.old (rests (as_nanos most)) self.new };
+
+    /// A look has found something to do. So some more looks come before the next rest.
+    fn go_on(&mut self)
+        ensures { gives self.old goes_on self.new };
 }

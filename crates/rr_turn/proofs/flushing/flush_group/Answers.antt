@@ -8,14 +8,16 @@ returns-in-None g c = (None, refl, (more (receives None) [] c.args.ends.now c.re
 pub returns-in-Some : goal.returns-in-Some
 returns-in-Some g c =
     let did = c.carry-back.ensures in
-    let back = c.carry-back.result in (
+    let back = c.carry-back.result in
+    let rung = wakes_loop c.args.node in
+    let end = c.wake_loop.new.self in (
       Some c.in-Some.group,
       refl,
       (
         back,
-        more (receives (Some c.in-Some.group)) (hands_back back ∷ wakes_loop ∷ []) c.args.ends.now c.receive.new.self c.wake_loop.new.self c.in-Some.ensures
-            (more (hands_back back) (wakes_loop ∷ []) c.receive.new.self c.hand_back.new.self c.wake_loop.new.self c.hand_back.ensures
-            (more wakes_loop [] c.hand_back.new.self c.wake_loop.new.self c.wake_loop.new.self c.wake_loop.ensures (still c.wake_loop.new.self))),
+        more (receives (Some c.in-Some.group)) (hands_back back ∷ rung ∷ []) c.args.ends.now c.receive.new.self end c.in-Some.ensures
+            (more (hands_back back) (rung ∷ []) c.receive.new.self c.hand_back.new.self end c.hand_back.ensures
+            (more rung [] c.hand_back.new.self end end c.wake_loop.ensures.call (still end))),
         record {
           synced = did.synced;
           calls = did.calls;

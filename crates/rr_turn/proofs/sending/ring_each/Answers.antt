@@ -18,7 +18,7 @@ loop-index-preserved g c =
             | in-Some+then-contains w ↦ (
                 let same = subst (λ o. IfSome o (λ p. p ≡ i)) w.in-Some.is c.at.ensures.value in
                 ring_one gives (7 - (i + 1)) i c.args.nodes c.loop-index.links w.ring.new.self end (ap (λ p. has_member c.args.nodes p) (sym same) ∙ sym w.contains.ensures ∙ w.if-contains.true)
-                (subst (λ p. gives c.loop-index.links (rings p) w.ring.new.self) same w.ring.ensures) (subst (λ l. Ran gives (rings_from (7 - (i + 1)) (i + 1) c.args.nodes) l end) w.links-is rest))
+                (subst (λ p. gives c.loop-index.links (rings p) w.ring.new.self) same w.ring.ensures.call) (subst (λ l. Ran gives (rings_from (7 - (i + 1)) (i + 1) c.args.nodes) l end) w.links-is rest))
             | in-Some+else-contains w ↦ (
                 let same = subst (λ o. IfSome o (λ p. p ≡ i)) w.in-Some.is c.at.ensures.value in
                 ring_none gives (7 - (i + 1)) i c.args.nodes c.loop-index.links end (ap (λ p. has_member c.args.nodes p) (sym same) ∙ sym w.contains.ensures ∙ w.if-contains.false) (subst (λ l. Ran gives (rings_from (7 - (i + 1)) (i + 1) c.args.nodes) l end) w.links-is rest))

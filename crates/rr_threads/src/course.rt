@@ -1,0 +1,49 @@
+//! How a flusher or a publisher goes on, rests and ends a run.
+
+ghost use Rattle.rr_turn.specs.Asked.{Call};
+
+use crate::rest::Rest;
+use crate::running::Running;
+use rr_turn::Course;
+use rr_types::{NodeId, Refusal};
+use std::sync::Wait;
+use std::thread::Parker;
+
+/// The rest of a thread of a node beside its loop, and the run. No contract knows what these hold: each call is one line, to be read.
+#[derive(Drop)]
+pub struct Aside<'x, R> {
+    rt: &'x R,
+    running: &'x Running,
+    node: NodeId,
+    bell: &'x Parker,
+    rest: Rest,
+}
+
+impl<'x, R> Aside<'x, R> {
+    /// The thread has found something to do, as its start is.
+    pub fn new(rt: &'x R, running: &'x Running, node: NodeId, bell: &'x Parker) -> Aside<'x, R> {
+        Aside {
+            rt,
+            running,
+            node,
+            bell,
+            rest: Rest::rung(),
+        }
+    }
+}
+
+impl<'x, R: Wait> Course for Aside<'x, R> {
+    ghost gives = { λ _ _ _. Unit {0} };
+
+    fn go_on(&mut self) {
+        self.rest.end();
+    }
+
+    fn rest(&mut self) {
+        self.rest.wait(self.rt, self.bell);
+    }
+
+    fn fail(&mut self, refusal: Refusal) {
+        self.running.fail(self.rt, self.node, refusal);
+    }
+}
