@@ -64,7 +64,6 @@ impl Bells {
     }
 
     /// The bell of a node's loop.
-
     pub fn of(&self, node: NodeId) -> &Bell
         ensures { result.now.node ≡ node }
     {
@@ -80,7 +79,6 @@ impl Bells {
 }
 
 // A bell for each node, the lowest first.
-
 fn row(alloc: Global) -> Result<Vec<Bell>, Refusal>
     ensures count { IfOk result (λ bells. vec_len bells ≡ 7) }
     ensures placed { IfOk result (λ bells. map (λ b. b.node) bells.items ≡ range_with_len 0 7) }
