@@ -7,8 +7,9 @@ Of each example and of N drawn schedules, some of them lively, with values of SV
 instance: each event of the cut has its element, in order, and the element's title begins with the line, the event and its lines of the
 report; a cut by instance has just the events that send or hear a message on it, and syncs and marks. In a long picture each event that
 sends or hears a request is folded, and with --requests none is. A message has an arrow where it is heard, a dashed one where it is heard
-again, and else a dot. A cut that ends before it begins has status 2. Each tape has the elements of its events too. The picture has the
-size of what it shows, and no two labels on one side of a line lie on each other."""
+again, and else a dot. A node that has opened is labelled with the facts and the decided commands of its line in the report. Beside a box
+stand the first three facts of a kind and the count of the others. A cut that ends before it begins has status 2. Each tape has the elements
+of its events too. The picture has the size of what it shows, and no two labels on one side of a line lie on each other."""
 import argparse
 import json
 import pathlib
@@ -78,6 +79,26 @@ class Hearings:
         return len(arrows_of(picture)), len(lost)
 
 
+def check_openings(picture, told, seed):
+    """Nodes that have opened are labelled as these lines of the report tell; tells how many are."""
+    lines = [line.split() for line in told if line.startswith("restart ")]
+    wanted = sorted(f"opened: facts {facts}, decided {decided}" for _, _, facts, decided, *_ in lines)
+    found = sorted(label.text for label in picture.iter(SVG + "text") if (label.text or "").startswith("opened: "))
+    assert found == wanted, (seed, found, wanted)
+    return sum(facts != decided for _, _, facts, decided, *_ in lines)
+
+
+def check_facts(rr):
+    """A node alone enters an instance at each of its first eight submits; a group of so many facts names three, and counts the others."""
+    for count in range(1, 9):
+        events = ["restart 0", *["dev 0"] * 9, *(f"submit 0 {client} 1 claim name-{client} x" for client in range(count)), "take 0", *["dev 0"] * 4, "mark 0"]
+        picture = tree.fromstring(asked(rr, ["draw"], "\n".join(["nodes 1", *events, ""]).encode()))
+        named = "".join(f" {instance}.1" for instance in range(min(count, 3)))
+        wanted = f"Enter{named}" + (f" +{count - 3}" if count > 3 else "")
+        found = [label.text for label in picture.iter(SVG + "text") if (label.text or "").startswith("Enter ")]
+        assert found == [wanted], (count, found, wanted)
+
+
 def arrows_of(picture):
     return [it for it in picture.iter() if it.get("marker-end")]
 
@@ -92,7 +113,7 @@ def cut_of(seed, count, nodes):
 
 
 def compare(rr, text, seed):
-    """Compares a picture, and tells how many elements and labels it has, and how many arrows and lost messages were compared."""
+    """Compares a picture, and tells how many elements and labels it has, and how many arrows, lost messages and openings were compared."""
     lines = text.splitlines()
     first, last, node, instance = cut_of(seed, len(lines), int(lines[0].split()[1]))
     words = ["draw", "--from", str(first), "--to", str(last)]
@@ -110,9 +131,11 @@ def compare(rr, text, seed):
     else:
         left = iter(wanted)
         assert all(any(title.startswith(words) for words in left) for title in found), seed
-    shapes = 0, 0
+    shapes, openings = (0, 0), 0
+    shown = {k for k in range(first, last + 1) if node is None or int(lines[k - 1].split()[1]) == node}
+    if instance is None:
+        openings = check_openings(picture, [line for k in shown for line in told[k]], seed)
     if last - first < 300:
-        shown = {k for k in range(first, last + 1) if node is None or int(lines[k - 1].split()[1]) == node}
         shapes = Hearings(rr, text).compare(picture, shown, instance, seed)
     across, down = (int(number) for number in picture.get("viewBox").split()[2:])
     assert (int(picture.get("width")), int(picture.get("height"))) == (across * 3 // 2, down * 3 // 2), seed
@@ -122,7 +145,7 @@ def compare(rr, text, seed):
             places.setdefault(label.get("x"), []).append(int(label.get("y")))
     for side in places.values():
         assert all(below - above >= HEIGHT for above, below in zip(side, side[1:])), seed
-    return len(found), sum(map(len, places.values())), *shapes
+    return len(found), sum(map(len, places.values())), *shapes, openings
 
 
 def compare_tape(rr, text):
@@ -158,13 +181,14 @@ def main():
     texts = [path.read_text() for path in sorted(TREE.glob("examples/*.schedule"))]
     texts += [drawn(given.rr, seed) for seed in range(given.count)]
     sums = [compare(given.rr, text, seed) for seed, text in enumerate(texts)]
-    elements, labels, arrows, lost = (sum(numbers) for numbers in zip(*sums))
+    elements, labels, arrows, lost, openings = (sum(numbers) for numbers in zip(*sums))
+    check_facts(given.rr)
     ended = subprocess.run([given.rr, "draw", "--from", "3", "--to", "2"], input=texts[0].encode(), capture_output=True)
     assert (ended.returncode, ended.stdout, ended.stderr) == (2, b"", b"rr: draw: the line of --from is behind that of --to\n"), ended
-    assert elements and labels and arrows and lost
+    assert elements and labels and arrows and lost and openings
     tapes = [path.read_text() for path in sorted(TREE.glob("examples/*.tape"))]
     elements += sum(compare_tape(given.rr, text) for text in tapes)
-    print(f"hostile/pictures.py: {len(texts) + len(tapes)} pictures, {elements} elements and {labels} labels, {arrows} arrows and {lost} lost messages, all as the texts are")
+    print(f"hostile/pictures.py: {len(texts) + len(tapes)} pictures, {elements} elements and {labels} labels, {arrows} arrows, {lost} lost messages and {openings} openings, all as the texts are")
 
 
 main()
