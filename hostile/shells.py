@@ -52,9 +52,9 @@ def need(holds, what):
 class Shell:
     """A shell that runs, asked line by line."""
 
-    def __init__(self, case, *words, env=None, out=subprocess.PIPE):
+    def __init__(self, case, *words, env=None, out=subprocess.PIPE, input=subprocess.PIPE):
         begun = [case.rr, "shell", "--dir", case.folder, *words]
-        self.child = subprocess.Popen(begun, stdin=subprocess.PIPE, stdout=out, stderr=subprocess.PIPE, bufsize=0, env=env or {}, cwd=case.room)
+        self.child = subprocess.Popen(begun, stdin=input, stdout=out, stderr=subprocess.PIPE, bufsize=0, env=env or {}, cwd=case.room)
         case.children.append(self.child)
         self.read = b""
 
@@ -94,7 +94,8 @@ class Shell:
     def end(self, limit=SOON, status=0, said=b""):
         """Its input ends, and so does it, in time."""
         try:
-            self.child.stdin.close()
+            if self.child.stdin:
+                self.child.stdin.close()
         except BrokenPipeError:
             pass
         try:
@@ -425,6 +426,24 @@ def failing_output_ends_it(case):
     need([line.split(" ")[3] for line in ran[1].splitlines()[1:]] == ["a", "c"], f"decided are {ran}")
 
 
+def failing_input_ends_a_watch(case):
+    """Where standard input fails during a watch, the watch ends too, and so does the shell, with 5."""
+    reader, writer = os.pipe()
+    shell = Shell(case, "--nodes", "2", "--client", "7", input=reader)
+    os.write(writer, b"claim a x\nwatch\n")
+    need((shell.hear(), shell.hear()) == ("claimed", "watching"), "a watch begins")
+    # From the next read on the shell doesn't wait at this pipe, which fails there: a line has begun and isn't ended.
+    fcntl.fcntl(reader, fcntl.F_SETFL, fcntl.fcntl(reader, fcntl.F_GETFL) | os.O_NONBLOCK)
+    os.write(writer, b"l")
+
+    def told(text):
+        need(text.startswith(b"rr: standard input: ") and text.count(b"\n") == 1, f"a failing input was told as {text!r}")
+
+    shell.end(status=5, said=told)
+    os.close(reader)
+    os.close(writer)
+
+
 def people_see_a_prompt(case):
     """On a terminal there is a prompt before each line, behind the words that were left out."""
     master, slave = pty.openpty()
@@ -459,6 +478,7 @@ BESIDE = (
     failing_device_is_told,
     numbers_are_never_given_again,
     failing_output_ends_it,
+    failing_input_ends_a_watch,
     people_see_a_prompt,
 )
 
