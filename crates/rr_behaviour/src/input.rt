@@ -50,35 +50,24 @@ fn take_in(
     }
 }
 
-/// All that is due is done: what the step has changed then, if the next fact has a number.
-#[tactic(auto, using(crate::proofs::InputSteps::settled))]
-fn finish(mut step: Step<'_>) -> Result<Box<Changes>, Refusal>
-    ensures ok { IfOk result (λ c. IsSettled step.entry.base step.entry.state c.value) }
-    ensures refused { IfErr result (λ e. (e ≡ Refusal.OutOfMemory) ⊎ ((e ≡ Refusal.TooLarge) × (2 ^ 64 ≤ next_number (settle step.entry.state)))) }
-{
-    settle(&mut step)?;
+fn finish(step: &mut Step<'_>) -> Result<(), Refusal> {
+    settle(step)?;
     if step.next_number() > u128::from(u64::MAX) {
         return Err(Refusal::TooLarge);
     }
-    Ok(step.into_changes())
+    step.keep();
+    Ok(())
 }
 
-/// What an input that isn't refused for what it is changes, in the room of other changes. `is_held`: whether it is a
-/// command whose request the decided prefix holds. It is `TooLarge` where a fact would have no number.
-#[tactic(auto, using(crate::proofs::InputSteps::is_step))]
 pub fn input_step(
-    state: &State,
-    room: Box<Changes>,
+    state: &mut State,
+    room: &mut Changes,
     alloc: Global,
     input: &Input,
     is_held: bool,
-) -> Result<Box<Changes>, Refusal>
-    requires allowed { input_refusal input.now state.now ≡ None }
-    requires held { is_held ≡ is_repeated input.now state.now }
-    ensures ok { IfOk result (λ c. IsStep input.now state.now c.value) }
-    ensures refused { IfErr result (λ e. (e ≡ Refusal.OutOfMemory) ⊎ (refusal_of input.now state.now ≡ Some e)) }
+) -> Result<(), Refusal>
 {
     let mut step = Step::new(room, state);
     take_in(&mut step, alloc, input, is_held)?;
-    finish(step)
+    finish(&mut step)
 }

@@ -24,18 +24,15 @@ pub fn started(
     ensures ok { IfOk result (λ s. s ≡ started nodes node promise.now next) }
 {
     let mut state = State::restored(alloc, nodes, node, promise, next)?;
-    let mut changes = restatement(&state, alloc)?;
-    state.absorb(alloc, &mut changes)?;
+    let mut changes = Changes::none(alloc, &state);
+    restatement(&mut state, &mut changes)?;
     Ok(state)
 }
 
-/// What the restatement of the open instances changes.
-fn restatement(state: &State, alloc: Global) -> Result<Box<Changes>, AllocError>
-    ensures ok { IfOk result (λ c. combined state.now c.value ≡ restate_all (open_instances state.now) state.now) }
-    ensures fits { IfOk result (λ c. IsFitting state.now c.value) }
-{
-    let mut step = Step::new(Box::new(alloc, Changes::none(alloc, state))?, state);
+fn restatement(state: &mut State, changes: &mut Changes) -> Result<(), AllocError> {
+    let mut step = Step::new(changes, state);
     let open = step.open_instances();
     restate_all(&mut step, open.as_slice())?;
-    Ok(step.into_changes())
+    step.keep();
+    Ok(())
 }

@@ -14,7 +14,7 @@ ghost use Rattle.rr_core.specs.Marks.{IsFreeOrBacked, mark_of};
 
 use crate::cleared::Cleared;
 use crate::group::{commands_after, is_running_group, mark_running, put_back, take_group};
-use crate::leaving::{Searched, is_any_answered, take_acknowledged, take_leaving};
+use crate::leaving::{Searched, take_acknowledged, take_leaving};
 use crate::mark::Mark;
 use crate::prefix::registry_of_prefix;
 use rr_behaviour::{input_refusal, input_step, started};
@@ -36,7 +36,7 @@ pub struct Core {
     // behind the marked facts
     mark: Mark,
     // what the last step changed, whose memory the next one takes; none where that step was refused
-    room: Option<Box<Changes>>,
+    room: Box<Changes>,
     registry: Registry,
     searched: Searched,
 }
@@ -82,9 +82,9 @@ impl Core {
         match registry_of_prefix(&state, alloc) {
             Ok(registry) => Ok(Core {
                 alloc,
+                room: Box::new(alloc, Changes::none(alloc, &state))?,
                 state: Box::new(alloc, state)?,
                 mark: Mark::opened(opened),
-                room: None,
                 registry,
                 searched: Searched {
                     count: 0,
@@ -93,34 +93,6 @@ impl Core {
             }),
             Err(refusal) => Err(refusal),
         }
-    }
-
-    /// The room of the last step, for another.
-    fn take_room(&mut self) -> Result<Box<Changes>, AllocError>
-        ensures same { self.new ≡ self.old }
-    {
-        match self.room.take() {
-            Some(room) => Ok(room),
-            None => {
-                let room = Box::new(self.alloc, Changes::none(self.alloc, &self.state))?;
-                Ok(room)
-            }
-        }
-    }
-
-    /// The core takes on what a step has changed.
-    fn commit(&mut self, changes: Box<Changes>) -> Result<(), AllocError>
-        requires { CanBeTaken self.old changes.value }
-        ensures ok { OnOk result (self.new ≡ combined self.old changes.value) }
-        ensures err { OnErr result (self.new ≡ self.old) }
-    {
-        if is_any_answered(&changes.waiting, &self.registry) {
-            self.searched.is_stale = true;
-        }
-        let mut changes = changes;
-        let absorbed = self.state.absorb(self.alloc, &mut changes);
-        self.room = Some(changes);
-        absorbed
     }
 
     /// Whether an input is a command whose request the decided prefix holds.
@@ -148,11 +120,10 @@ impl Core {
             return Err(refusal);
         }
         let is_held = self.is_repeated(input);
-        let room = self.take_room()?;
-        match input_step(&self.state, room, self.alloc, input, is_held) {
-            Ok(changes) => Ok(self.commit(changes)?),
-            Err(refusal) => Err(refusal),
+        if is_held {
+            self.searched.is_stale = true;
         }
+        input_step(&mut self.state, &mut self.room, self.alloc, input, is_held)
     }
 
     /// The oldest staged facts, at most 64, as the group that runs from then on. `None`: nothing is staged. It is

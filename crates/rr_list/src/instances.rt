@@ -116,6 +116,22 @@ impl Instances {
         self.rows.has_decided_above(instance)
     }
 
+    pub fn row_mut(&mut self, instance: Instance) -> Option<&mut Row> {
+        self.rows.row_mut(instance.number())
+    }
+
+    pub fn put(&mut self, row: Row) -> Result<(), AllocError> {
+        if self.rows.row(row.instance.number()).is_none() {
+            self.marks.make_place(row.instance)?;
+        }
+        let is_decision_new = row.is_decided();
+        self.rows.put(row)?;
+        if is_decision_new {
+            self.window = self.rows.slide(&self.window);
+        }
+        Ok(())
+    }
+
     /// Puts these rows, all of them or, after an error, none. No decision may change. The rows leave the vector, unless
     /// an error comes.
     pub fn absorb(&mut self, alloc: Global, rows: &mut Vec<Row>) -> Result<(), AllocError>

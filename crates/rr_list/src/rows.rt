@@ -296,6 +296,10 @@ impl Rows {
         }
     }
 
+    pub(crate) fn row_mut(&mut self, number: u32) -> Option<&mut Row> {
+        self.rows.get_mut(number)
+    }
+
     /// Whether some instance has decided a command with this request number.
     pub(crate) fn has_decided(&self, request: RequestNo) -> bool
         ensures { result ≡ list_any (has_decided request) self.now }
@@ -314,7 +318,7 @@ impl Rows {
     }
 
     /// Puts a row, or after an error none. No decision may change.
-    fn put(&mut self, row: Row) -> Result<(), AllocError>
+    pub(crate) fn put(&mut self, row: Row) -> Result<(), AllocError>
         requires { KeepsDecisions self.old (put_rows self.old (row ∷ [])) }
         ensures ok { OnOk result (self.new ≡ put_rows self.old (row ∷ [])) }
         ensures kept { OnErr result (self.new ≡ self.old) }

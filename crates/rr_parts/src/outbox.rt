@@ -99,6 +99,16 @@ impl Outbox {
         extend(&mut self.owed, more)
     }
 
+    pub fn push(&mut self, one: &Owed) -> Result<(), AllocError> {
+        made_of!(Body, Command, Message, Op);
+        self.owed.push_back(*one)?;
+        Ok(())
+    }
+
+    pub fn len(&self) -> usize {
+        self.owed.len()
+    }
+
     /// A law for the holder of an outbox: each message is the node's own, and free where no fact backs it. It does
     /// nothing when it runs.
     pub fn owes_own(&self)

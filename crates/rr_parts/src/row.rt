@@ -325,4 +325,29 @@ impl Row {
             }
         }
     }
+
+    pub fn tally_mut(&mut self) -> Option<&mut Tally> {
+        match &mut self.form {
+            Form::Short(_) => None,
+            Form::Full(parts) => match &parts.standing {
+                Standing::Decided(_) => None,
+                Standing::Open(_) => Some(&mut parts.tally),
+            },
+        }
+    }
+
+    pub fn take_on(&mut self, alloc: Global, number: u128, fact: &Fact) -> Option<(Standing, Backing, Option<Tally>)> {
+        match &mut self.form {
+            Form::Short(_) => None,
+            Form::Full(parts) => {
+                let before = (parts.standing, parts.backing, match fact {
+                    Fact::Enter(..) | Fact::Decide(..) => Some(std::mem::replace(&mut parts.tally, Tally::new(alloc))),
+                    Fact::Propose(..) | Fact::Adopt(..) => None,
+                });
+                parts.standing.take_on(fact);
+                parts.backing = parts.backing.after(number, fact);
+                Some(before)
+            }
+        }
+    }
 }

@@ -66,6 +66,12 @@ impl Unmarked {
         Ok(())
     }
 
+    pub fn push(&mut self, fact: &Fact) -> Result<(), AllocError> {
+        made_of!(Command, Op);
+        self.facts.push(*fact)?;
+        Ok(())
+    }
+
     /// Removes as many of the last staged facts as `facts` has. It needs no memory.
     pub fn take_back(&mut self, facts: &[Fact])
         requires { length facts.now ≤ length self.old.staged }

@@ -80,6 +80,19 @@ impl<V: Drop> Numbered<V> {
         }
     }
 
+    pub fn get_mut(&mut self, number: u32) -> Option<&mut V> {
+        if (number as usize) < self.low.len() {
+            return match &mut self.low[number as usize] {
+                Some(value) => Some(value),
+                None => None,
+            };
+        }
+        match self.high.get_mut(&number) {
+            Some(Some(value)) => Some(value),
+            _ => None,
+        }
+    }
+
     /// Whether a number has a place.
     fn has_place(&self, number: u32) -> bool
         ensures { result ≡ has_place nat_cmp self.now number }

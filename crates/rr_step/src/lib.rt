@@ -25,7 +25,6 @@
 //! ```
 #![tactic(auto)]
 
-mod absorb;
 mod copies;
 mod estimates;
 mod known;

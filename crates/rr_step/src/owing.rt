@@ -21,7 +21,7 @@ pub enum Reach {
 
 impl Reach {
     /// Whether a body of one node goes to another.
-    fn covers(self, from: NodeId, to: NodeId) -> bool
+    pub(crate) fn covers(self, from: NodeId, to: NodeId) -> bool
         ensures { result ≡ is_reached self from to }
     {
         match self {

@@ -1,439 +1,239 @@
-//! A step of a node: the node as it was before, borrowed, and what the step has changed.
-
-ghost use Rattle.std.specs.Prelude.{◌≡◌, ◌++◌, ◌∷◌, [], ◌^◌, ◌<◌, ◌&&◌, nat_lt, true, None, Some, IsTrue, option_map, MatchOption, IfOk, IfSome, OnOk};
-ghost use Rattle.std.specs.List.{list_any};
-ghost use Rattle.rr_types.specs.Registry.{has_request};
-ghost use Rattle.rr_types.specs.Facts.{instance_of, after_fact, decision_of};
-ghost use Rattle.rr_types.specs.Standings.{round_of, IsInRound};
-ghost use Rattle.rr_model.specs.NodeState.{next_number, standing_at, row_of, put_row, is_decided, first_undecided, open_instances, is_open, is_decided_request, everyone, others};
-ghost use Rattle.rr_model.specs.NodeDetector.{all_ticked, heard_beat, late_nodes, reduced};
-ghost use Rattle.rr_model.specs.NodeParts.{owe, pool_add, stage, rows_after, pool_after};
-ghost use Rattle.rr_model.specs.NodeDue.{due};
-ghost use Rattle.rr_model.specs.NodeStep.{wait_for, is_waiting, lowest_in_round};
-ghost use Rattle.rr_parts.specs.Owing.{is_free};
-ghost use Rattle.rr_step.specs.Places.{first_free, reached};
-ghost use Rattle.rr_step.specs.Steps.{stepped, combined, KeepsDecision, KeepsStanding, IsFitting, IsDecidedFact, IsSpent};
-
+//! PROTO
 use crate::known::is_among;
 use crate::owing::Reach;
 use crate::state::State;
 use crate::{estimates, over, owing};
 use rr_list::OpenInstances;
-use rr_parts::{Backing, Heartbeat, Owed, Row, Suspects};
+use rr_parts::{Backing, Heartbeat, Owed, Row, Suspects, Tally};
 use rr_types::{
-    Body, Command, Fact, Instance, NodeId, NodeSet, Nodes, OPEN_INSTANCES, Op, Refusal, RequestNo,
+    Body, Command, Fact, Instance, Message, NodeId, NodeSet, Nodes, OPEN_INSTANCES, Op, Refusal, RequestNo,
     Standing, made_of,
 };
 use std::alloc::{AllocError, Global};
 use std::marker::Model;
 
-/// What a step has changed: rows, the newest first; staged facts; the request numbers that decisions took out of
-/// the pool, and commands pooled; the suspects and the watches; requests that wait; messages owed; whether the pool is
-/// known to have no command for an instance that no fact names, and whether nothing is known to be due.
 #[derive(Debug, Drop)]
-pub struct Changes {
-    pub rows: Vec<Row>,
-    pub staged: Vec<Fact>,
-    pub taken: Vec<RequestNo>,
-    pub pooled: Vec<Command>,
-    pub suspects: Suspects,
-    pub heartbeat: Heartbeat,
-    pub waiting: Vec<RequestNo>,
-    pub owed: Vec<Owed>,
-    pub is_spent: bool,
-    pub is_settled: bool,
+pub enum Before {
+    None(Instance),
+    Tally(Instance, NodeSet, NodeSet, usize),
+    Stood(Instance, Standing, Backing, Option<Tally>),
 }
 
-impl Model for Changes {
-    ghost use Rattle.rr_step.specs.Steps.{Changed};
-
-    ghost Value = { Changed };
-
-    ghost view = { λ c. record {
-      rows = c.rows.items;
-      staged = c.staged.items;
-      taken = c.taken.items;
-      pooled = c.pooled.items;
-      suspects = c.suspects;
-      watches = c.heartbeat;
-      waiting = c.waiting.items;
-      owed = c.owed.items;
-      spent = c.is_spent;
-      settled = c.is_settled;
-    } };
+#[derive(Debug, Drop)]
+pub struct Changes {
+    pub rows: Vec<Before>,
+    pub staged: usize,
+    pub taken: Vec<RequestNo>,
+    pub pooled: usize,
+    pub suspects: Suspects,
+    pub heartbeat: Heartbeat,
+    pub waiting: usize,
+    pub owed: usize,
 }
 
 impl Changes {
-    /// Those of a step that has changed nothing of this node.
-    #[tactic(auto, using(crate::proofs::SpentLemmas::none_spent, crate::proofs::SettledLemmas::none_settled))]
-    pub fn none(alloc: Global, base: &State) -> Changes
-        ensures value { combined base.now result ≡ base.now }
-        ensures fits { IsFitting base.now result }
-    {
+    pub fn none(alloc: Global, base: &State) -> Changes {
         Changes {
             rows: Vec::new(alloc),
-            staged: Vec::new(alloc),
+            staged: 0,
             taken: Vec::new(alloc),
-            pooled: Vec::new(alloc),
+            pooled: 0,
             suspects: base.suspects,
             heartbeat: base.heartbeat,
-            waiting: Vec::new(alloc),
-            owed: Vec::new(alloc),
-            is_spent: base.is_spent,
-            is_settled: base.is_settled,
+            waiting: 0,
+            owed: 0,
         }
     }
 
-    /// Nothing is due with them.
-    fn settle(&mut self, is_spent: bool)
-        ensures { self.new ≡ record self.old { spent = is_spent; settled = true } }
-    {
-        self.is_spent = is_spent;
-        self.is_settled = true;
-    }
-
-    /// The same in the room of other changes.
-    #[tactic(auto, using(crate::proofs::SpentLemmas::none_spent, crate::proofs::SettledLemmas::none_settled))]
-    fn clear(&mut self, base: &State)
-        ensures value { combined base.now self.new ≡ base.now }
-        ensures fits { IsFitting base.now self.new }
-    {
+    fn clear(&mut self, base: &State) {
         self.rows.clear();
-        self.staged.clear();
         self.taken.clear();
-        self.pooled.clear();
         self.suspects = base.suspects;
         self.heartbeat = base.heartbeat;
-        self.waiting.clear();
-        self.owed.clear();
-        self.is_spent = base.is_spent;
-        self.is_settled = base.is_settled;
+        self.staged = base.unmarked.count();
+        self.owed = base.owed.len();
+        self.pooled = 0;
+        self.waiting = 0;
     }
 }
 
-/// A node within a step. Where the step is refused it is dropped, and the node is as it was.
 #[derive(Drop)]
 pub struct Step<'a> {
-    base: &'a State,
-    changes: Box<Changes>,
-}
-
-impl<'a> Model for Step<'a> {
-    ghost use Rattle.rr_step.specs.Steps.{Stepped, combined, IsFitting};
-
-    ghost Value = { Stepped };
-
-    ghost view = { λ s. record { base = s.base.now; state = combined s.base.now s.changes.value } };
-
-    ghost invariant = { λ s. IsFitting s.base.now s.changes.value };
+    state: &'a mut State,
+    changes: &'a mut Changes,
 }
 
 impl<'a> Step<'a> {
-    /// A step that has changed nothing yet, in the room of other changes.
-    pub fn new(room: Box<Changes>, base: &'a State) -> Step<'a>
-        ensures { result ≡ record { base = base.now; state = base.now } }
-    {
-        let mut changes = room;
-        changes.clear(base);
-        Step { base, changes }
+    pub fn new(changes: &'a mut Changes, state: &'a mut State) -> Step<'a> {
+        changes.clear(state);
+        Step { state, changes }
     }
 
-    /// What the step has changed.
-    pub fn into_changes(self) -> Box<Changes>
-        ensures value { combined self.entry.base result.value ≡ self.entry.state }
-        ensures fits { IsFitting self.entry.base result.value }
-    {
-        let Step { base: _, changes } = self;
-        changes
+    pub fn keep(&mut self) {
+        if self.changes.taken.len() > 0 {
+            for request in &self.changes.taken {
+                self.state.pool.remove(*request);
+            }
+        }
     }
 
-    /// How many nodes there are.
-    pub fn nodes(&self) -> Nodes
-        ensures { result ≡ self.now.state.nodes }
-    {
-        let base = self.base;
-        base.nodes
+    pub fn nodes(&self) -> Nodes {
+        self.state.nodes
     }
-
-    /// Which node this is.
-    pub fn node(&self) -> NodeId
-        ensures { result ≡ self.now.state.node }
-    {
-        let base = self.base;
-        base.node
+    pub fn node(&self) -> NodeId {
+        self.state.node
     }
-
-    /// The nodes that the completeness reduction suspects.
-    pub fn suspects(&self) -> NodeSet
-        ensures { result ≡ self.now.state.suspects }
-    {
-        self.changes.suspects.output()
+    pub fn suspects(&self) -> NodeSet {
+        self.state.suspects.output()
     }
-
-    /// The nodes that the heartbeat detector suspects; a node disregards itself.
-    #[tactic(auto, using(rr_parts::proofs::BitLemmas::late_beside))]
-    pub fn late_nodes(&self) -> NodeSet
-        ensures { result ≡ late_nodes self.now.state.node self.now.state.watches }
-    {
-        let base = self.base;
-        self.changes.heartbeat.suspects().without(base.node)
+    pub fn late_nodes(&self) -> NodeSet {
+        self.state.heartbeat.suspects().without(self.state.node)
     }
-
-    /// The number of the next fact.
-    #[tactic(auto, using(crate::proofs::PoolLemmas::count_both))]
-    pub fn next_number(&self) -> u128
-        ensures value { result ≡ next_number self.now.state }
-        ensures room { result < 2 ^ 67 }
-    {
-        let base = self.base;
-        base.next_number() + self.changes.staged.len() as u128
+    pub fn next_number(&self) -> u128 {
+        self.state.next_number()
     }
-
-    /// The row of an instance.
     #[inline(always)]
-    pub fn row(&self, instance: Instance) -> Option<&Row>
-        ensures { MatchOption result (row_of self.now.state.rows instance ≡ None) (λ r. row_of self.now.state.rows instance ≡ Some r.now) }
-    {
-        over::row_over(self.base, &self.changes.rows, instance)
+    pub fn row(&self, instance: Instance) -> Option<&Row> {
+        self.state.row(instance)
     }
-
-    /// Where an instance stands by all facts.
     #[inline(always)]
-    pub fn standing(&self, instance: Instance) -> Option<Standing>
-        ensures { result ≡ standing_at self.now.state instance }
-    {
+    pub fn standing(&self, instance: Instance) -> Option<Standing> {
         match self.row(instance) {
             Some(row) => Some(row.standing()),
             None => None,
         }
     }
-
-    /// The numbers that back the messages of an instance that a fact names.
-    pub fn backing(&self, instance: Instance) -> Option<Backing>
-        ensures { result ≡ option_map (λ r. r.backing) (row_of self.now.state.rows instance) }
-    {
+    pub fn backing(&self, instance: Instance) -> Option<Backing> {
         match self.row(instance) {
             Some(row) => Some(row.backing()),
             None => None,
         }
     }
-
-    /// The lowest undecided instance; 1,048,576 where all are decided.
-    pub fn first_undecided(&self) -> u32
-        ensures { result ≡ first_undecided self.now.state }
-    {
-        over::undecided_over(self.base, &self.changes.rows, 0)
+    pub fn first_undecided(&self) -> u32 {
+        self.state.undecided_from(0)
     }
-
-    /// The open instances, ascending. It takes no memory.
-    #[tactic(auto, unfolding(rr_model::specs::NodeState::open_instances))]
-    pub fn open_instances(&self) -> OpenInstances
-        ensures { result ≡ open_instances self.now.state }
-    {
-        over::open_over(self.base, &self.changes.rows)
+    pub fn open_instances(&self) -> OpenInstances {
+        self.state.window()
     }
-
-    /// Whether an instance is open.
-    #[tactic(auto, unfolding(rr_model::specs::NodeState::open_instances))]
-    pub fn is_open(&self, instance: Instance) -> bool
-        ensures { result ≡ is_open self.now.state instance }
-    {
-        over::is_lowest_over(self.base, &self.changes.rows, OPEN_INSTANCES, instance)
-    }
-
-    /// The lowest open instance that has a round. It takes no memory.
-    #[tactic(auto, unfolding(rr_model::specs::NodeState::open_instances))]
-    pub fn lowest_in_round(&self) -> Option<Instance>
-        ensures value { result ≡ lowest_in_round self.now.state }
-        ensures round { IfSome result (λ i. 0 < round_of (standing_at self.now.state i)) }
-    {
-        over::lowest_in_round_over(self.base, &self.changes.rows, OPEN_INSTANCES)
-    }
-
-    /// Whether some instance has decided a command with this request number.
-    pub fn is_decided_request(&self, request: RequestNo) -> bool
-        ensures { result ≡ is_decided_request self.now.state request }
-    {
-        over::is_decided_request_over(self.base, &self.changes.rows, request)
-    }
-
-    /// Whether a later instance than `first` has decided.
-    pub fn has_decided_above(&self, first: Instance) -> bool
-        ensures { result ≡ list_any (λ r. nat_lt first r.instance && is_decided r) self.now.state.rows }
-    {
-        over::has_decided_above_over(self.base, &self.changes.rows, first)
-    }
-
-    /// Whether a request waits for its acknowledgement.
-    #[tactic(auto, using(crate::proofs::PoolLemmas::waiting_in_both))]
-    pub fn is_waiting(&self, request: RequestNo) -> bool
-        ensures { result ≡ is_waiting self.now.state request }
-    {
-        let base = self.base;
-        base.is_waiting(request) || is_among(&self.changes.waiting, request)
-    }
-
-    /// Whether the pool has a command with this request number.
-    #[tactic(auto, using(crate::proofs::PoolLemmas::has_in_both))]
-    fn has_pooled(&self, request: RequestNo) -> bool
-        ensures { result ≡ has_request self.now.state.pool request }
-    {
-        let base = self.base;
-        let has_come = base.has_pooled(request)
-            || owing::has_request(&self.changes.pooled, request);
-        has_come && !is_among(&self.changes.taken, request)
-    }
-
-    /// The first pool command that is no estimate of one of these instances but one.
-    #[tactic(auto, using(crate::proofs::PoolLemmas::free_in_base, crate::proofs::PoolLemmas::free_in_pooled))]
-    pub fn first_free(&self, instances: &[Instance], instance: Instance) -> Option<Command>
-        ensures { result ≡ first_free self.now.state.rows instances.now instance self.now.state.pool }
-    {
-        let base = self.base;
-        let taken = self.changes.taken.as_slice();
-        match estimates::first_free_in(self, instances, instance, taken, base.pool.iter()) {
-            Some(command) => Some(command),
-            None => estimates::first_free_of(
-                self,
-                instances,
-                instance,
-                taken,
-                &self.changes.pooled,
-            ),
+    pub fn is_open(&self, instance: Instance) -> bool {
+        for one in self.state.instances.open() {
+            if *one == instance {
+                return true;
+            }
         }
+        false
     }
-
-    /// The request waits for its acknowledgement, once.
-    #[tactic(auto, using(std::proofs::Common::append_assoc, crate::proofs::PoolLemmas::request_new), unfolding(rr_model::specs::NodeStep::wait_for))]
-    pub fn wait_for(&mut self, request: RequestNo) -> Result<(), AllocError>
-        ensures ok { OnOk result (self.new ≡ stepped (wait_for request) self.old) }
-    {
+    pub fn lowest_in_round(&self) -> Option<Instance> {
+        self.state.lowest_in_round()
+    }
+    pub fn is_decided_request(&self, request: RequestNo) -> bool {
+        self.state.is_decided_request(request)
+    }
+    pub fn has_decided_above(&self, first: Instance) -> bool {
+        self.state.has_decided_above(first)
+    }
+    pub fn is_waiting(&self, request: RequestNo) -> bool {
+        self.state.is_waiting(request)
+    }
+    fn has_pooled(&self, request: RequestNo) -> bool {
+        self.state.has_pooled(request) && !is_among(&self.changes.taken, request)
+    }
+    pub fn first_free(&self, instances: &[Instance], instance: Instance) -> Option<Command> {
+        let taken = self.changes.taken.as_slice();
+        estimates::first_free_in(self, instances, instance, taken, self.state.pool.iter())
+    }
+    pub fn wait_for(&mut self, request: RequestNo) -> Result<(), AllocError> {
         if !self.is_waiting(request) {
-            self.changes.waiting.push(request)?;
+            self.state.waiting.push(request)?;
+            self.changes.waiting += 1;
         }
         Ok(())
     }
-
-    /// The node owes a message to one node; where no fact backs it, it is free.
-    #[tactic(auto, using(std::proofs::Common::append_assoc), unfolding(rr_model::specs::NodeParts::owe))]
-    pub fn owe(&mut self, body: Body, backing: Option<u128>, to: NodeId) -> Result<(), AllocError>
-        requires { backing ≡ None → IsTrue (is_free body) }
-        ensures ok { OnOk result (self.new ≡ stepped (owe body backing (to ∷ [])) self.old) }
-    {
-        let base = self.base;
-        let from = base.node;
-        let owed = &mut self.changes.owed;
-        owing::push_to(owed, from, to, &body, backing)
+    pub fn owe(&mut self, body: Body, backing: Option<u128>, to: NodeId) -> Result<(), AllocError> {
+        let message = Message { from: self.state.node, to, body };
+        self.state.owed.push(&Owed { message, backing })
     }
-
-    // The node owes a message to the nodes that it reaches, ascending; where no fact backs it, it is free.
-    #[tactic(auto, using(std::proofs::Common::append_assoc), unfolding(rr_model::specs::NodeParts::owe))]
-    fn owe_reached(
-        &mut self,
-        reach: Reach,
-        body: &Body,
-        backing: Option<u128>,
-    ) -> Result<(), AllocError>
-        requires { backing ≡ None → IsTrue (is_free body.now) }
-        ensures ok { OnOk result (self.new ≡ stepped (λ s. owe body.now backing (reached reach s.node s.nodes) s) self.old) }
-    {
-        let base = self.base;
-        let owed = &mut self.changes.owed;
-        owing::push_to_reached(owed, base.nodes, base.node, reach, body, backing)
+    fn owe_reached(&mut self, reach: Reach, body: &Body, backing: Option<u128>) -> Result<(), AllocError> {
+        let from = self.state.node;
+        let nodes = self.state.nodes;
+        for index in 0..nodes.count() {
+            match NodeId::new(nodes, index) {
+                Some(to) => {
+                    if reach.covers(from, to) {
+                        let body = *body;
+                        let message = Message { from, to, body };
+                        self.state.owed.push(&Owed { message, backing })?;
+                    }
+                }
+                None => unreachable!(),
+            }
+        }
+        Ok(())
     }
-
-    /// The node owes a message to every node, itself included, ascending; where no fact backs it, it is free.
-    pub fn owe_everyone(&mut self, body: Body, backing: Option<u128>) -> Result<(), AllocError>
-        requires { backing ≡ None → IsTrue (is_free body) }
-        ensures ok { OnOk result (self.new ≡ stepped (λ s. owe body backing (everyone s) s) self.old) }
-    {
+    pub fn owe_everyone(&mut self, body: Body, backing: Option<u128>) -> Result<(), AllocError> {
         self.owe_reached(Reach::Everyone, &body, backing)
     }
-
-    /// The node owes a message to each other node, ascending; where no fact backs it, it is free.
-    #[tactic(auto, unfolding(crate::specs::Places::nodes_beside))]
-    pub fn owe_others(&mut self, body: Body, backing: Option<u128>) -> Result<(), AllocError>
-        requires { backing ≡ None → IsTrue (is_free body) }
-        ensures ok { OnOk result (self.new ≡ stepped (λ s. owe body backing (others s) s) self.old) }
-    {
+    pub fn owe_others(&mut self, body: Body, backing: Option<u128>) -> Result<(), AllocError> {
         self.owe_reached(Reach::Others, &body, backing)
     }
-
-    /// Adds a command to the pool, unless its request number is there or decided.
-    #[tactic(auto, using(crate::proofs::PoolLemmas::command_new, crate::proofs::PoolLemmas::pooled_last), unfolding(rr_model::specs::NodeParts::pool_add))]
-    pub fn pool_add(&mut self, command: &Command) -> Result<(), AllocError>
-        ensures ok { OnOk result (self.new ≡ stepped (pool_add command.now) self.old) }
-    {
+    pub fn pool_add(&mut self, command: &Command) -> Result<(), AllocError> {
         made_of!(Op);
         if self.has_pooled(command.request) || self.is_decided_request(command.request) {
             return Ok(());
         }
-        self.changes.pooled.push(*command)?;
-        self.changes.is_spent = false;
-        self.changes.is_settled = false;
+        self.state.pool.push(command)?;
+        self.changes.pooled += 1;
+        self.state.is_spent = false;
+        self.state.is_settled = false;
         Ok(())
     }
-
-    /// This is the row of its instance from now on; a decision there stays.
-    #[tactic(auto, using(crate::proofs::OverLemmas::decided_stay))]
-    fn put_row(&mut self, row: Row) -> Result<(), AllocError>
-        requires { KeepsDecision self.old.state.rows row }
-        ensures ok { OnOk result (self.new ≡ stepped (λ s. record s { rows = put_row row s.rows }) self.old) }
-    {
-        self.changes.is_spent = false;
-        self.changes.is_settled = false;
-        over::put_newest(&mut self.changes.rows, row)
+    fn put_row(&mut self, row: Row) -> Result<(), AllocError> {
+        self.state.is_spent = false;
+        self.state.is_settled = false;
+        self.changes.rows.push(Before::None(row.instance))?;
+        self.state.instances.put(row)
     }
-
-    /// The same of a row that stands where its instance stood. What the pool has for the others stays.
-    #[tactic(auto, using(crate::proofs::OverLemmas::decided_stay, crate::proofs::OverLemmas::tally_keeps, crate::proofs::SpentLemmas::tally_spent))]
-    pub(crate) fn put_tally(&mut self, row: Row) -> Result<(), AllocError>
-        requires { option_map (λ r. r.standing) (row_of self.old.state.rows row.instance) ≡ Some row.standing }
-        ensures ok { OnOk result (self.new ≡ stepped (λ s. record s { rows = put_row row s.rows }) self.old) }
-    {
-        let base = self.base;
-        // That the rows ascend is told by this call alone.
-        let _row = base.row(row.instance);
-        if row.is_decided() {
-            self.changes.is_spent = false;
+    pub(crate) fn tallied(&mut self, instance: Instance) -> Result<Option<&mut Tally>, AllocError> {
+        self.state.is_settled = false;
+        match self.state.instances.row_mut(instance) {
+            Some(row) => match row.tally_mut() {
+                Some(tally) => {
+                    let before = Before::Tally(instance, tally.acks, tally.nacks, tally.estimates.len());
+                    self.changes.rows.push(before)?;
+                    Ok(Some(tally))
+                }
+                None => Ok(None),
+            },
+            None => Ok(None),
         }
-        self.changes.is_settled = false;
-        over::put_newest(&mut self.changes.rows, row)
     }
-
-    /// Whether the pool is known to have no command for an instance that no fact names.
-    pub fn is_spent(&self) -> bool
-        ensures { IsTrue result → IsSpent self.now.state.rows self.now.state.pool }
-    {
-        self.changes.is_spent
+    pub fn is_spent(&self) -> bool {
+        self.state.is_spent
     }
-
-    /// Whether nothing is known to be due.
-    #[tactic(auto, using(crate::proofs::SettledLemmas::none_due))]
-    pub fn is_settled(&self) -> bool
-        ensures { IsTrue result → due self.now.state ≡ None }
-    {
-        self.changes.is_settled
+    pub fn is_settled(&self) -> bool {
+        self.state.is_settled
     }
-
-    /// Nothing is due. `is_spent`: whether the pool is known to have no command for an instance that no fact names.
-    pub fn note_settled(&mut self, is_spent: bool)
-        requires due { due self.old.state ≡ None }
-        requires spent { IsTrue is_spent → IsSpent self.old.state.rows self.old.state.pool }
-        ensures { self.new ≡ self.old }
-    {
-        self.changes.settle(is_spent);
+    pub fn note_settled(&mut self, is_spent: bool) {
+        self.state.is_spent = is_spent;
+        self.state.is_settled = true;
     }
-
-    /// The row of a fact's instance is changed by it; a decision there stays.
-    #[tactic(auto, using(crate::proofs::OverLemmas::after_keeps, crate::proofs::OverLemmas::first_keeps, crate::proofs::OverLemmas::rows_put, crate::proofs::OverLemmas::rows_begin, crate::proofs::OverLemmas::rows_stay))]
-    fn put_row_after(&mut self, fact: &Fact) -> Result<(), AllocError>
-        requires round { IsInRound (standing_at self.old.state (instance_of fact.now)) fact.now }
-        requires keeps { KeepsStanding (standing_at self.old.state (instance_of fact.now)) (after_fact (standing_at self.old.state (instance_of fact.now)) fact.now) }
-        ensures ok { OnOk result (self.new ≡ stepped (λ s. record s { rows = rows_after (next_number s) fact.now s.rows }) self.old) }
-    {
+    fn put_row_after(&mut self, fact: &Fact) -> Result<(), AllocError> {
         let number = self.next_number();
         let alloc = *self.changes.rows.allocator();
+        match fact {
+            Fact::Decide(..) => (),
+            _ => {
+                self.changes.rows.reserve(1)?;
+                if let Some(row) = self.state.instances.row_mut(fact.instance()) {
+                    self.state.is_spent = false;
+                    self.state.is_settled = false;
+                    if let Some((standing, backing, tally)) = row.take_on(alloc, number, fact) {
+                        self.changes.rows.push_reserved(Before::Stood(fact.instance(), standing, backing, tally));
+                        return Ok(());
+                    }
+                }
+            }
+        }
         match self.row(fact.instance()) {
             Some(row) => {
                 let row = row.after(alloc, number, fact)?;
@@ -445,74 +245,35 @@ impl<'a> Step<'a> {
             },
         }
     }
-
-    /// The request number of a decision is taken out of the pool.
-    #[tactic(auto, using(crate::proofs::PoolLemmas::without_one, crate::proofs::PoolLemmas::taken_more))]
-    fn take_decided(&mut self, fact: &Fact) -> Result<(), AllocError>
-        requires { IsDecidedFact fact.now self.old.state.rows }
-        ensures ok { OnOk result (self.new ≡ stepped (λ s. record s { pool = pool_after fact.now s.pool }) self.old) }
-    {
+    fn take_decided(&mut self, fact: &Fact) -> Result<(), AllocError> {
         match fact {
             Fact::Decide(_, command) => {
                 self.changes.taken.push(command.request)?;
-                self.changes.is_spent = false;
-                self.changes.is_settled = false;
+                self.state.is_spent = false;
+                self.state.is_settled = false;
                 Ok(())
             }
             Fact::Enter(..) | Fact::Propose(..) | Fact::Adopt(..) => Ok(()),
         }
     }
-
-    /// A fact is staged last.
-    #[tactic(auto, using(std::proofs::Common::append_assoc))]
-    fn push_staged(&mut self, fact: &Fact) -> Result<(), AllocError>
-        ensures ok { OnOk result (self.new ≡ stepped (λ s. record s { staged = s.staged ++ fact.now ∷ [] }) self.old) }
-    {
-        made_of!(Command, Op);
-        self.changes.staged.push(*fact)?;
-        Ok(())
-    }
-
-    /// Stages a fact about an instance; a decision there stays.
-    #[tactic(auto, using(crate::proofs::OverLemmas::decision_decides), unfolding(rr_model::specs::NodeParts::stage))]
-    pub fn stage(&mut self, fact: Fact) -> Result<(), AllocError>
-        requires round { IsInRound (standing_at self.old.state (instance_of fact)) fact }
-        requires keeps { KeepsStanding (standing_at self.old.state (instance_of fact)) (after_fact (standing_at self.old.state (instance_of fact)) fact) }
-        ensures ok { OnOk result (self.new ≡ stepped (stage fact) self.old) }
-    {
+    pub fn stage(&mut self, fact: Fact) -> Result<(), AllocError> {
         let fact = &fact;
         self.put_row_after(fact)?;
         self.take_decided(fact)?;
-        self.push_staged(fact)
+        self.state.unmarked.push(fact)
     }
-
-    /// These are the suspects from now on.
-    pub fn suspect(&mut self, suspects: NodeSet)
-        ensures { self.new ≡ stepped (λ s. record s { suspects = suspects }) self.old }
-    {
-        self.changes.suspects = Suspects::new(suspects);
-        self.changes.is_settled = false;
+    pub fn suspect(&mut self, suspects: NodeSet) {
+        self.state.suspects = Suspects::new(suspects);
+        self.state.is_settled = false;
     }
-
-    /// A node has told its suspects: these too, but not the node, which spoke.
-    pub fn reduce(&mut self, node: NodeId, set: NodeSet)
-        ensures { self.new ≡ stepped (λ s. record s { suspects = reduced s.suspects node set }) self.old }
-    {
-        self.changes.suspects.receive(node, set);
-        self.changes.is_settled = false;
+    pub fn reduce(&mut self, node: NodeId, set: NodeSet) {
+        self.state.suspects.receive(node, set);
+        self.state.is_settled = false;
     }
-
-    /// A tick for the heartbeat detector.
-    pub fn tick_watches(&mut self)
-        ensures { self.new ≡ stepped (λ s. record s { watches = all_ticked s.watches }) self.old }
-    {
-        self.changes.heartbeat.tick();
+    pub fn tick_watches(&mut self) {
+        self.state.heartbeat.tick();
     }
-
-    /// A beat of a node; one that isn't there changes nothing.
-    pub fn beat(&mut self, node: NodeId)
-        ensures { self.new ≡ stepped (λ s. record s { watches = heard_beat node s.watches }) self.old }
-    {
-        self.changes.heartbeat.heard(node);
+    pub fn beat(&mut self, node: NodeId) {
+        self.state.heartbeat.heard(node);
     }
 }
