@@ -21,7 +21,6 @@ PLACED = {
 }
 # An item of a file: the line with which it begins, of its doc comment or its own. It ends with the first line that is a brace alone.
 ITEMS = {
-    "rr_cli": ("worked_rows/src/old_folders/folder.rt", "/// Runs `rr` by the words of a line."),
     "rr_run": ("rr/src/main.rt", "fn main("),
     "rr_turn": ("rr_threads/src/node_loop.rt", "/// A turn of the loop:"),
 }

@@ -4,6 +4,7 @@
 
 mod account;
 mod behaviour;
+mod cli;
 mod cluster;
 mod disk;
 mod draw;

@@ -4,7 +4,7 @@ ghost use Rattle.std.specs.Prelude.{◌≡◌, ◌<◌, IfSome};
 
 use crate::printing::{print, print_begin, print_text};
 use crate::{
-    account, behaviour, cluster, disk, draw, explain, files, finish, folders, frame, image,
+    account, behaviour, cli, cluster, disk, draw, explain, files, finish, folders, frame, image,
     journal, json, list, lively, locked, node, page, parts, places, registry, script, shell, step,
     stream, sweep, talk, tape, text, types, verify, window, wire, words,
 };
@@ -258,6 +258,8 @@ pub fn show_program(rt: &HostRuntime) {
     );
     let heard = talk::next_line(alloc, &mut Counted::new(&b"look printer\nquit\n"[..]));
     print_text(rt, "rr_talk", heard.unwrap_or(None));
+    let (status, out) = cli::outcome_of(rt, &["rr", "sim"], b"nodes 1\n");
+    print_text(rt, "rr_cli", if status == 0 { Some(out) } else { None });
     if let Ok(nodes) = Nodes::new(3) {
         print(
             rt,

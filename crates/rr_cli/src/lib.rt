@@ -6,27 +6,26 @@
 //!
 //! # Example
 //!
-//! This is in `crates/worked_rows/src/old_folders/folder.rt`:
+//! This is in `crates/first_pages/src/cli.rt`:
 //!
 //! ```rust
-//! /// Runs `rr` by the words of a line.
-//! fn run(rt: &HostRuntime, line: &str) -> Result<Outcome, AllocError> {
-//!     let words: Vec<&str> = line.split(' ').collect(rt.alloc())?;
+//! use rr_cli::execute;
+//! use rr_files::HostFiles;
+//! use rr_stream::Counted;
+//!
+//! /// What `rr` prints by these words with these bytes on standard input, and the status that it ends with.
+//! pub fn outcome_of(rt: &HostRuntime, words: &[&str], input: &[u8]) -> (u8, Vec<u8>) {
 //!     let mut out = Counted::new(Vec::new(rt.alloc()));
 //!     let mut err = Vec::new(rt.alloc());
 //!     let status = execute(
 //!         rt,
-//!         words.as_slice(),
+//!         words,
 //!         &mut HostFiles::new(rt),
-//!         &mut Counted::new(&b""[..]),
+//!         &mut Counted::new(input),
 //!         &mut out,
 //!         &mut err,
 //!     );
-//!     Ok(Outcome {
-//!         status,
-//!         out: out.into_inner(),
-//!         err,
-//!     })
+//!     (status, out.into_inner())
 //! }
 //! ```
 #![tactic(auto)]

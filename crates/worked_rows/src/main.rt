@@ -7,22 +7,25 @@
 //! tape, and after `examine` what the library finds. At the word `full-list` it says what a node answers when all its instances are
 //! decided.
 //!
-//! After the words `folders`, `every-cut` and `drawn-cuts` stand rows, each of a folder that version 1 wrote. After `folders` it
-//! makes the folder, and prints what `rr show` and then `rr migrate` print of it, and whether its files are left as they are to
-//! be. After the other two, the node of a row opens its disk in memory, and crashes before the first device call and after
-//! each. By the next opening it has to know the same as by one without a crash. Every pair of cuts is tried, or drawn ones.
+//! After the words `every-cut` and `drawn-cuts` stand rows, each of a folder that version 1 wrote. The node of a row opens its disk
+//! in memory, and crashes before the first device call and after each. By the next opening it has to know the same as by one without
+//! a crash. Every pair of cuts is tried, or drawn ones.
+//!
+//! A name that ends in `.rows` is that of a file of rows, each of which is a run of `rr`. It prints which of them come otherwise, and
+//! how many a file has. RULES.md says what the lines of a row mean.
 #![tactic(auto)]
 
 mod areas;
 mod audits;
 mod full_list;
 mod old_folders;
+mod rows;
 mod sweep;
 mod texts;
 
 use crate::old_folders::crash::Cuts;
-use crate::old_folders::folder::try_folder;
 use crate::old_folders::sweep::try_crashes;
+use crate::rows::run_rows;
 use crate::texts::{Work, work_on};
 use std::{env, io};
 
@@ -30,7 +33,6 @@ use std::{env, io};
 #[derive(Clone, Copy)]
 enum Task {
     Texts(Work),
-    Folders,
     Crashes(Cuts),
 }
 
@@ -43,7 +45,6 @@ fn task_of(word: &str) -> Option<Task> {
         "restarts" => Some(Task::Texts(Work::Restarts)),
         "audit" => Some(Task::Texts(Work::Audit)),
         "examine" => Some(Task::Texts(Work::Examine)),
-        "folders" => Some(Task::Folders),
         "every-cut" => Some(Task::Crashes(Cuts::Every)),
         "drawn-cuts" => Some(Task::Crashes(Cuts::Drawn)),
         _ => None,
@@ -54,7 +55,6 @@ fn task_of(word: &str) -> Option<Task> {
 fn do_task(rt: &HostRuntime, task: Task, word: &str) -> io::Result<()> {
     match task {
         Task::Texts(work) => work_on(rt, work, word),
-        Task::Folders => try_folder(rt, word),
         Task::Crashes(cuts) => try_crashes(rt, word, cuts),
     }
 }
@@ -64,6 +64,8 @@ fn main(rt: HostRuntime) -> io::Result<()> {
     for word in env::args(&rt)?.skip(1) {
         if word.as_str() == "full-list" {
             full_list::full_list(&rt)?;
+        } else if word.as_str().ends_with(".rows") {
+            run_rows(&rt, word.as_str())?;
         } else if let Some(named) = task_of(word.as_str()) {
             task = named;
         } else {

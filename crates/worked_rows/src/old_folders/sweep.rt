@@ -2,7 +2,6 @@
 
 use super::course::Course;
 use super::crash::{Crash, Cuts};
-use super::folder::{folder_of, read_file};
 use super::known::Known;
 use super::seat::Seat;
 use rand_core::SeedableRng;
@@ -10,8 +9,8 @@ use rand_pcg::Pcg32;
 use rr_disk::MemDisk;
 use rr_types::Refusal;
 use std::alloc::{AllocError, Global};
-use std::io;
 use std::io::Write;
+use std::{fs, io};
 
 /// The most device calls of an opening.
 const CALLS: u32 = 9;
@@ -137,6 +136,17 @@ impl Sweep {
         rt.stdout().write_all(self.wanted.restart())?;
         println!(rt; "")
     }
+}
+
+/// The folder of a row.
+fn folder_of(row: &str) -> &str {
+    row.split(' ').next().unwrap_or(row)
+}
+
+/// The bytes of the file whose path is `folder` and then `end`.
+fn read_file(rt: &HostRuntime, folder: &str, end: &str) -> io::Result<Vec<u8>> {
+    let path = format!(in rt.alloc(); "{folder}{end}")?;
+    fs::read(rt, path.as_str())
 }
 
 /// The crashes of this node in an opening of a disk with these areas.

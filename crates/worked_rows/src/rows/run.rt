@@ -1,8 +1,8 @@
 //! A row's files, its input and its run.
 
-use crate::lines::{line_of, parts_of, plain};
+use super::lines::{line_of, parts_of, plain};
 use rr_files::HostFiles;
-use rr_run::Lockable;
+use rr_run::{Lockable, execute};
 use rr_stream::Counted;
 use std::alloc::{AllocError, Global};
 use std::fs::OpenFile;
@@ -13,14 +13,6 @@ use std::sync::Wait;
 use std::thread::Threads;
 use std::time::Clock;
 use std::{fs, io};
-
-/// The library whose call is made.
-#[derive(Clone, Copy, Debug)]
-pub enum Library {
-    Cli,
-    View,
-    Run,
-}
 
 /// What a run gave: its exit status, standard output and standard error.
 #[derive(Drop)]
@@ -84,25 +76,24 @@ fn text(bytes: Vec<u8>) -> io::Result<String> {
     String::from_utf8(bytes).map_err(|_| io::Error::from(ErrorKind::InvalidData))
 }
 
-/// What the words of a row give with this input.
+/// What `rr` gives by these words with this input.
 fn run<
     F: Read + Write + Seek + FileExt + OpenFile + Drop + Send + Lockable,
     R: Files<File = F> + AllocGlobal + Threads + Wait + Clock + Sync,
->(rt: &R, library: Library, words: &[String], input: &str) -> io::Result<Outcome>
+>(rt: &R, words: &[String], input: &str) -> io::Result<Outcome>
 where
     R::Dir: Send,
 {
-    let mut files = HostFiles::new(rt);
-    let mut input = Counted::new(input.as_bytes());
     let mut out = Counted::new(Vec::new(rt.alloc()));
     let mut err = Vec::new(rt.alloc());
-    let status = match library {
-        Library::Cli => rr_cli::execute(rt, words, &mut files, &mut input, &mut out, &mut err),
-        Library::View => rr_cli::execute_with_views(
-            rt, words, &mut files, &mut input, &mut out, &mut err,
-        ),
-        Library::Run => rr_run::execute(rt, words, &mut files, &mut input, &mut out, &mut err),
-    };
+    let status = execute(
+        rt,
+        words,
+        &mut HostFiles::new(rt),
+        &mut Counted::new(input.as_bytes()),
+        &mut out,
+        &mut err,
+    );
     Ok(Outcome {
         status,
         out: text(out.into_inner())?,
@@ -114,7 +105,7 @@ where
 pub fn outcome_of<
     F: Read + Write + Seek + FileExt + OpenFile + Drop + Send + Lockable,
     R: Files<File = F> + AllocGlobal + Threads + Wait + Clock + Sync,
->(rt: &R, library: Library, row: &str) -> io::Result<Outcome>
+>(rt: &R, row: &str) -> io::Result<Outcome>
 where
     R::Dir: Send,
 {
@@ -123,5 +114,5 @@ where
     for word in line_of(row, "rr").split(' ') {
         words.push(plain(rt.alloc(), word)?)?;
     }
-    run(rt, library, words.as_slice(), input.as_str())
+    run(rt, words.as_slice(), input.as_str())
 }
