@@ -1,14 +1,17 @@
 #!/usr/bin/env python3
-"""The example on the first page of each library, which is a program's text that the gate builds.
+"""The example on the first page of each library, which is a text that the gate builds and runs.
 
     docs/first_pages.py --check    the status is 1 where the page of a library has no example, or another than its source
     docs/first_pages.py --write    writes the examples into the pages; the libraries are to be proved anew then
 
-The first page of `rr_x` is the comment at the head of `crates/rr_x/src/lib.rt`. Its example is the file `crates/first_pages/src/x.rt`
-without the comment at its head, or what ITEMS names of another crate. It stands at the page's end, under the heading `Example`. The
-pages of PLACED are written by hand: their program has to stand in the file that is named there."""
+The first page of `rr_x` is the comment at the head of `crates/rr_x/src/lib.rt`. Its example is the file `x.rt` of
+`crates/worked_rows/src/first_pages` without the comment at its head, or what ITEMS names of another file. It stands at the page's
+end, under the heading `Example`. The pages of PLACED are written by hand: their program has to stand in the file that is named
+there. `worked_rows` runs the examples: what it is to print has to have a line that names the library. Only the theorems of
+`rr_model` print nothing."""
 import difflib
 import pathlib
+import re
 import sys
 
 CRATES = pathlib.Path(__file__).resolve().parent.parent / "crates"
@@ -25,6 +28,7 @@ ITEMS = {
     "rr_turn": ("rr_threads/src/node_loop.rt", "/// A turn of the loop:"),
 }
 HEADING = "//! # Example"
+SILENT = {"rr_model"}
 
 
 def libraries():
@@ -47,7 +51,7 @@ def example_of(library):
     if library in ITEMS:
         source, begin = ITEMS[library]
         return source, item_of(source, begin)
-    source = f"first_pages/src/{library.removeprefix('rr_')}.rt"
+    source = f"worked_rows/src/first_pages/{library.removeprefix('rr_')}.rt"
     if not (CRATES / source).exists():
         sys.exit(f"docs/first_pages.py: {library} has no example: crates/{source} is missing")
     lines = [line for line in (CRATES / source).read_text().splitlines() if not line.startswith("//!")]
@@ -74,6 +78,12 @@ def with_example(library, text):
     return "\n".join([*page, *told, *shown, "//! ```", *rest]) + "\n"
 
 
+def printed():
+    """The libraries that lines of what `worked_rows` prints name before a colon."""
+    lines = (CRATES / "worked_rows" / "stdout").read_text().splitlines()
+    return {name for line in lines for name in re.findall(r"\brr_\w+", line.partition(":")[0])}
+
+
 def placed_fault(library, text):
     """What is wrong with a page that is written by hand, or nothing."""
     page = [line.removeprefix("//!").removeprefix(" ") for line in split_page(text)[0]]
@@ -87,7 +97,7 @@ def placed_fault(library, text):
 def main():
     if sys.argv[1:] not in (["--check"], ["--write"]):
         sys.exit(__doc__)
-    names, faults, written = libraries(), [], 0
+    names, faults, written, told = libraries(), [], 0, printed() | SILENT
     for library in names:
         root = CRATES / library / "src" / "lib.rt"
         text = root.read_text()
@@ -95,6 +105,8 @@ def main():
             fault = placed_fault(library, text)
             faults += [f"{library}: {fault}"] if fault else []
             continue
+        if library not in ITEMS and library not in told:
+            faults.append(f"{library}: crates/worked_rows/stdout has nothing of its example")
         wanted = with_example(library, text)
         if wanted == text:
             continue

@@ -5,7 +5,7 @@
 //!
 //! # Example
 //!
-//! This is in `crates/first_pages/src/account.rt`:
+//! This is in `crates/worked_rows/src/first_pages/account.rt`:
 //!
 //! ```rust
 //! use rr_account::{account_on, explanation};

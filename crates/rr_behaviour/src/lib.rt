@@ -4,7 +4,7 @@
 //!
 //! # Example
 //!
-//! This is in `crates/first_pages/src/behaviour.rt`:
+//! This is in `crates/worked_rows/src/first_pages/behaviour.rt`:
 //!
 //! ```rust
 //! use rr_behaviour::started;

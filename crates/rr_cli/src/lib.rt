@@ -6,7 +6,7 @@
 //!
 //! # Example
 //!
-//! This is in `crates/first_pages/src/cli.rt`:
+//! This is in `crates/worked_rows/src/first_pages/cli.rt`:
 //!
 //! ```rust
 //! use rr_cli::execute;

@@ -5,7 +5,7 @@
 //!
 //! # Example
 //!
-//! This is in `crates/first_pages/src/cluster.rt`:
+//! This is in `crates/worked_rows/src/first_pages/cluster.rt`:
 //!
 //! ```rust
 //! use rr_cluster::Cluster;

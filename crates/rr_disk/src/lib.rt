@@ -7,7 +7,7 @@
 //!
 //! # Example
 //!
-//! This is in `crates/first_pages/src/disk.rt`:
+//! This is in `crates/worked_rows/src/first_pages/disk.rt`:
 //!
 //! ```rust
 //! use rr_disk::{Area, Disk};

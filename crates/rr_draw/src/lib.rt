@@ -3,7 +3,7 @@
 //!
 //! # Example
 //!
-//! This is in `crates/first_pages/src/draw.rt`:
+//! This is in `crates/worked_rows/src/first_pages/draw.rt`:
 //!
 //! ```rust
 //! use rr_draw::{Cut, picture_of};

@@ -3,7 +3,7 @@
 //!
 //! # Example
 //!
-//! This is in `crates/first_pages/src/explain.rt`:
+//! This is in `crates/worked_rows/src/first_pages/explain.rt`:
 //!
 //! ```rust
 //! use rr_explain::print_schedule_fault;

@@ -3,7 +3,7 @@
 //!
 //! # Example
 //!
-//! This is in `crates/first_pages/src/files.rt`:
+//! This is in `crates/worked_rows/src/first_pages/files.rt`:
 //!
 //! ```rust
 //! use rr_files::FileReader;

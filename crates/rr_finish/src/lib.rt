@@ -3,7 +3,7 @@
 //!
 //! # Example
 //!
-//! This is in `crates/first_pages/src/finish.rt`:
+//! This is in `crates/worked_rows/src/first_pages/finish.rt`:
 //!
 //! ```rust
 //! use rr_finish::finish_run;

@@ -4,7 +4,7 @@
 //!
 //! # Example
 //!
-//! This is in `crates/first_pages/src/folders.rt`:
+//! This is in `crates/worked_rows/src/first_pages/folders.rt`:
 //!
 //! ```rust
 //! use rr_folders::{Closed, survey_folders};

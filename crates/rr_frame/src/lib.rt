@@ -8,7 +8,7 @@
 //!
 //! # Example
 //!
-//! This is in `crates/first_pages/src/frame.rt`:
+//! This is in `crates/worked_rows/src/first_pages/frame.rt`:
 //!
 //! ```rust
 //! use rr_frame::encode_fact;

@@ -4,7 +4,7 @@
 //!
 //! # Example
 //!
-//! This is in `crates/first_pages/src/image.rt`:
+//! This is in `crates/worked_rows/src/first_pages/image.rt`:
 //!
 //! ```rust
 //! use rr_image::inspect_bytes;

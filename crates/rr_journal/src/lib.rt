@@ -15,7 +15,7 @@
 //!
 //! # Example
 //!
-//! This is in `crates/first_pages/src/journal.rt`:
+//! This is in `crates/worked_rows/src/first_pages/journal.rt`:
 //!
 //! ```rust
 //! use rr_disk::Disk;

@@ -3,7 +3,7 @@
 //!
 //! # Example
 //!
-//! This is in `crates/first_pages/src/json.rt`:
+//! This is in `crates/worked_rows/src/first_pages/json.rt`:
 //!
 //! ```rust
 //! use rr_json::{push_end, push_number_member, push_open, push_text_member};

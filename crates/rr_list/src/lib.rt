@@ -4,7 +4,7 @@
 //!
 //! # Example
 //!
-//! This is in `crates/first_pages/src/list.rt`:
+//! This is in `crates/worked_rows/src/first_pages/list.rt`:
 //!
 //! ```rust
 //! use rr_list::Waiting;

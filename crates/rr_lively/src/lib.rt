@@ -4,7 +4,7 @@
 //!
 //! # Example
 //!
-//! This is in `crates/first_pages/src/lively.rt`:
+//! This is in `crates/worked_rows/src/first_pages/lively.rt`:
 //!
 //! ```rust
 //! use rr_lively::{DEFAULT_FAULTS, Recipe, lively_schedule};

@@ -5,7 +5,7 @@
 //!
 //! # Example
 //!
-//! This is in `crates/first_pages/src/locked.rt`:
+//! This is in `crates/worked_rows/src/first_pages/locked.rt`:
 //!
 //! ```rust
 //! use rr_locked::Locked;

@@ -4,7 +4,7 @@
 //!
 //! # Example
 //!
-//! This is in `crates/first_pages/src/model.rt`:
+//! This is in `crates/worked_rows/src/first_pages/model.rt`:
 //!
 //! ```rust
 //! ghost use Rattle.std.specs.Prelude.{List};

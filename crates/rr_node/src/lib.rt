@@ -3,7 +3,7 @@
 //!
 //! # Example
 //!
-//! This is in `crates/first_pages/src/node.rt`:
+//! This is in `crates/worked_rows/src/first_pages/node.rt`:
 //!
 //! ```rust
 //! use rr_node::{Node, NodeEvent, Stance};

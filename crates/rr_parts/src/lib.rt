@@ -13,7 +13,7 @@
 //!
 //! # Example
 //!
-//! This is in `crates/first_pages/src/parts.rt`:
+//! This is in `crates/worked_rows/src/first_pages/parts.rt`:
 //!
 //! ```rust
 //! use rr_parts::Heartbeat;

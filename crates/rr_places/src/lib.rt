@@ -3,7 +3,7 @@
 //!
 //! # Example
 //!
-//! This is in `crates/first_pages/src/places.rt`:
+//! This is in `crates/worked_rows/src/first_pages/places.rt`:
 //!
 //! ```rust
 //! use rr_places::Numbered;

@@ -4,7 +4,7 @@
 //!
 //! # Example
 //!
-//! This is in `crates/first_pages/src/registry.rt`:
+//! This is in `crates/worked_rows/src/first_pages/registry.rt`:
 //!
 //! ```rust
 //! use rr_registry::Registry;

@@ -3,7 +3,7 @@
 //!
 //! # Example
 //!
-//! This is in `crates/first_pages/src/script.rt`:
+//! This is in `crates/worked_rows/src/first_pages/script.rt`:
 //!
 //! ```rust
 //! use rr_script::Script;

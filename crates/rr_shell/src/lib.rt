@@ -2,7 +2,7 @@
 //!
 //! # Example
 //!
-//! This is in `crates/first_pages/src/shell.rt`:
+//! This is in `crates/worked_rows/src/first_pages/shell.rt`:
 //!
 //! ```rust
 //! use rr_shell::{LineFault, ShellLine, read_shell_line};

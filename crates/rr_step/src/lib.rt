@@ -4,7 +4,7 @@
 //!
 //! # Example
 //!
-//! This is in `crates/first_pages/src/step.rt`:
+//! This is in `crates/worked_rows/src/first_pages/step.rt`:
 //!
 //! ```rust
 //! use rr_step::{Changes, State, Step};

@@ -3,7 +3,7 @@
 //!
 //! # Example
 //!
-//! This is in `crates/first_pages/src/stream.rt`:
+//! This is in `crates/worked_rows/src/first_pages/stream.rt`:
 //!
 //! ```rust
 //! use rr_stream::{Sink, Source, print_all, read_all};

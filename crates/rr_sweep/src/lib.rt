@@ -6,7 +6,7 @@
 //!
 //! # Example
 //!
-//! This is in `crates/first_pages/src/sweep.rt`:
+//! This is in `crates/worked_rows/src/first_pages/sweep.rt`:
 //!
 //! ```rust
 //! use rr_sweep::sweep;

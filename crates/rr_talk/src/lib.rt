@@ -3,7 +3,7 @@
 //!
 //! # Example
 //!
-//! This is in `crates/first_pages/src/talk.rt`:
+//! This is in `crates/worked_rows/src/first_pages/talk.rt`:
 //!
 //! ```rust
 //! use rr_stream::Source;

@@ -3,7 +3,7 @@
 //!
 //! # Example
 //!
-//! This is in `crates/first_pages/src/tape.rt`:
+//! This is in `crates/worked_rows/src/first_pages/tape.rt`:
 //!
 //! ```rust
 //! use rr_tape::Tape;

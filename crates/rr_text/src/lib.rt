@@ -3,7 +3,7 @@
 //!
 //! # Example
 //!
-//! This is in `crates/first_pages/src/text.rt`:
+//! This is in `crates/worked_rows/src/first_pages/text.rt`:
 //!
 //! ```rust
 //! use rr_text::Schedule;

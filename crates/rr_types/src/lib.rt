@@ -6,7 +6,7 @@
 //!
 //! # Example
 //!
-//! This is in `crates/first_pages/src/types.rt`:
+//! This is in `crates/worked_rows/src/first_pages/types.rt`:
 //!
 //! ```rust
 //! use rr_types::{Command, Name, Op, Refusal, RequestNo, Value};

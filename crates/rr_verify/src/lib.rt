@@ -3,7 +3,7 @@
 //!
 //! # Example
 //!
-//! This is in `crates/first_pages/src/verify.rt`:
+//! This is in `crates/worked_rows/src/first_pages/verify.rt`:
 //!
 //! ```rust
 //! use rr_verify::{Form, Reading, verdict_text, verify};

@@ -10,7 +10,7 @@
 //!
 //! # Example
 //!
-//! This is in `crates/first_pages/src/window.rt`:
+//! This is in `crates/worked_rows/src/first_pages/window.rt`:
 //!
 //! ```rust
 //! use rr_types::{Command, Name, Refusal};

@@ -5,7 +5,7 @@
 //!
 //! # Example
 //!
-//! This is in `crates/first_pages/src/wire.rt`:
+//! This is in `crates/worked_rows/src/first_pages/wire.rt`:
 //!
 //! ```rust
 //! use rr_types::{Body, Command, Message, Nodes, Op, Refusal, made_of};

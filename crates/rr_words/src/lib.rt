@@ -3,7 +3,7 @@
 //!
 //! # Example
 //!
-//! This is in `crates/first_pages/src/words.rt`:
+//! This is in `crates/worked_rows/src/first_pages/words.rt`:
 //!
 //! ```rust
 //! use rr_words::{Task, read_words};

@@ -12,17 +12,20 @@
 //! a crash. Every pair of cuts is tried, or drawn ones.
 //!
 //! A name that ends in `.rows` is that of a file of rows, each of which is a run of `rr`. It prints which of them come otherwise, and
-//! how many a file has. RULES.md says what the lines of a row mean.
+//! how many a file has. RULES.md says what the lines of a row mean. At the word `first-pages` it prints what comes of the examples on
+//! the first pages of the libraries.
 #![tactic(auto)]
 
 mod areas;
 mod audits;
+mod first_pages;
 mod full_list;
 mod old_folders;
 mod rows;
 mod sweep;
 mod texts;
 
+use crate::first_pages::{show_examples, show_shared};
 use crate::old_folders::crash::Cuts;
 use crate::old_folders::sweep::try_crashes;
 use crate::rows::run_rows;
@@ -64,6 +67,9 @@ fn main(rt: HostRuntime) -> io::Result<()> {
     for word in env::args(&rt)?.skip(1) {
         if word.as_str() == "full-list" {
             full_list::full_list(&rt)?;
+        } else if word.as_str() == "first-pages" {
+            show_examples(&rt);
+            show_shared(&rt);
         } else if word.as_str().ends_with(".rows") {
             run_rows(&rt, word.as_str())?;
         } else if let Some(named) = task_of(word.as_str()) {

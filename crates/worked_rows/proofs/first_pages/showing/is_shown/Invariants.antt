@@ -1,4 +1,4 @@
-use Rattle.first_pages.proofs.showing.is_shown.Given as goal
+use Rattle.worked_rows.proofs.first_pages.showing.is_shown.Given as goal
 
 -- the list that was just made
 abbrev pub ghosts-shows_claim : goal.ghosts-shows_claim

@@ -2,8 +2,8 @@
 
 ghost use Rattle.std.specs.Prelude.{◌≡◌, ◌<◌, IfSome};
 
-use crate::printing::{print, print_begin, print_text};
-use crate::{
+use super::printing::{print, print_begin, print_text};
+use super::{
     account, behaviour, cli, cluster, disk, draw, explain, files, finish, folders, frame, image,
     journal, json, list, lively, locked, node, page, parts, places, registry, script, shell, step,
     stream, sweep, talk, tape, text, types, verify, window, wire, words,

@@ -3,7 +3,7 @@
 use std::fmt::Debug;
 
 /// Prints what came of the example of a library, or that it was refused.
-pub fn print<T: Debug + Drop>(rt: &HostRuntime, library: &str, found: Option<T>) {
+pub fn print<T: Debug + Drop>(rt: &impl Print, library: &str, found: Option<T>) {
     let _ = match found {
         Some(found) => println!(rt; "{library}: {found:?}"),
         None => println!(rt; "{library}: refused"),
