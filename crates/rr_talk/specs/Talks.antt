@@ -124,7 +124,8 @@ abbrev pub line_of : Vec ℕ Global → List ℕ
 line_of line = strip_last 13 line.items
 
 -- what is said to what was heard where node p is asked, the node that is asked then, why that isn't what the line asks for,
--- if it isn't, and what is watched until the next line: to a line what it asks for, or why it asks for nothing; nothing to an empty line; and that a line is too long
+-- if it isn't, and what is watched until the next line: to a line what it asks for, or why it asks for nothing; nothing to an empty
+-- line; and that a line is too long
 pub data Exchange (Did : Deed → Type 0) (json : Bool) (n p : ℕ) : Heard → ℕ → List ℕ → Option Trouble → Option Watched → Type 0 where
   empty : (line : Vec ℕ Global) → line_of line ≡ [] → Exchange Did json n p (heard.Line line) p [] None None
   granted : (line : Vec ℕ Global) (asks : ShellLine) (q : ℕ) (said : List ℕ) (t : Option Trouble) (w : Option Watched)
@@ -148,7 +149,8 @@ IsSaidToRequest Did json n p asks (Some said) = Grants Did json n p asks said.no
 -- what is said to a sync at node p: what came of it there, of what may come of one
 abbrev pub IsSaidToSync : (Deed → Type 0) → Bool → ℕ → (ℕ → Outcome → Type 0) → Said → Type 0
 IsSaidToSync Did json p May said =
-    (o : Outcome) × May p o × Did (catches_up p o) × (is_outcome_at p o ≡ true) × (said.node ≡ p) × (said.text.items ≡ sync_said json o) × (said.trouble ≡ sync_trouble o) × (said.watched ≡ None)
+    (o : Outcome) × May p o × Did (catches_up p o) × (is_outcome_at p o ≡ true)
+    × (said.node ≡ p) × (said.text.items ≡ sync_said json o) × (said.trouble ≡ sync_trouble o) × (said.watched ≡ None)
 
 -- what is said to what was heard where node p is asked; none where the talk is over
 abbrev pub IsSaidTo : (Deed → Type 0) → Bool → ℕ → ℕ → Heard → Option Said → Type 0
