@@ -21,7 +21,8 @@ pub record MarksGroup {L : Type 0} (gives : L → Call → L → Type 0) (s : No
 
 -- messages that may leave, at most so many, are put into their receivers' inboxes, and the chase knows of them. Whether there is one, and
 -- who is woken by them
-pub record Puts {L : Type 0} (gives : L → Call → L → Type 0) (s t : NodeState) (most : ℕ) (has : Bool) (woken : ℕ) (c : Chase) (from : L) (k : Chase) (to : L) : Type 0 where
+pub record Puts {L : Type 0} (gives : L → Call → L → Type 0) (s t : NodeState) (most : ℕ) (has : Bool) (woken : ℕ)
+    (c : Chase) (from : L) (k : Chase) (to : L) : Type 0 where
   pub sents : List Sent
   pub oldest : map (λ m. m.message) sents ≡ leaving most s
   pub calls : Ran gives (putting most sents s) from to
@@ -31,7 +32,8 @@ pub record Puts {L : Type 0} (gives : L → Call → L → Type 0) (s t : NodeSt
   pub wakes : woken ≡ woken_with 0 sents
 
 -- what waits in the inbox, at most so many messages, is heard, each once. Whether there is one
-pub record Hears {L : Type 0} (gives : L → Call → L → Type 0) (s t : NodeState) (most : ℕ) (has : Bool) (c : Chase) (from : L) (k : Chase) (to : L) : Type 0 where
+pub record Hears {L : Type 0} (gives : L → Call → L → Type 0) (s t : NodeState) (most : ℕ) (has : Bool)
+    (c : Chase) (from : L) (k : Chase) (to : L) : Type 0 where
   pub sents : List Sent
   pub few : length sents ≤ most
   pub calls : Ran gives (taking most sents s c) from to
@@ -51,12 +53,14 @@ module _ {L : Type 0} (gives : L → Call → L → Type 0) where
   -- what comes back from the flusher, if something does, is marked, and the publisher is rung where more is decided
   abbrev pub Marks : Option Kept → L → L → Type 0
   Marks None from to = gives from (comes None) to
-  Marks (Some synced) from to = (s : NodeState) × (more : Bool) × (back mid : L) × gives from (comes (Some (Ok synced))) back × MarksGroup gives s synced more back mid
+  Marks (Some synced) from to =
+      (s : NodeState) × (more : Bool) × (back mid : L) × gives from (comes (Some (Ok synced))) back × MarksGroup gives s synced more back mid
       × Ran gives (if more then wakes_publisher ∷ [] else []) mid to
 
   -- what may leave is sent: those whom it wakes are rung once all is there
   abbrev pub Sends : ℕ → Bool → Chase → L → Chase → L → Type 0
-  Sends most has c from k to = (s t : NodeState) × (woken : ℕ) × (mid : L) × Puts gives s t most has woken c from k mid × Ran gives (rings_from 7 0 woken) mid to
+  Sends most has c from k to =
+      (s t : NodeState) × (woken : ℕ) × (mid : L) × Puts gives s t most has woken c from k mid × Ran gives (rings_from 7 0 woken) mid to
 
   -- once one has asked whether nothing waits, what waits is heard
   abbrev pub HearsUnless : Bool → ℕ → Bool → Chase → L → Chase → L → Type 0
@@ -68,7 +72,9 @@ module _ {L : Type 0} (gives : L → Call → L → Type 0) where
 
   -- a group that the node gives goes to the flusher
   abbrev pub Flushes : Bool → L → L → Type 0
-  Flushes has from to = (s : NodeState) × (group : Option Grouped) × (mid : L) × Groups gives s group from mid × Ran gives (giving group) mid to × (has ≡ is_some group)
+  Flushes has from to =
+      (s : NodeState) × (group : Option Grouped) × (mid : L) × Groups gives s group from mid × Ran gives (giving group) mid to
+      × (has ≡ is_some group)
 
   -- what waits is heard; the node is asked for what its clients want, so many commands; and what it owes then is put into inboxes, which
   -- wakes these
@@ -78,7 +84,9 @@ module _ {L : Type 0} (gives : L → Call → L → Type 0) where
 
   -- where a client wants something this is done, and then those are rung who are woken
   abbrev pub SubmitsIf : Bool → ℕ → Chase → L → Chase → L → Type 0
-  SubmitsIf true most c from k to = (count woken : ℕ) × (mid rung : L) × SubmitsInOrder most count woken c from k mid × Ran gives (rings_from 7 0 woken) mid rung × gives rung (passes count) to
+  SubmitsIf true most c from k to =
+      (count woken : ℕ) × (mid rung : L) × SubmitsInOrder most count woken c from k mid × Ran gives (rings_from 7 0 woken) mid rung
+      × gives rung (passes count) to
   SubmitsIf false most c from k to = (k ≡ c) × (to ≡ from)
 
   abbrev pub Submits : ℕ → Bool → Chase → L → Chase → L → Type 0
@@ -105,7 +113,8 @@ pub record Looked {L : Type 0} (gives : L → Call → L → Type 0) (batch room
   pub answer : has ≡ ((((is_some back || submitted) || sent) || heard) || staged)
 
 -- a tick that is due: what waits is heard, at most so many messages, and then the node ticks by the rule
-pub record TicksFrom {L : Type 0} (gives : L → Call → L → Type 0) (s : NodeState) (most : ℕ) (c : Chase) (b : Standstill) (from : L) (k : Chase) (d : Standstill) (to : L) : Type 0 where
+pub record TicksFrom {L : Type 0} (gives : L → Call → L → Type 0) (s : NodeState) (most : ℕ)
+    (c : Chase) (b : Standstill) (from : L) (k : Chase) (d : Standstill) (to : L) : Type 0 where
   pub sents : List Sent
   pub few : length sents ≤ most
   pub calls : Ran gives (taking most sents s c ++ ticking (all_met sents s c) (all_met_chase sents s c) b) from to
