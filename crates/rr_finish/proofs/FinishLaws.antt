@@ -11,11 +11,11 @@ use Rattle.rr_text.specs.ReportTexts.{line, decided_lines}
 use Rattle.rr_text.specs.Scheduled.{IsEvent}
 use Rattle.rr_text.specs.ScheduleTexts.{event_line}
 use Rattle.rr_sim.specs.Clusters.{Cluster, new_cluster, LeadsSpelt}
+use Rattle.rr_sim.specs.SoFar.{IsSoFar, IsScheduleTo}
 use Rattle.rr_sim.specs.Told.{told, TellsAll, IsReportOn}
 use Rattle.rr_sim.proofs.DrawingLemmas.{each_of_both}
+use Rattle.rr_sim.proofs.SoFarLaws.{is_schedule_to}
 use Rattle.rr_sim.proofs.ToldLaws.{ToldSoFar, lines_push, is_report_on}
-use Rattle.rr_lively.specs.Lively.{IsSoFar, IsScheduleTo}
-use Rattle.rr_lively.proofs.LivelyLaws.{is_schedule_to}
 use Rattle.rr_finish.specs.Finishes.{IsAdded, Adds, IsFinish}
 
 -- ---- events that are added

@@ -4,7 +4,7 @@ ghost use Rattle.std.specs.Prelude.{◌≡◌, ◌≤◌, ℕ, ◌++◌, OnOk, I
 ghost use Rattle.rr_text.specs.Lines.{nodes_line, IsStop, IsFault};
 ghost use Rattle.rr_text.specs.Scheduled.{IsEvent};
 ghost use Rattle.rr_text.specs.ScheduleTexts.{event_line};
-ghost use Rattle.rr_lively.specs.Lively.{IsSoFar, IsScheduleTo};
+ghost use Rattle.rr_sim.specs.SoFar.{IsSoFar, IsScheduleTo};
 ghost use Rattle.rr_finish.specs.Finishes.{Adds, IsFinish};
 
 use crate::going::Going;

@@ -2,11 +2,11 @@
 
 ghost use Rattle.std.specs.Prelude.{◌≡◌, ◌≤◌, ◌+◌, ◌<◌, ◌++◌, IsTrue, OnOk, IfOk};
 ghost use Rattle.rr_text.specs.Scheduled.{IsEvent};
-ghost use Rattle.rr_lively.specs.Lively.{IsSoFar, MayStay};
+ghost use Rattle.rr_sim.specs.SoFar.{IsSoFar};
 ghost use Rattle.rr_finish.specs.Finishes.{IsAdded, Adds};
 
 use crate::plan::Plan;
-use rr_sim::{Cluster, Stance, node_of};
+use rr_sim::{Cluster, may_stay, node_of};
 use rr_text::Event;
 use rr_text::text_schedule::push_event_line;
 use rr_types::Nodes;
@@ -46,20 +46,6 @@ fn is_added(nodes: Nodes, event: &Event) -> bool
         Event::Submit { .. } | Event::Fail { .. } | Event::Snap { .. } | Event::Crash { .. } => {
             false
         }
-    }
-}
-
-/// Whether an event that the report tells nothing of has left everything as it was.
-fn may_stay(cluster: &Cluster, event: &Event) -> bool
-    ensures { IsTrue result → MayStay cluster.now event.now }
-{
-    match event {
-        Event::Send { .. } | Event::Ack { .. } => true,
-        Event::Take { node } => match cluster.node(*node) {
-            Some(seat) => seat.stance() == Stance::Resting,
-            None => false,
-        },
-        _ => false,
     }
 }
 

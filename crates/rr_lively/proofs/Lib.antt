@@ -1,2 +1,1 @@
-mod IdleLaws
-pub mod LivelyLaws
+mod LivelyLaws

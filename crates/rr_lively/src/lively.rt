@@ -1,7 +1,8 @@
 //! A lively schedule told as text, with the report of its run.
 
 ghost use Rattle.std.specs.Prelude.{◌≡◌, ◌≤◌, ◌+◌, ◌*◌, false, Ok, OnOk, IfOk};
-ghost use Rattle.rr_lively.specs.Lively.{IsSoFar, IsLively, IsLivelySchedule};
+ghost use Rattle.rr_sim.specs.SoFar.{IsSoFar};
+ghost use Rattle.rr_lively.specs.Lively.{IsLively, IsLivelySchedule};
 
 use crate::random_run::RandomRun;
 use crate::run::Run;

@@ -3,9 +3,10 @@
 ghost use Rattle.std.specs.Prelude.{◌≡◌, ◌≤◌, ◌+◌, ◌^◌, ◌<◌, false, IsTrue, Ok, OnOk, IfOk};
 ghost use Rattle.rr_text.specs.Scheduled.{IsEvent};
 ghost use Rattle.rr_text.specs.Words.{IsFill};
-ghost use Rattle.rr_lively.specs.Lively.{IsSoFar, MayStay, IsLivelyRun, IsScheduleTo};
+ghost use Rattle.rr_sim.specs.SoFar.{IsSoFar, IsScheduleTo};
+ghost use Rattle.rr_lively.specs.Lively.{IsLivelyRun};
 
-use rr_sim::{Cluster, Stance, decided_list, node_of};
+use rr_sim::{Cluster, decided_list, may_stay, node_of};
 use rr_text::text_report::push_decided_list;
 use rr_text::text_schedule::{push_event_line, push_nodes_line};
 use rr_text::{Event, Fill, command_law};
@@ -70,20 +71,6 @@ fn is_event(nodes: Nodes, event: &Event) -> bool
         | Event::Ack { .. }
         | Event::Snap { .. }
         | Event::Restart { .. } => true,
-    }
-}
-
-/// Whether an event that the report tells nothing of has left everything as it was.
-fn may_stay(cluster: &Cluster, event: &Event) -> bool
-    ensures { IsTrue result → MayStay cluster.now event.now }
-{
-    match event {
-        Event::Send { .. } | Event::Ack { .. } => true,
-        Event::Take { node } => match cluster.node(*node) {
-            Some(seat) => seat.stance() == Stance::Resting,
-            None => false,
-        },
-        _ => false,
     }
 }
 

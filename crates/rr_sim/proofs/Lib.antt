@@ -17,4 +17,6 @@ pub mod Wanting
 mod OpenedLaws
 pub mod CleanLaws
 pub mod ToldLaws
+mod IdleLaws
+pub mod SoFarLaws
 mod DrawnLaws

@@ -35,4 +35,4 @@ pub use random_text::random_run;
 pub use rr_node::Stance;
 pub use rr_text::{BoundNames, Event, Fill, MAX_EVENTS, Report, ReportLine, Schedule};
 pub use simulator::{accepted, node_of, nodes_after, simulate};
-pub use telling::{report_on, tell_read};
+pub use telling::{may_stay, report_on, tell_read};

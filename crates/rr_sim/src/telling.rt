@@ -1,14 +1,17 @@
 //! A run told as text: each line of a schedule is read, its event made, and what the report has of it appended.
 
-ghost use Rattle.std.specs.Prelude.{◌≡◌, ◌≤◌, [], ◌++◌, OnOk, IfOk, IfErr};
+ghost use Rattle.std.specs.Prelude.{◌≡◌, ◌≤◌, ◌↔◌, [], ◌++◌, IsTrue, OnOk, IfOk, IfErr};
 ghost use Rattle.rr_text.specs.Lines.{nodes_line, IsStop, IsFault};
 ghost use Rattle.rr_text.specs.Scheduled.{IsEvent};
 ghost use Rattle.rr_text.specs.ScheduleTexts.{event_line};
+ghost use Rattle.rr_sim.specs.SoFar.{MayStay};
 ghost use Rattle.rr_sim.specs.Told.{TellsAll, IsReportOn};
 
 use crate::chosen::decided_list;
 use crate::cluster::Cluster;
+use rr_node::Stance;
 use rr_stream::{Sink, tell_step};
+use rr_text::Event;
 use rr_text::text_parse::{first_line, next_event};
 use rr_text::text_report::push_decided_list;
 use rr_types::{Nodes, Refusal};
@@ -47,6 +50,20 @@ fn tell_events<O: Sink>(
         line += 1;
     }
     Ok(())
+}
+
+/// Whether an event behind which the cluster stands, and of which the report tells nothing, has left everything as it was.
+pub fn may_stay(cluster: &Cluster, event: &Event) -> bool
+    ensures { IsTrue result ↔ MayStay cluster.now event.now }
+{
+    match event {
+        Event::Send { .. } | Event::Ack { .. } => true,
+        Event::Take { node } => match cluster.node(*node) {
+            Some(seat) => seat.stance() == Stance::Resting,
+            None => false,
+        },
+        _ => false,
+    }
 }
 
 /// The text of the report on a schedule on `nodes` nodes, whose lines after the first are `bytes`. The nodes are freed

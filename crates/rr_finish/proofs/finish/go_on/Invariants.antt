@@ -1,5 +1,5 @@
 use Rattle.std.proofs.Common.{◌≡◌, ◌≤◌}
-use Rattle.rr_lively.specs.Lively.{IsSoFar}
+use Rattle.rr_sim.specs.SoFar.{IsSoFar}
 use Rattle.rr_finish.specs.Finishes.{Adds}
 use Rattle.rr_finish.proofs.finish.go_on.Given as goal
 

@@ -1,5 +1,5 @@
 use Rattle.std.proofs.Common.{◌≡◌, ◌≤◌, ◌+◌, ◌*◌}
-use Rattle.rr_lively.specs.Lively.{IsSoFar}
+use Rattle.rr_sim.specs.SoFar.{IsSoFar}
 use Rattle.rr_lively.proofs.lively.drawn_run.Given as goal
 
 -- at most one event stands in the schedule for each step so far

@@ -1,5 +1,5 @@
 use Rattle.std.proofs.Common.{◌≡◌}
-use Rattle.rr_lively.specs.Lively.{IsSoFar}
+use Rattle.rr_sim.specs.SoFar.{IsSoFar}
 use Rattle.rr_lively.proofs.lively.go_on.Given as goal
 
 -- nothing that was drawn so far stands in the schedule

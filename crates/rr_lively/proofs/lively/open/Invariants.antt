@@ -1,5 +1,5 @@
 use Rattle.std.proofs.Common.{◌≤◌, ◌+◌}
-use Rattle.rr_lively.specs.Lively.{IsSoFar}
+use Rattle.rr_sim.specs.SoFar.{IsSoFar}
 use Rattle.rr_lively.proofs.lively.open.Given as goal
 
 -- behind the restart, at most one event stands in the schedule for each call so far

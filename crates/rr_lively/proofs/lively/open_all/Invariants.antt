@@ -1,5 +1,5 @@
 use Rattle.std.proofs.Common.{◌≤◌, ◌+◌, ◌*◌}
-use Rattle.rr_lively.specs.Lively.{IsSoFar}
+use Rattle.rr_sim.specs.SoFar.{IsSoFar}
 use Rattle.rr_lively.proofs.lively.open_all.Given as goal
 
 -- at most ten events stand in the schedule for each node so far

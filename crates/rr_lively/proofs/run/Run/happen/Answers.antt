@@ -1,5 +1,5 @@
 use Rattle.std.proofs.Common.{rules}
-use Rattle.rr_lively.proofs.LivelyLaws.{so_far_same, so_far_more}
+use Rattle.rr_sim.proofs.SoFarLaws.{so_far_same, so_far_more}
 use Rattle.rr_lively.proofs.run.Run.happen.Goals as goal
 
 pub returns-then-may_stay-clause-so_far : goal.returns-then-may_stay-clause-so_far

@@ -1,4 +1,4 @@
-use Rattle.rr_lively.proofs.LivelyLaws.{is_schedule_to}
+use Rattle.rr_sim.proofs.SoFarLaws.{is_schedule_to}
 use Rattle.rr_lively.proofs.run.Run.into_schedule.Goals as goal
 
 pub returns : goal.returns

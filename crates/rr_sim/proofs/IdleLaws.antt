@@ -28,7 +28,7 @@ use Rattle.rr_sim.specs.Clusters.{Cluster, note_of, with_answer, event_step}
 use Rattle.rr_sim.specs.Random.{StepsInMemory}
 use Rattle.rr_sim.specs.Told.{told}
 use Rattle.rr_sim.proofs.ClusterLaws.{get_here}
-use Rattle.rr_lively.specs.Lively.{MayStay}
+use Rattle.rr_sim.specs.SoFar.{MayStay}
 
 -- the answer of a node that nothing changes
 abbrev idle : Seat → Answer
