@@ -6,75 +6,70 @@ use rr_stream::Counted;
 use rr_talk::Prompted;
 use std::fs;
 
-/// The words of a shell with one node.
-const WORDS: [&str; 6] = ["rr", "shell", "--nodes", "1", "--dir", "rr_shell_prompts"];
+/// What a shell gave that ended well: its answers, and what whoever types at it saw beside them.
+#[derive(Drop)]
+struct Shown {
+    answers: Vec<u8>,
+    seen: Vec<u8>,
+}
 
-#[test]
-fn a_prompt_stands_before_each_line_that_is_read(rt: HostRuntime) {
+/// Types these lines at a shell that these words begin, and removes its folder. The shell has to end well.
+fn type_at(rt: &HostRuntime, folder: &str, words: &[&str], lines: &[u8]) -> Shown {
     let mut seen = Vec::new(rt.alloc());
     let mut out = Counted::new(Vec::new(rt.alloc()));
     let mut err = Vec::new(rt.alloc());
-    let typed = Counted::new(&b"claim a x\nlist\n"[..]);
     let status = execute(
-        &rt,
-        &WORDS,
-        &mut HostFiles::new(&rt),
-        &mut Prompted::new(typed, Some(&mut seen)),
+        rt,
+        words,
+        &mut HostFiles::new(rt),
+        &mut Prompted::new(Counted::new(lines), Some(&mut seen)),
         &mut out,
         &mut err,
     );
-    assert_eq!(rt; status, 0);
-    assert!(rt; out.into_inner().as_slice() == b"claimed\nlist 1\na bound 0 x\n".as_slice());
-    assert!(rt; seen.as_slice() == b"> > > \n".as_slice());
-    assert!(rt; err.is_empty());
-    fs::remove_dir_all(&rt, "rr_shell_prompts").expect(&rt, "the folder goes");
+    assert!(rt; status == 0 && err.is_empty());
+    fs::remove_dir_all(rt, folder).expect(rt, "the folder goes");
+    Shown {
+        answers: out.into_inner(),
+        seen,
+    }
+}
+
+impl Shown {
+    /// Whether these were the answers, and this was seen beside them.
+    fn is(&self, answers: &[u8], seen: &[u8]) -> bool {
+        self.answers.as_slice() == answers && self.seen.as_slice() == seen
+    }
+}
+
+#[test]
+fn a_prompt_stands_before_each_line_that_is_read(rt: HostRuntime) {
+    let folder = "rr_shell_prompts";
+    let words = ["rr", "shell", "--nodes", "1", "--dir", folder];
+    let shown = type_at(&rt, folder, &words, b"claim a x\nlist\n");
+    assert!(rt; shown.is(b"claimed\nlist 1\na bound 0 x\n", b"> > > \n"));
 }
 
 #[test]
 fn who_types_sees_what_was_left_out(rt: HostRuntime) {
-    let words = ["rr", "shell", "--dir", "rr_shell_defaults"];
-    let mut seen = Vec::new(rt.alloc());
-    let mut out = Counted::new(Vec::new(rt.alloc()));
-    let mut err = Vec::new(rt.alloc());
-    let typed = Counted::new(&b"claim a x\n"[..]);
-    let status = execute(
+    let folder = "rr_shell_defaults";
+    let shown = type_at(
         &rt,
-        &words,
-        &mut HostFiles::new(&rt),
-        &mut Prompted::new(typed, Some(&mut seen)),
-        &mut out,
-        &mut err,
+        folder,
+        &["rr", "shell", "--dir", folder],
+        b"claim a x\n",
     );
-    assert_eq!(rt; status, 0);
-    assert!(rt;
-        seen.as_slice()
-            .starts_with(b"rr: --nodes 3 --dir rr_shell_defaults; ")
-    );
-    assert!(rt; seen.as_slice().ends_with(b"\n> > \n"));
-    assert!(rt; err.is_empty());
-    fs::remove_dir_all(&rt, "rr_shell_defaults").expect(&rt, "the folder goes");
+    let seen = shown.seen.as_slice();
+    assert!(rt; seen.starts_with(b"rr: --nodes 3 --dir rr_shell_defaults; "));
+    assert!(rt; seen.ends_with(b"\n> > \n"));
 }
 
 #[test]
 fn who_types_sees_that_a_command_may_be_asked_again(rt: HostRuntime) {
-    let words = ["rr", "shell", "--nodes", "2", "--dir", "rr_shell_again"];
-    let mut seen = Vec::new(rt.alloc());
-    let mut out = Counted::new(Vec::new(rt.alloc()));
-    let mut err = Vec::new(rt.alloc());
-    let typed = Counted::new(&b"stop 1\nclaim a x\nstart 1\nagain\n"[..]);
-    let status = execute(
-        &rt,
-        &words,
-        &mut HostFiles::new(&rt),
-        &mut Prompted::new(typed, Some(&mut seen)),
-        &mut out,
-        &mut err,
-    );
+    let folder = "rr_shell_again";
+    let words = ["rr", "shell", "--nodes", "2", "--dir", folder];
+    let shown = type_at(&rt, folder, &words, b"stop 1\nclaim a x\nstart 1\nagain\n");
     let told = b"stopped 1\nunacknowledged\nstarted 1\nclaimed\n";
     let hint =
         b"> > it may count or not; \"again\" asks once more under its request number, so that it counts once\n> > > \n";
-    assert_eq!(rt; status, 0);
-    assert!(rt; out.into_inner().as_slice() == told.as_slice());
-    assert!(rt; seen.as_slice() == hint.as_slice());
-    fs::remove_dir_all(&rt, "rr_shell_again").expect(&rt, "the folder goes");
+    assert!(rt; shown.is(told, hint));
 }
