@@ -7,12 +7,14 @@ Of each example and of N drawn schedules, some of them lively, with values of SV
 instance: each event of the cut has its element, in order, and the element's title begins with the line, the event and its lines of the
 report; a cut by instance has just the events that send or hear a message on it, and syncs and marks. In a long picture each event that
 sends or hears a request is folded, and with --requests none is. A message has an arrow where it is heard, a dashed one where it is heard
-again, and else a dot. A cut that ends before it begins has status 2. Each tape has the elements of its events too. The picture has the
+again, and else a dot. A flush has its box, from its take to its mark or to what cuts it short; just marks that were done tell decisions.
+A label says what its event or the report's line of it says. A cut that ends before it begins has status 2. Each tape has the elements of its events too. The picture has the
 size of what it shows, and no two labels on one side of a line lie on each other."""
 import argparse
 import json
 import pathlib
 import random
+import re
 import subprocess
 import xml.etree.ElementTree as tree
 
@@ -45,11 +47,100 @@ def told_by(rr, text):
     return told
 
 
+def explained(rr, text):
+    """What came of each event of a run, and its decided commands."""
+    return [json.loads(line) for line in asked(rr, ["sim", "--explain", "--json"], text.encode()).splitlines()]
+
+
+def flushes(objects):
+    """The node of each flush, the line of its take, and that of its mark or of what cuts it short, if any."""
+    running, found = {}, []
+    for it in (it for it in objects if "event" in it):
+        line, (word, node, *_) = it["event"]["line"], it["event"]["text"].split()
+        if word == "take" and it["kind"] == "done":
+            running[node] = line
+        elif word == "crash" or (word == "mark" and it["kind"] == "done") or (word in ("dev", "fail") and it["kind"] == "refuse"):
+            if node in running:
+                found.append((int(node), running.pop(node), line))
+    return found + [(int(node), line, None) for node, line in running.items()]
+
+
+CRASHES = {"crash", "crash cuts a snapshot", "crash before a mark", "crash cuts a flush", "crash cuts an opening"}
+OF_FACTS = ("Enter ", "Propose ", "Adopt ", "Decide ", "decided ")
+
+
+def told_words(event, line):
+    """What the label beside an event says of its line of the report."""
+    words = line.split()
+    if words[0] == "send":
+        kind = words[4]
+        about = words[5:7] if kind in ("estimate", "proposal", "ack", "nack") else words[5:6] if kind in ("decision", "ask", "request") else []
+        return f"{kind} {'.'.join(about)}".rstrip()
+    if words[0] == "ack":
+        return " ".join(words[2:])
+    if words[0] == "restart":
+        return f"opened: facts {words[2]}, decided {words[3]}"
+    is_made = event.split()[0] in ("dev", "fail") and words[3] not in ("Down", "Failed")
+    return f"{'call fails' if is_made else 'refused'}: {words[3]}"
+
+
+def own_words(event):
+    """What the label beside an event says of the event itself."""
+    word, _, *words = event.split(" ")
+    if word == "submit":
+        text = " " + " ".join(words[2:])
+        return f"{words[0]}.{words[1]}{text[:21] + '..' if len(text) > 21 else text}"
+    if word == "suspect":
+        return "suspects nobody" if words == ["-"] else f"suspects {words[0]}"
+    return {"tick": "tick", "advance": "advance", "snap": "snapshot"}.get(word)
+
+
+def compare_labels(lines, told, picture, seed):
+    """Compares the labels of a whole picture without folded events with the events and the report, and tells how many texts there are."""
+    wanted, found, hidden = {}, {}, set()
+    for number, event in enumerate(lines[1:], 2):
+        words = [told_words(event, line) for line in told[number]]
+        own = own_words(event)
+        if own and not (own == "snapshot" and words):
+            words.append(own)
+        wanted.setdefault(int(event.split()[1]), set()).update(words)
+    for label in picture.iter(SVG + "text"):
+        if "l" in (label.get("class") or "").split():
+            node, text = (int(label.get("x")) - 40) // 220, label.text
+            if re.search(r" \+\d+$", text) and not text.startswith(OF_FACTS):
+                hidden.add(node)
+                text = re.sub(r" \+\d+$", "", text)
+            short = re.sub(r" x\d+$", "", text)
+            text = text if text in wanted.get(node, ()) else short
+            if text not in CRASHES and not text.startswith(OF_FACTS):
+                found.setdefault(node, set()).add(text)
+    for node, texts in wanted.items():
+        assert found.get(node, set()) <= texts, (seed, node, found[node] - texts)
+        assert node in hidden or found.get(node, set()) == texts, (seed, node, texts - found.get(node, set()))
+    return sum(map(len, found.values()))
+
+
+def compare_jobs(objects, picture, seed):
+    """Compares what a whole picture shows of flushes and marks with the run, and tells how many flushes there are."""
+    down, elements = int(picture.get("viewBox").split()[3]), {}
+    for element in picture.iter(SVG + "g"):
+        elements[int(element.find(SVG + "title").text.split()[1].rstrip(":"))] = element
+    at = {line: int(it.get("y")) + 2 for line, element in elements.items() for it in element.iter(SVG + "rect")}
+    at[None] = down - 30
+    boxes = [it for it in picture.iter(SVG + "rect") if it.get("class") == "j"]
+    wanted = sorted((150 + 220 * node - 5, at[begin], at[end] - at[begin]) for node, begin, end in flushes(objects))
+    assert sorted(tuple(int(it.get(side)) for side in ("x", "y", "height")) for it in boxes) == wanted, (seed, wanted)
+    marked = {it["event"]["line"] for it in objects if it["kind"] == "done" and it["event"]["text"].startswith("mark ")}
+    told = {line for line, element in elements.items() if any(it.get("href") == "#k" for it in element)}
+    assert told <= marked, (seed, told - marked)
+    return len(wanted)
+
+
 class Hearings:
     """Which message each event of a run sends or hears, by the JSON that explains it."""
 
     def __init__(self, rr, text):
-        objects = [json.loads(line) for line in asked(rr, ["sim", "--explain", "--json"], text.encode()).splitlines()]
+        objects = explained(rr, text)
         self.sent = {it["number"]: it["event"]["line"] for it in objects if it["kind"] == "send"}
         self.instances = {it["number"]: it["message"].get("instance") for it in objects if it["kind"] == "send"}
         self.numbers = {line: number for number, line in self.sent.items()}
@@ -92,7 +183,7 @@ def cut_of(seed, count, nodes):
 
 
 def compare(rr, text, seed):
-    """Compares a picture, and tells how many elements and labels it has, and how many arrows and lost messages were compared."""
+    """Compares a picture, and tells how many elements and labels it has, and how many arrows, lost messages, flushes and texts of labels were compared."""
     lines = text.splitlines()
     first, last, node, instance = cut_of(seed, len(lines), int(lines[0].split()[1]))
     words = ["draw", "--from", str(first), "--to", str(last)]
@@ -114,6 +205,10 @@ def compare(rr, text, seed):
     if last - first < 300:
         shown = {k for k in range(first, last + 1) if node is None or int(lines[k - 1].split()[1]) == node}
         shapes = Hearings(rr, text).compare(picture, shown, instance, seed)
+    jobs = texts = 0
+    if (first, last, node, instance) == (2, len(lines), None, None):
+        jobs = compare_jobs(explained(rr, text), picture, seed)
+        texts = compare_labels(lines, told, picture, seed) if last - first <= MANY else 0
     across, down = (int(number) for number in picture.get("viewBox").split()[2:])
     assert (int(picture.get("width")), int(picture.get("height"))) == (across * 3 // 2, down * 3 // 2), seed
     places = {}
@@ -122,7 +217,7 @@ def compare(rr, text, seed):
             places.setdefault(label.get("x"), []).append(int(label.get("y")))
     for side in places.values():
         assert all(below - above >= HEIGHT for above, below in zip(side, side[1:])), seed
-    return len(found), sum(map(len, places.values())), *shapes
+    return len(found), sum(map(len, places.values())), *shapes, jobs, texts
 
 
 def compare_tape(rr, text):
@@ -158,13 +253,13 @@ def main():
     texts = [path.read_text() for path in sorted(TREE.glob("examples/*.schedule"))]
     texts += [drawn(given.rr, seed) for seed in range(given.count)]
     sums = [compare(given.rr, text, seed) for seed, text in enumerate(texts)]
-    elements, labels, arrows, lost = (sum(numbers) for numbers in zip(*sums))
+    elements, labels, arrows, lost, jobs, label_texts = (sum(numbers) for numbers in zip(*sums))
     ended = subprocess.run([given.rr, "draw", "--from", "3", "--to", "2"], input=texts[0].encode(), capture_output=True)
     assert (ended.returncode, ended.stdout, ended.stderr) == (2, b"", b"rr: draw: the line of --from is behind that of --to\n"), ended
-    assert elements and labels and arrows and lost
+    assert elements and labels and arrows and lost and jobs and label_texts
     tapes = [path.read_text() for path in sorted(TREE.glob("examples/*.tape"))]
     elements += sum(compare_tape(given.rr, text) for text in tapes)
-    print(f"hostile/pictures.py: {len(texts) + len(tapes)} pictures, {elements} elements and {labels} labels, {arrows} arrows and {lost} lost messages, all as the texts are")
+    print(f"hostile/pictures.py: {len(texts) + len(tapes)} pictures, {elements} elements and {labels} labels, {arrows} arrows, {lost} lost messages, {jobs} flushes and {label_texts} texts of labels, all as the texts are")
 
 
 main()

@@ -3,6 +3,7 @@ use Rattle.std.proofs.Common.{◌≡◌, ◌≤◌, inl, inr, ◌++◌, ◌+◌,
 use Rattle.std.specs.Prelude.{Bool, true, false, if◌then◌else◌, ◌==◌, slice_get}
 use Rattle.std.specs.Option.{option_map_or}
 use Rattle.std.proofs.lemmas.List.{append_assoc, append-nil, length-append, map-append}
+use Rattle.rr_node.specs.declared.event.Stance.{Stance}
 use Rattle.rr_types.specs.declared.message.Message.{Message}
 use Rattle.rr_types.specs.declared.refusal.Refusal.{Refusal}
 use Rattle.rr_types.specs.declared.input.Input.TheVariants as input
@@ -23,7 +24,9 @@ use Rattle.rr_sim.proofs.HeadlineLaws.{is_world_run, agrees}
 use Rattle.rr_sim.proofs.NodeLaws.{node_laws}
 use Rattle.rr_sim.proofs.RealTimeLaws.{keeps_real_time}
 use Rattle.rr_account.specs.declared.outcome.Outcome.{Outcome}
-use Rattle.rr_account.specs.Accounts.{lines_told, AddEach, AreWatched, IsOfOneRun, IsReportOf}
+use Rattle.rr_account.specs.declared.outcome.Outcome.TheVariants as came
+use Rattle.rr_account.specs.Outcomes.{stance_at, untold}
+use Rattle.rr_account.specs.Accounts.{lines_told, Share, IsShareOf, AddEach, AreWatched, IsOfOneRun, IsReportOf}
 use Rattle.rr_account.proofs.ShareLaws.{joined}
 
 -- ---- a step
@@ -86,50 +89,62 @@ step_adds : (at : ℕ) (e : Event) (old new : Cluster) → Steps at e old new �
 step_adds at e old new (inl is) = subst (λ (c : Cluster). AddsOne old c) (sym is) (event_adds at false e old)
 step_adds at e old new (inr is) = subst (λ (c : Cluster). AddsOne old c) (sym is) (event_adds at true e old)
 
--- the lines that a step adds, by how many there are behind it
-abbrev pub Share : Cluster → Cluster → ℕ → Type 0
-Share old new count = (added : List ReportLine) × (new.lines ≡ old.lines ++ added) × (length added ≡ count)
+-- what came of an event has a share of the lines
+abbrev pub HasShare : Event → Cluster → Cluster → Outcome → Type 0
+HasShare e old new o = (s : Share) × (s.outcome ≡ o) × IsShareOf e s old new
 
-pub share_none : (at : ℕ) (e : Event) (old new : Cluster) (count : ℕ) → Steps at e old new → length new.lines ≡ length old.lines → count ≡ 0 → Share old new count
-share_none at e old new count steps same none =
-    let adds = step_adds at e old new steps in
-    (adds.added, adds.grew, omega (arith, same, none, ap length adds.grew, length-append old.lines adds.added))
-
-pub share_one : (at : ℕ) (e : Event) (old new : Cluster) → Steps at e old new → (length new.lines ≡ length old.lines → ⊥) → Share old new 1
-share_one at e old new steps other =
-    let adds = step_adds at e old new steps in
-    (adds.added, adds.grew, by adds.added adds.grew adds.one)
+-- a step that adds no line
+pub share_none : (at : ℕ) (e : Event) (old new : Cluster) (o : Outcome) (before behind : Option Stance) (wire : List Message) → Steps at e old new → length new.lines ≡ length old.lines
+    → before ≡ stance_at e old → behind ≡ stance_at e new → wire ≡ new.wire → o ≡ untold e before behind wire → lines_told o ≡ 0 → HasShare e old new o
+share_none at e old new o before behind wire steps same was is sent comes none = let adds = step_adds at e old new steps in by adds.added adds.grew
   where
-    by : (added : List ReportLine) → new.lines ≡ old.lines ++ added → length added ≤ 1 → length added ≡ 1
+    by : (added : List ReportLine) → new.lines ≡ old.lines ++ added → HasShare e old new o
+    by [] grew = (
+      record { lines = []; outcome = o },
+      refl,
+      record {
+        grew = grew;
+        came = comes ∙ ap (λ (s : Option Stance). untold e s behind wire) was ∙ ap (λ (s : Option Stance). untold e (stance_at e old) s wire) is
+            ∙ ap (λ (w : List Message). untold e (stance_at e old) (stance_at e new) w) sent;
+        counted = sym none;
+      },
+    )
+    by (l ∷ ls) grew = absurd (omega (arith, same, ap length grew, length-append old.lines (l ∷ ls)))
+
+-- a step that adds one
+pub share_one : (at : ℕ) (e : Event) (old new : Cluster) → Steps at e old new → (length new.lines ≡ length old.lines → ⊥) → HasShare e old new came.Told
+share_one at e old new steps other = let adds = step_adds at e old new steps in by adds.added adds.grew adds.one
+  where
+    by : (added : List ReportLine) → new.lines ≡ old.lines ++ added → length added ≤ 1 → HasShare e old new came.Told
     by [] grew one = absurd (other (ap length grew ∙ ap length (append-nil old.lines)))
-    by (l ∷ ls) grew one = omega (arith, one)
+    by (l ∷ ls) grew one = (record { lines = l ∷ ls; outcome = came.Told }, refl, record { grew = grew; came = refl; counted = omega (arith, one) })
 
 -- ---- all steps
 
 -- the events before an index were watched, and these came of them
 pub record WatchedSoFar (events : List Event) (outcomes : List Outcome) (index at : ℕ) (old now : Cluster) : Type 0 where
   pub line_is : at ≡ index + 2
-  pub shares : List (List ReportLine)
-  pub counts : map length shares ≡ map lines_told outcomes
-  pub adds_on : (more : List (List ReportLine)) (end : Cluster) → AddEach at (drop index events) more now end → AddEach 2 events (shares ++ more) old end
+  pub shares : List Share
+  pub outcomes_are : map (λ (s : Share). s.outcome) shares ≡ outcomes
+  pub adds_on : (more : List Share) (end : Cluster) → AddEach at (drop index events) more now end → AddEach 2 events (shares ++ more) old end
   pub leads_on : (end : Cluster) → LeadsSpelt at (drop index events) now end → LeadsSpelt 2 events old end
 
 pub watched_none : (events : List Event) (old : Cluster) → WatchedSoFar events [] 0 2 old old
-watched_none events old = record { line_is = refl; shares = []; counts = refl; adds_on = λ more end adds. adds; leads_on = λ end leads. leads }
+watched_none events old = record { line_is = refl; shares = []; outcomes_are = refl; adds_on = λ more end adds. adds; leads_on = λ end leads. leads }
 
 pub watched_more : (events : List Event) (outcomes longer : List Outcome) (index at next_at : ℕ) (old now next : Cluster) (e : Event) (o : Outcome)
     → WatchedSoFar events outcomes index at old now → drop index events ≡ e ∷ drop (index + 1) events → longer ≡ outcomes ++ o ∷ [] → next_at ≡ at + 1
-    → Steps at e now next → IsSpeltBehind e now next → Share now next (lines_told o)
+    → Steps at e now next → IsSpeltBehind e now next → HasShare e now next o
     → WatchedSoFar events longer (index + 1) next_at old next
-watched_more events outcomes longer index at next_at old now next e o s first grew counts steps spelt (added, lines, size) = record {
+watched_more events outcomes longer index at next_at old now next e o s first grew counts steps spelt (share, came_of, is) = record {
   line_is = omega (arith, counts, s.line_is);
-  shares = s.shares ++ added ∷ [];
-  counts = map-append length s.shares (added ∷ []) ∙ ap (λ (ks : List ℕ). ks ++ length added ∷ []) s.counts ∙ ap (λ (k : ℕ). map lines_told outcomes ++ k ∷ []) size
-      ∙ sym (map-append lines_told outcomes (o ∷ [])) ∙ ap (map lines_told) (sym grew);
+  shares = s.shares ++ share ∷ [];
+  outcomes_are = map-append (λ (x : Share). x.outcome) s.shares (share ∷ []) ∙ ap (λ (os : List Outcome). os ++ share.outcome ∷ []) s.outcomes_are
+      ∙ ap (λ (x : Outcome). outcomes ++ x ∷ []) came_of ∙ sym grew;
   adds_on = λ more end adds.
-      subst (λ (ss : List (List ReportLine)). AddEach 2 events ss old end) (sym (append_assoc s.shares (added ∷ []) more))
-      (s.adds_on (added ∷ more) end
-      (subst (λ (es : List Event). AddEach at es (added ∷ more) now end) (sym first) (next, steps, lines, subst (λ (k : ℕ). AddEach k (drop (index + 1) events) more next end) counts adds)));
+      subst (λ (ss : List Share). AddEach 2 events ss old end) (sym (append_assoc s.shares (share ∷ []) more))
+      (s.adds_on (share ∷ more) end
+      (subst (λ (es : List Event). AddEach at es (share ∷ more) now end) (sym first) (next, steps, is, subst (λ (k : ℕ). AddEach k (drop (index + 1) events) more next end) counts adds)));
   leads_on = λ end leads.
       s.leads_on end (subst (λ (es : List Event). LeadsSpelt at es now end) (sym first) (next, steps, spelt, subst (λ (k : ℕ). LeadsSpelt k (drop (index + 1) events) next end) counts leads));
 }
@@ -137,8 +152,8 @@ watched_more events outcomes longer index at next_at old now next e o s first gr
 pub all_watched : (events : List Event) (outcomes : List Outcome) (index at : ℕ) (old now : Cluster) → WatchedSoFar events outcomes index at old now → drop index events ≡ [] → AreWatched 2 events outcomes old now
 all_watched events outcomes index at old now s none = record {
   shares = s.shares;
-  add = subst (λ (ss : List (List ReportLine)). AddEach 2 events ss old now) (append-nil s.shares) (s.adds_on [] now (subst (λ (es : List Event). AddEach at es [] now now) (sym none) refl));
-  counts = s.counts;
+  add = subst (λ (ss : List Share). AddEach 2 events ss old now) (append-nil s.shares) (s.adds_on [] now (subst (λ (es : List Event). AddEach at es [] now now) (sym none) refl));
+  outcomes_are = s.outcomes_are;
 }
 
 pub all_lead : (events : List Event) (outcomes : List Outcome) (index at : ℕ) (old now : Cluster) → WatchedSoFar events outcomes index at old now → drop index events ≡ [] → LeadsSpelt 2 events old now
@@ -146,18 +161,31 @@ all_lead events outcomes index at old now s none = s.leads_on now (subst (λ (es
 
 -- ---- the run
 
-added_all : (at : ℕ) (events : List Event) (shares : List (List ReportLine)) (old new : Cluster) → AddEach at events shares old new → new.lines ≡ old.lines ++ joined shares
-added_all at [] [] old new same = ap (λ (c : Cluster). c.lines) same ∙ sym (append-nil old.lines)
-added_all at [] (ls ∷ shares) old new never = absurd never
-added_all at (e ∷ es) [] old new never = absurd never
-added_all at (e ∷ es) (ls ∷ shares) old new (next, steps, grew, rest) =
-    added_all (at + 1) es shares next new rest ∙ ap (λ (all : List ReportLine). all ++ joined shares) grew ∙ append_assoc old.lines ls (joined shares)
+abbrev lines_in : List Share → List (List ReportLine)
+lines_in shares = map (λ (s : Share). s.lines) shares
 
-as_many : (at : ℕ) (events : List Event) (shares : List (List ReportLine)) (old new : Cluster) → AddEach at events shares old new → length shares ≡ length events
+added_all : (at : ℕ) (events : List Event) (shares : List Share) (old new : Cluster) → AddEach at events shares old new → new.lines ≡ old.lines ++ joined (lines_in shares)
+added_all at [] [] old new same = ap (λ (c : Cluster). c.lines) same ∙ sym (append-nil old.lines)
+added_all at [] (s ∷ shares) old new never = absurd never
+added_all at (e ∷ es) [] old new never = absurd never
+added_all at (e ∷ es) (s ∷ shares) old new (next, steps, is, rest) =
+    added_all (at + 1) es shares next new rest ∙ ap (λ (all : List ReportLine). all ++ joined (lines_in shares)) is.grew ∙ append_assoc old.lines s.lines (joined (lines_in shares))
+
+as_many : (at : ℕ) (events : List Event) (shares : List Share) (old new : Cluster) → AddEach at events shares old new → length (lines_in shares) ≡ length events
 as_many at [] [] old new same = refl
-as_many at [] (ls ∷ shares) old new never = absurd never
+as_many at [] (s ∷ shares) old new never = absurd never
 as_many at (e ∷ es) [] old new never = absurd never
-as_many at (e ∷ es) (ls ∷ shares) old new (next, steps, grew, rest) = let more = as_many (at + 1) es shares next new rest in omega (arith, more)
+as_many at (e ∷ es) (s ∷ shares) old new (next, steps, is, rest) = let more = as_many (at + 1) es shares next new rest in omega (arith, more)
+
+-- each share has as many lines as its outcome says
+counted_each : (at : ℕ) (events : List Event) (shares : List Share) (old new : Cluster) → AddEach at events shares old new
+    → map length (lines_in shares) ≡ map lines_told (map (λ (s : Share). s.outcome) shares)
+counted_each at [] [] old new same = refl
+counted_each at [] (s ∷ shares) old new never = absurd never
+counted_each at (e ∷ es) [] old new never = absurd never
+counted_each at (e ∷ es) (s ∷ shares) old new (next, steps, is, rest) =
+    ap (λ (k : ℕ). k ∷ map length (lines_in shares)) is.counted
+    ∙ ap (λ (ks : List ℕ). lines_told s.outcome ∷ ks) (counted_each (at + 1) es shares next new rest)
 
 pub is_of_one_run : (schedule : Scheduled) (outcomes : List Outcome) (report : Reported) (end : Cluster) → AreWatched 2 schedule.events outcomes (new_cluster schedule.nodes) end → report.lines ≡ end.lines
     → IsOfOneRun (record { schedule = schedule; outcomes = outcomes; report = report })
@@ -165,10 +193,11 @@ is_of_one_run schedule outcomes report end watched lines = record {
   shares = watched.shares;
   at_the_end = end;
   add = watched.add;
+  outcomes = watched.outcomes_are;
   shared_out = record {
     all = lines ∙ added_all 2 schedule.events watched.shares (new_cluster schedule.nodes) end watched.add;
     one_each = as_many 2 schedule.events watched.shares (new_cluster schedule.nodes) end watched.add;
-    counts = watched.counts;
+    counts = counted_each 2 schedule.events watched.shares (new_cluster schedule.nodes) end watched.add ∙ ap (map lines_told) watched.outcomes_are;
   };
 }
 

@@ -10,6 +10,7 @@ use Rattle.rr_sim.specs.Clusters.{Cluster, new_cluster, Steps, IsOnlyOneIfClean}
 use Rattle.rr_sim.specs.Headline.{IsRunOfTheWorld, AgreesWithOneList, KeepsRealTime}
 use Rattle.rr_account.specs.declared.outcome.Outcome.{Outcome}
 use Rattle.rr_account.specs.declared.outcome.Outcome.TheVariants.{Quiet, Told, Idle}
+use Rattle.rr_account.specs.Outcomes.{outcome_of}
 
 -- a schedule, what came of each of its events in turn, and the report of its run
 pub record Accounted : Type 0 where
@@ -37,27 +38,40 @@ pub record IsSharedOut (account : Accounted) (shares : List (List ReportLine)) :
   pub one_each : length shares ≡ length account.schedule.events
   pub counts : map length shares ≡ map lines_told account.outcomes
 
--- the events, of which the first stands on this line, lead from one cluster to another, and the step at each adds these lines
--- to the report
-abbrev pub AddEach : ℕ → List Event → List (List ReportLine) → Cluster → Cluster → Type 0
+-- the lines of the report that an event has, and what came of it
+pub record Share : Type 0 where
+  pub lines : List ReportLine
+  pub outcome : Outcome
+
+-- an event leads from one cluster to another: the step at it adds these lines to the report, as many as its outcome says, and
+-- this came of it
+pub record IsShareOf (event : Event) (share : Share) (old new : Cluster) : Type 0 where
+  pub grew : new.lines ≡ old.lines ++ share.lines
+  pub came : share.outcome ≡ outcome_of event share.lines old new
+  pub counted : length share.lines ≡ lines_told share.outcome
+
+-- the events, of which the first stands on this line, lead from one cluster to another, and these are their shares
+abbrev pub AddEach : ℕ → List Event → List Share → Cluster → Cluster → Type 0
 AddEach at [] [] old new = new ≡ old
-AddEach at [] (ls ∷ shares) old new = ⊥
+AddEach at [] (s ∷ shares) old new = ⊥
 AddEach at (e ∷ es) [] old new = ⊥
-AddEach at (e ∷ es) (ls ∷ shares) old new =
-    (next : Cluster) × Steps at e old next × (next.lines ≡ old.lines ++ ls) × AddEach (at + 1) es shares next new
+AddEach at (e ∷ es) (s ∷ shares) old new =
+    (next : Cluster) × Steps at e old next × IsShareOf e s old next × AddEach (at + 1) es shares next new
 
--- these came of the events: a share of lines for each, which the step at it adds, as many as the outcome says
+-- these came of the events: each has a share
 pub record AreWatched (at : ℕ) (events : List Event) (outcomes : List Outcome) (old new : Cluster) : Type 0 where
-  pub shares : List (List ReportLine)
+  pub shares : List Share
   pub add : AddEach at events shares old new
-  pub counts : map length shares ≡ map lines_told outcomes
+  pub outcomes_are : map (λ s. s.outcome) shares ≡ outcomes
 
--- the account is of one run: the report has the lines that the steps at its events add, in turn, and no others
+-- the account is of one run: the report has the lines that the steps at its events add, in turn, and no others; and each
+-- outcome is what came of its event in that run
 pub record IsOfOneRun (account : Accounted) : Type 0 where
-  pub shares : List (List ReportLine)
+  pub shares : List Share
   pub at_the_end : Cluster
   pub add : AddEach 2 account.schedule.events shares (new_cluster account.schedule.nodes) at_the_end
-  pub shared_out : IsSharedOut account shares
+  pub outcomes : map (λ s. s.outcome) shares ≡ account.outcomes
+  pub shared_out : IsSharedOut account (map (λ s. s.lines) shares)
 
 -- the bytes are the text of a schedule, and the account is that of its run
 pub record IsAccountOn (bytes : List ℕ) (account : Accounted) : Type 0 where

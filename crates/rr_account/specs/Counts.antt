@@ -1,13 +1,14 @@
 -- Counts of a run.
-use Rattle.std.specs.Prelude.{◌≡◌, ℕ, ◌+◌, ◌-◌, ◌^◌, Bool, true, false, ◌&&◌, not, ◌==◌, nat_lt, if◌then◌else◌, min, List, [], ◌∷◌, length, map, Option, None, Some, slice_get}
+use Rattle.std.specs.Prelude.{◌≡◌, ℕ, ◌+◌, ◌-◌, ◌^◌, Bool, true, false, ◌&&◌, not, ◌==◌, nat_lt, if◌then◌else◌, min, max, List, [], ◌∷◌, length, map, Option, None, Some, slice_get}
 use Rattle.std.specs.Option.{option_map_or}
-use Rattle.std.specs.List.{AllByRecursion, count_by, sum_by, filter_map, zip}
+use Rattle.std.specs.List.{AllByRecursion, count_by, sum_by, filter_map, flat_map, range_with_len, zip}
 use Rattle.rr_types.specs.declared.message.Body.{Body}
 use Rattle.rr_types.specs.declared.message.Body.TheVariants as says
 use Rattle.rr_types.specs.declared.message.MessageKind.{MessageKind}
 use Rattle.rr_types.specs.declared.message.MessageKind.TheVariants as message
 use Rattle.rr_types.specs.declared.refusal.Refusal.{Refusal}
 use Rattle.rr_types.specs.declared.refusal.Refusal.TheVariants as because
+use Rattle.rr_types.specs.Refusal.{number_of, name_of}
 use Rattle.rr_text.specs.declared.event.Event.{Event}
 use Rattle.rr_text.specs.declared.event.Event.TheVariants as event
 use Rattle.rr_text.specs.declared.report.ReportLine.{ReportLine}
@@ -20,6 +21,7 @@ use Rattle.rr_account.specs.declared.reasons.Reason.{Reason}
 use Rattle.rr_account.specs.declared.reasons.Reason.TheVariants.{Told, Done, Refused, Idle}
 use Rattle.rr_account.specs.declared.statistics.EventCount.{EventCount}
 use Rattle.rr_account.specs.declared.statistics.MessageCount.{MessageCount}
+use Rattle.rr_account.specs.declared.statistics.RefusalCount.{RefusalCount}
 use Rattle.rr_account.specs.declared.statistics.Statistics.{Statistics}
 use Rattle.rr_account.specs.declared.event_sort.EventSort.{EventSort}
 use Rattle.rr_account.specs.declared.event_sort.EventSort.TheVariants as sort
@@ -206,6 +208,64 @@ count_again kind often lines = sum_by (again_by kind often) lines
 abbrev pub stopped : ℕ → ℕ
 stopped n = min n (2 ^ 64 - 1)
 
+-- ---- refusals, by their names
+
+-- whether a line of a report refuses an event, by a refusal of the name that this one has
+abbrev pub refuses : Refusal → ReportLine → Bool
+refuses e (line.Refuse at told) = number_of told == number_of e
+refuses e _ = false
+
+-- how many lines do
+abbrev pub count_refusals : Refusal → List ReportLine → ℕ
+count_refusals e lines = count_by (refuses e) lines
+
+-- a refusal of each name, in the order of their numbers
+abbrev pub each_refusal : List Refusal
+each_refusal =
+    because.OutOfMemory ∷ because.Device ∷ because.Damaged 0 0 ∷ because.Failed ∷ because.Down ∷ because.BadNodes ∷ because.BadName
+    ∷ because.BadValue ∷ because.ListFull ∷ because.RoundsOut ∷ because.Malformed 0 ∷ because.StrangeMark ∷ because.Busy
+    ∷ because.BadEvent 0 ∷ because.SeatsTaken ∷ because.TooLarge ∷ because.AuditNo 0 ∷ because.NoGuard ∷ []
+
+-- the name of a refusal, and how many lines refuse by it, where any does
+abbrev pub refusals_by : List ReportLine → Refusal → List (List ℕ × ℕ)
+refusals_by lines e = if nat_lt 0 (count_refusals e lines) then (name_of e, count_refusals e lines) ∷ [] else []
+
+-- what a row of refusals says
+abbrev pub said_in : RefusalCount → List ℕ × ℕ
+said_in row = (row.name.now, row.refusals)
+
+-- rows say of each name by which lines refuse how many do, in the order of the numbers
+abbrev pub AreRefusals : List ReportLine → List RefusalCount → Type 0
+AreRefusals lines rows = map said_in rows ≡ flat_map (refusals_by lines) each_refusal
+
+-- ---- rounds
+
+-- the round of instance i that a message names, or 0
+abbrev pub round_in : ℕ → Body → ℕ
+round_in i (says.Estimate j e) = if j == i then e.round else 0
+round_in i (says.Proposal j r c) = if j == i then r else 0
+round_in i (says.Ack j r) = if j == i then r else 0
+round_in i (says.Decision j c) = 0
+round_in i (says.Request c) = 0
+round_in i (says.Nack j r) = if j == i then r else 0
+round_in i says.Beat = 0
+round_in i (says.Suspects set) = 0
+round_in i (says.Ask j) = 0
+
+-- the same of a line that tells that a message was sent
+abbrev pub round_told : ℕ → ReportLine → ℕ
+round_told i (line.Send k m) = round_in i m.body
+round_told i _ = 0
+
+-- the highest round of instance i in the messages of which lines tell
+abbrev pub highest_round : ℕ → List ReportLine → ℕ
+highest_round i [] = 0
+highest_round i (l ∷ ls) = max (round_told i l) (highest_round i ls)
+
+-- how many rounds the first instances took, so many: of each its highest
+abbrev pub rounds_taken : ℕ → List ReportLine → ℕ
+rounds_taken n lines = sum_by (λ rounds. rounds) (map (λ i. highest_round i lines) (range_with_len 0 n))
+
 -- ---- statistics
 
 -- a row has the counts of a kind of events
@@ -228,5 +288,7 @@ pub record AreStatistics (account : Accounted) (statistics : Statistics) : Type 
   pub events : AllByRecursion (HasEventCounts account) statistics.events.items
   pub message_kinds : map (λ r. r.kind) statistics.messages.items ≡ message_kinds
   pub messages : AllByRecursion (HasMessageCounts account) statistics.messages.items
+  pub refusals : AreRefusals account.report.lines statistics.refusals.items
   pub decided : statistics.decided ≡ length account.report.decided
+  pub rounds : statistics.rounds ≡ stopped (rounds_taken (length account.report.decided) account.report.lines)
   pub calls : statistics.device_calls ≡ how_many sort.Calls account

@@ -3,3 +3,4 @@ pub mod Counts
 pub mod Objects
 pub mod Texts
 pub mod TapeAccounts
+pub mod Outcomes

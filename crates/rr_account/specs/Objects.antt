@@ -8,7 +8,10 @@ use Rattle.rr_text.specs.declared.report.ReportLine.{ReportLine}
 use Rattle.rr_text.specs.ScheduleTexts.{event_text}
 use Rattle.rr_json.specs.Json.{quoted, label, begun, number_member, words_member, opened, listed}
 use Rattle.rr_json.specs.Objects.{line_front, decided_objects}
+use Rattle.rr_account.specs.declared.outcome.Outcome.{Outcome}
+use Rattle.rr_account.specs.declared.outcome.Outcome.TheVariants.{Quiet, Told, Idle}
 use Rattle.rr_account.specs.Accounts.{Accounted, IsSharedOut}
+use Rattle.rr_account.specs.Counts.{AreStatistics}
 use Rattle.rr_account.specs.declared.statistics.EventCount.{EventCount}
 use Rattle.rr_account.specs.declared.statistics.MessageCount.{MessageCount}
 use Rattle.rr_account.specs.declared.statistics.RefusalCount.{RefusalCount}
@@ -40,9 +43,8 @@ happening_front None false = opened (codes "done")
 abbrev pub happening_object : ℕ → Happening → List ℕ
 happening_object at h = happening_front h.line h.idle ++ label (codes "event") ++ event_object at h.event h.note ++ 125 ∷ 10 ∷ []
 
--- a text has grown by the object of an event on this line, with this line of the report
-pub record IsAnObject (at : ℕ) (event : Event) (line : Option ReportLine) (old new : List ℕ) : Type 0 where
-  pub idle : Bool
+-- a text has grown by the object of an event on this line, with this line of the report, and whether it came to nothing
+pub record IsAnObject (at : ℕ) (event : Event) (line : Option ReportLine) (idle : Bool) (old new : List ℕ) : Type 0 where
   pub note : Option (List ℕ)
   pub grew : new ≡ old ++ happening_object at (record { event = event; line = line; idle = idle; note = note })
 
@@ -51,19 +53,26 @@ abbrev pub happening_objects : ℕ → List Happening → List ℕ
 happening_objects at [] = []
 happening_objects at (h ∷ hs) = happening_object at h ++ happening_objects (at + 1) hs
 
+-- whether an event came to nothing
+abbrev pub came_to_nothing : Outcome → Bool
+came_to_nothing Quiet = false
+came_to_nothing Told = false
+came_to_nothing (Idle why) = true
+
 -- the line that an event has in a report, if any
 abbrev pub lines_of : Option ReportLine → List ReportLine
 lines_of None = []
 lines_of (Some l) = l ∷ []
 
 -- a text is the account as JSON: an object for each event, in their order, then those of the decided commands. The lines of
--- the report that the objects have are its first ones, in their order; each has those of its event
+-- the report that the objects have are its first ones, in their order; each has those of its event, and says if that came to nothing
 pub record IsExplanation (account : Accounted) (text : List ℕ) : Type 0 where
   pub happenings : List Happening
   pub count : ℕ
   pub events : map (λ h. h.event) happenings ≡ account.schedule.events
   pub lines : flat_map (λ h. lines_of h.line) happenings ≡ take count account.report.lines
   pub each : (shares : List (List ReportLine)) → IsSharedOut account shares → map (λ h. lines_of h.line) happenings ≡ shares
+  pub idle : (shares : List (List ReportLine)) → IsSharedOut account shares → map (λ h. h.idle) happenings ≡ map came_to_nothing account.outcomes
   pub text_is : text ≡ happening_objects 2 happenings ++ decided_objects account.report.decided
 
 -- the counts of a kind of events
@@ -99,7 +108,8 @@ statistics_object s =
     ++ array_member (codes "messages") (map message_count_object s.messages.items)
     ++ array_member (codes "refusals") (map refusal_count_object s.refusals.items) ++ 125 ∷ 10 ∷ []
 
--- a text is the object of statistics
-pub record IsStatistics (text : List ℕ) : Type 0 where
+-- a text is the object of the statistics of an account
+pub record IsStatistics (account : Accounted) (text : List ℕ) : Type 0 where
   pub statistics : Statistics
+  pub are : AreStatistics account statistics
   pub text_is : text ≡ statistics_object statistics

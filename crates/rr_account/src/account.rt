@@ -3,9 +3,10 @@
 ghost use Rattle.std.specs.Prelude.{◌≡◌, ◌≤◌, ◌+◌, ◌-◌, length, slice_get, Some, if◌then◌else◌};
 ghost use Rattle.rr_account.specs.declared.outcome.Outcome as came;
 ghost use Rattle.rr_account.specs.Accounts.{lines_told};
+ghost use Rattle.rr_account.specs.Counts.{reason_of};
 
 use crate::outcome::Outcome;
-use crate::reasons::Reason;
+use crate::reasons::{Reason, reason_at};
 use rr_text::{Event, Report, ReportLine, Schedule};
 use rr_types::Command;
 use std::marker::Model;
@@ -97,17 +98,15 @@ impl Account {
     /// Whether the event on line `line` of the schedule has a line in the report, and what is said of the event. The
     /// events before it have `told` lines there.
     pub(crate) fn happening(&self, line: u64, told: usize) -> (bool, Reason)
-        ensures { (outcome : came.Outcome) → slice_get self.now.outcomes (line - 2) ≡ Some outcome
+        ensures told { (outcome : came.Outcome) → slice_get self.now.outcomes (line - 2) ≡ Some outcome
             → told + lines_told outcome ≤ length self.now.report.lines → (if result.0 then 1 else 0) ≡ lines_told outcome }
+        ensures reason { (outcome : came.Outcome) → slice_get self.now.outcomes (line - 2) ≡ Some outcome
+            → result.1 ≡ reason_of outcome (slice_get self.now.report.lines told) }
     {
-        match self.outcome_of(line) {
-            Outcome::Quiet => (false, Reason::Done),
-            Outcome::Idle(idle) => (false, Reason::Idle(idle)),
-            Outcome::Told => match self.report.lines().get(told) {
-                Some(line) => (true, Reason::of_line(line)),
-                None => (false, Reason::Told),
-            },
-        }
+        let outcome = self.outcome_of(line);
+        let lines = self.report.lines();
+        let is_told = matches!(outcome, Outcome::Told) && told < lines.len();
+        (is_told, reason_at(lines, told, outcome))
     }
 
     /// The event that line `number` of the report, counted from 1, tells of, and the event's line in the schedule.

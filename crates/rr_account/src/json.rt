@@ -5,6 +5,7 @@ ghost use Rattle.std.specs.List.{flat_map};
 ghost use Rattle.rr_json.specs.Json.{opened};
 ghost use Rattle.rr_json.specs.Objects.{line_front, report_objects};
 ghost use Rattle.rr_text.specs.declared.report.ReportLine.{ReportLine};
+ghost use Rattle.rr_account.specs.Counts.{is_idle};
 ghost use Rattle.rr_account.specs.Objects.{note_member, event_object, happening_front, lines_of, IsAnObject, IsExplanation};
 
 use crate::account::Account;
@@ -86,7 +87,7 @@ fn push_happening(
     line: Option<&ReportLine>,
     reason: Reason,
 ) -> Result<(), Refusal>
-    ensures ok { OnOk result (IsAnObject at event.now (option_map (λ l. l.now) line.entry) out.old.items out.new.items) }
+    ensures ok { OnOk result (IsAnObject at event.now (option_map (λ l. l.now) line.entry) (is_idle reason) out.old.items out.new.items) }
     ensures err { IfErr result (λ e. e ≡ Refusal.OutOfMemory) }
 {
     let note = reason_text(alloc, event, reason)?;

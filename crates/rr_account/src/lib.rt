@@ -31,6 +31,7 @@ mod kind;
 mod note;
 mod outcome;
 mod reasons;
+mod rounds;
 mod statistics;
 mod table;
 mod taped;

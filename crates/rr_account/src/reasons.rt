@@ -68,8 +68,8 @@ impl Reason {
     }
 }
 
-// What is said of an event of which this came, where the report has so many lines of the events before it.
-fn reason_at(lines: &[ReportLine], told: usize, outcome: Outcome) -> Reason
+/// What is said of an event of which this came, where the report has so many lines of the events before it.
+pub(crate) fn reason_at(lines: &[ReportLine], told: usize, outcome: Outcome) -> Reason
     ensures { result ≡ reason_of outcome (slice_get lines.now told) }
 {
     match outcome {

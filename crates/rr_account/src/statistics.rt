@@ -1,16 +1,17 @@
 //! Statistics of a run: what happened, and how often.
 
-ghost use Rattle.std.specs.Prelude.{◌≡◌, ℕ, map, slice_index, IfOk, IfErr};
-ghost use Rattle.std.specs.List.{AllByRecursion};
-ghost use Rattle.rr_account.specs.Counts.{count_events, event_kinds, message_kinds, reasons_of, hearings, times, HasEventCounts, HasMessageCounts, AreStatistics};
+ghost use Rattle.std.specs.Prelude.{◌≡◌, ◌++◌, ℕ, map, slice_index, OnOk, IfOk, IfErr};
+ghost use Rattle.std.specs.List.{AllByRecursion, flat_map};
+ghost use Rattle.rr_account.specs.Counts.{count_events, event_kinds, message_kinds, reasons_of, hearings, times, refuses, count_refusals, refusals_by, said_in, AreRefusals, HasEventCounts, HasMessageCounts, AreStatistics};
 
 use crate::account::Account;
 use crate::event_sort::{EventSort, count_of};
 use crate::heard::{count_again, count_heard, count_messages, count_never, hearings, times_heard};
 use crate::kind::{EVENT_KINDS, MESSAGE_KINDS, is_event_kind};
 use crate::reasons::{Reason, reasons_of};
+use crate::rounds::rounds_taken;
 use rr_text::{Event, EventKind, ReportLine};
-use rr_types::{Body, Instance, MessageKind, Refusal, Round};
+use rr_types::{MessageKind, Refusal};
 use std::alloc::{AllocError, Global};
 
 /// The events of a kind: how many there are, how many have a line in the report that is no refusal, how many were
@@ -67,7 +68,7 @@ pub fn statistics_of(alloc: Global, account: &Account) -> Result<Statistics, Ref
     let events = event_counts(alloc, account, reasons.as_slice())?;
     let messages = message_counts(alloc, account, counts.as_slice())?;
     let refusals = refusal_counts(alloc, account.lines())?;
-    let rounds = rounds_of(alloc, account)?;
+    let rounds = rounds_taken(alloc, account.decided().len(), account.lines())?;
     Ok(Statistics {
         nodes: account.schedule().nodes().count(),
         decided: account.decided().len() as u64,
@@ -167,53 +168,80 @@ fn message_count(account: &Account, counts: &[u64], kind: MessageKind) -> Messag
     }
 }
 
+// A refusal of each name, in the order of their numbers.
+const EACH_REFUSAL: [Refusal; 18] = [
+    Refusal::OutOfMemory,
+    Refusal::Device,
+    Refusal::Damaged { area: 0, offset: 0 },
+    Refusal::Failed,
+    Refusal::Down,
+    Refusal::BadNodes,
+    Refusal::BadName,
+    Refusal::BadValue,
+    Refusal::ListFull,
+    Refusal::RoundsOut,
+    Refusal::Malformed(0),
+    Refusal::StrangeMark,
+    Refusal::Busy,
+    Refusal::BadEvent(0),
+    Refusal::SeatsTaken,
+    Refusal::TooLarge,
+    Refusal::AuditNo(0),
+    Refusal::NoGuard,
+];
+
+// Whether a line of a report refuses an event, by a refusal of the name that this one has.
+fn refuses(line: &ReportLine, refusal: Refusal) -> bool
+    ensures { result ≡ refuses refusal line.now }
+{
+    match line {
+        ReportLine::Refuse { refusal: told, .. } => told.number() == refusal.number(),
+        _ => false,
+    }
+}
+
+// How many lines of a report do.
+fn count_refusals(lines: &[ReportLine], refusal: Refusal) -> u64
+    ensures { result ≡ count_refusals refusal lines.now }
+{
+    let count = lines.iter().filter(|line| refuses(line, refusal)).count();
+    count as u64
+}
+
+// Appends the row of the name of a refusal, where lines refuse by it.
+fn push_refusals(
+    rows: &mut Vec<RefusalCount>,
+    lines: &[ReportLine],
+    refusal: Refusal,
+) -> Result<(), AllocError>
+    ensures { OnOk result (map said_in rows.new.items ≡ map said_in rows.old.items ++ refusals_by lines.now refusal) }
+{
+    let refusals = count_refusals(lines, refusal);
+    if refusals > 0 {
+        let name = refusal.name();
+        rows.push(RefusalCount { name, refusals })?;
+    }
+    Ok(())
+}
+
+// The rows of the names of these refusals.
+fn rows_of(
+    alloc: Global,
+    lines: &[ReportLine],
+    refusals: &[Refusal],
+) -> Result<Vec<RefusalCount>, AllocError>
+    ensures { IfOk result (λ rows. map said_in rows.items ≡ flat_map (refusals_by lines.now) refusals.now) }
+{
+    let mut rows = Vec::new(alloc);
+    for refusal in refusals {
+        push_refusals(&mut rows, lines, *refusal)?;
+    }
+    Ok(rows)
+}
+
 // The refusals of each name that there are, in the order of their numbers.
-fn refusal_counts(alloc: Global, lines: &[ReportLine]) -> Result<Vec<RefusalCount>, AllocError> {
-    let mut counts = Vec::new(alloc);
-    for number in 1..=18u8 {
-        let mut name = "";
-        let mut refusals = 0u64;
-        for line in lines {
-            if let ReportLine::Refuse { refusal, .. } = line {
-                if refusal.number() == number {
-                    name = refusal.name();
-                    refusals = refusals.saturating_add(1);
-                }
-            }
-        }
-        if refusals > 0 {
-            counts.push(RefusalCount { name, refusals })?;
-        }
-    }
-    Ok(counts)
-}
-
-// The round of a message in an instance, where it names both.
-fn round_in(body: &Body) -> Option<(Instance, Round)> {
-    match body {
-        Body::Estimate(instance, estimate) => Some((*instance, estimate.round())),
-        Body::Proposal(instance, round, _)
-        | Body::Ack(instance, round)
-        | Body::Nack(instance, round) => Some((*instance, *round)),
-        _ => None,
-    }
-}
-
-// How many rounds the decided instances took.
-fn rounds_of(alloc: Global, account: &Account) -> Result<u64, AllocError> {
-    let mut rounds = vec![in alloc; 0u32; account.decided().len()]?;
-    for line in account.lines() {
-        if let ReportLine::Send { message, .. } = line {
-            if let Some((instance, round)) = round_in(&message.body) {
-                if let Some(highest) = rounds.get_mut(instance.number() as usize) {
-                    *highest = (*highest).max(round.number());
-                }
-            }
-        }
-    }
-    let mut sum = 0u64;
-    for round in &rounds {
-        sum = sum.saturating_add(u64::from(*round));
-    }
-    Ok(sum)
+fn refusal_counts(alloc: Global, lines: &[ReportLine]) -> Result<Vec<RefusalCount>, AllocError>
+    ensures { IfOk result (λ rows. AreRefusals lines.now rows.items) }
+{
+    rows_of(alloc, lines, &EACH_REFUSAL)
 }

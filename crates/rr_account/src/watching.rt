@@ -1,19 +1,19 @@
 //! A run that is watched: what comes of each event.
 
-ghost use Rattle.std.specs.Prelude.{◌≡◌, ◌≤◌, ◌++◌, List, length, IfOk, IfErr};
-ghost use Rattle.rr_text.specs.declared.report.ReportLine.{ReportLine};
+ghost use Rattle.std.specs.Prelude.{◌≡◌, ◌≤◌, length, option_map, slice_get, IfOk, IfErr};
 ghost use Rattle.rr_text.specs.Lines.{IsFault};
 ghost use Rattle.rr_text.specs.Scheduled.{IsEvent};
 ghost use Rattle.rr_text.specs.ScheduleTexts.{event_line};
 ghost use Rattle.rr_sim.specs.Clusters.{Steps, LeadsSpelt, IsSpeltBehind};
-ghost use Rattle.rr_account.specs.Accounts.{lines_told, AreWatched, IsAccountOn, IsOfOneRun, IsReportOf};
+ghost use Rattle.rr_account.specs.Accounts.{lines_told, Share, IsShareOf, AreWatched, IsAccountOn, IsOfOneRun, IsReportOf};
+ghost use Rattle.rr_account.specs.Outcomes.{stance_at, rests, has_synced, idle_if, came_of_hearing, untold};
 
 use crate::account::Account;
 use crate::outcome::{Idle, Outcome};
 use rr_sim::{Cluster, Stance, decided_list, node_of};
 use rr_stream::{Sink, tell_step};
 use rr_text::{Event, Report, Schedule};
-use rr_types::Refusal;
+use rr_types::{Message, NodeId, Refusal};
 use std::alloc::Global;
 
 /// The account of the run of the schedule whose text the bytes are. Those who watch `out` are told how far it is; `out`
@@ -102,49 +102,96 @@ fn watch_event(
     event: &Event,
 ) -> Result<Outcome, Refusal>
     ensures steps { IfOk result (λ _. Steps line event.now cluster.old cluster.new × IsSpeltBehind event.now cluster.old cluster.new) }
-    ensures adds { IfOk result (λ outcome. (added : List ReportLine) × (cluster.new.lines ≡ cluster.old.lines ++ added) × (length added ≡ lines_told outcome)) }
+    ensures adds { IfOk result (λ outcome. (share : Share) × (share.outcome ≡ outcome) × IsShareOf event.now share cluster.old cluster.new) }
     ensures err { IfErr result (λ e. e ≡ Refusal.OutOfMemory) }
 {
     let told = cluster.lines().len();
     let before = stance_at(cluster, event);
     cluster.step(alloc, line, event)?;
     if cluster.lines().len() == told {
-        Ok(untold_outcome(cluster, event, before))
+        let behind = stance_at(cluster, event);
+        Ok(untold_outcome(event, before, behind, cluster.wire()))
     } else {
         Ok(Outcome::Told)
     }
 }
 
 // What the node of an event waits for.
-fn stance_at(cluster: &Cluster, event: &Event) -> Option<Stance> {
+fn stance_at(cluster: &Cluster, event: &Event) -> Option<Stance>
+    ensures { result ≡ stance_at event.now cluster.now }
+{
     match cluster.node(node_of(event)) {
         Some(node) => Some(node.stance()),
         None => None,
     }
 }
 
-// What has come of an event that has no line in the report, by what its node waited for before it.
-fn untold_outcome(cluster: &Cluster, event: &Event, before: Option<Stance>) -> Outcome
-    ensures { lines_told result ≡ 0 }
+// Whether a node is up and has no job.
+fn rests(stance: Option<Stance>) -> bool
+    ensures { result ≡ rests stance }
+{
+    matches!(stance, Some(Stance::Resting))
+}
+
+// Whether a node has a synced group that waits for its mark.
+fn has_synced(stance: Option<Stance>) -> bool
+    ensures { result ≡ has_synced stance }
+{
+    matches!(stance, Some(Stance::Flushed))
+}
+
+// An event came to nothing for this reason, or it was done.
+fn idle_if(comes_to_nothing: bool, why: Idle) -> Outcome
+    ensures is { result ≡ idle_if comes_to_nothing why }
+    ensures untold { lines_told result ≡ 0 }
+{
+    if comes_to_nothing {
+        Outcome::Idle(why)
+    } else {
+        Outcome::Quiet
+    }
+}
+
+// What has come of hearing a message of those that were sent.
+fn came_of_hearing(node: NodeId, number: u32, wire: &[Message]) -> Outcome
+    ensures is { result ≡ came_of_hearing node number wire.now (slice_get wire.now number) }
+    ensures untold { lines_told result ≡ 0 }
+{
+    match wire.get(number as usize) {
+        None => Outcome::Idle(Idle::NoMessage(number, wire.len() as u64)),
+        Some(message) => {
+            let addressee = message.to;
+            let why = Idle::OtherAddressee(number, addressee.index());
+            idle_if(addressee != node, why)
+        }
+    }
+}
+
+// What has come of an event that has no line in the report, by what its node waited for before it and waits for behind it, and by
+// the messages that were sent.
+fn untold_outcome(
+    event: &Event,
+    before: Option<Stance>,
+    behind: Option<Stance>,
+    wire: &[Message],
+) -> Outcome
+    ensures is { result ≡ untold event.now before behind wire.now }
+    ensures untold { lines_told result ≡ 0 }
 {
     match event {
-        Event::Hear { node, message } => match cluster.wire().get(*message as usize) {
-            None => Outcome::Idle(Idle::NoMessage(*message, cluster.wire().len() as u64)),
-            Some(sent) if sent.to == *node => Outcome::Quiet,
-            Some(sent) => Outcome::Idle(Idle::OtherAddressee(*message, sent.to.index())),
-        },
-        Event::Take { .. } if stance_at(cluster, event) == Some(Stance::Resting) => {
-            Outcome::Idle(Idle::NothingStaged)
-        }
-        Event::Device { .. } if matches!(before, Some(Stance::Resting | Stance::Flushed)) => {
-            Outcome::Idle(Idle::NoCallDue)
-        }
-        Event::Mark { .. } if before != Some(Stance::Flushed) => {
-            Outcome::Idle(Idle::NothingSynced)
-        }
+        Event::Hear { node, message } => came_of_hearing(*node, *message, wire),
+        Event::Take { .. } => idle_if(rests(behind), Idle::NothingStaged),
+        Event::Device { .. } => idle_if(rests(before) || has_synced(before), Idle::NoCallDue),
+        Event::Fail { .. } => Outcome::Idle(Idle::NoCallDue),
+        Event::Mark { .. } => idle_if(!has_synced(before), Idle::NothingSynced),
         Event::Send { .. } => Outcome::Idle(Idle::NothingToSend),
         Event::Ack { .. } => Outcome::Idle(Idle::NothingToAcknowledge),
-        Event::Fail { .. } => Outcome::Idle(Idle::NoCallDue),
-        _ => Outcome::Quiet,
+        Event::Submit { .. }
+        | Event::Suspect { .. }
+        | Event::Tick { .. }
+        | Event::Advance { .. }
+        | Event::Snap { .. }
+        | Event::Crash { .. }
+        | Event::Restart { .. } => Outcome::Quiet,
     }
 }

@@ -48,6 +48,6 @@ never_is heard before lost sent is keeps = is ∙ ap (λ (test : ℕ → Bool). 
 pub hearing_folded : (cut : Cut) (before : List ℕ) (n : ℕ) (m : Message) (kind : MessageKind) (text : List ℕ) → kind ≡ message_kind m.body → folds cut kind ≡ true → text ≡ [] → IsHearing cut before (Some (n, m)) text
 hearing_folded cut before n m kind text is folded none = inr (ap (folds cut) (sym is) ∙ folded, none)
 
-pub hearing_drawn : (cut : Cut) (before : List ℕ) (n : ℕ) (m : Message) (kind : MessageKind) (fate : Fate) (text : List ℕ) → kind ≡ message_kind m.body → fate ≡ fate_at before n → IsArrow kind fate text → IsHearing cut before (Some (n, m)) text
+pub hearing_drawn : (cut : Cut) (before : List ℕ) (n : ℕ) (m : Message) (kind : MessageKind) (fate : Fate) (text : List ℕ) → kind ≡ message_kind m.body → fate ≡ fate_at before n → IsArrow m.from m.to kind fate text → IsHearing cut before (Some (n, m)) text
 hearing_drawn cut before n m kind fate text is becomes arrow =
-    inl (subst (λ (k : MessageKind). IsArrow k (fate_at before n) text) is (subst (λ (f : Fate). IsArrow kind f text) becomes arrow))
+    inl (subst (λ (k : MessageKind). IsArrow m.from m.to k (fate_at before n) text) is (subst (λ (f : Fate). IsArrow m.from m.to kind f text) becomes arrow))

@@ -9,6 +9,7 @@ use Rattle.rr_types.specs.declared.message.Message.{Message}
 use Rattle.rr_types.specs.declared.refusal.Refusal.{Refusal}
 use Rattle.rr_types.specs.declared.refusal.Refusal.TheVariants as because
 use Rattle.rr_model.specs.Sound.{IsDecidedList}
+use Rattle.rr_text.specs.declared.event.Event.{Event}
 use Rattle.rr_text.specs.declared.report.ReportLine.{ReportLine}
 use Rattle.rr_text.specs.Lines.{nodes_line, HasNoLine, IsStop}
 use Rattle.rr_text.specs.Scheduled.{IsEvent}
@@ -20,7 +21,8 @@ use Rattle.rr_sim.proofs.ToldLaws.{ToldSoFar, behind_lines, whole as whole_clust
 use Rattle.rr_draw.specs.declared.cut.Cut.{Cut}
 use Rattle.rr_draw.specs.declared.fate.Heard.{Heard}
 use Rattle.rr_draw.specs.Fates.{Seen, message_of, is_on, heard_by, heard_at, hearings, speaks, may_tell_facts, Keeps, IsHearing}
-use Rattle.rr_draw.specs.Pictures.{AreSeen, line_of, told_of, title_of, element, shows, IsDrawn, drawn, of_another_instance, AreDrawn, Adds, ShowsAll, IsPictureOf}
+use Rattle.rr_draw.specs.Labels.{heard_words}
+use Rattle.rr_draw.specs.Pictures.{AreSeen, line_of, told_of, title_of, element, shows, seen_at, IsDrawn, drawn, left_out, of_another_instance, AreDrawn, Adds, ShowsOne, ShowsAll, IsPictureOf}
 
 -- what a picture has of events, and of one more
 pub are_drawn_push : (cut : Cut) (at k : ℕ) (before : List ℕ) (all : List Seen) (text : List ℕ) (seen : Seen) (mine : List ℕ) → k ≡ at + length all → AreDrawn cut at before all text → IsDrawn cut k (before ++ hearings all) seen mine
@@ -35,27 +37,31 @@ are_drawn_push cut at k before (s ∷ ss) text seen mine is (first, rest, split,
     (first, rest ++ mine, ap (λ (t : List ℕ). t ++ mine) split ∙ append_assoc first rest mine, its, are_drawn_push cut (at + 1) k (before ++ heard_at s) ss rest seen mine on others heard_first)
 
 -- what is seen of events, and of one more
-are_seen_push : (at k : ℕ) (all : List Seen) (old mid next : Cluster) (added : List ReportLine) (seen : Seen) → k ≡ at + length all → AreSeen at all old mid
-    → Steps k seen.event mid next → next.lines ≡ mid.lines ++ added → seen.told ≡ told added → seen.wire ≡ next.wire → AreSeen at (all ++ seen ∷ []) old next
-are_seen_push at k [] old mid next added seen is same steps grew tells sent =
+are_seen_push : (at k : ℕ) (all : List Seen) (old mid next : Cluster) (seen : Seen) → k ≡ at + length all → AreSeen at all old mid
+    → Steps k seen.event mid next → next.lines ≡ mid.lines ++ seen.lines → seen.wire ≡ next.wire → AreSeen at (all ++ seen ∷ []) old next
+are_seen_push at k [] old mid next seen is same steps grew sent =
     let here : k ≡ at = omega (arith, is) in
-    (next, added, subst (λ (c : Cluster). Steps at seen.event c next) same (subst (λ (i : ℕ). Steps i seen.event mid next) here steps), subst (λ (c : Cluster). next.lines ≡ c.lines ++ added) same grew, tells, sent, refl)
-are_seen_push at k (s ∷ ss) old mid next added seen is (first, some, its, its_lines, said, went, others) steps grew tells sent =
-    (first, some, its, its_lines, said, went, are_seen_push (at + 1) k ss first mid next added seen (omega (arith, is)) others steps grew tells sent)
+    (next, subst (λ (c : Cluster). Steps at seen.event c next) same (subst (λ (i : ℕ). Steps i seen.event mid next) here steps), subst (λ (c : Cluster). next.lines ≡ c.lines ++ seen.lines) same grew, sent, refl)
+are_seen_push at k (s ∷ ss) old mid next seen is (first, its, its_lines, went, others) steps grew sent =
+    (first, its, its_lines, went, are_seen_push (at + 1) k ss first mid next seen (omega (arith, is)) others steps grew sent)
 
-pub adds_element : (cut : Cut) (at : ℕ) (before : List ℕ) (seen : Seen) (old new title more arrow shapes : List ℕ) → shows cut at seen.event ≡ true → (speaks cut seen || may_tell_facts seen.event) ≡ true
-    → IsHearing cut before (heard_by seen.event seen.told seen.wire) arrow
-    → title ≡ title_of at seen.event seen.told → new ≡ old ++ element title more (arrow ++ shapes)
+pub adds_element : (cut : Cut) (at : ℕ) (before : List ℕ) (seen : Seen) (old new arrow shapes : List ℕ) → shows cut at seen.event ≡ true → (speaks cut seen || may_tell_facts seen.event) ≡ true
+    → IsHearing cut before (heard_by seen.event seen.lines seen.wire) arrow
+    → new ≡ old ++ element (title_of at seen.event seen.lines) (heard_words (heard_by seen.event seen.lines seen.wire)) (arrow ++ shapes)
     → Adds cut at before seen old new
-adds_element cut at before seen old new title more arrow shapes is_within is_about is_arrow is grew = record {
-  mine = element title more (arrow ++ shapes);
+adds_element cut at before seen old new arrow shapes is_within is_about is_arrow grew = record {
+  mine = element (title_of at seen.event seen.lines) (heard_words (heard_by seen.event seen.lines seen.wire)) (arrow ++ shapes);
   grew = grew;
-  is_drawn = drawn is_within is_about (record { more = more; arrow = arrow; others = shapes; is_arrow = is_arrow; text_is = ap (λ (t : List ℕ). element t more (arrow ++ shapes)) is });
+  is_drawn = drawn is_within is_about (record { arrow = arrow; others = shapes; is_arrow = is_arrow; text_is = refl });
 }
+
+-- an event that the cut doesn't show adds nothing
+pub adds_none_within : (cut : Cut) (at : ℕ) (before : List ℕ) (seen : Seen) (old : List ℕ) → shows cut at seen.event ≡ false → Adds cut at before seen old old
+adds_none_within cut at before seen old beyond = record { mine = []; grew = sym (append-nil old); is_drawn = left_out beyond refl }
 
 -- an event that doesn't speak of the instance adds nothing
 pub adds_nothing : (cut : Cut) (at : ℕ) (before : List ℕ) (seen : Seen) (old : List ℕ) (m : Option Message) (result : Bool) → result ≡ option_map_or (λ i. is_on i m) cut.instance true
-    → m ≡ message_of seen.event seen.told seen.wire → result ≡ false → Adds cut at before seen old old
+    → m ≡ message_of seen.event seen.lines seen.wire → result ≡ false → Adds cut at before seen old old
 adds_nothing cut at before seen old m result tells is silent = record {
   mine = [];
   grew = sym (append-nil old);
@@ -91,32 +97,29 @@ shown_none n bytes cut old before elements heard no_lines none unheard = record 
   keeps = unheard;
 }
 
-pub shown_more : (n : ℕ) (bytes : List ℕ) (cut : Cut) (old : Cluster) (before : List ℕ) (number next_number : ℕ) (rest after : List ℕ) (kept next empty : Cluster) (report longer elements more : List ℕ) (heard hears : Heard) (seen : Seen)
+pub shown_more : (n : ℕ) (bytes : List ℕ) (cut : Cut) (old : Cluster) (before : List ℕ) (number next_number : ℕ) (rest after : List ℕ) (kept empty : Cluster) (report longer elements more : List ℕ) (heard hears : Heard) (e : Event)
     → ShownSoFar n bytes cut old before number rest kept report elements heard
-    → (number < 1000002) × IsEvent n seen.event × (rest ≡ event_line seen.event ++ after)
-    → Steps number seen.event kept next → IsSpeltBehind seen.event kept next
-    → empty ≡ record next { lines = [] } → seen.told ≡ told next.lines → longer ≡ report ++ seen.told → next_number ≡ number + 1
-    → seen.wire ≡ next.wire
-    → ((heard_before : List ℕ) → Keeps heard heard_before → Adds cut number heard_before seen elements more)
-    → ((heard_before : List ℕ) → Keeps heard heard_before → Keeps hears (heard_before ++ heard_at seen))
+    → (number < 1000002) × IsEvent n e × (rest ≡ event_line e ++ after)
+    → ShowsOne cut number e kept empty report longer elements more heard hears → next_number ≡ number + 1
     → ShownSoFar n bytes cut old before next_number after empty longer more hears
-shown_more n bytes cut old before number next_number rest after kept next empty report longer elements more heard hears seen h read steps spelt emptied tells grew counts sent adds_to keeps_on =
+shown_more n bytes cut old before number next_number rest after kept empty report longer elements more heard hears e h read one counts =
+    let seen : Seen = seen_at e one.next in
     let same = whole_cluster h.cluster kept h.is_kept in
-    let on = behind_lines h.cluster.lines next in
-    let steps_on : Steps number seen.event h.cluster on = subst (λ (c : Cluster). Steps number seen.event c on) same (steps_behind number seen.event h.cluster.lines kept next steps) in
-    let adds : Adds cut number (hearings h.all) seen elements more = adds_to (hearings h.all) h.keeps in
+    let on = behind_lines h.cluster.lines one.next in
+    let steps_on : Steps number e h.cluster on = subst (λ (c : Cluster). Steps number e c on) same (steps_behind number e h.cluster.lines kept one.next one.steps) in
+    let adds : Adds cut number (hearings h.all) seen elements more = one.adds (hearings h.all) h.keeps in
     record {
       all = h.all ++ seen ∷ [];
-      told_so_far = told_more n bytes old before number next_number rest after kept next empty report longer seen.event h.told_so_far read steps spelt emptied (grew ∙ ap (λ (t : List ℕ). report ++ t) tells) counts;
+      told_so_far = told_more n bytes old before number next_number rest after kept one.next empty report longer e h.told_so_far read one.steps one.spelt one.kept one.grew counts;
       counted = (let l = length_push h.all seen in omega (arith, counts, h.counted, l));
-      read = h.read ∙ ap (λ (w : List ℕ). flat_map line_of h.all ++ w) read.2 ∙ sym (append_assoc (flat_map line_of h.all) (event_line seen.event) after) ∙ ap (λ (w : List ℕ). w ++ after) (sym (lines_push line_of h.all seen));
-      told = grew ∙ ap (λ (t : List ℕ). t ++ seen.told) h.told ∙ append_assoc before (flat_map told_of h.all) seen.told ∙ ap (λ (t : List ℕ). before ++ t) (sym (lines_push told_of h.all seen));
+      read = h.read ∙ ap (λ (w : List ℕ). flat_map line_of h.all ++ w) read.2 ∙ sym (append_assoc (flat_map line_of h.all) (event_line e) after) ∙ ap (λ (w : List ℕ). w ++ after) (sym (lines_push line_of h.all seen));
+      told = one.grew ∙ ap (λ (t : List ℕ). t ++ told_of seen) h.told ∙ append_assoc before (flat_map told_of h.all) (told_of seen) ∙ ap (λ (t : List ℕ). before ++ t) (sym (lines_push told_of h.all seen));
       cluster = on;
-      is_kept = emptied;
-      are_seen = are_seen_push 2 number h.all old h.cluster on next.lines seen (omega (arith, h.counted)) h.are_seen steps_on refl tells sent;
+      is_kept = one.kept;
+      are_seen = are_seen_push 2 number h.all old h.cluster on seen (omega (arith, h.counted)) h.are_seen steps_on refl refl;
       are_drawn = subst (λ (w : List ℕ). AreDrawn cut 2 [] (h.all ++ seen ∷ []) w) (sym adds.grew)
           (are_drawn_push cut 2 number [] h.all elements seen adds.mine (omega (arith, h.counted)) h.are_drawn adds.is_drawn);
-      keeps = subst (λ (ks : List ℕ). Keeps hears ks) (sym (lines_push heard_at h.all seen)) (keeps_on (hearings h.all) h.keeps);
+      keeps = subst (λ (ks : List ℕ). Keeps hears ks) (sym (lines_push heard_at h.all seen)) (one.keeps (hearings h.all) h.keeps);
     }
 
 pub shown_all : (n : ℕ) (bytes : List ℕ) (cut : Cut) (old : Cluster) (before : List ℕ) (number : ℕ) (rest : List ℕ) (kept : Cluster) (report elements : List ℕ) (heard : Heard)

@@ -1,8 +1,8 @@
 -- What is seen at an event of a run: the message that it sends or hears, what becomes of that, and what it speaks of.
-use Rattle.std.specs.Prelude.{◌≡◌, ◌⊎◌, ℕ, ◌-◌, Bool, true, false, not, ◌&&◌, ◌==◌, nat_eq, if◌then◌else◌, List, [], ◌++◌, length, Option, None, Some, slice_get, filter, option_map, option_to_list, codes}
+use Rattle.std.specs.Prelude.{◌≡◌, ◌⊎◌, ℕ, ◌+◌, ◌-◌, ◌*◌, Bool, true, false, not, ◌&&◌, ◌==◌, if◌then◌else◌, List, [], ◌∷◌, ◌++◌, Option, None, Some, slice_get, filter, option_map, option_to_list, codes, decimal}
 use Rattle.std.specs.Ordering.{nat_cmp}
 use Rattle.std.specs.Option.{option_map_or}
-use Rattle.std.specs.List.{flat_map, list_any, range_with_len, starts_with}
+use Rattle.std.specs.List.{flat_map, list_any, range_with_len}
 use Rattle.std.specs.BTreeSet.{contains}
 use Rattle.rr_types.specs.declared.message.Body.{Body}
 use Rattle.rr_types.specs.declared.message.Body.TheVariants as says
@@ -12,24 +12,36 @@ use Rattle.rr_types.specs.declared.message.MessageKind.TheVariants.{Estimate, Pr
 use Rattle.rr_types.specs.Messages.{message_kind}
 use Rattle.rr_text.specs.declared.event.Event.{Event}
 use Rattle.rr_text.specs.declared.event.Event.TheVariants.{Send, Hear, Device, Take, Mark}
+use Rattle.rr_text.specs.declared.report.ReportLine.{ReportLine}
+use Rattle.rr_text.specs.declared.report.ReportLine.TheVariants as line
 use Rattle.rr_draw.specs.declared.cut.Cut.{Cut}
 use Rattle.rr_draw.specs.declared.fate.Fate.{Fate}
 use Rattle.rr_draw.specs.declared.fate.Fate.TheVariants.{First, Again}
 use Rattle.rr_draw.specs.declared.fate.Heard.{Heard}
 
--- an event of a run, the text of its lines of the report, and the messages that were sent by then
+-- an event of a run, the lines that the report has of it, and the messages that were sent by then
 pub record Seen : Type 0 where
   pub event : Event
-  pub told : List ℕ
+  pub lines : List ReportLine
   pub wire : List Message
+
+-- the message that a line tells as sent
+abbrev pub message_in : Option ReportLine → Option Message
+message_in (Some (line.Send k m)) = Some m
+message_in _ = None
+
+-- whether a line refuses an event
+abbrev pub is_refusal : Option ReportLine → Bool
+is_refusal (Some (line.Refuse at e)) = true
+is_refusal _ = false
 
 -- ---- instances
 
 -- the message that an event has sent, or that it names as one to hear
-abbrev pub message_of : Event → List ℕ → List Message → Option Message
-message_of (Send p) told wire = if starts_with nat_eq told (codes "send") then slice_get wire (length wire - 1) else None
-message_of (Hear p k) told wire = slice_get wire k
-message_of _ told wire = None
+abbrev pub message_of : Event → List ReportLine → List Message → Option Message
+message_of (Send p) lines wire = message_in (slice_get lines 0)
+message_of (Hear p k) lines wire = slice_get wire k
+message_of _ lines wire = None
 
 -- the instance that a message speaks of, if it speaks of one
 abbrev pub instance_of : Body → Option ℕ
@@ -50,7 +62,7 @@ is_on i (Some m) = option_map_or (λ j. j == i) (instance_of m.body) false
 
 -- whether an event speaks of instance i: by the message that it sends or hears, also where that is refused
 abbrev pub speaks_of : ℕ → Seen → Bool
-speaks_of i seen = is_on i (message_of seen.event seen.told seen.wire)
+speaks_of i seen = is_on i (message_of seen.event seen.lines seen.wire)
 
 -- whether an event speaks of the instance of a cut, where one is given
 abbrev pub speaks : Cut → Seen → Bool
@@ -66,14 +78,14 @@ may_tell_facts _ = false
 -- ---- fates
 
 -- the number of a message that is there, and the message, where a node hears it: it is for that node, which doesn't refuse it
-abbrev pub hearing : ℕ → ℕ → List ℕ → Option Message → Option (ℕ × Message)
-hearing p k told None = None
-hearing p k told (Some m) = if m.to == p && not (starts_with nat_eq told (codes "refuse")) then Some (k, m) else None
+abbrev pub hearing : ℕ → ℕ → List ReportLine → Option Message → Option (ℕ × Message)
+hearing p k lines None = None
+hearing p k lines (Some m) = if m.to == p && not (is_refusal (slice_get lines 0)) then Some (k, m) else None
 
 -- the message that an event hears
-abbrev pub heard_by : Event → List ℕ → List Message → Option (ℕ × Message)
-heard_by (Hear p k) told wire = hearing p k told (slice_get wire k)
-heard_by _ told wire = None
+abbrev pub heard_by : Event → List ReportLine → List Message → Option (ℕ × Message)
+heard_by (Hear p k) lines wire = hearing p k lines (slice_get wire k)
+heard_by _ lines wire = None
 
 -- its number
 abbrev pub number_of : Option (ℕ × Message) → List ℕ
@@ -81,7 +93,7 @@ number_of it = option_to_list (option_map (λ m. m.0) it)
 
 -- the numbers of the messages that are heard at events, in turn
 abbrev pub heard_at : Seen → List ℕ
-heard_at seen = number_of (heard_by seen.event seen.told seen.wire)
+heard_at seen = number_of (heard_by seen.event seen.lines seen.wire)
 
 abbrev pub hearings : List Seen → List ℕ
 hearings all = flat_map heard_at all
@@ -121,14 +133,38 @@ abbrev pub fate_class : Fate → List ℕ
 fate_class First = []
 fate_class Again = codes "again"
 
--- the text of an arrow, from a line to itself or to another: its classes are those of its message and of its fate
-abbrev pub arrow : Bool → MessageKind → Fate → List ℕ → List ℕ
-arrow to_itself kind fate ends =
-    (if to_itself then codes "<path" else codes "<line") ++ codes " class=\"" ++ class_of kind ++ codes " " ++ fate_class fate ++ codes "\"" ++ ends
+-- how far from the left a node's line stands
+abbrev pub x_of : ℕ → ℕ
+x_of p = 150 + 220 * p
 
--- a text is an arrow of a kind and a fate
-abbrev pub IsArrow : MessageKind → Fate → List ℕ → Type 0
-IsArrow kind fate text = (to_itself : Bool) × (ends : List ℕ) × (text ≡ arrow to_itself kind fate ends)
+-- a place: how far from the left, and how far down
+abbrev pub place : ℕ → ℕ → List ℕ
+place x y = decimal x ++ 32 ∷ decimal y
+
+-- the ends of an arrow from one line to another, and those of one from a line to itself, which makes a bow to the left
+abbrev pub line_ends : ℕ → ℕ → ℕ → ℕ → List ℕ
+line_ends x1 y1 x2 y2 =
+    codes " marker-end=\"url(#m)\" x1=\"" ++ decimal x1 ++ codes "\" y1=\"" ++ decimal y1 ++ codes "\" x2=\"" ++ decimal x2
+    ++ codes "\" y2=\"" ++ decimal y2 ++ codes "\"/>"
+
+abbrev pub bow_ends : ℕ → ℕ → ℕ → List ℕ
+bow_ends x y1 y2 =
+    codes " marker-end=\"url(#m)\" d=\"M" ++ place x y1 ++ codes "C" ++ place (x - 22) y1 ++ codes " " ++ place (x - 22) y2
+    ++ codes " " ++ place x y2 ++ codes "\"/>"
+
+-- what an arrow begins with: its classes are those of its message and of its fate
+abbrev pub arrow_front : Bool → MessageKind → Fate → List ℕ
+arrow_front to_itself kind fate =
+    (if to_itself then codes "<path" else codes "<line") ++ codes " class=\"" ++ class_of kind ++ codes " " ++ fate_class fate ++ codes "\""
+
+-- the text of an arrow: it goes from this place on the line of the sender to that on the line of the addressee
+abbrev pub arrow : ℕ → ℕ → MessageKind → Fate → ℕ → ℕ → List ℕ
+arrow from to kind fate y1 y2 =
+    arrow_front (from == to) kind fate ++ (if from == to then bow_ends (x_of from) y1 y2 else line_ends (x_of from) y1 (x_of to) y2)
+
+-- a text is an arrow of a kind and a fate, from one node to another
+abbrev pub IsArrow : ℕ → ℕ → MessageKind → Fate → List ℕ → Type 0
+IsArrow from to kind fate text = (y1 : ℕ) × (y2 : ℕ) × (text ≡ arrow from to kind fate y1 y2)
 
 -- whether messages of a kind are folded in a long picture
 abbrev pub folds : Cut → MessageKind → Bool
@@ -137,9 +173,9 @@ folds cut Beat = true
 folds cut Suspects = true
 folds cut _ = false
 
--- what is drawn of the message that an event hears, by those that were heard before: an arrow of its fate, or nothing where it is
--- folded. Of an event that hears none there is no arrow
+-- what is drawn of the message that an event hears, by those that were heard before: an arrow of its fate, from its sender to its
+-- addressee, or nothing where it is folded. Of an event that hears none there is no arrow
 abbrev pub IsHearing : Cut → List ℕ → Option (ℕ × Message) → List ℕ → Type 0
 IsHearing cut before None text = text ≡ []
 IsHearing cut before (Some it) text =
-    IsArrow (message_kind it.1.body) (fate_at before it.0) text ⊎ ((folds cut (message_kind it.1.body) ≡ true) × (text ≡ []))
+    IsArrow it.1.from it.1.to (message_kind it.1.body) (fate_at before it.0) text ⊎ ((folds cut (message_kind it.1.body) ≡ true) × (text ≡ []))

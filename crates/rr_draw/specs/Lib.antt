@@ -1,3 +1,5 @@
 pub mod Fates
+pub mod Jobs
+pub mod Labels
 pub mod Pictures
 pub mod TapePictures

@@ -6,11 +6,13 @@ use Rattle.rr_text.specs.declared.event.Event.{Event}
 use Rattle.rr_text.specs.Lines.{nodes_line}
 use Rattle.rr_text.specs.Scheduled.{node_of}
 use Rattle.rr_text.specs.ScheduleTexts.{event_line}
-use Rattle.rr_sim.specs.Clusters.{Cluster, new_cluster, Steps}
+use Rattle.rr_sim.specs.Clusters.{Cluster, new_cluster, Steps, IsSpeltBehind}
 use Rattle.rr_sim.specs.Told.{told, TellsAll, IsReportOn}
 use Rattle.rr_text.specs.declared.report.ReportLine.{ReportLine}
 use Rattle.rr_draw.specs.declared.cut.Cut.{Cut}
-use Rattle.rr_draw.specs.Fates.{Seen, speaks, may_tell_facts, heard_by, heard_at, IsHearing}
+use Rattle.rr_draw.specs.declared.fate.Heard.{Heard}
+use Rattle.rr_draw.specs.Fates.{Seen, speaks, may_tell_facts, heard_by, heard_at, Keeps, IsHearing}
+use Rattle.rr_draw.specs.Labels.{heard_words}
 
 -- how SVG spells a byte of a text
 abbrev pub escaped : ℕ → List ℕ
@@ -30,8 +32,7 @@ shows cut at e = nat_le cut.from at && nat_le at cut.to && option_map_or (λ p. 
 abbrev pub AreSeen : ℕ → List Seen → Cluster → Cluster → Type 0
 AreSeen at [] old new = new ≡ old
 AreSeen at (seen ∷ all) old new =
-    (next : Cluster) × (added : List ReportLine) × Steps at seen.event old next × (next.lines ≡ old.lines ++ added) × (seen.told ≡ told added)
-    × (seen.wire ≡ next.wire) × AreSeen (at + 1) all next new
+    (next : Cluster) × Steps at seen.event old next × (next.lines ≡ old.lines ++ seen.lines) × (seen.wire ≡ next.wire) × AreSeen (at + 1) all next new
 
 -- the line of an event
 abbrev pub line_of : Seen → List ℕ
@@ -39,24 +40,23 @@ line_of seen = event_line seen.event
 
 -- what the report has of it
 abbrev pub told_of : Seen → List ℕ
-told_of seen = seen.told
+told_of seen = told seen.lines
 
 -- what the title of the event of a line begins with: the line's number, the event and what the report has of it
-abbrev pub title_of : ℕ → Event → List ℕ → List ℕ
-title_of at e told_now = codes "line " ++ decimal at ++ codes ": " ++ event_line e ++ told_now
+abbrev pub title_of : ℕ → Event → List ReportLine → List ℕ
+title_of at e lines = codes "line " ++ decimal at ++ codes ": " ++ event_line e ++ told lines
 
 -- an element with a title, more behind it, and shapes
 abbrev pub element : List ℕ → List ℕ → List ℕ → List ℕ
 element title more shapes = codes "<g><title>" ++ flat_map escaped title ++ more ++ codes "</title>" ++ shapes ++ codes "</g>\n"
 
--- an element of the event of a line, with its title. Its shapes begin with the arrow of the message that it hears, by those that
--- were heard before
+-- the element of the event of a line. Its title ends with the message that the event hears, and its shapes begin with that one's
+-- arrow, by those that were heard before
 pub record IsElement (cut : Cut) (at : ℕ) (before : List ℕ) (seen : Seen) (text : List ℕ) : Type 0 where
-  pub more : List ℕ
   pub arrow : List ℕ
   pub others : List ℕ
-  pub is_arrow : IsHearing cut before (heard_by seen.event seen.told seen.wire) arrow
-  pub text_is : text ≡ element (title_of at seen.event seen.told) more (arrow ++ others)
+  pub is_arrow : IsHearing cut before (heard_by seen.event seen.lines seen.wire) arrow
+  pub text_is : text ≡ element (title_of at seen.event seen.lines) (heard_words (heard_by seen.event seen.lines seen.wire)) (arrow ++ others)
 
 -- what a picture has of the event of a line: its element, or nothing where the cut doesn't show it. Where an instance is given, an
 -- event that doesn't speak of it is left out too; but it may be shown where it may sync or mark facts
@@ -76,6 +76,21 @@ pub record Adds (cut : Cut) (at : ℕ) (before : List ℕ) (seen : Seen) (old ne
   pub mine : List ℕ
   pub grew : new ≡ old ++ mine
   pub is_drawn : IsDrawn cut at before seen mine
+
+-- what is seen at an event that led to a cluster, which has its lines alone
+abbrev pub seen_at : Event → Cluster → Seen
+seen_at e c = record { event = e; lines = c.lines; wire = c.wire }
+
+-- the event of a line is made; the report has grown by what it has of that, and the elements by what a picture has of it. What
+-- was heard is kept
+pub record ShowsOne (cut : Cut) (at : ℕ) (event : Event) (old new : Cluster) (before after elements more : List ℕ) (heard hears : Heard) : Type 0 where
+  pub next : Cluster
+  pub steps : Steps at event old next
+  pub spelt : IsSpeltBehind event old next
+  pub kept : new ≡ record next { lines = [] }
+  pub grew : after ≡ before ++ told next.lines
+  pub adds : (heard_before : List ℕ) → Keeps heard heard_before → Adds cut at heard_before (seen_at event next) elements more
+  pub keeps : (heard_before : List ℕ) → Keeps heard heard_before → Keeps hears (heard_before ++ heard_at (seen_at event next))
 
 -- the bytes are the lines of events among n nodes, which lead a cluster to another; a report has grown by what each of them
 -- tells, and the elements are what a picture has of them

@@ -6,7 +6,6 @@ use Rattle.rr_tape.specs.declared.tape_event.TapeEvent.{TapeEvent}
 use Rattle.rr_tape.specs.Taped.{Taped}
 use Rattle.rr_audit.specs.Audits.{sent_by}
 use Rattle.rr_audit.specs.Rows.{as_scheduled, as_reported}
-use Rattle.rr_sim.specs.Told.{told}
 use Rattle.rr_draw.specs.declared.cut.Cut.{Cut}
 use Rattle.rr_draw.specs.Fates.{Seen}
 use Rattle.rr_draw.specs.Pictures.{AreDrawn}
@@ -16,13 +15,13 @@ abbrev pub lines_of : Option ReportLine → List ReportLine
 lines_of None = []
 lines_of (Some l) = l ∷ []
 
--- the text of the line of a report that an event of a tape is, if it is one
-abbrev pub told_on : TapeEvent → List ℕ
-told_on e = told (lines_of (as_reported e))
+-- the line of a report that an event of a tape is, if it is one
+abbrev pub lines_on : TapeEvent → List ReportLine
+lines_on e = lines_of (as_reported e)
 
 -- an event of a tape as one of a schedule, where these messages were sent by then
 abbrev pub seen_on : List Message → TapeEvent → Seen
-seen_on wire e = record { event = as_scheduled e; told = told_on e; wire = wire }
+seen_on wire e = record { event = as_scheduled e; lines = lines_on e; wire = wire }
 
 -- the events of a tape, where these messages were sent before them
 abbrev pub all_on : List Message → List TapeEvent → List Seen

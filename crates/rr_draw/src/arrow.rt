@@ -1,40 +1,68 @@
 //! The arrows of the messages that are heard.
 
-ghost use Rattle.std.specs.Prelude.{◌≡◌, ◌++◌, if◌then◌else◌, codes, OnOk, IfOk, IfErr};
-ghost use Rattle.rr_draw.specs.Fates.{arrow, IsArrow};
+ghost use Rattle.std.specs.Prelude.{◌≡◌, ◌++◌, ◌∷◌, ◌-◌, ◌==◌, if◌then◌else◌, codes, OnOk, IfOk};
+ghost use Rattle.rr_draw.specs.Fates.{place, line_ends, bow_ends, arrow_front, arrow, IsArrow};
 
 use crate::fate::Fate;
 use crate::glyphs::class_of;
-use crate::picture::written;
-use rr_text::text_word::push_bytes;
-use rr_types::{MessageKind, Refusal};
+use crate::lane::x_of;
+use rr_text::text_word::{push_byte, push_bytes, push_number};
+use rr_types::{MessageKind, NodeId};
 use std::alloc::{AllocError, Global};
-use std::io;
-use std::io::Write;
 
-/// Where an arrow begins and where it ends: how far from the left, and how far down.
+/// The ends of an arrow: the node that has sent the message and the one that hears it, and how far down.
 #[derive(Clone, Copy)]
 pub(crate) struct Ends {
-    pub(crate) from: (u64, u64),
-    pub(crate) to: (u64, u64),
+    pub(crate) from: NodeId,
+    pub(crate) to: NodeId,
+    pub(crate) sent_at: u64,
+    pub(crate) heard_at: u64,
 }
 
-// Appends the rest of an arrow: its head, and its ends.
-fn push_ends(out: &mut Vec<u8>, ends: &Ends) -> io::Result<()> {
-    let (x1, y1) = ends.from;
-    let (x2, y2) = ends.to;
-    if x1 == x2 {
-        let bow = x1.saturating_sub(22);
-        write!(
-            out,
-            " marker-end=\"url(#m)\" d=\"M{x1} {y1}C{bow} {y1} {bow} {y2} {x2} {y2}\"/>"
-        )
-    } else {
-        write!(
-            out,
-            " marker-end=\"url(#m)\" x1=\"{x1}\" y1=\"{y1}\" x2=\"{x2}\" y2=\"{y2}\"/>"
-        )
-    }
+// Appends a place: how far from the left, and how far down.
+fn push_place(out: &mut Vec<u8>, x: u64, y: u64) -> Result<(), AllocError>
+    ensures { OnOk result (out.new.items ≡ out.old.items ++ place x y) }
+{
+    push_number(out, x)?;
+    push_byte(out, b' ')?;
+    push_number(out, y)
+}
+
+// Appends the ends of an arrow from one line to another, and its head.
+fn push_line_ends(
+    out: &mut Vec<u8>,
+    x1: u64,
+    y1: u64,
+    x2: u64,
+    y2: u64,
+) -> Result<(), AllocError>
+    ensures { OnOk result (out.new.items ≡ out.old.items ++ line_ends x1 y1 x2 y2) }
+{
+    push_bytes(out, b" marker-end=\"url(#m)\" x1=\"")?;
+    push_number(out, x1)?;
+    push_bytes(out, b"\" y1=\"")?;
+    push_number(out, y1)?;
+    push_bytes(out, b"\" x2=\"")?;
+    push_number(out, x2)?;
+    push_bytes(out, b"\" y2=\"")?;
+    push_number(out, y2)?;
+    push_bytes(out, b"\"/>")
+}
+
+// Appends the ends of an arrow from a line to itself, which makes a bow to the left, and its head.
+fn push_bow_ends(out: &mut Vec<u8>, x: u64, y1: u64, y2: u64) -> Result<(), AllocError>
+    ensures { OnOk result (out.new.items ≡ out.old.items ++ bow_ends x y1 y2) }
+{
+    let bow = x.saturating_sub(22);
+    push_bytes(out, b" marker-end=\"url(#m)\" d=\"M")?;
+    push_place(out, x, y1)?;
+    push_bytes(out, b"C")?;
+    push_place(out, bow, y1)?;
+    push_bytes(out, b" ")?;
+    push_place(out, bow, y2)?;
+    push_bytes(out, b" ")?;
+    push_place(out, x, y2)?;
+    push_bytes(out, b"\"/>")
 }
 
 // Appends how the text of an arrow begins: from a line to itself it is a path, and else a line.
@@ -48,44 +76,52 @@ fn push_shape(out: &mut Vec<u8>, to_itself: bool) -> Result<(), AllocError>
     }
 }
 
-// Appends an arrow with these ends.
-fn push_arrow(
+// Appends what an arrow begins with.
+fn push_front(
     out: &mut Vec<u8>,
     to_itself: bool,
     kind: MessageKind,
     fate: Fate,
-    ends: &[u8],
 ) -> Result<(), AllocError>
-    ensures { OnOk result (out.new.items ≡ out.old.items ++ arrow to_itself kind fate ends.now) }
+    ensures { OnOk result (out.new.items ≡ out.old.items ++ arrow_front to_itself kind fate) }
 {
     push_shape(out, to_itself)?;
     push_bytes(out, b" class=\"")?;
     push_bytes(out, class_of(kind).as_bytes())?;
     push_bytes(out, b" ")?;
     push_bytes(out, fate.class().as_bytes())?;
-    push_bytes(out, b"\"")?;
-    push_bytes(out, ends)
+    push_bytes(out, b"\"")
 }
 
-/// The arrow of a message of a kind, with this fate, from a node's line to itself or to another.
+// Appends an arrow with these ends.
+fn push_arrow(
+    out: &mut Vec<u8>,
+    kind: MessageKind,
+    fate: Fate,
+    ends: &Ends,
+) -> Result<(), AllocError>
+    ensures { OnOk result (out.new.items ≡ out.old.items ++ arrow ends.now.from ends.now.to kind fate ends.now.sent_at ends.now.heard_at) }
+{
+    let to_itself = ends.from == ends.to;
+    push_front(out, to_itself, kind, fate)?;
+    let x = x_of(ends.from);
+    if to_itself {
+        push_bow_ends(out, x, ends.sent_at, ends.heard_at)
+    } else {
+        push_line_ends(out, x, ends.sent_at, x_of(ends.to), ends.heard_at)
+    }
+}
+
+/// The arrow of a message of a kind, with this fate, from its sender's line to its addressee's.
 pub(crate) fn arrow_between(
     alloc: Global,
     kind: MessageKind,
     fate: Fate,
     ends: &Ends,
-) -> Result<Vec<u8>, Refusal>
-    ensures ok { IfOk result (λ text. IsArrow kind fate text.items) }
-    ensures err { IfErr result (λ e. e ≡ Refusal.OutOfMemory) }
+) -> Result<Vec<u8>, AllocError>
+    ensures { IfOk result (λ text. IsArrow ends.now.from ends.now.to kind fate text.items) }
 {
-    let mut rest = Vec::new(alloc);
-    written(push_ends(&mut rest, ends))?;
     let mut text = Vec::new(alloc);
-    push_arrow(
-        &mut text,
-        ends.from.0 == ends.to.0,
-        kind,
-        fate,
-        rest.as_slice(),
-    )?;
+    push_arrow(&mut text, kind, fate, ends)?;
     Ok(text)
 }

@@ -41,7 +41,9 @@ impl Cut {
     }
 
     /// Whether an instance is the one that is asked for, if one is.
-    pub(crate) fn has_instance(&self, instance: Instance) -> bool {
+    pub(crate) fn has_instance(&self, instance: Instance) -> bool
+        ensures { result ≡ option_map_or (λ i. i == instance) self.now.instance true }
+    {
         match self.instance {
             Some(one) => one.number() == instance.number(),
             None => true,

@@ -1,15 +1,18 @@
 //! A picture as it grows, event by event.
 
+ghost use Rattle.std.specs.Prelude.{◌≡◌};
+
 use crate::arrow::Ends;
 use crate::cut::Cut;
-use crate::glyphs::{class_of, push_facts, push_mark, push_message_name};
-use crate::lane::{Job, Lane, lanes_of, width_of};
+use crate::glyphs::{class_of, push_facts, push_mark};
+use crate::lane::{Job, Lane, lanes_of, width_of, x_of};
 use crate::scene::Scene;
 use crate::style::{LEGEND, LEGEND_WIDTH, STYLE};
+use crate::words::{decided_by, decided_words, is_of_a_call, line_words, message_in};
 use rr_sim::Stance;
-use rr_text::Event;
 use rr_text::text_word::{push_op, push_set};
-use rr_types::{Command, Fact, Message, NodeId, Nodes};
+use rr_text::{Event, ReportLine};
+use rr_types::{Command, Fact, Message, NodeId, NodeSet, Nodes, Refusal};
 use std::alloc::Global;
 use std::io;
 use std::io::Write;
@@ -32,10 +35,16 @@ struct Sent {
     is_shown: bool,
 }
 
-/// What is drawn of an event, and what its title says beside the event and the report.
+/// Whether an event lies within the lines and the node of a cut, and whether its message speaks of the cut's instance.
+#[derive(Clone, Copy)]
+pub(crate) struct Shown {
+    pub(crate) is_within: bool,
+    pub(crate) speaks: bool,
+}
+
+/// What is drawn of an event.
 #[derive(Drop)]
 pub(crate) struct Art {
-    pub(crate) more: Vec<u8>,
     pub(crate) shapes: Vec<u8>,
     /// Whether a fact of the instance that is asked for is synced or marked here.
     pub(crate) is_about: bool,
@@ -107,47 +116,50 @@ impl Drawing {
         Ok(drawing)
     }
 
-    /// What is drawn of an event that has told these lines, where the scene is behind it. It speaks of this message, and
-    /// lies within the lines and the node of the cut; `speaks` says whether the message is of its instance.
+    /// What is drawn of an event, where the scene is behind it. It speaks of this message.
     pub(crate) fn draw(
         &mut self,
         line: u64,
         event: &Event,
-        told: &[u8],
         scene: &Scene<'_>,
         message: Option<&Message>,
-        shown: (bool, bool),
+        shown: Shown,
     ) -> io::Result<Art> {
         let mut art = Art {
-            more: Vec::new(self.alloc),
             shapes: Vec::new(self.alloc),
             is_about: false,
         };
-        let (is_within, speaks) = shown;
+        let Shown { is_within, speaks } = shown;
         let node = rr_sim::node_of(event);
-        let is_folded = self.is_folded(event, told, scene, message);
+        let is_folded = self.is_folded(event, scene, message);
+        let told = line_words(self.alloc, event, scene.lines)?;
         self.is_shown = is_within && speaks && !is_folded;
-        self.draw_input(event, told, scene.wire, &mut art)?;
+        self.draw_input(event, scene.lines, told.as_slice(), &mut art.shapes)?;
         self.is_shown = is_within && !is_folded;
-        self.follow(node, event, told, scene, &mut art)?;
-        if told.starts_with(b"refuse") {
-            self.draw_refusal(node, event, told, &mut art.shapes)?;
+        self.follow(node, event, scene, told.as_slice(), &mut art)?;
+        if let Some(ReportLine::Refuse { refusal, .. }) = scene.lines.get(0) {
+            self.draw_refusal(node, event, *refusal, told.as_slice(), &mut art.shapes)?;
+        }
+        if is_folded {
+            self.fold(node, &mut art.shapes)?;
         }
         let is_shown = is_within && (speaks || art.is_about);
-        if is_folded {
-            art.shapes.clear();
-            let (x, y) = (self.x(node), self.y);
-            write!(
-                art.shapes,
-                "<circle class=\"f\" cx=\"{x}\" cy=\"{y}\" r=\".7\"/>"
-            )?;
-        }
         self.draw_rest(line, node, is_shown, &mut art.shapes)?;
         if is_shown {
             let down = if is_folded { FOLDED_ROW } else { ROW };
             self.y = self.y.saturating_add(down);
         }
         Ok(art)
+    }
+
+    /// Of an event that is folded only a small dot is drawn.
+    fn fold(&self, node: NodeId, out: &mut Vec<u8>) -> io::Result<()> {
+        out.clear();
+        let (x, y) = (x_of(node), self.y);
+        write!(
+            out,
+            "<circle class=\"f\" cx=\"{x}\" cy=\"{y}\" r=\".7\"/>"
+        )
     }
 
     /// Whether the events are so many that some are folded.
@@ -157,20 +169,14 @@ impl Drawing {
 
     /// Whether an event is folded: in a long picture heartbeats, device calls without a job, and requests unless they are
     /// asked for.
-    fn is_folded(
-        &self,
-        event: &Event,
-        told: &[u8],
-        scene: &Scene<'_>,
-        message: Option<&Message>,
-    ) -> bool {
+    fn is_folded(&self, event: &Event, scene: &Scene<'_>, message: Option<&Message>) -> bool {
         if !self.is_long {
             return false;
         }
         if let Some(message) = message {
             return self.cut.folds(message.body.kind());
         }
-        if !told.is_empty() {
+        if !scene.lines.is_empty() {
             return false;
         }
         match event {
@@ -186,19 +192,8 @@ impl Drawing {
     /// Whether a node has no job, or has synced its group.
     fn is_idle(&self, node: NodeId) -> bool {
         match self.lanes.get(usize::from(node.index())) {
-            Some(lane) => match lane.job {
-                Some(job) => job.is_synced,
-                None => true,
-            },
+            Some(lane) => lane.is_idle(),
             None => true,
-        }
-    }
-
-    /// How far from the left a node's line stands.
-    fn x(&self, node: NodeId) -> u64 {
-        match self.lanes.get(usize::from(node.index())) {
-            Some(lane) => lane.x,
-            None => 0,
         }
     }
 
@@ -224,50 +219,45 @@ impl Drawing {
         Ok(())
     }
 
-    /// What comes from a client or from another node, or goes there.
+    /// What comes from a client or from another node, or goes there. Its label says what the report's line tells.
     fn draw_input(
         &mut self,
         event: &Event,
+        lines: &[ReportLine],
         told: &[u8],
-        wire: &[Message],
-        art: &mut Art,
+        out: &mut Vec<u8>,
     ) -> io::Result<()> {
         match event {
-            Event::Submit { node, command } => self.draw_submit(*node, command, &mut art.shapes),
-            Event::Hear { node, message } => {
-                // A node that is down hears nothing.
-                if !told.starts_with(b"refuse") {
-                    self.name_heard(*node, *message, wire, art)?;
-                }
-                Ok(())
-            }
-            Event::Send { node } => {
-                if told.starts_with(b"send") {
-                    self.draw_send(*node, wire, &mut art.shapes)?;
-                }
-                Ok(())
-            }
+            Event::Submit { node, command } => self.draw_submit(*node, command, out),
+            Event::Send { node } => match message_in(lines) {
+                Some(message) => self.draw_send(*node, message, told, out),
+                None => Ok(()),
+            },
             Event::Ack { node } => {
-                if told.starts_with(b"ack") {
-                    self.draw_ack(*node, told, &mut art.shapes)?;
+                if let Some(ReportLine::Ack { .. }) = lines.get(0) {
+                    push_mark(out, "t", x_of(*node), self.y)?;
+                    self.label(*node, Side::Right, self.y, "a", told)?;
                 }
                 Ok(())
             }
-            Event::Suspect { node, set } => {
-                push_mark(&mut art.shapes, "v", self.x(*node), self.y)?;
-                let mut text = Vec::new(self.alloc);
-                text.extend_from_slice(b"suspects")?;
-                if set.bits() == 0 {
-                    text.extend_from_slice(b" nobody")?;
-                } else {
-                    push_set(&mut text, *set)?;
-                }
-                self.label(*node, Side::Left, self.y, "v", text.as_slice())
-            }
-            Event::Tick { node } => self.draw_word(*node, b"tick", &mut art.shapes),
-            Event::Advance { node } => self.draw_word(*node, b"advance", &mut art.shapes),
+            Event::Suspect { node, set } => self.draw_suspects(*node, *set, out),
+            Event::Tick { node } => self.draw_word(*node, b"tick", out),
+            Event::Advance { node } => self.draw_word(*node, b"advance", out),
             _ => Ok(()),
         }
+    }
+
+    /// The nodes that a node suspects.
+    fn draw_suspects(&mut self, node: NodeId, set: NodeSet, out: &mut Vec<u8>) -> io::Result<()> {
+        push_mark(out, "v", x_of(node), self.y)?;
+        let mut text = Vec::new(self.alloc);
+        text.extend_from_slice(b"suspects")?;
+        if set.bits() == 0 {
+            text.extend_from_slice(b" nobody")?;
+        } else {
+            push_set(&mut text, set)?;
+        }
+        self.label(node, Side::Left, self.y, "v", text.as_slice())
     }
 
     fn draw_submit(
@@ -276,7 +266,7 @@ impl Drawing {
         command: &Command,
         out: &mut Vec<u8>,
     ) -> io::Result<()> {
-        push_mark(out, "s", self.x(node), self.y)?;
+        push_mark(out, "s", x_of(node), self.y)?;
         let mut words = Vec::new(self.alloc);
         push_op(&mut words, &command.op)?;
         let (client, seq) = (command.request.client, command.request.seq);
@@ -294,71 +284,52 @@ impl Drawing {
         self.label(node, Side::Left, self.y, "", text.as_slice())
     }
 
-    /// A message is heard: its sender and its name.
-    fn name_heard(
-        &self,
-        node: NodeId,
-        number: u32,
-        wire: &[Message],
-        art: &mut Art,
-    ) -> io::Result<()> {
-        let Some(message) = wire.get(number as usize) else {
-            return Ok(());
-        };
-        if message.to != node {
-            return Ok(());
-        }
-        write!(art.more, "message {number} from {}: ", message.from.index())?;
-        push_message_name(&mut art.more, message)
-    }
-
     /// Where the arrow of a message begins that is heard here, and where it ends.
-    pub(crate) fn ends(&self, number: u32, message: &Message) -> Ends {
-        let from = match self.sent.get(number as usize) {
+    pub(crate) fn ends(&self, number: u32, message: &Message) -> Ends
+        ensures from { result.from ≡ message.now.from }
+        ensures to { result.to ≡ message.now.to }
+    {
+        let sent_at = match self.sent.get(number as usize) {
             Some(sent) => sent.y,
             None => self.y,
         };
         Ends {
-            from: (self.x(message.from), from),
-            to: (self.x(message.to), self.y),
+            from: message.from,
+            to: message.to,
+            sent_at,
+            heard_at: self.y,
         }
     }
 
     /// A message is sent: where its arrow will begin, and its name.
-    fn draw_send(&mut self, node: NodeId, wire: &[Message], out: &mut Vec<u8>) -> io::Result<()> {
+    fn draw_send(
+        &mut self,
+        node: NodeId,
+        message: &Message,
+        told: &[u8],
+        out: &mut Vec<u8>,
+    ) -> io::Result<()> {
         self.sent.push(Sent {
             y: self.y,
             is_shown: self.is_shown,
         })?;
-        let Some(message) = wire.last() else {
-            return Ok(());
-        };
-        let x = self.x(node);
+        let x = x_of(node);
         let y = self.y;
         let kind = class_of(message.body.kind());
         write!(
             out,
             "<circle class=\"{kind}\" cx=\"{x}\" cy=\"{y}\" r=\"1.2\"/>"
         )?;
-        let side = if self.x(message.to) > x {
+        let side = if x_of(message.to) > x {
             Side::Right
         } else {
             Side::Left
         };
-        let mut text = Vec::new(self.alloc);
-        push_message_name(&mut text, message)?;
-        self.label(node, side, y, kind, text.as_slice())
-    }
-
-    /// A client is told its reply.
-    fn draw_ack(&mut self, node: NodeId, told: &[u8], out: &mut Vec<u8>) -> io::Result<()> {
-        push_mark(out, "t", self.x(node), self.y)?;
-        // The line is `ack P REQUEST REPLY`, where P is one digit.
-        self.label(node, Side::Right, self.y, "a", words_behind(told, 6))
+        self.label(node, side, y, kind, told)
     }
 
     fn draw_word(&mut self, node: NodeId, word: &[u8], out: &mut Vec<u8>) -> io::Result<()> {
-        let x = self.x(node);
+        let x = x_of(node);
         let y = self.y;
         write!(out, "<circle class=\"o\" cx=\"{x}\" cy=\"{y}\" r=\"2\"/>")?;
         self.label(node, Side::Left, y, "o", word)
@@ -369,8 +340,8 @@ impl Drawing {
         &mut self,
         node: NodeId,
         event: &Event,
-        told: &[u8],
         scene: &Scene<'_>,
+        told: &[u8],
         art: &mut Art,
     ) -> io::Result<()> {
         let Some(stance) = scene.stance else {
@@ -384,8 +355,9 @@ impl Drawing {
                 }
             }
             Event::Snap { .. } => self.begin(node, stance, true)?,
-            Event::Device { .. } => self.draw_call(node, stance, scene.synced, told, art)?,
-            Event::Mark { .. } => self.draw_mark(node, art)?,
+            Event::Device { .. } => self.draw_call(node, stance, scene, told, art)?,
+            // A mark that comes while a job runs, or to a node that is down, marks nothing.
+            Event::Mark { .. } if stance == Stance::Resting => self.draw_mark(node, art)?,
             Event::Restart { .. } => self.draw_restart(node, stance, &mut art.shapes)?,
             Event::Crash { .. } => self.draw_crash(node, &mut art.shapes)?,
             _ => (),
@@ -405,11 +377,7 @@ impl Drawing {
         if stance != Stance::Calling || lane.job.is_some() {
             return Ok(());
         }
-        lane.job = Some(Job {
-            since,
-            is_switch,
-            is_synced: false,
-        });
+        lane.begin(since, is_switch);
         if is_switch {
             self.label(node, Side::Left, since, "", b"snapshot")?;
         }
@@ -418,11 +386,11 @@ impl Drawing {
 
     /// A crash: what it cuts short.
     fn draw_crash(&mut self, node: NodeId, out: &mut Vec<u8>) -> io::Result<()> {
-        push_mark(out, "x", self.x(node), self.y)?;
+        push_mark(out, "x", x_of(node), self.y)?;
         let words: &[u8] = match self.lanes.get(usize::from(node.index())) {
-            Some(lane) => match lane.job {
+            Some(lane) => match &lane.job {
                 Some(job) if job.is_switch => b"crash cuts a snapshot",
-                Some(job) if job.is_synced => b"crash before a mark",
+                Some(_) if lane.is_idle() => b"crash before a mark",
                 Some(_) => b"crash cuts a flush",
                 None if lane.since.is_some() && !lane.is_up => b"crash cuts an opening",
                 None => b"crash",
@@ -437,74 +405,50 @@ impl Drawing {
         &mut self,
         node: NodeId,
         stance: Stance,
-        synced: &[Fact],
+        scene: &Scene<'_>,
         told: &[u8],
         art: &mut Art,
     ) -> io::Result<()> {
-        let x = self.x(node);
+        let x = x_of(node);
         let y = self.y;
         let left = x.saturating_sub(4);
-        if told.starts_with(b"restart") {
+        if let Some(ReportLine::Restart { .. }) = scene.lines.get(0) {
             self.open(node)?;
             push_mark(&mut art.shapes, "u", x, y)?;
-            self.draw_opened(node, told)?;
+            self.label(node, Side::Right, y, "", told)?;
         }
-        let has_job = match self.lanes.get(usize::from(node.index())) {
-            Some(lane) => lane.job.is_some(),
-            None => false,
-        };
         let is_idle = self.is_idle(node);
         if !is_idle || stance == Stance::Opening {
             write!(art.shapes, "<path d=\"M{left} {y}h8\"/>")?;
         }
         if stance == Stance::Flushed && !is_idle {
-            self.draw_facts(node, synced, art)?;
+            self.draw_facts(node, scene.synced, art)?;
         }
-        if stance == Stance::Resting && has_job {
-            self.end_job(node)?;
+        if stance == Stance::Resting {
+            let _ended = self.end_job(node)?;
         }
         Ok(())
-    }
-
-    /// What a node has opened with: how many facts, and how many decided commands.
-    fn draw_opened(&mut self, node: NodeId, told: &[u8]) -> io::Result<()> {
-        // The line is `restart P FACTS DECIDED ..`.
-        let mut text = Vec::new(self.alloc);
-        text.extend_from_slice(b"opened: facts ")?;
-        text.extend_from_slice(word_of(told, 2))?;
-        text.extend_from_slice(b", decided ")?;
-        text.extend_from_slice(word_of(told, 3))?;
-        self.label(node, Side::Right, self.y, "", text.as_slice())
     }
 
     /// The facts of a synced group: their names beside the flush, of the instance alone that is asked for.
     fn draw_facts(&mut self, node: NodeId, synced: &[Fact], art: &mut Art) -> io::Result<()> {
         let alloc = self.alloc;
         let instance = self.cut.instance;
+        let decides = decided_by(alloc, &self.cut, synced)?;
         let Some(lane) = self.lanes.get_mut(usize::from(node.index())) else {
             return Ok(());
         };
-        let Some(job) = lane.job else {
-            return Ok(());
+        let since = match &lane.job {
+            Some(job) => job.since,
+            None => return Ok(()),
         };
-        lane.job = Some(Job {
-            is_synced: true,
-            ..job
-        });
-        lane.decides.clear();
-        for fact in synced {
-            if let Fact::Decide(decided, _) = fact {
-                if self.cut.has_instance(*decided) {
-                    lane.decides.push(decided.number())?;
-                }
-            }
-        }
+        lane.sync(decides);
         for kind in 0..4u8 {
             let mut text = Vec::new(alloc);
             push_facts(&mut text, synced, kind, instance)?;
             if !text.is_empty() {
                 art.is_about = instance.is_some();
-                let at = job.since.saturating_add(2);
+                let at = since.saturating_add(2);
                 self.label(node, Side::Right, at, "", text.as_slice())?;
             }
         }
@@ -513,41 +457,36 @@ impl Drawing {
 
     /// A group is marked: the flush has ended, and what it decides is decided for good.
     fn draw_mark(&mut self, node: NodeId, art: &mut Art) -> io::Result<()> {
-        let y = self.y;
-        let alloc = self.alloc;
-        let x = self.x(node);
-        let mut decides = Vec::new(alloc);
-        if let Some(lane) = self.lanes.get_mut(usize::from(node.index())) {
-            decides.extend_from_slice(lane.decides.as_slice())?;
-            lane.decides.clear();
-        }
-        self.end_job(node)?;
+        let Some(job) = self.end_job(node)? else {
+            return Ok(());
+        };
+        let Job {
+            since: _,
+            is_switch: _,
+            decides,
+        } = job;
+        let Some(decides) = decides else {
+            return Ok(());
+        };
         if decides.is_empty() {
             return Ok(());
         }
         art.is_about = self.cut.instance.is_some();
-        push_mark(&mut art.shapes, "k", x, y)?;
-        let mut text = Vec::new(alloc);
-        text.extend_from_slice(b"decided")?;
-        for instance in decides.iter().take(4) {
-            write!(text, " {instance}")?;
-        }
-        if decides.len() > 4 {
-            text.extend_from_slice(b" ..")?;
-        }
-        self.label(node, Side::Left, y, "d", text.as_slice())
+        let y = self.y;
+        push_mark(&mut art.shapes, "k", x_of(node), y)?;
+        let words = decided_words(self.alloc, decides.as_slice())?;
+        self.label(node, Side::Left, y, "d", words.as_slice())
     }
 
-    /// A job has ended, or is cut short: its block.
-    fn end_job(&mut self, node: NodeId) -> io::Result<()> {
+    /// A job has ended, or is cut short: its block. There is none where no job runs.
+    fn end_job(&mut self, node: NodeId) -> io::Result<Option<Job>> {
         let y = self.y;
         let Some(lane) = self.lanes.get_mut(usize::from(node.index())) else {
-            return Ok(());
+            return Ok(None);
         };
-        let Some(job) = lane.job else {
-            return Ok(());
+        let Some(job) = lane.end() else {
+            return Ok(None);
         };
-        lane.job = None;
         let class = if job.is_switch { "w" } else { "j" };
         let left = lane.x.saturating_sub(5);
         let top = job.since;
@@ -555,13 +494,14 @@ impl Drawing {
         write!(
             self.below,
             "<rect class=\"{class}\" x=\"{left}\" y=\"{top}\" width=\"10\" height=\"{height}\"/>\n"
-        )
+        )?;
+        Ok(Some(job))
     }
 
     /// An opening begins.
     fn draw_restart(&mut self, node: NodeId, stance: Stance, out: &mut Vec<u8>) -> io::Result<()> {
         let y = self.y;
-        let x = self.x(node);
+        let x = x_of(node);
         let Some(lane) = self.lanes.get_mut(usize::from(node.index())) else {
             return Ok(());
         };
@@ -586,7 +526,7 @@ impl Drawing {
 
     /// The node is down, or has failed.
     fn break_line(&mut self, node: NodeId) -> io::Result<()> {
-        self.end_job(node)?;
+        let _cut_short = self.end_job(node)?;
         self.draw_line(node)?;
         if let Some(lane) = self.lanes.get_mut(usize::from(node.index())) {
             lane.since = None;
@@ -618,22 +558,13 @@ impl Drawing {
         &mut self,
         node: NodeId,
         event: &Event,
+        refusal: Refusal,
         told: &[u8],
         out: &mut Vec<u8>,
     ) -> io::Result<()> {
-        // The line is `refuse LINE NUMBER NAME`.
-        let name = word_of(told, 3);
-        let is_made = !name.starts_with(b"Down") && !name.starts_with(b"Failed");
-        let is_call = is_made && matches!(event, Event::Fail { .. } | Event::Device { .. });
-        push_mark(out, if is_call { "y" } else { "n" }, self.x(node), self.y)?;
-        let mut text = Vec::new(self.alloc);
-        text.extend_from_slice(if is_call {
-            b"call fails: "
-        } else {
-            b"refused: "
-        })?;
-        text.extend_from_slice(name)?;
-        self.label(node, Side::Left, self.y, "b", text.as_slice())
+        let mark = if is_of_a_call(event, refusal) { "y" } else { "n" };
+        push_mark(out, mark, x_of(node), self.y)?;
+        self.label(node, Side::Left, self.y, "b", told)
     }
 
     /// The number of the line, now and then, and a place for the pointer.
@@ -644,7 +575,7 @@ impl Drawing {
         is_shown: bool,
         out: &mut Vec<u8>,
     ) -> io::Result<()> {
-        let left = self.x(node).saturating_sub(9);
+        let left = x_of(node).saturating_sub(9);
         let top = self.y.saturating_sub(2);
         write!(
             out,
@@ -662,7 +593,7 @@ impl Drawing {
     pub(crate) fn front(&mut self) -> io::Result<Vec<u8>> {
         for index in 0..self.nodes.count() {
             if let Some(node) = NodeId::new(self.nodes, index) {
-                self.end_job(node)?;
+                let _open = self.end_job(node)?;
                 self.draw_line(node)?;
             }
         }
@@ -710,8 +641,8 @@ impl Drawing {
 
     /// A message that nobody hears ends in a dot.
     fn draw_lost(&self, message: &Message, y: u64, out: &mut Vec<u8>) -> io::Result<()> {
-        let x = self.x(message.from);
-        let to = self.x(message.to);
+        let x = x_of(message.from);
+        let to = x_of(message.to);
         let class = class_of(message.body.kind());
         let end = if to > x {
             x.saturating_add(16)
@@ -724,31 +655,4 @@ impl Drawing {
             "<line class=\"{class}\" x1=\"{x}\" y1=\"{y}\" x2=\"{end}\" y2=\"{down}\"/><circle class=\"{class}\" cx=\"{end}\" cy=\"{down}\" r=\"1.6\"/>\n"
         )
     }
-}
-
-/// The words of a line behind its first bytes.
-fn words_behind(line: &[u8], first: usize) -> &[u8] {
-    match line.get(first..line.len().saturating_sub(1)) {
-        Some(words) => words,
-        None => b"",
-    }
-}
-
-/// A word of a line, by its number from 0.
-fn word_of(line: &[u8], number: u64) -> &[u8] {
-    let mut begin = 0usize;
-    let mut at = 0u64;
-    for (place, byte) in line.iter().enumerate() {
-        if *byte == b' ' || *byte == b'\n' {
-            if at == number {
-                return match line.get(begin..place) {
-                    Some(word) => word,
-                    None => b"",
-                };
-            }
-            at = at.saturating_add(1);
-            begin = place.saturating_add(1);
-        }
-    }
-    b""
 }

@@ -6,7 +6,8 @@ ghost use Rattle.std.specs.Ordering.{nat_cmp};
 ghost use Rattle.std.specs.BTreeSet.{contains};
 ghost use Rattle.rr_draw.specs.Fates.{heard_by, hearing, fate_at, fate_class, never_heard, Keeps};
 
-use rr_text::Event;
+use crate::words::is_refusal;
+use rr_text::{Event, ReportLine};
 use rr_types::{Message, NodeId};
 use std::alloc::{AllocError, Global};
 use std::collections::BTreeSet;
@@ -90,14 +91,14 @@ impl Heard {
 fn hearing<'a>(
     node: NodeId,
     number: u32,
-    told: &[u8],
+    lines: &[ReportLine],
     message: Option<&'a Message>,
 ) -> Option<(u32, &'a Message)>
-    ensures { option_map (λ it. (it.0, it.1.now)) result ≡ hearing node number told.now (option_map (λ m. m.now) message.entry) }
+    ensures { option_map (λ it. (it.0, it.1.now)) result ≡ hearing node number lines.now (option_map (λ m. m.now) message.entry) }
 {
     match message {
         Some(message) => {
-            if message.to == node && !told.starts_with(b"refuse") {
+            if message.to == node && !is_refusal(lines) {
                 Some((number, message))
             } else {
                 None
@@ -114,18 +115,18 @@ pub(crate) fn message_at(wire: &[Message], number: u32) -> Option<&Message>
     wire.get(number as usize)
 }
 
-/// The number of the message that an event hears, and the message. The event has told these lines, and these messages were
-/// sent by then.
+/// The number of the message that an event hears, and the message. The report has these lines of the event, and these messages
+/// were sent by then.
 pub(crate) fn heard_by<'a>(
     event: &Event,
-    told: &[u8],
+    lines: &[ReportLine],
     wire: &'a [Message],
 ) -> Option<(u32, &'a Message)>
-    ensures { option_map (λ it. (it.0, it.1.now)) result ≡ heard_by event.now told.now wire.entry.now }
+    ensures { option_map (λ it. (it.0, it.1.now)) result ≡ heard_by event.now lines.now wire.entry.now }
 {
     match event {
         Event::Hear { node, message } => {
-            hearing(*node, *message, told, message_at(wire, *message))
+            hearing(*node, *message, lines, message_at(wire, *message))
         }
         _ => None,
     }

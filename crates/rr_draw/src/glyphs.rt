@@ -3,7 +3,7 @@
 ghost use Rattle.std.specs.Prelude.{◌≡◌};
 ghost use Rattle.rr_draw.specs.Fates.{class_of};
 
-use rr_types::{Body, Fact, Instance, Message, MessageKind};
+use rr_types::{Fact, Instance, MessageKind};
 use std::io;
 use std::io::Write;
 
@@ -18,32 +18,6 @@ pub(crate) fn class_of(kind: MessageKind) -> &'static str
         MessageKind::Decision => "d",
         MessageKind::Request => "q",
         MessageKind::Nack | MessageKind::Beat | MessageKind::Suspects | MessageKind::Ask => "o",
-    }
-}
-
-/// Appends the short name of a message: what it is, its instance and its round.
-pub(crate) fn push_message_name(out: &mut Vec<u8>, message: &Message) -> io::Result<()> {
-    let word = message.body.kind().word();
-    match message.body {
-        Body::Estimate(instance, estimate) => {
-            let (i, r) = (instance.number(), estimate.round().number());
-            write!(out, "{word} {i}.{r}")
-        }
-        Body::Proposal(instance, round, _)
-        | Body::Ack(instance, round)
-        | Body::Nack(instance, round) => {
-            let (i, r) = (instance.number(), round.number());
-            write!(out, "{word} {i}.{r}")
-        }
-        Body::Decision(instance, _) | Body::Ask(instance) => {
-            let i = instance.number();
-            write!(out, "{word} {i}")
-        }
-        Body::Request(command) => {
-            let (c, s) = (command.request.client, command.request.seq);
-            write!(out, "{word} {c}.{s}")
-        }
-        Body::Beat | Body::Suspects(_) => write!(out, "{word}"),
     }
 }
 

@@ -37,6 +37,7 @@ mod picture;
 mod scene;
 mod style;
 mod taped;
+mod words;
 
 pub use cut::Cut;
 pub use escape::push_escaped;

@@ -4,24 +4,26 @@ ghost use Rattle.std.specs.Prelude.{◌≡◌, ◌≤◌, ◌++◌, ◌||◌, []
 ghost use Rattle.rr_text.specs.Lines.{nodes_line, IsStop, IsFault};
 ghost use Rattle.rr_text.specs.Scheduled.{IsEvent};
 ghost use Rattle.rr_text.specs.ScheduleTexts.{event_line};
-ghost use Rattle.rr_draw.specs.Fates.{message_of, may_tell_facts, number_of, heard_at, Keeps, IsHearing};
-ghost use Rattle.rr_draw.specs.Pictures.{element, title_of, Adds, ShowsAll, IsPictureOf};
+ghost use Rattle.rr_draw.specs.Fates.{message_of, heard_by, may_tell_facts, number_of, heard_at, Keeps, IsHearing};
+ghost use Rattle.rr_draw.specs.Labels.{heard_words};
+ghost use Rattle.rr_draw.specs.Pictures.{element, title_of, Adds, ShowsOne, ShowsAll, IsPictureOf};
 
 use crate::arrow::arrow_between;
 use crate::cut::Cut;
-use crate::drawing::{Art, Drawing};
+use crate::drawing::{Art, Drawing, Shown};
 use crate::escape::push_escaped;
 use crate::fate::{Heard, heard_by, message_at};
 use crate::scene::{Scene, scene_of};
+use crate::words::{heard_words, message_in};
 use rr_sim::{Cluster, decided_list, node_of, tell_read};
 use rr_stream::Sink;
-use rr_text::Event;
 use rr_text::text_parse::{first_line, next_event};
-use rr_text::text_report::push_decided_list;
+use rr_text::text_report::{push_decided_list, push_report_lines};
 use rr_text::text_schedule::push_event_line;
 use rr_text::text_word::{push_bytes, push_number};
+use rr_text::{Event, ReportLine};
 use rr_types::{Message, Nodes, Refusal};
-use std::alloc::Global;
+use std::alloc::{AllocError, Global};
 use std::io;
 
 /// Writing a text fails only where memory runs out.
@@ -52,17 +54,15 @@ impl Picture {
 }
 
 /// The message that an event has sent, or that it names as one to hear.
-fn message_of<'a>(event: &Event, told: &[u8], wire: &'a [Message]) -> Option<&'a Message>
-    ensures { option_map (λ m. m.now) result ≡ message_of event.now told.now wire.entry.now }
+fn message_of<'a>(
+    event: &Event,
+    lines: &'a [ReportLine],
+    wire: &'a [Message],
+) -> Option<&'a Message>
+    ensures { option_map (λ m. m.now) result ≡ message_of event.now lines.entry.now wire.entry.now }
 {
     match event {
-        Event::Send { .. } => {
-            if told.starts_with(b"send") {
-                wire.last()
-            } else {
-                None
-            }
-        }
+        Event::Send { .. } => message_in(lines),
         Event::Hear { message, .. } => message_at(wire, *message),
         _ => None,
     }
@@ -93,10 +93,9 @@ fn draw_hearing(
     cut: &Cut,
     message: Option<(u32, &Message)>,
     picture: &mut Picture,
-) -> Result<Vec<u8>, Refusal>
+) -> Result<Vec<u8>, AllocError>
     ensures ok { IfOk result (λ text. (before : List ℕ) → Keeps picture.old.heard before → IsHearing cut.now before (option_map (λ it. (it.0, it.1.now)) message.entry) text.items) }
     ensures keeps { OnOk result ((before : List ℕ) → Keeps picture.old.heard before → Keeps picture.new.heard (before ++ number_of (option_map (λ it. (it.0, it.1.now)) message.entry))) }
-    ensures err { IfErr result (λ e. e ≡ Refusal.OutOfMemory) }
 {
     let Some((number, message)) = message else {
         return Ok(Vec::new(alloc));
@@ -111,69 +110,139 @@ fn draw_hearing(
     Ok(text)
 }
 
-/// Appends an element with a title. Its shapes begin with an arrow, if there is one.
-fn push_element(out: &mut Vec<u8>, title: &[u8], arrow: &[u8], art: &Art) -> Result<(), Refusal>
-    ensures ok { OnOk result (out.new.items ≡ out.old.items ++ element title.now art.now.more.items (arrow.now ++ art.now.shapes.items)) }
-    ensures err { IfErr result (λ e. e ≡ Refusal.OutOfMemory) }
-{
-    push_bytes(out, b"<g><title>")?;
-    push_escaped(out, title)?;
-    push_bytes(out, art.more.as_slice())?;
-    push_bytes(out, b"</title>")?;
-    push_bytes(out, arrow)?;
-    push_bytes(out, art.shapes.as_slice())?;
-    Ok(push_bytes(out, b"</g>\n")?)
-}
-
 /// What the title of the event of a line begins with.
-fn title_of(alloc: Global, line: u64, event: &Event, told: &[u8]) -> Result<Vec<u8>, Refusal>
-    ensures ok { IfOk result (λ title. title.items ≡ title_of line event.now told.now) }
-    ensures err { IfErr result (λ e. e ≡ Refusal.OutOfMemory) }
+fn title_of(
+    alloc: Global,
+    line: u64,
+    event: &Event,
+    lines: &[ReportLine],
+) -> Result<Vec<u8>, AllocError>
+    ensures { IfOk result (λ title. title.items ≡ title_of line event.now lines.now) }
 {
     let mut title = Vec::new(alloc);
     push_bytes(&mut title, b"line ")?;
     push_number(&mut title, line)?;
     push_bytes(&mut title, b": ")?;
     push_event_line(&mut title, event)?;
-    push_bytes(&mut title, told)?;
+    push_report_lines(&mut title, lines)?;
     Ok(title)
 }
 
-/// Draws the event of a line, which has told these lines, where the cut shows it. The scene is behind it.
+/// Appends an element with a title and more behind it. Its shapes begin with an arrow, if there is one.
+fn push_element(
+    out: &mut Vec<u8>,
+    title: &[u8],
+    more: &[u8],
+    arrow: &[u8],
+    shapes: &[u8],
+) -> Result<(), Refusal>
+    ensures ok { OnOk result (out.new.items ≡ out.old.items ++ element title.now more.now (arrow.now ++ shapes.now)) }
+    ensures err { IfErr result (λ e. e ≡ Refusal.OutOfMemory) }
+{
+    push_bytes(out, b"<g><title>")?;
+    push_escaped(out, title)?;
+    push_bytes(out, more)?;
+    push_bytes(out, b"</title>")?;
+    push_bytes(out, arrow)?;
+    push_bytes(out, shapes)?;
+    Ok(push_bytes(out, b"</g>\n")?)
+}
+
+/// Appends the element of the event of a line, of which the scene is behind it. Its shapes begin with this arrow.
+fn push_event_element(
+    alloc: Global,
+    line: u64,
+    event: &Event,
+    scene: &Scene<'_>,
+    arrow: &[u8],
+    shapes: &[u8],
+    elements: &mut Vec<u8>,
+) -> Result<(), Refusal>
+    ensures ok { OnOk result (elements.new.items ≡ elements.old.items ++ element (title_of line event.now scene.now.lines.now)
+        (heard_words (heard_by event.now scene.now.lines.now scene.now.wire.now)) (arrow.now ++ shapes.now)) }
+    ensures err { IfErr result (λ e. e ≡ Refusal.OutOfMemory) }
+{
+    let title = title_of(alloc, line, event, scene.lines)?;
+    let more = heard_words(alloc, heard_by(event, scene.lines, scene.wire))?;
+    push_element(elements, title.as_slice(), more.as_slice(), arrow, shapes)
+}
+
+/// Appends the element of the event of a line where the cut shows it. Its shapes begin with this arrow.
+fn push_shown(
+    alloc: Global,
+    cut: &Cut,
+    line: u64,
+    event: &Event,
+    scene: &Scene<'_>,
+    arrow: &[u8],
+    art: &Art,
+    elements: &mut Vec<u8>,
+) -> Result<(), Refusal>
+    ensures ok { OnOk result ((before : List ℕ) → IsHearing cut.now before (heard_by event.now scene.now.lines.now scene.now.wire.now) arrow.now
+        → Adds cut.now line before (record { event = event.now; lines = scene.now.lines.now; wire = scene.now.wire.now }) elements.old.items elements.new.items) }
+    ensures err { IfErr result (λ e. e ≡ Refusal.OutOfMemory) }
+{
+    let is_within = cut.shows(line, event);
+    if !is_within {
+        return Ok(());
+    }
+    let message = message_of(event, scene.lines, scene.wire);
+    let speaks = cut.speaks(message);
+    if !is_about(event, speaks, art.is_about) {
+        return Ok(());
+    }
+    let shapes = art.shapes.as_slice();
+    push_event_element(alloc, line, event, scene, arrow, shapes, elements)
+}
+
+/// Draws the event of a line, where the cut shows it. The scene is behind it.
 pub(crate) fn draw_event(
     alloc: Global,
     cut: &Cut,
     line: u64,
     event: &Event,
-    told: &[u8],
     scene: &Scene<'_>,
     picture: &mut Picture,
     elements: &mut Vec<u8>,
 ) -> Result<(), Refusal>
     ensures ok { OnOk result ((before : List ℕ) → Keeps picture.old.heard before
-        → Adds cut.now line before (record { event = event.now; told = told.now; wire = scene.now.wire.now }) elements.old.items elements.new.items) }
+        → Adds cut.now line before (record { event = event.now; lines = scene.now.lines.now; wire = scene.now.wire.now }) elements.old.items elements.new.items) }
     ensures keeps { OnOk result ((before : List ℕ) → Keeps picture.old.heard before
-        → Keeps picture.new.heard (before ++ heard_at (record { event = event.now; told = told.now; wire = scene.now.wire.now }))) }
+        → Keeps picture.new.heard (before ++ heard_at (record { event = event.now; lines = scene.now.lines.now; wire = scene.now.wire.now }))) }
     ensures err { IfErr result (λ e. e ≡ Refusal.OutOfMemory) }
 {
-    let message = message_of(event, told, scene.wire);
-    let speaks = cut.speaks(message);
-    let is_within = cut.shows(line, event);
-    let arrow = draw_hearing(alloc, cut, heard_by(event, told, scene.wire), picture)?;
-    let shown = (is_within, speaks);
-    let art = written(
-        picture
-            .drawing
-            .draw(line, event, told, scene, message, shown),
-    )?;
-    if !is_within {
-        return Ok(());
-    }
-    if !is_about(event, speaks, art.is_about) {
-        return Ok(());
-    }
-    let title = title_of(alloc, line, event, told)?;
-    push_element(elements, title.as_slice(), arrow.as_slice(), &art)?;
+    let heard = heard_by(event, scene.lines, scene.wire);
+    let arrow = draw_hearing(alloc, cut, heard, picture)?;
+    let message = message_of(event, scene.lines, scene.wire);
+    let shown = Shown {
+        is_within: cut.shows(line, event),
+        speaks: cut.speaks(message),
+    };
+    let art = written(picture.drawing.draw(line, event, scene, message, shown))?;
+    let arrow = arrow.as_slice();
+    push_shown(alloc, cut, line, event, scene, arrow, &art, elements)?;
+    Ok(())
+}
+
+/// Makes the event of a line, appends what the report has of it, and draws it.
+fn draw_line(
+    alloc: Global,
+    cut: &Cut,
+    line: u64,
+    event: &Event,
+    cluster: &mut Cluster,
+    picture: &mut Picture,
+    report: &mut Vec<u8>,
+    elements: &mut Vec<u8>,
+) -> Result<(), Refusal>
+    ensures ok { OnOk result (ShowsOne cut.now line event.now cluster.old cluster.new report.old.items report.new.items elements.old.items elements.new.items picture.old.heard picture.new.heard) }
+    ensures err { IfErr result (λ e. e ≡ Refusal.OutOfMemory) }
+{
+    cluster.step(alloc, line, event)?;
+    push_report_lines(report, cluster.lines())?;
+    let scene = scene_of(cluster, node_of(event));
+    draw_event(alloc, cut, line, event, &scene, picture, elements)?;
+    cluster.forget_lines();
     Ok(())
 }
 
@@ -199,19 +268,14 @@ fn draw_events<O: Sink>(
     let mut rest = bytes;
     while let Some((event, behind)) = next_event(alloc, nodes, rest, line)? {
         tell_read(line, rest, bytes, out);
-        cluster.step(alloc, line, &event)?;
-        let mut told = Vec::new(alloc);
-        cluster.tell(&mut told)?;
-        push_bytes(report, told.as_slice())?;
-        let scene = scene_of(cluster, node_of(&event));
-        draw_event(
+        draw_line(
             alloc,
             cut,
             line,
             &event,
-            told.as_slice(),
-            &scene,
+            cluster,
             picture,
+            report,
             &mut elements,
         )?;
         rest = behind;

@@ -4,7 +4,7 @@ ghost use Rattle.std.specs.Prelude.{◌≡◌, ◌++◌, [], ℕ, List, OnOk, If
 ghost use Rattle.rr_audit.specs.Audits.{sent_by};
 ghost use Rattle.rr_draw.specs.Fates.{heard_at, Keeps};
 ghost use Rattle.rr_draw.specs.Pictures.{AreDrawn, Adds};
-ghost use Rattle.rr_draw.specs.TapePictures.{told_on, seen_on, all_on, IsTapePicture};
+ghost use Rattle.rr_draw.specs.TapePictures.{lines_on, seen_on, all_on, IsTapePicture};
 
 use crate::cut::Cut;
 use crate::drawing::Drawing;
@@ -13,21 +13,20 @@ use crate::picture::{Picture, draw_event, has_many, written};
 use crate::scene::tape_scene;
 use rr_audit::{Replay, as_reported, as_scheduled, node_of};
 use rr_tape::{Tape, TapeEvent};
-use rr_text::text_report::push_report_words;
-use rr_text::text_word::{push_byte, push_bytes};
+use rr_text::ReportLine;
+use rr_text::text_word::push_bytes;
 use rr_types::{Body, Command, Estimate, Message, Op, Refusal, made_of};
 use std::alloc::{AllocError, Global};
 
 /// The lines of a report that an event of a tape is: one or none.
-fn told_by(alloc: Global, event: &TapeEvent) -> Result<Vec<u8>, AllocError>
-    ensures { IfOk result (λ told. told.items ≡ told_on event.now) }
+fn lines_on(alloc: Global, event: &TapeEvent) -> Result<Vec<ReportLine>, AllocError>
+    ensures { IfOk result (λ lines. lines.items ≡ lines_on event.now) }
 {
-    let mut told = Vec::new(alloc);
+    let mut lines = Vec::new(alloc);
     if let Some(line) = as_reported(event) {
-        push_report_words(&mut told, &line)?;
-        push_byte(&mut told, b'\n')?;
+        lines.push(line)?;
     }
-    Ok(told)
+    Ok(lines)
 }
 
 /// A message that an event of a tape sends joins the wire.
@@ -56,19 +55,10 @@ fn draw_tape_event(
     ensures keeps { OnOk result ((before : List ℕ) → Keeps picture.old.heard before → Keeps picture.new.heard (before ++ heard_at (seen_on wire.now event.now))) }
     ensures err { IfErr result (λ e. e ≡ Refusal.OutOfMemory) }
 {
-    let told = told_by(alloc, event)?;
-    let scene = tape_scene(replay, wire, node_of(event));
+    let lines = lines_on(alloc, event)?;
+    let scene = tape_scene(replay, lines.as_slice(), wire, node_of(event));
     let scheduled = as_scheduled(event);
-    draw_event(
-        alloc,
-        cut,
-        line,
-        &scheduled,
-        told.as_slice(),
-        &scene,
-        picture,
-        elements,
-    )?;
+    draw_event(alloc, cut, line, &scheduled, &scene, picture, elements)?;
     Ok(())
 }
 

@@ -112,19 +112,15 @@ line_told name bytes number fault h = (fault.column, kind_words fault.kind, h.on
 told : (name bytes : List ℕ) (r : Refusal) (found : Option Fault) → IsFound bytes r found → IsTold name bytes r (found_text name found)
 told name bytes BadNodes None h = absurd h
 told name bytes BadNodes (Some fault) h = line_told name bytes 1 fault h
-told name bytes (BadEvent number) None h = inr (h, refl)
-told name bytes (BadEvent number) (Some fault) h = inl (line_told name bytes number fault h)
+told name bytes (BadEvent number) None h = absurd h
+told name bytes (BadEvent number) (Some fault) h = line_told name bytes number fault h
 told name bytes _ found h = ap (found_text name) h
-
-told_of_script : (name bytes : List ℕ) (number : ℕ) (found : Option Fault) → IfSome found (IsFaultOf (line_at number bytes) number) → IsToldOfScript name bytes (BadEvent number) (found_text name found)
-told_of_script name bytes number None h = inr refl
-told_of_script name bytes number (Some fault) h = inl (line_told name bytes number fault h)
 
 pub printed_told : {T E : Type 0} (r : Result T E) (a b : Option (List ℕ)) (name bytes : List ℕ) (refusal : Refusal) (found : Option Fault)
     → IsFound bytes refusal found → OnOk r (Appends a b (found_text name found)) → OnOk r ((text : List ℕ) × IsTold name bytes refusal text × Appends a b text)
 printed_told r a b name bytes refusal found h = on_ok_weaker r (λ printed. (found_text name found, told name bytes refusal found h, printed))
 
-pub printed_of_script : {T E : Type 0} (r : Result T E) (a b : Option (List ℕ)) (name bytes : List ℕ) (number : ℕ) (found : Option Fault)
-    → IfSome found (IsFaultOf (line_at number bytes) number) → OnOk r (Appends a b (found_text name found))
+pub printed_of_script : {T E : Type 0} (r : Result T E) (a b : Option (List ℕ)) (name bytes : List ℕ) (number : ℕ) (fault : Fault)
+    → IsFaultOf (line_at number bytes) number fault → OnOk r (Appends a b (found_text name (Some fault)))
     → OnOk r ((text : List ℕ) × IsToldOfScript name bytes (BadEvent number) text × Appends a b text)
-printed_of_script r a b name bytes number found h = on_ok_weaker r (λ printed. (found_text name found, told_of_script name bytes number found h, printed))
+printed_of_script r a b name bytes number fault h = on_ok_weaker r (λ printed. (found_text name (Some fault), line_told name bytes number fault h, printed))

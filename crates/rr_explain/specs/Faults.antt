@@ -1,10 +1,9 @@
 -- What people are told of a refused text: one line, which says where the text is at fault and what is wrong there.
-use Rattle.std.specs.Prelude.{◌≡◌, ◌≢◌, ◌⊎◌, ℕ, zero, suc, ◌+◌, ◌-◌, ◌/◌, ◌%◌, ◌≤◌, ◌==◌, nat_le, nat_lt, Bool, true, false, not, ◌&&◌, if◌then◌else◌, List, [], ◌∷◌, ◌++◌, length, take, drop, codes, decimal}
+use Rattle.std.specs.Prelude.{◌≡◌, ◌⊎◌, ℕ, zero, suc, ◌+◌, ◌-◌, ◌/◌, ◌%◌, ◌≤◌, ◌==◌, nat_le, nat_lt, Bool, true, false, not, ◌&&◌, if◌then◌else◌, List, [], ◌∷◌, ◌++◌, length, take, drop, codes, decimal}
 use Rattle.std.specs.List.{list_all, flat_map, before_first, after_first}
 use Rattle.std.specs.Fmt.{digit_glyph}
 use Rattle.rr_types.specs.declared.refusal.Refusal.{Refusal}
 use Rattle.rr_types.specs.declared.refusal.Refusal.TheVariants.{BadNodes, BadEvent}
-use Rattle.rr_types.specs.Limits.{max_events}
 
 -- printable ASCII
 abbrev pub is_printable : ℕ → Bool
@@ -55,17 +54,13 @@ fault_line name number column words = name ++ 58 ∷ decimal number ++ 58 ∷ de
 abbrev pub IsFaultLine : List ℕ → List ℕ → ℕ → List ℕ → Type 0
 IsFaultLine name bytes number text = (column : ℕ) × (words : List ℕ) × AreOn (line_at number bytes) column words × (text ≡ fault_line name number column words)
 
--- a line of a schedule or a tape that may be refused without a word to people: not the first, and behind a million events at most
-abbrev pub MayBeUntold : ℕ → Type 0
-MayBeUntold number = (number ≢ 1) × (number ≤ max_events + 1)
-
 -- what is printed where these bytes are refused as a schedule or a tape
 abbrev pub IsTold : List ℕ → List ℕ → Refusal → List ℕ → Type 0
 IsTold name bytes BadNodes text = IsFaultLine name bytes 1 text
-IsTold name bytes (BadEvent number) text = IsFaultLine name bytes number text ⊎ (MayBeUntold number × (text ≡ []))
+IsTold name bytes (BadEvent number) text = IsFaultLine name bytes number text
 IsTold name bytes _ text = text ≡ []
 
 -- what is printed where these bytes are refused as a script
 abbrev pub IsToldOfScript : List ℕ → List ℕ → Refusal → List ℕ → Type 0
-IsToldOfScript name bytes (BadEvent number) text = IsFaultLine name bytes number text ⊎ (text ≡ [])
+IsToldOfScript name bytes (BadEvent number) text = IsFaultLine name bytes number text
 IsToldOfScript name bytes _ text = text ≡ []

@@ -1,11 +1,11 @@
 -- The fault that a second reading of a text finds, and the line that tells it.
-use Rattle.std.specs.Prelude.{◌≡◌, ℕ, List, [], ◌∷◌, ◌++◌, codes, Option, None, Some, MatchOption, IsSomeAnd}
+use Rattle.std.specs.Prelude.{◌≡◌, ℕ, List, [], ◌∷◌, ◌++◌, codes, Option, None, Some, IsSomeAnd}
 use Rattle.rr_types.specs.declared.refusal.Refusal.{Refusal}
 use Rattle.rr_types.specs.declared.refusal.Refusal.TheVariants.{BadNodes, BadEvent}
 use Rattle.rr_explain.specs.declared.fault.Fault.{Fault}
 use Rattle.rr_explain.specs.declared.fault.Kind.{Kind}
 use Rattle.rr_explain.specs.declared.fault.Kind.TheVariants.{Word, Missing, Said}
-use Rattle.rr_explain.specs.Faults.{shown, line_at, AreOn, fault_line, MayBeUntold}
+use Rattle.rr_explain.specs.Faults.{shown, line_at, AreOn, fault_line}
 
 -- the words on what is wrong
 abbrev pub kind_words : Kind → List ℕ
@@ -26,7 +26,7 @@ pub record IsFaultOf (line : List ℕ) (number : ℕ) (fault : Fault) : Type 0 w
 -- what is found where these bytes are refused as a schedule or a tape
 abbrev pub IsFound : List ℕ → Refusal → Option Fault → Type 0
 IsFound bytes BadNodes found = IsSomeAnd found (IsFaultOf (line_at 1 bytes) 1)
-IsFound bytes (BadEvent number) found = MatchOption found (MayBeUntold number) (IsFaultOf (line_at number bytes) number)
+IsFound bytes (BadEvent number) found = IsSomeAnd found (IsFaultOf (line_at number bytes) number)
 IsFound bytes _ found = found ≡ None
 
 -- the rest stands at the end of the line

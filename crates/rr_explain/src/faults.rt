@@ -1,8 +1,8 @@
 //! The fault of a schedule, a tape or a script.
 
-ghost use Rattle.std.specs.Prelude.{◌≡◌, ◌⊎◌, ℕ, ◌+◌, ◌-◌, ◌≤◌, List, ◌∷◌, ◌++◌, length, IfSome, MatchOption, OnOk};
+ghost use Rattle.std.specs.Prelude.{◌≡◌, ◌⊎◌, ℕ, ◌+◌, ◌-◌, ◌≤◌, List, ◌∷◌, ◌++◌, length, IfSome, OnOk};
 ghost use Rattle.std.specs.Io.KnownBytes.{Appends};
-ghost use Rattle.rr_explain.specs.Faults.{ArePlain, line_at, first_word, AreSaid, MayBeUntold, IsTold, IsToldOfScript};
+ghost use Rattle.rr_explain.specs.Faults.{ArePlain, line_at, first_word, AreSaid, IsTold, IsToldOfScript};
 ghost use Rattle.rr_explain.specs.Found.{kind_words, IsFaultOf, IsFound, EndsWith};
 
 use crate::awaited::Awaited;
@@ -96,8 +96,8 @@ fn print_script_line_fault<W: Write>(
 ) -> io::Result<()>
     ensures { OnOk result ((text : List ℕ) × IsToldOfScript name.now bytes.now (Refusal.BadEvent number) text × Appends (W.contents err.old) (W.contents err.new) text) }
 {
-    let found = fault_in_line(Awaited::Asked, nodes, number, bytes);
-    print_found(err, name, found)
+    let fault = fault_at(Awaited::Asked, nodes, number, bytes);
+    print_found(err, name, Some(fault))
 }
 
 // What is wrong where these bytes are refused so, whose lines from the second on begin with what is awaited.
@@ -106,24 +106,34 @@ fn fault_of<'a>(begin: Awaited, bytes: &'a [u8], refusal: &Refusal) -> Option<Fa
 {
     match refusal {
         Refusal::BadNodes => Some(fault_of_first(bytes)),
-        Refusal::BadEvent(line) => fault_of_event(begin, *line, bytes),
+        Refusal::BadEvent(line) => Some(fault_of_event(begin, *line, bytes)),
         _ => None,
     }
 }
 
 // What is wrong where the line of this number has no place.
-fn fault_of_event<'a>(begin: Awaited, number: u64, bytes: &'a [u8]) -> Option<Fault<'a>>
-    ensures { MatchOption result (MayBeUntold number) (IsFaultOf (line_at number bytes.now) number) }
+fn fault_of_event<'a>(begin: Awaited, number: u64, bytes: &'a [u8]) -> Fault<'a>
+    ensures { IsFaultOf (line_at number bytes.now) number result }
 {
     if number == 1 {
-        return Some(fault_of_first(bytes));
+        return fault_of_first(bytes);
     }
     if number > MAX_EVENTS as u64 + 1 {
-        return Some(said(number, 1, "there are at most 1,000,000 events"));
+        return said(number, 1, "there are at most 1,000,000 events");
     }
     match first_line(bytes) {
-        Ok((nodes, _)) => fault_in_line(begin, nodes, number, bytes),
-        Err(_) => None,
+        Ok((nodes, _)) => fault_at(begin, nodes, number, bytes),
+        Err(_) => said(number, 1, "no line that can stand here"),
+    }
+}
+
+// What is wrong in the line of this number, which is refused. Where none of its words is at fault, the line is.
+fn fault_at<'a>(begin: Awaited, nodes: Nodes, number: u64, lines: &'a [u8]) -> Fault<'a>
+    ensures { IsFaultOf (line_at number lines.now) number result }
+{
+    match fault_in_line(begin, nodes, number, lines) {
+        Some(fault) => fault,
+        None => said(number, 1, "no line that can stand here"),
     }
 }
 

@@ -16,10 +16,10 @@ first_left items events index e same within is =
 
 pub loop-event-preserved : goal.loop-event-preserved
 loop-event-preserved c =
-    told_more c.args.account.now c.loop-event.event-index c.loop-event.at c.loop-event.told _ c.happening-is_told.result.0 c.event-item.result _ c.loop-event.text.items c.push_happening.new.out.items c.loop-event.invariant
+    told_more c.args.account.now c.loop-event.event-index c.loop-event.at c.loop-event.told _ c.happening-is_told.result.0 c.event-item.result _ c.happening-is_told.result.1 c.loop-event.text.items c.push_happening.new.out.items c.loop-event.invariant
     (first_left c.events-event-items.result.now c.args.account.now.schedule.events c.loop-event.event-index c.event-item.result c.events-event-items.ensures.value (search rules) c.event-item.is)
     (search rules)
-    c.in_ok-push_happening.ensures.ok (search rules) (search rules) (search rules)
+    c.in_ok-push_happening.ensures.ok (search rules) (search rules) (search rules) (search rules)
 
 pub returns-clause-ok : goal.returns-clause-ok
 returns-clause-ok c =
