@@ -4,3 +4,4 @@ pub mod Objects
 pub mod Texts
 pub mod TapeAccounts
 pub mod Outcomes
+pub mod Tables

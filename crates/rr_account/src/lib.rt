@@ -34,6 +34,7 @@ mod reasons;
 mod rounds;
 mod statistics;
 mod table;
+mod tabled;
 mod taped;
 mod watching;
 
@@ -43,6 +44,7 @@ pub use explaining::explanation;
 pub use json::{json_explanation, json_report};
 pub use outcome::{Idle, Outcome};
 pub use statistics::{EventCount, MessageCount, RefusalCount, Statistics, statistics_of};
-pub use table::{json_statistics, statistics_table};
+pub use table::json_statistics;
+pub use tabled::statistics_table;
 pub use taped::account_of_tape;
 pub use watching::{account_on, watch};

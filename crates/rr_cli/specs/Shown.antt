@@ -4,6 +4,7 @@ use Rattle.rr_json.specs.Objects.{report_objects}
 use Rattle.rr_tape.specs.Taped.{Taped}
 use Rattle.rr_account.specs.Accounts.{Accounted}
 use Rattle.rr_account.specs.Objects.{IsExplanation, IsStatistics}
+use Rattle.rr_account.specs.Tables.{IsTable}
 use Rattle.rr_account.specs.TapeAccounts.{IsTapeAccount}
 use Rattle.rr_account.specs.Texts.{IsExplained}
 use Rattle.rr_draw.specs.declared.cut.Cut.{Cut}
@@ -17,12 +18,12 @@ use Rattle.rr_cli.specs.declared.taped.TapeView.{TapeView}
 use Rattle.rr_cli.specs.declared.taped.TapeView.TheVariants.{Account, Picture, Page}
 
 -- a text shows an account: as the objects of its report; or as its report with a note on each event; or as objects for its
--- events and its decided list; or as its statistics, which as JSON are one object
+-- events and its decided list; or as its statistics, which are a table or one object
 abbrev pub Shows : Shown → Accounted → List ℕ → Type 0
 Shows shown.Report account text = text ≡ report_objects account.report
 Shows (shown.Explanation Plain) account text = IsExplained account text
 Shows (shown.Explanation Json) account text = IsExplanation account text
-Shows (shown.Statistics Plain) account text = Unit {0}
+Shows (shown.Statistics Plain) account text = IsTable account text
 Shows (shown.Statistics Json) account text = IsStatistics account text
 
 -- a text shows a tape: its account, or its picture, or a page with that

@@ -1,5 +1,5 @@
 -- What is kept of the messages that were heard.
-use Rattle.std.proofs.Common.{◌≡◌, inl, inr, ℕ, Bool, true, false, not, cond, ◌||◌, nat_eq, List, [], ◌∷◌, ◌++◌, Some, refl, ap, sym, ◌∙◌, subst, arith}
+use Rattle.std.proofs.Common.{◌≡◌, inl, ℕ, Bool, true, false, not, cond, ◌||◌, nat_eq, List, [], ◌∷◌, ◌++◌, Some, refl, ap, sym, ◌∙◌, subst, arith}
 use Rattle.std.specs.Prelude.{◌==◌, if◌then◌else◌, filter}
 use Rattle.std.specs.Ordering.{nat_cmp, is_eq}
 use Rattle.std.specs.List.{range_with_len}
@@ -14,7 +14,7 @@ use Rattle.rr_draw.specs.declared.cut.Cut.{Cut}
 use Rattle.rr_draw.specs.declared.fate.Fate.{Fate}
 use Rattle.rr_draw.specs.declared.fate.Fate.TheVariants.{First, Again}
 use Rattle.rr_draw.specs.declared.fate.Heard.{Heard}
-use Rattle.rr_draw.specs.Fates.{fate_at, is_among, never_heard, Keeps, folds, IsArrow, IsHearing}
+use Rattle.rr_draw.specs.Fates.{fate_at, is_among, never_heard, Keeps, IsArrow, IsHearing}
 
 eq_by_numbers : (x y : ℕ) → is_eq (nat_cmp x y) ≡ nat_eq x y
 eq_by_numbers x y = grind (arith, nat_tests)
@@ -45,9 +45,10 @@ never_is heard before lost sent is keeps = is ∙ ap (λ (test : ℕ → Bool). 
 
 -- ---- what is drawn of a hearing
 
-pub hearing_folded : (cut : Cut) (before : List ℕ) (n : ℕ) (m : Message) (kind : MessageKind) (text : List ℕ) → kind ≡ message_kind m.body → folds cut kind ≡ true → text ≡ [] → IsHearing cut before (Some (n, m)) text
-hearing_folded cut before n m kind text is folded none = inr (ap (folds cut) (sym is) ∙ folded, none)
-
-pub hearing_drawn : (cut : Cut) (before : List ℕ) (n : ℕ) (m : Message) (kind : MessageKind) (fate : Fate) (text : List ℕ) → kind ≡ message_kind m.body → fate ≡ fate_at before n → IsArrow m.from m.to kind fate text → IsHearing cut before (Some (n, m)) text
-hearing_drawn cut before n m kind fate text is becomes arrow =
-    inl (subst (λ (k : MessageKind). IsArrow m.from m.to k (fate_at before n) text) is (subst (λ (f : Fate). IsArrow m.from m.to kind f text) becomes arrow))
+pub hearing_drawn : (cut : Cut) (before : List ℕ) (n : ℕ) (m : Message) (kind : MessageKind) (fate : Fate) (from to : ℕ) (text : List ℕ) → kind ≡ message_kind m.body → fate ≡ fate_at before n
+    → from ≡ m.from → to ≡ m.to → IsArrow from to kind fate text → IsHearing cut before (Some (n, m)) text
+hearing_drawn cut before n m kind fate from to text is becomes leaves comes arrow =
+    inl
+    (subst (λ (p : ℕ). IsArrow p m.to (message_kind m.body) (fate_at before n) text) leaves
+    (subst (λ (q : ℕ). IsArrow from q (message_kind m.body) (fate_at before n) text) comes
+    (subst (λ (k : MessageKind). IsArrow from to k (fate_at before n) text) is (subst (λ (f : Fate). IsArrow from to kind f text) becomes arrow))))

@@ -1,3 +1,4 @@
+pub mod AppendLaws
 pub mod FateLaws
 pub mod PictureLaws
 pub mod TapeLaws

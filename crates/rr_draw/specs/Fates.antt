@@ -141,16 +141,20 @@ x_of p = 150 + 220 * p
 abbrev pub place : ℕ → ℕ → List ℕ
 place x y = decimal x ++ 32 ∷ decimal y
 
+-- an end of a line, with what stands before its two numbers
+abbrev pub end_text : List ℕ → ℕ → List ℕ → ℕ → List ℕ
+end_text of_x x of_y y = of_x ++ decimal x ++ of_y ++ decimal y
+
 -- the ends of an arrow from one line to another, and those of one from a line to itself, which makes a bow to the left
 abbrev pub line_ends : ℕ → ℕ → ℕ → ℕ → List ℕ
 line_ends x1 y1 x2 y2 =
-    codes " marker-end=\"url(#m)\" x1=\"" ++ decimal x1 ++ codes "\" y1=\"" ++ decimal y1 ++ codes "\" x2=\"" ++ decimal x2
-    ++ codes "\" y2=\"" ++ decimal y2 ++ codes "\"/>"
+    end_text (codes " marker-end=\"url(#m)\" x1=\"") x1 (codes "\" y1=\"") y1
+    ++ end_text (codes "\" x2=\"") x2 (codes "\" y2=\"") y2 ++ codes "\"/>"
 
 abbrev pub bow_ends : ℕ → ℕ → ℕ → List ℕ
 bow_ends x y1 y2 =
-    codes " marker-end=\"url(#m)\" d=\"M" ++ place x y1 ++ codes "C" ++ place (x - 22) y1 ++ codes " " ++ place (x - 22) y2
-    ++ codes " " ++ place x y2 ++ codes "\"/>"
+    (codes " marker-end=\"url(#m)\" d=\"M" ++ place x y1) ++ (codes "C" ++ place (x - 22) y1) ++ (codes " " ++ place (x - 22) y2)
+    ++ (codes " " ++ place x y2) ++ codes "\"/>"
 
 -- what an arrow begins with: its classes are those of its message and of its fate
 abbrev pub arrow_front : Bool → MessageKind → Fate → List ℕ

@@ -1,7 +1,7 @@
 //! The arrows of the messages that are heard.
 
 ghost use Rattle.std.specs.Prelude.{◌≡◌, ◌++◌, ◌∷◌, ◌-◌, ◌==◌, if◌then◌else◌, codes, OnOk, IfOk};
-ghost use Rattle.rr_draw.specs.Fates.{place, line_ends, bow_ends, arrow_front, arrow, IsArrow};
+ghost use Rattle.rr_draw.specs.Fates.{place, end_text, line_ends, bow_ends, arrow_front, arrow, IsArrow};
 
 use crate::fate::Fate;
 use crate::glyphs::class_of;
@@ -28,6 +28,16 @@ fn push_place(out: &mut Vec<u8>, x: u64, y: u64) -> Result<(), AllocError>
     push_number(out, y)
 }
 
+// Appends an end of a line, with what stands before its two numbers.
+fn push_end(out: &mut Vec<u8>, of_x: &[u8], x: u64, of_y: &[u8], y: u64) -> Result<(), AllocError>
+    ensures { OnOk result (out.new.items ≡ out.old.items ++ end_text of_x.now x of_y.now y) }
+{
+    push_bytes(out, of_x)?;
+    push_number(out, x)?;
+    push_bytes(out, of_y)?;
+    push_number(out, y)
+}
+
 // Appends the ends of an arrow from one line to another, and its head.
 fn push_line_ends(
     out: &mut Vec<u8>,
@@ -38,15 +48,18 @@ fn push_line_ends(
 ) -> Result<(), AllocError>
     ensures { OnOk result (out.new.items ≡ out.old.items ++ line_ends x1 y1 x2 y2) }
 {
-    push_bytes(out, b" marker-end=\"url(#m)\" x1=\"")?;
-    push_number(out, x1)?;
-    push_bytes(out, b"\" y1=\"")?;
-    push_number(out, y1)?;
-    push_bytes(out, b"\" x2=\"")?;
-    push_number(out, x2)?;
-    push_bytes(out, b"\" y2=\"")?;
-    push_number(out, y2)?;
-    push_bytes(out, b"\"/>")
+    push_end(out, b" marker-end=\"url(#m)\" x1=\"", x1, b"\" y1=\"", y1)?;
+    push_end(out, b"\" x2=\"", x2, b"\" y2=\"", y2)?;
+    push_bytes(out, b"\"/>")?;
+    Ok(())
+}
+
+// Appends a corner of a bow, behind these bytes.
+fn push_corner(out: &mut Vec<u8>, before: &[u8], x: u64, y: u64) -> Result<(), AllocError>
+    ensures { OnOk result (out.new.items ≡ out.old.items ++ (before.now ++ place x y)) }
+{
+    push_bytes(out, before)?;
+    push_place(out, x, y)
 }
 
 // Appends the ends of an arrow from a line to itself, which makes a bow to the left, and its head.
@@ -54,15 +67,12 @@ fn push_bow_ends(out: &mut Vec<u8>, x: u64, y1: u64, y2: u64) -> Result<(), Allo
     ensures { OnOk result (out.new.items ≡ out.old.items ++ bow_ends x y1 y2) }
 {
     let bow = x.saturating_sub(22);
-    push_bytes(out, b" marker-end=\"url(#m)\" d=\"M")?;
-    push_place(out, x, y1)?;
-    push_bytes(out, b"C")?;
-    push_place(out, bow, y1)?;
-    push_bytes(out, b" ")?;
-    push_place(out, bow, y2)?;
-    push_bytes(out, b" ")?;
-    push_place(out, x, y2)?;
-    push_bytes(out, b"\"/>")
+    push_corner(out, b" marker-end=\"url(#m)\" d=\"M", x, y1)?;
+    push_corner(out, b"C", bow, y1)?;
+    push_corner(out, b" ", bow, y2)?;
+    push_corner(out, b" ", x, y2)?;
+    push_bytes(out, b"\"/>")?;
+    Ok(())
 }
 
 // Appends how the text of an arrow begins: from a line to itself it is a path, and else a line.

@@ -1,6 +1,6 @@
 //! The picture of a run, from the text of its schedule.
 
-ghost use Rattle.std.specs.Prelude.{◌≡◌, ◌≤◌, ◌++◌, ◌||◌, [], true, false, ℕ, List, None, option_map, OnOk, IfOk, IfErr};
+ghost use Rattle.std.specs.Prelude.{◌≡◌, ◌≤◌, ◌++◌, ◌∷◌, ◌||◌, [], true, false, ℕ, List, None, Some, option_map, OnOk, IfOk, IfErr};
 ghost use Rattle.rr_text.specs.Lines.{nodes_line, IsStop, IsFault};
 ghost use Rattle.rr_text.specs.Scheduled.{IsEvent};
 ghost use Rattle.rr_text.specs.ScheduleTexts.{event_line};
@@ -87,6 +87,27 @@ fn is_about(event: &Event, speaks: bool, has_facts: bool) -> bool
     speaks || (has_facts && may_tell_facts(event))
 }
 
+/// The arrow of a message that is heard, or none where it is folded. It was heard then.
+fn draw_heard(
+    alloc: Global,
+    cut: &Cut,
+    number: u32,
+    message: &Message,
+    picture: &mut Picture,
+) -> Result<Vec<u8>, AllocError>
+    ensures ok { IfOk result (λ text. (before : List ℕ) → Keeps picture.old.heard before → IsHearing cut.now before (Some (number, message.now)) text.items) }
+    ensures keeps { OnOk result ((before : List ℕ) → Keeps picture.old.heard before → Keeps picture.new.heard (before ++ number ∷ [])) }
+{
+    let fate = picture.heard.hear(number as u64)?;
+    let kind = message.body.kind();
+    if picture.drawing.is_long() && cut.folds(kind) {
+        return Ok(Vec::new(alloc));
+    }
+    let ends = picture.drawing.ends(number, message);
+    let text = arrow_between(alloc, kind, fate, &ends)?;
+    Ok(text)
+}
+
 /// The arrow of a message that is heard, if one is. It was heard then.
 fn draw_hearing(
     alloc: Global,
@@ -97,16 +118,10 @@ fn draw_hearing(
     ensures ok { IfOk result (λ text. (before : List ℕ) → Keeps picture.old.heard before → IsHearing cut.now before (option_map (λ it. (it.0, it.1.now)) message.entry) text.items) }
     ensures keeps { OnOk result ((before : List ℕ) → Keeps picture.old.heard before → Keeps picture.new.heard (before ++ number_of (option_map (λ it. (it.0, it.1.now)) message.entry))) }
 {
-    let Some((number, message)) = message else {
+    let Some(heard) = message else {
         return Ok(Vec::new(alloc));
     };
-    let fate = picture.heard.hear(u64::from(number))?;
-    let kind = message.body.kind();
-    if picture.drawing.is_long() && cut.folds(kind) {
-        return Ok(Vec::new(alloc));
-    }
-    let ends = picture.drawing.ends(number, message);
-    let text = arrow_between(alloc, kind, fate, &ends)?;
+    let text = draw_heard(alloc, cut, heard.0, heard.1, picture)?;
     Ok(text)
 }
 
@@ -192,7 +207,8 @@ fn push_shown(
         return Ok(());
     }
     let shapes = art.shapes.as_slice();
-    push_event_element(alloc, line, event, scene, arrow, shapes, elements)
+    push_event_element(alloc, line, event, scene, arrow, shapes, elements)?;
+    Ok(())
 }
 
 /// Draws the event of a line, where the cut shows it. The scene is behind it.

@@ -89,7 +89,8 @@ fn push_opened(out: &mut Vec<u8>, facts: u64, decided: u64) -> Result<(), AllocE
     push_bytes(out, b"opened: facts ")?;
     push_number(out, facts)?;
     push_bytes(out, b", decided ")?;
-    push_number(out, decided)
+    push_number(out, decided)?;
+    Ok(())
 }
 
 // Whether an event is a device call.

@@ -9,6 +9,24 @@ loop-elements-init g c =
       unprinted = refl;
     }
 
+pub loop-elements-preserved-in_ok-draw_line : goal.loop-elements-preserved-in_ok-draw_line
+loop-elements-preserved-in_ok-draw_line g c =
+    record {
+      shown = shown_more c.args.nodes c.args.bytes.now c.args.cut.now c.args.cluster.now c.args.report.now.items c.loop-elements.line _ c.loop-elements.rest.now c.in-Some.behind.now c.loop-elements.cluster c.draw_line.new.cluster
+          c.loop-elements.report.items c.draw_line.new.report.items c.loop-elements.elements.items c.draw_line.new.elements.items c.loop-elements.picture.heard c.draw_line.new.picture.heard c.in-Some.event
+          c.loop-elements.invariant.shown (search rules) c.in_ok-draw_line.ensures.ok (search rules);
+      unprinted = c.tell_read.ensures ∙ c.loop-elements.invariant.unprinted;
+    }
+
+pub loop-elements-preserved-in_ok-draw_line-2 : goal.loop-elements-preserved-in_ok-draw_line-2
+loop-elements-preserved-in_ok-draw_line-2 g c =
+    record {
+      shown = shown_more c.args.nodes c.args.bytes.now c.args.cut.now c.args.cluster.now c.args.report.now.items c.loop-elements.line _ c.loop-elements.rest.now c.in-Some.behind.now c.loop-elements.cluster c.draw_line.new.cluster
+          c.loop-elements.report.items c.draw_line.new.report.items c.loop-elements.elements.items c.draw_line.new.elements.items c.loop-elements.picture.heard c.draw_line.new.picture.heard c.in-Some.event
+          c.loop-elements.invariant.shown (search rules) c.in_ok-draw_line.ensures.ok (search rules);
+      unprinted = c.tell_read.ensures ∙ c.loop-elements.invariant.unprinted;
+    }
+
 pub loop-elements-preserved : goal.loop-elements-preserved
 loop-elements-preserved g c =
     record {
