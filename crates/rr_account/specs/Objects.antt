@@ -108,8 +108,13 @@ statistics_object s =
     ++ array_member (codes "messages") (map message_count_object s.messages.items)
     ++ array_member (codes "refusals") (map refusal_count_object s.refusals.items) ++ 125 ∷ 10 ∷ []
 
+-- a text is the object of statistics
+pub record IsStatistics (text : List ℕ) : Type 0 where
+  pub statistics : Statistics
+  pub text_is : text ≡ statistics_object statistics
+
 -- a text is the object of the statistics of an account
-pub record IsStatistics (account : Accounted) (text : List ℕ) : Type 0 where
+pub record IsStatisticsOf (account : Accounted) (text : List ℕ) : Type 0 where
   pub statistics : Statistics
   pub are : AreStatistics account statistics
   pub text_is : text ≡ statistics_object statistics

@@ -62,11 +62,15 @@ refusals_table (r ∷ rows) = codes "\nrefusal      count\n" ++ flat_map refusal
 abbrev pub with_places : ℕ → List ℕ
 with_places n = decimal (n / 100) ++ 46 ∷ (48 + n % 100 / 10) ∷ (48 + n % 100 % 10) ∷ []
 
+-- how much there is for each decision, by hundredths
+abbrev pub for_each : ℕ → List ℕ
+for_each n = codes ", " ++ with_places n ++ codes " for each decision"
+
 -- a sum, and how much of it there is for each of so many decisions
 abbrev pub share_row : List ℕ → ℕ → ℕ → List ℕ
 share_row name sum decided =
     at_left 9 name ++ column sum
-    ++ (if decided == 0 then [] else codes ", " ++ with_places (stopped (sum * 100) / decided) ++ codes " for each decision") ++ 10 ∷ []
+    ++ (if decided == 0 then [] else for_each (stopped (sum * 100) / decided)) ++ 10 ∷ []
 
 -- the sums of a run
 abbrev pub sums_table : Statistics → List ℕ

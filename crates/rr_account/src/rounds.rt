@@ -18,11 +18,8 @@ fn round_in(body: &Body) -> Option<(Instance, Round)>
         Body::Proposal(instance, round, _)
         | Body::Ack(instance, round)
         | Body::Nack(instance, round) => Some((*instance, *round)),
-        Body::Decision(_, _)
-        | Body::Request(_)
-        | Body::Beat
-        | Body::Suspects(_)
-        | Body::Ask(_) => None,
+        Body::Decision(_, _) | Body::Request(_) | Body::Beat | Body::Suspects(_) | Body::Ask(_) =>
+            None,
     }
 }
 

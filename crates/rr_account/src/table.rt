@@ -5,7 +5,7 @@ ghost use Rattle.std.specs.List.{flat_map};
 ghost use Rattle.rr_json.specs.Json.{listed};
 ghost use Rattle.rr_account.specs.Accounts.{Accounted};
 ghost use Rattle.rr_account.specs.Counts.{AreStatistics};
-ghost use Rattle.rr_account.specs.Objects.{event_count_object, message_count_object, refusal_count_object, array_member, sums_front, statistics_object, IsStatistics};
+ghost use Rattle.rr_account.specs.Objects.{event_count_object, message_count_object, refusal_count_object, array_member, sums_front, statistics_object, IsStatistics, IsStatisticsOf};
 
 use crate::statistics::{EventCount, MessageCount, RefusalCount, Statistics};
 use rr_json::{push_begun, push_end, push_label, push_number_member, push_open, push_quoted};
@@ -170,7 +170,8 @@ fn push_statistics(out: &mut Vec<u8>, statistics: &Statistics) -> Result<(), All
 /// `OutOfMemory`.
 pub fn json_statistics(alloc: Global, statistics: &Statistics) -> Result<Vec<u8>, Refusal>
     ensures ok { IfOk result (λ text. text.items ≡ statistics_object statistics.now) }
-    ensures shown { IfOk result (λ text. (account : Accounted) → AreStatistics account statistics.now → IsStatistics account text.items) }
+    ensures some { IfOk result (λ text. IsStatistics text.items) }
+    ensures shown { IfOk result (λ text. (account : Accounted) → AreStatistics account statistics.now → IsStatisticsOf account text.items) }
     ensures err { IfErr result (λ e. e ≡ Refusal.OutOfMemory) }
 {
     let mut text = Vec::new(alloc);

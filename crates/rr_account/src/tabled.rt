@@ -1,10 +1,10 @@
 //! Statistics as a table for people.
 
-ghost use Rattle.std.specs.Prelude.{◌≡◌, ◌≤◌, ◌<◌, ◌-◌, ◌*◌, ◌/◌, ◌++◌, ◌∷◌, [], ◌==◌, if◌then◌else◌, codes, OnOk, IfOk, IfErr};
+ghost use Rattle.std.specs.Prelude.{◌≡◌, ◌≤◌, ◌<◌, ◌-◌, ◌*◌, ◌/◌, ◌++◌, [], ◌==◌, if◌then◌else◌, OnOk, IfOk, IfErr};
 ghost use Rattle.std.specs.List.{flat_map, sum_by};
 ghost use Rattle.rr_account.specs.Accounts.{Accounted};
 ghost use Rattle.rr_account.specs.Counts.{stopped, AreStatistics};
-ghost use Rattle.rr_account.specs.Tables.{spaces, at_left, at_right, column, event_row, event_rows, message_row, message_rows, sum_row, refusal_row, events_table, messages_table, refusals_table, with_places, share_row, sums_table, table_text, IsTable};
+ghost use Rattle.rr_account.specs.Tables.{spaces, at_left, at_right, column, event_row, event_rows, message_row, message_rows, sum_row, refusal_row, events_table, messages_table, refusals_table, with_places, for_each, share_row, sums_table, table_text, IsTable};
 
 use crate::statistics::{EventCount, MessageCount, RefusalCount, Statistics};
 use rr_text::text_word::{push_byte, push_bytes, push_number};
@@ -115,11 +115,7 @@ fn sum_of_messages(rows: &[MessageCount]) -> u64
 }
 
 // Appends the rows of events.
-fn push_all_events(
-    alloc: Global,
-    out: &mut Vec<u8>,
-    rows: &[EventCount],
-) -> Result<(), AllocError>
+fn push_all_events(alloc: Global, out: &mut Vec<u8>, rows: &[EventCount]) -> Result<(), AllocError>
     ensures { OnOk result (out.new.items ≡ out.old.items ++ flat_map event_rows rows.now) }
 {
     for row in rows {
@@ -161,11 +157,7 @@ fn push_messages(alloc: Global, out: &mut Vec<u8>, rows: &[MessageCount]) -> Res
 }
 
 // Appends the row of the refusals of a name.
-fn push_refusal_row(
-    alloc: Global,
-    out: &mut Vec<u8>,
-    row: &RefusalCount,
-) -> Result<(), AllocError>
+fn push_refusal_row(alloc: Global, out: &mut Vec<u8>, row: &RefusalCount) -> Result<(), AllocError>
     ensures { OnOk result (out.new.items ≡ out.old.items ++ refusal_row row.now) }
 {
     push_at_left(out, 11, row.name.as_bytes())?;
@@ -212,17 +204,24 @@ fn push_places(out: &mut Vec<u8>, hundredths: u64) -> Result<(), AllocError>
     push_byte(out, b'0' + part % 10)
 }
 
+// Appends how much there is for each decision, by hundredths.
+fn push_for_each(out: &mut Vec<u8>, hundredths: u64) -> Result<(), AllocError>
+    ensures { OnOk result (out.new.items ≡ out.old.items ++ for_each hundredths) }
+{
+    push_bytes(out, b", ")?;
+    push_places(out, hundredths)?;
+    push_bytes(out, b" for each decision")?;
+    Ok(())
+}
+
 // Appends how much of a sum there is for each of so many decisions, if there are any.
 fn push_each(out: &mut Vec<u8>, sum: u64, decided: u64) -> Result<(), AllocError>
-    ensures { OnOk result (out.new.items ≡ out.old.items
-        ++ (if decided == 0 then [] else codes ", " ++ with_places (stopped (sum * 100) / decided) ++ codes " for each decision")) }
+    ensures { OnOk result (out.new.items ≡ out.old.items ++ (if decided == 0 then [] else for_each (stopped (sum * 100) / decided))) }
 {
     if decided == 0 {
         return Ok(());
     }
-    push_bytes(out, b", ")?;
-    push_places(out, sum.saturating_mul(100) / decided)?;
-    push_bytes(out, b" for each decision")
+    push_for_each(out, sum.saturating_mul(100) / decided)
 }
 
 // Appends a sum, and how much of it there is for each of so many decisions.

@@ -39,13 +39,7 @@ fn push_end(out: &mut Vec<u8>, of_x: &[u8], x: u64, of_y: &[u8], y: u64) -> Resu
 }
 
 // Appends the ends of an arrow from one line to another, and its head.
-fn push_line_ends(
-    out: &mut Vec<u8>,
-    x1: u64,
-    y1: u64,
-    x2: u64,
-    y2: u64,
-) -> Result<(), AllocError>
+fn push_line_ends(out: &mut Vec<u8>, x1: u64, y1: u64, x2: u64, y2: u64) -> Result<(), AllocError>
     ensures { OnOk result (out.new.items ≡ out.old.items ++ line_ends x1 y1 x2 y2) }
 {
     push_end(out, b" marker-end=\"url(#m)\" x1=\"", x1, b"\" y1=\"", y1)?;

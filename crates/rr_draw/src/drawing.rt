@@ -156,10 +156,7 @@ impl Drawing {
     fn fold(&self, node: NodeId, out: &mut Vec<u8>) -> io::Result<()> {
         out.clear();
         let (x, y) = (x_of(node), self.y);
-        write!(
-            out,
-            "<circle class=\"f\" cx=\"{x}\" cy=\"{y}\" r=\".7\"/>"
-        )
+        write!(out, "<circle class=\"f\" cx=\"{x}\" cy=\"{y}\" r=\".7\"/>")
     }
 
     /// Whether the events are so many that some are folded.
@@ -562,7 +559,11 @@ impl Drawing {
         told: &[u8],
         out: &mut Vec<u8>,
     ) -> io::Result<()> {
-        let mark = if is_of_a_call(event, refusal) { "y" } else { "n" };
+        let mark = if is_of_a_call(event, refusal) {
+            "y"
+        } else {
+            "n"
+        };
         push_mark(out, mark, x_of(node), self.y)?;
         self.label(node, Side::Left, self.y, "b", told)
     }
