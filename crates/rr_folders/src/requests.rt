@@ -8,7 +8,7 @@ ghost use Rattle.rr_folders.specs.NumberCalls.{NumberCall, bytes_of, free_by, nu
 use crate::number_file::NumberFile;
 use rr_text::text_read::{cut, number};
 use rr_text::text_word::{push_byte, push_number};
-use rr_types::{Command, Entry, Refusal, Standing};
+use rr_types::{Command, Kept, Refusal};
 use std::alloc::Global;
 use std::io;
 use std::io::ErrorKind;
@@ -93,23 +93,26 @@ fn greatest_with(client: u32, most: Option<u64>, command: &Command) -> Option<u6
 }
 
 // The greatest number of a client, behind what is known of an instance too.
-fn greatest_at(client: u32, most: Option<u64>, entry: &Entry) -> Option<u64>
+fn greatest_at(client: u32, most: Option<u64>, entry: &Kept) -> Option<u64>
     ensures { result ≡ greatest_at client most entry.now }
 {
-    match &entry.standing {
-        Standing::Decided(command) => greatest_with(client, most, command),
-        Standing::Open(standing) => {
+    if let Some(command) = entry.decision() {
+        return greatest_with(client, most, command);
+    }
+    match entry.open() {
+        Some(standing) => {
             let most = greatest_with(client, most, standing.estimate_ref());
             match standing.proposal_ref() {
                 Some(command) => greatest_with(client, most, command),
                 None => most,
             }
         }
+        None => unreachable!(),
     }
 }
 
 /// The greatest request number of a client that these facts name. None: they name none.
-pub fn greatest_in(client: u32, entries: &[Entry]) -> Option<u64>
+pub fn greatest_in(client: u32, entries: &[Kept]) -> Option<u64>
     ensures { result ≡ greatest_in client entries.now }
 {
     let mut most = None;

@@ -2,6 +2,7 @@ pub mod CommandLaws
 pub mod FactLaws
 pub mod FieldLaws
 pub mod GroupLaws
+pub mod HeadingLaws
 pub mod Loops
 pub mod SnapshotLaws
 pub mod SnapshotShapes

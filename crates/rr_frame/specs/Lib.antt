@@ -7,3 +7,4 @@ pub mod FactFormat
 pub mod GroupFormat
 pub mod Snapshots
 pub mod SnapshotFormat
+pub mod Headings

@@ -16,7 +16,7 @@ use crate::reader::Reader;
 use crate::stop::{Fault, Stop};
 use crate::version::{Version, read_version};
 use rr_types::{
-    Command, Entry, Instance, NodeId, Nodes, Op, OpenStanding, Promise, Refusal, Standing,
+    Command, Entry, Instance, Kept, NodeId, Nodes, Op, OpenStanding, Promise, Refusal, Standing,
     coordinator, made_of,
 };
 use std::alloc::{AllocError, Global};
@@ -50,19 +50,19 @@ fn coordinates(nodes: Nodes, node: NodeId, standing: &OpenStanding) -> bool
     coordinator(standing.round(), nodes).index() == node.index()
 }
 
-fn proposes_lawfully(nodes: Nodes, node: NodeId, entry: &Entry) -> bool
+fn proposes_lawfully(nodes: Nodes, node: NodeId, entry: &Kept) -> bool
     ensures { result ≡ proposes_lawfully nodes node entry.now.standing }
 {
-    match &entry.standing {
-        Standing::Decided(_) => true,
-        Standing::Open(open) => match open.proposal() {
+    match entry.open() {
+        None => true,
+        Some(open) => match open.proposal_ref() {
             None => true,
             Some(_) => coordinates(nodes, node, open),
         },
     }
 }
 
-fn all_propose_lawfully(nodes: Nodes, node: NodeId, entries: &[Entry]) -> bool
+fn all_propose_lawfully(nodes: Nodes, node: NodeId, entries: &[Kept]) -> bool
     ensures { result ≡ list_all (λ (e : Entry). proposes_lawfully nodes node e.standing) entries.now }
 {
     entries
@@ -227,7 +227,7 @@ fn read_standing(
 }
 
 #[tactic(auto, unfolding(crate::specs::SnapshotFormat::entry_at))]
-fn read_entry(
+pub(crate) fn read_entry(
     version: Version,
     nodes: Nodes,
     node: NodeId,
@@ -258,7 +258,7 @@ fn read_entries(
     node: NodeId,
     count: u32,
     reader: &mut Reader<'_>,
-) -> Result<Vec<Entry>, Stop>
+) -> Result<Vec<Kept>, Stop>
     ensures { Reads (λ v. v.items) result reader.new (entries_at version nodes node 0 count reader.old) }
 {
     made_of!(Command, Op, Standing);
@@ -267,13 +267,14 @@ fn read_entries(
     for _ in 0..count {
         let entry = read_entry(version, nodes, node, low, reader)?;
         low = entry.instance.number() + 1;
-        entries.push(entry)?;
+        let kept = Kept::new(alloc, entry.instance, &entry.standing)?;
+        entries.push(kept)?;
     }
     Ok(entries)
 }
 
 #[tactic(auto, unfolding(crate::specs::SnapshotFormat::owner_at))]
-fn read_owner(reader: &mut Reader<'_>) -> Result<(Version, NodeId, Nodes), Fault>
+pub(crate) fn read_owner(reader: &mut Reader<'_>) -> Result<(Version, NodeId, Nodes), Fault>
     ensures read { Gives result reader.new (owner_at reader.old) }
     ensures exists { IfOk result (λ x. x.1 < x.2) }
 {
@@ -301,7 +302,7 @@ fn read_contents(
     nodes: Nodes,
     node: NodeId,
     reader: &mut Reader<'_>,
-) -> Result<(u64, Vec<Entry>), Stop>
+) -> Result<(u64, Vec<Kept>), Stop>
     ensures read { Reads (λ x. (x.0, x.1.items)) result reader.new (contents_at version nodes node reader.old) }
     ensures lawful { IfOk result (λ x. IsContents nodes node x.0 x.1.items) }
 {
@@ -315,7 +316,7 @@ fn read_next_and_entries(
     nodes: Nodes,
     node: NodeId,
     reader: &mut Reader<'_>,
-) -> Result<(u64, Vec<Entry>), Stop>
+) -> Result<(u64, Vec<Kept>), Stop>
     ensures { Reads (λ x. (x.0, x.1.items)) result reader.new (contents_at version nodes node reader.old) }
 {
     let next = reader.u64()?;
@@ -389,26 +390,27 @@ fn put_open(out: &mut Vec<u8>, standing: &OpenStanding) -> Result<(), AllocError
 }
 
 #[tactic(auto, unfolding(crate::specs::SnapshotFormat::standing_bytes, crate::specs::SnapshotFormat::entry_bytes))]
-fn put_entry(out: &mut Vec<u8>, entry: &Entry) -> Result<(), AllocError>
+fn put_entry(out: &mut Vec<u8>, entry: &Kept) -> Result<(), AllocError>
     ensures ok { OnOk result (out.new.items ≡ out.old.items ++ entry_bytes entry.now) }
     ensures lawful { OnOk result (IsSpellable entry.now) }
 {
     put_u32(out, entry.instance.number())?;
-    match &entry.standing {
-        Standing::Decided(command) => {
+    if let Some(open) = entry.open() {
+        put_u8(out, 2)?;
+        put_open(out, open)?;
+        return Ok(());
+    }
+    match entry.decision() {
+        Some(command) => {
             put_u8(out, 1)?;
             put_command(out, command)?;
             Ok(())
         }
-        Standing::Open(open) => {
-            put_u8(out, 2)?;
-            put_open(out, open)?;
-            Ok(())
-        }
+        None => unreachable!(),
     }
 }
 
-fn put_entries(out: &mut Vec<u8>, entries: &[Entry]) -> Result<(), AllocError>
+fn put_entries(out: &mut Vec<u8>, entries: &[Kept]) -> Result<(), AllocError>
     ensures ok { OnOk result (out.new.items ≡ out.old.items ++ flat_map entry_bytes entries.now) }
     ensures lawful { OnOk result (AllByRecursion IsSpellable entries.now) }
 {
@@ -419,7 +421,7 @@ fn put_entries(out: &mut Vec<u8>, entries: &[Entry]) -> Result<(), AllocError>
 }
 
 #[tactic(auto, unfolding(crate::specs::SnapshotFormat::contents_bytes))]
-fn put_contents(out: &mut Vec<u8>, next: u64, entries: &[Entry]) -> Result<(), AllocError>
+fn put_contents(out: &mut Vec<u8>, next: u64, entries: &[Kept]) -> Result<(), AllocError>
     requires { length entries.now < 2 ^ 32 }
     ensures ok { OnOk result (out.new.items ≡ out.old.items ++ contents_bytes next entries.now) }
     ensures lawful { OnOk result (AllByRecursion IsSpellable entries.now) }

@@ -1,3 +1,4 @@
+pub mod ChoiceLaws
 pub mod ContentLemmas
 pub mod EntryLemmas
 pub mod FrameLaws

@@ -1,3 +1,4 @@
+pub mod Choices
 pub mod Ends
 pub mod Entries
 pub mod Held

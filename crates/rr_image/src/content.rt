@@ -7,7 +7,7 @@ ghost use Rattle.rr_image.specs.Ends.{Ends};
 use crate::entries::Entries;
 use crate::promised::take_on_all;
 use rr_frame::{Reader, Version, decode_group};
-use rr_types::{Entry, Group, NodeId, Nodes, Promise, Refusal};
+use rr_types::{Group, Kept, NodeId, Nodes, Promise, Refusal};
 use std::alloc::{AllocError, Global};
 use std::marker::Model;
 
@@ -19,7 +19,7 @@ pub const OPEN_GATE: u8 = 0xA5;
 #[derive(Debug, Drop)]
 pub struct Content {
     epoch: u64,
-    entries: Vec<Entry>,
+    entries: Vec<Kept>,
     next: u64,
     gate: u64,
 }
@@ -182,6 +182,7 @@ impl Reading {
     /// The content after a group, which fits if it begins with the next fact and each fact fits the promise before.
     fn with_group(
         self,
+        alloc: Global,
         nodes: Nodes,
         node: NodeId,
         group: &Group,
@@ -200,7 +201,7 @@ impl Reading {
         if group.serial() != next {
             return Ok(None);
         }
-        match take_on_all(nodes, node, &mut entries, facts) {
+        match take_on_all(alloc, nodes, node, &mut entries, facts) {
             Ok(true) => Ok(Some(Reading {
                 epoch,
                 entries,
@@ -225,7 +226,7 @@ impl Reading {
         ensures { IfOk result (λ c. c ≡ after_payload version nodes node self payload.now) }
     {
         match decode_group(alloc, version, payload) {
-            Ok(group) => self.with_group(nodes, node, &group, payload.len() as u64),
+            Ok(group) => self.with_group(alloc, nodes, node, &group, payload.len() as u64),
             Err(Refusal::OutOfMemory) => Err(AllocError),
             Err(_) => Ok(None),
         }

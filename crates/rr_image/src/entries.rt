@@ -1,11 +1,13 @@
 //! The entries of a promise while facts are read.
 
 ghost use Rattle.std.specs.Prelude.{◌≡◌, ◌++◌, ◌<◌, false, length, IsTrue, OnOk, IfOk};
+ghost use Rattle.std.specs.Ordering.{nat_cmp};
+ghost use Rattle.std.specs.BTreeMap.{insert_entry};
 ghost use Rattle.std.specs.Map.{values_of};
 ghost use Rattle.rr_types.specs.Promises.{IsAscending, standing_in, set_entry};
 ghost use Rattle.rr_image.specs.Entries.{AreFirst, AreParted, IsFirst};
 
-use rr_types::{Command, Entry, Instance, Op, Standing, made_of};
+use rr_types::{Command, Instance, Kept, Op, Standing, made_of};
 use std::alloc::{AllocError, Global};
 use std::collections::BTreeMap;
 use std::marker::Model;
@@ -14,8 +16,8 @@ use std::marker::Model;
 /// a tree. So an entry finds its place in the logarithm of how many there are, and moves no other.
 #[derive(Drop)]
 pub struct Entries {
-    front: Vec<Entry>,
-    beyond: BTreeMap<u32, Entry>,
+    front: Vec<Kept>,
+    beyond: BTreeMap<u32, Kept>,
 }
 
 impl Model for Entries {
@@ -32,7 +34,7 @@ impl Model for Entries {
 }
 
 /// Whether an instance below the last one has no entry.
-fn has_gap(entries: &[Entry]) -> bool
+fn has_gap(entries: &[Kept]) -> bool
     requires { IsAscending entries.now }
     ensures gap { result ≡ false → AreFirst 0 entries.now }
     ensures some { IsTrue result → 0 < length entries.now }
@@ -41,12 +43,12 @@ fn has_gap(entries: &[Entry]) -> bool
     if count == 0 {
         return false;
     }
-    let last = entries[count - 1].instance.number() as usize;
-    count <= last
+    let last = &entries[count - 1];
+    count <= last.instance.number() as usize
 }
 
 /// Whether the tree's first entry is that of the instance with this number.
-fn is_next(number: usize, beyond: &BTreeMap<u32, Entry>) -> bool
+fn is_next(number: usize, beyond: &BTreeMap<u32, Kept>) -> bool
     ensures { IsTrue result → IsFirst number beyond.now.entries }
 {
     match beyond.first_key_value() {
@@ -56,7 +58,7 @@ fn is_next(number: usize, beyond: &BTreeMap<u32, Entry>) -> bool
 }
 
 /// Moves the entries that are next in turn from the tree to the vector, as far as there is memory.
-fn close_up(front: &mut Vec<Entry>, beyond: &mut BTreeMap<u32, Entry>)
+fn close_up(front: &mut Vec<Kept>, beyond: &mut BTreeMap<u32, Kept>)
     requires { AreParted front.old.items beyond.old.entries }
     ensures same { front.new.items ++ values_of beyond.new.entries ≡ front.old.items ++ values_of beyond.old.entries }
     ensures parted { AreParted front.new.items beyond.new.entries }
@@ -70,12 +72,22 @@ fn close_up(front: &mut Vec<Entry>, beyond: &mut BTreeMap<u32, Entry>)
     }
 }
 
+/// Puts an entry into the tree.
+fn put(beyond: &mut BTreeMap<u32, Kept>, number: u32, entry: Kept) -> Result<(), AllocError>
+    ensures { OnOk result (beyond.new.entries ≡ insert_entry nat_cmp beyond.old.entries number entry) }
+{
+    match beyond.insert(number, entry) {
+        Ok(_) => Ok(()),
+        Err(_) => Err(AllocError),
+    }
+}
+
 impl Entries {
     /// Ascending entries. They stay where they are up to the first gap.
     ///
     /// # Errors
     /// `AllocError`.
-    pub fn of(alloc: Global, entries: Vec<Entry>) -> Result<Entries, AllocError>
+    pub fn of(alloc: Global, entries: Vec<Kept>) -> Result<Entries, AllocError>
         requires { IsAscending entries.items }
         ensures { IfOk result (λ e. e ≡ entries.items) }
     {
@@ -86,10 +98,8 @@ impl Entries {
             let Some(entry) = front.pop() else {
                 unreachable!();
             };
-            match beyond.insert(entry.instance.number(), entry) {
-                Ok(_) => {}
-                Err(_) => return Err(AllocError),
-            }
+            let number = entry.instance.number();
+            put(&mut beyond, number, entry)?;
         }
         Ok(Entries { front, beyond })
     }
@@ -102,10 +112,10 @@ impl Entries {
         let number = instance.number();
         let at = number as usize;
         if at < self.front.len() {
-            return Some(self.front[at].standing);
+            return Some(self.front[at].standing());
         }
         match self.beyond.get(&number) {
-            Some(entry) => Some(entry.standing),
+            Some(entry) => Some(entry.standing()),
             None => None,
         }
     }
@@ -114,13 +124,18 @@ impl Entries {
     ///
     /// # Errors
     /// `AllocError`.
-    pub fn set(&mut self, instance: Instance, standing: Standing) -> Result<(), AllocError>
-        ensures { OnOk result (self.new ≡ set_entry instance standing self.old) }
+    pub fn set(
+        &mut self,
+        alloc: Global,
+        instance: Instance,
+        standing: &Standing,
+    ) -> Result<(), AllocError>
+        ensures { OnOk result (self.new ≡ set_entry instance standing.now self.old) }
     {
         made_of!(Command, Op);
         let number = instance.number();
         let at = number as usize;
-        let entry = Entry { instance, standing };
+        let entry = Kept::new(alloc, instance, standing)?;
         if at < self.front.len() {
             self.front[at] = entry;
             return Ok(());
@@ -131,20 +146,16 @@ impl Entries {
                 Err(_) => Err(AllocError),
             };
         }
-        match self.front.push(entry) {
-            Ok(()) => {
-                close_up(&mut self.front, &mut self.beyond);
-                Ok(())
-            }
-            Err(_) => Err(AllocError),
-        }
+        self.front.push(entry)?;
+        close_up(&mut self.front, &mut self.beyond);
+        Ok(())
     }
 
     /// The entries, ascending.
     ///
     /// # Errors
     /// `AllocError`.
-    pub fn into_vec(self) -> Result<Vec<Entry>, AllocError>
+    pub fn into_vec(self) -> Result<Vec<Kept>, AllocError>
         ensures same { IfOk result (λ entries. entries.items ≡ self) }
         ensures ascending { IfOk result (λ entries. IsAscending entries.items) }
     {

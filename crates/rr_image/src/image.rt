@@ -3,10 +3,11 @@
 ghost use Rattle.std.specs.Prelude.{◌≡◌, ◌≤◌, length, drop, IfOk, IfErr};
 ghost use Rattle.rr_image.specs.Image.{front_of, content_behind, active, found};
 ghost use Rattle.rr_image.specs.Ends.{IsFront, Finds, area_number};
+ghost use Rattle.rr_image.specs.Choices.{beginning_of, beginning_with, choice_by, found_alone, found_chosen};
 
 use crate::content::{Content, Halt, OPEN_GATE, frame_behind, read_groups};
 use rr_disk::Area;
-use rr_frame::{Version, decode_snapshot};
+use rr_frame::{Heading, Version, decode_snapshot, snapshot_heading};
 use rr_types::{Command, NodeId, Nodes, Op, Refusal, Standing, made_of};
 use std::alloc::{AllocError, Global};
 
@@ -19,6 +20,28 @@ pub enum Front {
     Faulty,
     /// A snapshot of this version, with which this content begins.
     Begins(Version, Content),
+}
+
+/// What is told of the first frame of an area whose content isn't kept.
+#[derive(Clone, Copy, Debug)]
+pub enum Beginning {
+    /// The area isn't formatted.
+    Blank,
+    /// An open gate stands before bytes that are no snapshot of this node.
+    Faulty,
+    /// A snapshot of this epoch.
+    Epoch(u64),
+}
+
+/// What two areas are by their first frames.
+#[derive(Clone, Copy, Debug)]
+pub enum Choice {
+    /// No area is formatted.
+    Unformatted,
+    /// This area is broken at its start.
+    Broken(Area),
+    /// This area is active.
+    Active(Area),
 }
 
 /// What the two areas mean, where no fault is found.
@@ -94,11 +117,95 @@ fn active(
     }
 }
 
+/// What is told of a whole first frame, of a snapshot with this heading or of none.
+fn beginning_with(nodes: Nodes, node: NodeId, heading: Option<Heading>) -> Beginning
+    ensures { result ≡ beginning_with nodes node heading }
+{
+    match heading {
+        None => Beginning::Faulty,
+        Some(heading) => {
+            if heading.node.index() == node.index() && heading.nodes.count() == nodes.count() {
+                Beginning::Epoch(heading.epoch)
+            } else {
+                Beginning::Faulty
+            }
+        }
+    }
+}
+
+/// What is told of the first frame of an area of these bytes.
+fn beginning_of(nodes: Nodes, node: NodeId, bytes: &[u8]) -> Beginning
+    ensures { result ≡ beginning_of (front_of nodes node bytes.now) }
+{
+    if bytes.len() <= 1 || bytes[0] != OPEN_GATE {
+        return Beginning::Blank;
+    }
+    let Some((payload, _)) = frame_behind(&bytes[1..]) else {
+        return Beginning::Faulty;
+    };
+    beginning_with(nodes, node, snapshot_heading(payload))
+}
+
+/// What two areas are that begin so: the formatted one of the greatest epoch is active.
+fn choose(first: Beginning, second: Beginning) -> Choice
+    ensures { result ≡ choice_by first second }
+{
+    match first {
+        Beginning::Faulty => Choice::Broken(Area::First),
+        Beginning::Blank => match second {
+            Beginning::Faulty => Choice::Broken(Area::Second),
+            Beginning::Blank => Choice::Unformatted,
+            Beginning::Epoch(_) => Choice::Active(Area::Second),
+        },
+        Beginning::Epoch(epoch) => match second {
+            Beginning::Faulty => Choice::Broken(Area::Second),
+            Beginning::Blank => Choice::Active(Area::First),
+            Beginning::Epoch(other) => {
+                if epoch == other {
+                    Choice::Broken(Area::Second)
+                } else if other < epoch {
+                    Choice::Active(Area::First)
+                } else {
+                    Choice::Active(Area::Second)
+                }
+            }
+        },
+    }
+}
+
+/// What the first frames of both areas make of them.
+fn chosen(nodes: Nodes, node: NodeId, first: &[u8], second: &[u8]) -> Choice
+    ensures { found nodes node first.now second.now ≡ found_chosen nodes node (front_of nodes node first.now) (front_of nodes node second.now) result }
+{
+    let first = beginning_of(nodes, node, first);
+    let second = beginning_of(nodes, node, second);
+    choose(first, second)
+}
+
+/// What an area of these bytes stands for where the other one is of no account.
+fn read_area(
+    alloc: Global,
+    nodes: Nodes,
+    node: NodeId,
+    area: Area,
+    bytes: &[u8],
+) -> Result<Image, Refusal>
+    ensures { Finds result (found_alone nodes node area (front_of nodes node bytes.now)) }
+{
+    match front_of(alloc, nodes, node, bytes) {
+        Err(_) => Err(Refusal::OutOfMemory),
+        Ok(Front::Blank) => Ok(Image::Unformatted),
+        Ok(Front::Faulty) => Err(broken(area, 0)),
+        Ok(Front::Begins(version, content)) => {
+            active(alloc, nodes, node, area, version, content, bytes)
+        }
+    }
+}
+
 /// What the two areas of a node mean.
 ///
 /// # Errors
 /// `OutOfMemory`; `Damaged` at the open gate that stands before bytes that are no lawful frame there.
-#[tactic(auto, unfolding(crate::specs::Image::found))]
 pub fn read_image(
     alloc: Global,
     nodes: Nodes,
@@ -108,35 +215,46 @@ pub fn read_image(
 ) -> Result<Image, Refusal>
     ensures { Finds result (found nodes node first.now second.now) }
 {
-    let front_1 = match front_of(alloc, nodes, node, first) {
-        Ok(front) => front,
-        Err(_) => return Err(Refusal::OutOfMemory),
-    };
-    let front_2 = match front_of(alloc, nodes, node, second) {
-        Ok(front) => front,
-        Err(_) => return Err(Refusal::OutOfMemory),
-    };
-    match front_1 {
-        Front::Faulty => Err(broken(Area::First, 0)),
-        Front::Blank => match front_2 {
-            Front::Faulty => Err(broken(Area::Second, 0)),
-            Front::Blank => Ok(Image::Unformatted),
-            Front::Begins(version, content) => {
-                active(alloc, nodes, node, Area::Second, version, content, second)
-            }
-        },
-        Front::Begins(version, content) => match front_2 {
-            Front::Faulty => Err(broken(Area::Second, 0)),
-            Front::Blank => active(alloc, nodes, node, Area::First, version, content, first),
-            Front::Begins(version_2, other) => {
-                if content.epoch() == other.epoch() {
-                    Err(broken(Area::Second, 0))
-                } else if other.epoch() < content.epoch() {
-                    active(alloc, nodes, node, Area::First, version, content, first)
-                } else {
-                    active(alloc, nodes, node, Area::Second, version_2, other, second)
-                }
-            }
-        },
+    match chosen(nodes, node, first, second) {
+        Choice::Unformatted => Ok(Image::Unformatted),
+        Choice::Broken(area) => Err(broken(area, 0)),
+        Choice::Active(Area::First) => read_area(alloc, nodes, node, Area::First, first),
+        Choice::Active(Area::Second) => read_area(alloc, nodes, node, Area::Second, second),
+    }
+}
+
+/// Gives bytes back. Their block shrinks before it is freed: then the C library returns it to the system, and goes on doing so. It
+/// would keep later blocks of its size in its heap, where a vector that grows leaves its old places behind.
+fn give_back(bytes: Vec<u8>) {
+    let mut bytes = bytes;
+    bytes.truncate(1);
+    bytes.shrink_to_fit();
+}
+
+/// The same of bytes that the caller needs no longer. Those of the area that isn't active are given back before the
+/// content of the other is read.
+///
+/// # Errors
+/// As of `read_image`.
+pub fn take_image(
+    alloc: Global,
+    nodes: Nodes,
+    node: NodeId,
+    first: Vec<u8>,
+    second: Vec<u8>,
+) -> Result<Image, Refusal>
+    ensures { Finds result (found nodes node first.items second.items) }
+{
+    match chosen(nodes, node, &first, &second) {
+        Choice::Unformatted => Ok(Image::Unformatted),
+        Choice::Broken(area) => Err(broken(area, 0)),
+        Choice::Active(Area::First) => {
+            give_back(second);
+            read_area(alloc, nodes, node, Area::First, &first)
+        }
+        Choice::Active(Area::Second) => {
+            give_back(first);
+            read_area(alloc, nodes, node, Area::Second, &second)
+        }
     }
 }

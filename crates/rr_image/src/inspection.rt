@@ -12,7 +12,7 @@ use crate::content::{Content, Halt, OPEN_GATE, frame_behind, read_groups};
 use crate::image::broken;
 use rr_disk::{Area, Disk};
 use rr_frame::{Version, decode_snapshot};
-use rr_types::{Command, Entry, NodeId, Nodes, Op, Refusal, Standing, made_of};
+use rr_types::{Command, Kept, NodeId, Nodes, Op, Refusal, Standing, made_of};
 use std::alloc::{AllocError, Global};
 
 /// What is told of a formatted area.
@@ -83,16 +83,16 @@ fn own_front(alloc: Global, bytes: &[u8]) -> Result<OwnFront, AllocError>
 }
 
 // How many instances these entries decide from 0 on without a gap.
-fn decided_count(entries: &[Entry]) -> u64
+fn decided_count(entries: &[Kept]) -> u64
     ensures { result ≡ length (decided_from 0 entries.now) }
 {
     for (place, entry) in entries.iter().enumerate() {
         if entry.instance.number() as usize != place {
             return place as u64;
         }
-        match entry.standing {
-            Standing::Decided(_) => {}
-            Standing::Open(_) => return place as u64,
+        match entry.decision() {
+            Some(_) => {}
+            None => return place as u64,
         }
     }
     entries.len() as u64

@@ -1,5 +1,5 @@
 //! What the two areas of a node's disk mean: which is active, which facts its bytes hold, and where they are damaged. An
-//! opening calls `read_image` on both areas. `inspect` and `inspect_bytes` read each area as the node that its snapshot names.
+//! opening calls `take_image` on both areas. `inspect` and `inspect_bytes` read each area as the node that its snapshot names.
 //! Nothing is written.
 //!
 //! # Example
@@ -28,5 +28,5 @@ mod inspection;
 mod promised;
 
 pub use content::{Content, OPEN_GATE};
-pub use image::{Image, read_image};
+pub use image::{Image, read_image, take_image};
 pub use inspection::{AreaReport, inspect, inspect_bytes};

@@ -7,11 +7,12 @@ ghost use Rattle.rr_types.specs.Promises.{standing_in, take_on, take_on_all, all
 
 use crate::entries::Entries;
 use rr_types::{Fact, NodeId, Nodes, Standing};
-use std::alloc::AllocError;
+use std::alloc::{AllocError, Global};
 
 /// Takes a fact on, if it fits the promise.
 #[tactic(auto, using(rr_types::proofs::StandingLemmas::fits_in_round))]
 fn take_on(
+    alloc: Global,
     nodes: Nodes,
     node: NodeId,
     entries: &mut Entries,
@@ -26,13 +27,14 @@ fn take_on(
         return Ok(false);
     }
     if let Some(standing) = Standing::after(&standing, fact) {
-        entries.set(instance, standing)?;
+        entries.set(alloc, instance, &standing)?;
     }
     Ok(true)
 }
 
 /// Takes facts on, oldest first, if each fits the promise before it.
 pub fn take_on_all(
+    alloc: Global,
     nodes: Nodes,
     node: NodeId,
     entries: &mut Entries,
@@ -42,7 +44,7 @@ pub fn take_on_all(
     ensures ok { IfOk result (λ b. b ≡ true → entries.new ≡ take_on_all entries.old facts.now) }
 {
     for fact in facts {
-        match take_on(nodes, node, entries, fact) {
+        match take_on(alloc, nodes, node, entries, fact) {
             Ok(true) => {}
             Ok(false) => return Ok(false),
             Err(e) => return Err(e),

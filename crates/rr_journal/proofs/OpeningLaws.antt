@@ -14,7 +14,10 @@ use Rattle.rr_journal.specs.declared.journal.Journal.{Journal}
 use Rattle.rr_journal.specs.declared.opening.Phase.{Phase}
 use Rattle.rr_journal.specs.declared.opening.Phase.TheVariants as at
 use Rattle.rr_journal.specs.declared.stage.Stage.{Stage}
+use Rattle.rr_journal.specs.declared.opening.Fronts.{Fronts}
 use Rattle.rr_journal.specs.Calls.{Call, after_call, must_close}
+use Rattle.rr_journal.specs.Fronts.{front_beside}
+use Rattle.rr_journal.specs.OtherAreas.{other_area}
 use Rattle.rr_image.specs.Image.{Content, Found, Unformatted, Broken, Active, Outdated, found}
 use Rattle.rr_image.specs.Held.{StandsFor, Holds}
 use Rattle.rr_journal.specs.Journals.{IsOver}
@@ -90,6 +93,11 @@ active_anew was area c due ends = same_end (area_anew was) area (content_anew wa
 pub image_is : (start : Images) (area : Area) → bytes_in area start.of_first start.of_second ≡ image_of start area
 image_is start First = refl
 image_is start Second = refl
+
+-- what is noted of both areas tells of the one beside another whether it has to be closed
+pub closes_beside : (area : Area) (fronts : Fronts) (first second : List ℕ) → fronts.first ≡ must_close first → fronts.second ≡ must_close second → front_beside area fronts ≡ must_close (bytes_in (other_area area) first second)
+closes_beside First fronts first second one two = two
+closes_beside Second fronts first second one two = one
 
 -- behind the reads it begins: the area is closed first, or the body is due
 pub first_stands : (n p : ℕ) (was : Found) (both : Areas) (rests : IsResting both) (closes : Bool) → closes ≡ must_close (image_of rests.start (area_anew was)) → IsInStage (first_stage closes) (flush_anew n p was) rests.start both

@@ -10,7 +10,7 @@ ghost use Rattle.rr_frame.specs.Snapshots.{IsSnapshot};
 ghost use Rattle.rr_journal.specs.Calls.{must_close, after_call};
 ghost use Rattle.rr_journal.specs.CrashedDisks.{MayStand, EachHoldsSome, SomeHolds, IsOpenWithOneOf, IsReading, AddsNone, AddsSameAlone};
 ghost use Rattle.rr_image.specs.Image.{Outdated, found};
-ghost use Rattle.rr_journal.specs.Openings.{Settling, ReadingSecond, Rewriting, Done, Refused, bytes_in, snapshot_with, due_call, after_found, after_opening_call};
+ghost use Rattle.rr_journal.specs.Openings.{Settling, ReadingSecond, Rewriting, Done, Refused, snapshot_with, due_call, after_found, after_opening_call};
 ghost use Rattle.rr_journal.specs.Fronts.{front_beside, KnowsFronts, KnowsRead, KnowsOther};
 ghost use Rattle.rr_journal.specs.Phases.{phase_of, Follows};
 ghost use Rattle.rr_journal.specs.OpeningCourse.{calls_left, found_from, calls_from, EndsBy, StaysOnCourse, IsRefused, IsDue, IsUntouched, IsAsBefore, IsLeftAlone, IsDone};
@@ -27,7 +27,7 @@ use crate::journal::Journal;
 use crate::opened::Opened;
 use crate::rewrite::Rewrite;
 use rr_disk::{Area, Disk, FailingDisk};
-use rr_image::{Image, OPEN_GATE, read_image};
+use rr_image::{Image, OPEN_GATE, take_image};
 use rr_types::{NodeId, Nodes, Promise, Refusal};
 use std::alloc::Global;
 use std::marker::Model;
@@ -425,7 +425,7 @@ fn go_on(
     match phase {
         Phase::Settling => Ok(Next::Phase(Phase::ReadingFirst)),
         Phase::ReadingFirst => Ok(Next::Phase(Phase::ReadingSecond(read))),
-        Phase::ReadingSecond(first) => with_areas(alloc, nodes, node, &first, &read),
+        Phase::ReadingSecond(first) => with_areas(alloc, nodes, node, first, read),
         Phase::Rewriting(rewrite) => Ok(rewrite_on(alloc, rewrite)),
     }
 }
@@ -454,19 +454,20 @@ fn with_areas(
     alloc: Global,
     nodes: Nodes,
     node: NodeId,
-    first: &[u8],
-    second: &[u8],
+    first: Vec<u8>,
+    second: Vec<u8>,
 ) -> Result<Next, Refusal>
     requires { node < nodes }
     ensures own { IfOk result (λ next. MayGoOn nodes node next) }
-    ensures exact { Follows result (ReadingSecond first.now) (after_found nodes node first.now second.now (found nodes node first.now second.now)) }
-    ensures rests { (both : Areas) (rests : IsResting both) → first.now ≡ rests.start.of_first → second.now ≡ rests.start.of_second → IfOk result (λ next. GoesOnAny nodes node next both) }
-    ensures table { (facts : List Fact) (both : Areas) (rests : Rests nodes node facts both) → first.now ≡ rests.start.of_first → second.now ≡ rests.start.of_second
+    ensures exact { Follows result (ReadingSecond first.items) (after_found nodes node first.items second.items (found nodes node first.items second.items)) }
+    ensures rests { (both : Areas) (rests : IsResting both) → first.items ≡ rests.start.of_first → second.items ≡ rests.start.of_second → IfOk result (λ next. GoesOnAny nodes node next both) }
+    ensures table { (facts : List Fact) (both : Areas) (rests : Rests nodes node facts both) → first.items ≡ rests.start.of_first → second.items ≡ rests.start.of_second
         → IfOk result (λ next. GoesOnWith nodes node facts next both) }
-    ensures undamaged { (facts : List Fact) (both : Areas) (rests : Rests nodes node facts both) → first.now ≡ rests.start.of_first → second.now ≡ rests.start.of_second
+    ensures undamaged { (facts : List Fact) (both : Areas) (rests : Rests nodes node facts both) → first.items ≡ rests.start.of_first → second.items ≡ rests.start.of_second
         → IfErr result (λ e. e ≡ OutOfMemory) }
 {
-    match read_image(alloc, nodes, node, first, second) {
+    let fronts = fronts_of(&first, &second);
+    match take_image(alloc, nodes, node, first, second) {
         Err(refusal) => Err(refusal),
         Ok(Image::Active(area, content)) => {
             let epoch = content.epoch();
@@ -475,24 +476,24 @@ fn with_areas(
             Ok(Next::Open(area, epoch, gate, content.into_promise(), number))
         }
         Ok(Image::Unformatted) => {
-            let rewrite = Rewrite::formatting(alloc, nodes, node, must_close(first))?;
+            let rewrite = Rewrite::formatting(alloc, nodes, node, fronts.first)?;
             Ok(Next::Phase(Phase::Rewriting(rewrite)))
         }
         Ok(Image::Outdated(area, content)) => {
-            let closes = must_close(beside(area, first, second));
+            let closes = fronts.beside(area);
             let rewrite = Rewrite::migration(alloc, nodes, node, area, content, closes)?;
             Ok(Next::Phase(Phase::Rewriting(rewrite)))
         }
     }
 }
 
-/// The bytes of the other area.
-fn beside<'a>(area: Area, first: &'a [u8], second: &'a [u8]) -> &'a [u8]
-    ensures { result.now ≡ bytes_in (other_area area) first.now second.now }
+/// Whether each area has to be closed before it is written anew, by the bytes of both.
+fn fronts_of(first: &[u8], second: &[u8]) -> Fronts
+    ensures { result ≡ record { first = must_close first.now; second = must_close second.now } }
 {
-    match area {
-        Area::First => second,
-        Area::Second => first,
+    Fronts {
+        first: must_close(first),
+        second: must_close(second),
     }
 }
 

@@ -14,7 +14,7 @@ use crate::marks::Marks;
 use crate::open_instances::OpenInstances;
 use crate::rows::{Rows, is_any_decided};
 use rr_parts::Row;
-use rr_types::{Command, Entry, Fact, Instance, Op, RequestNo, Standing};
+use rr_types::{Command, Fact, Instance, Kept, Op, RequestNo, Standing};
 use std::alloc::{AllocError, Global};
 use std::marker::Model;
 
@@ -42,7 +42,7 @@ impl Model for Instances {
 
 impl Instances {
     /// The table of a node that knows its promise and nothing else; `next` is the number of its next fact.
-    pub fn restored(alloc: Global, promise: &[Entry], next: u64) -> Result<Instances, AllocError>
+    pub fn restored(alloc: Global, promise: &[Kept], next: u64) -> Result<Instances, AllocError>
         requires { IsAscending promise.now }
         ensures ok { IfOk result (λ t. t ≡ record { rows = map (promised_row next) promise.now; marked = promise.now }) }
     {
@@ -171,7 +171,7 @@ impl Instances {
     }
 
     /// The promise of the marked facts.
-    pub fn marked_entries(&self, alloc: Global) -> Result<Vec<Entry>, AllocError>
+    pub fn marked_entries(&self, alloc: Global) -> Result<Vec<Kept>, AllocError>
         ensures ok { IfOk result (λ entries. entries.items ≡ self.now.marked) }
         ensures ascending { IfOk result (λ entries. IsAscending entries.items) }
     {

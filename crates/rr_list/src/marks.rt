@@ -13,7 +13,7 @@ ghost use Rattle.rr_list.specs.Marked.{marked_in, tree_in, decided_entries, has_
 use crate::rows::Rows;
 use rr_parts::Row;
 use rr_places::{insert, make_place, value_of};
-use rr_types::{Command, Entry, Fact, INSTANCES, Instance, Op, Standing, made_of};
+use rr_types::{Command, Entry, Fact, INSTANCES, Instance, Kept, Op, Standing, made_of};
 use std::alloc::{AllocError, Global};
 use std::collections::BTreeMap;
 
@@ -101,7 +101,7 @@ impl Marks {
     }
 
     /// Sets where an instance of the tree stands, and makes a place for it where it has none.
-    fn insert(&mut self, entry: &Entry) -> Result<(), AllocError>
+    fn insert(&mut self, entry: &Kept) -> Result<(), AllocError>
         requires marks { AreMarks self.old }
         requires behind { self.old.moved ≤ entry.now.instance }
         ensures value { OnOk result (tree_in self.new ≡ set_entry entry.now.instance entry.now.standing (tree_in self.old)) }
@@ -112,7 +112,10 @@ impl Marks {
         ensures stay { (i : ℕ) → IsTrue (has_mark_place self.old i) → IsTrue (has_mark_place self.new i) }
     {
         made_of!(Command, Op, Standing);
-        insert(&mut self.entries, entry.instance.number(), *entry)?;
+        let instance = entry.instance;
+        let standing = entry.standing();
+        let value = Entry { instance, standing };
+        insert(&mut self.entries, instance.number(), value)?;
         Ok(())
     }
 
@@ -285,7 +288,7 @@ impl Marks {
     }
 
     /// Marks the entries of a promise where nothing is marked. Where memory is refused, some are marked.
-    pub(crate) fn restore(&mut self, rows: &Rows, promise: &[Entry]) -> Result<(), AllocError>
+    pub(crate) fn restore(&mut self, rows: &Rows, promise: &[Kept]) -> Result<(), AllocError>
         requires marks { AreMarks self.old }
         requires moved { self.old.moved ≡ 0 }
         requires prefix { self.old.prefix ≡ 0 }
@@ -372,7 +375,7 @@ impl Marks {
     }
 
     /// The entries of the instances that have moved.
-    fn moved_entries(&self, alloc: Global, rows: &Rows) -> Result<Vec<Entry>, AllocError>
+    fn moved_entries(&self, alloc: Global, rows: &Rows) -> Result<Vec<Kept>, AllocError>
         requires { AreMarks self.now }
         ensures ok { IfOk result (λ entries. entries.items ≡ decided_entries rows.now 0 self.now.moved) }
     {
@@ -380,9 +383,8 @@ impl Marks {
         let mut entries = Vec::new(alloc);
         for place in 0..self.moved {
             if let Some(command) = rows.decided_command(place) {
-                let standing = Standing::Decided(*command);
                 match Instance::new(place) {
-                    Some(instance) => entries.push(Entry { instance, standing })?,
+                    Some(instance) => entries.push(Kept::decided(instance, command))?,
                     None => unreachable!(),
                 }
             }
@@ -391,7 +393,7 @@ impl Marks {
     }
 
     /// The promise of the marked facts.
-    pub(crate) fn promise(&self, alloc: Global, rows: &Rows) -> Result<Vec<Entry>, AllocError>
+    pub(crate) fn promise(&self, alloc: Global, rows: &Rows) -> Result<Vec<Kept>, AllocError>
         requires { AreMarks self.now }
         ensures ok { IfOk result (λ entries. entries.items ≡ marked_in rows.now self.now) }
         ensures ascending { IfOk result (λ entries. IsAscending entries.items) }
@@ -401,7 +403,8 @@ impl Marks {
         let mut rest = self.entries.iter();
         while let Some((_, place)) = rest.next() {
             if let Some(entry) = place {
-                promise.push(*entry)?;
+                let kept = Kept::new(alloc, entry.instance, &entry.standing)?;
+                promise.push(kept)?;
             }
         }
         Ok(promise)

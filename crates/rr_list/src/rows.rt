@@ -15,7 +15,7 @@ ghost use Rattle.rr_list.specs.Rowed.{EachKeeps, rows_in, AreKeyed, AscendFrom, 
 
 use rr_parts::Row;
 use rr_places::{Numbered, drop_free_place, make_place, put, value_at};
-use rr_types::{Command, Entry, Instance, Op, RequestNo};
+use rr_types::{Command, Instance, Kept, Op, RequestNo};
 use std::alloc::{AllocError, Global};
 use std::collections::BTreeMap;
 use std::marker::Model;
@@ -335,7 +335,7 @@ impl Rows {
     pub(crate) fn restore(
         &mut self,
         alloc: Global,
-        promise: &[Entry],
+        promise: &[Kept],
         next: u64,
     ) -> Result<(), AllocError>
         requires keeps { EachKeeps self.old (map (promised_row next) promise.now) }

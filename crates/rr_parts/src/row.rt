@@ -14,7 +14,7 @@ ghost use Rattle.rr_parts.specs.Rows.{is_short, is_decide};
 
 use crate::backing::{Backing, ShortBacking};
 use crate::tally::Tally;
-use rr_types::{Command, Entry, Estimate, Fact, Instance, NodeId, OpenStanding, Standing};
+use rr_types::{Command, Estimate, Fact, Instance, Kept, NodeId, OpenStanding, Standing};
 use std::alloc::{AllocError, Global};
 use std::marker::Model;
 
@@ -143,7 +143,7 @@ impl Row {
 
     /// The row of an instance that a promise names: all its facts lie below this number. A decided one needs memory only
     /// above 2^32.
-    pub fn promised(alloc: Global, next: u64, entry: &Entry) -> Result<Row, AllocError>
+    pub fn promised(alloc: Global, next: u64, entry: &Kept) -> Result<Row, AllocError>
         ensures ok { IfOk result (λ r. r ≡ promised_row next entry.now) }
         ensures short { is_decided (promised_row next entry.now) ≡ true → next ≤ 2 ^ 32 → IsOk result }
     {
@@ -154,11 +154,11 @@ impl Row {
             adopted: last,
             decided: last,
         };
-        match &entry.standing {
-            Standing::Decided(command) => Row::decided(alloc, entry.instance, command, backing),
-            Standing::Open(_) => {
+        match entry.decision() {
+            Some(command) => Row::decided(alloc, entry.instance, command, backing),
+            None => {
                 let parts = FullRow {
-                    standing: entry.standing,
+                    standing: entry.standing(),
                     backing,
                     tally: Tally::new(alloc),
                 };

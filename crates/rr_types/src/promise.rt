@@ -5,6 +5,7 @@ ghost use Rattle.rr_types.specs.Promises.{IsAscending};
 
 use crate::command::Command;
 use crate::fact::Estimate;
+use crate::kept::Kept;
 use crate::round::{Instance, Round};
 use std::marker::Model;
 
@@ -150,7 +151,7 @@ pub struct Entry {
 /// What a node's facts promise: where each instance stands that they name, ascending.
 #[derive(Debug, Drop)]
 pub struct Promise {
-    entries: Vec<Entry>,
+    entries: Vec<Kept>,
 }
 
 impl Model for Promise {
@@ -167,7 +168,7 @@ impl Model for Promise {
 
 impl Promise {
     /// The promise of these entries, which ascend by their instances. It keeps the vector.
-    pub fn new(entries: Vec<Entry>) -> Promise
+    pub fn new(entries: Vec<Kept>) -> Promise
         requires { IsAscending entries.items }
         ensures { result ≡ entries.items }
     {
@@ -175,7 +176,7 @@ impl Promise {
     }
 
     /// The entries, ascending by their instances.
-    pub fn entries(&self) -> &[Entry]
+    pub fn entries(&self) -> &[Kept]
         ensures value { result.now ≡ self.now }
         ensures ascending { IsAscending result.now }
     {
@@ -184,7 +185,7 @@ impl Promise {
     }
 
     /// The entries as the vector that the promise was made of.
-    pub fn into_entries(self) -> Vec<Entry>
+    pub fn into_entries(self) -> Vec<Kept>
         ensures value { result.items ≡ self }
         ensures ascending { IsAscending result.items }
     {

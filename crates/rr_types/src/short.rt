@@ -7,7 +7,7 @@ use std::marker::Model;
 /// At most 64 bytes. Behind them the array holds zeros, so that equal bytes are equal fields.
 #[derive(Clone, Copy, Debug)]
 pub struct Short {
-    len: usize,
+    len: u8,
     bytes: [u8; 64],
 }
 
@@ -34,7 +34,10 @@ impl Short {
         let mut bytes = [0u8; 64];
         let len = text.len();
         bytes[..len].copy_from_slice(text);
-        Short { len, bytes }
+        Short {
+            len: len as u8,
+            bytes,
+        }
     }
 
     pub fn as_bytes(&self) -> &[u8]
@@ -42,6 +45,6 @@ impl Short {
         ensures short { length result.now ≤ 64 }
     {
         let bytes = &self.bytes;
-        &bytes[..self.len]
+        &bytes[..self.len as usize]
     }
 }

@@ -7,11 +7,11 @@ ghost use Rattle.rr_verify.specs.Agreement.{decided_of, longest_decided};
 
 use crate::folder::Reading;
 use rr_text::text_report::push_decided_list;
-use rr_types::{Command, Entry, Op, Standing, made_of};
+use rr_types::{Command, Kept, Op, made_of};
 use std::alloc::{AllocError, Global};
 
 /// How many instances these entries decide from 0 on without a gap.
-pub(crate) fn decided_count(entries: &[Entry]) -> usize
+pub(crate) fn decided_count(entries: &[Kept]) -> usize
     ensures { result ≡ length (decided_from 0 entries.now) }
 {
     made_of!(Command, Op);
@@ -19,16 +19,16 @@ pub(crate) fn decided_count(entries: &[Entry]) -> usize
         if entry.instance.number() as usize != place {
             return place;
         }
-        match entry.standing {
-            Standing::Decided(_) => {}
-            Standing::Open(_) => return place,
+        match entry.decision() {
+            Some(_) => {}
+            None => return place,
         }
     }
     entries.len()
 }
 
 // The commands that these entries decide from instance 0 on without a gap.
-fn decided_commands(alloc: Global, entries: &[Entry]) -> Result<Vec<Command>, AllocError>
+fn decided_commands(alloc: Global, entries: &[Kept]) -> Result<Vec<Command>, AllocError>
     ensures { IfOk result (λ v. v.items ≡ decided_from 0 entries.now) }
 {
     made_of!(Command, Op);
@@ -37,16 +37,16 @@ fn decided_commands(alloc: Global, entries: &[Entry]) -> Result<Vec<Command>, Al
         if entry.instance.number() as usize != place {
             break;
         }
-        match entry.standing {
-            Standing::Decided(command) => commands.push(command)?,
-            Standing::Open(_) => break,
+        match entry.decision() {
+            Some(command) => commands.push(*command)?,
+            None => break,
         }
     }
     Ok(commands)
 }
 
 // The entries of a folder; none where it holds no facts.
-fn entries_of(reading: &Reading) -> &[Entry]
+fn entries_of(reading: &Reading) -> &[Kept]
     ensures { decided_from 0 result.now ≡ decided_of reading.now }
 {
     match reading {
@@ -63,7 +63,7 @@ fn entries_of(reading: &Reading) -> &[Entry]
 pub fn longest_decided(alloc: Global, readings: &[Reading]) -> Result<Vec<Command>, AllocError>
     ensures { IfOk result (λ v. v.items ≡ longest_decided readings.now) }
 {
-    let mut longest: &[Entry] = &[];
+    let mut longest: &[Kept] = &[];
     for reading in readings {
         let entries = entries_of(reading);
         if decided_count(longest) < decided_count(entries) {

@@ -5,7 +5,7 @@ ghost use Rattle.rr_types.specs.Facts.{decision_of};
 ghost use Rattle.rr_types.specs.Promises.{IsAscending};
 ghost use Rattle.rr_verify.specs.Agreement.{difference, first_difference};
 
-use rr_types::{Command, Entry, Instance, Op, Standing, made_of};
+use rr_types::{Command, Instance, Kept, Op, Standing, made_of};
 
 /// An instance that is decided differently, and both commands.
 #[derive(Clone, Copy, Debug)]
@@ -15,13 +15,13 @@ pub struct Difference {
     pub other: Command,
 }
 
-// The difference of two standings of an instance, if both have decided and not alike.
-fn difference_at(instance: Instance, one: &Standing, other: &Standing) -> Option<Difference>
-    ensures { result ≡ difference instance (decision_of (Some one.now)) (decision_of (Some other.now)) }
+// The difference of where two entries stand, of an instance, if both have decided and not alike.
+fn difference_at(instance: Instance, one: &Kept, other: &Kept) -> Option<Difference>
+    ensures { result ≡ difference instance (decision_of (Some one.now.standing)) (decision_of (Some other.now.standing)) }
 {
     made_of!(Command, Op);
-    match (one, other) {
-        (Standing::Decided(one), Standing::Decided(other)) => {
+    match (one.decision(), other.decision()) {
+        (Some(one), Some(other)) => {
             if one.is_same(other) {
                 None
             } else {
@@ -37,7 +37,7 @@ fn difference_at(instance: Instance, one: &Standing, other: &Standing) -> Option
 }
 
 /// The lowest instance that two promises decide differently, with both commands.
-pub(crate) fn first_difference(one: &[Entry], other: &[Entry]) -> Option<Difference>
+pub(crate) fn first_difference(one: &[Kept], other: &[Kept]) -> Option<Difference>
     requires one { IsAscending one.now }
     requires other { IsAscending other.now }
     ensures { result ≡ first_difference one.now other.now }
@@ -54,7 +54,7 @@ pub(crate) fn first_difference(one: &[Entry], other: &[Entry]) -> Option<Differe
                 } else if beside.instance.number() < entry.instance.number() {
                     other = other_rest;
                 } else {
-                    match difference_at(entry.instance, &entry.standing, &beside.standing) {
+                    match difference_at(entry.instance, entry, beside) {
                         Some(found) => return Some(found),
                         None => {
                             one = one_rest;

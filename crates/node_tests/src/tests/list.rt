@@ -2,9 +2,7 @@
 
 use rr_list::{Instances, Pool, Waiting};
 use rr_parts::Row;
-use rr_types::{
-    Command, Entry, Fact, Instance, Name, Op, Refusal, RequestNo, Standing, Value, made_of,
-};
+use rr_types::{Command, Fact, Instance, Kept, Name, Op, Refusal, RequestNo, Value, made_of};
 use std::alloc::Global;
 use std::process::Abort;
 
@@ -20,12 +18,9 @@ fn command(seq: u64) -> Result<Command, Refusal> {
 }
 
 /// An instance that has decided on the command with this request number.
-fn decided(number: u32, seq: u64) -> Result<Entry, Refusal> {
+fn decided(number: u32, seq: u64) -> Result<Kept, Refusal> {
     match Instance::new(number) {
-        Some(instance) => Ok(Entry {
-            instance,
-            standing: Standing::Decided(command(seq)?),
-        }),
+        Some(instance) => Ok(Kept::decided(instance, &command(seq)?)),
         None => Err(Refusal::BadName),
     }
 }

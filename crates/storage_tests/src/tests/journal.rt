@@ -9,8 +9,8 @@ use rr_frame::{Version, decode_group};
 use rr_image::{Image, read_image};
 use rr_journal::{Journal, Opening, Progress};
 use rr_types::{
-    Command, Entry, Estimate, Fact, Group, Instance, Name, NodeId, Nodes, Op, Promise, Refusal,
-    RequestNo, Round, Standing, Value,
+    Command, Estimate, Fact, Group, Instance, Name, NodeId, Nodes, Op, Promise, Refusal, RequestNo,
+    Round, Value,
 };
 use std::alloc::Global;
 use std::process::Abort;
@@ -192,17 +192,15 @@ fn flushed(rt: &impl Abort, alloc: Global, nodes: Nodes, node: NodeId) -> MemDis
 /// Asserts that a promise is to be in round 1 of instance 0, with stamp 0.
 fn assert_entered(rt: &impl Abort, promise: &Promise) {
     match promise.entries() {
-        [
-            Entry {
-                instance,
-                standing: Standing::Open(open),
-            },
-        ] => {
-            assert_eq!(rt;
-                (instance.number(), open.round().number(), open.stamp()),
-                (0, 1, 0)
-            );
-        }
+        [entry] => match entry.open() {
+            Some(open) => {
+                assert_eq!(rt;
+                    (entry.instance.number(), open.round().number(), open.stamp()),
+                    (0, 1, 0)
+                );
+            }
+            None => rt.panic("a decision"),
+        },
         _ => assert!(rt; false, "another promise"),
     }
 }

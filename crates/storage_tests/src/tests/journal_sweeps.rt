@@ -9,7 +9,7 @@ use rr_disk::{Area, Disk, MemDisk};
 use rr_frame::{Reader, Version, decode_group, decode_snapshot, encode_group, encode_snapshot};
 use rr_image::Image;
 use rr_journal::{Opening, frame};
-use rr_types::{Command, Entry, Name, Op, Promise, Refusal, RequestNo, Standing, Value};
+use rr_types::{Command, Name, Op, Promise, Refusal, RequestNo, Value};
 use std::alloc::Global;
 use std::process::Abort;
 
@@ -116,14 +116,12 @@ fn assert_one_decided(rt: &impl Abort, promise: &Promise) -> Result<(), Refusal>
         op: Op::Claim(Name::new(b"a")?, Value::new(b"x")?),
     };
     match promise.entries() {
-        [
-            Entry {
-                instance,
-                standing: Standing::Decided(decided),
-            },
-        ] => {
-            assert_eq!(rt; instance.number(), 0);
-            assert!(rt; decided.is_same(&command));
+        [entry] => {
+            assert_eq!(rt; entry.instance.number(), 0);
+            match entry.decision() {
+                Some(decided) => assert!(rt; decided.is_same(&command)),
+                None => rt.panic("no decision"),
+            }
         }
         _ => assert!(rt; false, "another promise"),
     }

@@ -1,4 +1,4 @@
-use Rattle.std.proofs.Common.{◌≡◌, ◌∷◌, [], ◌++◌}
+use Rattle.std.proofs.Common.{◌≡◌, ◌∷◌, [], ◌++◌, ap, ◌∙◌}
 use Rattle.std.proofs.lemmas.Result.{err_from_is_err_and}
 use Rattle.rr_frame.specs.declared.stop.Stop.TheVariants as stops
 use Rattle.rr_frame.specs.SnapshotFormat.{entries_at}
@@ -16,5 +16,5 @@ returns c = entries_end c.args.version c.args.nodes c.args.node c.loop.low c.loo
 pub loop-preserved : goal.loop-preserved
 loop-preserved c =
     let x = c.in_ok-entry.entry in
-    let e : c.push.new.self.items ≡ c.loop.entries.items ++ x ∷ [] = c.in_ok-push.ensures.items in
+    let e : c.push.new.self.items ≡ c.loop.entries.items ++ x ∷ [] = c.in_ok-push.ensures.items ∙ ap (λ k. c.loop.entries.items ++ k ∷ []) c.in_ok-kept.ensures.ok in
     rw (e, c.number-low.ensures.value) (entries_go_on c.args.version c.args.nodes c.args.node c.loop.low c.loop.entries.items c.args.count c.loop.counter c.loop.reader x c.read_entry.new.reader (entries_at c.args.version c.args.nodes c.args.node 0 c.args.count c.args.reader.now) c.loop-test.true c.in_ok-entry.ensures c.loop.invariant)

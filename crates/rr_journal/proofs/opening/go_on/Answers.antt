@@ -25,16 +25,16 @@ returns-in-ReadingSecond-clause-rests c old new =
     subst (λ (q : Phase). OpensAny c.args.nodes c.args.node q old → IsReadBy (due_call (phase_of q)) old c.args.read.items → new ≡ after_call (due_call (phase_of q)) old → IfOk c.with_areas.result (λ next. GoesOnAny c.args.nodes c.args.node next new))
     (sym c.in-ReadingSecond.is)
     (λ rests read after.
-    c.with_areas.ensures.rests new (still_resting old new c.args.read.items rests.0 after) (c.deref.ensures.value ∙ rests.1)
-    (c.deref-in-ReadingSecond.ensures.value ∙ second_bytes old new c.args.read.items rests.0 read))
+    c.with_areas.ensures.rests new (still_resting old new c.args.read.items rests.0 after) rests.1
+    (second_bytes old new c.args.read.items rests.0 read))
 
 pub returns-in-ReadingSecond-clause-table : goal.returns-in-ReadingSecond-clause-table
 returns-in-ReadingSecond-clause-table c facts old new =
     subst (Leads c.args.nodes c.args.node facts old new c.args.read.items (IfOk c.with_areas.result (λ next. GoesOnWith c.args.nodes c.args.node facts next new))) (sym c.in-ReadingSecond.is)
     (λ opens read after.
     c.with_areas.ensures.table facts new (still_rests old new c.args.read.items c.args.nodes c.args.node facts opens.0 after)
-    (c.deref.ensures.value ∙ opens.1)
-    (c.deref-in-ReadingSecond.ensures.value ∙ second_bytes old new c.args.read.items (resting c.args.nodes c.args.node facts old opens.0) read))
+    opens.1
+    (second_bytes old new c.args.read.items (resting c.args.nodes c.args.node facts old opens.0) read))
 
 pub returns-in-ReadingSecond-clause-undamaged : goal.returns-in-ReadingSecond-clause-undamaged
 returns-in-ReadingSecond-clause-undamaged c facts old =
@@ -42,8 +42,8 @@ returns-in-ReadingSecond-clause-undamaged c facts old =
     (λ (q : Phase). OpensWith c.args.nodes c.args.node facts q old → IsReadBy (due_call (phase_of q)) old c.args.read.items → IfErr c.with_areas.result (λ e. e ≡ OutOfMemory))
     (sym c.in-ReadingSecond.is)
     (λ opens read.
-    c.with_areas.ensures.undamaged facts old opens.0 (c.deref.ensures.value ∙ opens.1)
-    (c.deref-in-ReadingSecond.ensures.value ∙ second_bytes old old c.args.read.items (resting c.args.nodes c.args.node facts old opens.0) read))
+    c.with_areas.ensures.undamaged facts old opens.0 opens.1
+    (second_bytes old old c.args.read.items (resting c.args.nodes c.args.node facts old opens.0) read))
 
 pub returns-in-Rewriting-clause-exact : goal.returns-in-Rewriting-clause-exact
 returns-in-Rewriting-clause-exact c =

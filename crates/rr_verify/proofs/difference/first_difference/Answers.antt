@@ -1,4 +1,5 @@
-use Rattle.std.proofs.Common.{◌≡◌, ◌∙◌, sym, arith}
+use Rattle.std.proofs.Common.{◌≡◌, ◌∙◌, sym, ap, arith}
+use Rattle.rr_types.specs.declared.promise.Entry.{Entry}
 use Rattle.rr_verify.proofs.AgreementLemmas.{left_all, left_one, left_other, left_both, left_nothing_beside}
 use Rattle.rr_verify.proofs.difference.first_difference.Goals as goal
 
@@ -9,19 +10,19 @@ pub loop-entry-preserved-then-number : goal.loop-entry-preserved-then-number
 loop-entry-preserved-then-number c =
     left_one c.loop-entry.one.now c.loop-entry.other.now c.in-Some.one_rest.now c.in-Some-split_first.other_rest.now c.in-Some.entry.now c.in-Some-split_first.beside.now _
     c.in-Some.ensures.cases.0 c.in-Some-split_first.ensures.cases.0
-    (omega (arith, c.number.ensures.value, c.number-in-Some-split_first.ensures.value, c.if-number.true)) c.loop-entry.invariant
+    (omega (arith, c.number.ensures.value, c.number-in-Some-split_first.ensures.value, c.if-number.true, ap (λ (e : Entry). e.instance) c.entry.view_is, ap (λ (e : Entry). e.instance) c.beside.view_is)) c.loop-entry.invariant
 
 pub loop-entry-preserved-then-number-2 : goal.loop-entry-preserved-then-number-2
 loop-entry-preserved-then-number-2 c =
     left_other c.loop-entry.one.now c.loop-entry.other.now c.in-Some.one_rest.now c.in-Some-split_first.other_rest.now c.in-Some.entry.now c.in-Some-split_first.beside.now _
     c.in-Some.ensures.cases.0 c.in-Some-split_first.ensures.cases.0
-    (omega (arith, c.number-else-number.ensures.value, c.number-else-number-2.ensures.value, c.if-number-2.true)) c.loop-entry.invariant
+    (omega (arith, c.number-else-number.ensures.value, c.number-else-number-2.ensures.value, c.if-number-2.true, ap (λ (e : Entry). e.instance) c.entry.view_is, ap (λ (e : Entry). e.instance) c.beside.view_is)) c.loop-entry.invariant
 
 pub loop-entry-preserved : goal.loop-entry-preserved
 loop-entry-preserved c =
     left_both c.loop-entry.one.now c.loop-entry.other.now c.in-Some.one_rest.now c.in-Some-split_first.other_rest.now c.in-Some.entry.now c.in-Some-split_first.beside.now _
     c.in-Some.ensures.cases.0 c.in-Some-split_first.ensures.cases.0
-    (omega (arith, c.number.ensures.value, c.number-in-Some-split_first.ensures.value, c.if-number.false, c.number-else-number.ensures.value, c.number-else-number-2.ensures.value, c.if-number-2.false))
+    (omega (arith, c.number.ensures.value, c.number-in-Some-split_first.ensures.value, c.if-number.false, c.number-else-number.ensures.value, c.number-else-number-2.ensures.value, c.if-number-2.false, ap (λ (e : Entry). e.instance) c.entry.view_is, ap (λ (e : Entry). e.instance) c.beside.view_is))
     (sym c.difference_at.ensures ∙ c.in-None-difference_at.is) c.loop-entry.invariant
 
 pub returns-in-None : goal.returns-in-None

@@ -11,8 +11,9 @@ has_gap-requires c = rw c.deref.ensures.value (front_ascends c.args.entries.item
 
 pub loop-front-preserved : goal.loop-front-preserved
 loop-front-preserved c =
-    let made = c.in-Ok.ensures.entries ∙ ap (λ (k : ℕ). insert_entry nat_cmp c.loop-front.beyond.entries k c.in-Some.entry) c.number.ensures.value in
-    taken c.args.entries.items c.loop-front.front.items c.pop.new.self.items c.loop-front.beyond.entries c.insert.new.self.entries c.in-Some.entry c.requires c.loop-front.invariant c.in-Some.ensures.items made
+    let number = c.number-number.ensures.value ∙ ap (λ (e : Entry). e.instance) c.entry.view_is in
+    let made = c.in_ok-put.ensures ∙ ap (λ (k : ℕ). insert_entry nat_cmp c.loop-front.beyond.entries k c.in-Some.entry) number in
+    taken c.args.entries.items c.loop-front.front.items c.pop.new.self.items c.loop-front.beyond.entries c.put.new.beyond.entries c.in-Some.entry c.requires c.loop-front.invariant c.in-Some.ensures.items made
 
 pub returns : goal.returns
 returns c = c.loop-front.invariant.same

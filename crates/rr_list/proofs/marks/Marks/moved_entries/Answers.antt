@@ -15,6 +15,7 @@ loop-place-preserved c =
     elim c.match-decided_command.branch [
       | in-Some+in-Some-new+in_ok-push-in-Some-new w ↦
           rw w.entries-is (ap (λ xs. xs ++ decided_entries rows (place + 1) (moved - (place + 1))) w.in_ok-push-in-Some-new.ensures.items
+          ∙ ap (λ e. (pushed ++ e ∷ []) ++ decided_entries rows (place + 1) (moved - (place + 1))) w.decided.ensures
           ∙ ap (λ i. (pushed ++ record { instance = i; standing = Decided w.in-Some.command.now } ∷ []) ++ decided_entries rows (place + 1) (moved - (place + 1))) w.in-Some-new.ensures.value
           ∙ entries_some rows place moved pushed w.in-Some.command.now below w.in-Some.ensures ∙ c.loop-place.invariant)
       | in_default w ↦ rw w.entries-is (entries_none rows place moved pushed below w.in_default.ensures ∙ c.loop-place.invariant)
