@@ -46,11 +46,7 @@ impl Kept {
     }
 
     /// An instance that stands so. It needs memory only where that is open.
-    pub fn new(
-        alloc: Global,
-        instance: Instance,
-        standing: &Standing,
-    ) -> Result<Kept, AllocError>
+    pub fn new(alloc: Global, instance: Instance, standing: &Standing) -> Result<Kept, AllocError>
         ensures ok { IfOk result (λ k. k ≡ record { instance = instance; standing = standing.now }) }
         ensures decided { (v : Command) → standing.now ≡ stands.Decided v → IsOk result }
     {

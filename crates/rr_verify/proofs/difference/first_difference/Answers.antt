@@ -1,5 +1,7 @@
-use Rattle.std.proofs.Common.{◌≡◌, ◌∙◌, sym, ap, arith}
+use Rattle.std.proofs.Common.{◌≡◌, ◌∙◌, Some, sym, ap, arith}
 use Rattle.rr_types.specs.declared.promise.Entry.{Entry}
+use Rattle.rr_types.specs.Facts.{decision_of}
+use Rattle.rr_verify.specs.Agreement.{difference}
 use Rattle.rr_verify.proofs.AgreementLemmas.{left_all, left_one, left_other, left_both, left_nothing_beside}
 use Rattle.rr_verify.proofs.difference.first_difference.Goals as goal
 
@@ -23,7 +25,9 @@ loop-entry-preserved c =
     left_both c.loop-entry.one.now c.loop-entry.other.now c.in-Some.one_rest.now c.in-Some-split_first.other_rest.now c.in-Some.entry.now c.in-Some-split_first.beside.now _
     c.in-Some.ensures.cases.0 c.in-Some-split_first.ensures.cases.0
     (omega (arith, c.number.ensures.value, c.number-in-Some-split_first.ensures.value, c.if-number.false, c.number-else-number.ensures.value, c.number-else-number-2.ensures.value, c.if-number-2.false, ap (λ (e : Entry). e.instance) c.entry.view_is, ap (λ (e : Entry). e.instance) c.beside.view_is))
-    (sym c.difference_at.ensures ∙ c.in-None-difference_at.is) c.loop-entry.invariant
+    (ap (λ i. difference i (decision_of (Some c.in-Some.entry.now.standing)) (decision_of (Some c.in-Some-split_first.beside.now.standing))) (sym (ap (λ (e : Entry). e.instance) c.entry.view_is))
+    ∙ sym c.difference_at.ensures ∙ c.in-None-difference_at.is)
+    c.loop-entry.invariant
 
 pub returns-in-None : goal.returns-in-None
 returns-in-None c = left_nothing_beside c.loop-entry.one.now c.loop-entry.other.now _ c.in-None.ensures.cases c.loop-entry.invariant
