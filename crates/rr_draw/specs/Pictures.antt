@@ -61,7 +61,8 @@ pub record IsElement (cut : Cut) (at : ℕ) (before : List ℕ) (seen : Seen) (t
 -- what a picture has of the event of a line: its element, or nothing where the cut doesn't show it. Where an instance is given, an
 -- event that doesn't speak of it is left out too; but it may be shown where it may sync or mark facts
 pub data IsDrawn (cut : Cut) (at : ℕ) (before : List ℕ) (seen : Seen) (text : List ℕ) : Type 0 where
-  drawn : shows cut at seen.event ≡ true → (speaks cut seen || may_tell_facts seen.event) ≡ true → IsElement cut at before seen text → IsDrawn cut at before seen text
+  drawn : shows cut at seen.event ≡ true → (speaks cut seen || may_tell_facts seen.event) ≡ true → IsElement cut at before seen text
+      → IsDrawn cut at before seen text
   left_out : shows cut at seen.event ≡ false → text ≡ [] → IsDrawn cut at before seen text
   of_another_instance : speaks cut seen ≡ false → text ≡ [] → IsDrawn cut at before seen text
 
