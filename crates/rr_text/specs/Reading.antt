@@ -97,7 +97,10 @@ op_kind_at w = find_by op_word w (Claim ∷ Update ∷ Release ∷ Transfer ∷ 
 
 -- the kind of messages that a word stands for
 abbrev pub message_kind_at : List ℕ → Option MessageKind
-message_kind_at w = find_by message_word w (messages.Estimate ∷ messages.Proposal ∷ messages.Ack ∷ messages.Decision ∷ messages.Request ∷ messages.Nack ∷ messages.Beat ∷ messages.Suspects ∷ messages.Ask ∷ [])
+message_kind_at w =
+    find_by message_word w
+    (messages.Estimate ∷ messages.Proposal ∷ messages.Ack ∷ messages.Decision ∷ messages.Request ∷ messages.Nack ∷ messages.Beat
+    ∷ messages.Suspects ∷ messages.Ask ∷ [])
 
 -- a name and a value, where both are there
 abbrev pub name_and_value : Option (List ℕ) → Option (List ℕ) → Option (List ℕ × List ℕ)
