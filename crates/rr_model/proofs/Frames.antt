@@ -63,7 +63,7 @@ stages_at : (p : ℕ) (fs : List Fact) → AreStepsAt p (map (Stage p) fs)
 stages_at p [] = tt
 stages_at p (f ∷ fs) = (refl, stages_at p fs)
 
-input_at : (p : ℕ) (input : Input) → AreStepsAt p (step_of_input p input)
+input_at : (p : ℕ) (input : Input Message) → AreStepsAt p (step_of_input p input)
 input_at p (told.Submit c) = (refl, tt)
 input_at p (told.Suspect set) = tt
 input_at p told.Tick = tt
@@ -104,7 +104,7 @@ stages_quietly : (p : ℕ) (w : World) (fs : List Fact) → IsAsQuiet w (after_s
 stages_quietly p w [] = record { wire = refl; trace = refl }
 stages_quietly p w (f ∷ fs) = let q : IsAsQuiet (after_step w (Stage p f)) (after_steps (after_step w (Stage p f)) (map (Stage p) fs)) = stages_quietly p (after_step w (Stage p f)) fs in record { wire = q.wire; trace = q.trace }
 
-input_quietly : (p : ℕ) (w : World) (input : Input) → IsAsQuiet w (after_steps w (step_of_input p input))
+input_quietly : (p : ℕ) (w : World) (input : Input Message) → IsAsQuiet w (after_steps w (step_of_input p input))
 input_quietly p w (told.Submit c) = record { wire = refl; trace = refl }
 input_quietly p w (told.Suspect set) = record { wire = refl; trace = refl }
 input_quietly p w told.Tick = record { wire = refl; trace = refl }

@@ -63,7 +63,7 @@ stage_run n p kept staged h w (f ∷ fs) A l =
     ((((A.exists, A.up), here), rest.0), subst (λ z. IsAt n p kept z h (after_steps (after_step w (Stage p f)) (map (Stage p) fs))) (append_assoc staged (f ∷ []) fs) rest.1)
 
 -- an input, where it is a step
-pub input_run : (n p : ℕ) (kept staged : List Fact) (h : Heard) (w : World) (input : Input) → IsInputOfWorld w p input → IsAt n p kept staged h w → IsRunFrom n w (step_of_input p input) × IsAt n p kept staged (heard_input p h input) (after_steps w (step_of_input p input))
+pub input_run : (n p : ℕ) (kept staged : List Fact) (h : Heard) (w : World) (input : Input Message) → IsInputOfWorld w p input → IsAt n p kept staged h w → IsRunFrom n w (step_of_input p input) × IsAt n p kept staged (heard_input p h input) (after_steps w (step_of_input p input))
 input_run n p kept staged h w (Submit c) x A = (
   ((A.exists, A.up), tt),
   record {
@@ -123,7 +123,7 @@ module _ (X : Type 0) (known : X) (n p : ℕ) (facts : List Fact) (h : Heard) (s
       let c : s.marked_end ≡ length K.kept = K.count in
       omega arith
 
-  told_run : (input : Input) → IsEventOfNodes n (Told input) → IsRunOfSteps n p facts h s (Told input)
+  told_run : (input : Input Message) → IsEventOfNodes n (Told input) → IsRunOfSteps n p facts h s (Told input)
   told_run input x w A y =
       let t : NodeState = node_step input s in
       let new : List Fact = facts_of_input s input in

@@ -26,7 +26,7 @@ AreLawful n p before h (f ∷ fs) = IsLawful n p before h f × AreLawful n p (be
 -- what happens at a node that is up
 pub data NodeEvent : Type 0 where
   -- an input comes in
-  Told : Input → NodeEvent
+  Told : Input Message → NodeEvent
   -- its oldest staged facts become the running group, where none runs
   Grouped : NodeEvent
   -- the running group is staged again
@@ -56,7 +56,7 @@ abbrev pub hear_command : Heard → Command → Heard
 hear_command h c = record { messages = h.messages; commands = h.commands ++ c ∷ [] }
 
 -- what node p has heard, this input included: messages for it, and commands submitted to it
-abbrev pub heard_input : ℕ → Heard → Input → Heard
+abbrev pub heard_input : ℕ → Heard → Input Message → Heard
 heard_input p h (Submit c) = hear_command h c
 heard_input p h (Suspect set) = h
 heard_input p h Tick = h
@@ -73,7 +73,7 @@ heard_after p h Left = h
 heard_after p h Answered = h
 
 -- a message that is heard is from one of the n nodes
-abbrev pub IsInputOfNodes : ℕ → Input → Type 0
+abbrev pub IsInputOfNodes : ℕ → Input Message → Type 0
 IsInputOfNodes n (Submit c) = Unit {0}
 IsInputOfNodes n (Suspect set) = Unit {0}
 IsInputOfNodes n Tick = Unit {0}
@@ -95,7 +95,7 @@ AreEventsOfNodes n [] = Unit {0}
 AreEventsOfNodes n (e ∷ es) = IsEventOfNodes n e × AreEventsOfNodes n es
 
 -- the facts that an input stages: those behind what was staged
-abbrev pub facts_of_input : NodeState → Input → List Fact
+abbrev pub facts_of_input : NodeState → Input Message → List Fact
 facts_of_input s input = drop (length s.staged) (node_step input s).staged
 
 -- the facts that an event stages; only inputs stage any

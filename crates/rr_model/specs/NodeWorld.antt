@@ -19,7 +19,7 @@ use Rattle.rr_model.specs.NodeStep.{next_leaving, next_acknowledged, started}
 use Rattle.rr_model.specs.NodeLaws.{NodeEvent, Told, Grouped, PutBack, Marked, Left, Answered, after_event, heard_after, AreEventsOfNodes, facts_of_input, facts_of_event, HasRound, marked_facts}
 
 -- what an input is in the world: a submit or a message for the node is a step, the rest is the node's own affair
-abbrev pub step_of_input : ℕ → Input → List Step
+abbrev pub step_of_input : ℕ → Input Message → List Step
 step_of_input p (Submit c) = world.Submit p c ∷ []
 step_of_input p (Suspect set) = []
 step_of_input p Tick = []
@@ -52,7 +52,7 @@ pub record IsAtNode (n p : ℕ) (facts : List Fact) (h : Heard) (s : NodeState) 
   pub submitted : (c : Command) → Contains h.commands c → Contains w.submitted c
 
 -- a message may be heard only from the wire
-abbrev pub IsInputOfWorld : World → ℕ → Input → Type 0
+abbrev pub IsInputOfWorld : World → ℕ → Input Message → Type 0
 IsInputOfWorld w p (Submit c) = Unit {0}
 IsInputOfWorld w p (Suspect set) = Unit {0}
 IsInputOfWorld w p Tick = Unit {0}

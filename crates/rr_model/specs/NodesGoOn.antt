@@ -26,7 +26,7 @@ pub record Cluster : Type 0 where
   pub sent : List Message
 
 -- what a node may be told: the one command, a message that was sent, or that its round takes too long
-abbrev pub MayBeTold : List Message → Command → Input → Type 0
+abbrev pub MayBeTold : List Message → Command → Input Message → Type 0
 MayBeTold sent c (Submit d) = d ≡ c
 MayBeTold sent c (Suspect set) = ⊥
 MayBeTold sent c Tick = ⊥
