@@ -54,30 +54,30 @@ pub record IsNext (r : Replay) (e : TapeEvent) : Type 0 where
   pub here : slice_get r.nodes e.node ≡ Some state
   pub next : IsNextAt r.wire state e does
 
--- the messages that an event puts on the wire
+-- the messages that an event puts on the wire, by what the tape has of it
+abbrev pub sent_of : Recorded → List Message
+sent_of (tape.Sent k m) = m ∷ []
+sent_of _ = []
+
 abbrev pub sent_by : TapeEvent → List Message
 sent_by e = sent_of e.what
-  where
-    sent_of : Recorded → List Message
-    sent_of (tape.Sent k m) = m ∷ []
-    sent_of _ = []
 
--- what an event lets others know
+-- what an event of node p lets others know
+abbrev pub told_of : ℕ → Recorded → List world.Told
+told_of p (tape.Sent k m) = Sent m ∷ []
+told_of p (tape.Acked q reply) = Acknowledged p q reply ∷ []
+told_of p _ = []
+
 abbrev pub told_by : TapeEvent → List world.Told
-told_by e = told_of e.what
-  where
-    told_of : Recorded → List world.Told
-    told_of (tape.Sent k m) = Sent m ∷ []
-    told_of (tape.Acked q reply) = Acknowledged e.node q reply ∷ []
-    told_of _ = []
+told_by e = told_of e.node e.what
 
 -- what an event submits
+abbrev pub submitted_of : Recorded → List Command
+submitted_of (tape.Told (node.Submit c)) = c ∷ []
+submitted_of _ = []
+
 abbrev pub submitted_by : TapeEvent → List Command
 submitted_by e = submitted_of e.what
-  where
-    submitted_of : Recorded → List Command
-    submitted_of (tape.Told (node.Submit c)) = c ∷ []
-    submitted_of _ = []
 
 -- the replay after an event by which its node, in this state before, does this
 abbrev pub replayed : TapeEvent → NodeState → NodeEvent → Replay → Replay

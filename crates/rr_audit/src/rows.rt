@@ -4,7 +4,7 @@ ghost use Rattle.std.specs.Prelude.{◌≡◌};
 ghost use Rattle.rr_audit.specs.Rows.{as_scheduled, as_reported};
 
 use rr_tape::{Recorded, TapeEvent};
-use rr_text::{Event, Happening, ReportLine};
+use rr_text::{Event, ReportLine};
 use rr_types::NodeEvent;
 
 /// The event of a schedule that an event of a tape is. A tape also has what was sent or acknowledged, which a schedule leaves out.
@@ -18,10 +18,7 @@ pub fn as_scheduled(event: &TapeEvent) -> Event
         Recorded::Sent { .. } => NodeEvent::Send,
         Recorded::Acked { .. } => NodeEvent::Acknowledge,
     };
-    Event {
-        node: event.node,
-        what: Happening::At(what),
-    }
+    Event::at(event.node, what)
 }
 
 /// The line of a report that an event of a tape is: a message that was sent, or an acknowledgement.

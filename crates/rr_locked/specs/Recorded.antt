@@ -29,13 +29,14 @@ numbered k told.Advance = told.Advance
 abbrev pub event_of : ℕ → ℕ → Input Message → TapeEvent
 event_of p k input = of_node p (tape.Told (numbered k input))
 
+-- whether it is a message that was sent
+abbrev pub is_sent : Recorded → Bool
+is_sent (tape.Sent k m) = true
+is_sent _ = false
+
 -- whether a message is sent by the event
 abbrev pub is_send : TapeEvent → Bool
 is_send e = is_sent e.what
-  where
-    is_sent : Recorded → Bool
-    is_sent (tape.Sent k m) = true
-    is_sent _ = false
 
 -- how many messages are sent on a tape, which is the number of the next
 abbrev pub sent_on : Taped → ℕ

@@ -10,10 +10,10 @@ use Rattle.rr_types.specs.declared.refusal.Refusal.TheVariants.{OutOfMemory}
 use Rattle.rr_text.specs.declared.event.Event.{Event}
 use Rattle.rr_text.specs.declared.event.Happening.{Happening}
 use Rattle.rr_text.specs.declared.event.Happening.TheVariants.{At, Fail, Crash}
-use Rattle.rr_types.specs.declared.event.NodeEvent.{NodeEvent}
 use Rattle.rr_types.specs.declared.event.NodeEvent.TheVariants as events
 use Rattle.rr_text.specs.declared.kind.EventKind.{EventKind}
 use Rattle.rr_text.specs.declared.kind.EventKind.TheVariants as keywords
+use Rattle.rr_text.specs.Events.{event_of}
 use Rattle.rr_text.specs.Words.{spaced}
 use Rattle.rr_text.specs.Lines.{HasNoLine, IsFault}
 use Rattle.rr_text.specs.Scheduled.{IsEvent}
@@ -29,16 +29,12 @@ use Rattle.rr_tape.specs.declared.tape_event.Recorded.{Recorded}
 use Rattle.rr_tape.specs.declared.tape_event.Recorded.TheVariants.{Told, Take, Mark, Sent, Acked}
 use Rattle.rr_tape.specs.Taped.{Taped, IsMessage, IsRequest, IsReply, of_node, IsTapeEvent, IsTape}
 use Rattle.rr_tape.specs.TapeTexts.{tape_words, tape_line, tape_text}
-use Rattle.rr_tape.specs.Reading.{both_at, request_at, reply_at, message_at, recorded, tape_fields_at, tape_event_at}
+use Rattle.rr_tape.specs.Reading.{both_at, request_at, reply_at, message_at, as_recorded, tape_fields_at, tape_event_at}
 use Rattle.rr_tape.proofs.Readers.{IsReader, taken_as, beside, small_word, node_word}
 use Rattle.rr_tape.proofs.MessageReading.{request_word, message_text, reply_reader, spaced_reply}
 
 abbrev words_of : TapeEvent → List ℕ
 words_of e = spaced (tape_words e)
-
--- this happens at node p by an event of a schedule
-abbrev scheduled : ℕ → NodeEvent ℕ → Event
-scheduled p e = record { node = p; what = At e }
 
 -- ---- outputs
 
@@ -58,15 +54,15 @@ ack_words p q r = ap (λ (w : List ℕ). codes "ack " ++ (decimal p ++ 32 ∷ w)
 -- ---- inputs
 
 -- an event of a tape has the words of the event of a schedule that it is
-recorded_words : (n p : ℕ) (h : Happening) (t : TapeEvent) → recorded (record { node = p; what = h }) ≡ Some t → IsEvent n (record { node = p; what = h })
+recorded_words : (n p : ℕ) (h : Happening) (t : TapeEvent) → as_recorded (record { node = p; what = h }) ≡ Some t → IsEvent n (record { node = p; what = h })
     → (words_of t ≡ event_text (record { node = p; what = h })) × IsTapeEvent n t
 recorded_words n p (At (events.Told input)) t e h =
-    subst (λ (u : TapeEvent). (words_of u ≡ event_text (scheduled p (events.Told input))) × IsTapeEvent n u) (same_Some (of_node p (Told input)) t e)
+    subst (λ (u : TapeEvent). (words_of u ≡ event_text (event_of p (events.Told input))) × IsTapeEvent n u) (same_Some (of_node p (Told input)) t e)
     (refl, record { node = h.node; what = h.fields })
 recorded_words n p (At events.Take) t e h =
-    subst (λ (u : TapeEvent). (words_of u ≡ event_text (scheduled p events.Take)) × IsTapeEvent n u) (same_Some (of_node p Take) t e) (refl, record { node = h.node; what = tt })
+    subst (λ (u : TapeEvent). (words_of u ≡ event_text (event_of p events.Take)) × IsTapeEvent n u) (same_Some (of_node p Take) t e) (refl, record { node = h.node; what = tt })
 recorded_words n p (At events.Mark) t e h =
-    subst (λ (u : TapeEvent). (words_of u ≡ event_text (scheduled p events.Mark)) × IsTapeEvent n u) (same_Some (of_node p Mark) t e) (refl, record { node = h.node; what = tt })
+    subst (λ (u : TapeEvent). (words_of u ≡ event_text (event_of p events.Mark)) × IsTapeEvent n u) (same_Some (of_node p Mark) t e) (refl, record { node = h.node; what = tt })
 recorded_words n p (At events.Device) t e h = absurd cc
 recorded_words n p (At events.Send) t e h = absurd cc
 recorded_words n p (At events.Acknowledge) t e h = absurd cc
@@ -75,9 +71,9 @@ recorded_words n p (At events.Restart) t e h = absurd cc
 recorded_words n p (Fail f) t e h = absurd cc
 recorded_words n p (Crash a b f) t e h = absurd cc
 
-input_takes : (n : ℕ) (k : EventKind) (text : List ℕ) (t : TapeEvent) → n ≤ 7 → (fields_at n k text >>= recorded) ≡ Some t → (words_of t ≡ keyword_text k ++ 32 ∷ text) × IsTapeEvent n t
+input_takes : (n : ℕ) (k : EventKind) (text : List ℕ) (t : TapeEvent) → n ≤ 7 → (fields_at n k text >>= as_recorded) ≡ Some t → (words_of t ≡ keyword_text k ++ 32 ∷ text) × IsTapeEvent n t
 input_takes n k text t few given =
-    let e = bind_some (fields_at n k text) recorded t given in
+    let e = bind_some (fields_at n k text) as_recorded t given in
     let was = fields_takes n k text e.0 few e.1 in
     let r = recorded_words n e.0.node e.0.what t e.2 was.fits in
     (r.0 ∙ was.printed, r.1)
@@ -104,17 +100,17 @@ tape_fields_is : (n : ℕ) (k : EventKind) (text : List ℕ) → tape_event_at n
 tape_fields_is n k text = rw (cut_again 32 33 (keyword_text k) text (omega arith) (keyword_plain k), keyword_again k) refl
 
 -- fields that are read as an event of a schedule are read as the event of a tape that it is
-fields_again : (n : ℕ) (k : EventKind) (text : List ℕ) (e : Event) (t : TapeEvent) → fields_at n k text ≡ Some e → recorded e ≡ Some t → tape_fields_at n k text ≡ Some t
+fields_again : (n : ℕ) (k : EventKind) (text : List ℕ) (e : Event) (t : TapeEvent) → fields_at n k text ≡ Some e → as_recorded e ≡ Some t → tape_fields_at n k text ≡ Some t
 fields_again n keywords.Send text e t read is =
-    let p = bind_some (node_at n text) (λ p. Some (scheduled p events.Send)) e read in
-    absurd (let no : None ≡ Some t = ap recorded (same_Some (scheduled p.0 events.Send) e p.2) ∙ is in cc)
+    let p = bind_some (node_at n text) (λ p. Some (event_of p events.Send)) e read in
+    absurd (let no : None ≡ Some t = ap as_recorded (same_Some (event_of p.0 events.Send) e p.2) ∙ is in cc)
 fields_again n keywords.Ack text e t read is =
-    let p = bind_some (node_at n text) (λ p. Some (scheduled p events.Acknowledge)) e read in
-    absurd (let no : None ≡ Some t = ap recorded (same_Some (scheduled p.0 events.Acknowledge) e p.2) ∙ is in cc)
-fields_again n k text e t read is = ap (λ (o : Option Event). o >>= recorded) read ∙ is
+    let p = bind_some (node_at n text) (λ p. Some (event_of p events.Acknowledge)) e read in
+    absurd (let no : None ≡ Some t = ap as_recorded (same_Some (event_of p.0 events.Acknowledge) e p.2) ∙ is in cc)
+fields_again n k text e t read is = ap (λ (o : Option Event). o >>= as_recorded) read ∙ is
 
 -- so is a text
-input_again : (n : ℕ) (e : Event) (t : TapeEvent) → n ≤ 7 → IsEvent n e → recorded e ≡ Some t → tape_event_at n (event_text e) ≡ Some t
+input_again : (n : ℕ) (e : Event) (t : TapeEvent) → n ≤ 7 → IsEvent n e → as_recorded e ≡ Some t → tape_event_at n (event_text e) ≡ Some t
 input_again n e t few h is =
     let w = bind_some (cut_at 32 (event_text e)) (λ w. keyword_at w.0 >>= λ k. fields_at n k w.1) e (event_again n e few h) in
     let k = bind_some (keyword_at w.0.0) (λ k. fields_at n k w.0.1) e w.2 in
@@ -123,9 +119,9 @@ input_again n e t few h is =
     ∙ fields_again n k.0 w.0.1 e t k.2 is
 
 recorded_again : (n p : ℕ) (r : Recorded) → n ≤ 7 → IsTapeEvent n (of_node p r) → tape_event_at n (words_of (of_node p r)) ≡ Some (of_node p r)
-recorded_again n p (Told input) few h = input_again n (scheduled p (events.Told input)) (of_node p (Told input)) few (record { node = h.node; fields = h.what }) refl
-recorded_again n p Take few h = input_again n (scheduled p events.Take) (of_node p Take) few (record { node = h.node; fields = tt }) refl
-recorded_again n p Mark few h = input_again n (scheduled p events.Mark) (of_node p Mark) few (record { node = h.node; fields = tt }) refl
+recorded_again n p (Told input) few h = input_again n (event_of p (events.Told input)) (of_node p (Told input)) few (record { node = h.node; fields = h.what }) refl
+recorded_again n p Take few h = input_again n (event_of p events.Take) (of_node p Take) few (record { node = h.node; fields = tt }) refl
+recorded_again n p Mark few h = input_again n (event_of p events.Mark) (of_node p Mark) few (record { node = h.node; fields = tt }) refl
 recorded_again n p (Sent k m) few h =
     let read : tape_event_at n (words_of (of_node p (Sent k m))) ≡ Some (of_node m.from (Sent k m)) = tape_fields_is n keywords.Send (decimal k ++ 32 ∷ spaced (message_words m)) ∙ rw ((sent_text n few).again (k, m) (h.what.0, h.what.2)) refl in
     read ∙ ap (λ (q : ℕ). Some (of_node q (Sent k m))) h.what.1
@@ -136,9 +132,9 @@ tape_event_again n t few h = recorded_again n t.node t.what few h
 
 -- the words of an event have no line feed
 recorded_plain : (n p : ℕ) (r : Recorded) → n ≤ 7 → IsTapeEvent n (of_node p r) → AtLeast 32 (words_of (of_node p r))
-recorded_plain n p (Told input) few h = event_plain n (scheduled p (events.Told input)) few (record { node = h.node; fields = h.what })
-recorded_plain n p Take few h = event_plain n (scheduled p events.Take) few (record { node = h.node; fields = tt })
-recorded_plain n p Mark few h = event_plain n (scheduled p events.Mark) few (record { node = h.node; fields = tt })
+recorded_plain n p (Told input) few h = event_plain n (event_of p (events.Told input)) few (record { node = h.node; fields = h.what })
+recorded_plain n p Take few h = event_plain n (event_of p events.Take) few (record { node = h.node; fields = tt })
+recorded_plain n p Mark few h = event_plain n (event_of p events.Mark) few (record { node = h.node; fields = tt })
 recorded_plain n p (Sent k m) few h = joined (keyword_text keywords.Send) (decimal k ++ 32 ∷ spaced (message_words m)) (keyword_plain keywords.Send) ((sent_text n few).plain (k, m) (h.what.0, h.what.2))
 recorded_plain n p (Acked q r) few h =
     subst (λ (w : List ℕ). AtLeast 32 w) (sym (ack_words p q r)) (joined (keyword_text keywords.Ack) (acked_words (p, (q, r))) (keyword_plain keywords.Ack) ((acked_text n few).plain (p, (q, r)) (h.node, h.what)))

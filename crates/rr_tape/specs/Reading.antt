@@ -116,8 +116,8 @@ recorded_of (At events.Mark) = Some tapes.Mark
 recorded_of _ = None
 
 -- the event of a tape that an event of a schedule is
-abbrev pub recorded : Event → Option TapeEvent
-recorded e = recorded_of e.what >>= λ what. Some (record { node = e.node; what = what })
+abbrev pub as_recorded : Event → Option TapeEvent
+as_recorded e = recorded_of e.what >>= λ what. Some (record { node = e.node; what = what })
 
 -- a message that was sent: its number and the message, which names the node
 abbrev pub sent_at : ℕ → List ℕ → Option TapeEvent
@@ -131,7 +131,7 @@ acked_at n text = both_at (node_at n) (both_at request_at reply_at) text >>= λ 
 abbrev pub tape_fields_at : ℕ → EventKind → List ℕ → Option TapeEvent
 tape_fields_at n keywords.Send text = sent_at n text
 tape_fields_at n keywords.Ack text = acked_at n text
-tape_fields_at n k text = fields_at n k text >>= recorded
+tape_fields_at n k text = fields_at n k text >>= as_recorded
 
 -- an event of a tape among n nodes
 abbrev pub tape_event_at : ℕ → List ℕ → Option TapeEvent

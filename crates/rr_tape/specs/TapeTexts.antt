@@ -2,7 +2,7 @@
 use Rattle.std.specs.Prelude.{ℕ, List, [], ◌∷◌, ◌++◌}
 use Rattle.std.specs.List.{flat_map}
 use Rattle.rr_types.specs.declared.event.NodeEvent.TheVariants as events
-use Rattle.rr_text.specs.declared.event.Happening.TheVariants.{At}
+use Rattle.rr_text.specs.Events.{event_of, told_at}
 use Rattle.rr_text.specs.declared.report.ReportLine.TheVariants as reports
 use Rattle.rr_text.specs.Words.{spaced}
 use Rattle.rr_text.specs.Lines.{nodes_line}
@@ -15,9 +15,9 @@ use Rattle.rr_tape.specs.Taped.{Taped}
 
 -- what a tape has of node p as words: an input as a schedule has it, an output as a report has it
 abbrev pub recorded_words : ℕ → Recorded → List (List ℕ)
-recorded_words p (Told input) = event_words (record { node = p; what = At (events.Told input) })
-recorded_words p Take = event_words (record { node = p; what = At events.Take })
-recorded_words p Mark = event_words (record { node = p; what = At events.Mark })
+recorded_words p (Told input) = event_words (told_at p input)
+recorded_words p Take = event_words (event_of p events.Take)
+recorded_words p Mark = event_words (event_of p events.Mark)
 recorded_words p (Sent k m) = report_words (reports.Send k m)
 recorded_words p (Acked q r) = report_words (reports.Ack p q r)
 

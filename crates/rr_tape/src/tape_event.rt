@@ -1,7 +1,7 @@
 //! The events of a tape.
 
 ghost use Rattle.std.specs.Prelude.{◌≡◌};
-ghost use Rattle.rr_tape.specs.Reading.{recorded};
+ghost use Rattle.rr_tape.specs.Reading.{as_recorded};
 
 use rr_text::{Event, Happening};
 use rr_types::{Input, Message, NodeEvent, NodeId, Reply, RequestNo};
@@ -29,8 +29,8 @@ pub enum Recorded {
 }
 
 /// The event of a tape that an event of a schedule is; `None` where a tape records it otherwise or not at all.
-pub fn recorded(event: &Event) -> Option<TapeEvent>
-    ensures { result ≡ recorded event.now }
+pub fn as_recorded(event: &Event) -> Option<TapeEvent>
+    ensures { result ≡ as_recorded event.now }
 {
     let what = match &event.what {
         Happening::At(NodeEvent::Told(input)) => Recorded::Told(*input),

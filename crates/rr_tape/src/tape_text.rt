@@ -3,32 +3,24 @@
 ghost use Rattle.std.specs.Prelude.{◌≡◌, ◌++◌, OnOk, IfOk};
 ghost use Rattle.std.specs.List.{flat_map};
 ghost use Rattle.rr_text.specs.Words.{spaced};
-ghost use Rattle.rr_text.specs.ScheduleTexts.{event_text};
 ghost use Rattle.rr_tape.specs.TapeTexts.{tape_words, tape_line, tape_text};
 
 use crate::tape::Tape;
 use crate::tape_event::{Recorded, TapeEvent};
 use rr_text::text_report::push_report_words;
 use rr_text::text_schedule::{push_event, push_nodes_line};
-use rr_text::{Event, Happening, ReportLine};
-use rr_types::{NodeEvent, NodeId};
+use rr_text::{Event, ReportLine};
+use rr_types::NodeEvent;
 use std::alloc::{AllocError, Global};
-
-fn push_at(out: &mut Vec<u8>, node: NodeId, event: NodeEvent<u32>) -> Result<(), AllocError>
-    ensures ok { OnOk result (out.new.items ≡ out.old.items ++ event_text (record { node = node; what = Happening.At event })) }
-{
-    let what = Happening::At(event);
-    push_event(out, &Event { node, what })
-}
 
 fn push_tape_event(out: &mut Vec<u8>, event: &TapeEvent) -> Result<(), AllocError>
     ensures ok { OnOk result (out.new.items ≡ out.old.items ++ spaced (tape_words event.now)) }
 {
     let TapeEvent { node, what } = *event;
     match what {
-        Recorded::Told(input) => push_at(out, node, NodeEvent::Told(input)),
-        Recorded::Take => push_at(out, node, NodeEvent::Take),
-        Recorded::Mark => push_at(out, node, NodeEvent::Mark),
+        Recorded::Told(input) => push_event(out, &Event::told(node, input)),
+        Recorded::Take => push_event(out, &Event::at(node, NodeEvent::Take)),
+        Recorded::Mark => push_event(out, &Event::at(node, NodeEvent::Mark)),
         Recorded::Sent { number, message } => {
             let number = u64::from(number);
             push_report_words(out, &ReportLine::Send { number, message })
