@@ -8,7 +8,8 @@ use Rattle.std.proofs.lemmas.Option.{same_Some}
 use Rattle.rr_types.specs.Names.{IsName}
 use Rattle.rr_types.specs.declared.refusal.Refusal.{Refusal}
 use Rattle.rr_types.specs.declared.refusal.Refusal.TheVariants.{OutOfMemory, BadEvent}
-use Rattle.rr_text.specs.declared.event.Event.TheVariants as events
+use Rattle.rr_types.specs.declared.input.Input.TheVariants as input
+use Rattle.rr_text.specs.Events.{told_at}
 use Rattle.rr_text.specs.Words.{spaced, IsCommand}
 use Rattle.rr_text.specs.Reading.{◌>>=◌, cut_at, name_at, first_node_at, submitted_at}
 use Rattle.rr_text.proofs.CutLemmas.{AtLeast, bind_some, cut_again, cut_takes, plain_by_test}
@@ -86,7 +87,7 @@ script_line_again n (Look p name) few h =
 
 -- the words of a line have no line feed
 script_line_plain : (n : ℕ) (l : ScriptLine) → n ≤ 7 → IsScriptLine n l → AtLeast 32 (words_of l)
-script_line_plain n (Submit p c) few h = event_plain n (events.Submit p c) few (record { node = h.0; fields = h.1 })
+script_line_plain n (Submit p c) few h = event_plain n (told_at p (input.Submit c)) few (record { node = h.0; fields = h.1 })
 script_line_plain n (Look p name) few h =
     joined (codes "look") (decimal p ++ 32 ∷ name) (plain_by_test (codes "look") refl) (joined (decimal p) name (decimal_plain p (omega (arith, h.0, few))) (AtLeast-weaken 32 33 name (omega arith) (name_plain name h.1)))
 
