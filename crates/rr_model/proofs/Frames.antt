@@ -65,14 +65,12 @@ stages_at p (f ∷ fs) = (refl, stages_at p fs)
 
 input_at : (p : ℕ) (input : Input Message) → AreStepsAt p (step_of_input p input)
 input_at p (told.Submit c) = (refl, tt)
-input_at p (told.Suspect set) = tt
-input_at p told.Tick = tt
-input_at p told.Advance = tt
 input_at p (told.Hear m) = at (m.to == p)
   where
     at : (b : Bool) → AreStepsAt p (if b then Hear p m ∷ [] else [])
     at true = (refl, tt)
     at false = tt
+input_at p input = tt
 
 -- the steps of an event are at its node
 pub event_at : (p : ℕ) (s : NodeState) (e : NodeEvent) → AreStepsAt p (steps_of_event p s e)
@@ -106,14 +104,12 @@ stages_quietly p w (f ∷ fs) = let q : IsAsQuiet (after_step w (Stage p f)) (af
 
 input_quietly : (p : ℕ) (w : World) (input : Input Message) → IsAsQuiet w (after_steps w (step_of_input p input))
 input_quietly p w (told.Submit c) = record { wire = refl; trace = refl }
-input_quietly p w (told.Suspect set) = record { wire = refl; trace = refl }
-input_quietly p w told.Tick = record { wire = refl; trace = refl }
-input_quietly p w told.Advance = record { wire = refl; trace = refl }
 input_quietly p w (told.Hear m) = at (m.to == p)
   where
     at : (b : Bool) → IsAsQuiet w (after_steps w (if b then Hear p m ∷ [] else []))
     at true = record { wire = refl; trace = refl }
     at false = record { wire = refl; trace = refl }
+input_quietly p w input = record { wire = refl; trace = refl }
 
 says_nothing : (w v : World) → IsAsQuiet w v → (v.wire ≡ w.wire ++ []) × (v.trace ≡ w.trace ++ [])
 says_nothing w v q = (q.wire ∙ sym (append-nil w.wire), q.trace ∙ sym (append-nil w.trace))

@@ -16,7 +16,7 @@ use Rattle.rr_model.specs.World.{World, Step, Stage, Settle, Send, Acknowledge, 
 use Rattle.rr_model.specs.Laws.{after_steps}
 use Rattle.rr_model.specs.NodeState.{NodeState}
 use Rattle.rr_types.specs.declared.input.Input.{Input}
-use Rattle.rr_types.specs.declared.input.Input.TheVariants.{Submit, Suspect, Tick, Advance, Hear}
+use Rattle.rr_types.specs.declared.input.Input.TheVariants.{Submit, Hear}
 use Rattle.rr_model.specs.NodeStep.{node_step, group_taken, group_put_back, marked_running, message_left, acknowledged, next_leaving, next_acknowledged, started}
 use Rattle.rr_model.specs.NodeLaws.{IsOfSubmitted, hear_message, hear_command, AreLawful, NodeEvent, Told, Grouped, PutBack, Marked, Left, Answered, after_event, heard_input, heard_after, IsEventOfNodes, AreEventsOfNodes, facts_of_input, facts_of_event, marked_facts, IsTruthful}
 use Rattle.rr_model.specs.NodeWorld.{step_of_input, told_reply, IsAtNode, IsInputOfWorld, IsRunOfSteps, FollowsTheWorld, IsWorldlyNode}
@@ -78,9 +78,6 @@ input_run n p kept staged h w (Submit c) x A = (
     ];
   },
 )
-input_run n p kept staged h w (Suspect set) x A = (tt, A)
-input_run n p kept staged h w Tick x A = (tt, A)
-input_run n p kept staged h w Advance x A = (tt, A)
 input_run n p kept staged h w (Hear m) x A = at (m.to == p) refl
   where
     at : (b : Bool) → (m.to == p) ≡ b → IsRunFrom n w (if b then world.Hear p m ∷ [] else []) × IsAt n p kept staged (if b then hear_message h m else h) (after_steps w (if b then world.Hear p m ∷ [] else []))
@@ -96,6 +93,7 @@ input_run n p kept staged h w (Hear m) x A = at (m.to == p) refl
       },
     )
     at false e = (tt, A)
+input_run n p kept staged h w input x A = (tt, A)
 
 module _ (n p : ℕ) (facts : List Fact) (h : Heard) (s : NodeState) (w : World) where
   -- the world as a node has it, by what the node knows

@@ -237,14 +237,12 @@ module _ (X : Type 0) (n p : ℕ) (h : Heard) where
 -- what was heard before an input, and the input
 heard_grows : (p : ℕ) (h : Heard) (input : Input Message) → Within h (heard_input p h input)
 heard_grows p h (Submit c) = record { messages = λ m x. x; commands = λ d x. Contains-append_left h.commands (c ∷ []) d x }
-heard_grows p h (Suspect set) = record { messages = λ m x. x; commands = λ d x. x }
-heard_grows p h Tick = record { messages = λ m x. x; commands = λ d x. x }
-heard_grows p h Advance = record { messages = λ m x. x; commands = λ d x. x }
 heard_grows p h (Hear m) = at (m.to == p)
   where
     at : (b : Bool) → Within h (if b then hear_message h m else h)
     at true = record { messages = λ k x. Contains-append_left h.messages (m ∷ []) k x; commands = λ d x. x }
     at false = record { messages = λ k x. x; commands = λ d x. x }
+heard_grows p h input = record { messages = λ m x. x; commands = λ d x. x }
 
 said_now : (h : Heard) (m : Message) → Says (hear_message h m).messages m.from m.body
 said_now h m = (m.to, Contains-push h.messages m)

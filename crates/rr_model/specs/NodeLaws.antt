@@ -15,7 +15,7 @@ use Rattle.rr_model.specs.World as world
 use Rattle.rr_model.specs.World.{nothing_heard}
 use Rattle.rr_model.specs.NodeState.{NodeState, Owed, decided_prefix}
 use Rattle.rr_types.specs.declared.input.Input.{Input}
-use Rattle.rr_types.specs.declared.input.Input.TheVariants.{Submit, Suspect, Tick, Advance, Hear}
+use Rattle.rr_types.specs.declared.input.Input.TheVariants.{Submit, Hear}
 use Rattle.rr_model.specs.NodeStep.{node_step, group_taken, group_put_back, marked_running, message_left, next_leaving, next_acknowledged, acknowledged, started}
 
 -- the facts are lawful for node p of n one after another, behind those before them, after what it heard
@@ -58,10 +58,8 @@ hear_command h c = record { messages = h.messages; commands = h.commands ++ c �
 -- what node p has heard, this input included: messages for it, and commands submitted to it
 abbrev pub heard_input : ℕ → Heard → Input Message → Heard
 heard_input p h (Submit c) = hear_command h c
-heard_input p h (Suspect set) = h
-heard_input p h Tick = h
-heard_input p h Advance = h
 heard_input p h (Hear m) = if m.to == p then hear_message h m else h
+heard_input p h _ = h
 
 -- what node p has heard once this event has happened
 abbrev pub heard_after : ℕ → Heard → NodeEvent → Heard
@@ -74,11 +72,8 @@ heard_after p h Answered = h
 
 -- a message that is heard is from one of the n nodes
 abbrev pub IsInputOfNodes : ℕ → Input Message → Type 0
-IsInputOfNodes n (Submit c) = Unit {0}
-IsInputOfNodes n (Suspect set) = Unit {0}
-IsInputOfNodes n Tick = Unit {0}
-IsInputOfNodes n Advance = Unit {0}
 IsInputOfNodes n (Hear m) = m.from < n
+IsInputOfNodes n _ = Unit {0}
 
 -- the same of an event
 abbrev pub IsEventOfNodes : ℕ → NodeEvent → Type 0

@@ -14,7 +14,7 @@ use Rattle.rr_model.specs.World.{World, Step, Stage, Send, after_step, IsRunFrom
 use Rattle.rr_model.specs.Laws.{after_steps}
 use Rattle.rr_model.specs.NodeState.{NodeState, decided_prefix}
 use Rattle.rr_types.specs.declared.input.Input.{Input}
-use Rattle.rr_types.specs.declared.input.Input.TheVariants.{Submit, Hear, Suspect, Tick, Advance}
+use Rattle.rr_types.specs.declared.input.Input.TheVariants.{Submit, Hear}
 use Rattle.rr_model.specs.NodeStep.{node_step, refusal_of, running_group, next_leaving, message_left, next_acknowledged, acknowledged}
 use Rattle.rr_model.specs.NodeLaws.{NodeEvent, Told, Left, Answered, after_event, heard_after, facts_of_input, facts_of_event}
 use Rattle.rr_model.specs.NodeReached.{NamesRounds, IsProperEvent, Happened}
@@ -42,9 +42,7 @@ use Rattle.rr_node.proofs.Falling.{seated}
 pub nothing : (p : ℕ) (event : node.NodeEvent Message) → MayBe p event []
 nothing p (at.Told (Submit c)) = inl refl
 nothing p (at.Told (Hear m)) = inl refl
-nothing p (at.Told (Suspect set)) = ([], refl)
-nothing p (at.Told Tick) = ([], refl)
-nothing p (at.Told Advance) = ([], refl)
+nothing p (at.Told input) = ([], refl)
 nothing p at.Take = refl
 nothing p at.Device = inl (inl refl)
 nothing p at.Mark = refl
@@ -101,14 +99,12 @@ stages_keep p w (f ∷ facts) = stages_keep p (after_step w (Stage p f)) facts
 
 input_keeps : (p : ℕ) (w : World) (input : Input Message) → (after_steps w (step_of_input p input)).kept ≡ w.kept
 input_keeps p w (Submit c) = refl
-input_keeps p w (Suspect set) = refl
-input_keeps p w Tick = refl
-input_keeps p w Advance = refl
 input_keeps p w (Hear m) = by (m.to == p)
   where
     by : (b : Bool) → (after_steps w (if b then world.Hear p m ∷ [] else [])).kept ≡ w.kept
     by true = refl
     by false = refl
+input_keeps p w input = refl
 
 told_keeps : (p : ℕ) (w : World) (s : NodeState) (input : Input Message) → (after_steps w (steps_of_event p s (Told input))).kept p ≡ w.kept p
 told_keeps p w s input =
@@ -124,9 +120,7 @@ module _ (n p k : ℕ) (w : World) (both : Areas) (s : NodeState) (journal : Jou
     (comes.2, comes.3),
     λ to. comes.0,
   )
-  told_may_be (Suspect set) comes = ((facts_of_input s (Suspect set), refl), tt, tt)
-  told_may_be Tick comes = ((facts_of_input s Tick, refl), tt, tt)
-  told_may_be Advance comes = ((facts_of_input s Advance, refl), tt, tt)
+  told_may_be input comes = ((facts_of_input s input, refl), tt, tt)
 
   -- one that isn't refused is a run of them
   pub tells : (input : Input Message) → MayCome n p w (at.Told input) → (let x = told input s journal flush (seated n p k both (Serving s journal flush)) in GoesOn n p (MayBe p (at.Told input)) w x.0 x.1)

@@ -4,7 +4,7 @@ use Rattle.std.specs.List.{Contains}
 use Rattle.rr_types.specs.declared.command.RequestNo.{RequestNo}
 use Rattle.rr_types.specs.declared.command.Reply.{Reply}
 use Rattle.rr_types.specs.declared.fact.Fact.{Fact}
-use Rattle.rr_types.specs.declared.input.Input.TheVariants.{Submit, Hear, Suspect, Tick, Advance}
+use Rattle.rr_types.specs.declared.input.Input.TheVariants.{Submit, Hear}
 use Rattle.rr_types.specs.declared.message.Message.{Message}
 use Rattle.rr_types.specs.declared.refusal.Refusal.{Refusal}
 use Rattle.rr_model.specs.World as world
@@ -65,9 +65,7 @@ IsDeviceCall p steps = MayFall p steps ⊎ ((count : ℕ) × (steps ≡ Settle p
 abbrev pub MayBe : ℕ → NodeEvent Message → List Step → Type 0
 MayBe p (at.Told (Submit c)) steps = AreStagedBehind p (world.Submit p c) steps
 MayBe p (at.Told (Hear m)) steps = AreStagedBehind p (world.Hear p m) steps
-MayBe p (at.Told (Suspect set)) steps = AreStaged p steps
-MayBe p (at.Told Tick) steps = AreStaged p steps
-MayBe p (at.Told Advance) steps = AreStaged p steps
+MayBe p (at.Told _) steps = AreStaged p steps
 MayBe p at.Take steps = steps ≡ []
 MayBe p at.Device steps = IsDeviceCall p steps
 MayBe p at.Mark steps = steps ≡ []

@@ -11,12 +11,12 @@ use Rattle.rr_text.specs.declared.kind.EventKind.{EventKind}
 use Rattle.rr_text.specs.declared.kind.EventKind.TheVariants.{Submit, Hear, Suspect, Tick, Advance, Take, Device, Fail, Mark, Send, Ack, Snap, Crash, Restart}
 
 -- an event of node p
-abbrev pub at : ℕ → NodeEvent ℕ → Event
-at p event = record { node = p; what = happening.At event }
+abbrev pub event_of : ℕ → NodeEvent ℕ → Event
+event_of p event = record { node = p; what = happening.At event }
 
 -- node p is told this
 abbrev pub told_at : ℕ → Input ℕ → Event
-told_at p input = at p (node.Told input)
+told_at p input = event_of p (node.Told input)
 
 -- the kind of what a node is told
 abbrev pub kind_of_input : Input ℕ → EventKind

@@ -19,7 +19,7 @@ use Rattle.rr_types.specs.Names.{is_name_byte, is_value_byte}
 use Rattle.rr_text.specs.declared.event.Event.{Event}
 use Rattle.rr_text.specs.declared.event.Happening.{Happening}
 use Rattle.rr_text.specs.declared.event.Happening.TheVariants as happening
-use Rattle.rr_text.specs.Events.{at}
+use Rattle.rr_text.specs.Events.{event_of}
 use Rattle.rr_text.specs.declared.kind.EventKind.{EventKind}
 use Rattle.rr_text.specs.declared.kind.EventKind.TheVariants.{Submit, Hear, Suspect, Tick, Advance, Take, Device, Fail, Mark, Send, Ack, Snap, Crash, Restart}
 use Rattle.rr_text.specs.Numbers.{is_number}
@@ -201,7 +201,7 @@ about_at n _ text = None
 
 -- the event that the text behind a keyword says, among n nodes: a node alone, or a node and more
 abbrev pub said_at : ℕ → EventKind → Option (NodeEvent ℕ) → List ℕ → Option Event
-said_at n k (Some event) text = node_at n text >>= λ p. Some (at p event)
+said_at n k (Some event) text = node_at n text >>= λ p. Some (event_of p event)
 said_at n k None text = first_node_at n text >>= λ p. about_at n k p.1 >>= λ what. Some (record { node = p.0; what = what })
 
 -- the event of this keyword among n nodes

@@ -15,16 +15,16 @@ pub record Scheduled : Type 0 where
   pub events : List Event
 
 -- what a node is told is in its range, among n nodes
-abbrev pub IsInputInRange : ℕ → Input ℕ → Type 0
-IsInputInRange n (Submit c) = IsCommand c
-IsInputInRange n (Hear k) = k < 2 ^ 32
-IsInputInRange n (Suspect s) = s < 2 ^ n
-IsInputInRange n Tick = Unit {0}
-IsInputInRange n Advance = Unit {0}
+abbrev pub IsInput : ℕ → Input ℕ → Type 0
+IsInput n (Submit c) = IsCommand c
+IsInput n (Hear k) = k < 2 ^ 32
+IsInput n (Suspect s) = s < 2 ^ n
+IsInput n Tick = Unit {0}
+IsInput n Advance = Unit {0}
 
 -- so is what happens at a node
 abbrev pub IsInRange : ℕ → Happening → Type 0
-IsInRange n (At (Told input)) = IsInputInRange n input
+IsInRange n (At (Told input)) = IsInput n input
 IsInRange n (At event) = Unit {0}
 IsInRange n (Fail f) = IsFill f
 IsInRange n (Crash a b f) = (a < 2 ^ 32) × (b < 2 ^ 32) × IsFill f

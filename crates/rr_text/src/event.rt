@@ -1,7 +1,7 @@
 //! The events of a schedule.
 
 ghost use Rattle.std.specs.Prelude.{◌≡◌};
-ghost use Rattle.rr_text.specs.Events.{at, told_at, kind_of, kind_at_node, kind_of_input};
+ghost use Rattle.rr_text.specs.Events.{event_of, told_at, kind_of, kind_at_node, kind_of_input};
 
 use crate::kind::EventKind;
 use rr_types::{Input, NodeEvent, NodeId};
@@ -62,7 +62,7 @@ impl Event {
     /// An event of a node.
     #[inline(always)]
     pub fn at(node: NodeId, event: NodeEvent<u32>) -> Event
-        ensures { result ≡ at node event }
+        ensures { result ≡ event_of node event }
     {
         Event {
             node,

@@ -9,7 +9,7 @@ ghost use Rattle.std.specs.List.{flat_map, AllByRecursion};
 ghost use Rattle.rr_text.specs.Scheduled.{Scheduled, IsEvent, IsSchedule};
 ghost use Rattle.rr_text.specs.Lines.{nodes_line, HasNoLine, ArePrinted, IsStop, IsFirstFault, IsFault};
 ghost use Rattle.rr_text.specs.ScheduleTexts.{event_line, schedule_text};
-ghost use Rattle.rr_text.specs.Events.{at};
+ghost use Rattle.rr_text.specs.Events.{event_of};
 ghost use Rattle.rr_text.specs.Reading.{keyword_text, pairs_at, fill_at, first_node_at, cuts_at, plain_at, fields_at, event_at, nodes_at, count_at};
 
 use crate::event::{Event, Fill, Happening};
@@ -110,7 +110,7 @@ fn suspect(nodes: Nodes, text: &[u8]) -> Result<Option<Event>, AllocError>
 // The event of this keyword at a node, where that is all that it says.
 #[inline(always)]
 fn plain(keyword: EventKind, node: NodeId) -> Option<Event>
-    ensures { result ≡ option_map (at node) (plain_at keyword) }
+    ensures { result ≡ option_map (event_of node) (plain_at keyword) }
 {
     match keyword {
         EventKind::Tick => Some(Event::told(node, Input::Tick)),
