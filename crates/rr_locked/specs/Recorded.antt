@@ -1,6 +1,8 @@
 -- Events on a tape.
-use Rattle.std.specs.Prelude.{◌≡◌, ◌⊎◌, ℕ, ◌+◌, ◌++◌, ◌∷◌, [], Bool, true, false, length}
+use Rattle.std.specs.Prelude.{◌≡◌, ◌⊎◌, ℕ, ◌+◌, ◌++◌, ◌∷◌, [], Bool, true, false, length, Some}
 use Rattle.std.specs.List.{count_by}
+use Rattle.std.specs.Option.{option_map_or}
+use Rattle.rr_types.specs.Inputs.{told_as}
 use Rattle.rr_types.specs.declared.refusal.Refusal.{Refusal}
 use Rattle.rr_types.specs.declared.refusal.Refusal.TheVariants.{OutOfMemory, BadEvent}
 use Rattle.rr_types.specs.Limits.{max_events}
@@ -17,13 +19,9 @@ pub record Sent : Type 0 where
   pub number : ℕ
   pub message : Message
 
--- an input by which a message that is heard has number k
+-- an input, where the message that it hears, if it hears one, goes by number k
 abbrev pub numbered : ℕ → Input Message → Input ℕ
-numbered k (told.Submit c) = told.Submit c
-numbered k (told.Hear m) = told.Hear k
-numbered k (told.Suspect set) = told.Suspect set
-numbered k told.Tick = told.Tick
-numbered k told.Advance = told.Advance
+numbered k input = option_map_or (λ told. told) (told_as (λ m. Some k) input) (told.Hear k)
 
 -- an input of node p as an event of a tape, on which a message that it hears has number k
 abbrev pub event_of : ℕ → ℕ → Input Message → TapeEvent

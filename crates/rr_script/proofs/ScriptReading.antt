@@ -16,7 +16,7 @@ use Rattle.rr_text.proofs.CutLemmas.{AtLeast, bind_some, cut_again, cut_takes, p
 use Rattle.rr_text.proofs.NumberLemmas.{decimal_plain}
 use Rattle.rr_text.proofs.WordReading.{AtLeast-weaken, chosen, same_text, name_again, name_takes, name_plain}
 use Rattle.rr_text.proofs.OpReading.{submitted_text, submitted_again, submitted_takes}
-use Rattle.rr_text.proofs.EventReading.{joined, first_node_again, first_node_takes, submit_text, event_plain}
+use Rattle.rr_text.proofs.EventReading.{joined, first_node_again, first_node_takes, spaced_op, event_plain}
 use Rattle.rr_text.proofs.LineReading.{AreLines, All-push, flat_map-push, fronts, lines_prefix, line_uncut, line_unread, nothing_printed, some_more}
 use Rattle.rr_script.specs.declared.script_line.ScriptLine.{ScriptLine}
 use Rattle.rr_script.specs.declared.script_line.ScriptLine.TheVariants.{Submit, Look}
@@ -49,6 +49,9 @@ behind_node n word text read print Fits make l few takes prints fits given =
       ap words_of (sym is) ∙ prints p.0.0 x.0 ∙ ap (λ (y : List ℕ). word ++ 32 ∷ (decimal p.0.0 ++ 32 ∷ y)) u.0 ∙ ap (λ (y : List ℕ). word ++ 32 ∷ y) t.0,
       subst (λ (k : ScriptLine). IsScriptLine n k) is (fits p.0.0 x.0 t.1 u.1),
     )
+
+submit_text : (p : ℕ) (c : Command) → words_of (Submit p c) ≡ codes "submit " ++ (decimal p ++ 32 ∷ submitted_text c)
+submit_text p c = ap (λ (y : List ℕ). codes "submit " ++ (decimal p ++ 32 ∷ (decimal c.request.client ++ 32 ∷ y))) (spaced_op (decimal c.request.seq) c.op)
 
 submit_takes : (n : ℕ) (text : List ℕ) (l : ScriptLine) → n ≤ 7 → submit_at n text ≡ Some l → Was n (codes "submit") text l
 submit_takes n text l few given = behind_node n (codes "submit") text submitted_at submitted_text IsCommand (λ p c. Submit p c) l few submitted_takes submit_text (λ p c lt h. (lt, h)) given
