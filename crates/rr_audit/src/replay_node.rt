@@ -92,6 +92,21 @@ impl ReplayNode {
         self.tell(&Input::Hear(message))
     }
 
+    // Is told an input of a tape. A message that it hears is one of the wire.
+    fn tell_from(
+        &mut self,
+        wire: &MessageLog,
+        node: NodeId,
+        input: &Input<u32>,
+    ) -> Result<Option<Given>, Refusal>
+        ensures { FollowsAt wire.now (of_node node (Recorded.Told input.now)) self.old self.new result }
+    {
+        match input {
+            Input::Hear(number) => self.hear_from(wire, node, *number),
+            _ => self.tell(&input.unheard()),
+        }
+    }
+
     // Begins to flush the oldest staged facts.
     fn take(&mut self) -> Result<Option<Given>, Refusal>
         ensures { Answers ((self.old.running ≡ None) × (self.old.staged ≢ [])) (group_taken self.old) self.new result }
@@ -174,8 +189,7 @@ impl ReplayNode {
         ensures { FollowsAt wire.now event.now self.old self.new result }
     {
         match &event.what {
-            Recorded::Told(Input::Hear(number)) => self.hear_from(wire, event.node, *number),
-            Recorded::Told(input) => self.tell(&input.unheard()),
+            Recorded::Told(input) => self.tell_from(wire, event.node, input),
             Recorded::Take => self.take(),
             Recorded::Mark => self.mark(),
             Recorded::Sent { number, message } => {

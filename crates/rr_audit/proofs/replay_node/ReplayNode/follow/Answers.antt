@@ -1,1 +1,0 @@
-use Rattle.rr_audit.proofs.replay_node.ReplayNode.follow.Goals as goal
