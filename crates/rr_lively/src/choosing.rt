@@ -128,11 +128,7 @@ impl RandomRun {
             EventKind::Suspect => Ok(Some(self.trust(node))),
             EventKind::Tick => Ok(Some(self.tick(node))),
             // The others have no weight.
-            EventKind::Advance
-            | EventKind::Fail
-            | EventKind::Snap
-            | EventKind::Crash
-            | EventKind::Restart => Ok(None),
+            _ => Ok(None),
         }
     }
 

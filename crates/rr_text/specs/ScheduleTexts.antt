@@ -2,7 +2,7 @@
 use Rattle.std.specs.Prelude.{ℕ, List, [], ◌∷◌, ◌++◌, decimal}
 use Rattle.std.specs.List.{flat_map}
 use Rattle.rr_types.specs.declared.input.Input.{Input}
-use Rattle.rr_types.specs.declared.input.Input.TheVariants.{Submit, Hear, Suspect, Tick, Advance}
+use Rattle.rr_types.specs.declared.input.Input.TheVariants.{Submit, Hear, Suspect}
 use Rattle.rr_types.specs.declared.event.NodeEvent.TheVariants.{Told}
 use Rattle.rr_text.specs.declared.event.Event.{Event}
 use Rattle.rr_text.specs.declared.event.Happening.{Happening}
@@ -18,8 +18,7 @@ abbrev pub input_words : Input ℕ → List (List ℕ)
 input_words (Submit c) = decimal c.request.client ∷ decimal c.request.seq ∷ op_words c.op
 input_words (Hear k) = decimal k ∷ []
 input_words (Suspect s) = set_text s ∷ []
-input_words Tick = []
-input_words Advance = []
+input_words _ = []
 
 -- what an event is about beside its node, as words
 abbrev pub field_words : Happening → List (List ℕ)

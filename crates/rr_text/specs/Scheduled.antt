@@ -1,7 +1,7 @@
 use Rattle.std.specs.Prelude.{ℕ, ◌^◌, ◌<◌, ◌≤◌, List, length}
 use Rattle.std.specs.List.{AllByRecursion}
 use Rattle.rr_types.specs.declared.input.Input.{Input}
-use Rattle.rr_types.specs.declared.input.Input.TheVariants.{Submit, Hear, Suspect, Tick, Advance}
+use Rattle.rr_types.specs.declared.input.Input.TheVariants.{Submit, Hear, Suspect}
 use Rattle.rr_types.specs.declared.event.NodeEvent.TheVariants.{Told}
 use Rattle.rr_types.specs.Limits.{max_events, max_nodes}
 use Rattle.rr_text.specs.declared.event.Event.{Event}
@@ -19,8 +19,7 @@ abbrev pub IsInput : ℕ → Input ℕ → Type 0
 IsInput n (Submit c) = IsCommand c
 IsInput n (Hear k) = k < 2 ^ 32
 IsInput n (Suspect s) = s < 2 ^ n
-IsInput n Tick = Unit {0}
-IsInput n Advance = Unit {0}
+IsInput n _ = Unit {0}
 
 -- so is what happens at a node
 abbrev pub IsInRange : ℕ → Happening → Type 0
