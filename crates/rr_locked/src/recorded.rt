@@ -11,7 +11,7 @@ ghost use Rattle.rr_types.specs.Inputs.{HearsNothing};
 ghost use Rattle.rr_types.specs.Registry.{reply_of};
 ghost use Rattle.rr_tape.specs.declared.tape_event.Recorded.TheVariants as tape;
 ghost use Rattle.rr_tape.specs.Taped.{of_node};
-ghost use Rattle.rr_locked.specs.Recorded.{event_of, sent_on, with_event, HasNoPlace};
+ghost use Rattle.rr_locked.specs.Recorded.{numbered, event_of, sent_on, with_event, HasNoPlace};
 
 use crate::locked::Locked;
 use crate::recording::Recording;
@@ -22,18 +22,24 @@ use rr_types::{
     Body, Command, Estimate, Group, Input, Message, NodeId, Op, Refusal, Reply, RequestNo, made_of,
 };
 
+/// An input, where the message that it hears, if it hears one, goes by this number.
+fn numbered(number: u32, input: &Input<Message>) -> Input<u32>
+    ensures { result ≡ numbered number input.now }
+{
+    match input {
+        Input::Hear(_) => Input::Hear(number),
+        _ => input.unheard(),
+    }
+}
+
 /// An input of a node as an event of a tape, on which a message that it hears has this number.
 fn event_of(node: NodeId, number: u32, input: &Input<Message>) -> TapeEvent
     ensures { result ≡ event_of node number input.now }
 {
     made_of!(Command, Op);
-    let told = match input {
-        Input::Hear(_) => Input::Hear(number),
-        _ => input.unheard(),
-    };
     TapeEvent {
         node,
-        what: Recorded::Told(told),
+        what: Recorded::Told(numbered(number, input)),
     }
 }
 
