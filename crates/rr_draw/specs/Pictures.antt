@@ -4,7 +4,6 @@ use Rattle.std.specs.Option.{option_map_or}
 use Rattle.std.specs.List.{flat_map}
 use Rattle.rr_text.specs.declared.event.Event.{Event}
 use Rattle.rr_text.specs.Lines.{nodes_line}
-use Rattle.rr_text.specs.Scheduled.{node_of}
 use Rattle.rr_text.specs.ScheduleTexts.{event_line}
 use Rattle.rr_sim.specs.Clusters.{Cluster, new_cluster, Steps, IsSpeltBehind}
 use Rattle.rr_sim.specs.Told.{told, TellsAll, IsReportOn}
@@ -25,7 +24,7 @@ escaped b =
 
 -- whether the event of a line lies within the lines and the node of a cut
 abbrev pub shows : Cut → ℕ → Event → Bool
-shows cut at e = nat_le cut.from at && nat_le at cut.to && option_map_or (λ p. p == node_of e) cut.node true
+shows cut at e = nat_le cut.from at && nat_le at cut.to && option_map_or (λ p. p == e.node) cut.node true
 
 -- events, of which the first stands on this line, lead from one cluster to another; each is seen with the lines that the step at
 -- it adds, and no others, and with the messages that were sent by then

@@ -80,7 +80,13 @@ fn assert_quiet(rt: &impl Abort, alloc: Global, node: &mut Node, event: NodeEven
 }
 
 /// What the node is told is refused so.
-fn assert_untold(rt: &impl Abort, alloc: Global, node: &mut Node, input: Input<Message>, refusal: Refusal) {
+fn assert_untold(
+    rt: &impl Abort,
+    alloc: Global,
+    node: &mut Node,
+    input: Input<Message>,
+    refusal: Refusal,
+) {
     assert_refused(rt, alloc, node, NodeEvent::Told(input), refusal);
 }
 
