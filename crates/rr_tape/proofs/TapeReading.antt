@@ -19,7 +19,7 @@ use Rattle.rr_text.specs.Lines.{HasNoLine, IsFault}
 use Rattle.rr_text.specs.Scheduled.{IsEvent}
 use Rattle.rr_text.specs.ScheduleTexts.{event_text}
 use Rattle.rr_text.specs.ReportTexts.{request_text, message_words, reply_words}
-use Rattle.rr_text.specs.Reading.{◌>>=◌, cut_at, small_at, node_at, keyword_text, keyword_at, fields_at, event_at}
+use Rattle.rr_text.specs.Reading.{◌>>=◌, cut_at, small_at, node_at, keyword_text, keyword_at, fields_at}
 use Rattle.rr_text.proofs.CutLemmas.{AtLeast, bind_some, cut_again, cut_takes}
 use Rattle.rr_text.proofs.EventReading.{joined, keyword_takes, keyword_again, keyword_plain, fields_takes, event_again, event_plain}
 use Rattle.rr_text.proofs.LineReading.{AreLines, line_uncut, line_unread}
