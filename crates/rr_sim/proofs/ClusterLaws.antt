@@ -1,6 +1,6 @@
 -- Each event of a schedule takes the world along: a cluster in step with it stays so.
 use Rattle.std.proofs.Common.{◌≡◌, ◌≢◌, ◌⊎◌, inl, inr, ℕ, zero, suc, ◌+◌, ◌<◌, ◌≤◌, Bool, true, false, eqb, List, [], ◌∷◌, ◌++◌, length, map, Contains, Option, None, Some, Result, Ok, Err, refl, sym, ◌∙◌, ap, subst, arith}
-use Rattle.std.specs.Prelude.{All, IfErr, if◌then◌else◌, slice_get, slice_set}
+use Rattle.std.specs.Prelude.{All, IfErr, MatchOption, if◌then◌else◌, slice_get, slice_set}
 use Rattle.std.specs.Option.{option_map, option_map_or, option_and_then}
 use Rattle.std.specs.List.{AllByRecursion, range_with_len}
 use Rattle.std.proofs.lemmas.Bool.{eqb-true}
@@ -181,7 +181,7 @@ on_wire wire p k m = by (slice_get wire k)
 are_none : (wire : List Message) (p : ℕ) (what : Happening) → AreStepsAt wire p what []
 are_none wire p (At event) = by (happens_as (message_on wire p) event)
   where
-    by : (o : Option (NodeEvent Message)) → option_map_or (λ e. MayBe p e []) o ([] ≡ [])
+    by : (o : Option (NodeEvent Message)) → MatchOption o ([] ≡ []) (λ e. MayBe p e [])
     by None = refl
     by (Some e) = nothing p e
 are_none wire p (Fail fill) = inl refl
@@ -275,7 +275,7 @@ module _ (n : ℕ) (laws : NodeLaws n) where
       step o = option_map_or (λ e. at_node p at starved e c) o c
 
       are : Option (NodeEvent Message) → List Step → Type 0
-      are o steps = option_map_or (λ e. MayBe p e steps) o (steps ≡ [])
+      are o steps = MatchOption o (steps ≡ []) (λ e. MayBe p e steps)
 
       by : (o : Option (NodeEvent Message)) → happens_as (message_on c.wire p) event ≡ o → Took n p at (AreStepsAt c.wire p (At event)) w c (happens p at starved (At event) c)
       by None e = stays n p at (AreStepsAt c.wire p (At event)) w c (happens p at starved (At event) c) (are_none c.wire p (At event)) (ap step e) h

@@ -1,7 +1,7 @@
 -- What a run of a schedule submits was submitted by an event of it.
 use Rattle.std.proofs.Common.{◌≡◌, ◌⊎◌, inl, inr, ℕ, suc, ◌+◌, ◌<◌, ◌≤◌, List, [], ◌∷◌, ◌++◌, map, Contains, Option, None, Some, refl, sym, ◌∙◌, ap, subst, arith}
-use Rattle.std.specs.Prelude.{slice_get}
-use Rattle.std.specs.Option.{option_map, option_map_or}
+use Rattle.std.specs.Prelude.{slice_get, MatchOption}
+use Rattle.std.specs.Option.{option_map}
 use Rattle.std.proofs.lemmas.List.Sums.{fold-append}
 use Rattle.std.proofs.lemmas.List.Elements.{Contains-append_cases}
 use Rattle.rr_types.specs.declared.command.Command.{Command}
@@ -66,7 +66,7 @@ record Submits (e : Event) (steps : List Step) : Type 0 where
   are : steps ≡ world.Submit node command ∷ map (Stage node) facts
 
 -- hearing a message or none submits nothing
-hears_some : (p : ℕ) (o : Option Message) (steps : List Step) → option_map_or (λ e. MayBe p e steps) (option_map Told (option_map Hear o)) (steps ≡ []) → SubmitNothing steps
+hears_some : (p : ℕ) (o : Option Message) (steps : List Step) → MatchOption (option_map Told (option_map Hear o)) (steps ≡ []) (λ e. MayBe p e steps) → SubmitNothing steps
 hears_some p None steps h = nothing steps h
 hears_some p (Some m) steps h = hears p m steps h
 

@@ -1,6 +1,5 @@
 -- A schedule run is a run of the world, and what its report tells agrees with one list of commands.
-use Rattle.std.specs.Prelude.{◌≡◌, ℕ, ◌+◌, ◌≤◌, IsTrue, List, [], ◌∷◌, ◌++◌, length, map, take, slice_get, Some}
-use Rattle.std.specs.Option.{option_map_or}
+use Rattle.std.specs.Prelude.{◌≡◌, ℕ, ◌+◌, ◌≤◌, IsTrue, List, [], ◌∷◌, ◌++◌, length, map, take, slice_get, Some, MatchOption}
 use Rattle.std.specs.List.{Contains, flat_map}
 use Rattle.rr_types.specs.declared.command.Command.{Command}
 use Rattle.rr_types.specs.declared.command.RequestNo.{RequestNo}
@@ -46,7 +45,7 @@ told_in lines = flat_map told_by_line lines
 
 -- the steps of the world that this at node p may be over this wire
 abbrev pub AreStepsAt : List Message → ℕ → Happening → List Step → Type 0
-AreStepsAt wire p (At event) steps = option_map_or (λ e. MayBe p e steps) (happens_as (message_on wire p) event) (steps ≡ [])
+AreStepsAt wire p (At event) steps = MatchOption (happens_as (message_on wire p) event) (steps ≡ []) (λ e. MayBe p e steps)
 AreStepsAt wire p (Fail fill) steps = MayFall p steps
 AreStepsAt wire p (Crash a b fill) steps = MayFall p steps
 
