@@ -181,7 +181,7 @@ on_wire wire p k m = by (slice_get wire k)
 are_none : (wire : List Message) (p : ℕ) (what : Happening) → AreStepsAt wire p what []
 are_none wire p (At event) = by (happens_as (message_on wire p) event)
   where
-    by : (o : Option (NodeEvent Message)) → MatchOption o ([] ≡ []) (λ e. MayBe p e [])
+    by : (o : Option (NodeEvent Message)) → (let none : List Step = [] in MatchOption o (none ≡ []) (λ e. MayBe p e none))
     by None = refl
     by (Some e) = nothing p e
 are_none wire p (Fail fill) = inl refl
