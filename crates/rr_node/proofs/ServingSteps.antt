@@ -74,7 +74,7 @@ flushes_on n p s t journal kept start both (Writing calls) on h = record { group
 flushes_on n p s t journal kept start both Flushed on h = (h.0, on.running ∙ h.1, h.2)
 
 -- an event of the core that leaves its group and what is kept
-module _ (n p : ℕ) (w : World) (both : Areas) (s : NodeState) (journal : Journaled) (flush : Flush) (serves : IsServing n p w both s journal flush) (e : NodeEvent Message) (proper : IsProperEvent n e) (leaves : LeavesTheGroup e) (comes : worldly.MayCome w p s e) where
+module _ (n p : ℕ) (w : World) (both : Areas) (s : NodeState) (journal : Journaled) (flush : Flush) (serves : IsServing n p w both s journal flush) (e : NodeEvent) (proper : IsProperEvent n e) (leaves : LeavesTheGroup e) (comes : worldly.MayCome w p s e) where
   pub event_runs : IsRunFrom n w (steps_of_event p s e)
   event_runs = (reached_in_world n p serves.facts serves.heard s serves.reached (is_settled flush) e proper leaves w serves.in_world comes).0
 
