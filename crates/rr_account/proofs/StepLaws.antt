@@ -1,6 +1,6 @@
 -- A step of a cluster adds at most one line to the report, and a run adds those of its steps.
 use Rattle.std.proofs.Common.{◌≡◌, ◌≤◌, inl, inr, ◌++◌, ◌+◌, ◌∷◌, [], ℕ, List, Option, None, Some, Result, Ok, Err, length, map, drop, refl, ap, subst, sym, ◌∙◌, arith}
-use Rattle.std.specs.Prelude.{Bool, true, false, if◌then◌else◌, ◌==◌, slice_get}
+use Rattle.std.specs.Prelude.{Bool, true, false, if◌then◌else◌, slice_get}
 use Rattle.std.specs.Option.{option_map_or}
 use Rattle.std.proofs.lemmas.List.{append_assoc, append-nil, length-append, map-append}
 use Rattle.rr_node.specs.declared.event.Stance.{Stance}
