@@ -4,3 +4,5 @@ pub mod SyncLemmas
 pub mod Rounds
 pub mod Stages
 pub mod Mailing
+pub mod Hearings
+pub mod Places

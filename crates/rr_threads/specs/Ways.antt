@@ -14,7 +14,8 @@ none_late a = record { port = a.port; late = record { opening = None; request = 
 abbrev pub IsPut : Way → Sent → Way → Type 0
 IsPut a sent b =
     (b.port.queue ≡ a.port.queue)
-    × ((Puts a.port.view sent b.port.view × (b.late ≡ a.late)) ⊎ (HasHeld 256 a.port.view × (b.port ≡ a.port) × (b.late ≡ kept_with sent.message.body sent a.late)))
+    × ((Puts a.port.view sent b.port.view × (b.late ≡ a.late))
+    ⊎ (HasHeld 256 a.port.view × (b.port ≡ a.port) × (b.late ≡ kept_with sent.message.body sent a.late)))
 
 -- the same, if there is one
 abbrev pub IsPutIfAny : Way → Option Sent → Way → Type 0
@@ -23,7 +24,9 @@ IsPutIfAny a (Some sent) b = IsPut a sent b
 
 -- what was late is put once more, each after the one before: the request, the estimate or proposal, the decision
 abbrev pub IsPutLate : Way → Way → Type 0
-IsPutLate a b = (c : Way) × (d : Way) × IsPutIfAny (none_late a) a.late.request c × IsPutIfAny c (sent_of a.late.opening) d × IsPutIfAny d (sent_of a.late.decision) b
+IsPutLate a b =
+    (c : Way) × (d : Way) × IsPutIfAny (none_late a) a.late.request c × IsPutIfAny c (sent_of a.late.opening) d
+    × IsPutIfAny d (sent_of a.late.decision) b
 
 -- the oldest message is taken out of the inbox, and kept if it tells how far its sender is; or none waits
 abbrev pub IsTaken : Mail → Option Sent → Mail → Type 0

@@ -185,11 +185,11 @@ impl<'d, 'x, W: WindowName, T: Turnstile, R: Wait> Handle<'d, 'x, W, T, R> {
     /// Has the node write a snapshot of its facts to the other area of its disk, and waits for so many looks, as `submit_within`
     /// does. None: it isn't written yet. A snapshot that is refused ends the run.
     pub fn snapshot(&self, looks: u32) -> Option<Written> {
-        let asked = self.desk.snapshots.ask();
-        self.desk.flusher.ring();
+        let asked = self.desk.snapshots.ask(self.rt)?;
+        let roused = self.desk.rouse(asked);
         let mut rest = Rest::new(FIRST, LONG);
         for _ in 0..looks {
-            if let Some(written) = self.desk.snapshots.written(asked) {
+            if let Some(written) = self.desk.snapshots.written(self.rt, roused) {
                 return Some(written);
             }
             if self.is_over() {

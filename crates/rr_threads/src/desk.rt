@@ -1,19 +1,19 @@
 //! What the threads of a node share.
 
-ghost use Rattle.std.specs.Prelude.{◌≡◌, true, false, Some, IfNone, IfSome};
+ghost use Rattle.std.specs.Prelude.{◌≡◌, ◌<◌, ◌≤◌, ◌+◌, ◌^◌, min, true, false, Some, IfNone, IfSome};
 ghost use Rattle.rr_types.specs.Registry.{is_same_request, reply_of};
 ghost use Rattle.rr_types.specs.declared.command.Command.{Command};
 ghost use Rattle.rr_types.specs.declared.command.RequestNo.{RequestNo};
 ghost use Rattle.rr_types.specs.declared.refusal.Refusal.{Refusal};
 
-use crate::shared::Shared;
+use crate::shared::{Shared, Start};
 use crate::switching::Switched;
 use rr_locked::Locked;
-use rr_turn::{FlusherBell, PublisherBell};
+use rr_turn::{FlusherBell, FlusherRung, PublisherBell};
 use rr_types::{Command, NodeId, Op, Refusal, Reply, RequestNo, made_of};
 use rr_window::{Publisher, Receipt, WindowName};
 use std::mem;
-use std::sync::atomic::{AtomicBool, AtomicU64, Ordering};
+use std::sync::atomic::{AtomicBool, Ordering};
 use std::sync::{Mutex, Wait};
 use std::thread::Parker;
 
@@ -150,55 +150,76 @@ pub struct Asked {
     number: u64,
 }
 
+/// That the flusher was rung for a snapshot that was asked for before. Only `Desk::rouse` gives this.
+#[derive(Clone, Copy, Debug)]
+pub struct Roused {
+    asked: Asked,
+    rung: FlusherRung,
+}
+
 /// That a snapshot is due, and which was the last that was asked for. Only `Snapshots::next` gives this.
 #[derive(Clone, Copy, Debug)]
 pub struct Due {
     number: u64,
 }
 
-/// Snapshots of a node: how many were asked for, and how many of these are written.
+/// How many snapshots of a node were asked for, and how many of these are written.
 #[derive(Drop)]
-pub struct Snapshots {
-    asked: AtomicU64,
-    written: AtomicU64,
+struct Count {
+    asked: u64,
+    written: u64,
+    ghost fits: { written ≤ asked },
 }
 
-impl Snapshots {
-    fn new() -> Snapshots {
-        Snapshots {
-            asked: AtomicU64::new(0),
-            written: AtomicU64::new(0),
+impl Count {
+    // None was asked for.
+    fn new() -> Count
+        ensures none { result.asked ≡ 0 }
+    {
+        Count {
+            asked: 0,
+            written: 0,
         }
     }
 
-    /// Asks for one more.
-    pub fn ask(&self) -> Asked {
-        let number = self.asked.fetch_add(1, Ordering::SeqCst).saturating_add(1);
-        Asked { number }
+    // Asks for one more, which isn't written. None: no number is left.
+    fn ask(&mut self) -> Option<Asked>
+        ensures unwritten { IfSome result (λ asked. self.old.written < asked.number) }
+        ensures counted { IfSome result (λ asked. (self.new.asked ≡ asked.number) × (self.new.written ≡ self.old.written)) }
+        ensures none { IfNone result ((self.new ≡ self.old) × (self.old.asked + 1 ≡ 2 ^ 64)) }
+    {
+        let number = self.asked.checked_add(1)?;
+        self.asked = number;
+        Some(Asked { number })
     }
 
-    /// That the last that was asked for is due, unless it is written.
-    pub fn next(&self) -> Option<Due> {
-        let number = self.asked.load(Ordering::SeqCst);
-        if number == self.written.load(Ordering::SeqCst) {
-            None
-        } else {
+    // That the last that was asked for is due, unless it is written.
+    fn next(&self) -> Option<Due>
+        ensures due { IfSome result (λ due. (due.number ≡ self.now.asked) × (self.now.written < due.number)) }
+        ensures none { IfNone result (self.now.written ≡ self.now.asked) }
+    {
+        let number = self.asked;
+        if self.written < number {
             Some(Due { number })
+        } else {
+            None
         }
     }
 
-    /// Those up to the one that is written are written, since their asks came before it was begun.
-    pub fn note(&self, switched: Switched) {
-        let number = switched.due().number;
-        self.written.store(number, Ordering::SeqCst);
+    // Of those that were asked for the ones up to this are written.
+    fn note(&mut self, due: Due)
+        ensures { (self.new.asked ≡ self.old.asked) × (self.new.written ≡ min due.number self.old.asked) }
+    {
+        self.written = due.number.min(self.asked);
     }
 
-    /// That the snapshot that was asked for is written, once it is.
-    pub fn written(&self, asked: Asked) -> Option<Written>
-        ensures { IfSome result (λ written. written.number ≡ asked.number) }
+    // That the one that was asked for is written, once it is.
+    fn written(&self, asked: Asked) -> Option<Written>
+        ensures some { IfSome result (λ written. (written.number ≡ asked.number) × (written.number ≤ self.now.written)) }
+        ensures none { IfNone result (self.now.written < asked.number) }
     {
         let number = asked.number;
-        if self.written.load(Ordering::SeqCst) >= number {
+        if number <= self.written {
             Some(Written { number })
         } else {
             None
@@ -206,12 +227,48 @@ impl Snapshots {
     }
 }
 
-/// Which node it is, at which move of its switch it came up, the node under its lock, a bell for its flusher and its publisher,
+/// Snapshots of a node, under a lock: those that were asked for, and those that are written.
+#[derive(Drop)]
+pub struct Snapshots {
+    count: Mutex<Count>,
+}
+
+impl Snapshots {
+    fn new() -> Snapshots {
+        Snapshots {
+            count: Mutex::new(Count::new()),
+        }
+    }
+
+    /// Asks for one more, which isn't written. None: no number is left.
+    pub fn ask<R: Wait>(&self, rt: &R) -> Option<Asked> {
+        self.count.lock(rt).ask()
+    }
+
+    /// That the last that was asked for is due, unless it is written.
+    pub fn next<R: Wait>(&self, rt: &R) -> Option<Due> {
+        self.count.lock(rt).next()
+    }
+
+    /// Those up to the one that is written are written, since their asks came before it was begun.
+    pub fn note<R: Wait>(&self, rt: &R, switched: Switched) {
+        self.count.lock(rt).note(switched.due());
+    }
+
+    /// That the snapshot that the flusher was rung for is written, once it is.
+    pub fn written<R: Wait>(&self, rt: &R, roused: Roused) -> Option<Written>
+        ensures { IfSome result (λ written. written.number ≡ roused.asked.number) }
+    {
+        self.count.lock(rt).written(roused.asked)
+    }
+}
+
+/// Which node it is, by which start it came up, the node under its lock, a bell for its flusher and its publisher,
 /// its snapshots, a counter for each client, and whether a command was put on one since the loop last looked.
 #[derive(Drop)]
 pub struct Desk<W: WindowName> {
     pub node: NodeId,
-    pub moves: u64,
+    start: Start,
     pub locked: Mutex<Locked>,
     pub flusher: FlusherBell,
     pub publisher: PublisherBell,
@@ -221,11 +278,14 @@ pub struct Desk<W: WindowName> {
 }
 
 impl<W: WindowName> Desk<W> {
-    /// A node that has come up at this move of its switch, with a counter for each of its clients.
-    pub fn new(node: NodeId, moves: u64, locked: Locked, counters: Vec<Counter<W>>) -> Desk<W> {
+    /// A node that has come up by this start, with a counter for each of its clients.
+    pub fn new(node: NodeId, start: Start, locked: Locked, counters: Vec<Counter<W>>) -> Desk<W>
+        ensures whose { (result.node ≡ node) × (result.start ≡ start) }
+        ensures counters { result.counters ≡ counters }
+    {
         Desk {
             node,
-            moves,
+            start,
             locked: Mutex::new(locked),
             flusher: FlusherBell::new(),
             publisher: PublisherBell::new(),
@@ -247,12 +307,20 @@ impl<W: WindowName> Desk<W> {
 
     /// Whether the node goes down, since it is stopped or the run is over.
     pub fn is_ending<T>(&self, shared: &Shared<'_, T>) -> bool {
-        shared.is_ending(self.node, self.moves)
+        shared.is_ending(self.node, &self.start)
     }
 
     /// The counter of the client at `place`, if there is one.
     pub fn counter(&self, place: usize) -> Option<&Counter<W>> {
         self.counters.get(place)
+    }
+
+    /// Rings for the flusher, behind the ask for a snapshot.
+    pub fn rouse(&self, asked: Asked) -> Roused
+        ensures { result.asked ≡ asked }
+    {
+        let rung = self.flusher.ring();
+        Roused { asked, rung }
     }
 
     /// Rings for all of the node's threads but its loop.

@@ -1,10 +1,10 @@
 //! The lives of a node: from each start to the stop behind it.
 
-ghost use Rattle.std.specs.Prelude.{◌≡◌, ◌<◌};
+ghost use Rattle.std.specs.Prelude.{◌≡◌, ◌<◌, Some, IfOk, IfSome};
 
 use crate::client::Client;
 use crate::node_run::{Part, Remains, run_part};
-use crate::shared::Shared;
+use crate::shared::{Shared, Start};
 use crate::wires::Mail;
 use rr_disk::Disk;
 use rr_locked::{Turnstile, recover_through};
@@ -14,10 +14,11 @@ use std::sync::Wait;
 use std::thread::Threads;
 use std::time::Clock;
 
-/// Opens a node of this disk, with the turnstile before each device call. The errors are those of `recover_through`.
+/// Opens a node of this disk for this start, with the turnstile before each device call. The errors are those of `recover_through`.
 pub fn open_part<D: Disk + Drop, T: Turnstile>(
     turnstile: &T,
     alloc: Global,
+    start: Start,
     nodes: Nodes,
     node: NodeId,
     disk: D,
@@ -25,9 +26,12 @@ pub fn open_part<D: Disk + Drop, T: Turnstile>(
 ) -> Result<Part<D>, Refusal>
     requires exists { node < nodes }
     requires alike { (one other : D) → D.tells one → D.tells other }
+    ensures whose { IfOk result (λ part. (part.start ≡ start) × (part.node ≡ node) × (part.journal.node ≡ node) × (part.journal.nodes ≡ nodes)) }
+    ensures mail { IfOk result (λ part. part.mail ≡ mail) }
 {
     match recover_through(turnstile, alloc, nodes, node, disk) {
         Ok((core, journal)) => Ok(Part {
+            start,
             node,
             core,
             journal,
@@ -37,21 +41,25 @@ pub fn open_part<D: Disk + Drop, T: Turnstile>(
     }
 }
 
-/// Opens a node again of what is left of it. None: the run is over. The errors are those of `recover_through`.
+/// Opens a node again of what is left of it, for this start. None: the run is over. The errors are those of `recover_through`.
 fn open_again<D: Disk + Drop, T: Turnstile>(
     alloc: Global,
     shared: &Shared<'_, T>,
+    start: Start,
     node: NodeId,
     disk: Option<D>,
     mail: Option<Mail>,
 ) -> Result<Option<Part<D>>, Refusal>
     requires alike { (one other : D) → D.tells one → D.tells other }
+    ensures whose { IfOk result (λ part. IfSome part (λ part. (part.start ≡ start) × (part.node ≡ node))) }
+    ensures mail { IfOk result (λ part. IfSome part (λ part. mail ≡ Some part.mail)) }
 {
     let (Some(node), Some(disk), Some(mail)) = (NodeId::new(shared.nodes, node.index()), disk, mail)
     else {
         return Ok(None);
     };
-    let part = open_part(shared.turnstile, alloc, shared.nodes, node, disk, mail)?;
+    let nodes = shared.nodes;
+    let part = open_part(shared.turnstile, alloc, start, nodes, node, disk, mail)?;
     Ok(Some(part))
 }
 
@@ -74,22 +82,18 @@ fn live<
     let node = part.node;
     let mut part = part;
     let mut clients = clients;
-    let mut moves = 0;
     for _ in rt.forever() {
         let Remains {
             disk,
             mut mail,
             clients: left,
-        } = run_part(rt, alloc, shared, moves, part, clients)?;
-        shared.note_down(node);
-        match shared.next_life(rt, node, &mut mail) {
-            Some(next) => moves = next,
-            None => {
-                leave_all(rt, shared, left);
-                return Ok(());
-            }
-        }
-        match open_again(alloc, shared, node, disk, mail)? {
+        } = run_part(rt, alloc, shared, part, clients)?;
+        let gone = shared.note_down(node);
+        let Some(start) = shared.next_life(rt, node, gone, &mut mail) else {
+            leave_all(rt, shared, left);
+            return Ok(());
+        };
+        match open_again(alloc, shared, start, node, disk, mail)? {
             Some(next) => part = next,
             None => return Ok(()),
         }

@@ -1,7 +1,8 @@
 //! The loop of a node.
 
-ghost use Rattle.std.specs.Prelude.{◌≡◌, IfOk};
+ghost use Rattle.std.specs.Prelude.{◌≡◌, IfOk, OnOk};
 ghost use Rattle.std.specs.Duration.{as_nanos};
+ghost use Rattle.rr_threads.specs.Mails.{HearsOwn};
 
 use crate::desk::Desk;
 use crate::shared::Shared;
@@ -31,14 +32,17 @@ struct Lane<'x, W: WindowName, T, R> {
     chase: Chase,
 }
 
-/// What a node begins with: it hears what is kept of the messages that came before, and its clock starts. It ticks as often as the run says.
+/// What a node begins with: it hears what is kept of the messages that came before, which stays kept, and its clock starts. It ticks as often
+/// as the run says.
 fn begin<W: WindowName, T: Turnstile, R: Wait + Clock>(
     rt: &R,
     shared: &Shared<'_, T>,
     desk: &Desk<W>,
     lane: &mut Lane<'_, W, T, R>,
 ) -> Result<Clockwork, Refusal>
-    ensures { IfOk result (λ clockwork. clockwork.ticks.period ≡ as_nanos shared.now.tick) }
+    ensures ticks { IfOk result (λ clockwork. clockwork.ticks.period ≡ as_nanos shared.now.tick) }
+    ensures heard { OnOk result (HearsOwn (λ w. w.ends.mail) lane.old.chase lane.old.wires lane.new.chase) }
+    ensures kept { OnOk result (lane.new.wires.ends.mail ≡ lane.old.wires.ends.mail) }
 {
     let (chase, wires) = (&mut lane.chase, &mut lane.wires);
     let kept = wires.ends.mail.kept;

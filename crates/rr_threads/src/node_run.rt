@@ -1,6 +1,7 @@
 //! The threads of a node.
 
-ghost use Rattle.std.specs.Prelude.{◌≡◌, vec_len, IfOk};
+ghost use Rattle.std.specs.Prelude.{◌≡◌, length, map, vec_len, IfOk};
+ghost use Rattle.std.specs.List.{range_with_len};
 ghost use Rattle.std.specs.Thread.{IsSend};
 
 use crate::client::{Client, serve};
@@ -8,7 +9,7 @@ use crate::desk::{Counter, Desk};
 use crate::flushing::{Flusher, flush_all};
 use crate::node_loop::{Runner, run_node};
 use crate::publishing::{publish_all, publish_first};
-use crate::shared::Shared;
+use crate::shared::{Shared, Start};
 use crate::wires::{Mail, NodeEnds};
 use rr_core::Core;
 use rr_disk::Disk;
@@ -24,9 +25,10 @@ use std::thread;
 use std::thread::{JoinHandle, Scope, Threads};
 use std::time::Clock;
 
-/// A node that is up, before its threads start.
+/// A node that is up, before its threads start, and by which start.
 #[derive(Drop)]
 pub struct Part<D: Disk> {
+    pub start: Start,
     pub node: NodeId,
     pub core: Core,
     pub journal: Journal<D>,
@@ -70,23 +72,40 @@ fn open_hand_overs(alloc: Global) -> Result<HandOvers, Refusal> {
     }
 }
 
+/// A client of a node, the place of its counter, and its seat.
+#[derive(Drop)]
+struct Seated<W: WindowName, C> {
+    place: usize,
+    seat: Seat<W>,
+    client: C,
+}
+
 /// The ends of a node's window: its follower, each client with its seat, and the seats that are left.
 struct Ends<W: WindowName, C> {
     follower: Follower<W>,
-    seated: Vec<(Seat<W>, C)>,
+    seated: Vec<Seated<W, C>>,
     seats: Seats<W>,
 }
 
-/// Each client with a seat. It is `OutOfMemory`, or `SeatsTaken` of more than 64.
+/// Each client with a counter's place of its own and a seat. It is `OutOfMemory`, or `SeatsTaken` of more than 64.
+#[tactic(auto, using(crate::proofs::Places::place_more, crate::proofs::Places::left_fewer))]
 fn seat_all<W: WindowName, C: Drop>(
     alloc: Global,
     seats: &Seats<W>,
     clients: Vec<C>,
-) -> Result<Vec<(Seat<W>, C)>, Refusal> {
+) -> Result<Vec<Seated<W, C>>, Refusal>
+    ensures places { IfOk result (λ seated. map (λ s. s.place) seated.items ≡ range_with_len 0 (length seated.items)) }
+    ensures clients { IfOk result (λ seated. map (λ s. s.client) seated.items ≡ clients.items) }
+{
     let mut seated = Vec::new(alloc);
     for client in clients {
+        let place = seated.len();
         let seat = seats.take()?;
-        seated.push((seat, client))?;
+        seated.push(Seated {
+            place,
+            seat,
+            client,
+        })?;
     }
     Ok(seated)
 }
@@ -128,6 +147,7 @@ fn counters_for<W: WindowName>(alloc: Global, count: usize) -> Result<Vec<Counte
 /// A node that is up, shared out among its threads.
 #[derive(Drop)]
 struct Crew<D: Disk> {
+    start: Start,
     node: NodeId,
     core: Core,
     flusher: Flusher<D>,
@@ -135,8 +155,12 @@ struct Crew<D: Disk> {
 }
 
 /// Shares a node out among its threads.
-fn share_out<D: Disk>(part: Part<D>, hand_overs: HandOvers) -> Crew<D> {
+fn share_out<D: Disk>(part: Part<D>, hand_overs: HandOvers) -> Crew<D>
+    ensures whose { (result.start ≡ part.start) × (result.node ≡ part.node) × (result.core ≡ part.core) }
+    ensures holds { (result.flusher.journal ≡ part.journal) × (result.runner.ends.mail ≡ part.mail) }
+{
     let Part {
+        start,
         node,
         core,
         journal,
@@ -146,6 +170,7 @@ fn share_out<D: Disk>(part: Part<D>, hand_overs: HandOvers) -> Crew<D> {
     let (group_giver, group_taker) = groups;
     let (back_giver, back_taker) = backs;
     Crew {
+        start,
         node,
         core,
         flusher: Flusher {
@@ -222,10 +247,13 @@ fn start_client<
     rt: &'s R,
     shared: &'s Shared<'x, T>,
     desk: &'s Desk<W>,
-    place: usize,
-    seat: Seat<W>,
-    client: C,
+    seated: Seated<W, C>,
 ) -> Option<JoinHandle<Option<C>>> {
+    let Seated {
+        place,
+        seat,
+        client,
+    } = seated;
     match scope.spawn(move || serve(rt, shared, desk, place, seat, client)) {
         Ok(thread) => Some(thread),
         Err(_) => None,
@@ -247,16 +275,16 @@ fn start_clients<
     alloc: Global,
     shared: &'s Shared<'x, T>,
     desk: &'s Desk<W>,
-    seated: Vec<(Seat<W>, C)>,
-) -> Result<Vec<JoinHandle<Option<C>>>, Refusal> {
+    seated: Vec<Seated<W, C>>,
+) -> Result<Vec<JoinHandle<Option<C>>>, Refusal>
+    ensures { IfOk result (λ threads. length threads.items ≡ length seated.items) }
+{
     let mut threads = Vec::new(alloc);
-    let mut place = 0usize;
-    for (seat, client) in seated {
-        match start_client(scope, rt, shared, desk, place, seat, client) {
+    for client in seated {
+        match start_client(scope, rt, shared, desk, client) {
             Some(thread) => threads.push(thread)?,
             None => return Err(Refusal::OutOfMemory),
         }
-        place = place.saturating_add(1);
     }
     Ok(threads)
 }
@@ -333,7 +361,7 @@ fn run_threads<
     flusher: Flusher<D>,
     runner: Runner,
     follower: &mut Follower<W>,
-    seated: Vec<(Seat<W>, C)>,
+    seated: Vec<Seated<W, C>>,
 ) -> Result<Remains<D, C>, Refusal> {
     thread::scope(
         thread::scope_env(),
@@ -367,12 +395,12 @@ fn run_crew<
     rt: &R,
     alloc: Global,
     shared: &Shared<'_, T>,
-    moves: u64,
     crew: Crew<D>,
     ends: Ends<W, C>,
     counters: Vec<Counter<W>>,
 ) -> Result<Remains<D, C>, Refusal> {
     let Crew {
+        start,
         node,
         core,
         flusher,
@@ -383,7 +411,7 @@ fn run_crew<
         seated,
         seats: _seats,
     } = ends;
-    let desk: Desk<W> = Desk::new(node, moves, Locked::new(core), counters);
+    let desk: Desk<W> = Desk::new(node, start, Locked::new(core), counters);
     match publish_first(rt, &desk, &mut follower) {
         Ok(published) => shared.note_up(node, published),
         Err(refusal) => shared.running.fail(rt, node, refusal),
@@ -402,7 +430,7 @@ fn run_crew<
     remains
 }
 
-/// Opens the window of a node that came up at this move of its switch, and runs its threads. It is `OutOfMemory` or `SeatsTaken`.
+/// Opens the window of a node that is up, and runs its threads. It is `OutOfMemory` or `SeatsTaken`.
 fn run_window<
     W: WindowName + Send + Sync,
     D: Disk + Drop + Send,
@@ -413,7 +441,6 @@ fn run_window<
     rt: &R,
     alloc: Global,
     shared: &Shared<'_, T>,
-    moves: u64,
     part: Part<D>,
     clients: Vec<C>,
     list: NewList,
@@ -425,13 +452,13 @@ fn run_window<
     match open_ends::<W, C, R>(rt, alloc, list, clients) {
         Ok(ends) => {
             let crew = share_out(part, hand_overs);
-            run_crew(rt, alloc, shared, moves, crew, ends, counters)
+            run_crew(rt, alloc, shared, crew, ends, counters)
         }
         Err(refusal) => Err(refusal),
     }
 }
 
-/// Runs a node that came up at this move of its switch for these clients, until it goes down. It is `OutOfMemory` or `SeatsTaken`.
+/// Runs a node that is up for these clients, until it goes down. It is `OutOfMemory` or `SeatsTaken`.
 pub fn run_part<
     D: Disk + Drop + Send,
     T: Turnstile + Sync,
@@ -441,9 +468,8 @@ pub fn run_part<
     rt: &R,
     alloc: Global,
     shared: &Shared<'_, T>,
-    moves: u64,
     part: Part<D>,
     clients: Vec<C>,
 ) -> Result<Remains<D, C>, Refusal> {
-    run_window::<Brand, D, T, R, C>(rt, alloc, shared, moves, part, clients, NewList::new())
+    run_window::<Brand, D, T, R, C>(rt, alloc, shared, part, clients, NewList::new())
 }

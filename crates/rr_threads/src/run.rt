@@ -10,7 +10,7 @@ use crate::lives::{open_part, run_lives};
 use crate::node_run::Part;
 use crate::recorder::Recorder;
 use crate::running::Running;
-use crate::shared::Shared;
+use crate::shared::{Shared, Start};
 use crate::switches::Switches;
 use crate::wires::{Mail, Way};
 use rr_disk::Disk;
@@ -93,7 +93,7 @@ fn open_parts<D: Disk + Drop, T: Turnstile, C: Drop>(
         };
         let kept = Kept::new();
         let mail = Mail { inbox, ways, kept };
-        let part = open_part(turnstile, alloc, nodes, node, disk, mail)?;
+        let part = open_part(turnstile, alloc, Start::first(), nodes, node, disk, mail)?;
         parts.push((part, clients))?;
         index = index.saturating_add(1);
     }

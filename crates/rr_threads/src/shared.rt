@@ -14,6 +14,27 @@ use rr_types::{NodeId, Nodes};
 use std::sync::Wait;
 use std::time::Duration;
 
+/// By which start a node comes up: at which move of its switch. Only `Start::first` and `Shared::next_life` give this.
+#[derive(Debug, Drop)]
+pub struct Start {
+    moves: u64,
+}
+
+impl Start {
+    /// That of a run's begin: no switch was moved.
+    pub fn first() -> Start
+        ensures { result.moves ≡ 0 }
+    {
+        Start { moves: 0 }
+    }
+}
+
+/// That a node is noted to be down. Only `Shared::note_down` gives this.
+#[derive(Debug, Drop)]
+pub struct Gone {
+    noted: (),
+}
+
 /// Which nodes run and how often they tick, how the run ends, who records it, who stops nodes, and what its loops and flushers
 /// pass.
 pub struct Shared<'x, T> {
@@ -26,13 +47,13 @@ pub struct Shared<'x, T> {
 }
 
 impl<'x, T> Shared<'x, T> {
-    /// Whether a node that came up at this move of its switch goes down.
-    pub fn is_ending(&self, node: NodeId, moves: u64) -> bool {
+    /// Whether a node that came up by this start goes down.
+    pub fn is_ending(&self, node: NodeId, start: &Start) -> bool {
         let stands = match self.switches {
             Some(switches) => Some(switches.moves(node)),
             None => None,
         };
-        ends(moves, stands, self.running.is_over())
+        ends(start.moves, stands, self.running.is_over())
     }
 
     /// A node has come up: what its disk had is published.
@@ -43,15 +64,22 @@ impl<'x, T> Shared<'x, T> {
     }
 
     /// A node has gone down.
-    pub fn note_down(&self, node: NodeId) {
+    pub fn note_down(&self, node: NodeId) -> Gone {
         if let Some(switches) = self.switches {
             switches.note(node, false);
         }
+        Gone { noted: () }
     }
 
-    /// Waits until a node that is down is to come up, and answers at which move of its switch. None: it isn't any more. Meanwhile
-    /// its inbox is emptied again and again, so that what is kept is late.
-    pub fn next_life<R: Wait>(&self, rt: &R, node: NodeId, mail: &mut Option<Mail>) -> Option<u64> {
+    /// Waits until a node that is noted to be down is to come up, and answers by which start. None: it isn't any more. Meanwhile its
+    /// inbox is emptied again and again, so that what is kept is late.
+    pub fn next_life<R: Wait>(
+        &self,
+        rt: &R,
+        node: NodeId,
+        _gone: Gone,
+        mail: &mut Option<Mail>,
+    ) -> Option<Start> {
         let switches = self.switches?;
         let running = &self.running;
         let mut downtime = Downtime {
@@ -63,7 +91,7 @@ impl<'x, T> Shared<'x, T> {
         };
         for _ in rt.forever() {
             match stay_down(&mut downtime) {
-                Next::Start(moves) => return Some(moves),
+                Next::Start(moves) => return Some(Start { moves }),
                 Next::End => break,
                 Next::Turn => {}
             }

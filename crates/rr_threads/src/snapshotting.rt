@@ -66,7 +66,7 @@ pub fn write_next<W: WindowName, D: Disk, T: Turnstile, R: Wait>(
 ) -> Result<bool, Refusal>
     ensures { IfOk result (λ is_written. IsWritten is_written journal.old journal.new) }
 {
-    let Some(due) = desk.snapshots.next() else {
+    let Some(due) = desk.snapshots.next(rt) else {
         return Ok(false);
     };
     let begun = {
@@ -78,7 +78,7 @@ pub fn write_next<W: WindowName, D: Disk, T: Turnstile, R: Wait>(
         Ok(None) => Ok(false),
         Ok(Some(job)) => {
             let switched = make_all(turnstile, desk.node, journal, job, due)?;
-            desk.snapshots.note(switched);
+            desk.snapshots.note(rt, switched);
             desk.ring_all();
             Ok(true)
         }

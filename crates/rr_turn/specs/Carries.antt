@@ -22,7 +22,8 @@ abbrev pub IsUnbegun : {D : Type 0} → Refusal → Journal D → Type 0
 IsUnbegun e j = (e ≡ OutOfMemory) ⊎ (e ≡ TooLarge) ⊎ ((e ≡ Failed) × (j.failed ≡ true)) ⊎ ((e ≡ Busy) × (j.busy ≡ true))
 
 -- what becomes of a group, and of the journal over such disks
-pub record Becomes {D : Type 0} (tells : D → Type 0) (areas : D → Areas) (calls_of faults : D → ℕ) (group : Grouped) (back : Result Kept Unflushed) (j k : Journal D) : Type 0 where
+pub record Becomes {D : Type 0} (tells : D → Type 0) (areas : D → Areas) (calls_of faults : D → ℕ) (group : Grouped)
+    (back : Result Kept Unflushed) (j k : Journal D) : Type 0 where
   -- it is synced, by four device calls, and the journal goes on behind it
   pub synced : IfOk back (λ synced. (synced ≡ record { node = j.node; group = group }) × (j.failed ≡ false) × (j.busy ≡ false))
   pub calls : IfOk back (λ synced. calls_of k.disk ≡ counted (counted (counted (counted (calls_of j.disk)))))

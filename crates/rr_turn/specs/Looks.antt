@@ -22,7 +22,8 @@ pub record MarksGroup {L : Type 0} (gives : L → Call → L → Type 0) (s : No
 
 -- messages that may leave, at most so many, are put into their receivers' inboxes, and the chase knows of them. Whether there is one, and
 -- who is woken by them
-pub record Puts {L : Type 0} (gives : L → Call → L → Type 0) (s t : NodeState) (most : ℕ) (has : Bool) (woken : ℕ) (c : Chase) (from : L) (k : Chase) (to : L) : Type 0 where
+pub record Puts {L : Type 0} (gives : L → Call → L → Type 0) (s t : NodeState) (most : ℕ) (has : Bool) (woken : ℕ)
+    (c : Chase) (from : L) (k : Chase) (to : L) : Type 0 where
   pub sents : List Sent
   pub oldest : map (λ m. m.message) sents ≡ leaving most s
   pub calls : Ran gives (putting most sents s) from to
@@ -32,7 +33,8 @@ pub record Puts {L : Type 0} (gives : L → Call → L → Type 0) (s t : NodeSt
   pub wakes : woken ≡ woken_with 0 sents
 
 -- what waits in the inbox, at most so many messages, is heard, each once. Whether there is one
-pub record Hears {L : Type 0} (gives : L → Call → L → Type 0) (s t : NodeState) (most : ℕ) (has : Bool) (c : Chase) (from : L) (k : Chase) (to : L) : Type 0 where
+pub record Hears {L : Type 0} (gives : L → Call → L → Type 0) (s t : NodeState) (most : ℕ) (has : Bool)
+    (c : Chase) (from : L) (k : Chase) (to : L) : Type 0 where
   pub sents : List Sent
   pub few : length sents ≤ most
   pub calls : Ran gives (taking most sents s c) from to
@@ -52,12 +54,14 @@ module _ {L : Type 0} (gives : L → Call → L → Type 0) where
   -- what comes back from the flusher, if something does, is marked, and the publisher is rung where more is decided
   abbrev pub Marks : Option flushed.Kept → L → L → Type 0
   Marks None from to = gives from (comes None) to
-  Marks (Some synced) from to = (s : NodeState) × (more : Bool) × (back mid : L) × gives from (comes (Some (Ok synced))) back × MarksGroup gives s synced more back mid
+  Marks (Some synced) from to =
+      (s : NodeState) × (more : Bool) × (back mid : L) × gives from (comes (Some (Ok synced))) back × MarksGroup gives s synced more back mid
       × Ran gives (if more then wakes_publisher ∷ [] else []) mid to
 
   -- what may leave is sent: those whom it wakes are rung once all is there
   abbrev pub Sends : ℕ → Bool → Chase → L → Chase → L → Type 0
-  Sends most has c from k to = (s t : NodeState) × (woken : ℕ) × (mid : L) × Puts gives s t most has woken c from k mid × Ran gives (rings_from 7 0 woken) mid to
+  Sends most has c from k to =
+      (s t : NodeState) × (woken : ℕ) × (mid : L) × Puts gives s t most has woken c from k mid × Ran gives (rings_from 7 0 woken) mid to
 
   -- once one has asked whether nothing waits, what waits is heard
   abbrev pub HearsUnless : Bool → ℕ → Bool → Chase → L → Chase → L → Type 0
@@ -69,7 +73,9 @@ module _ {L : Type 0} (gives : L → Call → L → Type 0) where
 
   -- a group that the node gives goes to the flusher
   abbrev pub Flushes : Bool → L → L → Type 0
-  Flushes has from to = (s : NodeState) × (group : Option Grouped) × (mid : L) × Groups gives s group from mid × Ran gives (giving group) mid to × (has ≡ is_some group)
+  Flushes has from to =
+      (s : NodeState) × (group : Option Grouped) × (mid : L) × Groups gives s group from mid × Ran gives (giving group) mid to
+      × (has ≡ is_some group)
 
   -- what waits is heard; the node is asked for what its clients want, so many commands; and what it owes then is put into inboxes, which
   -- wakes these
@@ -79,14 +85,17 @@ module _ {L : Type 0} (gives : L → Call → L → Type 0) where
 
   -- where a client wants something this is done, and then those are rung who are woken
   abbrev pub SubmitsIf : Bool → ℕ → Chase → L → Chase → L → Type 0
-  SubmitsIf true most c from k to = (count woken : ℕ) × (mid rung : L) × SubmitsInOrder most count woken c from k mid × Ran gives (rings_from 7 0 woken) mid rung × gives rung (passes count) to
+  SubmitsIf true most c from k to =
+      (count woken : ℕ) × (mid rung : L) × SubmitsInOrder most count woken c from k mid × Ran gives (rings_from 7 0 woken) mid rung
+      × gives rung (passes count) to
   SubmitsIf false most c from k to = (k ≡ c) × (to ≡ from)
 
   abbrev pub Submits : ℕ → Bool → Chase → L → Chase → L → Type 0
   Submits most has c from k to = (mid : L) × gives from (notices has) mid × SubmitsIf has most c mid k to
 
 -- a message that may be there comes: the node meets it
-pub record MeetsAny {L : Type 0} (gives : L → Call → L → Type 0) (sent : Option Sent) (s : NodeState) (c : Chase) (from : L) (t : NodeState) (k : Chase) (to : L) : Type 0 where
+pub record MeetsAny {L : Type 0} (gives : L → Call → L → Type 0) (sent : Option Sent) (s : NodeState) (c : Chase) (from : L)
+    (t : NodeState) (k : Chase) (to : L) : Type 0 where
   pub calls : Ran gives (option_map_or (λ m. meeting m s c) sent []) from to
   pub after : t ≡ option_map_or (λ m. met m s c) sent s
   pub chase : k ≡ option_map_or (λ m. met_chase m s c) sent c
@@ -125,7 +134,8 @@ pub record Looked {L : Type 0} (gives : L → Call → L → Type 0) (batch room
   pub answer : has ≡ ((((is_some back || submitted) || sent) || heard) || staged)
 
 -- a tick that is due: what waits is heard, at most so many messages, and then the node ticks by the rule
-pub record TicksFrom {L : Type 0} (gives : L → Call → L → Type 0) (s : NodeState) (most : ℕ) (c : Chase) (b : Standstill) (from : L) (k : Chase) (d : Standstill) (to : L) : Type 0 where
+pub record TicksFrom {L : Type 0} (gives : L → Call → L → Type 0) (s : NodeState) (most : ℕ)
+    (c : Chase) (b : Standstill) (from : L) (k : Chase) (d : Standstill) (to : L) : Type 0 where
   pub sents : List Sent
   pub few : length sents ≤ most
   pub calls : Ran gives (taking most sents s c ++ ticking (all_met sents s c) (all_met_chase sents s c) b) from to
@@ -148,7 +158,8 @@ module _ {L : Type 0} (gives : L → Call → L → Type 0) where
   TicksIf false most c b from k d to = (to ≡ from) × (k ≡ c) × (d ≡ b)
 
 -- a turn: a look, and a rest if that found nothing; then the clock is read, and the node ticks if it is due, whatever the look found
-pub record Turned {L : Type 0} (gives : L → Call → L → Type 0) (batch room : ℕ) (c : Chase) (t : Ticks) (b : Standstill) (from : L) (k : Chase) (u : Ticks) (d : Standstill) (to : L) : Type 0 where
+pub record Turned {L : Type 0} (gives : L → Call → L → Type 0) (batch room : ℕ) (c : Chase) (t : Ticks) (b : Standstill) (from : L)
+    (k : Chase) (u : Ticks) (d : Standstill) (to : L) : Type 0 where
   pub has : Bool
   pub now : ℕ
   pub looked_chase : Chase

@@ -21,7 +21,8 @@ abbrev pub published_then : Publishing → Publishing → Publishing
 published_then p q = if nat_lt (length (listed p)) (length (listed q)) then record { published = listed q; appended = [] } else q
 
 -- a publisher takes on what a node has marked, to the end of its decided prefix, and the node's oldest request that is decided
-pub record Follows {C : Type 0} (gives : C → Call → C → Type 0) (state : NodeState) (told : Option (RequestNo × Reply)) (p q : Publishing) (from to : C) : Type 0 where
+pub record Follows {C : Type 0} (gives : C → Call → C → Type 0) (state : NodeState) (told : Option (RequestNo × Reply))
+    (p q : Publishing) (from to : C) : Type 0 where
   pub all : IsPrefix (listed p) (decided_prefix state) → listed q ≡ decided_prefix state
   pub kept : IsPrefix (listed p) (listed q)
   pub published : q.published ≡ p.published
@@ -40,7 +41,8 @@ module _ {C : Type 0} (gives : C → Call → C → Type 0) where
 
 -- a turn: what is marked is taken on, with the oldest request that is decided; it is published; and then the oldest that waits is told.
 -- Whether there was something: whether more was published, or one was told
-pub record Publishes {C : Type 0} (gives : C → Call → C → Type 0) (has : Bool) (p : Publishing) (waiting : List RequestNo) (from : C) (r : Publishing) (after : List RequestNo) (to : C) : Type 0 where
+pub record Publishes {C : Type 0} (gives : C → Call → C → Type 0) (has : Bool)
+    (p : Publishing) (waiting : List RequestNo) (from : C) (r : Publishing) (after : List RequestNo) (to : C) : Type 0 where
   pub state : NodeState
   pub told : Option (RequestNo × Reply)
   pub has_told : Bool

@@ -30,7 +30,8 @@ pub record WaitsAt {E : Type 0} (gives : E → Call → E → Type 0) (looks res
 
 -- a client puts the command on its counter, notes it, and rings for the loop of its node: in this order, so that the loop finds the command
 -- where it finds the note. Then it waits, and takes what has come
-pub record Awaits {E : Type 0} (gives : E → Call → E → Type 0) (node : ℕ) (command : Command) (looks rests : ℕ) (receipt : Option RequestNo) (from to : E) : Type 0 where
+pub record Awaits {E : Type 0} (gives : E → Call → E → Type 0) (node : ℕ) (command : Command) (looks rests : ℕ)
+    (receipt : Option RequestNo) (from to : E) : Type 0 where
   pub asked_at : E
   pub waited_at : E
   pub asks : Ran gives (wants_reply command ∷ notes_wanted ∷ wakes_loop node ∷ []) from asked_at

@@ -25,7 +25,8 @@ module _ {L : Type 0} (gives : L → Call → L → Type 0) where
   AsksIf (Some command) place from to = (s : NodeState) × (answer : Result (Unit {0}) Refusal) × Ran gives (asking place command s answer) from to
 
   abbrev pub AsksAt : ℕ → Bool → L → L → Type 0
-  AsksAt place has from to = (command : Option Command) × (has ≡ is_some command) × (mid : L) × gives from (wants place command) mid × AsksIf command place mid to
+  AsksAt place has from to =
+      (command : Option Command) × (has ≡ is_some command) × (mid : L) × gives from (wants place command) mid × AsksIf command place mid to
 
   -- of so many places, from one on, each in its turn; so many clients wanted something
   abbrev pub AsksFrom : ℕ → ℕ → ℕ → L → L → Type 0

@@ -4,5 +4,6 @@ mod failing;
 mod first_page;
 mod nodes;
 mod opening;
+mod snapshotting;
 mod switched;
 mod taped;
