@@ -83,6 +83,7 @@ class Broken:
         if self.is_used:
             shutil.copytree(self.kept, self.folder)
             names.acknowledge(0, "old", "z")
+        before, least = commands_in(self.folder), shell_kills.stored(self.folder)
         shell = shell_kills.Shell(self.rig.rr, NODES, self.folder, env)
         try:
             answered = talk(shell, names)
@@ -99,6 +100,7 @@ class Broken:
             holds = is_reached and how not in HARMLESS and is_told(how, status, said, self.folder)
             self.tally.check(holds, f"{what}: status {status}, {said!r}")
             self.tally.counts["shells that ended by a call"] += 1
+        check_numbers(self.tally, what, before, commands_in(self.folder), least)
         self.tally.counts["kills at a call" if how in KILLS else f"calls that fail, {env['FAIL_CALL']}"] += is_reached
         open_again(self.rig, self.tally, what, self.folder, names)
         return is_reached
@@ -106,7 +108,8 @@ class Broken:
 
 def open_again(rig, tally, what, folder, names):
     """A shell without faults has all that was acknowledged, and gives numbers that nobody has used."""
-    before, least, first = commands_in(folder), shell_kills.stored(folder), names.made
+    before, first = commands_in(folder), names.made
+    least = max([shell_kills.stored(folder), *(number_of(request) + 1 for request in before)])
     shell = shell_kills.Shell(rig.rr, NODES, folder)
     try:
         shell_kills.check(shell, names, tally.counts, NODES)
@@ -116,13 +119,19 @@ def open_again(rig, tally, what, folder, names):
         shell.child.wait()
     tally.check(ended == (0, b""), f"{what}, opened again: {ended}")
     after = commands_in(folder)
+    check_numbers(tally, f"{what}, opened again", before, after, least)
+    fresh = {f"name-{number}" for number in range(first + 1, names.made + 1)}
+    claimed = {words[1] for told in after.values() for words in told}
+    tally.check(fresh and fresh <= claimed, f"{what}: of {fresh} the folders have none")
+    tally.counts["shells opened again"] += 1
+
+
+def check_numbers(tally, what, before, after, least):
+    """What a shell has given are numbers from `least` on, each to one command."""
     twice = {request: told for request, told in after.items() if len(told | before.get(request, set())) > 1}
     tally.check(not twice, f"{what}: request numbers with two commands: {twice}")
-    fresh = {f"name-{number}" for number in range(first + 1, names.made + 1)}
-    given = [number_of(request) for request, told in after.items() if any(words[1] in fresh for words in told)]
-    least = max([least, *(number_of(request) + 1 for request in before)])
-    tally.check(len(given) >= NODES and min(given) >= least, f"{what}: the numbers {sorted(given)} were given, where {least} is the first free one")
-    tally.counts["shells opened again"] += 1
+    given = sorted(map(number_of, after.keys() - before.keys()))
+    tally.check(not given or given[0] >= least, f"{what}: the numbers {given} were given, where {least} is the first free one")
 
 
 def talk(shell, names):

@@ -1,6 +1,8 @@
 //! Where two reports differ first.
 
-ghost use Rattle.std.specs.Prelude.{◌≡◌, ◌≢◌, None, IsSome};
+ghost use Rattle.std.specs.Prelude.{◌≡◌, ◌≢◌, ◌<◌, ◌++◌, length, None, IfSome, option_map};
+ghost use Rattle.rr_text.specs.Reading.{cut_at};
+ghost use Rattle.rr_account.specs.Differences.{first_line, rest_by, DifferIn};
 
 use crate::account::Account;
 use rr_text::text_read::cut;
@@ -19,7 +21,7 @@ pub struct Difference<'a> {
 /// Where two texts differ first; none where they are the same.
 pub fn difference_of<'a>(ours: &'a [u8], theirs: &'a [u8]) -> Option<Difference<'a>>
     ensures same { result ≡ None → ours.entry.now ≡ theirs.entry.now }
-    ensures other { IsSome result → ours.entry.now ≢ theirs.entry.now }
+    ensures other { IfSome result (λ d. DifferIn ours.entry.now theirs.entry.now d.line (option_map (λ l. l.now) d.ours) (option_map (λ l. l.now) d.theirs)) }
 {
     if ours == theirs {
         None
@@ -29,28 +31,33 @@ pub fn difference_of<'a>(ours: &'a [u8], theirs: &'a [u8]) -> Option<Difference<
 }
 
 // The first line at the front of a text, with its line feed where it has one, and what stands behind it.
-fn front<'a>(text: &'a [u8]) -> (Option<&'a [u8]>, &'a [u8]) {
+#[tactic(auto, using(rr_text::proofs::CutLemmas::cut_takes))]
+fn front<'a>(text: &'a [u8]) -> (Option<&'a [u8]>, &'a [u8])
+    ensures line { option_map (λ l. l.now) result.0 ≡ first_line text.entry.now }
+    ensures behind { result.1.now ≡ rest_by (cut_at 10 text.entry.now) }
+    ensures all { IfSome result.0 (λ l. (text.entry.now ≡ l.now ++ result.1.now) × (0 < length l.now)) }
+{
     if text.is_empty() {
         return (None, text);
     }
     match cut(text, b'\n') {
-        Some((line, behind)) => (
-            Some(&text[..line.len().saturating_add(1).min(text.len())]),
-            behind,
-        ),
-        None => (Some(text), b""),
+        Some((line, behind)) => (Some(&text[..line.len() + 1]), behind),
+        None => (Some(text), &text[text.len()..]),
     }
 }
 
-// The first line in which two texts differ, or behind their end where they are the same.
-fn first_of<'a>(ours: &'a [u8], theirs: &'a [u8]) -> Difference<'a> {
+// The first line in which two texts differ.
+fn first_of<'a>(ours: &'a [u8], theirs: &'a [u8]) -> Difference<'a>
+    requires { ours.entry.now ≢ theirs.entry.now }
+    ensures { DifferIn ours.entry.now theirs.entry.now result.line (option_map (λ l. l.now) result.ours) (option_map (λ l. l.now) result.theirs) }
+{
     let mut line = 1u64;
     let mut ours = ours;
     let mut theirs = theirs;
-    for _ in 0..u64::MAX {
+    'lines: while !ours.is_empty() {
         let (own, own_rest) = front(ours);
         let (other, other_rest) = front(theirs);
-        if own != other || own.is_none() {
+        if own != other {
             return Difference {
                 line,
                 ours: own,
@@ -59,12 +66,13 @@ fn first_of<'a>(ours: &'a [u8], theirs: &'a [u8]) -> Difference<'a> {
         }
         ours = own_rest;
         theirs = other_rest;
-        line = line.saturating_add(1);
+        line += 1;
     }
+    let (other, _) = front(theirs);
     Difference {
         line,
         ours: None,
-        theirs: None,
+        theirs: other,
     }
 }
 
