@@ -1,5 +1,5 @@
 -- Where two texts differ first.
-use Rattle.std.specs.Prelude.{◌≡◌, ◌≢◌, ℕ, zero, suc, ◌<◌, List, [], ◌∷◌, ◌++◌, Option, None, Some}
+use Rattle.std.specs.Prelude.{◌≡◌, ◌≢◌, ℕ, zero, suc, List, [], ◌∷◌, ◌++◌, Option, None, Some}
 use Rattle.rr_text.specs.Reading.{cut_at}
 
 -- the first line of a text that is cut so at its first line feed: with that, or all of the text where there is none
@@ -22,9 +22,10 @@ abbrev pub behind : ℕ → List ℕ → List ℕ
 behind zero text = text
 behind (suc k) text = rest_by (cut_at 10 (behind k text))
 
--- two texts are the same in so many lines
+-- two texts are the same in their first lines, so many
 abbrev pub are_alike : ℕ → List ℕ → List ℕ → Type 0
-are_alike k ours theirs = (j : ℕ) → j < k → first_line (behind j ours) ≡ first_line (behind j theirs)
+are_alike zero ours theirs = Unit {0}
+are_alike (suc k) ours theirs = are_alike k ours theirs × (first_line (behind k ours) ≡ first_line (behind k theirs))
 
 -- two texts differ first in the line of this number, from 1, as each of them has it
 abbrev pub DifferIn : List ℕ → List ℕ → ℕ → Option (List ℕ) → Option (List ℕ) → Type 0

@@ -1,6 +1,6 @@
 //! Where two reports differ first.
 
-ghost use Rattle.std.specs.Prelude.{◌≡◌, ◌≢◌, ◌<◌, ◌++◌, length, None, IfSome, option_map};
+ghost use Rattle.std.specs.Prelude.{◌≡◌, ◌≢◌, ◌<◌, ◌++◌, [], true, false, length, None, Some, IsSome, IfSome, option_map};
 ghost use Rattle.rr_text.specs.Reading.{cut_at};
 ghost use Rattle.rr_account.specs.Differences.{first_line, rest_by, DifferIn};
 
@@ -21,7 +21,8 @@ pub struct Difference<'a> {
 /// Where two texts differ first; none where they are the same.
 pub fn difference_of<'a>(ours: &'a [u8], theirs: &'a [u8]) -> Option<Difference<'a>>
     ensures same { result ≡ None → ours.entry.now ≡ theirs.entry.now }
-    ensures other { IfSome result (λ d. DifferIn ours.entry.now theirs.entry.now d.line (option_map (λ l. l.now) d.ours) (option_map (λ l. l.now) d.theirs)) }
+    ensures other { IsSome result → ours.entry.now ≢ theirs.entry.now }
+    ensures first { IfSome result (λ d. DifferIn ours.entry.now theirs.entry.now d.line (option_map (λ l. l.now) d.ours) (option_map (λ l. l.now) d.theirs)) }
 {
     if ours == theirs {
         None
@@ -30,49 +31,69 @@ pub fn difference_of<'a>(ours: &'a [u8], theirs: &'a [u8]) -> Option<Difference<
     }
 }
 
-// The first line at the front of a text, with its line feed where it has one, and what stands behind it.
+// The first line of a text, with its line feed where it has one, and what stands behind it. A text that has ended has none.
 #[tactic(auto, using(rr_text::proofs::CutLemmas::cut_takes))]
-fn front<'a>(text: &'a [u8]) -> (Option<&'a [u8]>, &'a [u8])
-    ensures line { option_map (λ l. l.now) result.0 ≡ first_line text.entry.now }
-    ensures behind { result.1.now ≡ rest_by (cut_at 10 text.entry.now) }
-    ensures all { IfSome result.0 (λ l. (text.entry.now ≡ l.now ++ result.1.now) × (0 < length l.now)) }
+fn front<'a>(text: &'a [u8]) -> Option<(&'a [u8], &'a [u8])>
+    ensures none { result ≡ None → text.entry.now ≡ [] }
+    ensures line { IfSome result (λ x. Some x.0.now ≡ first_line text.entry.now) }
+    ensures behind { IfSome result (λ x. x.1.now ≡ rest_by (cut_at 10 text.entry.now)) }
+    ensures all { IfSome result (λ x. (text.entry.now ≡ x.0.now ++ x.1.now) × (0 < length x.0.now)) }
 {
     if text.is_empty() {
-        return (None, text);
+        return None;
     }
     match cut(text, b'\n') {
-        Some((line, behind)) => (Some(&text[..line.len() + 1]), behind),
-        None => (Some(text), &text[text.len()..]),
+        Some((line, behind)) => Some((&text[..line.len() + 1], behind)),
+        None => Some((text, &text[text.len()..])),
     }
+}
+
+// Whether two lines differ.
+fn is_other(own: &[u8], other: &[u8]) -> bool
+    ensures apart { result ≡ true → own.now ≢ other.now }
+    ensures same { result ≡ false → own.now ≡ other.now }
+{
+    own != other
 }
 
 // The first line in which two texts differ.
 fn first_of<'a>(ours: &'a [u8], theirs: &'a [u8]) -> Difference<'a>
-    requires { ours.entry.now ≢ theirs.entry.now }
+    requires { ours.now ≢ theirs.now }
     ensures { DifferIn ours.entry.now theirs.entry.now result.line (option_map (λ l. l.now) result.ours) (option_map (λ l. l.now) result.theirs) }
 {
     let mut line = 1u64;
-    let mut ours = ours;
-    let mut theirs = theirs;
-    'lines: while !ours.is_empty() {
-        let (own, own_rest) = front(ours);
-        let (other, other_rest) = front(theirs);
-        if own != other {
+    let mut our_rest = ours;
+    let mut their_rest = theirs;
+    'lines: while let Some((own, own_behind)) = front(our_rest) {
+        let Some((other, other_behind)) = front(their_rest) else {
             return Difference {
                 line,
-                ours: own,
-                theirs: other,
+                ours: Some(own),
+                theirs: None,
+            };
+        };
+        if is_other(own, other) {
+            return Difference {
+                line,
+                ours: Some(own),
+                theirs: Some(other),
             };
         }
-        ours = own_rest;
-        theirs = other_rest;
+        our_rest = own_behind;
+        their_rest = other_behind;
         line += 1;
     }
-    let (other, _) = front(theirs);
-    Difference {
-        line,
-        ours: None,
-        theirs: other,
+    match front(their_rest) {
+        Some((other, _)) => Difference {
+            line,
+            ours: None,
+            theirs: Some(other),
+        },
+        None => Difference {
+            line,
+            ours: None,
+            theirs: None,
+        },
     }
 }
 
